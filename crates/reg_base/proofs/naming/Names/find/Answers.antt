@@ -1,0 +1,13 @@
+use Rattle.std.proofs.Common.{Some, None, arith, ◌<◌}
+use Rattle.reg_base.proofs.NamesLaws.{number_is, place_fits}
+use Rattle.reg_base.proofs.naming.Names.find.Goals as goal
+
+pub overflow_cast-result : goal.overflow_cast-result
+overflow_cast-result g c =
+    let l : c.in-Some.place < 256 = place_fits c.self.inside.names.items c.args.name.now c.in-Some.place c.self.invariant (cc) in omega arith
+
+pub returns-in-Some : goal.returns-in-Some
+returns-in-Some g c = number_is c.self.inside.names.items c.args.self.now c.args.name.now (Some c.in-Some.place) c.self.view_is c.self.invariant (cc)
+
+pub returns-in-None : goal.returns-in-None
+returns-in-None g c = number_is c.self.inside.names.items c.args.self.now c.args.name.now None c.self.view_is c.self.invariant (cc)

@@ -1,0 +1,5 @@
+pub mod Shape
+pub mod Stamp
+pub mod Order
+pub mod Memory
+pub mod Names

@@ -1,0 +1,47 @@
+-- One memory. A third kind of operation changes `answer_of`, `after` and `updates` alone.
+use Rattle.std.specs.Prelude.{◌≡◌, replicate, ℕ, Bool, true, false, List, [], ◌∷◌, slice_index, slice_set}
+use Rattle.reg_base.specs.declared.memory.Op.{Op}
+use Rattle.reg_base.specs.declared.memory.Op.TheVariants.{Read, Write}
+use Rattle.reg_base.specs.declared.memory.Answer.{Answer}
+use Rattle.reg_base.specs.declared.memory.Answer.TheVariants.{Done, Value}
+
+-- a value for each register
+abbrev pub Memory : Type 0
+Memory = List ℕ
+
+abbrev pub register_of : Op → ℕ
+register_of (Read r) = r
+register_of (Write r v) = r
+
+-- whether the operation may change the memory
+abbrev pub updates : Op → Bool
+updates (Read r) = false
+updates (Write r v) = true
+
+abbrev pub answer_of : Op → Memory → Answer
+answer_of (Read r) m = Value (slice_index m r)
+answer_of (Write r v) m = Done
+
+abbrev pub after : Op → Memory → Memory
+after (Read r) m = m
+after (Write r v) m = slice_set m r v
+
+-- the memory after these operations, the first of them first
+abbrev pub memory_after : List Op → Memory → Memory
+memory_after [] m = m
+memory_after (op ∷ ops) m = memory_after ops (after op m)
+
+-- all 0
+abbrev pub blank : ℕ → Memory
+blank registers = replicate registers 0
+
+-- the memory after a list of operations, from the blank one
+abbrev pub memory : ℕ → List Op → Memory
+memory registers ops = memory_after ops (blank registers)
+
+abbrev pub IsUpdate : Op → Type 0
+IsUpdate op = updates op ≡ true
+
+-- the operation has one answer on every memory
+abbrev pub IsBlind : Op → Type 0
+IsBlind op = (m n : Memory) → answer_of op m ≡ answer_of op n

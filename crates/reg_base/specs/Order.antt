@@ -1,0 +1,36 @@
+-- The order of stamps, and lists of casts in that order.
+use Rattle.std.specs.Prelude.{◌≡◌, ◌<◌, ◌≤◌, Bool, ◌&&◌, ◌||◌, ◌==◌, nat_lt, nat_le, cond, ◌⊎◌, List, [], ◌∷◌, ◌++◌}
+use Rattle.reg_base.specs.declared.stamps.Stamp.{Stamp}
+use Rattle.reg_base.specs.declared.stamps.Delivered.{Delivered}
+
+-- (t, p) < (u, q) when t < u, or t = u and p < q
+abbrev pub Below : Stamp → Stamp → Type 0
+Below a b = (a.time < b.time) ⊎ ((a.time ≡ b.time) × (a.process < b.process))
+
+abbrev pub AtMost : Stamp → Stamp → Type 0
+AtMost a b = (a.time < b.time) ⊎ ((a.time ≡ b.time) × (a.process ≤ b.process))
+
+-- the same as tests
+abbrev pub below : Stamp → Stamp → Bool
+below a b = nat_lt a.time b.time || (a.time == b.time && nat_lt a.process b.process)
+
+abbrev pub at_most : Stamp → Stamp → Bool
+at_most a b = nat_lt a.time b.time || (a.time == b.time && nat_le a.process b.process)
+
+-- c stands in the list
+abbrev pub In : {X : Type 0} → X → List X → Type 0
+In c [] = ⊥
+In c (x ∷ xs) = (c ≡ x) ⊎ In c xs
+
+-- the stamps rise strictly
+abbrev pub Rising : List Delivered → Type 0
+Rising [] = Unit {0}
+Rising (x ∷ xs) = ((c : Delivered) → In c xs → Below x.stamp c.stamp) × Rising xs
+
+-- the list with one more cast, at its place
+abbrev pub insert : Delivered → List Delivered → List Delivered
+insert c [] = c ∷ []
+insert c (x ∷ xs) = cond (below c.stamp x.stamp) (c ∷ x ∷ xs) (x ∷ insert c xs)
+
+abbrev pub IsPrefixOf : List Delivered → List Delivered → Type 0
+IsPrefixOf xs ys = (rest : List Delivered) × (xs ++ rest ≡ ys)

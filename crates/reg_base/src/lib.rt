@@ -1,0 +1,17 @@
+//! What every crate of the project speaks of: limits, shapes, stamps, clocks, operations, one memory and the names
+//! of its registers.
+#![tactic(auto)]
+
+pub mod limits;
+
+mod clocks;
+mod memory;
+mod naming;
+mod shapes;
+mod stamps;
+
+pub use clocks::{Clock, ClockFull};
+pub use memory::{Answer, Op, OpId, Registers};
+pub use naming::{Names, NamesFault, is_name};
+pub use shapes::{Shape, ShapeFault};
+pub use stamps::{Delivered, Stamp};

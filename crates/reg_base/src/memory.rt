@@ -1,0 +1,110 @@
+//! Operations, their names and answers, and one memory.
+ghost use Rattle.std.specs.Prelude.{◌≡◌, ◌<◌, IfOk, SomeIff, length, slice_get};
+ghost use Rattle.reg_base.specs.Memory.{register_of, answer_of, after, blank};
+
+use std::alloc::{AllocError, Allocator, Global};
+use std::marker::Model;
+
+/// An operation on one register.
+#[derive(Clone, Copy, Debug, PartialEq, Eq)]
+pub enum Op {
+    /// Answers the register's value.
+    Read { register: u16 },
+    /// Replaces the register's value.
+    Write { register: u16, value: u64 },
+}
+
+/// What an operation answers.
+#[derive(Clone, Copy, Debug, PartialEq, Eq)]
+pub enum Answer {
+    /// The answer of a write.
+    Done,
+    /// The answer of a read: the register's value.
+    Value(u64),
+}
+
+/// The name of an operation: the process that called it, and its number there, from 0.
+#[derive(Clone, Copy, Debug, PartialEq, Eq, PartialOrd, Ord)]
+pub struct OpId {
+    pub process: u8,
+    pub number: u32,
+}
+
+impl Op {
+    /// The register that it names.
+    pub fn register(&self) -> u16
+        ensures { result ≡ register_of self.now }
+    {
+        match *self {
+            Op::Read { register } => register,
+            Op::Write { register, value: _ } => register,
+        }
+    }
+}
+
+/// A copy of the registers: one memory, with a value for each register.
+#[derive(Drop)]
+pub struct Registers<A: Allocator + Copy = Global> {
+    values: Vec<u64, A>,
+}
+
+impl<A: Allocator + Copy> Model for Registers<A> {
+    ghost use Rattle.std.specs.Prelude.{List, ℕ};
+
+    ghost Value = { List ℕ };
+
+    ghost view = { λ r. r.values.items };
+}
+
+impl<A: Allocator + Copy> Registers<A> {
+    /// So many registers, all 0.
+    pub fn new(alloc: A, count: u16) -> Result<Registers<A>, AllocError>
+        ensures { IfOk result (λ r. r ≡ blank count) }
+    {
+        let values = vec![in alloc; 0; count as usize]?;
+        Ok(Registers { values })
+    }
+
+    /// How many registers there are.
+    pub fn count(&self) -> usize
+        ensures { result ≡ length self.now }
+    {
+        self.values.len()
+    }
+
+    /// The value of a register, None past the last.
+    pub fn get(&self, register: u16) -> Option<u64>
+        ensures { result ≡ slice_get self.now register }
+    {
+        self.values.get(register as usize).copied()
+    }
+
+    /// What an operation answers on these values. It is not applied.
+    pub fn answer(&self, op: &Op) -> Answer
+        requires { register_of op.now < length self.now }
+        ensures { result ≡ answer_of op.now self.now }
+    {
+        match *op {
+            Op::Read { register } => Answer::Value(self.values[register as usize]),
+            Op::Write {
+                register: _,
+                value: _,
+            } => Answer::Done,
+        }
+    }
+
+    /// Applies an operation and answers it. None comes only for a register past the last, and nothing has changed then.
+    pub fn apply(&mut self, op: &Op) -> Option<Answer>
+        ensures answer { SomeIff result (register_of op.now < length self.old) (answer_of op.now self.old) }
+        ensures memory { self.new ≡ after op.now self.old }
+    {
+        match *op {
+            Op::Read { register } => Some(Answer::Value(self.get(register)?)),
+            Op::Write { register, value } => {
+                let kept = self.values.get_mut(register as usize)?;
+                *kept = value;
+                Some(Answer::Done)
+            }
+        }
+    }
+}

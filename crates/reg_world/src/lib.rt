@@ -1,0 +1,6 @@
+//! All processes and wires, over a list of events.
+#![tactic(auto)]
+
+mod events;
+
+pub use events::Event;
