@@ -1,0 +1,6 @@
+pub mod Places
+pub mod Histories
+pub mod RealTime
+pub mod NoOrder
+pub mod Pushing
+pub mod Fitting

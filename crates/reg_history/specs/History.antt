@@ -1,0 +1,93 @@
+-- Histories of calls and answers (Herlihy and Wing 1990, section 2).
+use Rattle.std.specs.Prelude.{ℕ, ◌≡◌, ◌<◌, ◌≤◌, ◌-◌, ◌⊎◌, ◌↔◌, List, length, take, slice_get, Option, Some, IfSome}
+use Rattle.reg_base.specs.declared.memory.OpId.{OpId}
+use Rattle.reg_base.specs.declared.memory.Op.{Op}
+use Rattle.reg_base.specs.declared.memory.Answer.{Answer}
+use Rattle.reg_history.specs.declared.entries.Entry.{Entry}
+use Rattle.reg_history.specs.declared.entries.Entry.TheVariants.{Called, Answered}
+use Rattle.reg_base.specs.Memory.{Memory, answer_of, register_of}
+
+-- x stands in the list at place k
+abbrev pub IsAt : {X : Type 0} → List X → ℕ → X → Type 0
+IsAt xs k x = slice_get xs k ≡ Some x
+
+-- x stands in the list
+abbrev pub IsIn : {X : Type 0} → List X → X → Type 0
+IsIn xs x = (k : ℕ) × IsAt xs k x
+
+-- the operation op was called under this id, by event at
+abbrev pub IsCalled : List Entry → OpId → ℕ → Op → Type 0
+IsCalled h id at op = IsIn h (Called at id op)
+
+-- the operation of this id was answered so, by event at
+abbrev pub IsAnswered : List Entry → OpId → ℕ → Answer → Type 0
+IsAnswered h id at answer = IsIn h (Answered at id answer)
+
+-- the operation of this id has an answer
+abbrev pub IsFinished : List Entry → OpId → Type 0
+IsFinished h id = (at : ℕ) × (answer : Answer) × IsAnswered h id at answer
+
+-- When an entry may come next in a history
+
+abbrev pub event_of : Entry → ℕ
+event_of (Called at id op) = at
+event_of (Answered at id answer) = at
+
+-- the last entry, if there is one
+abbrev pub last_of : List Entry → Option Entry
+last_of es = slice_get es (length es - 1)
+
+-- the event comes after that of the last entry
+abbrev pub IsLater : List Entry → ℕ → Type 0
+IsLater es at = IfSome (last_of es) (λ e. event_of e < at)
+
+abbrev pub WasCalled : List Entry → OpId → Type 0
+WasCalled es id = (at : ℕ) × (op : Op) × IsCalled es id at op
+
+-- the process has called exactly the numbers below this one
+abbrev pub IsNext : List Entry → OpId → Type 0
+IsNext es id = (n : ℕ) → (n < id.number) ↔ WasCalled es (record { process = id.process; number = n })
+
+-- each operation that the process has called is finished
+abbrev pub IsIdle : List Entry → ℕ → Type 0
+IsIdle es process = (id : OpId) → id.process ≡ process → WasCalled es id → IsFinished es id
+
+-- an answer that the operation can have
+abbrev pub Fits : Op → Answer → Type 0
+Fits op answer = (m : Memory) × (answer ≡ answer_of op m)
+
+-- the last event that a history may name, and how many operations a process may call
+abbrev pub last_event : ℕ
+last_event = 1048575
+
+abbrev pub most_operations : ℕ
+most_operations = 65535
+
+-- a call in place
+pub record MayCall (n registers : ℕ) (es : List Entry) (at : ℕ) (id : OpId) (op : Op) : Type 0 where
+  pub event : at ≤ last_event
+  pub process : id.process < n
+  pub register : register_of op < registers
+  pub later : IsLater es at
+  pub next : IsNext es id
+  pub fits : id.number < most_operations
+  pub idle : IsIdle es id.process
+
+-- an answer in place: of a running operation, at a later event or at that of its own call, if that stands last
+pub record MayAnswer (es : List Entry) (at : ℕ) (id : OpId) (answer : Answer) : Type 0 where
+  pub event : at ≤ last_event
+  pub called_at : ℕ
+  pub op : Op
+  pub called : IsCalled es id called_at op
+  pub running : IsFinished es id → ⊥
+  pub fits : Fits op answer
+  pub later : IsLater es at ⊎ (last_of es ≡ Some (Called at id op))
+
+-- the entry may come after these
+abbrev pub IsInPlace : ℕ → ℕ → List Entry → Entry → Type 0
+IsInPlace n registers es (Called at id op) = MayCall n registers es at id op
+IsInPlace n registers es (Answered at id answer) = MayAnswer es at id answer
+
+-- each entry is in place after those before it
+abbrev pub IsHistory : ℕ → ℕ → List Entry → Type 0
+IsHistory n registers es = (k : ℕ) (e : Entry) → IsAt es k e → IsInPlace n registers (take k es) e

@@ -1,0 +1,67 @@
+-- Serial orders (Lamport 1979) and point orders (Herlihy and Wing 1990) of a history.
+use Rattle.std.specs.Prelude.{ℕ, ◌≡◌, ◌<◌, ◌≤◌, ◌⊎◌, List, map, take}
+use Rattle.std.specs.List.{AllZip}
+use Rattle.reg_base.specs.declared.memory.OpId.{OpId}
+use Rattle.reg_base.specs.declared.memory.Op.{Op}
+use Rattle.reg_base.specs.declared.memory.Answer.{Answer}
+use Rattle.reg_history.specs.declared.entries.Entry.{Entry}
+use Rattle.reg_history.specs.declared.entries.Point.{Point}
+use Rattle.reg_base.specs.Memory.{IsUpdate, answer_of, memory}
+use Rattle.reg_history.specs.History.{IsAt, IsCalled, IsAnswered, IsFinished}
+
+-- no id stands twice
+abbrev pub IsDistinct : List OpId → Type 0
+IsDistinct ids = (i j : ℕ) (id : OpId) → IsAt ids i id → IsAt ids j id → i ≡ j
+
+-- a finished operation, or a called one that may have changed the memory
+abbrev pub MayStand : List Entry → OpId → Type 0
+MayStand h id = IsFinished h id ⊎ ((at : ℕ) × (op : Op) × IsCalled h id at op × IsUpdate op)
+
+-- Distinct ids, with every finished operation, and besides only unfinished updates that were called
+-- (Herlihy and Wing 1990, section 2.3: some pending calls completed, the others dropped).
+pub record IsSelection (h : List Entry) (ids : List OpId) : Type 0 where
+  pub distinct : IsDistinct ids
+  pub finished : (id : OpId) → IsFinished h id → (k : ℕ) × IsAt ids k id
+  pub known : (k : ℕ) (id : OpId) → IsAt ids k id → MayStand h id
+
+-- these operations were called under these ids
+abbrev pub AreCalled : List Entry → List OpId → List Op → Type 0
+AreCalled h ids ops = AllZip (λ id op. (at : ℕ) × IsCalled h id at op) ids ops
+
+-- the operation at place k, where it is finished, has the answer of the memory after those before it
+abbrev pub IsRightAt : ℕ → List Entry → List OpId → List Op → ℕ → Type 0
+IsRightAt registers h ids ops k = (id : OpId) (op : Op) (at : ℕ) (answer : Answer) → IsAt ids k id → IsAt ops k op → IsAnswered h id at answer → answer ≡ answer_of op (memory registers (take k ops))
+
+-- each finished operation has the answer of one memory
+pub record IsLegal (registers : ℕ) (h : List Entry) (ids : List OpId) : Type 0 where
+  pub ops : List Op
+  pub called : AreCalled h ids ops
+  pub right : (k : ℕ) → IsRightAt registers h ids ops k
+
+-- of two ids of one process, the one with the smaller number stands first
+abbrev pub KeepsOwnOrder : List OpId → Type 0
+KeepsOwnOrder ids = (i j : ℕ) (a b : OpId) → IsAt ids i a → IsAt ids j b → a.process ≡ b.process → a.number < b.number → i < j
+
+-- A serial order (Lamport 1979: the result of any execution is the same as if the operations of all the
+-- processes were executed in some sequential order, and the operations of each process appear in this order).
+pub record IsSerial (registers : ℕ) (h : List Entry) (ids : List OpId) : Type 0 where
+  pub selection : IsSelection h ids
+  pub legal : IsLegal registers h ids
+  pub own_order : KeepsOwnOrder ids
+
+-- an event that is not before the operation's call and, where it is finished, not after its answer
+pub record IsPoint (h : List Entry) (p : Point) : Type 0 where
+  pub called : (at : ℕ) (op : Op) → IsCalled h p.id at op → at ≤ p.at
+  pub answered : (at : ℕ) (answer : Answer) → IsAnswered h p.id at answer → p.at ≤ at
+
+-- the points never fall
+abbrev pub NeverFalls : List Point → Type 0
+NeverFalls ps = (i j : ℕ) (p q : Point) → IsAt ps i p → IsAt ps j q → i < j → p.at ≤ q.at
+
+-- A point order: each operation takes effect at a moment between its call and its answer
+-- (Herlihy and Wing 1990, section 2.3, linearizability).
+pub record IsPointOrder (registers : ℕ) (h : List Entry) (ps : List Point) : Type 0 where
+  pub selection : IsSelection h (map (λ p. p.id) ps)
+  pub legal : IsLegal registers h (map (λ p. p.id) ps)
+  pub points : (k : ℕ) (p : Point) → IsAt ps k p → IsPoint h p
+  pub rising : NeverFalls ps

@@ -1,0 +1,27 @@
+-- The laws, of the nodes of a whole run.
+use Rattle.std.proofs.Common.{ℕ, ◌^◌, ◌≤◌, List, ◌++◌, length, sym, subst}
+use Rattle.reg_base.specs.declared.memory.Op.{Op}
+use Rattle.reg_front.specs.declared.starts.Start.{Start}
+use Rattle.reg_world.specs.declared.events.Event.{Event}
+use Rattle.reg_world.proofs.Traced.{empty_world, world_of, whole}
+use Rattle.reg_world.specs.Laws.{FrontsAgree, FrontsRise, FrontsMade, UndeliveredAbove, NoRefusal}
+use Rattle.reg_world.proofs.NodeLaws.{fronts_agree, fronts_rise, fronts_made, undelivered_later, no_refusal}
+use Rattle.reg_world.proofs.Wholes.{whole_nodes}
+
+module _ (start : Op → ℕ → Start) (n registers : ℕ) (events : List Event) where
+  pub agree : FrontsAgree n (whole start n registers events).nodes
+  agree = subst (FrontsAgree n) (sym (whole_nodes start n registers events (empty_world n registers))) (fronts_agree start n registers events)
+
+  pub rise : FrontsRise n (whole start n registers events).nodes
+  rise = subst (FrontsRise n) (sym (whole_nodes start n registers events (empty_world n registers))) (fronts_rise start n registers events)
+
+  pub made : FrontsMade n (whole start n registers events).nodes
+  made = subst (FrontsMade n) (sym (whole_nodes start n registers events (empty_world n registers))) (fronts_made start n registers events)
+
+  pub refused : length events ≤ 2 ^ 20 → NoRefusal n registers (whole start n registers events).nodes
+  refused few = subst (NoRefusal n registers) (sym (whole_nodes start n registers events (empty_world n registers))) (no_refusal start n registers events few)
+
+  pub above : (more : List Event) → UndeliveredAbove n (whole start n registers events).nodes (whole start n registers (events ++ more)).nodes
+  above more =
+      subst (λ w. UndeliveredAbove n w (whole start n registers (events ++ more)).nodes) (sym (whole_nodes start n registers events (empty_world n registers)))
+      (subst (UndeliveredAbove n (world_of start n registers events)) (sym (whole_nodes start n registers (events ++ more) (empty_world n registers))) (undelivered_later start n registers events more))

@@ -1,0 +1,27 @@
+use Rattle.reg_world.proofs.Promised.{fronts_agree, fronts_rise, fronts_made, undelivered_above, longest, order_right, casts_right}
+use Rattle.reg_world.proofs.Arrivals.{firsts_right}
+use Rattle.reg_world.proofs.laws.one_order.Goals as goal
+
+pub returns-clause-agree : goal.returns-clause-agree
+returns-clause-agree c = λ start n registers events laws. fronts_agree start n registers laws events
+
+pub returns-clause-rise : goal.returns-clause-rise
+returns-clause-rise c = λ start n registers events laws. fronts_rise start n registers laws events
+
+pub returns-clause-made : goal.returns-clause-made
+returns-clause-made c = λ start n registers events laws. fronts_made start n registers laws events
+
+pub returns-clause-above : goal.returns-clause-above
+returns-clause-above c = λ start n registers events more laws. undelivered_above start n registers laws events more
+
+pub returns-clause-longest : goal.returns-clause-longest
+returns-clause-longest c = λ start n registers events laws. longest start n registers laws events
+
+pub returns-clause-order : goal.returns-clause-order
+returns-clause-order c = λ start n registers events laws. order_right start n registers laws events
+
+pub returns-clause-firsts : goal.returns-clause-firsts
+returns-clause-firsts c = λ start n registers events laws. firsts_right start n registers laws events
+
+pub returns-clause-casts : goal.returns-clause-casts
+returns-clause-casts c = λ start n registers events laws. casts_right start n registers laws events

@@ -1,0 +1,65 @@
+//! Laws of all runs, for every list of events and every lawful front end. Each is a function that does nothing: its
+//! contract is the law.
+ghost use Rattle.std.specs.Prelude.{ℕ, is_some, not, ◌≡◌, ◌<◌, ◌≤◌, ◌^◌, ◌++◌, List, [], ◌∷◌, length};
+ghost use Rattle.reg_base.specs.declared.memory.Op.{Op};
+ghost use Rattle.reg_base.specs.declared.memory.OpId.{OpId};
+ghost use Rattle.reg_front.specs.declared.starts.Start.{Start};
+ghost use Rattle.reg_front.specs.Fronts.{KeepsLaws, CastsAll};
+ghost use Rattle.reg_history.specs.declared.entries.Point.{Point};
+ghost use Rattle.reg_history.specs.History.{IsHistory};
+ghost use Rattle.reg_history.specs.Orders.{IsSerial, IsPointOrder};
+ghost use Rattle.reg_world.specs.declared.events.Event.{Event};
+ghost use Rattle.reg_world.specs.Keys.{IsWitness, ArePoints};
+ghost use Rattle.reg_world.specs.Laws.{FrontsAgree, FrontsRise, FrontsMade, UndeliveredAbove, NoRefusal, NothingPending, IsQuiescent};
+ghost use Rattle.reg_world.specs.Promises.{OrderIsLongest, OrderIsRight, FirstsRight, CastsRight, RepliesRight, ReadsRight};
+ghost use Rattle.reg_world.specs.World.{World, run_of, move_of, moved, fault_of, whole};
+
+/// The operations of a run that have a key, by rising key, are a serial order of its history.
+pub fn witness_is_serial()
+    ensures { (start : Op → ℕ → Start) (n registers : ℕ) (events : List Event) (ids : List OpId) → KeepsLaws start → IsWitness (run_of registers (whole start n registers events)) ids → IsSerial registers (whole start n registers events).history ids }
+{}
+
+/// Where every operation is cast, the first deliveries of the kept casts are a point order of the history.
+pub fn points_are_a_point_order()
+    ensures { (start : Op → ℕ → Start) (n registers : ℕ) (events : List Event) (points : List Point) → CastsAll start → ArePoints (run_of registers (whole start n registers events)) points → IsPointOrder registers (whole start n registers events).history points }
+{}
+
+/// Each entry of a run's history is in place. The accepted events are no more than a run may have, and make the same world.
+pub fn history_in_place()
+    ensures in_place { (start : Op → ℕ → Start) (n registers : ℕ) (events : List Event) → KeepsLaws start → IsHistory n registers (whole start n registers events).history }
+    ensures few { (start : Op → ℕ → Start) (n registers : ℕ) (events : List Event) → KeepsLaws start → length (whole start n registers events).accepted ≤ 2 ^ 20 }
+    ensures again { (start : Op → ℕ → Start) (n registers : ℕ) (events : List Event) → whole start n registers (whole start n registers events).accepted ≡ whole start n registers events }
+{}
+
+/// The fronts of any two processes are one a prefix of the other, and the order is the longest. A cast that a
+/// process hasn't delivered, made already or later, stands above all that it has.
+pub fn one_order()
+    ensures agree { (start : Op → ℕ → Start) (n registers : ℕ) (events : List Event) → KeepsLaws start → FrontsAgree n (whole start n registers events).nodes }
+    ensures rise { (start : Op → ℕ → Start) (n registers : ℕ) (events : List Event) → KeepsLaws start → FrontsRise n (whole start n registers events).nodes }
+    ensures made { (start : Op → ℕ → Start) (n registers : ℕ) (events : List Event) → KeepsLaws start → FrontsMade n (whole start n registers events).nodes }
+    ensures above { (start : Op → ℕ → Start) (n registers : ℕ) (events more : List Event) → KeepsLaws start → UndeliveredAbove n (whole start n registers events).nodes (whole start n registers (events ++ more)).nodes }
+    ensures longest { (start : Op → ℕ → Start) (n registers : ℕ) (events : List Event) → KeepsLaws start → OrderIsLongest n (whole start n registers events) }
+    ensures order { (start : Op → ℕ → Start) (n registers : ℕ) (events : List Event) → KeepsLaws start → OrderIsRight n (whole start n registers events) }
+    ensures firsts { (start : Op → ℕ → Start) (n registers : ℕ) (events : List Event) → KeepsLaws start → FirstsRight start n registers (whole start n registers events) }
+    ensures casts { (start : Op → ℕ → Start) (n registers : ℕ) (events : List Event) → KeepsLaws start → CastsRight n (whole start n registers events) }
+{}
+
+/// Each reply is the memory's after the first casts of the order, as many as its place says; the reads are exactly
+/// the finished operations that made no cast. Where nothing is pending, all is delivered, no process is busy and all
+/// copies are equal.
+pub fn one_memory()
+    ensures replies { (start : Op → ℕ → Start) (n registers : ℕ) (events : List Event) → KeepsLaws start → RepliesRight registers (whole start n registers events) }
+    ensures reads { (start : Op → ℕ → Start) (n registers : ℕ) (events : List Event) → KeepsLaws start → ReadsRight (whole start n registers events) }
+    ensures quiescent { (start : Op → ℕ → Start) (n registers : ℕ) (events : List Event) → KeepsLaws start → NothingPending n (whole start n registers events).nodes → IsQuiescent n (whole start n registers events).nodes }
+{}
+
+/// No frame on a wire is refused by its receiver, and no clock is full.
+pub fn none_refused()
+    ensures { (start : Op → ℕ → Start) (n registers : ℕ) (events : List Event) → KeepsLaws start → NoRefusal n registers (whole start n registers events).nodes }
+{}
+
+/// An event is refused exactly where a fault applies. One more event is one more step of the same world.
+pub fn refused_by_fault()
+    ensures refused { (n registers : ℕ) (w : World) (e : Event) → is_some (move_of n registers w e) ≡ not (is_some (fault_of n registers w e)) }
+    ensures next { (start : Op → ℕ → Start) (n registers : ℕ) (events : List Event) (e : Event) → whole start n registers (events ++ e ∷ []) ≡ moved start (whole start n registers events) e (move_of n registers (whole start n registers events) e) }
+{}
