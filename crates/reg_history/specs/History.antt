@@ -1,5 +1,6 @@
 -- Histories of calls and answers (Herlihy and Wing 1990, section 2).
 use Rattle.std.specs.Prelude.{ℕ, ◌≡◌, ◌<◌, ◌≤◌, ◌-◌, ◌⊎◌, ◌↔◌, List, length, take, slice_get, Option, Some, IfSome}
+use Rattle.reg_base.specs.declared.limits.TheConstants.{LAST_EVENT, MOST_OPERATIONS}
 use Rattle.reg_base.specs.declared.memory.OpId.{OpId}
 use Rattle.reg_base.specs.declared.memory.Op.{Op}
 use Rattle.reg_base.specs.declared.memory.Answer.{Answer}
@@ -56,26 +57,19 @@ IsIdle es process = (id : OpId) → id.process ≡ process → WasCalled es id �
 abbrev pub Fits : Op → Answer → Type 0
 Fits op answer = (m : Memory) × (answer ≡ answer_of op m)
 
--- the last event that a history may name, and how many operations a process may call
-abbrev pub last_event : ℕ
-last_event = 1048575
-
-abbrev pub most_operations : ℕ
-most_operations = 65535
-
 -- a call in place
 pub record MayCall (n registers : ℕ) (es : List Entry) (at : ℕ) (id : OpId) (op : Op) : Type 0 where
-  pub event : at ≤ last_event
+  pub event : at ≤ LAST_EVENT
   pub process : id.process < n
   pub register : register_of op < registers
   pub later : IsLater es at
   pub next : IsNext es id
-  pub fits : id.number < most_operations
+  pub fits : id.number < MOST_OPERATIONS
   pub idle : IsIdle es id.process
 
 -- an answer in place: of a running operation, at a later event or at that of its own call, if that stands last
 pub record MayAnswer (es : List Entry) (at : ℕ) (id : OpId) (answer : Answer) : Type 0 where
-  pub event : at ≤ last_event
+  pub event : at ≤ LAST_EVENT
   pub called_at : ℕ
   pub op : Op
   pub called : IsCalled es id called_at op

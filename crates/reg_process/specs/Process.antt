@@ -14,6 +14,7 @@ use Rattle.reg_front.specs.declared.starts.Start.TheVariants.{Cast as Casts, Cas
 use Rattle.reg_process.specs.declared.steps.Reply.{Reply}
 use Rattle.reg_process.specs.declared.steps.Step.{Step}
 use Rattle.reg_process.specs.declared.steps.Step.TheVariants.{Call, Take, Tick}
+use Rattle.reg_base.specs.declared.limits.TheConstants.{MOST_RESENT}
 use Rattle.reg_base.specs.Order.{AtMost, below, at_most, insert}
 use Rattle.reg_base.specs.Memory.{Memory, answer_of, memory_after}
 
@@ -230,7 +231,7 @@ numbered_from i [] = []
 numbered_from i (b ∷ bs) = Numbered i b ∷ numbered_from (i + 1) bs
 
 abbrev pub resent : State → ℕ → List Frame
-resent s r = cond (r == s.me) [] (numbered_from (peer_at s r).first (take 16 (peer_at s r).pending))
+resent s r = cond (r == s.me) [] (numbered_from (peer_at s r).first (take MOST_RESENT (peer_at s r).pending))
 
 -- One event at a process.
 abbrev pub step : (Op → ℕ → Start) → State → Step → State × Outcome

@@ -1,5 +1,6 @@
 -- What an accepted event keeps, and that what doesn't run is answered.
 use Rattle.std.proofs.Common.{◌≡◌, ℕ, ◌+◌, ◌-◌, ◌<◌, ◌≤◌, ◌⊎◌, max, List, [], ◌∷◌, Option, Some, None, refl, sym, ap, ◌∙◌, inl, inr, arith}
+use Rattle.reg_base.specs.declared.limits.TheConstants.{MOST_OPERATIONS}
 use Rattle.std.specs.Prelude.{◌==◌, ◌&&◌, not, nat_lt, slice_get}
 use Rattle.std.specs.Option.{is_some}
 use Rattle.std.proofs.lemmas.Bool.{cond_both, cases_eq, ltb-true, and_parts}
@@ -26,7 +27,7 @@ use Rattle.reg_world.proofs.Acts.{put_cases}
 use Rattle.reg_world.proofs.Turns.{done_calls}
 
 abbrev pub StepAllowed : ℕ → State → Step → Type 0
-StepAllowed registers s (CallStep op) = (s.running ≡ None) × (register_of op < registers) × (s.calls < 65535)
+StepAllowed registers s (CallStep op) = (s.running ≡ None) × (register_of op < registers) × (s.calls < MOST_OPERATIONS)
 StepAllowed registers s (TakeStep from frame) = Unit {0}
 StepAllowed registers s TickStep = Unit {0}
 
@@ -44,12 +45,12 @@ take_allowed n registers w a p (Some f) l = (l, tt)
 
 pub allowed : (n registers : ℕ) (w : Nodes) (e : Event) → Allowed n registers w (step_of n registers w e)
 allowed n registers w (Call p op) =
-    cond_both (nat_lt p n && (not (is_some (w p).state.running) && (nat_lt (register_of op) registers && nat_lt (w p).state.calls 65535))) (Some (p, CallStep op)) None (Allowed n registers w)
+    cond_both (nat_lt p n && (not (is_some (w p).state.running) && (nat_lt (register_of op) registers && nat_lt (w p).state.calls MOST_OPERATIONS))) (Some (p, CallStep op)) None (Allowed n registers w)
     (λ e.
     let a = and_parts _ _ e in
     let b = and_parts _ _ a.1 in
     let c = and_parts _ _ b.1 in
-    (ltb-true p n a.0, (not_some (w p).state.running b.0, ltb-true (register_of op) registers c.0, ltb-true (w p).state.calls 65535 c.1)))
+    (ltb-true p n a.0, (not_some (w p).state.running b.0, ltb-true (register_of op) registers c.0, ltb-true (w p).state.calls MOST_OPERATIONS c.1)))
     (λ e. tt)
 allowed n registers w (Take a p number) =
     cond_both (nat_lt a n && (nat_lt p n && not (a == p))) (take_step a p (slice_get ((w a).wire p) number)) None (Allowed n registers w)

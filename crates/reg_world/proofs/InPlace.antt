@@ -1,5 +1,6 @@
 -- The history of a run stays in place through a step.
 use Rattle.std.proofs.Common.{◌≡◌, ℕ, ◌+◌, ◌-◌, ◌^◌, ◌<◌, ◌⊎◌, List, [], ◌∷◌, ◌++◌, length, Option, Some, None, refl, sym, ap, ◌∙◌, subst, inl, inr, arith, length-append}
+use Rattle.reg_base.specs.declared.limits.TheConstants.{MOST_EVENTS}
 use Rattle.std.specs.Prelude.{slice_get, IfSome}
 use Rattle.std.proofs.lemmas.List.{append-nil}
 use Rattle.reg_base.specs.declared.memory.Op.{Op}
@@ -60,7 +61,7 @@ given_in at number op None y e = absurd (let bad : ⊥ = cc in bad)
 given_in at number op (Some r) y e = inl (let q : r ≡ y = cc in ap (λ z. record { number = number; at = at; op = op; reply = z }) (sym q))
 
 module _ (start : Op → ℕ → Start) (n registers : ℕ) (t : World) (v : Trace) (e : Event) (p : ℕ) (st : Step) (nodes : Nodes) (l : p < n) (count : length t.accepted ≡ v.count) (numbers : length (v.pasts p).calls ≡ (v.nodes p).state.calls) (J : Joined n t v.pasts v.order)
-    (A : StepAllowed registers (v.nodes p).state st) (few : length t.accepted < 2 ^ 20) (good : IsHistory n registers t.history)
+    (A : StepAllowed registers (v.nodes p).state st) (few : length t.accepted < MOST_EVENTS) (good : IsHistory n registers t.history)
     (done : AllAnswered n v) (below_done : (a : PastAnswer) → In a (v.pasts p).answers → a.number < done_calls (v.nodes p).state (v.nodes p).state.running)
     (fits : StepFits (v.nodes p).state (step start (v.nodes p).state st))
     (right : (id : OpId) (a : PastAnswer) → IsPastAnswer n (pasts_now start n t v e p st nodes l count numbers J) id a → (d : PastCall) × IsPastCall n (pasts_now start n t v e p st nodes l count numbers J) id d × ((m : Memory) × (a.reply.answer ≡ answer_of d.op m))) where

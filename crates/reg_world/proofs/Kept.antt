@@ -16,7 +16,8 @@ use Rattle.reg_history.specs.History.{IsHistory}
 use Rattle.reg_world.specs.declared.events.Event.{Event}
 use Rattle.reg_world.specs.Nodes.{Node, Nodes, put, after_step, step_of, nodes_after}
 use Rattle.reg_world.specs.Laws.{FrontsMade}
-use Rattle.reg_world.specs.World.{World, empty_world, most_events, op_id, move_of, moved, happens, run, whole}
+use Rattle.reg_base.specs.declared.limits.TheConstants.{MOST_EVENTS}
+use Rattle.reg_world.specs.World.{World, empty_world, op_id, move_of, moved, happens, run, whole}
 use Rattle.reg_world.proofs.Traced.{Called as PastCall, Answered as PastAnswer, World as Trace, casts_of, pasts_after, order_after, count_after, world_after, run_world, empty_world as empty_trace, whole as traced, HistoryRight, CastsCalled}
 use Rattle.reg_world.proofs.Lists.{in_right}
 use Rattle.reg_world.proofs.NodeEvents.{put_same}
@@ -80,21 +81,21 @@ abbrev pub trace_of : (Op → ℕ → Start) → ℕ → ℕ → World → Trace
 trace_of start n registers w = traced start n registers w.accepted
 
 pub record Kept (start : Op → ℕ → Start) (n registers : ℕ) (w : World) : Type 0 where
-  pub few : length w.accepted ≤ 2 ^ 20
+  pub few : length w.accepted ≤ MOST_EVENTS
   pub nodes : w.nodes ≡ (trace_of start n registers w).nodes
   pub count : length w.accepted ≡ (trace_of start n registers w).count
   pub joined : Joined n w (trace_of start n registers w).pasts (trace_of start n registers w).order
   pub history : IsHistory n registers w.history
 
-pub move_is : (n registers : ℕ) (w : World) (e : Event) (m : ℕ × Step) → move_of n registers w e ≡ Some m → (length w.accepted < 2 ^ 20) × (step_of n registers w.nodes e ≡ Some m)
+pub move_is : (n registers : ℕ) (w : World) (e : Event) (m : ℕ × Step) → move_of n registers w e ≡ Some m → (length w.accepted < MOST_EVENTS) × (step_of n registers w.nodes e ≡ Some m)
 move_is n registers w e m =
-    cond_both (nat_lt (length w.accepted) most_events) (step_of n registers w.nodes e) None (λ o. o ≡ Some m → (length w.accepted < 2 ^ 20) × (step_of n registers w.nodes e ≡ Some m))
-    (λ b h. (ltb-true (length w.accepted) most_events b, h)) (λ b h. absurd (none-some m h))
+    cond_both (nat_lt (length w.accepted) MOST_EVENTS) (step_of n registers w.nodes e) None (λ o. o ≡ Some m → (length w.accepted < MOST_EVENTS) × (step_of n registers w.nodes e ≡ Some m))
+    (λ b h. (ltb-true (length w.accepted) MOST_EVENTS b, h)) (λ b h. absurd (none-some m h))
 
 abbrev with_nodes : Nodes → World → World
 with_nodes nodes w = record w { nodes = nodes }
 
-kept_step : (start : Op → ℕ → Start) (n registers : ℕ) → KeepsLaws start → (w : World) (e : Event) (m : ℕ × Step) → Kept start n registers w → length w.accepted < 2 ^ 20 → step_of n registers w.nodes e ≡ Some m → Kept start n registers (moved start w e (Some m))
+kept_step : (start : Op → ℕ → Start) (n registers : ℕ) → KeepsLaws start → (w : World) (e : Event) (m : ℕ × Step) → Kept start n registers w → length w.accepted < MOST_EVENTS → step_of n registers w.nodes e ≡ Some m → Kept start n registers (moved start w e (Some m))
 kept_step start n registers laws w e m K few is =
     let v : Trace = trace_of start n registers w in
     let found : step_of n registers v.nodes e ≡ Some m = sym (ap (λ z. step_of n registers z e) K.nodes) ∙ is in

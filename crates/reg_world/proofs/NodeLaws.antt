@@ -1,5 +1,6 @@
 -- The laws of a run.
 use Rattle.std.proofs.Common.{◌≡◌, ℕ, zero, suc, ◌+◌, ◌^◌, ◌<◌, ◌≤◌, List, [], ◌∷◌, ◌++◌, length, drop, replicate, Option, Some, None, refl, sym, ap, ◌∙◌, subst, inl, inr, arith, append_assoc}
+use Rattle.reg_base.specs.declared.limits.TheConstants.{FRAME_NUMBERS, LAST_TIME, MOST_EVENTS}
 use Rattle.std.specs.Prelude.{slice_index_or, slice_get}
 use Rattle.std.proofs.lemmas.List.{append-nil, length-replicate}
 use Rattle.reg_base.specs.declared.memory.Op.{Op}
@@ -133,7 +134,7 @@ undelivered_later start n registers events more q c d l m ne h =
           ]
     ]
 
-pub no_refusal : (start : Op → ℕ → Start) (n registers : ℕ) (events : List Event) → length events ≤ 2 ^ 20 → NoRefusal n registers (world_of start n registers events)
+pub no_refusal : (start : Op → ℕ → Start) (n registers : ℕ) (events : List Event) → length events ≤ MOST_EVENTS → NoRefusal n registers (world_of start n registers events)
 no_refusal start n registers events few =
     let w = world_of start n registers events in
     let I = inv_of start n registers events in
@@ -141,7 +142,7 @@ no_refusal start n registers events few =
       not_ahead = λ a b f la lb ne h. ahead w I a b f la lb ne h;
       not_stale = λ a b f la lb ne h. stale w I a b f la lb ne h;
       not_full = λ a b f la lb ne h. full w I a b f la lb ne h;
-      call_fits = λ p l. let z = I.clocks p l in let m : 2 ^ 20 + 1 ≤ 2 ^ 48 = omega arith in omega (arith, z);
+      call_fits = λ p l. let z = I.clocks p l in let m : MOST_EVENTS + 1 ≤ LAST_TIME = omega arith in omega (arith, z);
       number_left = λ a b la lb ne. left w I a b la lb ne;
       in_range = λ a b i body la lb ne h. (I.sent a la).ranges i body ((I.link a b la lb ne).numbered i body h);
     }
@@ -163,12 +164,12 @@ no_refusal start n registers events few =
         let v = S.past k last.0 last.1 in
         omega (arith, z, v)
 
-    left : (w : Nodes) → Inv n registers (length events) w → (a b : ℕ) → a < n → b < n → (a ≡ b → ⊥) → next_of (peer_at (w a).state b) < 2 ^ 48
+    left : (w : Nodes) → Inv n registers (length events) w → (a b : ℕ) → a < n → b < n → (a ≡ b → ⊥) → next_of (peer_at (w a).state b) < FRAME_NUMBERS
     left w I a b la lb ne =
         let v = next_is (w a).queued (w a).state.clock (peer_at (w a).state b) (peer_at (w b).state a) ((w a).wire b) ((w b).wire a) (I.link a b la lb ne) in
         let z = few_bodies (w a).queued (w a).state.clock (I.sent a la) (length (w a).queued) refl in
         let u = I.clocks a la in
-        let m : 2 ^ 20 + 1 < 2 ^ 48 = omega arith in
+        let m : MOST_EVENTS + 1 < FRAME_NUMBERS = omega arith in
         omega (arith, v, z, u, few)
 
     ahead : (w : Nodes) → Inv n registers (length events) w → (a b : ℕ) (f : Frame) → a < n → b < n → (a ≡ b → ⊥) → In f ((w a).wire b) → IsAhead (w b).state a f → ⊥

@@ -1,5 +1,6 @@
 -- The promises of every run.
 use Rattle.std.proofs.Common.{◌≡◌, ℕ, ◌+◌, ◌^◌, ◌≤◌, ◌⊎◌, List, [], ◌∷◌, ◌++◌, length, map, Option, Some, None, refl, sym, ap, ◌∙◌, subst, inl, inr, append_assoc}
+use Rattle.reg_base.specs.declared.limits.TheConstants.{MOST_EVENTS}
 use Rattle.std.proofs.lemmas.List.{append-nil}
 use Rattle.std.specs.Prelude.{slice_get}
 use Rattle.std.proofs.lemmas.Option.{same_Some}
@@ -79,7 +80,7 @@ module _ (start : Op → ℕ → Start) (n registers : ℕ) (laws : KeepsLaws st
   pub in_place : IsHistory n registers w.history
   in_place = (K start n registers laws events).history
 
-  pub few_events : length w.accepted ≤ 2 ^ 20
+  pub few_events : length w.accepted ≤ MOST_EVENTS
   few_events = (K start n registers laws events).few
 
   pub longest : OrderIsLongest n w

@@ -1,5 +1,6 @@
 -- Where an event is refused, and one more event.
 use Rattle.std.proofs.Common.{◌≡◌, ℕ, Bool, true, false, not, List, [], ◌∷◌, ◌++◌, length, Option, Some, None, refl}
+use Rattle.reg_base.specs.declared.limits.TheConstants.{MOST_EVENTS, MOST_OPERATIONS}
 use Rattle.std.specs.Prelude.{cond, ◌==◌, ◌&&◌, nat_lt, slice_get}
 use Rattle.std.specs.Option.{is_some}
 use Rattle.reg_base.specs.declared.memory.Op.{Op}
@@ -13,7 +14,7 @@ use Rattle.reg_world.specs.declared.events.Event.TheVariants.{Call, Take, Tick}
 use Rattle.reg_world.specs.declared.faults.WorldFault.{WorldFault}
 use Rattle.reg_world.specs.declared.faults.WorldFault.TheVariants.{TooManyEvents, NoProcess, Busy, NoRegister, TooManyOperations, NoFrame}
 use Rattle.reg_world.specs.Nodes.{Nodes, take_step, step_of}
-use Rattle.reg_world.specs.World.{World, most_events, empty_world, move_of, moved, frame_fault, event_fault, fault_of, whole}
+use Rattle.reg_world.specs.World.{World, empty_world, move_of, moved, frame_fault, event_fault, fault_of, whole}
 use Rattle.reg_world.proofs.Promised.{run_parts}
 
 abbrev Agrees : Option (ℕ × Step) → Option WorldFault → Type 0
@@ -38,7 +39,7 @@ tick_agrees m false = refl
 tick_agrees m true = refl
 
 event_agrees : (n registers : ℕ) (w : Nodes) (e : Event) → Agrees (step_of n registers w e) (event_fault n registers w e)
-event_agrees n registers w (Call p op) = call_agrees (p, CallStep op) (nat_lt p n) (is_some (w p).state.running) (nat_lt (register_of op) registers) (nat_lt (w p).state.calls 65535)
+event_agrees n registers w (Call p op) = call_agrees (p, CallStep op) (nat_lt p n) (is_some (w p).state.running) (nat_lt (register_of op) registers) (nat_lt (w p).state.calls MOST_OPERATIONS)
 event_agrees n registers w (Take from to number) = take_agrees from to (nat_lt from n) (nat_lt to n) (from == to) (slice_get ((w from).wire to) number)
 event_agrees n registers w (Tick p) = tick_agrees (p, TickStep) (nat_lt p n)
 
@@ -47,7 +48,7 @@ few_agrees m f true h = h
 few_agrees m f false h = refl
 
 pub refused_by_fault : (n registers : ℕ) (w : World) (e : Event) → is_some (move_of n registers w e) ≡ not (is_some (fault_of n registers w e))
-refused_by_fault n registers w e = few_agrees (step_of n registers w.nodes e) (event_fault n registers w.nodes e) (nat_lt (length w.accepted) most_events) (event_agrees n registers w.nodes e)
+refused_by_fault n registers w e = few_agrees (step_of n registers w.nodes e) (event_fault n registers w.nodes e) (nat_lt (length w.accepted) MOST_EVENTS) (event_agrees n registers w.nodes e)
 
 pub one_more : (start : Op → ℕ → Start) (n registers : ℕ) (events : List Event) (e : Event) → whole start n registers (events ++ e ∷ []) ≡ moved start (whole start n registers events) e (move_of n registers (whole start n registers events) e)
 one_more start n registers events e = run_parts start n registers events (e ∷ []) (empty_world n registers)

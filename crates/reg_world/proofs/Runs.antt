@@ -1,5 +1,6 @@
 -- Every event of a run keeps what holds of all nodes.
 use Rattle.std.proofs.Common.{◌≡◌, ℕ, suc, ◌+◌, ◌-◌, ◌<◌, ◌≤◌, max, [], length, take, drop, Option, Some, None, refl, sym, ap, ◌∙◌, subst, inl, inr, arith}
+use Rattle.reg_base.specs.declared.limits.TheConstants.{MOST_OPERATIONS, MOST_RESENT}
 use Rattle.std.specs.Prelude.{slice_get, ◌==◌, nat_lt, not, ◌&&◌}
 use Rattle.std.proofs.lemmas.Bool.{cases_eq, cond_both, eqb-true, eqb-false, ltb-true, and_parts, not-true}
 use Rattle.std.proofs.lemmas.List.{length-set, get_or-set_same, get_or-set_other, drop-drop}
@@ -48,13 +49,13 @@ module _ (n registers k : ℕ) (w : Nodes) (I : Inv n registers k w) (p : ℕ) (
   tick_kept op =
       quiet_kept n registers k w I p l (w p).state (resent (w p).state) _
       (record { me = refl; clock = refl; held = refl; size = refl; seen = λ r. refl; expected = λ r. refl }) outboxes
-      (λ b lb ne i d. cond_both (b == (w p).state.me) [] (numbered_from (peer_at (w p).state b).first (take 16 (peer_at (w p).state b).pending)) (λ fs. In (Numbered i d) fs → slice_get (w p).queued i ≡ Some d)
+      (λ b lb ne i d. cond_both (b == (w p).state.me) [] (numbered_from (peer_at (w p).state b).first (take MOST_RESENT (peer_at (w p).state b).pending)) (λ fs. In (Numbered i d) fs → slice_get (w p).queued i ≡ Some d)
       (λ _ h. absurd h)
       (λ _ h.
-      let r = numbered_in (peer_at (w p).state b).first (take 16 (peer_at (w p).state b).pending) i d h in
-      let at = place_take 16 (peer_at (w p).state b).pending r.0 d r.2 in
+      let r = numbered_in (peer_at (w p).state b).first (take MOST_RESENT (peer_at (w p).state b).pending) i d h in
+      let at = place_take MOST_RESENT (peer_at (w p).state b).pending r.0 d r.2 in
       place_drop (peer_at (w p).state b).first (w p).queued i r.0 d r.1 (subst (λ q. slice_get q r.0 ≡ Some d) (outboxes b lb ne).1 at)))
-      (λ a la ne c. cond_both (a == (w p).state.me) [] (numbered_from (peer_at (w p).state a).first (take 16 (peer_at (w p).state a).pending)) (λ fs. In (Got c) fs → c ≤ (peer_at (w p).state a).expected)
+      (λ a la ne c. cond_both (a == (w p).state.me) [] (numbered_from (peer_at (w p).state a).first (take MOST_RESENT (peer_at (w p).state a).pending)) (λ fs. In (Got c) fs → c ≤ (peer_at (w p).state a).expected)
       (λ _ h. absurd h)
       (λ _ h. absurd (numbered_no_got _ _ c h)))
 
@@ -122,7 +123,7 @@ take_ok start n registers k w a p (Some f) I la l ne h = (l, taken_kept n regist
 
 pub step_ok : (start : Op → ℕ → Start) (n registers k : ℕ) (w : Nodes) (e : Event) → Inv n registers k w → StepKept start n registers k w (step_of n registers w e)
 step_ok start n registers k w (Call p op) I =
-    cond_both (nat_lt p n && (not (is_some (w p).state.running) && (nat_lt (register_of op) registers && nat_lt (w p).state.calls 65535))) (Some (p, CallStep op)) None (StepKept start n registers k w)
+    cond_both (nat_lt p n && (not (is_some (w p).state.running) && (nat_lt (register_of op) registers && nat_lt (w p).state.calls MOST_OPERATIONS))) (Some (p, CallStep op)) None (StepKept start n registers k w)
     (λ e.
     let a = and_parts _ _ e in
     let b = and_parts _ _ a.1 in

@@ -1,5 +1,6 @@
 -- The laws, of the nodes of a whole run.
 use Rattle.std.proofs.Common.{ℕ, ◌^◌, ◌≤◌, List, ◌++◌, length, sym, subst}
+use Rattle.reg_base.specs.declared.limits.TheConstants.{MOST_EVENTS}
 use Rattle.reg_base.specs.declared.memory.Op.{Op}
 use Rattle.reg_front.specs.declared.starts.Start.{Start}
 use Rattle.reg_world.specs.declared.events.Event.{Event}
@@ -18,7 +19,7 @@ module _ (start : Op → ℕ → Start) (n registers : ℕ) (events : List Event
   pub made : FrontsMade n (whole start n registers events).nodes
   made = subst (FrontsMade n) (sym (whole_nodes start n registers events (empty_world n registers))) (fronts_made start n registers events)
 
-  pub refused : length events ≤ 2 ^ 20 → NoRefusal n registers (whole start n registers events).nodes
+  pub refused : length events ≤ MOST_EVENTS → NoRefusal n registers (whole start n registers events).nodes
   refused few = subst (NoRefusal n registers) (sym (whole_nodes start n registers events (empty_world n registers))) (no_refusal start n registers events few)
 
   pub above : (more : List Event) → UndeliveredAbove n (whole start n registers events).nodes (whole start n registers (events ++ more)).nodes

@@ -1,5 +1,6 @@
 -- The laws of a run.
 use Rattle.std.specs.Prelude.{[], ◌≡◌, ℕ, ◌+◌, ◌^◌, ◌<◌, ◌≤◌, max, ◌⊎◌, slice_get, Some, None}
+use Rattle.reg_base.specs.declared.limits.TheConstants.{FRAME_NUMBERS, LAST_TIME}
 use Rattle.reg_base.specs.declared.stamps.Delivered.{Delivered}
 use Rattle.reg_frames.specs.declared.bodies.Body.{Body}
 use Rattle.reg_frames.specs.declared.bodies.Body.TheVariants.{Cast, Ack}
@@ -41,7 +42,7 @@ IsStale s from (Numbered i body) = (i ≡ (peer_at s from).expected) × (time_of
 IsStale s from (Got count) = ⊥
 
 abbrev pub IsFull : State → ℕ → Frame → Type 0
-IsFull s from (Numbered i body) = (i ≡ (peer_at s from).expected) × (2 ^ 48 < max s.clock (time_of body) + 1)
+IsFull s from (Numbered i body) = (i ≡ (peer_at s from).expected) × (LAST_TIME < max s.clock (time_of body) + 1)
 IsFull s from (Got count) = ⊥
 
 abbrev pub names_register : ℕ → Body → Type 0
@@ -53,9 +54,9 @@ pub record NoRefusal (n registers : ℕ) (w : Nodes) : Type 0 where
   pub not_ahead : (a b : ℕ) (f : Frame) → a < n → b < n → (a ≡ b → ⊥) → In f ((w a).wire b) → IsAhead (w b).state a f → ⊥
   pub not_stale : (a b : ℕ) (f : Frame) → a < n → b < n → (a ≡ b → ⊥) → In f ((w a).wire b) → IsStale (w b).state a f → ⊥
   pub not_full : (a b : ℕ) (f : Frame) → a < n → b < n → (a ≡ b → ⊥) → In f ((w a).wire b) → IsFull (w b).state a f → ⊥
-  pub call_fits : (p : ℕ) → p < n → (w p).state.clock + 1 ≤ 2 ^ 48
+  pub call_fits : (p : ℕ) → p < n → (w p).state.clock + 1 ≤ LAST_TIME
   -- every link has a number left
-  pub number_left : (a b : ℕ) → a < n → b < n → (a ≡ b → ⊥) → next_of (peer_at (w a).state b) < 2 ^ 48
+  pub number_left : (a b : ℕ) → a < n → b < n → (a ≡ b → ⊥) → next_of (peer_at (w a).state b) < FRAME_NUMBERS
   pub in_range : (a b i : ℕ) (body : Body) → a < n → b < n → (a ≡ b → ⊥) → In (Numbered i body) ((w a).wire b) → names_register registers body
 
 -- nothing waits for an acknowledgement

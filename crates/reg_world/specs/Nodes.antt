@@ -1,5 +1,6 @@
 -- All processes and wires, over a list of events.
 use Rattle.std.specs.List.{filter, list_any}
+use Rattle.reg_base.specs.declared.limits.TheConstants.{MOST_OPERATIONS}
 use Rattle.std.specs.Prelude.{ℕ, not, ◌&&◌, ◌==◌, nat_lt, cond, List, [], ◌∷◌, ◌++◌, replicate, Option, Some, None, slice_get}
 use Rattle.std.specs.Option.{option_to_list, is_some}
 use Rattle.reg_base.specs.declared.stamps.Delivered.{Delivered}
@@ -87,7 +88,7 @@ take_step from to (Some frame) = Some (to, TakeStep from frame)
 
 abbrev pub step_of : ℕ → ℕ → Nodes → Event → Option (ℕ × Step)
 step_of n registers w (Call p op) =
-    cond (nat_lt p n && (not (is_some (w p).state.running) && (nat_lt (register_of op) registers && nat_lt (w p).state.calls 65535)))
+    cond (nat_lt p n && (not (is_some (w p).state.running) && (nat_lt (register_of op) registers && nat_lt (w p).state.calls MOST_OPERATIONS)))
     (Some (p, CallStep op)) None
 step_of n registers w (Take from to number) =
     cond (nat_lt from n && (nat_lt to n && not (from == to))) (take_step from to (slice_get ((w from).wire to) number)) None

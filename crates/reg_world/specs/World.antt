@@ -1,5 +1,6 @@
 -- A run: all processes and wires, and what is told of the events accepted so far.
 use Rattle.std.specs.Prelude.{ℕ, ◌-◌, ◌^◌, Bool, ◌&&◌, ◌==◌, nat_lt, cond, List, [], ◌∷◌, ◌++◌, length, map, Option, Some, None, slice_get}
+use Rattle.reg_base.specs.declared.limits.TheConstants.{MOST_EVENTS, MOST_OPERATIONS}
 use Rattle.std.specs.Option.{is_some}
 use Rattle.std.specs.List.{list_any}
 use Rattle.reg_base.specs.declared.stamps.Stamp.{Stamp}
@@ -43,10 +44,6 @@ pub record World : Type 0 where
 
 abbrev pub empty_world : ℕ → ℕ → World
 empty_world n registers = record { nodes = empty n registers; accepted = []; history = []; casts = []; order = []; reads = []; replies = [] }
-
--- how many events a run may have
-abbrev pub most_events : ℕ
-most_events = 2 ^ 20
 
 abbrev pub op_id : ℕ → ℕ → OpId
 op_id p number = record { process = p; number = number }
@@ -107,7 +104,7 @@ told w e p s m r nodes = record {
 
 -- which process makes which step in the event, or None where the event is refused
 abbrev pub move_of : ℕ → ℕ → World → Event → Option (ℕ × Step)
-move_of n registers w e = cond (nat_lt (length w.accepted) most_events) (step_of n registers w.nodes e) None
+move_of n registers w e = cond (nat_lt (length w.accepted) MOST_EVENTS) (step_of n registers w.nodes e) None
 
 abbrev pub moved : (Op → ℕ → Start) → World → Event → Option (ℕ × Step) → World
 moved start w e None = w
@@ -135,7 +132,7 @@ call_fault n registers s p op =
     cond (nat_lt p n)
     (cond (is_some s.running) (Some Busy)
     (cond (nat_lt (register_of op) registers)
-    (cond (nat_lt s.calls 65535) None (Some TooManyOperations))
+    (cond (nat_lt s.calls MOST_OPERATIONS) None (Some TooManyOperations))
     (Some NoRegister)))
     (Some NoProcess)
 
@@ -150,4 +147,4 @@ event_fault n registers w (TakeOf from to number) =
 event_fault n registers w (TickOf p) = cond (nat_lt p n) None (Some NoProcess)
 
 abbrev pub fault_of : ℕ → ℕ → World → Event → Option WorldFault
-fault_of n registers w e = cond (nat_lt (length w.accepted) most_events) (event_fault n registers w.nodes e) (Some TooManyEvents)
+fault_of n registers w e = cond (nat_lt (length w.accepted) MOST_EVENTS) (event_fault n registers w.nodes e) (Some TooManyEvents)

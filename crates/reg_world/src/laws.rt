@@ -1,6 +1,7 @@
 //! Laws of all runs, for every list of events and every lawful front end. Each is a function that does nothing: its
 //! contract is the law.
 ghost use Rattle.std.specs.Prelude.{ℕ, is_some, not, ◌≡◌, ◌<◌, ◌≤◌, ◌^◌, ◌++◌, List, [], ◌∷◌, length};
+ghost use Rattle.reg_base.specs.declared.limits.TheConstants.{MOST_EVENTS};
 ghost use Rattle.reg_base.specs.declared.memory.Op.{Op};
 ghost use Rattle.reg_base.specs.declared.memory.OpId.{OpId};
 ghost use Rattle.reg_front.specs.declared.starts.Start.{Start};
@@ -27,7 +28,7 @@ pub fn points_are_a_point_order()
 /// Each entry of a run's history is in place. The accepted events are no more than a run may have, and make the same world.
 pub fn history_in_place()
     ensures in_place { (start : Op → ℕ → Start) (n registers : ℕ) (events : List Event) → KeepsLaws start → IsHistory n registers (whole start n registers events).history }
-    ensures few { (start : Op → ℕ → Start) (n registers : ℕ) (events : List Event) → KeepsLaws start → length (whole start n registers events).accepted ≤ 2 ^ 20 }
+    ensures few { (start : Op → ℕ → Start) (n registers : ℕ) (events : List Event) → KeepsLaws start → length (whole start n registers events).accepted ≤ MOST_EVENTS }
     ensures again { (start : Op → ℕ → Start) (n registers : ℕ) (events : List Event) → whole start n registers (whole start n registers events).accepted ≡ whole start n registers events }
 {}
 
