@@ -7,3 +7,10 @@ pub mod OneMore
 pub mod Placing
 pub mod Adding
 pub mod Keeping
+pub mod Steps
+pub mod Tables
+pub mod Noting
+pub mod Marking
+pub mod OwnOrder
+pub mod Bridges
+pub mod PointFacts

@@ -3,11 +3,17 @@
 
 pub mod laws;
 
+mod answers;
+mod check;
 mod entries;
 mod faults;
 mod log;
+mod marks;
 mod place;
+mod points;
+mod table;
 
+pub use check::{check_points, check_serial};
 pub use entries::{Entry, Point};
 pub use faults::{CheckFault, HistoryFault};
 pub use log::History;
