@@ -9,6 +9,8 @@ mod entries;
 mod faults;
 mod log;
 mod marks;
+#[cfg(test)]
+mod order_tests;
 mod place;
 mod points;
 mod table;
