@@ -16,6 +16,9 @@ use Rattle.reg_process.specs.declared.steps.Step.{Step}
 use Rattle.reg_process.specs.declared.steps.Step.TheVariants.{Call, Take, Tick}
 use Rattle.reg_base.specs.declared.limits.TheConstants.{MOST_RESENT}
 use Rattle.reg_base.specs.Order.{AtMost, below, at_most, insert}
+pub use Rattle.reg_base.specs.Order.{stamp_at, cast_at, all_below}
+pub use Rattle.reg_process.specs.declared.steps.Running.{Running}
+pub use Rattle.reg_process.specs.declared.steps.Running.TheVariants.{Own, Held}
 use Rattle.reg_base.specs.Memory.{Memory, answer_of, memory_after}
 
 abbrev pub time_of : Body → ℕ
@@ -36,11 +39,6 @@ no_peer = record { seen = 0; expected = 0; first = 0; pending = [] }
 -- the number of the next body
 abbrev pub next_of : Peer → ℕ
 next_of p = p.first + length p.pending
-
--- an operation that runs until its cast is delivered, or a held read
-pub data Running : Type 0 where
-  Own : (stamp : Stamp) (op : Op) → Running
-  Held : (op : Op) → Running
 
 -- A process. `held` has the casts that wait, in the order of their stamps; the own place of `peers` stays unused.
 pub record State : Type 0 where
@@ -64,17 +62,6 @@ pub record Outcome : Type 0 where
 
 abbrev pub peer_at : State → ℕ → Peer
 peer_at s r = slice_index_or s.peers r no_peer
-
-abbrev pub stamp_at : ℕ → ℕ → Stamp
-stamp_at t p = record { time = t; process = p }
-
-abbrev pub cast_at : ℕ → ℕ → Op → Delivered
-cast_at t p op = record { stamp = stamp_at t p; op = op }
-
--- a test holds of every number below n
-abbrev pub all_below : (ℕ → Bool) → ℕ → Bool
-all_below test zero = true
-all_below test (suc n) = test n && all_below test n
 
 abbrev pub seen_at : State → ℕ → ℕ
 seen_at s r = (peer_at s r).seen
