@@ -124,7 +124,7 @@ fn agrees_with_a_plain_list(rt: HostRuntime) {
             .wrapping_mul(6_364_136_223_846_793_005)
             .wrapping_add(1_442_695_040_888_963_407);
         let process = ((word >> 60) % 4) as u8;
-        let time = turn / 3 + (word >> 40) % 7;
+        let time = turn + (word >> 40) % 7;
         let holds = (word >> 35) % 3 != 0;
         let cast = if holds { Some(WRITE) } else { None };
         let taken = held.receive(stamp(time, process), cast).is_ok();
@@ -137,5 +137,5 @@ fn agrees_with_a_plain_list(rt: HostRuntime) {
         popped = popped.saturating_add(u32::from(first.is_some()));
         assert_eq!(rt; held.len(), plain.held.len());
     }
-    assert!(rt; popped > 100);
+    assert!(rt; popped > 50);
 }
