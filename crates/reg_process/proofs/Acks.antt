@@ -1,11 +1,10 @@
 -- An acknowledgement accepted, and a count.
-use Rattle.std.proofs.Common.{◌≡◌, ◌⊎◌, ℕ, zero, suc, ◌+◌, ◌-◌, ◌<◌, ◌≤◌, Bool, true, false, not, List, [], ◌∷◌, ◌++◌, length, map, drop, max, Option, Some, None, refl, sym, ap, ◌∙◌, subst, inl, inr, arith, length-set, get_or-set_same, get_or-set_other}
-use Rattle.std.specs.Prelude.{cond, ◌==◌, slice_index, slice_index_or, slice_set, nat_lt, Result, Ok, Err, is_ok, OkIff}
-use Rattle.std.proofs.lemmas.Bool.{cases_eq, cond-true, cond-false, eq-eqb, ne_eqb}
+use Rattle.std.proofs.Common.{◌≡◌, ℕ, zero, suc, ◌+◌, ◌<◌, ◌≤◌, Bool, true, false, not, List, [], ◌∷◌, ◌++◌, length, map, max, None, refl, sym, ap, ◌∙◌, subst, inl, inr, arith, length-set, get_or-set_same, get_or-set_other}
+use Rattle.std.specs.Prelude.{cond, slice_index, slice_index_or, slice_set, nat_lt, Result, Ok, Err, is_ok, OkIff}
+use Rattle.std.proofs.lemmas.Bool.{cases_eq, eq-eqb, ne_eqb}
 use Rattle.std.proofs.lemmas.Bool.Decides.{nat_tests}
 use Rattle.std.proofs.lemmas.List.{append-nil}
-use Rattle.reg_frames.specs.declared.bodies.Frame.{Frame}
-use Rattle.reg_frames.specs.declared.bodies.Frame.TheVariants.{Numbered, Got}
+use Rattle.reg_frames.specs.declared.bodies.Frame.TheVariants.{Got}
 use Rattle.reg_base.specs.declared.limits.TheConstants.{LAST_TIME}
 use Rattle.reg_process.specs.Process.{State, Peer, no_peer, peer_at, seen_at, got_frames, stamp_at, accepts, acknowledged}
 use Rattle.reg_process.specs.Process as process
@@ -15,7 +14,7 @@ use Rattle.reg_holdback.specs.Waiting.{Waiting}
 use Rattle.reg_holdback.specs.Waiting as waiting
 use Rattle.reg_process.specs.declared.outcomes.Put.{Put}
 use Rattle.reg_process.specs.Parts.{Parts, Good, state_of, merged, nothing}
-use Rattle.reg_process.specs.Puts.{puts, put_to, IsGrown}
+use Rattle.reg_process.specs.Puts.{puts, put_to}
 use Rattle.reg_process.specs.Steps.{TakesAck}
 use Rattle.reg_process.proofs.Deliveries.{length-merged}
 use Rattle.reg_process.proofs.Sends.{grown_good, merged_set, merged_expected, merged_next}
@@ -82,7 +81,7 @@ module _ (p : Parts) (good : Good p) (from t : ℕ) (peer : from < length p.wait
             let s = state_of p in
             let final : List Peer → State = λ l. record (state_of (ack_parts (max p.clock t + 1))) { peers = l } in
             ap final (merged_set p.waiting.seen p.expected p.outs from t (slice_index p.expected from + 1) good.ins good.out peer
-              ∙ ap (λ k. slice_set s.peers from (record (peer_at s from) { seen = t; expected = k })) e);
+            ∙ ap (λ k. slice_set s.peers from (record (peer_at s from) { seen = t; expected = k })) e);
         put =
             sym (one_put from (slice_index p.expected from + 1) (length (state_of p).peers) (let z = length-merged p.waiting.seen p.expected p.outs good.ins good.out in omega (arith, z, peer)))
             ∙ ap (λ n. puts (got_frames from n) (length (state_of p).peers)) e;
@@ -106,7 +105,7 @@ module _ (p : Parts) (good : Good p) (from t : ℕ) (peer : from < length p.wait
 
 -- a count
 merged_out : (ts es : List ℕ) (os : List Unacknowledged) (i : ℕ) (o : Unacknowledged) → length es ≡ length ts → length os ≡ length ts → i < length ts →
-  merged ts es (slice_set os i o) ≡ slice_set (merged ts es os) i (record (slice_index_or (merged ts es os) i no_peer) { first = o.first; pending = o.pending })
+    merged ts es (slice_set os i o) ≡ slice_set (merged ts es os) i (record (slice_index_or (merged ts es os) i no_peer) { first = o.first; pending = o.pending })
 merged_out [] es os i o a b l = absurd (omega arith)
 merged_out (x ∷ ts) [] os i o a b l = absurd (omega arith)
 merged_out (x ∷ ts) (y ∷ es) [] i o a b l = absurd (omega arith)
@@ -127,7 +126,6 @@ set_same [] i x d e l = absurd (omega arith)
 set_same (y ∷ ys) zero x d e l = ap (λ z. z ∷ ys) e
 set_same (y ∷ ys) (suc i) x d e l = ap (λ zs. y ∷ zs) (set_same ys i x d e (omega arith))
 
-
 module _ (p : Parts) (good : Good p) (from count : ℕ) (peer : from < length p.waiting.seen) (old : Unacknowledged) (is : old ≡ slice_index_or p.outs from nothing) where
   next_is : process.next_of (peer_at (state_of p) from) ≡ next_of old
   next_is = merged_next p.waiting.seen p.expected p.outs from good.ins good.out ∙ ap next_of (sym is)
@@ -141,7 +139,7 @@ module _ (p : Parts) (good : Good p) (from count : ℕ) (peer : from < length p.
       let s = state_of p in
       let at : old ≡ record { first = (peer_at s from).first; pending = (peer_at s from).pending } = is ∙ merged_out_at p.waiting.seen p.expected p.outs from good.ins good.out in
       ap (λ (l : List Peer). record s { peers = l }) (merged_out p.waiting.seen p.expected p.outs from new good.ins good.out peer
-        ∙ ap (λ (o : Unacknowledged). slice_set s.peers from (record (peer_at s from) { first = o.first; pending = o.pending })) (e ∙ ap (λ (o : Unacknowledged). link.acknowledged o count) at))
+      ∙ ap (λ (o : Unacknowledged). slice_set s.peers from (record (peer_at s from) { first = o.first; pending = o.pending })) (e ∙ ap (λ (o : Unacknowledged). link.acknowledged o count) at))
   counted_state false new e = ap (λ (os : List Unacknowledged). state_of (record p { outs = os })) (set_same p.outs from new nothing (e ∙ is) (let z = good.out in omega (arith, z, peer)))
 
 pub ok_means : {T E : Type 0} (r : Result T E) (P : Type 0) (v : T) → OkIff r P v → is_ok r ≡ true → P

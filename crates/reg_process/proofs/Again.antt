@@ -1,16 +1,16 @@
 -- What a tick puts again.
-use Rattle.std.proofs.Common.{◌≡◌, ℕ, zero, suc, ◌+◌, ◌<◌, ◌≤◌, Bool, true, false, List, [], ◌∷◌, ◌++◌, length, take, map, Option, Some, None, refl, sym, ap, ◌∙◌, subst, arith, add-one, append_assoc, replicate}
+use Rattle.std.proofs.Common.{◌≡◌, ℕ, zero, suc, ◌+◌, ◌<◌, ◌≤◌, List, [], ◌∷◌, ◌++◌, length, take, map, Option, Some, None, refl, sym, ap, ◌∙◌, arith, add-one, append_assoc, replicate}
 use Rattle.std.proofs.lemmas.List.{length-replicate}
-use Rattle.std.specs.Prelude.{cond, ◌==◌, slice_get, slice_index_or, option_map}
-use Rattle.std.proofs.lemmas.Bool.{ne_eqb, cond-false}
+use Rattle.std.specs.Prelude.{cond, slice_get, slice_index_or, option_map}
+use Rattle.std.proofs.lemmas.Bool.{ne_eqb}
 use Rattle.reg_frames.specs.declared.bodies.Body.{Body}
 use Rattle.reg_frames.specs.declared.bodies.Frame.{Frame}
 use Rattle.reg_frames.specs.declared.bodies.Frame.TheVariants.{Numbered}
-use Rattle.reg_process.specs.Process.{State, Peer, no_peer, peer_at, numbered_from, resent}
+use Rattle.reg_process.specs.Process.{numbered_from, resent}
 use Rattle.reg_base.specs.declared.limits.TheConstants.{MOST_RESENT, MOST_PROCESSES}
 use Rattle.reg_links.specs.Link.{Unacknowledged, next_of}
 use Rattle.reg_process.specs.declared.outcomes.Put.{Put}
-use Rattle.reg_process.specs.Parts.{Parts, Good, state_of, merged, nothing, first_parts}
+use Rattle.reg_process.specs.Parts.{Parts, Good, state_of, nothing, first_parts}
 use Rattle.reg_holdback.specs.Waiting.{Waiting}
 use Rattle.reg_process.specs.Puts.{puts, put_to, again_at, again_frames}
 use Rattle.reg_process.proofs.Deliveries.{length-merged}
@@ -104,7 +104,7 @@ first_good me processes registers m n =
 
 -- the parts that the code made
 pub same_parts : (me processes registers clock : ℕ) (w : Waiting) (es : List ℕ) (os : List Unacknowledged) (m : List ℕ) → clock ≡ 0 → w ≡ record { me = me; seen = replicate processes 0; held = [] } → es ≡ replicate processes 0 → os ≡ replicate processes nothing → m ≡ replicate registers 0 →
-  first_parts me processes registers ≡ record (first_parts me processes registers) { clock = clock; waiting = w; expected = es; outs = os; copy = m }
+    first_parts me processes registers ≡ record (first_parts me processes registers) { clock = clock; waiting = w; expected = es; outs = os; copy = m }
 same_parts me processes registers clock w es os m c a b d f =
     ap (λ x. record (first_parts me processes registers) { clock = x }) (sym c)
     ∙ ap (λ (x : Waiting). record (first_parts me processes registers) { clock = clock; waiting = x }) (sym a)

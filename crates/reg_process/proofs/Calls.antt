@@ -1,5 +1,5 @@
 -- A call, from its cast and its deliveries.
-use Rattle.std.proofs.Common.{◌≡◌, ℕ, ◌<◌, ◌≤◌, ◌+◌, Bool, true, false, zero, suc, [], ◌∷◌, ◌++◌, List, length, Option, Some, None, refl, sym, ap, ◌∙◌, subst, arith}
+use Rattle.std.proofs.Common.{◌≡◌, ℕ, ◌<◌, ◌≤◌, ◌+◌, Bool, true, false, zero, suc, [], ◌∷◌, List, length, Option, Some, None, refl, sym, ap, ◌∙◌, subst, arith}
 use Rattle.std.specs.Prelude.{cond, ◌==◌, ◌||◌, not, nat_lt, nat_le, nat_eq, slice_get, slice_index}
 use Rattle.std.proofs.lemmas.Bool.Decides.{nat_tests}
 use Rattle.std.proofs.lemmas.Bool.{cond-false, ne_eqb, eq-eqb, false≢true}
@@ -31,7 +31,7 @@ use Rattle.reg_process.specs.Steps.{MakesCast, Delivers, due}
 use Rattle.reg_process.specs.Events.{Goes, cast_start, Kept, Steps, Refused, fault_of}
 
 pub broadcasts : (runs : Bool) (s : State) (op : Op) (stamp : Stamp) (frames : List Put) (s1 : State) (ds : List Delivered) (d : Option Reply) (s2 : State) (reply : Option Reply) →
-  MakesCast s op runs stamp frames s1 → Delivers s1 ds d s2 → reply ≡ cond runs d (Some (record { answer = Done; place = s.delivered })) → Goes (length s.peers) (called s op (cast_start runs)) frames (Some stamp) ds reply s2
+    MakesCast s op runs stamp frames s1 → Delivers s1 ds d s2 → reply ≡ cond runs d (Some (record { answer = Done; place = s.delivered })) → Goes (length s.peers) (called s op (cast_start runs)) frames (Some stamp) ds reply s2
 broadcasts true s op stamp frames s1 ds d s2 reply m v r = record {
   state = v.state ∙ ap delivered_state m.state;
   outcome = record { put = m.put; made = ap Some m.stamp; casts = v.casts ∙ ap clear_casts m.state; answer = r ∙ v.answer ∙ ap due m.state };

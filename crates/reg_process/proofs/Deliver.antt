@@ -1,5 +1,5 @@
 -- Delivery one cast after another gives what delivery at once gives.
-use Rattle.std.proofs.Common.{◌≡◌, ℕ, ◌+◌, ◌<◌, Bool, true, false, not, List, [], ◌∷◌, ◌++◌, length, Option, Some, None, refl, sym, ap, ◌∙◌, subst, inl, inr, arith}
+use Rattle.std.proofs.Common.{◌≡◌, ℕ, ◌+◌, ◌<◌, Bool, true, false, not, List, [], ◌∷◌, length, Option, Some, None, refl, sym, ap, ◌∙◌, subst, inl, inr, arith}
 use Rattle.std.specs.Prelude.{cond, ◌&&◌, ◌||◌, ◌==◌, count_by}
 use Rattle.std.specs.List.{filter, list_any}
 use Rattle.std.proofs.lemmas.Bool.{cond-true, cond-false, false≢true, false_from_ne_true, or_cases, or_left, or_right, and_parts, and_from, eqb-true, eq-eqb, ne_eqb, cases_eq}
@@ -9,12 +9,12 @@ use Rattle.reg_base.specs.declared.memory.Op.{Op}
 use Rattle.reg_base.specs.declared.stamps.Delivered.{Delivered}
 use Rattle.reg_process.specs.declared.steps.Reply.{Reply}
 use Rattle.reg_base.specs.Order.{In, Rising, Below, AtMost, below, at_most}
-use Rattle.reg_base.specs.Memory.{Memory, memory_after, after}
+use Rattle.reg_base.specs.Memory.{memory_after, after}
 use Rattle.reg_process.specs.Process.{State, Running, Own, Held, is_own, is_clear, clear_casts, delivered_state, reply_of, reply_after, still, unsettled, casts_before, up_to_own, ops_of}
 use Rattle.reg_process.specs.Delivery.{is_stamp, reply_one, popped, first_of, Waits}
-use Rattle.reg_base.proofs.Orders.{Decides-below, Decides-at_most, below_irrefl, below_asym, below_at_most, same_stamp}
-use Rattle.reg_base.proofs.Lists.{none_kept, rising_filter, in_filter}
-use Rattle.reg_process.proofs.Pops.{first_clear, none_clear}
+use Rattle.reg_base.proofs.Orders.{Decides-below, Decides-at_most, below_irrefl, below_asym, same_stamp}
+use Rattle.reg_base.proofs.Lists.{none_kept, in_filter}
+use Rattle.reg_process.proofs.Pops.{first_clear}
 
 pub any_found : {X : Type 0} (f : X → Bool) (xs : List X) → list_any f xs ≡ true → (d : X) × In d xs × (f d ≡ true)
 any_found f [] h = absurd (false≢true h)
@@ -49,9 +49,9 @@ counted f (x ∷ xs) h = go (f x) refl (counted f xs)
 pub none_counted : (f : Delivered → Bool) (d : Delivered) (xs : List Delivered) → count_by f xs ≡ 0 → In d xs → f d ≡ false
 none_counted f d [] e i = absurd i
 none_counted f d (x ∷ xs) e (inl q) = false_from_ne_true (f d) (λ t.
-  let a = count_cons f x xs in
-  let z : one_if (f x) ≡ 1 = ap one_if (ap f (sym q) ∙ t) in
-  absurd (omega (arith, a, z, e)))
+    let a = count_cons f x xs in
+    let z : one_if (f x) ≡ 1 = ap one_if (ap f (sym q) ∙ t) in
+    absurd (omega (arith, a, z, e)))
 none_counted f d (x ∷ xs) e (inr i) = none_counted f d xs (let a = count_cons f x xs in omega (arith, a, e)) i
 
 filter_same : (p q : Delivered → Bool) (xs : List Delivered) → ((d : Delivered) → In d xs → p d ≡ q d) → filter p xs ≡ filter q xs
@@ -89,7 +89,7 @@ module _ (s : State) (c : Delivered) (cs : List Delivered) (above : (d : Deliver
   ]))
 
   own_here : (stamp : Stamp) (op : Op) (b : Bool) → is_stamp stamp c ≡ b → (held : List Delivered) →
-    reply_of s (c ∷ cs) (Some (Own stamp op)) ≡ first_of (cond b (Some (reply_after s [] op)) None) (reply_of (record after_one { held = held }) cs (still (cond b (Some (reply_after s [] op)) None) (Some (Own stamp op))))
+      reply_of s (c ∷ cs) (Some (Own stamp op)) ≡ first_of (cond b (Some (reply_after s [] op)) None) (reply_of (record after_one { held = held }) cs (still (cond b (Some (reply_after s [] op)) None) (Some (Own stamp op))))
   own_here stamp op true e held =
       cond-true (is_stamp stamp c || list_any (is_stamp stamp) cs) (Some (reply_after s (casts_before stamp (c ∷ cs)) op)) None (or_left (is_stamp stamp c) (list_any (is_stamp stamp) cs) e)
       ∙ ap (λ l. Some (reply_after s l op)) (none_before stamp (stamp_is stamp c e))
@@ -108,13 +108,13 @@ module _ (s : State) (c : Delivered) (cs : List Delivered) (above : (d : Deliver
   -- what stands above c, up to the last own one, doesn't look at c
   up_same : filter (λ d. list_any (λ e. is_own s e && at_most d.stamp e.stamp) (c ∷ cs)) cs ≡ up_to_own s cs
   up_same = filter_same _ _ cs (λ d i.
-    let no : (is_own s c && at_most d.stamp c.stamp) ≡ false = false_from_ne_true _ (λ t. not_at_most c.stamp d.stamp (above d i) ((Decides-at_most d.stamp c.stamp).0 (and_parts (is_own s c) (at_most d.stamp c.stamp) t).1)) in
-    ap (λ b. b || list_any (λ e. is_own s e && at_most d.stamp e.stamp) cs) no)
+      let no : (is_own s c && at_most d.stamp c.stamp) ≡ false = false_from_ne_true _ (λ t. not_at_most c.stamp d.stamp (above d i) ((Decides-at_most d.stamp c.stamp).0 (and_parts (is_own s c) (at_most d.stamp c.stamp) t).1)) in
+      ap (λ b. b || list_any (λ e. is_own s e && at_most d.stamp e.stamp) cs) no)
 
   none_own : count_by (is_own s) cs ≡ 0 → up_to_own s cs ≡ []
   none_own z = none_kept (λ d. list_any (λ e. is_own s e && at_most d.stamp e.stamp) cs) cs (λ d i. false_from_ne_true _ (λ t.
-    let r = any_found (λ e. is_own s e && at_most d.stamp e.stamp) cs t in
-    false≢true (sym (none_counted (is_own s) r.0 cs z r.1) ∙ (and_parts (is_own s r.0) (at_most d.stamp r.0.stamp) r.2).0)))
+      let r = any_found (λ e. is_own s e && at_most d.stamp e.stamp) cs t in
+      false≢true (sym (none_counted (is_own s) r.0 cs z r.1) ∙ (and_parts (is_own s r.0) (at_most d.stamp r.0.stamp) r.2).0)))
 
   at_most_self : (a : Stamp) → at_most a a ≡ true
   at_most_self a = (Decides-at_most a a).1 (inr (refl, omega arith))
@@ -140,7 +140,7 @@ module _ (s : State) (c : Delivered) (cs : List Delivered) (above : (d : Deliver
 
   -- rest: what stays held; cs: those of it that are delivered next
   held_here : (op : Op) (rest : List Delivered) → s.held ≡ c ∷ rest → 0 < unsettled s → ((d : Delivered) → In d cs → In d rest) →
-    reply_of s (c ∷ cs) (Some (Held op)) ≡ first_of (reply_one s c rest (Some (Held op))) (reply_of (record after_one { held = rest }) cs (still (reply_one s c rest (Some (Held op))) (Some (Held op))))
+      reply_of s (c ∷ cs) (Some (Held op)) ≡ first_of (reply_one s c rest (Some (Held op))) (reply_of (record after_one { held = rest }) cs (still (reply_one s c rest (Some (Held op))) (Some (Held op))))
   held_here op rest e w sub = elim (cases_eq (count_by (is_own s) rest) 0) [ inl z ↦ last z | inr nz ↦ more nz ]
     where
       all : unsettled s ≡ cond (is_own s c) 1 0 + count_by (is_own s) rest
@@ -197,7 +197,7 @@ module _ (s : State) (c : Delivered) (rest : List Delivered) (e : s.held ≡ c �
   above d i = let r : Rising (c ∷ rest) = subst Rising e rises in r.0 d (in_filter d (λ d. is_clear s d.stamp) rest i).0
 
   one_reply : (running : Option Running) → Waits s running →
-    reply_of s (clear_casts s) running ≡ first_of (reply_one s c rest running) (reply_of (popped s c rest) (clear_casts (popped s c rest)) (still (reply_one s c rest running) running))
+      reply_of s (clear_casts s) running ≡ first_of (reply_one s c rest running) (reply_of (popped s c rest) (clear_casts (popped s c rest)) (still (reply_one s c rest running) running))
   one_reply None w = refl
   one_reply (Some (Own stamp op)) w = ap (λ l. reply_of s l (Some (Own stamp op))) one_clear ∙ own_here s c cs above stamp op (is_stamp stamp c) refl rest
   one_reply (Some (Held op)) w =

@@ -1,8 +1,8 @@
 -- One delivery, by the parts of a process.
 use Rattle.std.proofs.Common.{◌≡◌, ℕ, zero, suc, ◌+◌, ◌-◌, ◌<◌, ◌≤◌, Bool, true, false, List, [], ◌∷◌, length, Option, Some, None, refl, sym, ap, ◌∙◌, subst, inl, inr, arith, length-set}
 use Rattle.std.specs.List.{filter}
-use Rattle.std.specs.Prelude.{cond, ◌==◌, ◌||◌, slice_index, slice_index_or, slice_set, count_by}
-use Rattle.std.proofs.lemmas.Bool.{cases_eq, eq-eqb, ne_eqb, false≢true}
+use Rattle.std.specs.Prelude.{cond, ◌==◌, ◌||◌, slice_index, slice_index_or, count_by}
+use Rattle.std.proofs.lemmas.Bool.{eq-eqb, false≢true}
 use mir.Val.{bool_byte}
 use Rattle.reg_base.specs.declared.stamps.Stamp.{Stamp}
 use Rattle.reg_base.specs.declared.memory.Op.{Op}
@@ -13,14 +13,14 @@ use Rattle.reg_process.specs.declared.steps.Running.{Running}
 use Rattle.reg_process.specs.declared.steps.Running.TheVariants.{Own, Held}
 use Rattle.reg_base.specs.Memory.{Memory, after, register_of, answer_of}
 use Rattle.reg_base.specs.Order.{In, Rising, at_most}
-use Rattle.reg_process.specs.Process.{State, Peer, no_peer, peer_at, seen_at, stamp_at, all_below, is_clear, is_own, clear_casts, still, reply_after, delivered_state}
+use Rattle.reg_process.specs.Process.{State, no_peer, seen_at, stamp_at, all_below, is_clear, clear_casts, still, delivered_state}
 use Rattle.reg_process.specs.Delivery.{is_stamp, reply_one, popped, first_of, Waits}
 use Rattle.reg_process.proofs.Pops.{none_clear}
 use Rattle.reg_process.proofs.Deliver.{count_cons, one_clear, one_state, one_due, end_due, end_state}
 use Rattle.reg_links.specs.Link.{Unacknowledged}
 use Rattle.reg_holdback.specs.Waiting.{Waiting, ready_in, ready_of, tail_of, without_first}
 use Rattle.reg_holdback.specs.Waiting as waiting
-use Rattle.reg_process.specs.Parts.{Parts, Good, state_of, merged, RunsWell, HeldWell, reply_by, delivered_parts, is_from}
+use Rattle.reg_process.specs.Parts.{Parts, Good, state_of, merged, RunsWell, reply_by, delivered_parts, is_from}
 use Rattle.reg_process.specs.Steps.{DeliversOne, DeliversNone, due}
 
 pub merged_seen : (ts es : List ℕ) (os : List Unacknowledged) (r : ℕ) → length es ≡ length ts → length os ≡ length ts → (slice_index_or (merged ts es os) r no_peer).seen ≡ slice_index ts r
@@ -109,8 +109,8 @@ module _ (p : Parts) (good : Good p) (c : Delivered) (rest : List Delivered) (le
     clock = good.clock;
     counted = let n : length p.waiting.held ≡ suc (length rest) = ap length held in let k = good.counted in omega (arith, n, k);
     held = λ d i.
-      let h = good.held d (subst (λ (l : List Delivered). In d l) (sym held) (inr i)) in
-      (h.0, (let z = length-after c.op p.copy in let y = h.1 in omega (arith, z, y)));
+        let h = good.held d (subst (λ (l : List Delivered). In d l) (sym held) (inr i)) in
+        (h.0, (let z = length-after c.op p.copy in let y = h.1 in omega (arith, z, y)));
     runs = runs p.running good.runs;
     numbers = good.numbers;
     counts = good.counts;

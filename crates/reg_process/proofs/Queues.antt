@@ -1,5 +1,5 @@
 -- A body on all outboxes, one after another.
-use Rattle.std.proofs.Common.{◌≡◌, ◌⊎◌, ℕ, zero, suc, ◌+◌, ◌<◌, ◌≤◌, Bool, true, false, List, [], ◌∷◌, ◌++◌, length, map, refl, sym, ap, ◌∙◌, subst, inl, inr, arith, length-append, get_or-set_same, get_or-set_other, below_more, add-one}
+use Rattle.std.proofs.Common.{◌≡◌, ◌⊎◌, ℕ, suc, ◌+◌, ◌<◌, ◌≤◌, Bool, true, false, List, [], ◌∷◌, ◌++◌, length, map, refl, sym, ap, ◌∙◌, inl, inr, arith, length-append, get_or-set_same, get_or-set_other, below_more, add-one}
 use Rattle.std.specs.Prelude.{cond, ◌==◌, Option, slice_index_or, slice_set}
 use Rattle.std.proofs.lemmas.Bool.{cases_eq}
 use Rattle.reg_frames.specs.declared.bodies.Body.{Body}
@@ -23,7 +23,7 @@ all_queued r me body (o ∷ os) (x ∷ xs) e h =
     let z : r + 0 ≡ r = omega arith in
     let head : o ≡ queued_at me body r x = h 0 (omega arith) ∙ ap (λ k. queued_at me body k x) z in
     let tail : os ≡ queue_outs (suc r) me body xs = all_queued (suc r) me body os xs (omega arith) (λ i l.
-      let k : r + suc i ≡ suc r + i = omega arith in h (suc i) (omega arith) ∙ ap (λ n. queued_at me body n (slice_index_or xs i nothing)) k) in
+    let k : r + suc i ≡ suc r + i = omega arith in h (suc i) (omega arith) ∙ ap (λ n. queued_at me body n (slice_index_or xs i nothing)) k) in
     ap (λ q. q ∷ os) head ∙ ap (λ qs. queued_at me body r x ∷ qs) tail
 
 module _ (me : ℕ) (body : Body) (outs init : List Unacknowledged) (r : ℕ)

@@ -1,7 +1,7 @@
 -- What is queued and accepted, by the parts of a process.
-use Rattle.std.proofs.Common.{◌≡◌, ◌⊎◌, ℕ, zero, suc, ◌+◌, ◌<◌, ◌≤◌, Bool, true, false, List, [], ◌∷◌, ◌++◌, length, map, max, Option, Some, None, refl, sym, ap, ◌∙◌, subst, inl, inr, arith, length-append, length-set, get_or-set_same, get_or-set_other}
+use Rattle.std.proofs.Common.{◌≡◌, ℕ, zero, suc, ◌+◌, ◌<◌, ◌≤◌, Bool, true, false, List, [], ◌∷◌, ◌++◌, length, max, Option, Some, None, refl, sym, ap, ◌∙◌, subst, inl, inr, arith, length-set, get_or-set_same, get_or-set_other}
 use Rattle.std.specs.Prelude.{cond, ◌==◌, slice_index, slice_index_or, slice_set, count_by}
-use Rattle.std.proofs.lemmas.Bool.{cases_eq, cond-true, eq-eqb, ne_eqb}
+use Rattle.std.proofs.lemmas.Bool.{cases_eq, eq-eqb, ne_eqb}
 use Rattle.reg_base.specs.declared.stamps.Stamp.{Stamp}
 use Rattle.reg_base.specs.declared.memory.Op.{Op}
 use Rattle.reg_frames.specs.declared.bodies.Body.{Body}
@@ -10,7 +10,6 @@ use Rattle.reg_frames.specs.declared.bodies.Frame.{Frame}
 use Rattle.reg_frames.specs.declared.bodies.Frame.TheVariants.{Numbered, Got}
 use Rattle.reg_base.specs.declared.stamps.Delivered.{Delivered}
 use Rattle.reg_process.specs.declared.steps.Running.{Running}
-use Rattle.reg_process.specs.declared.steps.Running.TheVariants.{Own, Held}
 use Rattle.reg_base.specs.declared.limits.TheConstants.{LAST_TIME, MOST_OPERATIONS}
 use Rattle.reg_base.specs.Memory.{register_of}
 use Rattle.reg_base.specs.Order.{In, insert, below}
@@ -22,10 +21,10 @@ use Rattle.reg_links.specs.Link.{Unacknowledged, next_of, with_queued}
 use Rattle.reg_holdback.specs.Waiting.{Waiting, cast_of}
 use Rattle.reg_holdback.specs.Waiting as waiting
 use Rattle.reg_process.specs.declared.outcomes.Put.{Put}
-use Rattle.reg_process.specs.Parts.{Parts, Good, state_of, merged, nothing, is_from, RunsWell, HeldWell}
-use Rattle.reg_process.specs.Puts.{puts, put_to, owed, body_frames, all_frames, queued_at, queue_outs, IsGrown}
-use Rattle.reg_process.specs.Steps.{MakesCast, TakesCast, TakesAck, own_running, with_cast}
-use Rattle.reg_process.proofs.Deliveries.{length-merged, merged_seen}
+use Rattle.reg_process.specs.Parts.{Parts, Good, state_of, merged, nothing, is_from, RunsWell}
+use Rattle.reg_process.specs.Puts.{puts, body_frames, all_frames, queue_outs, IsGrown}
+use Rattle.reg_process.specs.Steps.{MakesCast, TakesCast, own_running}
+use Rattle.reg_process.proofs.Deliveries.{length-merged}
 
 abbrev one : Bool → ℕ
 one b = cond b 1 0
@@ -40,8 +39,8 @@ merged_queue r me body (t ∷ ts) (e ∷ es) [] = refl
 merged_queue r me body (t ∷ ts) (e ∷ es) (o ∷ os) = go (r == me) (merged_queue (suc r) me body ts es os)
   where
     go : (b : Bool) → merged ts es (queue_outs (suc r) me body os) ≡ queue_from (suc r) me body (merged ts es os) →
-      record { seen = t; expected = e; first = (cond b o (with_queued o body)).first; pending = (cond b o (with_queued o body)).pending } ∷ merged ts es (queue_outs (suc r) me body os)
-      ≡ cond b (record { seen = t; expected = e; first = o.first; pending = o.pending }) (record { seen = t; expected = e; first = o.first; pending = o.pending ++ body ∷ [] }) ∷ queue_from (suc r) me body (merged ts es os)
+        record { seen = t; expected = e; first = (cond b o (with_queued o body)).first; pending = (cond b o (with_queued o body)).pending } ∷ merged ts es (queue_outs (suc r) me body os)
+        ≡ cond b (record { seen = t; expected = e; first = o.first; pending = o.pending }) (record { seen = t; expected = e; first = o.first; pending = o.pending ++ body ∷ [] }) ∷ queue_from (suc r) me body (merged ts es os)
     go true h = ap (λ (l : List Peer). record { seen = t; expected = e; first = o.first; pending = o.pending } ∷ l) h
     go false h = ap (λ (l : List Peer). record { seen = t; expected = e; first = o.first; pending = o.pending ++ body ∷ [] } ∷ l) h
 
@@ -63,7 +62,7 @@ merged_expected (t ∷ ts) (e ∷ es) (o ∷ os) zero a b = refl
 merged_expected (t ∷ ts) (e ∷ es) (o ∷ os) (suc r) a b = merged_expected ts es os r (omega arith) (omega arith)
 
 pub merged_set : (ts es : List ℕ) (os : List Unacknowledged) (i t e : ℕ) → length es ≡ length ts → length os ≡ length ts → i < length ts →
-  merged (slice_set ts i t) (slice_set es i e) os ≡ slice_set (merged ts es os) i (record (slice_index_or (merged ts es os) i no_peer) { seen = t; expected = e })
+    merged (slice_set ts i t) (slice_set es i e) os ≡ slice_set (merged ts es os) i (record (slice_index_or (merged ts es os) i no_peer) { seen = t; expected = e })
 merged_set [] es os i t e a b l = absurd (omega arith)
 merged_set (x ∷ ts) [] os i t e a b l = absurd (omega arith)
 merged_set (x ∷ ts) (y ∷ es) [] i t e a b l = absurd (omega arith)
@@ -109,7 +108,7 @@ module _ (p : Parts) (good : Good p) where
   pub own_frames : (body : Body) → puts (all_frames None p.me body p.outs) (length p.outs) ≡ puts (data_frames (state_of p) (Some body)) (length (state_of p).peers)
   own_frames body =
       puts_same (all_frames None p.me body p.outs) (data_frames (state_of p) (Some body)) (length p.outs) (λ r.
-        ap (λ n. cond (r == p.me) [] (Numbered n body ∷ [])) (sym (merged_next p.waiting.seen p.expected p.outs r good.ins good.out)))
+      ap (λ n. cond (r == p.me) [] (Numbered n body ∷ [])) (sym (merged_next p.waiting.seen p.expected p.outs r good.ins good.out)))
       ∙ ap (puts (data_frames (state_of p) (Some body))) (good.out ∙ sym (length-merged p.waiting.seen p.expected p.outs good.ins good.out))
 
   pub none_later : (s : Stamp) → s.process ≡ p.me → p.clock < s.time → (c : Delivered) → In c p.waiting.held → c.stamp.process ≡ s.process → c.stamp.time < s.time
@@ -279,14 +278,14 @@ module _ (p : Parts) (good : Good p) (from t : ℕ) (op : Op) (peer : from < len
         let now : ℕ = max p.clock t + 1 in
         let final : List Peer → State = λ l. record (state_of (accept_at now (slice_index p.expected from + 1))) { peers = l } in
         ap final (merged_queue 0 p.me (Ack now) (slice_set p.waiting.seen from t) (slice_set p.expected from (slice_index p.expected from + 1)) p.outs
-          ∙ ap (queue_from 0 p.me (Ack now)) (merged_set p.waiting.seen p.expected p.outs from t (slice_index p.expected from + 1) good.ins good.out peer
-            ∙ ap (λ k. slice_set s.peers from (record (peer_at s from) { seen = t; expected = k })) expected_is));
+        ∙ ap (queue_from 0 p.me (Ack now)) (merged_set p.waiting.seen p.expected p.outs from t (slice_index p.expected from + 1) good.ins good.out peer
+        ∙ ap (λ k. slice_set s.peers from (record (peer_at s from) { seen = t; expected = k })) expected_is));
     put =
         let s = state_of p in
         let now : ℕ = max p.clock t + 1 in
         puts_same (all_frames (Some (from, slice_index p.expected from + 1)) p.me (Ack now) p.outs) (both_frames (got_frames from ((peer_at s from).expected + 1)) (data_frames s (Some (Ack now)))) (length p.outs) (λ r.
-          ap (λ k. cond (r == from) (Got k ∷ []) [] ++ body_frames p.me (Ack now) r (slice_index_or p.outs r nothing)) expected_is
-          ∙ ap (λ n. cond (r == from) (Got ((peer_at s from).expected + 1) ∷ []) [] ++ cond (r == p.me) [] (Numbered n (Ack now) ∷ [])) (sym (merged_next p.waiting.seen p.expected p.outs r good.ins good.out)))
+        ap (λ k. cond (r == from) (Got k ∷ []) [] ++ body_frames p.me (Ack now) r (slice_index_or p.outs r nothing)) expected_is
+        ∙ ap (λ n. cond (r == from) (Got ((peer_at s from).expected + 1) ∷ []) [] ++ cond (r == p.me) [] (Numbered n (Ack now) ∷ [])) (sym (merged_next p.waiting.seen p.expected p.outs r good.ins good.out)))
         ∙ ap (puts (both_frames (got_frames from ((peer_at s from).expected + 1)) (data_frames s (Some (Ack now))))) (good.out ∙ sym (length-merged p.waiting.seen p.expected p.outs good.ins good.out));
   }
 
@@ -311,5 +310,5 @@ module _ (p : Parts) (good : Good p) (from t : ℕ) (op : Op) (peer : from < len
     accepted_takes =
         subst (λ (x : Parts). TakesCast (state_of p) from t op frames (state_of x)) accepted_is
         (subst (λ (fs : List Put). TakesCast (state_of p) from t op fs (state_of (accept_at (max p.clock t + 1) (slice_index p.expected from + 1))))
-          (sym (put ∙ ap (λ n. puts (all_frames (Some (from, n)) p.me (Ack now) p.outs) (length p.outs)) counted ∙ ap (λ k. puts (all_frames (Some (from, slice_index p.expected from + 1)) p.me (Ack k) p.outs) (length p.outs)) time))
-          (accept_takes room))
+        (sym (put ∙ ap (λ n. puts (all_frames (Some (from, n)) p.me (Ack now) p.outs) (length p.outs)) counted ∙ ap (λ k. puts (all_frames (Some (from, slice_index p.expected from + 1)) p.me (Ack k) p.outs) (length p.outs)) time))
+        (accept_takes room))

@@ -1,5 +1,5 @@
 -- Delivery of one cast, and the list of what is put.
-use Rattle.std.specs.Prelude.{◌≡◌, ℕ, zero, suc, ◌+◌, ◌<◌, Bool, ◌&&◌, ◌==◌, cond, List, [], ◌∷◌, ◌++◌, map, Option, Some, None, count_by}
+use Rattle.std.specs.Prelude.{◌+◌, ◌<◌, Bool, ◌&&◌, ◌==◌, cond, List, [], ◌∷◌, Option, Some, None, count_by}
 use Rattle.reg_base.specs.declared.stamps.Stamp.{Stamp}
 use Rattle.reg_base.specs.declared.stamps.Delivered.{Delivered}
 use Rattle.reg_process.specs.declared.steps.Reply.{Reply}

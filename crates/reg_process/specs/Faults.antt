@@ -1,5 +1,5 @@
 -- When an event is refused.
-use Rattle.std.specs.Prelude.{ℕ, ◌≡◌, ◌<◌, ◌≤◌, ◌+◌, Bool, true, false, ◌==◌, ◌||◌, not, nat_lt, nat_le, max, cond, List, length, Option, Some, None, if◌then◌else◌}
+use Rattle.std.specs.Prelude.{ℕ, ◌≡◌, ◌≤◌, Bool, true, false, ◌==◌, ◌||◌, not, nat_lt, nat_le, max, length, Option, Some, None, if◌then◌else◌}
 use Rattle.reg_base.specs.declared.memory.Op.{Op}
 use Rattle.reg_frames.specs.declared.bodies.Body.{Body}
 use Rattle.reg_frames.specs.declared.bodies.Body.TheVariants.{Cast, Ack}
@@ -13,9 +13,9 @@ use Rattle.reg_process.specs.declared.steps.Running.{Running}
 use Rattle.reg_base.specs.declared.limits.TheConstants.{LAST_TIME, MOST_OPERATIONS}
 use Rattle.reg_base.specs.Memory.{register_of}
 use Rattle.reg_process.specs.Delivery.{first_of}
-use Rattle.reg_process.specs.Process.{State, Outcome, peer_at, next_of, seen_at, unsettled, time_of, step}
+use Rattle.reg_process.specs.Process.{State, peer_at, next_of, seen_at, unsettled, time_of}
 use Rattle.reg_process.specs.declared.faults.ProcessFault.{ProcessFault}
-use Rattle.reg_process.specs.declared.faults.ProcessFault.TheVariants.{Failed, NoProcess, Busy, NoRegister, TooManyOperations, Ahead, Stale, ClockFull, OutOfMemory}
+use Rattle.reg_process.specs.declared.faults.ProcessFault.TheVariants.{NoProcess, Busy, NoRegister, TooManyOperations, Ahead, Stale, ClockFull, OutOfMemory}
 
 -- what stops a process: the clock is full, or want of memory
 abbrev pub Stops : Bool → ProcessFault → Type 0

@@ -1,8 +1,5 @@
 -- The parts of one process, and its state made of them.
 use Rattle.std.specs.Prelude.{ℕ, ◌≡◌, ◌<◌, ◌≤◌, ◌+◌, Bool, ◌==◌, cond, List, [], ◌∷◌, length, Option, Some, None, slice_index_or, count_by, replicate}
-use Rattle.reg_base.specs.declared.stamps.Stamp.{Stamp}
-use Rattle.reg_base.specs.declared.memory.Op.{Op}
-use Rattle.reg_frames.specs.declared.bodies.Body.{Body}
 use Rattle.reg_base.specs.declared.stamps.Delivered.{Delivered}
 use Rattle.reg_process.specs.declared.steps.Reply.{Reply}
 use Rattle.reg_base.specs.declared.limits.TheConstants.{LAST_TIME, MOST_OPERATIONS, MOST_PROCESSES}

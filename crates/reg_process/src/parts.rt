@@ -54,7 +54,13 @@ impl<A: Allocator + Copy> Model for Core<A> {
 }
 
 /// Applies a cast, and answers the running operation where this is due. So many own casts stay held.
-fn settle<A: Allocator + Copy>(copy: &mut Registers<A>, running: Option<Running>, cast: Delivered, left: u32, place: u64) -> Option<Reply>
+fn settle<A: Allocator + Copy>(
+    copy: &mut Registers<A>,
+    running: Option<Running>,
+    cast: Delivered,
+    left: u32,
+    place: u64,
+) -> Option<Reply>
     requires runs { RunsWell (length copy.old) (left + 1) running }
     requires place { place + 1 < 2 ^ 64 }
     requires register { register_of cast.op < length copy.old }
@@ -187,7 +193,13 @@ impl<A: Allocator + Copy> Core<A> {
         };
         let count = self.inboxes[from as usize].expected() + 1;
         let body = Body::Ack { time: now };
-        let queued = queue_on_all(self.alloc, &mut self.outboxes, self.me, body, Some((from, count)));
+        let queued = queue_on_all(
+            self.alloc,
+            &mut self.outboxes,
+            self.me,
+            body,
+            Some((from, count)),
+        );
         let Ok(frames) = queued else {
             return Err(ProcessFault::OutOfMemory);
         };
@@ -419,7 +431,12 @@ impl<A: Allocator + Copy> Core<A> {
     }
 
     /// Takes a data frame.
-    pub fn take_body(&mut self, from: u8, number: u64, body: Body) -> Result<Outcome<A>, ProcessFault>
+    pub fn take_body(
+        &mut self,
+        from: u8,
+        number: u64,
+        body: Body,
+    ) -> Result<Outcome<A>, ProcessFault>
         requires peer { from < length self.old.peers }
         requires other { from ≡ self.old.me → ⊥ }
         ensures goes { IfOk result (λ o. Goes (length self.old.peers) (taken self.old from (Numbered number body)) o.frames.items o.cast o.delivered.items o.reply self.new) }
@@ -598,7 +615,13 @@ impl<A: Allocator + Copy> Core<A> {
         };
         let cast = Delivered { stamp, op };
         self.unsettled -= u32::from(stamp.process == self.me);
-        let reply = settle(&mut self.copy, self.running, cast, self.unsettled, self.delivered);
+        let reply = settle(
+            &mut self.copy,
+            self.running,
+            cast,
+            self.unsettled,
+            self.delivered,
+        );
         self.delivered += 1;
         self.running = runs_on(self.running, reply);
         Some((cast, reply))

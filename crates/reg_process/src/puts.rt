@@ -13,7 +13,11 @@ use reg_links::{Inbox, Outbox};
 use std::alloc::{AllocError, Allocator};
 
 /// Puts the count that is owed.
-fn put_got<A: Allocator + Copy>(frames: &mut Vec<Put, A>, to: u8, got: Option<(u8, u64)>) -> Result<(), AllocError>
+fn put_got<A: Allocator + Copy>(
+    frames: &mut Vec<Put, A>,
+    to: u8,
+    got: Option<(u8, u64)>,
+) -> Result<(), AllocError>
     ensures { OnOk result (frames.new.items ≡ frames.old.items ++ map (put_to to) (owed got to)) }
 {
     let Some((peer, count)) = got else {
@@ -30,7 +34,13 @@ fn put_got<A: Allocator + Copy>(frames: &mut Vec<Put, A>, to: u8, got: Option<(u
 }
 
 /// Queues a body for another process, and puts it.
-fn put_body<A: Allocator + Copy>(frames: &mut Vec<Put, A>, out: &mut Outbox<A>, to: u8, me: u8, body: Body) -> Result<(), AllocError>
+fn put_body<A: Allocator + Copy>(
+    frames: &mut Vec<Put, A>,
+    out: &mut Outbox<A>,
+    to: u8,
+    me: u8,
+    body: Body,
+) -> Result<(), AllocError>
     ensures frames { OnOk result (frames.new.items ≡ frames.old.items ++ map (put_to to) (body_frames me body to out.old)) }
     ensures out { OnOk result (out.new ≡ queued_at me body to out.old) }
     ensures grown { next_of out.new ≤ next_of out.old + 1 }
@@ -46,7 +56,14 @@ fn put_body<A: Allocator + Copy>(frames: &mut Vec<Put, A>, out: &mut Outbox<A>, 
 }
 
 /// Both for one process.
-fn put_one<A: Allocator + Copy>(frames: &mut Vec<Put, A>, out: &mut Outbox<A>, to: u8, me: u8, body: Body, got: Option<(u8, u64)>) -> Result<(), AllocError>
+fn put_one<A: Allocator + Copy>(
+    frames: &mut Vec<Put, A>,
+    out: &mut Outbox<A>,
+    to: u8,
+    me: u8,
+    body: Body,
+    got: Option<(u8, u64)>,
+) -> Result<(), AllocError>
     ensures frames { OnOk result (frames.new.items ≡ frames.old.items ++ map (put_to to) (owed got to ++ body_frames me body to out.old)) }
     ensures out { OnOk result (out.new ≡ queued_at me body to out.old) }
     ensures grown { next_of out.new ≤ next_of out.old + 1 }
@@ -56,7 +73,13 @@ fn put_one<A: Allocator + Copy>(frames: &mut Vec<Put, A>, out: &mut Outbox<A>, t
 }
 
 /// Queues a body on all outboxes but the own one. Where memory is wanting, some have it.
-fn queue_on_slice<A: Allocator + Copy>(alloc: A, outboxes: &mut [Outbox<A>], me: u8, body: Body, got: Option<(u8, u64)>) -> Result<Vec<Put, A>, AllocError>
+fn queue_on_slice<A: Allocator + Copy>(
+    alloc: A,
+    outboxes: &mut [Outbox<A>],
+    me: u8,
+    body: Body,
+    got: Option<(u8, u64)>,
+) -> Result<Vec<Put, A>, AllocError>
     requires { length outboxes.old ≤ MOST_PROCESSES }
     ensures frames { IfOk result (λ v. v.items ≡ puts (all_frames got me body outboxes.old) (length outboxes.old)) }
     ensures queued { OnOk result (outboxes.new ≡ queue_outs 0 me body outboxes.old) }
@@ -70,7 +93,13 @@ fn queue_on_slice<A: Allocator + Copy>(alloc: A, outboxes: &mut [Outbox<A>], me:
 }
 
 /// The same on a vector.
-pub fn queue_on_all<A: Allocator + Copy>(alloc: A, outboxes: &mut Vec<Outbox<A>, A>, me: u8, body: Body, got: Option<(u8, u64)>) -> Result<Vec<Put, A>, AllocError>
+pub fn queue_on_all<A: Allocator + Copy>(
+    alloc: A,
+    outboxes: &mut Vec<Outbox<A>, A>,
+    me: u8,
+    body: Body,
+    got: Option<(u8, u64)>,
+) -> Result<Vec<Put, A>, AllocError>
     requires { length outboxes.old.items ≤ MOST_PROCESSES }
     ensures frames { IfOk result (λ v. v.items ≡ puts (all_frames got me body outboxes.old.items) (length outboxes.old.items)) }
     ensures queued { OnOk result (outboxes.new.items ≡ queue_outs 0 me body outboxes.old.items) }
@@ -81,7 +110,11 @@ pub fn queue_on_all<A: Allocator + Copy>(alloc: A, outboxes: &mut Vec<Outbox<A>,
 }
 
 /// A count alone.
-pub fn got_alone<A: Allocator + Copy>(alloc: A, to: u8, count: u64) -> Result<Vec<Put, A>, AllocError>
+pub fn got_alone<A: Allocator + Copy>(
+    alloc: A,
+    to: u8,
+    count: u64,
+) -> Result<Vec<Put, A>, AllocError>
     ensures { IfOk result (λ v. v.items ≡ put_to to (Got count) ∷ []) }
 {
     let mut frames = Vec::new(alloc);
@@ -93,7 +126,12 @@ pub fn got_alone<A: Allocator + Copy>(alloc: A, to: u8, count: u64) -> Result<Ve
 }
 
 /// Puts the first pending frames of an outbox again.
-fn resend_one<A: Allocator + Copy>(frames: &mut Vec<Put, A>, out: &Outbox<A>, to: u8, me: u8) -> Result<(), AllocError>
+fn resend_one<A: Allocator + Copy>(
+    frames: &mut Vec<Put, A>,
+    out: &Outbox<A>,
+    to: u8,
+    me: u8,
+) -> Result<(), AllocError>
     ensures { OnOk result (frames.new.items ≡ frames.old.items ++ map (put_to to) (again_at me to out.now)) }
 {
     if to == me {
@@ -109,7 +147,11 @@ fn resend_one<A: Allocator + Copy>(frames: &mut Vec<Put, A>, out: &Outbox<A>, to
 }
 
 /// The same for all outboxes but the own one.
-pub fn resend_all<A: Allocator + Copy>(alloc: A, outboxes: &[Outbox<A>], me: u8) -> Result<Vec<Put, A>, AllocError>
+pub fn resend_all<A: Allocator + Copy>(
+    alloc: A,
+    outboxes: &[Outbox<A>],
+    me: u8,
+) -> Result<Vec<Put, A>, AllocError>
     requires { length outboxes.now ≤ MOST_PROCESSES }
     ensures { IfOk result (λ v. v.items ≡ puts (again_frames me outboxes.now) (length outboxes.now)) }
 {
@@ -132,7 +174,10 @@ pub fn new_inboxes<A: Allocator + Copy>(alloc: A, count: u32) -> Result<Vec<Inbo
 }
 
 /// Outboxes with nothing queued.
-pub fn new_outboxes<A: Allocator + Copy>(alloc: A, count: u32) -> Result<Vec<Outbox<A>, A>, AllocError>
+pub fn new_outboxes<A: Allocator + Copy>(
+    alloc: A,
+    count: u32,
+) -> Result<Vec<Outbox<A>, A>, AllocError>
     ensures { IfOk result (λ v. v.items ≡ replicate count nothing) }
 {
     let mut all = Vec::new(alloc);

@@ -1,10 +1,10 @@
-use Rattle.std.proofs.Common.{◌≡◌, ◌<◌, ◌≤◌, ◌+◌, List, Option, Some, None, Bool, true, false, ℕ, length, refl, sym, ap, subst, ◌∙◌, arith}
-use Rattle.std.specs.Prelude.{slice_index, slice_index_or, cond}
+use Rattle.std.proofs.Common.{◌≡◌, ◌<◌, ◌≤◌, ◌+◌, length, sym, ap, subst, ◌∙◌, arith}
+use Rattle.std.specs.Prelude.{slice_index}
 use Rattle.std.proofs.lemmas.List.{get_or_default}
 use Rattle.reg_process.specs.Process.{State}
 use Rattle.reg_base.specs.declared.limits.TheConstants.{LAST_TIME}
 use Rattle.reg_holdback.specs.Waiting.{Waiting}
-use Rattle.reg_process.specs.Parts.{Parts, Good, state_of, nothing}
+use Rattle.reg_process.specs.Parts.{Parts, Good, state_of}
 use Rattle.reg_process.specs.Steps.{TakesAck}
 use Rattle.reg_process.proofs.Deliveries.{length-merged}
 use Rattle.reg_process.proofs.Acks.{clock_good, acked_good, acked_takes}

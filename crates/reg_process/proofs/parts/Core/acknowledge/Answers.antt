@@ -1,16 +1,13 @@
-use Rattle.std.proofs.Common.{◌≡◌, ◌<◌, ◌≤◌, ◌+◌, List, Option, Some, None, Bool, true, false, ℕ, length, refl, sym, ap, subst, ◌∙◌, arith}
-use Rattle.std.specs.Prelude.{slice_index, slice_index_or, slice_set, cond}
+use Rattle.std.proofs.Common.{◌≡◌, ◌<◌, ◌≤◌, length, sym, ap, subst, ◌∙◌, arith}
+use Rattle.std.specs.Prelude.{slice_index_or, slice_set, cond}
 use Rattle.std.proofs.lemmas.List.{get_or_default}
 use Rattle.reg_process.specs.Process.{State}
-use Rattle.reg_base.specs.declared.limits.TheConstants.{LAST_TIME}
-use Rattle.reg_holdback.specs.Waiting.{Waiting}
-use Rattle.reg_process.specs.Parts.{Parts, Good, state_of, nothing}
-use Rattle.reg_process.specs.Steps.{TakesAck}
+use Rattle.reg_process.specs.Parts.{Parts, state_of, nothing}
 use Rattle.reg_process.proofs.Deliveries.{length-merged}
 use Rattle.reg_process.proofs.Acks.{count_fits, counted_state, ok_means, err_means}
 use Rattle.reg_links.specs.Link.{next_of}
 use Rattle.reg_links.specs.Link as link
-use Rattle.std.specs.Prelude.{not, nat_lt, is_ok}
+use Rattle.std.specs.Prelude.{not, nat_lt}
 use Rattle.reg_process.specs.Process.{peer_at, acknowledged}
 use Rattle.reg_process.specs.Process as process
 use Rattle.reg_process.proofs.parts.Core.acknowledge.Goals as goal
@@ -31,8 +28,8 @@ returns-clause-answer g c =
     let is : c.index_mut-out.result.now ≡ slice_index_or c.self.inside.outboxes.items c.args.from nothing = c.index_mut-out.ensures.value ∙ get_or_default c.self.inside.outboxes.items c.args.from _ nothing l in
     subst (λ (s : State). c.is_ok.result ≡ not (nat_lt (process.next_of (peer_at s c.args.from)) c.args.count)) c.self.view_is
     (count_fits p i c.args.from c.args.count peer c.index_mut-out.result.now is c.is_ok.result
-      (λ e. ok_means c.got.result (c.args.count ≤ next_of c.index_mut-out.result.now) tt c.got.ensures.answer (sym c.is_ok.ensures.value ∙ e))
-      (λ e. let n = err_means c.got.result (c.args.count ≤ next_of c.index_mut-out.result.now) tt c.got.ensures.answer (sym c.is_ok.ensures.value ∙ e) in omega (arith, n)))
+    (λ e. ok_means c.got.result (c.args.count ≤ next_of c.index_mut-out.result.now) tt c.got.ensures.answer (sym c.is_ok.ensures.value ∙ e))
+    (λ e. let n = err_means c.got.result (c.args.count ≤ next_of c.index_mut-out.result.now) tt c.got.ensures.answer (sym c.is_ok.ensures.value ∙ e) in omega (arith, n)))
 
 pub returns-clause-after : goal.returns-clause-after
 returns-clause-after g c =

@@ -1,13 +1,9 @@
 use Rattle.reg_base.specs.declared.limits.TheConstants.{MOST_OPERATIONS}
-use Rattle.std.proofs.Common.{◌≡◌, ◌<◌, ◌≤◌, ◌+◌, List, Option, Some, None, Bool, ℕ, length, refl, sym, ap, subst, ◌∙◌, arith}
-use Rattle.reg_base.specs.declared.stamps.Stamp.{Stamp}
-use Rattle.reg_frames.specs.declared.bodies.Body.TheVariants.{Cast}
+use Rattle.std.proofs.Common.{◌≡◌, ◌<◌, ◌≤◌, ◌+◌, length, refl, sym, ap, subst, arith}
 use Rattle.reg_base.specs.Memory.{register_of}
-use Rattle.reg_process.specs.Process.{State, stamp_at}
+use Rattle.reg_process.specs.Process.{State}
 use Rattle.reg_base.specs.declared.limits.TheConstants.{LAST_TIME}
-use Rattle.reg_links.specs.Link.{Unacknowledged}
 use Rattle.reg_process.specs.Parts.{Parts, Good, state_of}
-use Rattle.reg_process.specs.Puts.{queue_outs, IsGrown}
 use Rattle.reg_process.specs.Steps.{MakesCast}
 use Rattle.reg_process.proofs.Sends.{grown_good, none_later, made_cast_good, made_cast_makes}
 use Rattle.reg_holdback.specs.Waiting.{Waiting}

@@ -1,4 +1,4 @@
-use Rattle.std.proofs.Common.{◌≡◌, List, ◌∷◌, ◌++◌, length}
+use Rattle.std.proofs.Common.{◌≡◌, ◌++◌, length}
 use Rattle.reg_process.specs.Process.{clear_casts, delivered_state}
 use Rattle.reg_process.specs.Delivery.{first_of}
 use Rattle.reg_process.specs.Steps.{due}

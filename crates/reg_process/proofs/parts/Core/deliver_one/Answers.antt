@@ -1,11 +1,7 @@
-use Rattle.std.proofs.Common.{◌≡◌, ◌<◌, ◌-◌, ◌+◌, List, [], ◌∷◌, Option, Some, None, ℕ, length, refl, sym, ap, subst, ◌∙◌, arith}
-use Rattle.std.specs.Prelude.{cond}
-use Rattle.reg_base.specs.declared.stamps.Delivered.{Delivered}
-use Rattle.reg_base.specs.Memory.{register_of}
+use Rattle.std.proofs.Common.{◌-◌, ◌+◌, ap, subst, ◌∙◌}
 use Rattle.reg_process.specs.Process.{State}
-use Rattle.reg_holdback.specs.Waiting.{Waiting, ready_of, without_first}
-use Rattle.reg_holdback.specs.Waiting as waiting
-use Rattle.reg_process.specs.Parts.{Parts, Good, state_of, delivered_parts, reply_by, is_from}
+use Rattle.reg_holdback.specs.Waiting.{Waiting}
+use Rattle.reg_process.specs.Parts.{Parts, state_of}
 use Rattle.reg_process.specs.Steps.{DeliversOne, DeliversNone}
 use Rattle.reg_process.proofs.Deliveries.{made_good, made_one, delivers_none, ready_well}
 use Rattle.reg_process.proofs.parts.Core.deliver_one.Goals as goal

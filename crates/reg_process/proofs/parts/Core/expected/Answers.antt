@@ -1,9 +1,7 @@
-use Rattle.std.proofs.Common.{◌≡◌, ◌<◌, ◌≤◌, ◌+◌, List, [], Option, Some, None, Bool, true, false, not, ℕ, length, refl, sym, ap, subst, ◌∙◌, arith}
-use Rattle.std.specs.Prelude.{slice_index, cond, nat_eq, nat_lt}
+use Rattle.std.proofs.Common.{◌≡◌, ◌<◌, length, sym, ap, subst, ◌∙◌, arith}
 use Rattle.std.proofs.lemmas.List.{get_or_default}
-use Rattle.reg_process.specs.Process.{State, peer_at, acknowledged}
-use Rattle.reg_process.specs.Parts.{Parts, state_of}
-use Rattle.reg_process.specs.Faults.{is_peer}
+use Rattle.reg_process.specs.Process.{State, peer_at}
+use Rattle.reg_process.specs.Parts.{Parts}
 use Rattle.reg_process.proofs.Deliveries.{length-merged}
 use Rattle.reg_process.proofs.Sends.{merged_expected}
 use Rattle.reg_process.proofs.parts.Core.expected.Goals as goal

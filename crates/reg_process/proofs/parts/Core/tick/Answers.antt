@@ -1,7 +1,7 @@
-use Rattle.std.proofs.Common.{◌≡◌, List, length, ap, subst, sym, ◌∙◌}
+use Rattle.std.proofs.Common.{◌≡◌, List, length, ap, subst, ◌∙◌}
 use Rattle.reg_process.specs.Process.{State, resent}
 use Rattle.reg_links.specs.Link.{Unacknowledged}
-use Rattle.reg_process.specs.Parts.{Parts, state_of}
+use Rattle.reg_process.specs.Parts.{Parts}
 use Rattle.reg_process.specs.Puts.{puts, again_frames}
 use Rattle.reg_process.proofs.Again.{again_is}
 use Rattle.reg_process.proofs.parts.Core.tick.Goals as goal

@@ -1,5 +1,4 @@
-use Rattle.std.proofs.Common.{◌≡◌, ◌<◌, ◌≤◌, ◌+◌, List, [], Option, Some, None, Bool, true, false, ℕ, length, refl, sym, ap, subst, ◌∙◌, arith}
-use Rattle.reg_process.specs.Process.{State}
+use Rattle.std.proofs.Common.{true, ap, subst, ◌∙◌}
 use Rattle.reg_process.specs.declared.steps.Step.TheVariants.{Call}
 use Rattle.reg_process.specs.Events.{Kept, Steps, Refused}
 use Rattle.reg_process.proofs.Calls.{call_steps, call_refused}

@@ -1,8 +1,7 @@
-use Rattle.std.proofs.Common.{◌≡◌, Bool, true, false, sym, subst, ap, ◌∙◌}
+use Rattle.std.proofs.Common.{sym, subst, ◌∙◌}
 use Rattle.reg_process.specs.declared.steps.Step.TheVariants.{Take}
-use Rattle.reg_process.specs.Events.{Kept, Steps, Refused}
-use Rattle.reg_process.specs.declared.faults.ProcessFault.TheVariants.{NoProcess}
-use Rattle.reg_process.proofs.Calls.{take_steps, take_refused, no_process, peer_parts}
+use Rattle.reg_process.specs.Events.{Kept, Steps}
+use Rattle.reg_process.proofs.Calls.{take_steps}
 use Rattle.reg_process.proofs.processes.Process.take.Goals as goal
 
 pub returns-in-Ok : goal.returns-in-Ok
