@@ -14,7 +14,7 @@ use Rattle.reg_front.specs.declared.starts.Start.{Start}
 use Rattle.reg_front.specs.declared.starts.Start.TheVariants.{Look as Looks, Hold as Holds}
 use Rattle.reg_process.specs.declared.steps.Step.TheVariants.{Call, Take}
 use Rattle.reg_frames.specs.declared.bodies.Frame.{Frame}
-use Rattle.reg_process.specs.declared.steps.Running.TheVariants.{Held}
+use Rattle.reg_process.specs.Process.{Held}
 use Rattle.reg_process.specs.Delivery.{first_of}
 use Rattle.reg_process.specs.Process.{State, called, clear_casts, delivered_state, no_frames, look, unsettled, seen_at, time_of, peer_at, taken, accepted, quiet, got_frames}
 use Rattle.reg_holdback.specs.Waiting.{seen_of}

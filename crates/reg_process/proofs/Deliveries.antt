@@ -9,8 +9,8 @@ use Rattle.reg_base.specs.declared.memory.Op.{Op}
 use Rattle.reg_base.specs.declared.memory.Op.TheVariants.{Read, Write}
 use Rattle.reg_base.specs.declared.stamps.Delivered.{Delivered}
 use Rattle.reg_process.specs.declared.steps.Reply.{Reply}
-use Rattle.reg_process.specs.declared.steps.Running.{Running}
-use Rattle.reg_process.specs.declared.steps.Running.TheVariants.{Own, Held}
+use Rattle.reg_process.specs.Process.{Running}
+use Rattle.reg_process.specs.Process.{Own, Held}
 use Rattle.reg_base.specs.Memory.{Memory, after, register_of, answer_of}
 use Rattle.reg_base.specs.Order.{In, Rising, at_most}
 use Rattle.reg_process.specs.Process.{State, no_peer, seen_at, stamp_at, all_below, is_clear, clear_casts, still, delivered_state}

@@ -9,7 +9,7 @@ use Rattle.reg_frames.specs.declared.bodies.Body.TheVariants.{Cast, Ack}
 use Rattle.reg_frames.specs.declared.bodies.Frame.{Frame}
 use Rattle.reg_frames.specs.declared.bodies.Frame.TheVariants.{Numbered, Got}
 use Rattle.reg_base.specs.declared.stamps.Delivered.{Delivered}
-use Rattle.reg_process.specs.declared.steps.Running.{Running}
+use Rattle.reg_process.specs.Process.{Running}
 use Rattle.reg_base.specs.declared.limits.TheConstants.{LAST_TIME, MOST_OPERATIONS}
 use Rattle.reg_base.specs.Memory.{register_of}
 use Rattle.reg_base.specs.Order.{In, insert, below}

@@ -5,8 +5,8 @@ use Rattle.reg_process.specs.declared.steps.Reply.{Reply}
 use Rattle.reg_base.specs.declared.limits.TheConstants.{LAST_TIME, MOST_OPERATIONS, MOST_PROCESSES}
 use Rattle.reg_base.specs.Memory.{Memory, answer_of, after, register_of}
 use Rattle.reg_base.specs.Order.{In}
-use Rattle.reg_process.specs.declared.steps.Running.{Running}
-use Rattle.reg_process.specs.declared.steps.Running.TheVariants.{Own, Held}
+use Rattle.reg_process.specs.Process.{Running}
+use Rattle.reg_process.specs.Process.{Own, Held}
 use Rattle.reg_process.specs.Process.{State, Peer, still}
 use Rattle.reg_process.specs.Delivery.{is_stamp}
 use Rattle.reg_links.specs.Link.{Unacknowledged, next_of}

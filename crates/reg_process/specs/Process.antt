@@ -17,8 +17,6 @@ use Rattle.reg_process.specs.declared.steps.Step.TheVariants.{Call, Take, Tick}
 use Rattle.reg_base.specs.declared.limits.TheConstants.{MOST_RESENT}
 use Rattle.reg_base.specs.Order.{AtMost, below, at_most, insert}
 pub use Rattle.reg_base.specs.Order.{stamp_at, cast_at, all_below}
-pub use Rattle.reg_process.specs.declared.steps.Running.{Running}
-pub use Rattle.reg_process.specs.declared.steps.Running.TheVariants.{Own, Held}
 use Rattle.reg_base.specs.Memory.{Memory, answer_of, memory_after}
 
 abbrev pub time_of : Body → ℕ
@@ -39,6 +37,11 @@ no_peer = record { seen = 0; expected = 0; first = 0; pending = [] }
 -- the number of the next body
 abbrev pub next_of : Peer → ℕ
 next_of p = p.first + length p.pending
+
+-- an operation that runs until its cast is delivered, or a held read
+pub data Running : Type 0 where
+  Own : (stamp : Stamp) (op : Op) → Running
+  Held : (op : Op) → Running
 
 -- A process. `held` has the casts that wait, in the order of their stamps; the own place of `peers` stays unused.
 pub record State : Type 0 where

@@ -5,8 +5,8 @@ use Rattle.reg_process.specs.declared.steps.Reply.{Reply}
 use Rattle.reg_base.specs.declared.stamps.Stamp.{Stamp}
 use Rattle.reg_base.specs.declared.memory.Op.{Op}
 use Rattle.reg_frames.specs.declared.bodies.Body.TheVariants.{Cast, Ack}
-use Rattle.reg_process.specs.declared.steps.Running.{Running}
-use Rattle.reg_process.specs.declared.steps.Running.TheVariants.{Own}
+use Rattle.reg_process.specs.Process.{Running}
+use Rattle.reg_process.specs.Process.{Own}
 use Rattle.reg_base.specs.declared.limits.TheConstants.{LAST_TIME}
 use Rattle.reg_base.specs.Order.{insert}
 use Rattle.reg_process.specs.Process.{State, clear_casts, delivered_state, reply_of, cast_made, stamp_at, cast_at, data_frames, queues, accepts, both_frames, got_frames, peer_at}

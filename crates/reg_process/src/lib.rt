@@ -6,6 +6,7 @@ mod outcomes;
 mod parts;
 mod processes;
 mod puts;
+mod running;
 mod steps;
 
 pub use faults::ProcessFault;

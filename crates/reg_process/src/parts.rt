@@ -3,7 +3,7 @@ ghost use Rattle.std.specs.Prelude.{◌≡◌, ◌<◌, ◌+◌, ◌≤◌, ◌^
 ghost use Rattle.reg_base.specs.Memory.{after, register_of};
 ghost use Rattle.reg_process.specs.Process.{still, peer_at, seen_at, next_of, acknowledged, unsettled, look as look_of, called, accepted, taken, time_of, resent};
 ghost use Rattle.reg_process.specs.Parts.{reply_by, RunsWell, state_of, first_parts};
-ghost use Rattle.reg_process.specs.declared.steps.Running.TheVariants.{Held};
+ghost use Rattle.reg_process.specs.Process.{Held};
 ghost use Rattle.reg_process.specs.Faults.{Stops, StopsAt, early_fault, early_body, full_at, full_by, is_out as is_out_of, is_peer as is_peer_of, frame_fault, FrameRefused};
 ghost use Rattle.reg_front.specs.Fronts.{MayStart};
 ghost use Rattle.reg_frames.specs.declared.bodies.Body.TheVariants.{Cast, Ack};
@@ -17,7 +17,8 @@ ghost use Rattle.reg_process.specs.Steps.{DeliversOne, DeliversNone, Delivers, o
 use crate::faults::ProcessFault;
 use crate::outcomes::{Outcome, Put};
 use crate::puts::{got_alone, new_inboxes, new_outboxes, queue_on_all, resend_all};
-use crate::steps::{Reply, Running};
+use crate::running::{Awaited, Current};
+use crate::steps::Reply;
 use reg_base::limits::MOST_OPERATIONS;
 use reg_base::{Answer, Clock, Delivered, Op, Registers, Shape, Stamp};
 use reg_frames::{Body, Frame};
@@ -38,7 +39,7 @@ pub struct Core<A: Allocator + Copy> {
     copy: Registers<A>,
     delivered: u64,
     unsettled: u32,
-    running: Option<Running>,
+    running: Option<Current>,
     calls: u32,
 }
 
@@ -56,7 +57,7 @@ impl<A: Allocator + Copy> Model for Core<A> {
 /// Applies a cast, and answers the running operation where this is due. So many own casts stay held.
 fn settle<A: Allocator + Copy>(
     copy: &mut Registers<A>,
-    running: Option<Running>,
+    running: Option<Current>,
     cast: Delivered,
     left: u32,
     place: u64,
@@ -67,12 +68,12 @@ fn settle<A: Allocator + Copy>(
     ensures copy { copy.new ≡ after cast.op copy.old }
     ensures reply { result ≡ reply_by copy.old place left cast running }
 {
-    match running {
-        None => {
-            copy.apply(&cast.op);
-            None
-        }
-        Some(Running::Own { stamp, op }) => {
+    let Some(current) = running else {
+        copy.apply(&cast.op);
+        return None;
+    };
+    match current.awaited() {
+        Awaited::Cast { stamp, op } => {
             let answer = copy.answer(&op);
             copy.apply(&cast.op);
             if cast.stamp == stamp {
@@ -81,7 +82,7 @@ fn settle<A: Allocator + Copy>(
                 None
             }
         }
-        Some(Running::Held { op }) => {
+        Awaited::Settling { op } => {
             copy.apply(&cast.op);
             if left == 0 {
                 let answer = copy.answer(&op);
@@ -97,7 +98,7 @@ fn settle<A: Allocator + Copy>(
 }
 
 /// What runs after a reply.
-fn runs_on(running: Option<Running>, reply: Option<Reply>) -> Option<Running>
+fn runs_on(running: Option<Current>, reply: Option<Reply>) -> Option<Current>
     ensures { result ≡ still reply running }
 {
     match reply {
@@ -107,11 +108,11 @@ fn runs_on(running: Option<Running>, reply: Option<Reply>) -> Option<Running>
 }
 
 /// What runs after an own cast.
-fn own(runs: bool, stamp: Stamp, op: Op) -> Option<Running>
+fn own(runs: bool, stamp: Stamp, op: Op) -> Option<Current>
     ensures { result ≡ own_running runs stamp op }
 {
     if runs {
-        Some(Running::Own { stamp, op })
+        Some(Current::cast(stamp, op))
     } else {
         None
     }
@@ -257,7 +258,7 @@ impl<A: Allocator + Copy> Core<A> {
         ensures { self.new ≡ record self.old { calls = self.old.calls + 1; running = Some (Held op) } }
     {
         self.calls += 1;
-        self.running = Some(Running::Held { op });
+        self.running = Some(Current::held(op));
     }
 
     /// Answers from the copy at once.

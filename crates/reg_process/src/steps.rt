@@ -1,5 +1,5 @@
 //! What goes into one process in an event, and what it answers.
-use reg_base::{Answer, Op, Stamp};
+use reg_base::{Answer, Op};
 use reg_frames::Frame;
 
 /// The answer of an operation.
@@ -19,13 +19,4 @@ pub enum Step {
     Take { from: u8, frame: Frame },
     /// It puts what isn't acknowledged again.
     Tick,
-}
-
-/// The operation that runs at a process.
-#[derive(Clone, Copy, Debug, PartialEq, Eq)]
-pub enum Running {
-    /// It runs until its own cast is delivered here.
-    Own { stamp: Stamp, op: Op },
-    /// It waits until every own cast is delivered here, and is then answered from the copy.
-    Held { op: Op },
 }
