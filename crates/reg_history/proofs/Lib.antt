@@ -3,4 +3,3 @@ pub mod Histories
 pub mod RealTime
 pub mod NoOrder
 pub mod Pushing
-pub mod Fitting
