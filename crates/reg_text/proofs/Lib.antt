@@ -11,3 +11,4 @@ pub mod Split
 pub mod Turns
 pub mod Texts
 pub mod Worded
+pub mod Shaped

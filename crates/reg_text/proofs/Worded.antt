@@ -44,7 +44,7 @@ few_parts true b p q h = absurd (cc)
 few_parts false true p q h = absurd (cc)
 few_parts false false p q h = refl
 
-pub few : (ns : List (List ℕ)) → names_fault ns ≡ None → length ns ≤ 256
+pub few : (ns : List (List ℕ)) → names_fault ns ≡ None → length ns ≤ MOST_REGISTERS
 few ns h =
     let m = few_parts (nat_eq (length ns) 0) (nat_lt MOST_REGISTERS (length ns)) (first_bad ns) (first_repeat ns) h in
     grind (arith, nat_tests)
@@ -122,6 +122,3 @@ finished all now xs i t e = (
   t.text ∙ ap (λ l. names_text xs ++ l) e ∙ append-nil (names_text xs),
   λ ns ok f. let o = t.only ns ok f in o.0 ∙ all_taken ns i o.2 (sym e ∙ o.1),
 )
-
-pub too_many : (all now : List ℕ) (xs : List (List ℕ)) (i : ℕ) → Worded all now xs i → 256 < i → (ns : List (List ℕ)) → names_fault ns ≡ None → all ≡ names_text ns → ⊥
-too_many all now xs i t more ns ok f = let o = t.only ns ok f in omega (arith, few ns ok, o.2, more)

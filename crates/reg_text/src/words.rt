@@ -9,6 +9,7 @@ use crate::cursor::Lines;
 use crate::fields::{cut_at, skip};
 use crate::forms::is_word;
 use crate::heads::owned;
+use reg_base::limits::MOST_REGISTERS;
 use reg_base::Names;
 use std::alloc::Allocator;
 
@@ -31,7 +32,8 @@ pub fn next_word(text: &[u8]) -> Option<(&[u8], &[u8])>
     }
 }
 
-/// The words, each behind a space.
+/// The words, each behind a space, and no more than names may be. Where there are more, the first that is wrong in the
+/// order from left to right decides: Name for one of those that may be, and else Range.
 pub fn read_words<A: Allocator + Copy>(
     alloc: A,
     text: &[u8],
@@ -41,7 +43,7 @@ pub fn read_words<A: Allocator + Copy>(
 {
     let mut words = Vec::new(alloc);
     let mut rest = text;
-    for _turn in 0..257u32 {
+    for _turn in 0..MOST_REGISTERS {
         if rest.is_empty() {
             return Ok(words);
         }
@@ -57,6 +59,9 @@ pub fn read_words<A: Allocator + Copy>(
             return Err(WordsFault::OutOfMemory);
         }
         rest = after;
+    }
+    if rest.is_empty() {
+        return Ok(words);
     }
     match Names::new(words) {
         Ok(_) => Err(WordsFault::Why(Why::Range)),

@@ -2,7 +2,7 @@ use Rattle.std.proofs.Common.{ℕ, ◌≡◌, ◌+◌, List, [], ◌∷◌, ◌+
 use Rattle.std.proofs.lemmas.List.{map-append}
 use Rattle.reg_base.specs.Names.{texts}
 use Rattle.reg_text.proofs.Split.{empty_is}
-use Rattle.reg_text.proofs.Worded.{Worded, worded, adds, no_word, no_text, finished, too_many}
+use Rattle.reg_text.proofs.Worded.{Worded, worded, adds, no_word, no_text, finished}
 use Rattle.reg_text.proofs.words.read_words.Goals as goal
 
 pub loop-turn-init : goal.loop-turn-init
@@ -36,6 +36,11 @@ loop-turn-preserved g c =
     let P : List (List ℕ) → Type 0 = λ l. Worded c.args.text.now c.in-Some.after.now l (c.loop-turn._turn + 1) in
     subst P (sym all) (adds c.args.text.now c.loop-turn.rest.now (texts c.loop-turn.words.items) c.loop-turn._turn c.in-Some.word.now c.in-Some.after.now c.loop-turn.invariant (sym c.is_empty.ensures ∙ c.if-is_empty.false) c.in-Some.ensures.read c.in-Some.ensures.whole)
 
-pub returns-clause-whole : goal.returns-clause-whole
-returns-clause-whole g c = λ ns ok e.
-    absurd (too_many c.args.text.now c.loop-turn.rest.now (texts c.loop-turn.words.items) c.loop-turn._turn c.loop-turn.invariant (omega arith) ns ok e)
+pub returns-then-is_empty-2-clause-read : goal.returns-then-is_empty-2-clause-read
+returns-then-is_empty-2-clause-read g c =
+    (finished c.args.text.now c.loop-turn.rest.now (texts c.loop-turn.words.items) c.loop-turn._turn c.loop-turn.invariant (empty_is c.loop-turn.rest.now (sym c.is_empty-2.ensures ∙ c.if-is_empty-2.true))).0
+
+pub returns-then-is_empty-2-clause-whole : goal.returns-then-is_empty-2-clause-whole
+returns-then-is_empty-2-clause-whole g c =
+    (finished c.args.text.now c.loop-turn.rest.now (texts c.loop-turn.words.items) c.loop-turn._turn c.loop-turn.invariant (empty_is c.loop-turn.rest.now (sym c.is_empty-2.ensures ∙ c.if-is_empty-2.true))).1
+
