@@ -11,3 +11,8 @@ loop-place-preserved g c =
     subst P (sym grown) (gathers_one (event_text c.args.names.now) (λ _ x. EventFits c.args.names.now x) c.args.lines.now c.loop-place.lines c.loop-place.events.items c.loop-place._place c.loop-place.invariant
     c.in-Some.line.now c.next.new.self c.in-Some-read_event.event c.in-Some.ensures c.in-Some-read_event.ensures.read.0 c.in-Some-read_event.ensures.read.1
     (λ y fits e. let one = c.in-Some-read_event.ensures.whole y fits e in cc))
+
+pub returns-in_default-read_event-clause-whole : goal.returns-in_default-read_event-clause-whole
+returns-in_default-read_event-clause-whole g c = λ ys fit few e.
+    absurd (gathers_none (event_text c.args.names.now) (λ _ x. EventFits c.args.names.now x) c.args.lines.now c.loop-place.lines c.loop-place.events.items c.loop-place._place c.loop-place.invariant
+    c.in-Some.line.now c.next.new.self c.in-Some.ensures (λ y fits f. let none = c.in_default-read_event.ensures.whole y fits f in absurd (cc)) ys fit e)
