@@ -3,3 +3,7 @@ pub mod Histories
 pub mod RealTime
 pub mod NoOrder
 pub mod Pushing
+pub mod OneMore
+pub mod Placing
+pub mod Adding
+pub mod Keeping

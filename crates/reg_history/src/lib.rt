@@ -5,6 +5,9 @@ pub mod laws;
 
 mod entries;
 mod faults;
+mod log;
+mod place;
 
 pub use entries::{Entry, Point};
-pub use faults::CheckFault;
+pub use faults::{CheckFault, HistoryFault};
+pub use log::History;
