@@ -1,0 +1,14 @@
+pub mod Decimals
+pub mod Spaces
+pub mod Digits
+pub mod Marks
+pub mod Widths
+pub mod Parts
+pub mod NamesLack
+pub mod NumbersLack
+pub mod Spelling
+pub mod Split
+pub mod Turns
+pub mod Texts
+pub mod Worded
+pub mod Shaped
