@@ -7,3 +7,8 @@ pub mod OneMore
 pub mod Placing
 pub mod Adding
 pub mod Keeping
+pub mod Lacking
+pub mod Padding
+pub mod Whole
+pub mod Writing
+pub mod WithinLimits

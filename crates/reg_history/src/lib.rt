@@ -3,11 +3,23 @@
 
 pub mod laws;
 
+mod blocks;
+mod display;
 mod entries;
+mod entry_lines;
 mod faults;
+mod id_lines;
 mod log;
+mod parts;
 mod place;
+mod report_faults;
+mod report_limits;
+mod reports;
+mod write;
 
 pub use entries::{Entry, Point};
 pub use faults::{CheckFault, HistoryFault};
 pub use log::History;
+pub use report_faults::{ReadFault, ReadWhy, ReportFault, WriteFault};
+pub use report_limits::{LONGEST_FRONT, MOST_ENTRIES, MOST_IDS};
+pub use reports::{Report, read_report, write_report};
