@@ -12,3 +12,4 @@ pub mod Turns
 pub mod Texts
 pub mod Worded
 pub mod Shaped
+pub mod Joining

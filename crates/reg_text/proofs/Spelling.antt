@@ -5,7 +5,8 @@ use Rattle.reg_base.specs.Names.{names_fault}
 use Rattle.reg_base.specs.declared.memory.Op.{Op}
 use Rattle.reg_base.specs.declared.memory.Op.TheVariants.{Read, Write}
 use Rattle.reg_text.specs.Parts.{Lacks}
-use Rattle.reg_text.specs.Ops.{op_text, OpFits}
+use Rattle.reg_base.specs.Memory.{register_of}
+use Rattle.reg_text.specs.Ops.{op_text, OpFits, HasValue}
 use Rattle.reg_text.proofs.NamesLack.{is_got, got_is, nth_lacks}
 
 -- what a search for a name tells
@@ -72,3 +73,8 @@ pub missing : (names : List (List ℕ)) (r : ℕ) → slice_get names r ≡ None
 missing [] r h = refl
 missing (n ∷ names) zero h = absurd (cc)
 missing (n ∷ names) (suc r) h = missing names r h
+
+-- an operation within the limits, from its parts
+pub op_fits : (names : List (List ℕ)) (op : Op) → register_of op < length names → HasValue op → OpFits names op
+op_fits names (Read r) l v = l
+op_fits names (Write r w) l v = (l, v)
