@@ -1,6 +1,6 @@
 //! One process, with its stop.
 ghost use Rattle.std.specs.Prelude.{◌≡◌, ◌<◌, MatchResult, IfOk, IfErr, is_some, false};
-ghost use Rattle.reg_process.specs.Process.{unsettled};
+ghost use Rattle.reg_process.specs.Process.{pending_of, unsettled};
 ghost use Rattle.reg_process.specs.Parts.{state_of, first_parts};
 ghost use Rattle.reg_process.specs.declared.steps.Step.TheVariants.{Call, Take, Tick};
 ghost use Rattle.reg_process.specs.Faults.{NewRefused};
@@ -76,6 +76,13 @@ impl<F: FrontEnd, A: Allocator + Copy> Process<F, A> {
         ensures { result ≡ is_some self.now.state.running }
     {
         self.core.busy()
+    }
+
+    /// How many data frames are not acknowledged, over all links.
+    pub fn pending(&self) -> u64
+        ensures { result ≡ pending_of self.now.state.peers }
+    {
+        self.core.pending()
     }
 
     /// The copy.

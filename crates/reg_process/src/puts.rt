@@ -2,14 +2,14 @@
 ghost use Rattle.std.specs.Prelude.{◌≡◌, ◌<◌, ◌≤◌, ◌+◌, ◌++◌, ◌∷◌, [], length, map, replicate, IfOk, OnOk, ℕ, slice_index_or};
 ghost use Rattle.reg_links.specs.Link.{next_of};
 ghost use Rattle.reg_frames.specs.declared.bodies.Frame.TheVariants.{Got};
-ghost use Rattle.reg_base.specs.declared.limits.TheConstants.{MOST_PROCESSES};
+ghost use Rattle.reg_base.specs.declared.limits.TheConstants.{FRAME_NUMBERS, MOST_PROCESSES};
 ghost use Rattle.reg_process.specs.Parts.{nothing};
-ghost use Rattle.reg_process.specs.Puts.{put_to, puts, owed, body_frames, all_frames, queued_at, queue_outs, IsGrown, again_at, again_frames};
+ghost use Rattle.reg_process.specs.Puts.{put_to, puts, owed, body_frames, all_frames, queued_at, queue_outs, IsGrown, HasNumbers, pending_in as pending_in_all, again_at, again_frames};
 
 use crate::outcomes::Put;
 use reg_base::limits::MOST_RESENT;
 use reg_frames::{Body, Frame};
-use reg_links::{Inbox, Outbox};
+use reg_links::{Inbox, LinkFault, Outbox};
 use std::alloc::{AllocError, Allocator};
 
 /// Puts the count that is owed.
@@ -41,6 +41,7 @@ fn put_body<A: Allocator + Copy>(
     me: u8,
     body: Body,
 ) -> Result<(), AllocError>
+    requires { next_of out.old < FRAME_NUMBERS }
     ensures frames { OnOk result (frames.new.items ≡ frames.old.items ++ map (put_to to) (body_frames me body to out.old)) }
     ensures out { OnOk result (out.new ≡ queued_at me body to out.old) }
     ensures grown { next_of out.new ≤ next_of out.old + 1 }
@@ -48,11 +49,15 @@ fn put_body<A: Allocator + Copy>(
     if to == me {
         return Ok(());
     }
-    let Ok(frame) = out.queue(body) else {
-        return Err(AllocError);
-    };
-    frames.push(Put { to, frame })?;
-    Ok(())
+    match out.queue(body) {
+        Ok(frame) => {
+            frames.push(Put { to, frame })?;
+            Ok(())
+        }
+        Err(LinkFault::OutOfMemory) => Err(AllocError),
+        // The clock shows more than the number of bodies queued, and so it fills first.
+        Err(LinkFault::NumberFull) => unreachable!(),
+    }
 }
 
 /// Both for one process.
@@ -64,6 +69,7 @@ fn put_one<A: Allocator + Copy>(
     body: Body,
     got: Option<(u8, u64)>,
 ) -> Result<(), AllocError>
+    requires { next_of out.old < FRAME_NUMBERS }
     ensures frames { OnOk result (frames.new.items ≡ frames.old.items ++ map (put_to to) (owed got to ++ body_frames me body to out.old)) }
     ensures out { OnOk result (out.new ≡ queued_at me body to out.old) }
     ensures grown { next_of out.new ≤ next_of out.old + 1 }
@@ -80,7 +86,8 @@ fn queue_on_slice<A: Allocator + Copy>(
     body: Body,
     got: Option<(u8, u64)>,
 ) -> Result<Vec<Put, A>, AllocError>
-    requires { length outboxes.old ≤ MOST_PROCESSES }
+    requires few { length outboxes.old ≤ MOST_PROCESSES }
+    requires numbers { HasNumbers outboxes.old }
     ensures frames { IfOk result (λ v. v.items ≡ puts (all_frames got me body outboxes.old) (length outboxes.old)) }
     ensures queued { OnOk result (outboxes.new ≡ queue_outs 0 me body outboxes.old) }
     ensures grown { IsGrown outboxes.old outboxes.new }
@@ -100,7 +107,8 @@ pub fn queue_on_all<A: Allocator + Copy>(
     body: Body,
     got: Option<(u8, u64)>,
 ) -> Result<Vec<Put, A>, AllocError>
-    requires { length outboxes.old.items ≤ MOST_PROCESSES }
+    requires few { length outboxes.old.items ≤ MOST_PROCESSES }
+    requires numbers { HasNumbers outboxes.old.items }
     ensures frames { IfOk result (λ v. v.items ≡ puts (all_frames got me body outboxes.old.items) (length outboxes.old.items)) }
     ensures queued { OnOk result (outboxes.new.items ≡ queue_outs 0 me body outboxes.old.items) }
     ensures grown { IsGrown outboxes.old.items outboxes.new.items }
@@ -160,6 +168,18 @@ pub fn resend_all<A: Allocator + Copy>(
         resend_one(&mut frames, out, r as u8, me)?;
     }
     Ok(frames)
+}
+
+/// How many bodies are not acknowledged.
+pub fn pending_in<A: Allocator + Copy>(outboxes: &[Outbox<A>]) -> u64
+    requires { length outboxes.now ≤ MOST_PROCESSES }
+    ensures { result ≡ pending_in_all outboxes.now }
+{
+    let mut total = 0;
+    for out in outboxes {
+        total += out.pending();
+    }
+    total
 }
 
 /// Inboxes that expect number 0.

@@ -6,6 +6,7 @@ use Rattle.reg_process.specs.Process.{State}
 use Rattle.reg_base.specs.declared.limits.TheConstants.{LAST_TIME}
 use Rattle.reg_holdback.specs.Waiting.{Waiting}
 use Rattle.reg_process.specs.Parts.{Parts, Good, state_of}
+use Rattle.reg_process.proofs.Pending.{has_numbers}
 use Rattle.reg_process.specs.Steps.{TakesCast}
 use Rattle.reg_process.proofs.Deliveries.{length-merged}
 use Rattle.reg_process.proofs.Sends.{grown_good, accepted_good, accepted_takes}
@@ -64,3 +65,9 @@ returns g c =
     let count : c.expected-count.result + 1 ≡ slice_index c.self.inside.inboxes.items c.args.from + 1 = ap (λ n. n + 1) (c.expected-count.ensures.value ∙ c.index.ensures ∙ get_or_default c.self.inside.inboxes.items c.args.from _ 0 l) in
     subst (λ (s : State). TakesCast s c.args.from c.args.time c.args.op c.in-Ok-queued.frames.items (state_of (record p { clock = c.receive.new.self; waiting = c.receive-2.new.self; expected = c.expect_next.new.inboxes.items; outs = c.queue_on_all-queued.new.outboxes.items }))) c.self.view_is
     (accepted_takes p i c.args.from c.args.time c.args.op peer register c.in-Ok.now c.receive.new.self (c.expected-count.result + 1) c.receive-2.new.self c.queue_on_all-queued.new.outboxes.items c.expect_next.new.inboxes.items c.in-Ok-queued.frames.items t.0 other t.1 k count c.in-Ok-receive.ensures.1 c.in-Ok-queued.ensures.queued c.expect_next.ensures c.in-Ok-queued.ensures.frames c.queue_on_all-queued.ensures.grown c.queue_on_all-queued.ensures.length)
+
+pub queue_on_all-queued-requires-clause-numbers : goal.queue_on_all-queued-requires-clause-numbers
+queue_on_all-queued-requires-clause-numbers g c =
+    let p : Parts = record { me = c.self.inside.me; clock = c.self.inside.clock; waiting = c.self.inside.waiting; expected = c.self.inside.inboxes.items; outs = c.self.inside.outboxes.items; copy = c.self.inside.copy; delivered = c.self.inside.delivered; unsettled = c.self.inside.unsettled; running = c.self.inside.running; calls = c.self.inside.calls } in
+    let t = c.in-Ok.ensures.answer in
+    has_numbers p c.self.invariant (let z = t.0 in omega (arith, z))
