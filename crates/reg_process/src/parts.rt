@@ -1,28 +1,15 @@
 //! The parts of a process that has not failed.
-ghost use Rattle.std.specs.Prelude.{◌≡◌, ◌<◌, ◌+◌, ◌≤◌, ◌^◌, length, MatchOption, MatchResult, IfOk, OnOk, IfErr, [], cond, max, not, nat_le, nat_lt, slice_index, slice_set, Some, None, is_some, if◌then◌else◌};
-ghost use Rattle.reg_base.specs.Memory.{after, register_of};
-ghost use Rattle.reg_process.specs.Process.{pending_of, still, peer_at, seen_at, next_of, acknowledged, unsettled, look as look_of, called, accepted, taken, time_of, resent};
-ghost use Rattle.reg_process.specs.Parts.{reply_by, RunsWell, state_of, first_parts};
-ghost use Rattle.reg_process.specs.Process.{Held};
-ghost use Rattle.reg_process.specs.Faults.{Stops, StopsAt, early_fault, early_body, full_at, full_by, is_out as is_out_of, is_peer as is_peer_of, frame_fault, FrameRefused};
-ghost use Rattle.reg_front.specs.Fronts.{MayStart};
-ghost use Rattle.reg_frames.specs.declared.bodies.Body.TheVariants.{Cast, Ack};
-ghost use Rattle.reg_frames.specs.declared.bodies.Frame.TheVariants.{Numbered, Got};
-ghost use Rattle.reg_base.specs.declared.limits.TheConstants.{LAST_TIME, FRAME_NUMBERS, MOST_OPERATIONS};
-ghost use Rattle.reg_base.specs.declared.memory.Answer.TheVariants.{Done};
-ghost use Rattle.reg_process.specs.Events.{Goes, cast_start};
+ghost use Rattle.std.specs.Prelude.{◌≡◌, ℕ, ◌<◌, ◌+◌, ◌≤◌, length, IfOk, [], not, None, is_some};
+ghost use Rattle.reg_process.specs.Process.{pending_of, peer_at, next_of, acknowledged, unsettled, called, resent};
+ghost use Rattle.reg_process.specs.Parts.{state_of, first_parts};
+ghost use Rattle.reg_base.specs.declared.limits.TheConstants.{MOST_OPERATIONS};
 ghost use Rattle.reg_process.specs.Puts.{puts};
-ghost use Rattle.reg_process.specs.Steps.{DeliversOne, DeliversNone, Delivers, own_running, MakesCast, TakesCast, TakesAck};
 
-use crate::faults::ProcessFault;
-use crate::outcomes::{Outcome, Put};
-use crate::puts::{pending_in, got_alone, new_inboxes, new_outboxes, queue_on_all, resend_all};
-use crate::running::{Awaited, Current};
-use crate::steps::Reply;
+use crate::outcomes::Put;
+use crate::puts::{new_inboxes, new_outboxes, pending_in, resend_all};
+use crate::running::Current;
 use reg_base::limits::MOST_OPERATIONS;
-use reg_base::{Answer, Clock, Delivered, Op, Registers, Shape, Stamp};
-use reg_frames::{Body, Frame};
-use reg_front::Start;
+use reg_base::{Clock, Delivered, Registers, Shape};
 use reg_holdback::Holdback;
 use reg_links::{Inbox, Outbox};
 use std::alloc::{AllocError, Allocator};
@@ -32,6 +19,7 @@ mod calling;
 mod delivering;
 mod taking;
 
+/// A process that has not failed.
 #[derive(Drop)]
 pub struct Core<A: Allocator + Copy> {
     alloc: A,
@@ -109,12 +97,13 @@ impl<A: Allocator + Copy> Core<A> {
 
     /// The time now.
     pub fn clock(&self) -> u64
-        ensures { result ≡ self.now.clock }
+        ensures value { result ≡ self.now.clock }
+        ensures numbers { (r : ℕ) → next_of (peer_at self.now r) ≤ result }
     {
         self.clock.now()
     }
 
-    /// Whether it may do one more operation on a register.
+    /// The copy of the registers.
     pub fn registers(&self) -> &Registers<A>
         ensures { result.now ≡ self.now.copy }
     {

@@ -1,5 +1,5 @@
 //! Bodies queued on all outboxes, and the frames put.
-ghost use Rattle.std.specs.Prelude.{◌≡◌, ◌<◌, ◌≤◌, ◌+◌, ◌++◌, ◌∷◌, [], length, map, replicate, IfOk, OnOk, ℕ, slice_index_or};
+ghost use Rattle.std.specs.Prelude.{◌≡◌, ◌<◌, ◌≤◌, ◌+◌, ◌++◌, ◌∷◌, [], length, map, replicate, IfOk, OnOk};
 ghost use Rattle.reg_links.specs.Link.{next_of};
 ghost use Rattle.reg_frames.specs.declared.bodies.Frame.TheVariants.{Got};
 ghost use Rattle.reg_base.specs.declared.limits.TheConstants.{FRAME_NUMBERS, MOST_PROCESSES};
@@ -92,7 +92,8 @@ fn queue_on_slice<A: Allocator + Copy>(
     ensures queued { OnOk result (outboxes.new ≡ queue_outs 0 me body outboxes.old) }
     ensures grown { IsGrown outboxes.old outboxes.new }
 {
-    let mut frames = Vec::new(alloc);
+    let count = outboxes.len().saturating_sub(1) + usize::from(got.is_some());
+    let mut frames = Vec::with_capacity(alloc, count)?;
     for (r, out) in outboxes.iter_mut().enumerate() {
         put_one(&mut frames, out, r as u8, me, body, got)?;
     }
@@ -125,7 +126,7 @@ pub fn got_alone<A: Allocator + Copy>(
 ) -> Result<Vec<Put, A>, AllocError>
     ensures { IfOk result (λ v. v.items ≡ put_to to (Got count) ∷ []) }
 {
-    let mut frames = Vec::new(alloc);
+    let mut frames = Vec::with_capacity(alloc, 1)?;
     frames.push(Put {
         to,
         frame: Frame::Got { count },
@@ -186,7 +187,7 @@ pub fn pending_in<A: Allocator + Copy>(outboxes: &[Outbox<A>]) -> u64
 pub fn new_inboxes<A: Allocator + Copy>(alloc: A, count: u32) -> Result<Vec<Inbox, A>, AllocError>
     ensures { IfOk result (λ v. v.items ≡ replicate count 0) }
 {
-    let mut all = Vec::new(alloc);
+    let mut all = Vec::with_capacity(alloc, count as usize)?;
     for _i in 0..count {
         all.push(Inbox::new())?;
     }
@@ -200,7 +201,7 @@ pub fn new_outboxes<A: Allocator + Copy>(
 ) -> Result<Vec<Outbox<A>, A>, AllocError>
     ensures { IfOk result (λ v. v.items ≡ replicate count nothing) }
 {
-    let mut all = Vec::new(alloc);
+    let mut all = Vec::with_capacity(alloc, count as usize)?;
     for _i in 0..count {
         all.push(Outbox::new(alloc))?;
     }

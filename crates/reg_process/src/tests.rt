@@ -82,7 +82,13 @@ fn no_process_past_the_last(rt: HostRuntime) {
 fn local_write_answers_at_once(rt: HostRuntime) {
     let mut process = started::<LocalWrite>(&rt, rt.alloc(), 2, 0);
     let out = process.call(WRITE).expect(&rt, "a write");
-    assert!(rt; out.cast == Some(Stamp { time: 1, process: 0 }));
+    assert!(rt;
+        out.cast
+            == Some(Stamp {
+                time: 1,
+                process: 0
+            })
+    );
     assert!(rt; out.reply == done(0));
     assert!(rt; out.frames.as_slice() == [put(1, cast(0, 1, WRITE))].as_slice());
     assert_eq!(rt; process.pending(), 1);
@@ -97,13 +103,17 @@ fn local_write_answers_at_once(rt: HostRuntime) {
     assert!(rt; process.busy());
     assert!(rt; is_refused(process.call(WRITE), ProcessFault::Busy));
     assert!(rt; is_refused(process.call(OUT_OF_RANGE), ProcessFault::Busy));
-    let last = process.take(1, &ack(0, 2)).expect(&rt, "an acknowledgement");
+    let last = process
+        .take(1, &ack(0, 2))
+        .expect(&rt, "an acknowledgement");
     assert!(rt; last.reply == value(5, 1));
     assert!(rt; last.frames.as_slice() == [put(1, Frame::Got { count: 1 })].as_slice());
     assert!(rt; last.delivered.as_slice() == [delivered(1, 0, WRITE)].as_slice());
     assert!(rt; !process.busy());
     assert_eq!(rt; process.delivered_count(), 1);
-    let nothing = process.take(1, &Frame::Got { count: 1 }).expect(&rt, "a count");
+    let nothing = process
+        .take(1, &Frame::Got { count: 1 })
+        .expect(&rt, "a count");
     assert_eq!(rt; nothing.frames.len(), 0);
     assert_eq!(rt; process.pending(), 0);
 }
@@ -116,7 +126,9 @@ fn linear_waits_for_its_own_cast(rt: HostRuntime) {
     assert!(rt; out.reply == None);
     assert!(rt; caster.busy());
     let heard = other.take(0, &cast(0, 1, WRITE)).expect(&rt, "a cast");
-    assert!(rt; heard.frames.as_slice() == [put(0, Frame::Got { count: 1 }), put(0, ack(0, 2))].as_slice());
+    assert!(rt;
+        heard.frames.as_slice() == [put(0, Frame::Got { count: 1 }), put(0, ack(0, 2))].as_slice()
+    );
     assert!(rt; heard.delivered.as_slice() == [delivered(1, 0, WRITE)].as_slice());
     assert_eq!(rt; other.clock(), 2);
     let settled = caster.take(1, &ack(0, 2)).expect(&rt, "an acknowledgement");
@@ -125,7 +137,9 @@ fn linear_waits_for_its_own_cast(rt: HostRuntime) {
     assert!(rt; caster.registers().get(0) == Some(5));
     assert!(rt; other.registers().get(0) == Some(5));
     // The same frame again is dropped, and changes nothing.
-    let again = other.take(0, &cast(0, 1, WRITE)).expect(&rt, "a repeated cast");
+    let again = other
+        .take(0, &cast(0, 1, WRITE))
+        .expect(&rt, "a repeated cast");
     assert!(rt; again.frames.as_slice() == [put(0, Frame::Got { count: 1 })].as_slice());
     assert_eq!(rt; again.delivered.len(), 0);
     assert_eq!(rt; other.delivered_count(), 1);
@@ -135,7 +149,15 @@ fn linear_waits_for_its_own_cast(rt: HostRuntime) {
 fn acknowledges_to_all(rt: HostRuntime) {
     let mut process = started::<Linear>(&rt, rt.alloc(), 3, 1);
     let out = process.take(2, &cast(0, 1, WRITE)).expect(&rt, "a cast");
-    assert!(rt; out.frames.as_slice() == [put(0, ack(0, 2)), put(2, Frame::Got { count: 1 }), put(2, ack(0, 2))].as_slice());
+    assert!(rt;
+        out.frames.as_slice()
+            == [
+                put(0, ack(0, 2)),
+                put(2, Frame::Got { count: 1 }),
+                put(2, ack(0, 2))
+            ]
+            .as_slice()
+    );
     assert_eq!(rt; out.delivered.len(), 0);
     assert_eq!(rt; process.pending(), 2);
 }
@@ -148,7 +170,10 @@ fn held_read_sees_no_later_cast(rt: HostRuntime) {
     let held = process.call(READ).expect(&rt, "a held read");
     assert!(rt; held.reply == None);
     let out = process.take(1, &cast(0, 1, write(2))).expect(&rt, "a cast");
-    assert!(rt; out.delivered.as_slice() == [delivered(1, 0, write(1)), delivered(1, 1, write(2))].as_slice());
+    assert!(rt;
+        out.delivered.as_slice()
+            == [delivered(1, 0, write(1)), delivered(1, 1, write(2))].as_slice()
+    );
     assert!(rt; out.reply == value(1, 1));
     assert!(rt; process.registers().get(0) == Some(2));
 }
@@ -156,24 +181,40 @@ fn held_read_sees_no_later_cast(rt: HostRuntime) {
 #[test]
 fn refusals_leave_a_process_as_it_was(rt: HostRuntime) {
     let mut process = started::<LocalRead>(&rt, rt.alloc(), 2, 1);
-    assert!(rt; is_refused(process.take(0, &Frame::Got { count: 1 }), ProcessFault::Ahead));
-    assert!(rt; is_refused(process.take(0, &cast(0, 5, OUT_OF_RANGE)), ProcessFault::NoRegister));
+    assert!(rt;
+        is_refused(
+            process.take(0, &Frame::Got { count: 1 }),
+            ProcessFault::Ahead
+        )
+    );
+    assert!(rt;
+        is_refused(
+            process.take(0, &cast(0, 5, OUT_OF_RANGE)),
+            ProcessFault::NoRegister
+        )
+    );
     assert!(rt; is_refused(process.take(1, &ack(0, 5)), ProcessFault::NoProcess));
     assert!(rt; is_refused(process.take(2, &ack(0, 5)), ProcessFault::NoProcess));
     assert!(rt; is_refused(process.call(OUT_OF_RANGE), ProcessFault::NoRegister));
     assert_eq!(rt; process.clock(), 0);
-    let heard = process.take(0, &ack(0, 5)).expect(&rt, "an acknowledgement");
+    let heard = process
+        .take(0, &ack(0, 5))
+        .expect(&rt, "an acknowledgement");
     assert!(rt; heard.frames.as_slice() == [put(0, Frame::Got { count: 1 })].as_slice());
     assert!(rt; is_refused(process.take(0, &ack(1, 5)), ProcessFault::Stale));
     assert_eq!(rt; process.clock(), 6);
-    let next = process.take(0, &ack(1, 6)).expect(&rt, "a later acknowledgement");
+    let next = process
+        .take(0, &ack(1, 6))
+        .expect(&rt, "a later acknowledgement");
     assert!(rt; next.frames.as_slice() == [put(0, Frame::Got { count: 2 })].as_slice());
 }
 
 #[test]
 fn frame_out_of_turn_is_not_looked_at(rt: HostRuntime) {
     let mut process = started::<LocalRead>(&rt, rt.alloc(), 2, 1);
-    let out = process.take(0, &cast(1, 1, OUT_OF_RANGE)).expect(&rt, "a frame out of turn");
+    let out = process
+        .take(0, &cast(1, 1, OUT_OF_RANGE))
+        .expect(&rt, "a frame out of turn");
     assert!(rt; out.frames.as_slice() == [put(0, Frame::Got { count: 0 })].as_slice());
     assert_eq!(rt; process.clock(), 0);
 }
@@ -181,8 +222,13 @@ fn frame_out_of_turn_is_not_looked_at(rt: HostRuntime) {
 #[test]
 fn last_time_is_used(rt: HostRuntime) {
     let mut process = started::<LocalRead>(&rt, rt.alloc(), 2, 1);
-    let out = process.take(0, &cast(0, LAST_TIME - 1, WRITE)).expect(&rt, "the last time but one");
-    assert!(rt; out.frames.as_slice() == [put(0, Frame::Got { count: 1 }), put(0, ack(0, LAST_TIME))].as_slice());
+    let out = process
+        .take(0, &cast(0, LAST_TIME - 1, WRITE))
+        .expect(&rt, "the last time but one");
+    assert!(rt;
+        out.frames.as_slice()
+            == [put(0, Frame::Got { count: 1 }), put(0, ack(0, LAST_TIME))].as_slice()
+    );
     let read = process.call(READ).expect(&rt, "a read");
     assert!(rt; read.reply == value(5, 1));
     assert!(rt; is_refused(process.call(WRITE), ProcessFault::ClockFull));

@@ -1,32 +1,27 @@
 //! The calls of a process: how operations start.
-ghost use Rattle.std.specs.Prelude.{◌≡◌, ◌<◌, ◌+◌, ◌≤◌, ◌^◌, length, MatchOption, MatchResult, IfOk, OnOk, IfErr, [], cond, max, not, nat_le, nat_lt, slice_index, slice_set, Some, None, is_some, if◌then◌else◌};
+ghost use Rattle.std.specs.Prelude.{◌≡◌, ◌<◌, ◌+◌, length, MatchResult, IfOk, OnOk, IfErr, cond, nat_le, Some, None, if◌then◌else◌};
 ghost use Rattle.reg_base.specs.Memory.{after, register_of};
-ghost use Rattle.reg_process.specs.Process.{still, peer_at, seen_at, next_of, acknowledged, unsettled, look as look_of, called, accepted, taken, time_of, resent};
-ghost use Rattle.reg_process.specs.Parts.{reply_by, RunsWell, state_of, first_parts};
+ghost use Rattle.reg_process.specs.Process.{unsettled, look as look_of, called};
 ghost use Rattle.reg_process.specs.Process.{Held};
-ghost use Rattle.reg_process.specs.Faults.{Stops, StopsAt, early_fault, early_body, full_at, full_by, is_out as is_out_of, is_peer as is_peer_of, frame_fault, FrameRefused};
+ghost use Rattle.reg_process.specs.Faults.{Stops, StopsAt, early_fault, full_at};
 ghost use Rattle.reg_front.specs.Fronts.{MayStart};
-ghost use Rattle.reg_frames.specs.declared.bodies.Body.TheVariants.{Cast, Ack};
-ghost use Rattle.reg_frames.specs.declared.bodies.Frame.TheVariants.{Numbered, Got};
-ghost use Rattle.reg_base.specs.declared.limits.TheConstants.{LAST_TIME, FRAME_NUMBERS, MOST_OPERATIONS};
+ghost use Rattle.reg_frames.specs.declared.bodies.Body.TheVariants.{Cast};
+ghost use Rattle.reg_base.specs.declared.limits.TheConstants.{LAST_TIME, MOST_OPERATIONS};
 ghost use Rattle.reg_base.specs.declared.memory.Answer.TheVariants.{Done};
 ghost use Rattle.reg_process.specs.Events.{Goes, cast_start};
-ghost use Rattle.reg_process.specs.Puts.{puts};
-ghost use Rattle.reg_process.specs.Steps.{DeliversOne, DeliversNone, Delivers, own_running, MakesCast, TakesCast, TakesAck};
+ghost use Rattle.reg_process.specs.Steps.{own_running, MakesCast};
 
 use super::Core;
 use crate::faults::ProcessFault;
 use crate::outcomes::{Outcome, Put};
-use crate::puts::{got_alone, new_inboxes, new_outboxes, queue_on_all, resend_all};
-use crate::running::{Awaited, Current};
+use crate::puts::queue_on_all;
+use crate::running::Current;
 use crate::steps::Reply;
 use reg_base::limits::MOST_OPERATIONS;
-use reg_base::{Answer, Clock, Delivered, Op, Registers, Shape, Stamp};
-use reg_frames::{Body, Frame};
+use reg_base::{Answer, Op, Stamp};
+use reg_frames::Body;
 use reg_front::Start;
-use reg_holdback::Holdback;
-use reg_links::{Inbox, Outbox};
-use std::alloc::{AllocError, Allocator};
+use std::alloc::Allocator;
 
 /// What runs after an own cast.
 fn own(runs: bool, stamp: Stamp, op: Op) -> Option<Current>

@@ -1,31 +1,23 @@
 //! The frames that a process takes.
-ghost use Rattle.std.specs.Prelude.{◌≡◌, ◌<◌, ◌+◌, ◌≤◌, ◌^◌, length, MatchOption, MatchResult, IfOk, OnOk, IfErr, [], cond, max, not, nat_le, nat_lt, slice_index, slice_set, Some, None, is_some, if◌then◌else◌};
+ghost use Rattle.std.specs.Prelude.{◌≡◌, ◌<◌, ◌+◌, length, MatchResult, IfOk, OnOk, OnErr, IfErr, max, not, nat_le, nat_lt, slice_index, slice_set, Some, None, if◌then◌else◌};
 ghost use Rattle.reg_base.specs.Memory.{after, register_of};
-ghost use Rattle.reg_process.specs.Process.{still, peer_at, seen_at, next_of, acknowledged, unsettled, look as look_of, called, accepted, taken, time_of, resent};
-ghost use Rattle.reg_process.specs.Parts.{reply_by, RunsWell, state_of, first_parts};
-ghost use Rattle.reg_process.specs.Process.{Held};
-ghost use Rattle.reg_process.specs.Faults.{Stops, StopsAt, early_fault, early_body, full_at, full_by, is_out as is_out_of, is_peer as is_peer_of, frame_fault, FrameRefused};
-ghost use Rattle.reg_front.specs.Fronts.{MayStart};
+ghost use Rattle.reg_process.specs.Process.{peer_at, seen_at, next_of, acknowledged, accepted, taken, time_of};
+ghost use Rattle.reg_process.specs.Faults.{Stops, StopsAt, early_body, full_by, is_out as is_out_of, is_peer as is_peer_of, frame_fault, FrameRefused};
 ghost use Rattle.reg_frames.specs.declared.bodies.Body.TheVariants.{Cast, Ack};
 ghost use Rattle.reg_frames.specs.declared.bodies.Frame.TheVariants.{Numbered, Got};
-ghost use Rattle.reg_base.specs.declared.limits.TheConstants.{LAST_TIME, FRAME_NUMBERS, MOST_OPERATIONS};
-ghost use Rattle.reg_base.specs.declared.memory.Answer.TheVariants.{Done};
-ghost use Rattle.reg_process.specs.Events.{Goes, cast_start};
-ghost use Rattle.reg_process.specs.Puts.{puts};
-ghost use Rattle.reg_process.specs.Steps.{DeliversOne, DeliversNone, Delivers, own_running, MakesCast, TakesCast, TakesAck};
+ghost use Rattle.reg_base.specs.declared.limits.TheConstants.{LAST_TIME, FRAME_NUMBERS};
+ghost use Rattle.reg_process.specs.Events.{Goes};
+ghost use Rattle.reg_holdback.specs.Waiting.{receive_fault, received};
+ghost use Rattle.reg_process.specs.Steps.{TakesCast, TakesAck};
 
 use super::Core;
 use crate::faults::ProcessFault;
 use crate::outcomes::{Outcome, Put};
-use crate::puts::{got_alone, new_inboxes, new_outboxes, queue_on_all, resend_all};
-use crate::running::{Awaited, Current};
-use crate::steps::Reply;
-use reg_base::limits::MOST_OPERATIONS;
-use reg_base::{Answer, Clock, Delivered, Op, Registers, Shape, Stamp};
+use crate::puts::{got_alone, queue_on_all};
+use reg_base::{Op, Stamp};
 use reg_frames::{Body, Frame};
-use reg_front::Start;
-use reg_holdback::Holdback;
-use reg_links::{Inbox, Outbox};
+use reg_holdback::{HoldFault, Holdback};
+use reg_links::Inbox;
 use std::alloc::{AllocError, Allocator};
 
 /// The time of a body.
@@ -47,6 +39,35 @@ fn expect_next<A: Allocator + Copy>(inboxes: &mut Vec<Inbox, A>, from: u8, body:
     let inbox = &mut inboxes[from as usize];
     let number = inbox.expected();
     inbox.take(number, body);
+}
+
+/// Holds the cast of an expected body.
+fn hold_cast<A: Allocator + Copy>(
+    waiting: &mut Holdback<A>,
+    stamp: Stamp,
+    op: Op,
+) -> Result<(), AllocError>
+    requires { receive_fault waiting.old stamp ≡ None }
+    ensures held { OnOk result (waiting.new ≡ received waiting.old stamp (Some op)) }
+    ensures unchanged { OnErr result (waiting.new ≡ waiting.old) }
+{
+    match waiting.receive(stamp, Some(op)) {
+        Ok(()) => Ok(()),
+        Err(HoldFault::OutOfMemory) => Err(AllocError),
+        Err(HoldFault::NoProcess) => unreachable!(),
+        Err(HoldFault::Stale) => unreachable!(),
+    }
+}
+
+/// Takes in the time of an expected body without a cast.
+fn hear<A: Allocator + Copy>(waiting: &mut Holdback<A>, stamp: Stamp)
+    requires { receive_fault waiting.old stamp ≡ None }
+    ensures { waiting.new ≡ received waiting.old stamp None }
+{
+    match waiting.receive(stamp, None) {
+        Ok(()) => (),
+        Err(_) => unreachable!(),
+    }
 }
 
 impl<A: Allocator + Copy> Core<A> {
@@ -259,7 +280,7 @@ impl<A: Allocator + Copy> Core<A> {
             time,
             process: from,
         };
-        let Ok(()) = self.waiting.receive(stamp, Some(op)) else {
+        let Ok(()) = hold_cast(&mut self.waiting, stamp, op) else {
             return Err(ProcessFault::OutOfMemory);
         };
         expect_next(&mut self.inboxes, from, body);
@@ -284,9 +305,7 @@ impl<A: Allocator + Copy> Core<A> {
             time,
             process: from,
         };
-        let Ok(()) = self.waiting.receive(stamp, None) else {
-            return Err(ProcessFault::OutOfMemory);
-        };
+        hear(&mut self.waiting, stamp);
         expect_next(&mut self.inboxes, from, Body::Ack { time });
         Ok(frames)
     }
