@@ -14,3 +14,6 @@ pub use outcomes::{Outcome, Put};
 pub use processes::Process;
 pub use reg_base::Delivered;
 pub use steps::{Reply, Step};
+
+#[cfg(test)]
+mod tests;
