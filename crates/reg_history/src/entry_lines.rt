@@ -9,7 +9,10 @@ use crate::entries::Entry;
 use crate::report_faults::ReadWhy;
 use reg_base::limits::{LAST_EVENT, MOST_OPERATIONS, MOST_PROCESSES};
 use reg_base::{Answer, Names, OpId};
-use reg_text::{Why, cut, form, in_front, is_numeral, left_field, numeral, op_form, read_op, right_field, skip, within};
+use reg_text::{
+    Why, cut, form, in_front, is_numeral, left_field, numeral, op_form, read_op, right_field, skip,
+    within,
+};
 use std::alloc::Allocator;
 
 /// The answer that is the whole of the bytes.
@@ -104,7 +107,11 @@ fn entry_form<A: Allocator + Copy>(line: &[u8], names: &Names<A>) -> Option<Why>
     let columns_fit = within(at, LAST_EVENT as u64)
         && within(process, MOST_PROCESSES as u64 - 1)
         && within(number, MOST_OPERATIONS as u64 - 1);
-    if columns_fit { Some(why) } else { Some(Why::Range) }
+    if columns_fit {
+        Some(why)
+    } else {
+        Some(Why::Range)
+    }
 }
 
 /// Why a line is no entry.

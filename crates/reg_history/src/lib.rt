@@ -1,8 +1,6 @@
 //! Histories of calls and answers, their serial orders and point orders, and the texts of reports.
 #![tactic(auto)]
 
-pub mod laws;
-
 mod answers;
 mod blocks;
 mod check;
@@ -11,6 +9,7 @@ mod entries;
 mod entry_lines;
 mod faults;
 mod id_lines;
+pub mod laws;
 mod log;
 mod marks;
 #[cfg(test)]
@@ -31,3 +30,6 @@ pub use log::History;
 pub use report_faults::{ReadFault, ReadWhy, ReportFault, WriteFault};
 pub use report_limits::{LONGEST_FRONT, MOST_ENTRIES, MOST_IDS};
 pub use reports::{Report, read_report, write_report};
+
+#[cfg(test)]
+mod report_tests;

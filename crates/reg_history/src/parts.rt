@@ -17,7 +17,10 @@ use crate::report_faults::{ReadFault, ReadWhy, at_line};
 use crate::report_limits::{LONGEST_FRONT, MOST_ENTRIES, MOST_IDS};
 use reg_base::limits::MOST_PROCESSES;
 use reg_base::{Names, OpId, Shape};
-use reg_text::{Lines, are_front_letters, expect_line, numeral_within, owned, read_count, read_names, skip, why_number};
+use reg_text::{
+    Lines, are_front_letters, expect_line, numeral_within, owned, read_count, read_names, skip,
+    why_number,
+};
 use std::alloc::Allocator;
 
 /// Whether the word names a front end: 1 to 16 letters a to z or hyphens.
@@ -28,10 +31,7 @@ pub fn is_front(word: &[u8]) -> bool
 }
 
 /// The word of the line of the front end.
-fn read_front<A: Allocator + Copy>(
-    alloc: A,
-    lines: &mut Lines<'_>,
-) -> Result<String<A>, ReadFault>
+fn read_front<A: Allocator + Copy>(alloc: A, lines: &mut Lines<'_>) -> Result<String<A>, ReadFault>
     ensures read { IfOk result (λ s. (lines.old ≡ (codes "front " ++ string_bytes s) ∷ lines.new) × (is_front_of (string_bytes s) ≡ true)) }
     ensures whole { (front : List ℕ) (rest : List (List ℕ)) → is_front_of front ≡ true → lines.old ≡ (codes "front " ++ front) ∷ rest
         → MatchResult result (λ s. (string_bytes s ≡ front) × (lines.new ≡ rest)) (λ f. f ≡ ReadFault.OutOfMemory) }

@@ -149,10 +149,8 @@ impl<A: Allocator + Copy> Report<A> {
         order: Vec<OpId, A>,
         points: Option<Vec<Point, A>>,
     ) -> Result<Report<A>, ReportFault>
-        ensures {
-            let parts : Contents = record { front = string_bytes front; shape = history.shape; names = names; entries = history.entries; order = order.items; points = option_map (λ v. v.items) points } in
-            MatchResult result (λ r. (r ≡ parts) × IsReport parts) (λ fault. IsReportFault parts fault)
-        }
+        ensures { let parts : Contents = record { front = string_bytes front; shape = history.shape; names = names; entries = history.entries; order = order.items; points = option_map (λ v. v.items) points } in
+            MatchResult result (λ r. (r ≡ parts) × IsReport parts) (λ fault. IsReportFault parts fault) }
     {
         if !is_front(front.as_str().as_bytes()) {
             return Err(ReportFault::Front);

@@ -13,3 +13,4 @@ pub mod Texts
 pub mod Worded
 pub mod Shaped
 pub mod Joining
+pub mod Shorts

@@ -10,6 +10,9 @@ ghost use Rattle.reg_text.specs.Parts.{Lacks};
 
 use std::str;
 
+/// Numerals of no more digits have 64 bits.
+const SHORT: usize = 19;
+
 fn is_plain(bytes: &[u8]) -> bool
     ensures { IsTrue result ↔ IsPlain bytes.now }
 {
@@ -34,12 +37,36 @@ fn parsed(bytes: &[u8]) -> Option<u64>
     }
 }
 
+/// The same of so few bytes that the number fits, with no test of that.
+fn parsed_short(bytes: &[u8]) -> Option<u64>
+    requires plain { IsPlain bytes.now }
+    requires short { length bytes.now ≤ SHORT }
+    ensures read { IfSome result (λ n. (bytes.now ≡ decimal n) × (n < 2 ^ 64)) }
+    ensures whole { (n : ℕ) → n < 2 ^ 64 → bytes.now ≡ decimal n → result ≡ Some n }
+{
+    let mut value = 0u64;
+    for byte in bytes {
+        if !byte.is_ascii_digit() {
+            return None;
+        }
+        value = value * 10 + (*byte - b'0') as u64;
+    }
+    Some(value)
+}
+
 /// The number that a numeral of no needless zero stands for.
 pub fn numeral(bytes: &[u8]) -> Option<u64>
     ensures read { IfSome result (λ n. (bytes.now ≡ decimal n) × (n < 2 ^ 64)) }
     ensures whole { (n : ℕ) → n < 2 ^ 64 → bytes.now ≡ decimal n → result ≡ Some n }
 {
-    if is_plain(bytes) { parsed(bytes) } else { None }
+    if !is_plain(bytes) {
+        return None;
+    }
+    if bytes.len() <= SHORT {
+        parsed_short(bytes)
+    } else {
+        parsed(bytes)
+    }
 }
 
 fn spaces_before(bytes: &[u8]) -> usize

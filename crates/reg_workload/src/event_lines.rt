@@ -8,11 +8,14 @@ ghost use Rattle.reg_text.specs.Ops.{op_text, OpFits};
 ghost use Rattle.reg_workload.specs.Schedules.{event_text, EventFits};
 
 use reg_base::{Names, Op};
-use reg_text::{Why, cut_at, field_within, form, is_numeral, numeral_within, op_form, read_op, skip, within};
+use reg_text::{
+    Why, cut_at, field_within, form, is_numeral, numeral_within, op_form, read_op, skip, within,
+};
 use reg_world::Event;
 use std::alloc::Allocator;
 
 const LAST_PROCESS: u64 = 255;
+
 const LAST_FRAME: u64 = 4_294_967_295;
 
 /// The process and the operation of a call.

@@ -63,4 +63,3 @@ invariant_of-result g c =
     let s : c.in-Ok.shape ≡ record { processes = c.in_ok-front.processes; registers = c.count.result } = shape_is c.new.result c.in_ok-front.processes c.count.result c.in-Ok.shape c.in-Ok.is c.new.ensures in
     (from_parts _ c.in_ok-front.processes c.in_ok-front.names c.in-Ok.shape _ _ _ _ c.args.lines.now c.read_head.new.lines c.read_history.new.lines c.read_order.new.lines
     head.0 head.1 head.2 head.3 head.4 (s ∙ ap (λ x. record { processes = c.in_ok-front.processes; registers = x }) c.count.ensures.value) c.in_ok-history.ensures.shape c.in_ok-history.ensures.read c.in_ok-order.ensures.read c.in_ok-points.ensures.read.0 c.in_ok-points.ensures.read.1).1
-
