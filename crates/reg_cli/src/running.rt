@@ -11,7 +11,11 @@ use reg_base::limits::LONGEST_INPUT;
 use std::alloc::Allocator;
 use std::io::{Read, Write};
 
-fn read<A: Allocator, R: Read>(alloc: A, command: Command, reader: &mut R) -> Result<String<A>, Fault>
+fn read<A: Allocator, R: Read>(
+    alloc: A,
+    command: Command,
+    reader: &mut R,
+) -> Result<String<A>, Fault>
     ensures ok { IfOk result (λ s. IfSome (R.remaining reader.old) (λ xs. string_bytes s ≡ xs)) }
     ensures why { IfErr result (λ f. IfSome (R.remaining reader.old) (Blames command f)) }
     ensures kind { IfErr result (λ f. f ≢ Fault.Output) }
@@ -66,10 +70,8 @@ pub fn run_text<A: Allocator + Copy, R: Read, W: Write, E: Write>(
 ) -> u8
     ensures range { result ≤ 1 }
     ensures answered { result ≡ 0 → IfSome (R.remaining reader.old) (Answers command true (W.contents writer.old) (W.contents writer.new)) }
-    ensures refused {
-        result ≡ 1 → IfSome (R.remaining reader.old) (Answers command false (W.contents writer.old) (W.contents writer.new))
-        ⊎ ((f : Fault) × IfSome (R.remaining reader.old) (Blames command f) × (f ≢ Fault.Output → writer.new ≡ writer.old))
-    }
+    ensures refused { result ≡ 1 → IfSome (R.remaining reader.old) (Answers command false (W.contents writer.old) (W.contents writer.new))
+        ⊎ ((f : Fault) × IfSome (R.remaining reader.old) (Blames command f) × (f ≢ Fault.Output → writer.new ≡ writer.old)) }
     ensures quiet { result ≡ 0 → errors.new ≡ errors.old }
 {
     match obey(alloc, command, reader, writer) {

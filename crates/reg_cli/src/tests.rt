@@ -90,12 +90,28 @@ fn orders_are_judged(rt: HostRuntime) {
     let alloc = rt.alloc();
     let table = [
         (STALE_READ, "order 2\np1 #0\np0 #0\nend\n", "serial yes\n"),
-        (STALE_READ, "order 2\np0 #0\np1 #0\nend\n", "serial no: answer at 1\n"),
+        (
+            STALE_READ,
+            "order 2\np0 #0\np1 #0\nend\n",
+            "serial no: answer at 1\n",
+        ),
         (STALE_READ, "order 1\np1 #0\nend\n", "serial no: missing\n"),
-        (STALE_READ, "order 3\np1 #0\np0 #0\np0 #0\nend\n", "serial no: twice\n"),
+        (
+            STALE_READ,
+            "order 3\np1 #0\np0 #0\np0 #0\nend\n",
+            "serial no: twice\n",
+        ),
         (WAITING_READ, "order 2\np0 #0\np0 #1\nend\n", "serial yes\n"),
-        (WAITING_READ, "order 2\np0 #1\np0 #0\nend\n", "serial no: own order\n"),
-        (UNFINISHED_READ, "order 2\np0 #0\np0 #1\nend\n", "serial no: unknown\n"),
+        (
+            WAITING_READ,
+            "order 2\np0 #1\np0 #0\nend\n",
+            "serial no: own order\n",
+        ),
+        (
+            UNFINISHED_READ,
+            "order 2\np0 #0\np0 #1\nend\n",
+            "serial no: unknown\n",
+        ),
         (
             STALE_READ,
             "order 2\np1 #0\np0 #0\npoints 2\np1 #0 at 5\np0 #0 at 4\nend\n",
@@ -110,7 +126,15 @@ fn orders_are_judged(rt: HostRuntime) {
     for (head, tail, lines) in table {
         let report = joined(&rt, alloc, [head, tail]);
         let status = if lines == "serial yes\n" { 0 } else { 1 };
-        demand(&rt, alloc, Command::Check, report.as_bytes(), status, lines, "");
+        demand(
+            &rt,
+            alloc,
+            Command::Check,
+            report.as_bytes(),
+            status,
+            lines,
+            "",
+        );
     }
 }
 
@@ -123,10 +147,34 @@ fn reports_are_read_as_they_were_written(rt: HostRuntime) {
     let size = bytes.len();
     assert!(rt; size > 5);
     demand(&rt, alloc, Command::Check, &bytes[..size - 1], 0, both, "");
-    demand(&rt, alloc, Command::Check, &bytes[..size - 4], 1, "", "line 16: end\n");
+    demand(
+        &rt,
+        alloc,
+        Command::Check,
+        &bytes[..size - 4],
+        1,
+        "",
+        "line 16: end\n",
+    );
     let longer = joined(&rt, alloc, [ONE_PROCESS, "end\n"]);
-    demand(&rt, alloc, Command::Check, longer.as_bytes(), 1, "", "line 17: end\n");
-    demand(&rt, alloc, Command::Check, b"\xff", 1, "", "input: not text\n");
+    demand(
+        &rt,
+        alloc,
+        Command::Check,
+        longer.as_bytes(),
+        1,
+        "",
+        "line 17: end\n",
+    );
+    demand(
+        &rt,
+        alloc,
+        Command::Check,
+        b"\xff",
+        1,
+        "",
+        "input: not text\n",
+    );
 }
 
 /// Gives at most three bytes a read, and fails at one read.
@@ -192,7 +240,13 @@ impl Write for FailingWriter {
 }
 
 /// Every read up to the last fails in turn, and then every write.
-fn demand_failing_streams(rt: &impl Abort, alloc: Global, command: Command, input: &str, output: &str) {
+fn demand_failing_streams(
+    rt: &impl Abort,
+    alloc: Global,
+    command: Command,
+    input: &str,
+    output: &str,
+) {
     let mut reads = 0u32;
     for before in 0..1000u32 {
         let bytes = input.as_bytes();
@@ -254,7 +308,13 @@ fn a_check_with_failing_streams(rt: HostRuntime) {
     demand_failing_streams(&rt, rt.alloc(), Command::Check, ONE_PROCESS, both);
     let mut written = Vec::new(rt.alloc());
     let mut errors = Vec::new(rt.alloc());
-    let status = run_text(rt.alloc(), Command::Check, &mut Endless, &mut written, &mut errors);
+    let status = run_text(
+        rt.alloc(),
+        Command::Check,
+        &mut Endless,
+        &mut written,
+        &mut errors,
+    );
     assert_eq!(rt; status, 1);
     assert_eq!(rt; errors.as_slice(), b"input: too long\n".as_slice());
 }

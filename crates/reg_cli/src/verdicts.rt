@@ -131,11 +131,7 @@ fn write_fault<W: Write>(writer: &mut W, name: &str, fault: CheckFault) -> Resul
     }
 }
 
-fn write_verdict<W: Write>(
-    writer: &mut W,
-    name: &str,
-    verdict: Verdict,
-) -> Result<(), WriteFault>
+fn write_verdict<W: Write>(writer: &mut W, name: &str, verdict: Verdict) -> Result<(), WriteFault>
     ensures { OnOk result (Appends (W.contents writer.old) (W.contents writer.new) (verdict_line name.now verdict)) }
 {
     match verdict {
