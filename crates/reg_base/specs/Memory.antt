@@ -1,4 +1,5 @@
--- One memory. A third kind of operation changes `answer_of`, `after` and `updates` alone.
+-- One memory (the sequential specification of read and write registers, Herlihy and Wing 1990, section 2).
+-- A third kind of operation changes `register_of`, `updates`, `answer_of` and `after` alone.
 use Rattle.std.specs.Prelude.{◌≡◌, replicate, ℕ, Bool, true, false, List, [], ◌∷◌, slice_index, slice_set}
 use Rattle.reg_base.specs.declared.memory.Op.{Op}
 use Rattle.reg_base.specs.declared.memory.Op.TheVariants.{Read, Write}
@@ -9,6 +10,7 @@ use Rattle.reg_base.specs.declared.memory.Answer.TheVariants.{Done, Value}
 abbrev pub Memory : Type 0
 Memory = List ℕ
 
+-- the register that an operation names
 abbrev pub register_of : Op → ℕ
 register_of (Read r) = r
 register_of (Write r v) = r
@@ -18,10 +20,12 @@ abbrev pub updates : Op → Bool
 updates (Read r) = false
 updates (Write r v) = true
 
+-- a read answers its register's value; a write answers Done
 abbrev pub answer_of : Op → Memory → Answer
 answer_of (Read r) m = Value (slice_index m r)
 answer_of (Write r v) m = Done
 
+-- a write replaces its register's value; a read changes nothing
 abbrev pub after : Op → Memory → Memory
 after (Read r) m = m
 after (Write r v) m = slice_set m r v
@@ -45,3 +49,7 @@ IsUpdate op = updates op ≡ true
 -- the operation has one answer on every memory
 abbrev pub IsBlind : Op → Type 0
 IsBlind op = (m n : Memory) → answer_of op m ≡ answer_of op n
+
+-- an answer that the operation can have
+abbrev pub Fits : Op → Answer → Type 0
+Fits op answer = (m : Memory) × (answer ≡ answer_of op m)

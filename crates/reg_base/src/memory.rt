@@ -1,6 +1,6 @@
 //! Operations, their names and answers, and one memory.
-ghost use Rattle.std.specs.Prelude.{◌≡◌, ◌<◌, IfOk, SomeIff, length, slice_get};
-ghost use Rattle.reg_base.specs.Memory.{register_of, answer_of, after, blank};
+ghost use Rattle.std.specs.Prelude.{◌≡◌, ◌<◌, ◌↔◌, IsTrue, IfOk, SomeIff, length, slice_get};
+ghost use Rattle.reg_base.specs.Memory.{register_of, updates, answer_of, after, blank, Fits};
 
 use std::alloc::{AllocError, Allocator, Global};
 use std::marker::Model;
@@ -31,6 +31,38 @@ pub struct OpId {
 }
 
 impl Op {
+    /// Whether it may change the memory.
+    pub fn updates(&self) -> bool
+        ensures { result ≡ updates self.now }
+    {
+        match *self {
+            Op::Read { register: _ } => false,
+            Op::Write {
+                register: _,
+                value: _,
+            } => true,
+        }
+    }
+
+    /// Whether it has this answer on some memory.
+    pub fn can_answer(&self, answer: &Answer) -> bool
+        ensures { IsTrue result ↔ Fits self.now answer.now }
+    {
+        match *self {
+            Op::Read { register: _ } => match *answer {
+                Answer::Done => false,
+                Answer::Value(_) => true,
+            },
+            Op::Write {
+                register: _,
+                value: _,
+            } => match *answer {
+                Answer::Done => true,
+                Answer::Value(_) => false,
+            },
+        }
+    }
+
     /// The register that it names.
     pub fn register(&self) -> u16
         ensures { result ≡ register_of self.now }

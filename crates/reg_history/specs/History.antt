@@ -6,7 +6,7 @@ use Rattle.reg_base.specs.declared.memory.Op.{Op}
 use Rattle.reg_base.specs.declared.memory.Answer.{Answer}
 use Rattle.reg_history.specs.declared.entries.Entry.{Entry}
 use Rattle.reg_history.specs.declared.entries.Entry.TheVariants.{Called, Answered}
-use Rattle.reg_base.specs.Memory.{Memory, answer_of, register_of}
+use Rattle.reg_base.specs.Memory.{register_of, Fits}
 
 -- x stands in the list at place k
 abbrev pub IsAt : {X : Type 0} → List X → ℕ → X → Type 0
@@ -52,10 +52,6 @@ IsNext es id = (n : ℕ) → (n < id.number) ↔ WasCalled es (record { process 
 -- each operation that the process has called is finished
 abbrev pub IsIdle : List Entry → ℕ → Type 0
 IsIdle es process = (id : OpId) → id.process ≡ process → WasCalled es id → IsFinished es id
-
--- an answer that the operation can have
-abbrev pub Fits : Op → Answer → Type 0
-Fits op answer = (m : Memory) × (answer ≡ answer_of op m)
 
 -- a call in place
 pub record MayCall (n registers : ℕ) (es : List Entry) (at : ℕ) (id : OpId) (op : Op) : Type 0 where

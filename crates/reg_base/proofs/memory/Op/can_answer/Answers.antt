@@ -1,0 +1,9 @@
+use Rattle.std.proofs.Common.{refl}
+use Rattle.reg_base.proofs.Operations.{value_fits, done_fits}
+use Rattle.reg_base.proofs.memory.Op.can_answer.Goals as goal
+
+pub returns-in-Value : goal.returns-in-Value
+returns-in-Value c = (λ t. value_fits c.args.self.now c.args.answer.now c.in-Read.register c.in-Value.field-0 c.in-Read.is c.in-Value.is, λ f. refl)
+
+pub returns-in-Done-answer : goal.returns-in-Done-answer
+returns-in-Done-answer c = (λ t. done_fits c.args.self.now c.args.answer.now c.in-Write.register c.in-Write.value c.in-Write.is c.in-Done-answer.is, λ f. refl)
