@@ -17,3 +17,6 @@ pub use steps::{Reply, Step};
 
 #[cfg(test)]
 mod tests;
+
+#[cfg(test)]
+mod refusals;
