@@ -1,5 +1,5 @@
 -- The lines of a report have no line feeds of their own.
-use Rattle.std.proofs.Common.{ℕ, zero, suc, ◌≡◌, ◌-◌, ◌<◌, ◌==◌, ◌^◌, ◌&&◌, nat_lt, nat_le, not, true, List, [], ◌∷◌, ◌++◌, length, map, replicate, codes, get_or, Option, None, Some, slice_get, refl, sym, ap, ◌∙◌, subst, arith, rules, append_assoc, append-nil, inl, inr, ◌⊎◌}
+use Rattle.std.proofs.Common.{ℕ, suc, ◌≡◌, ◌-◌, ◌<◌, ◌==◌, ◌^◌, ◌&&◌, nat_lt, nat_le, not, true, List, [], ◌∷◌, ◌++◌, length, map, replicate, codes, get_or, Option, None, Some, slice_get, refl, sym, ap, ◌∙◌, subst, arith, rules, append_assoc, append-nil, inl, inr, ◌⊎◌}
 use Rattle.std.proofs.lemmas.List.{append_cancel_right}
 use Rattle.std.specs.List.{list_all}
 use Rattle.std.specs.Fmt.{decimal}
@@ -17,10 +17,10 @@ use Rattle.reg_text.specs.Parts.{Lacks}
 use Rattle.reg_history.specs.declared.entries.Point.{Point}
 use Rattle.reg_text.specs.Lines.{text_of, lines_of}
 use Rattle.reg_history.specs.Reports.{Contents, counted_lines, tail_lines, report_lines, IsReport, PointsFit, is_front}
-use Rattle.reg_text.proofs.NamesLack.{both_true, nth_lacks, name_lacks, well_spelt}
+use Rattle.reg_text.proofs.NamesLack.{both_true, name_lacks, well_spelt}
 use Rattle.reg_text.proofs.Joining.{joined, spaces_lack, number, op_lacks}
 use Rattle.reg_text.proofs.Split.{AllLack, lines_text, line_last, none_left, text_lines}
-use Rattle.reg_text.specs.Ops.{name_of, op_text, OpFits}
+use Rattle.reg_text.specs.Ops.{op_text}
 use Rattle.reg_history.specs.EntryLines.{answer_text, columns_text, entry_text, AnswerFits, ColumnsFit, EntryFits}
 use Rattle.reg_history.specs.IdLines.{id_text, IdFits, point_text, PointFits}
 use Rattle.reg_history.specs.declared.report_limits.TheConstants.{LONGEST_FRONT}

@@ -1,15 +1,14 @@
 -- The entries of a history are within the limits of a report.
-use Rattle.std.proofs.Common.{ℕ, ◌≡◌, ◌<◌, ◌≤◌, List, length, take, Some, slice_get, subst, arith}
+use Rattle.std.proofs.Common.{ℕ, ◌≡◌, ◌≤◌, List, length, take, Some, slice_get, arith}
 use Rattle.reg_base.specs.declared.limits.TheConstants.{MOST_PROCESSES, LAST_EVENT}
 use Rattle.reg_base.specs.declared.memory.OpId.{OpId}
 use Rattle.reg_base.specs.declared.memory.Op.{Op}
-use Rattle.reg_base.specs.declared.memory.Answer.{Answer}
 use Rattle.reg_text.specs.Lines.{AllFit}
 use Rattle.reg_text.proofs.Spelling.{op_fits}
 use Rattle.reg_history.specs.declared.entries.Entry.{Entry}
 use Rattle.reg_history.specs.declared.entries.Entry.TheVariants.{Called, Answered}
 use Rattle.reg_history.specs.EntryLines.{EntryFits, EntryHasValue, ColumnsFit}
-use Rattle.reg_history.specs.History.{IsAt, IsHistory, MayCall, MayAnswer}
+use Rattle.reg_history.specs.History.{IsHistory, MayCall, MayAnswer}
 use Rattle.reg_history.proofs.Places.{in_take}
 
 abbrev pub HaveValues : List Entry → Type 0

@@ -14,7 +14,7 @@ use Rattle.reg_history.specs.declared.report_faults.ReportFault.{ReportFault}
 use Rattle.reg_history.specs.declared.report_faults.ReportFault.TheVariants.{Front, Names, Range}
 use Rattle.reg_history.specs.declared.report_limits.TheConstants.{MOST_ENTRIES, MOST_IDS, LONGEST_FRONT}
 use Rattle.reg_history.specs.History.{IsHistory}
-use Rattle.reg_history.specs.EntryLines.{entry_text, EntryFits, Follows}
+use Rattle.reg_history.specs.EntryLines.{entry_text, EntryFits}
 use Rattle.reg_history.specs.IdLines.{id_text, IdFits, point_text, PointFits}
 
 -- one word, not too long, of letters a to z or hyphens

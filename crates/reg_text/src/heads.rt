@@ -5,9 +5,9 @@ ghost use Rattle.std.specs.Str.{IsUtf8};
 ghost use Rattle.std.specs.List.{list_all};
 ghost use Rattle.reg_text.specs.Words.{is_front_letter};
 
+use crate::cursor::Lines;
 use crate::faults::{TextFault, Why};
 use crate::fields::skip;
-use crate::cursor::Lines;
 use crate::forms::why_number;
 use crate::numbers::numeral_within;
 use std::alloc::{AllocError, Allocator};

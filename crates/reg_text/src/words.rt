@@ -4,13 +4,13 @@ ghost use Rattle.reg_base.specs.Names.{names_fault, texts};
 ghost use Rattle.reg_text.specs.Parts.{Lacks};
 ghost use Rattle.reg_text.specs.Words.{names_text, Starts};
 
-use crate::faults::{TextFault, Why};
 use crate::cursor::Lines;
+use crate::faults::{TextFault, Why};
 use crate::fields::{cut_at, skip};
 use crate::forms::is_word;
 use crate::heads::owned;
-use reg_base::limits::MOST_REGISTERS;
 use reg_base::Names;
+use reg_base::limits::MOST_REGISTERS;
 use std::alloc::Allocator;
 
 /// Why words are refused.

@@ -1,4 +1,4 @@
-use Rattle.std.proofs.Common.{ℕ, ◌≡◌, ◌≤◌, ◌<◌, ◌+◌, ◌-◌, ◌*◌, ◌^◌, length, get_or, Some, sym, ap, arith, rules}
+use Rattle.std.proofs.Common.{get_or, Some, ap, arith, rules}
 use Rattle.std.specs.Int.{IsInRange}
 use borrow.Author.Count.{below_more}
 use Rattle.reg_text.proofs.Shorts.{next_value, all_read, one_number, digit_there}

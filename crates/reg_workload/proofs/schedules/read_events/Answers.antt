@@ -1,7 +1,7 @@
-use Rattle.std.proofs.Common.{sym, subst, arith, rules, ◌≡◌, ℕ, ◌+◌, List, [], ◌∷◌, ◌++◌}
+use Rattle.std.proofs.Common.{sym, subst, rules, ◌≡◌, ◌+◌, List, [], ◌∷◌, ◌++◌}
 use Rattle.reg_world.specs.declared.events.Event.{Event}
 use Rattle.reg_workload.specs.Schedules.{event_text, EventFits}
-use Rattle.reg_text.proofs.Turns.{Gathered, gathers, gathers_one, gathers_none, gathers_more, all_gathered}
+use Rattle.reg_text.proofs.Turns.{Gathered, gathers_one, gathers_none}
 use Rattle.reg_workload.proofs.schedules.read_events.Goals as goal
 
 pub loop-place-preserved : goal.loop-place-preserved

@@ -1,10 +1,9 @@
-use Rattle.std.proofs.Common.{ℕ, ◌≡◌, ◌≢◌, not, Bool, false, ◌≤◌, ◌<◌, true, List, length, Option, None, option_map, string_bytes, refl, sym, ap, subst, ◌∙◌, arith, rules}
+use Rattle.std.proofs.Common.{◌≡◌, ◌≤◌, ◌<◌, true, List, length, None, option_map, string_bytes, refl, sym, ap, subst, ◌∙◌, arith}
 use Rattle.reg_base.specs.declared.limits.TheConstants.{MOST_PROCESSES}
 use Rattle.reg_base.specs.declared.memory.OpId.{OpId}
 use Rattle.reg_base.specs.Shape.{Extent}
 use Rattle.reg_base.specs.Names.{names_fault}
 use Rattle.reg_history.specs.declared.entries.Entry.{Entry}
-use Rattle.reg_history.specs.declared.entries.Point.{Point}
 use Rattle.reg_history.specs.History.{IsHistory}
 use Rattle.reg_history.specs.Reports.{Contents, IsReport, InRange, is_front}
 use Rattle.reg_history.proofs.WithinLimits.{HaveValues, all_fit}
