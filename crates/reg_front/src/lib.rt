@@ -1,6 +1,13 @@
 //! How operations start: the front ends and their laws.
 #![tactic(auto)]
 
+mod ends;
+mod named;
 mod starts;
 
+pub use ends::{FrontEnd, Linear, LocalRead, LocalWrite, RealTime};
+pub use named::Front;
 pub use starts::Start;
+
+#[cfg(test)]
+mod tests;

@@ -1,0 +1,44 @@
+//! What the tables say.
+use crate::{Front, FrontEnd, Linear, LocalRead, LocalWrite, Start};
+use reg_base::Op;
+
+const READ: Op = Op::Read { register: 0 };
+
+const WRITE: Op = Op::Write {
+    register: 0,
+    value: 5,
+};
+
+fn starts<F: FrontEnd>() -> [Start; 4] {
+    [
+        F::start(&WRITE, 0),
+        F::start(&WRITE, 1),
+        F::start(&READ, 0),
+        F::start(&READ, 1),
+    ]
+}
+
+#[test]
+fn the_table(rt: HostRuntime) {
+    assert!(rt; starts::<Linear>() == [Start::Cast, Start::Cast, Start::Cast, Start::Cast]);
+    assert!(rt; starts::<LocalRead>() == [Start::Cast, Start::Cast, Start::Look, Start::Hold]);
+    assert!(rt;
+        starts::<LocalWrite>()
+            == [
+                Start::CastAndAnswer,
+                Start::CastAndAnswer,
+                Start::Look,
+                Start::Hold
+            ]
+    );
+}
+
+#[test]
+fn names_are_fixed(rt: HostRuntime) {
+    assert_eq!(rt; Front::Linear.name(), "linear");
+    assert_eq!(rt; Front::LocalRead.name(), "local-read");
+    assert_eq!(rt; Front::LocalWrite.name(), "local-write");
+    assert!(rt; Front::from_name("local-read") == Some(Front::LocalRead));
+    assert!(rt; Front::from_name("Linear").is_none());
+    assert!(rt; Front::from_name("").is_none());
+}
