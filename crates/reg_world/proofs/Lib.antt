@@ -1,3 +1,4 @@
+pub mod Reading
 pub mod Grounds
 pub mod Traced
 pub mod Facts

@@ -1,11 +1,12 @@
 //! All processes and wires, over a list of events.
 #![tactic(auto)]
 
-pub mod laws;
-
+mod callers;
 mod events;
 mod faults;
+pub mod laws;
 mod order;
+mod witnesses;
 
 pub use events::Event;
 pub use faults::WorldFault;
