@@ -1,3 +1,6 @@
+pub mod Rises
+pub mod Ranking
+pub mod Merging
 pub mod Reading
 pub mod Grounds
 pub mod Traced
