@@ -1,6 +1,7 @@
 pub mod Rises
 pub mod Ranking
 pub mod Merging
+pub mod Tallied
 pub mod Reading
 pub mod Grounds
 pub mod Traced
