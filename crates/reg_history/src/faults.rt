@@ -20,3 +20,12 @@ pub enum CheckFault {
     /// There was no memory to check it.
     OutOfMemory,
 }
+
+/// Why an entry is not taken into a history: the first of these that applies. The history is as it was then.
+#[derive(Clone, Copy, Debug, PartialEq, Eq)]
+pub enum HistoryFault {
+    /// The entry may not come next.
+    OutOfPlace,
+    /// There was no memory for it.
+    OutOfMemory,
+}

@@ -3,8 +3,19 @@
 
 pub mod laws;
 
+mod answers;
+mod check;
 mod entries;
 mod faults;
+mod log;
+mod marks;
+#[cfg(test)]
+mod order_tests;
+mod place;
+mod points;
+mod table;
 
+pub use check::{check_points, check_serial};
 pub use entries::{Entry, Point};
-pub use faults::CheckFault;
+pub use faults::{CheckFault, HistoryFault};
+pub use log::History;

@@ -1,0 +1,42 @@
+-- What is kept of each process beside a history, so that an entry is known to be in place at once.
+use Rattle.std.specs.Prelude.{ℕ, ◌≡◌, ◌+◌, ◌<◌, ◌↔◌, suc, List, length, Option, Some, None}
+use Rattle.reg_base.specs.declared.memory.OpId.{OpId}
+use Rattle.reg_history.specs.declared.entries.Entry.{Entry}
+use Rattle.reg_history.specs.declared.entries.Entry.TheVariants.{Called, Answered}
+use Rattle.reg_base.specs.declared.limits.TheConstants.{MOST_OPERATIONS}
+use Rattle.reg_history.specs.History.{IsAt, IsCalled, IsFinished, WasCalled, IsIdle, IsHistory}
+use Rattle.reg_history.specs.declared.place.Progress.{Progress}
+use Rattle.reg_history.specs.declared.place.Running.{Running}
+
+abbrev pub op_of : ℕ → ℕ → OpId
+op_of p n = record { process = p; number = n }
+
+-- the process runs nothing; or it runs its last operation, and has finished those before
+abbrev pub IsState : List Entry → ℕ → ℕ → Option Running → Type 0
+IsState es p next None = IsIdle es p
+IsState es p next (Some run) = (n : ℕ) × (next ≡ suc n) × IsCalled es (op_of p n) run.at run.op × (¬ IsFinished es (op_of p n)) × ((m : ℕ) → m < n → IsFinished es (op_of p m))
+
+pub record IsProgressOf (es : List Entry) (p : ℕ) (g : Progress) : Type 0 where
+  pub calls : (n : ℕ) → (n < g.next) ↔ WasCalled es (op_of p n)
+  pub state : IsState es p g.next g.running
+
+-- a history, and how far each process is
+pub record IsKept (count registers : ℕ) (es : List Entry) (ps : List Progress) : Type 0 where
+  pub history : IsHistory count registers es
+  pub kept_each : length ps ≡ count
+  pub each : (p : ℕ) (g : Progress) → IsAt ps p g → IsProgressOf es p g
+
+-- the operation that an entry speaks of
+abbrev pub id_of : Entry → OpId
+id_of (Called at id op) = id
+id_of (Answered at id answer) = id
+
+-- the number of a call has a next one
+abbrev pub IsNumbered : Entry → Type 0
+IsNumbered (Called at id op) = id.number < MOST_OPERATIONS
+IsNumbered (Answered at id answer) = Unit {0}
+
+-- how far a process is after one more of its entries
+abbrev pub progress_after : Progress → Entry → Progress
+progress_after before (Called at id op) = record { next = id.number + 1; running = Some (record { at = at; op = op }) }
+progress_after before (Answered at id answer) = record { next = before.next; running = None }
