@@ -1,9 +1,8 @@
 //! Numbered links: each data frame from one process to another carries the next number, and is accepted once, in order.
 #![tactic(auto)]
 
-pub mod laws;
-
 mod inboxes;
+pub mod laws;
 mod outboxes;
 
 pub use inboxes::Inbox;
