@@ -1,3 +1,4 @@
+pub mod Sending
 pub mod Rises
 pub mod Ranking
 pub mod Merging

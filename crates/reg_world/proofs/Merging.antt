@@ -21,7 +21,6 @@ use Rattle.reg_world.proofs.Bodies.{place_in, place_within}
 abbrev pub Under : Keyed → Keyed → Type 0
 Under a b = IsBelow a.key b.key
 
-
 -- the cast at a place from k on is kept, and this is its key
 abbrev pub IsCastOf : (First → Bool) → List First → ℕ → Keyed → Type 0
 IsCastOf kept order k e = (j : ℕ) × (c : First) × IsAt order j c × (kept c ≡ true) × (e ≡ keyed_cast (k + j) c)
@@ -142,14 +141,14 @@ merge_rises kept k reads (c ∷ cs) r =
     rises_append Under (map keyed_read (upto k reads)) (kept_one kept k c ++ rest)
     (rises_map Lower Under keyed_read (upto k reads) (upto_rises k reads r) (λ a b i j h. reads_under a b h))
     (rises_append Under (kept_one kept k c) rest (one_rises kept k c) (merge_rises kept (k + 1) (later k reads) cs (later_rises k reads r))
-      (λ x y i j. let s = in_one kept k c x i in under_rest kept k reads cs x y (λ e l. inl (let z = ap (λ (u : Keyed). u.key.place) s.1 in omega (arith, l, z))) r j))
+    (λ x y i j. let s = in_one kept k c x i in under_rest kept k reads cs x y (λ e l. inl (let z = ap (λ (u : Keyed). u.key.place) s.1 in omega (arith, l, z))) r j))
     (λ x y i j.
-      let s = map_in keyed_read x (upto k reads) i in
-      let low = (in_upto k reads s.0 s.1).1 in
-      elim (in_cases y (kept_one kept k c) rest j) [
-        | inl u ↦ let t = in_one kept k c y u in subst (λ z. Under x z) (sym t.1) (subst (λ z. Under z (keyed_cast k c)) (sym s.2) (read_under_cast s.0 k c low))
-        | inr u ↦ under_rest kept k reads cs x y (λ e l. inl (let z = ap (λ (w : Keyed). w.key.place) s.2 in omega (arith, l, low, z))) r u
-      ])
+    let s = map_in keyed_read x (upto k reads) i in
+    let low = (in_upto k reads s.0 s.1).1 in
+    elim (in_cases y (kept_one kept k c) rest j) [
+      | inl u ↦ let t = in_one kept k c y u in subst (λ z. Under x z) (sym t.1) (subst (λ z. Under z (keyed_cast k c)) (sym s.2) (read_under_cast s.0 k c low))
+      | inr u ↦ under_rest kept k reads cs x y (λ e l. inl (let z = ap (λ (w : Keyed). w.key.place) s.2 in omega (arith, l, low, z))) r u
+    ])
 
 module _ (r : Run) (kept : First → Bool) (reads lost : List Ranked)
     (keeps : (c : First) → IsKept r c ↔ (kept c ≡ true))
@@ -171,11 +170,11 @@ module _ (r : Run) (kept : First → Bool) (reads lost : List Ranked)
       rises_append Under (merge kept 0 reads r.order) tail_of (merge_rises kept 0 reads r.order reads_rise)
       (rises_map (λ (a b : Ranked). (a.rank < b.rank) ⊎ ((a.rank ≡ b.rank) × (a.id.process < b.id.process))) Under (keyed_lost (length r.order)) lost lost_rise (λ a b i j h. under a b h))
       (λ x y i j.
-        let s = map_in (keyed_lost (length r.order)) y lost j in
-        subst (λ z. Under x z) (sym s.2) (elim (in_merge kept 0 reads r.order x i) [
-          | inl q ↦ let from = reads_some q.0 q.1 in subst (λ z. Under z (keyed_lost (length r.order) s.0)) (sym q.2) (read_low q.0 s.0 (let w = within from.0 from.1 in let e = from.3 in omega (arith, w, e)))
-          | inr q ↦ inl (let l = place_within r.order q.0 q.1 q.2 in let z = ap (λ (w : Keyed). w.key.place) q.4 in omega (arith, l, z))
-        ]))
+      let s = map_in (keyed_lost (length r.order)) y lost j in
+      subst (λ z. Under x z) (sym s.2) (elim (in_merge kept 0 reads r.order x i) [
+        | inl q ↦ let from = reads_some q.0 q.1 in subst (λ z. Under z (keyed_lost (length r.order) s.0)) (sym q.2) (read_low q.0 s.0 (let w = within from.0 from.1 in let e = from.3 in omega (arith, w, e)))
+        | inr q ↦ inl (let l = place_within r.order q.0 q.1 q.2 in let z = ap (λ (w : Keyed). w.key.place) q.4 in omega (arith, l, z))
+      ]))
     where
       under : (a b : Ranked) → (a.rank < b.rank) ⊎ ((a.rank ≡ b.rank) × (a.id.process < b.id.process)) → Under (keyed_lost (length r.order) a) (keyed_lost (length r.order) b)
       under a b h = grind arith

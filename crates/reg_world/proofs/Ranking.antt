@@ -62,7 +62,6 @@ up a b e ne = elim (compare a b) [
   | inr q ↦ elim q [ inl s ↦ absurd (ne s) | inr h ↦ absurd (let t = (lower_is b a h).0 in let bad : true ≡ false = sym t ∙ e in cc) ]
 ]
 
-
 tied_self : (x : Ranked) → ties lower x x ≡ true
 tied_self x = rw (same_is x.rank x.rank refl, same_is x.id.process x.id.process refl, same_is x.id.number x.id.number refl)
 

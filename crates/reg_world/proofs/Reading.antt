@@ -40,7 +40,7 @@ merged_step kept reads order before k next n ids ids1 ids2 c lt at I few left gr
     let onward : later k (drop next reads) ≡ drop (next + n) reads = sym left ∙ drop-drop n next reads in
     let rest = merge kept (k + 1) (later k (drop next reads)) (drop (k + 1) order) in
     let split : ids_of (merge kept k (drop next reads) (drop k order)) ≡ ids_read front ++ (ids_of one ++ ids_of rest) =
-        ap (λ l. ids_of (merge kept k (drop next reads) l)) here ∙ (map-append (λ (e : Keyed). e.id) (map keyed_read front) (one ++ rest) ∙ (ap (λ l. l ++ ids_of (one ++ rest)) (ids_reads front) ∙ ap (λ l. ids_read front ++ l) (map-append (λ (e : Keyed). e.id) one rest))) in
+    ap (λ l. ids_of (merge kept k (drop next reads) l)) here ∙ (map-append (λ (e : Keyed). e.id) (map keyed_read front) (one ++ rest) ∙ (ap (λ l. l ++ ids_of (one ++ rest)) (ids_reads front) ∙ ap (λ l. ids_read front ++ l) (map-append (λ (e : Keyed). e.id) one rest))) in
     record {
       within = (let z = length-drop next reads in let w = I.within in omega (arith, few, z, w));
       added =

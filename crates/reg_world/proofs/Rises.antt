@@ -36,9 +36,10 @@ rises_append R (x ∷ xs) ys r s h = (λ y i. elim (in_cases y xs ys i) [ inl k 
 
 pub rises_map : {X Y : Type 0} (R : X → X → Type 0) (S : Y → Y → Type 0) (f : X → Y) (xs : List X) → RisesBy R xs → ((a b : X) → In a xs → In b xs → R a b → S (f a) (f b)) → RisesBy S (map f xs)
 rises_map R S f [] r h = tt
-rises_map {Y = Y} R S f (x ∷ xs) r h =
-    (λ y i. let p = map_in f y xs i in subst (λ z. S (f x) z) (sym p.2) (h x p.0 (inl refl) (inr p.1) (r.0 p.0 p.1)),
-    rises_map R S f xs r.1 (λ a b i j. h a b (inr i) (inr j)))
+rises_map {Y = Y} R S f (x ∷ xs) r h = (
+  λ y i. let p = map_in f y xs i in subst (λ z. S (f x) z) (sym p.2) (h x p.0 (inl refl) (inr p.1) (r.0 p.0 p.1)),
+  rises_map R S f xs r.1 (λ a b i j. h a b (inr i) (inr j)),
+)
 
 not_true : (b : Bool) → (b ≡ true → ⊥) → b ≡ false
 not_true true h = absurd (h refl)

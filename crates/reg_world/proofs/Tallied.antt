@@ -82,11 +82,11 @@ grown_casts start w e (Some m) fresh r =
     let more = casts_in (op_id m.0 s.calls) m.1 (step start s m.1).1.cast in
     rises_append OwnLater w.casts more r (casts_alone (op_id m.0 s.calls) m.1 (step start s m.1).1.cast)
     (λ x y i j same.
-      let id : y.id ≡ op_id m.0 s.calls = one_cast_in (op_id m.0 s.calls) m.1 (step start s m.1).1.cast y j in
-      let p : x.id.process ≡ m.0 = same ∙ ap (λ (z : OpId). z.process) id in
-      let k : y.id.number ≡ s.calls = ap (λ (z : OpId). z.number) id in
-      let l : x.id.number < s.calls = subst (λ q. x.id.number < (w.nodes q).state.calls) p (fresh x i) in
-      omega (arith, k, l))
+    let id : y.id ≡ op_id m.0 s.calls = one_cast_in (op_id m.0 s.calls) m.1 (step start s m.1).1.cast y j in
+    let p : x.id.process ≡ m.0 = same ∙ ap (λ (z : OpId). z.process) id in
+    let k : y.id.number ≡ s.calls = ap (λ (z : OpId). z.number) id in
+    let l : x.id.number < s.calls = subst (λ q. x.id.number < (w.nodes q).state.calls) p (fresh x i) in
+    omega (arith, k, l))
 
 -- what stands in the list of lost casts
 abbrev IsLostOf : Option Stamp → List Tally → ℕ → Ranked → Type 0
@@ -134,11 +134,11 @@ from_rises last k [] h = tt
 from_rises last k (t ∷ ts) h =
     rises_append ById (lost_of last k t) (lost_from last (k + 1) ts) (of_rises last k t (h 0 t refl)) (from_rises last (k + 1) ts (λ p u at. h (suc p) u at))
     (λ x y i j.
-      let m = map_in (ranked_note k) x (filter (is_lost last k t) t.casts) i in
-      let r = in_lost last (k + 1) ts y j in
-      let a : x.id.process ≡ k = ap (λ (z : Ranked). z.id.process) m.2 in
-      let b : y.id.process ≡ (k + 1) + r.0 = ap (λ (z : Ranked). z.id.process) r.6 in
-      inl (omega (arith, a, b)))
+    let m = map_in (ranked_note k) x (filter (is_lost last k t) t.casts) i in
+    let r = in_lost last (k + 1) ts y j in
+    let a : x.id.process ≡ k = ap (λ (z : Ranked). z.id.process) m.2 in
+    let b : y.id.process ≡ (k + 1) + r.0 = ap (λ (z : Ranked). z.id.process) r.6 in
+    inl (omega (arith, a, b)))
 
 by_id_apart : (a b : Ranked) → ById a b → a ≢ b
 by_id_apart a b h e = grind arith
@@ -244,11 +244,14 @@ module _ (start : Op → ℕ → Start) (n registers : ℕ) (laws : KeepsLaws st
   last_at : (c : First) (k : ℕ) → IsAt w.order k c → (l : First) × IsAt w.order (length w.order - 1) l × ((c ≡ l) ⊎ Below c.stamp l.stamp)
   last_at c k at =
       let less = place_within w.order k c at in
-      let l = element w.order (length w.order - 1) (omega (arith, less)) in
-      (l.0, l.1, elim (cases_order k (length w.order - 1)) [
-        | inl e ↦ inl (same_Some c l.0 (sym (subst (λ j. slice_get w.order j ≡ Some c) e at) ∙ l.1))
-        | inr q ↦ elim q [ inl h ↦ inr (ok.rising k (length w.order - 1) c l.0 at l.1 h) | inr h ↦ absurd (omega (arith, less, h)) ]
-      ])
+      let l = element w.order (length w.order - 1) (omega (arith, less)) in (
+        l.0,
+        l.1,
+        elim (cases_order k (length w.order - 1)) [
+          | inl e ↦ inl (same_Some c l.0 (sym (subst (λ j. slice_get w.order j ≡ Some c) e at) ∙ l.1))
+          | inr q ↦ elim q [ inl h ↦ inr (ok.rising k (length w.order - 1) c l.0 at l.1 h) | inr h ↦ absurd (omega (arith, less, h)) ]
+        ],
+      )
     where
       element : (xs : List First) (k : ℕ) → k < length xs → (x : First) × IsAt xs k x
       element [] k h = absurd (omega arith)
@@ -303,7 +306,7 @@ module _ (start : Op → ℕ → Start) (n registers : ℕ) (laws : KeepsLaws st
       let own = λ (c : Cast). c.id.process == p in
       subst (λ (z : Tally). RisesBy (λ (a b : Note). a.number < b.number) z.casts) (sym same)
       (rises_map OwnLater (λ (a b : Note). a.number < b.number) note_of (filter own w.casts) (rises_filter OwnLater own w.casts (casts_rise start n registers laws events))
-        (λ a b i j h. h (eqb-true a.id.process p (in_kept own a w.casts i).1 ∙ sym (eqb-true b.id.process p (in_kept own b w.casts j).1))))
+      (λ a b i j h. h (eqb-true a.id.process p (in_kept own a w.casts i).1 ∙ sym (eqb-true b.id.process p (in_kept own b w.casts j).1))))
 
   reads_apart : RisesBy (λ (a b : Ranked). a ≢ b) (map ranked_read w.reads)
   reads_apart =
@@ -311,11 +314,11 @@ module _ (start : Op → ℕ → Start) (n registers : ℕ) (laws : KeepsLaws st
       let S = replies_right start n registers laws events in
       rises_map (λ (a b : CopyRead). a.id ≢ b.id) (λ (a b : Ranked). a ≢ b) ranked_read w.reads
       (rises_from_places (λ (a b : CopyRead). a.id ≢ b.id) w.reads (λ i j a b at1 at2 lt same.
-        let x = Q.some a (i, at1) in
-        let here : IsAnswered w.history a.id x.0.at x.0.reply.answer = subst (λ z. IsAnswered w.history z x.0.at x.0.reply.answer) x.2 (S.answered x.0 x.1) in
-        let there : IsAnswered w.history b.id x.0.at x.0.reply.answer = subst (λ z. IsAnswered w.history z x.0.at x.0.reply.answer) same here in
-        let l = Q.in_order i j a b x.0.at x.0.at x.0.reply.answer x.0.reply.answer at1 at2 lt here there in
-        omega (arith, l)))
+      let x = Q.some a (i, at1) in
+      let here : IsAnswered w.history a.id x.0.at x.0.reply.answer = subst (λ z. IsAnswered w.history z x.0.at x.0.reply.answer) x.2 (S.answered x.0 x.1) in
+      let there : IsAnswered w.history b.id x.0.at x.0.reply.answer = subst (λ z. IsAnswered w.history z x.0.at x.0.reply.answer) same here in
+      let l = Q.in_order i j a b x.0.at x.0.at x.0.reply.answer x.0.reply.answer at1 at2 lt here there in
+      omega (arith, l)))
       (λ a b i j h e. h (ap (λ (z : Ranked). z.id) e))
 
   module _ (sorted lost : List Ranked) (reads_sorted : IsSortedFrom (map ranked_read w.reads) sorted) (lost_sorted : IsSortedFrom (lost_from (last_stamp w.order) 0 tallies) lost) where
@@ -335,9 +338,15 @@ module _ (start : Op → ℕ → Start) (n registers : ℕ) (laws : KeepsLaws st
         let parts = and_parts (nat_lt m.2.number (finished m.1)) (is_after (last_stamp w.order) (record { time = m.2.time; process = p })) test in
         let is : q ≡ ranked_note p m.2 = m.6 ∙ ap (λ j. ranked_note j m.2) zero_p in
         let fin : IsFinished w.history d.0.id = subst (IsFinished w.history) (sym d.2) (done_finished (op_id p m.2.number) (sym (done_of p m.1 m.2.number m.3) ∙ parts.0)) in
-        let stamp : record { time = m.2.time; process = p } ≡ d.0.stamp = stamps (record { time = m.2.time; process = p }) d.0.stamp (sym d.3) (sym d.4) in
-        (d.0, d.1, d.2 ∙ sym (ap (λ (z : Ranked). z.id) is), d.3 ∙ sym (ap (λ (z : Ranked). z.rank) is), d.4 ∙ sym (ap (λ (z : Ranked). z.id.process) is),
-          after_waits d.0 d.1 (subst (λ z. is_after (last_stamp w.order) z ≡ true) stamp parts.1), fin)
+        let stamp : record { time = m.2.time; process = p } ≡ d.0.stamp = stamps (record { time = m.2.time; process = p }) d.0.stamp (sym d.3) (sym d.4) in (
+          d.0,
+          d.1,
+          d.2 ∙ sym (ap (λ (z : Ranked). z.id) is),
+          d.3 ∙ sym (ap (λ (z : Ranked). z.rank) is),
+          d.4 ∙ sym (ap (λ (z : Ranked). z.id.process) is),
+          after_waits d.0 d.1 (subst (λ z. is_after (last_stamp w.order) z ≡ true) stamp parts.1),
+          fin,
+        )
       where
         stamps : (a b : Stamp) → a.time ≡ b.time → a.process ≡ b.process → a ≡ b
         stamps a b t p = λ i. record { time = t i; process = p i }
@@ -350,11 +359,13 @@ module _ (start : Op → ℕ → Start) (n registers : ℕ) (laws : KeepsLaws st
         let zero_p : 0 + p ≡ p = omega arith in
         let after : is_after (last_stamp w.order) (record { time = d.stamp.time; process = p }) ≡ true = subst (λ z. is_after (last_stamp w.order) (record { time = d.stamp.time; process = z }) ≡ true) own.1 (waits_after d i waits) in
         let test : is_lost (last_stamp w.order) (0 + p) t (note_of d) ≡ true =
-            subst (λ j. is_lost (last_stamp w.order) j t (note_of d) ≡ true) (sym zero_p)
-            (and_from (nat_lt d.id.number (finished t)) (is_after (last_stamp w.order) (record { time = d.stamp.time; process = p })) (done_of p t d.id.number (T.each p own.0) ∙ finished_done d.id fin) after) in
-        let there = lost_in (last_stamp w.order) 0 tallies p t (note_of d) (T.each p own.0) (cast_note d i) test in
-        (in_sorted (lost_from (last_stamp w.order) 0 tallies) lost lost_sorted (record { rank = d.stamp.time; id = d.id })
-          (subst (λ j. In (ranked_note j (note_of d)) (lost_from (last_stamp w.order) 0 tallies)) zero_p there), own.1)
+        subst (λ j. is_lost (last_stamp w.order) j t (note_of d) ≡ true) (sym zero_p)
+        (and_from (nat_lt d.id.number (finished t)) (is_after (last_stamp w.order) (record { time = d.stamp.time; process = p })) (done_of p t d.id.number (T.each p own.0) ∙ finished_done d.id fin) after) in
+        let there = lost_in (last_stamp w.order) 0 tallies p t (note_of d) (T.each p own.0) (cast_note d i) test in (
+          in_sorted (lost_from (last_stamp w.order) 0 tallies) lost lost_sorted (record { rank = d.stamp.time; id = d.id })
+              (subst (λ j. In (ranked_note j (note_of d)) (lost_from (last_stamp w.order) 0 tallies)) zero_p there),
+          own.1,
+        )
 
     lost_rise : RisesBy (λ (a b : Ranked). (a.rank < b.rank) ⊎ ((a.rank ≡ b.rank) × (a.id.process < b.id.process))) lost
     lost_rise =
@@ -374,10 +385,14 @@ module _ (start : Op → ℕ → Start) (n registers : ℕ) (laws : KeepsLaws st
             absurd (omega (arith, h, number))
 
     pub keyed_is : IsWitness r (map (λ e. e.id) (all_keyed (is_kept tallies) sorted w.order lost))
-    keyed_is = (all_keyed (is_kept tallies) sorted w.order lost, by_keys r (is_kept tallies) sorted lost keeps reads_some
-        (λ x i. in_sorted (map ranked_read w.reads) sorted reads_sorted (ranked_read x) (in_map ranked_read x w.reads (at_in x w.reads i)))
-        (sorted_rises (map ranked_read w.reads) sorted reads_sorted reads_apart)
-        (λ x i. (ok.copied x i).within) lost_some lost_all lost_rise, refl)
+    keyed_is = (
+      all_keyed (is_kept tallies) sorted w.order lost,
+      by_keys r (is_kept tallies) sorted lost keeps reads_some
+          (λ x i. in_sorted (map ranked_read w.reads) sorted reads_sorted (ranked_read x) (in_map ranked_read x w.reads (at_in x w.reads i)))
+          (sorted_rises (map ranked_read w.reads) sorted reads_sorted reads_apart)
+          (λ x i. (ok.copied x i).within) lost_some lost_all lost_rise,
+      refl,
+    )
 
   pub witness_is : (ids : List OpId) → IsMerged w.order w.reads tallies ids → IsWitness r ids
   witness_is ids M = subst (IsWitness r) (sym M.merged) (keyed_is M.sorted M.lost M.reads_sorted M.lost_sorted)

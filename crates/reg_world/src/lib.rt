@@ -6,6 +6,7 @@ mod events;
 mod faults;
 pub mod laws;
 mod order;
+mod stations;
 mod witnesses;
 
 pub use events::Event;

@@ -147,7 +147,11 @@ fn push_reads<A: Allocator + Copy>(
 }
 
 /// Adds the cast, if it is kept.
-fn push_kept<A: Allocator + Copy>(ids: &mut Vec<OpId, A>, callers: &[Caller<A>], first: &First) -> Result<(), AllocError>
+fn push_kept<A: Allocator + Copy>(
+    ids: &mut Vec<OpId, A>,
+    callers: &[Caller<A>],
+    first: &First,
+) -> Result<(), AllocError>
     ensures { OnOk result (ids.new.items ≡ ids.old.items ++ (if is_kept_of callers.now first.now then first.now.id ∷ [] else [])) }
 {
     if is_kept(callers, first) {

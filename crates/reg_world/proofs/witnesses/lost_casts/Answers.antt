@@ -12,7 +12,7 @@ loop-process-preserved g c =
 pub returns : goal.returns
 returns g c =
     let same : c.loop-process.lost.items ≡ lost_from (last_stamp c.args.order.now) 0 c.args.callers.now =
-        lost_all c.last_stamp-last.result c.args.callers.now c.loop-process.process _ c.loop-process.lost.items (omega arith) c.loop-process.invariant ∙ ap (λ l. lost_from l 0 c.args.callers.now) c.last_stamp-last.ensures in
+    lost_all c.last_stamp-last.result c.args.callers.now c.loop-process.process _ c.loop-process.lost.items (omega arith) c.loop-process.invariant ∙ ap (λ l. lost_from l 0 c.args.callers.now) c.last_stamp-last.ensures in
     record {
       sorted = c.in_ok-sort.ensures.sorted;
       stable = subst (λ (l : List Ranked). IsStable ranked_cmp l c.sort.new.self.items) same c.in_ok-sort.ensures.stable;

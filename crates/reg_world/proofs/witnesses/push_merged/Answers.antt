@@ -13,5 +13,5 @@ returns g c =
     let reads = c.args.reads.now in
     let next = c.loop-place.next in
     let all : c.loop-read.ids.items ≡ c.loop-place.ids.items ++ ids_read (drop next reads) =
-        c.loop-read.invariant ∙ ap (λ l. c.loop-place.ids.items ++ ids_read l) (take_all c.loop-read.read-index (take (length reads - next) (drop next reads)) (omega arith) ∙ take_rest reads next) in
+    c.loop-read.invariant ∙ ap (λ l. c.loop-place.ids.items ++ ids_read l) (take_all c.loop-read.read-index (take (length reads - next) (drop next reads)) (omega arith) ∙ take_rest reads next) in
     merged_all (is_kept c.args.callers.now) reads c.args.order.now _ c.loop-place.place next c.loop-place.ids.items c.loop-read.ids.items (omega arith) c.loop-place.invariant all

@@ -12,9 +12,9 @@ returns g c =
     let lost = c.in_ok-lost.lost.items in
     let ids = c.push_merged.new.ids.items in
     let first : ids ≡ ids_of (merge kept 0 reads order) =
-        c.in_ok-push_merged.ensures ∙ (ap (λ l. l ++ ids_of (merge kept 0 c.deref.result.now order)) c.new-ids.ensures.items ∙ ap (λ l. ids_of (merge kept 0 l order)) c.deref.ensures.value) in
+    c.in_ok-push_merged.ensures ∙ (ap (λ l. l ++ ids_of (merge kept 0 c.deref.result.now order)) c.new-ids.ensures.items ∙ ap (λ l. ids_of (merge kept 0 l order)) c.deref.ensures.value) in
     let rest : c.loop-cast.ids.items ≡ ids ++ ids_read lost =
-        c.loop-cast.invariant ∙ ap (λ l. ids ++ ids_read l) (take_all c.loop-cast.cast-index c.deref-cast-items.result.now c.loop-cast-test.false ∙ c.deref-cast-items.ensures.value) in
+    c.loop-cast.invariant ∙ ap (λ l. ids ++ ids_read l) (take_all c.loop-cast.cast-index c.deref-cast-items.result.now c.loop-cast-test.false ∙ c.deref-cast-items.ensures.value) in
     record {
       sorted = reads;
       lost = lost;
