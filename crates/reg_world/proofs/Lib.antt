@@ -1,3 +1,5 @@
+pub mod Noted
+pub mod Entering
 pub mod Sending
 pub mod Rises
 pub mod Ranking

@@ -73,7 +73,7 @@ pub(crate) fn last_stamp(order: &[First]) -> Option<Stamp>
 }
 
 /// Whether the stamp comes after the last one that was delivered.
-fn is_after(last: Option<Stamp>, stamp: Stamp) -> bool
+pub(crate) fn is_after(last: Option<Stamp>, stamp: Stamp) -> bool
     ensures { result ≡ is_after_of last stamp }
 {
     match last {
