@@ -1,5 +1,6 @@
 pub mod Noted
 pub mod Entering
+pub mod Growing
 pub mod Sending
 pub mod Rises
 pub mod Ranking

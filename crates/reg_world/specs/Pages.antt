@@ -95,6 +95,12 @@ entered b e p step runs cast ds reply = record {
   tallies = tallies_after b.tallies p step runs cast;
 }
 
+-- a call has a number left
+abbrev pub CallFits : Step → ℕ → Type 0
+CallFits (Call op) calls = calls < MOST_OPERATIONS
+CallFits (Take from frame) calls = Unit {0}
+CallFits Tick calls = Unit {0}
+
 -- no two casts of a process have one time
 abbrev pub TimesDiffer : List Note → Type 0
 TimesDiffer notes = (i j : ℕ) (a b : Note) → IsAt notes i a → IsAt notes j b → a.time ≡ b.time → i ≡ j
@@ -103,8 +109,7 @@ TimesDiffer notes = (i j : ℕ) (a b : Note) → IsAt notes i a → IsAt notes j
 pub record MayEnter (b : Pages) (p : ℕ) (step : Step) (runs : Bool) (cast : Option Stamp) (ds : List Delivered) (reply : Option Reply) : Type 0 where
   pub few : length b.accepted < MOST_EVENTS
   pub process : p < length b.tallies
-  pub calls : (tally_at b.tallies p).calls < MOST_OPERATIONS + 1
-  pub some_call : 0 < calls_after step (tally_at b.tallies p).calls
+  pub calls : CallFits step (tally_at b.tallies p).calls
   pub history : IsHistory b.shape.processes b.shape.registers (entries_after b.entries (length b.accepted) p (tally_at b.tallies p) step reply)
   pub casters : (d : Delivered) → In d ds → d.stamp.process < length b.tallies
   pub once : (q : ℕ) (t : Tally) → IsAt (tallies_after b.tallies p step runs cast) q t → TimesDiffer t.casts

@@ -1,14 +1,13 @@
 //! What a world tells of its run.
 ghost use Rattle.std.specs.Prelude.{◌≡◌, ◌<◌, ◌≤◌, ◌+◌, ◌-◌, not, ◌++◌, ◌∷◌, [], if◌then◌else◌, ℕ, length, replicate, IfOk, OnOk, MatchResult, MatchResult, vec_len, vec_capacity};
 ghost use Rattle.std.specs.List.{filter};
-ghost use Rattle.reg_base.specs.declared.limits.TheConstants.{MOST_OPERATIONS};
 ghost use Rattle.reg_base.specs.declared.stamps.Delivered.{Delivered};
 ghost use Rattle.reg_base.specs.Order.{In};
 ghost use Rattle.reg_history.specs.History.{IsAt, IsHistory};
 ghost use Rattle.reg_world.specs.World.{op_id, calls_in, answers_in};
 ghost use Rattle.reg_world.specs.Tallies.{Tally, no_calls};
 ghost use Rattle.reg_world.specs.Witnesses.{is_after as is_after_of, last_stamp as last_stamp_of};
-ghost use Rattle.reg_world.specs.Pages.{entered, copied_in, tallies_after, tally_after, calls_after, last_casts, first_in, firsts_in, tally_at, number_at, TimesDiffer, MayEnter};
+ghost use Rattle.reg_world.specs.Pages.{entered, copied_in, tallies_after, tally_after, calls_after, last_casts, first_in, firsts_in, tally_at, number_at, TimesDiffer, CallFits, MayEnter};
 
 use crate::callers::Caller;
 use crate::events::Event;
@@ -94,8 +93,7 @@ fn enter_caller<A: Allocator + Copy>(
     cast: Option<Stamp>,
 ) -> Result<StepIds, AllocError>
     requires process { process < length callers.old.items }
-    requires calls { (tally_at callers.old.items process).calls < MOST_OPERATIONS + 1 }
-    requires some_call { 0 < calls_after step.now (tally_at callers.old.items process).calls }
+    requires calls { CallFits step.now (tally_at callers.old.items process).calls }
     ensures callers { MatchResult result (λ _. callers.new.items ≡ tallies_after callers.old.items process step.now runs cast) (λ _. callers.new.items ≡ callers.old.items) }
     ensures called { IfOk result (λ ids. ids.called ≡ op_id process (tally_at callers.old.items process).calls) }
     ensures answered { IfOk result (λ ids. ids.answered ≡ op_id process (calls_after step.now (tally_at callers.old.items process).calls - 1)) }
@@ -106,7 +104,7 @@ fn enter_caller<A: Allocator + Copy>(
     caller.enter(step, runs, cast)?;
     let answered = OpId {
         process,
-        number: caller.calls() - 1,
+        number: caller.calls().saturating_sub(1),
     };
     Ok(StepIds {
         called: OpId { process, number },

@@ -1,7 +1,6 @@
 //! What is kept of the operations that a process called.
 ghost use Rattle.std.specs.Prelude.{◌≡◌, ◌<◌, ◌+◌, [], false, MatchResult};
-ghost use Rattle.reg_base.specs.declared.limits.TheConstants.{MOST_OPERATIONS};
-ghost use Rattle.reg_world.specs.Pages.{tally_after, last_casts as last_casts_of, number_at, TimesDiffer};
+ghost use Rattle.reg_world.specs.Pages.{tally_after, last_casts as last_casts_of, number_at, TimesDiffer, CallFits};
 ghost use Rattle.reg_world.specs.Tallies.{finished, is_done as is_done_of};
 
 use reg_base::{OpId, Stamp};
@@ -79,7 +78,7 @@ impl<A: Allocator + Copy> Caller<A> {
         runs: bool,
         cast: Option<Stamp>,
     ) -> Result<(), AllocError>
-        requires { self.old.calls < MOST_OPERATIONS + 1 }
+        requires { CallFits step.now self.old.calls }
         ensures { MatchResult result (λ _. self.new ≡ tally_after self.old step.now runs cast) (λ _. self.new ≡ self.old) }
     {
         if let Step::Call { op: _ } = *step {
