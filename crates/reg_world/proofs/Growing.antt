@@ -62,8 +62,8 @@ filter_append f [] ys = refl
 filter_append f (x ∷ xs) ys =
     ap (λ l. cond (f x) (x ∷ l) l) (filter_append f xs ys)
     ∙ cond_both (f x) (x ∷ filter f xs) (filter f xs) (λ l. cond (f x) (x ∷ (filter f xs ++ filter f ys)) (filter f xs ++ filter f ys) ≡ l ++ filter f ys)
-      (λ e. ap (λ b. cond b (x ∷ (filter f xs ++ filter f ys)) (filter f xs ++ filter f ys)) e)
-      (λ e. ap (λ b. cond b (x ∷ (filter f xs ++ filter f ys)) (filter f xs ++ filter f ys)) e)
+    (λ e. ap (λ b. cond b (x ∷ (filter f xs ++ filter f ys)) (filter f xs ++ filter f ys)) e)
+    (λ e. ap (λ b. cond b (x ∷ (filter f xs ++ filter f ys)) (filter f xs ++ filter f ys)) e)
 
 pub filter_same : {X : Type 0} (f g : X → Bool) (xs : List X) → ((x : X) → In x xs → f x ≡ g x) → filter f xs ≡ filter g xs
 filter_same f g [] h = refl
@@ -131,14 +131,14 @@ id_by_notes (c ∷ cs) stamp own_stamps =
           let test : (c.stamp.process == stamp.process) ≡ true = eq-eqb c.stamp.process stamp.process (same ∙ e) in
           let kept : notes_of stamp.process (c ∷ cs) ≡ note_of c ∷ notes = ap (λ b. map note_of (cond b (c ∷ filter (own stamp.process) cs) (filter (own stamp.process) cs))) (eq-eqb c.id.process stamp.process e) in
           cond_both (c.stamp.time == stamp.time) c.id.number (number_at notes stamp.time) (λ z. cond ((c.stamp.time == stamp.time) && (c.stamp.process == stamp.process)) c.id (id_of cs stamp) ≡ op_id stamp.process z)
-            (λ t. ap (λ b. cond b c.id (id_of cs stamp)) (and_from _ _ t test) ∙ (λ i. record { process = e i; number = c.id.number }))
-            (λ t. ap (λ b. cond (b && (c.stamp.process == stamp.process)) c.id (id_of cs stamp)) t ∙ rest)
+          (λ t. ap (λ b. cond b c.id (id_of cs stamp)) (and_from _ _ t test) ∙ (λ i. record { process = e i; number = c.id.number }))
+          (λ t. ap (λ b. cond (b && (c.stamp.process == stamp.process)) c.id (id_of cs stamp)) t ∙ rest)
           ∙ ap (λ l. op_id stamp.process (number_at l stamp.time)) (sym kept)
       | inr ne ↦
           let kept : notes_of stamp.process (c ∷ cs) ≡ notes = cond_both (c.id.process == stamp.process) (c ∷ filter (own stamp.process) cs) (filter (own stamp.process) cs) (λ l. map note_of l ≡ notes) (λ t. absurd (ne (eqb-true c.id.process stamp.process t))) (λ t. refl) in
           cond_both ((c.stamp.time == stamp.time) && (c.stamp.process == stamp.process)) c.id (id_of cs stamp) (λ z. z ≡ op_id stamp.process (number_at notes stamp.time))
-            (λ t. absurd (ne (sym same ∙ eqb-true c.stamp.process stamp.process (and_parts _ _ t).1)))
-            (λ t. rest)
+          (λ t. absurd (ne (sym same ∙ eqb-true c.stamp.process stamp.process (and_parts _ _ t).1)))
+          (λ t. rest)
           ∙ ap (λ l. op_id stamp.process (number_at l stamp.time)) (sym kept)
     ]
 
@@ -226,14 +226,15 @@ module _ (start : Op → ℕ → Start) (n registers : ℕ) (laws : KeepsLaws st
 
         weaken : (xs : List Cast) → RisesBy OwnLater xs → ((c : Cast) → In c xs → In c v.casts × (own q c ≡ true)) → RisesBy (λ (a b : Cast). (a.id.number < b.id.number) × (a.stamp.time < b.stamp.time)) xs
         weaken [] r h = tt
-        weaken (x ∷ xs) r h =
-            (λ y i.
+        weaken (x ∷ xs) r h = (
+          λ y i.
               let hx = h x (inl refl) in
               let hy = h y (inr i) in
               let same : x.id.process ≡ y.id.process = eqb-true x.id.process q hx.1 ∙ sym (eqb-true y.id.process q hy.1) in
               let less = r.0 y i same in
               (less, times x.stamp y.stamp (stamps_now x hx.0 ∙ (same ∙ sym (stamps_now y hy.0))) (later_now x y hx.0 hy.0 same less)),
-            weaken xs r.1 (λ c i. h c (inr i)))
+          weaken xs r.1 (λ c i. h c (inr i)),
+        )
 
     notes_rise : (q : ℕ) → RisesBy (λ (a b : Note). (a.number < b.number) × (a.time < b.time)) (notes_of q v.casts)
     notes_rise q = rises_map (λ (a b : Cast). (a.id.number < b.id.number) × (a.stamp.time < b.stamp.time)) (λ (a b : Note). (a.number < b.number) × (a.time < b.time)) note_of (filter (own q) v.casts) (own_rise q) (λ a b i j h. h)
@@ -355,7 +356,7 @@ module _ (start : Op → ℕ → Start) (n registers : ℕ) (laws : KeepsLaws st
             let place = in_at (first_of v.casts (length w.accepted) c) (map (first_of v.casts (length w.accepted)) (unseen known_casts r.1.delivered)) there in
             let here = place_within w.order (length w.order - 1) f at in
             let b = rising_now (length w.order - 1) (length w.order + place.0) f (first_of v.casts (length w.accepted) c) (place_front w.order (map (first_of v.casts (length w.accepted)) (unseen known_casts r.1.delivered)) (length w.order - 1) f at)
-                (at_append w.order (map (first_of v.casts (length w.accepted)) (unseen known_casts r.1.delivered)) place.0 (first_of v.casts (length w.accepted) c) place.1) (omega (arith, here)) in
+            (at_append w.order (map (first_of v.casts (length w.accepted)) (unseen known_casts r.1.delivered)) place.0 (first_of v.casts (length w.accepted) c) place.1) (omega (arith, here)) in
             (Decides-below f.stamp c.stamp).1 b
 
     after_new : (c : Delivered) → is_after (last_stamp w.order) c.stamp ≡ true → is_new c ≡ true
@@ -400,7 +401,7 @@ module _ (start : Op → ℕ → Start) (n registers : ℕ) (laws : KeepsLaws st
         let same : unseen known_casts r.1.delivered ≡ filter after r.1.delivered = filter_same is_new after r.1.delivered (λ c i. same_bool (is_new c) (after c) (new_after c i) (after_new c)) in
         ap (map (first_of v.casts (length w.accepted))) same
         ∙ map_same (first_of v.casts (length w.accepted)) (first_in ts (length w.accepted)) (filter after r.1.delivered) (λ d i.
-          let process : d.stamp.process < n = casters_now d (in_kept after d r.1.delivered i).0 in
-          let id : id_of v.casts d.stamp ≡ op_id d.stamp.process (number_at (tally_at ts d.stamp.process).casts d.stamp.time) =
-              id_by_notes v.casts d.stamp stamps_now ∙ ap (λ (t : Tally). op_id d.stamp.process (number_at t.casts d.stamp.time)) (sym (at_or ts d.stamp.process (tally_of v d.stamp.process) no_calls (tallies_now.each d.stamp.process process))) in
-          λ k. record { stamp = d.stamp; id = id k; op = d.op; at = length w.accepted })
+        let process : d.stamp.process < n = casters_now d (in_kept after d r.1.delivered i).0 in
+        let id : id_of v.casts d.stamp ≡ op_id d.stamp.process (number_at (tally_at ts d.stamp.process).casts d.stamp.time) =
+        id_by_notes v.casts d.stamp stamps_now ∙ ap (λ (t : Tally). op_id d.stamp.process (number_at t.casts d.stamp.time)) (sym (at_or ts d.stamp.process (tally_of v d.stamp.process) no_calls (tallies_now.each d.stamp.process process))) in
+        λ k. record { stamp = d.stamp; id = id k; op = d.op; at = length w.accepted })

@@ -58,6 +58,13 @@ impl<A: Allocator + Copy> Caller<A> {
         self.calls
     }
 
+    /// Whether the last of them still runs.
+    pub(crate) fn runs(&self) -> bool
+        ensures { result ≡ self.now.runs }
+    {
+        self.runs
+    }
+
     /// How many of its operations are finished: all, or all but the last.
     pub(crate) fn finished(&self) -> u32
         ensures { result ≡ finished self.now }

@@ -5,6 +5,7 @@ mod books;
 mod callers;
 mod events;
 mod faults;
+mod finding;
 pub mod laws;
 mod order;
 mod stations;

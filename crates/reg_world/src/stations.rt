@@ -119,12 +119,14 @@ impl<F: FrontEnd, A: Allocator + Copy> Station<F, A> {
         &self.process
     }
 
-    /// All frames ever put for a process.
+    /// All frames ever put for a process, none where there is no such process.
     pub(crate) fn wire(&self, to: u8) -> &[Frame]
-        requires { to < length self.now.wires }
         ensures { result.now ≡ slice_index_or self.now.wires to [] }
     {
-        self.wires[usize::from(to)].frames()
+        match self.wires.get(usize::from(to)) {
+            Some(wire) => wire.frames(),
+            None => &[],
+        }
     }
 
     /// Makes a step that no fault applies to, and puts its frames on their wires. It fails for want of memory alone;
