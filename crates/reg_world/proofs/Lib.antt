@@ -2,6 +2,7 @@ pub mod Noted
 pub mod Entering
 pub mod Growing
 pub mod Found
+pub mod Acting
 pub mod Sending
 pub mod Rises
 pub mod Ranking
