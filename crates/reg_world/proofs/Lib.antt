@@ -3,6 +3,8 @@ pub mod Entering
 pub mod Growing
 pub mod Found
 pub mod Acting
+pub mod Telling
+pub mod Onward
 pub mod Sending
 pub mod Rises
 pub mod Ranking
