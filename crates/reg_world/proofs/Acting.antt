@@ -118,17 +118,17 @@ module _ (start : Op → ℕ → Start) (n registers : ℕ) (laws : KeepsLaws st
   no_step_fault (Call q op) p st e =
       cond_both (nat_lt q n && (not (is_some (w.nodes q).state.running) && (nat_lt (register_of op) registers && nat_lt (w.nodes q).state.calls MOST_OPERATIONS))) (Some (q, CallStep op)) None (λ o. o ≡ Some (p, st) → step_fault start (w.nodes p).state st ≡ None)
       (λ t is.
-        let a = and_parts _ _ t in
-        let b = and_parts _ _ a.1 in
-        let c = and_parts _ _ b.1 in
-        let same = same_Some (q, CallStep op) (p, st) is in
-        let l = ltb-true q n a.0 in
-        let S = sound q l in
-        let s = (w.nodes q).state in
-        let fits = (none_refused start n registers laws events).call_fits q l in
-        let early = no_early s op s.running (idle s.running b.0) (let x = ltb-true (register_of op) registers c.0 in let y = S.copy in omega (arith, x, y)) (ltb-true s.calls MOST_OPERATIONS c.1) in
-        let none : call_fault start s op ≡ None = ap (λ o. first_of o (full_at s.clock (start op (unsettled s)))) early ∙ no_full s.clock (start op (unsettled s)) fits in
-        subst (λ (z : ℕ × Step). step_fault start (w.nodes z.0).state z.1 ≡ None) same none)
+      let a = and_parts _ _ t in
+      let b = and_parts _ _ a.1 in
+      let c = and_parts _ _ b.1 in
+      let same = same_Some (q, CallStep op) (p, st) is in
+      let l = ltb-true q n a.0 in
+      let S = sound q l in
+      let s = (w.nodes q).state in
+      let fits = (none_refused start n registers laws events).call_fits q l in
+      let early = no_early s op s.running (idle s.running b.0) (let x = ltb-true (register_of op) registers c.0 in let y = S.copy in omega (arith, x, y)) (ltb-true s.calls MOST_OPERATIONS c.1) in
+      let none : call_fault start s op ≡ None = ap (λ o. first_of o (full_at s.clock (start op (unsettled s)))) early ∙ no_full s.clock (start op (unsettled s)) fits in
+      subst (λ (z : ℕ × Step). step_fault start (w.nodes z.0).state z.1 ≡ None) same none)
       (λ t is. absurd (none-some (p, st) is))
       e
     where
@@ -138,18 +138,18 @@ module _ (start : Op → ℕ → Start) (n registers : ℕ) (laws : KeepsLaws st
   no_step_fault (Take from to number) p st e =
       cond_both (nat_lt from n && (nat_lt to n && not (from == to))) (take_step from to (slice_get ((w.nodes from).wire to) number)) None (λ o. o ≡ Some (p, st) → step_fault start (w.nodes p).state st ≡ None)
       (λ t is.
-        let a = and_parts _ _ t in
-        let b = and_parts _ _ a.1 in
-        let told = take_told from to (slice_get ((w.nodes from).wire to) number) p st is in
-        let lf = ltb-true from n a.0 in
-        let lt = ltb-true to n b.0 in
-        let ne = λ (q : from ≡ to). apart from to b.1 q in
-        let N = none_refused start n registers laws events in
-        let here = place_in ((w.nodes from).wire to) number told.0 told.1 in
-        let s = (w.nodes to).state in
-        let frame = no_frame n registers to from s told.0 (sound to lt) (λ i body q. N.in_range from to i body lf lt ne (subst (λ z. In z ((w.nodes from).wire to)) q here)) (N.not_ahead from to told.0 lf lt ne here) (N.not_stale from to told.0 lf lt ne here) (N.not_full from to told.0 lf lt ne here) in
-        let none : take_fault s from told.0 ≡ None = no_take n registers to from s told.0 (sound to lt) lf ne frame in
-        subst (λ z. step_fault start (w.nodes z).state st ≡ None) (sym told.2) (subst (λ z. step_fault start s z ≡ None) (sym told.3) none))
+      let a = and_parts _ _ t in
+      let b = and_parts _ _ a.1 in
+      let told = take_told from to (slice_get ((w.nodes from).wire to) number) p st is in
+      let lf = ltb-true from n a.0 in
+      let lt = ltb-true to n b.0 in
+      let ne = λ (q : from ≡ to). apart from to b.1 q in
+      let N = none_refused start n registers laws events in
+      let here = place_in ((w.nodes from).wire to) number told.0 told.1 in
+      let s = (w.nodes to).state in
+      let frame = no_frame n registers to from s told.0 (sound to lt) (λ i body q. N.in_range from to i body lf lt ne (subst (λ z. In z ((w.nodes from).wire to)) q here)) (N.not_ahead from to told.0 lf lt ne here) (N.not_stale from to told.0 lf lt ne here) (N.not_full from to told.0 lf lt ne here) in
+      let none : take_fault s from told.0 ≡ None = no_take n registers to from s told.0 (sound to lt) lf ne frame in
+      subst (λ z. step_fault start (w.nodes z).state st ≡ None) (sym told.2) (subst (λ z. step_fault start s z ≡ None) (sym told.3) none))
       (λ t is. absurd (none-some (p, st) is))
       e
     where

@@ -5,6 +5,8 @@ pub mod Found
 pub mod Acting
 pub mod Telling
 pub mod Onward
+pub mod Stepping
+pub mod Beginning
 pub mod Sending
 pub mod Rises
 pub mod Ranking

@@ -112,10 +112,10 @@ module _ (start : Op → ℕ → Start) (laws : KeepsLaws start) (b : Pages) (T 
     ap (λ (l : List Event). l ++ e ∷ []) T.accepted,
     entries_are,
     ap (λ (l : List First). w.order ++ l) (firsts_now start n registers laws b.accepted e p st move b.tallies T.tallies here)
-      ∙ (ap (λ (l : List First). l ++ firsts_in (tallies_after b.tallies p st (is_some r.0.running) r.1.cast) (length w.accepted) (last_stamp l) r.1.delivered) T.order
-      ∙ ap (λ k. b.order ++ firsts_in (tallies_after b.tallies p st (is_some r.0.running) r.1.cast) k (last_stamp b.order) r.1.delivered) (sym count)),
+        ∙ (ap (λ (l : List First). l ++ firsts_in (tallies_after b.tallies p st (is_some r.0.running) r.1.cast) (length w.accepted) (last_stamp l) r.1.delivered) T.order
+        ∙ ap (λ k. b.order ++ firsts_in (tallies_after b.tallies p st (is_some r.0.running) r.1.cast) k (last_stamp b.order) r.1.delivered) (sym count)),
     ap (λ (l : List CopyRead). w.reads ++ l) (reads_now start n registers laws b.accepted e p st move b.tallies T.tallies here r.1.reply)
-      ∙ ap (λ (l : List CopyRead). l ++ read_in (tally_after (tally_at b.tallies p) st (is_some r.0.running) r.1.cast) p r.1.reply) T.reads,
+        ∙ ap (λ (l : List CopyRead). l ++ read_in (tally_after (tally_at b.tallies p) st (is_some r.0.running) r.1.cast) p r.1.reply) T.reads,
     tallies_now start n registers laws b.accepted e p st move b.tallies T.tallies here,
   )
 
@@ -132,7 +132,7 @@ module _ (start : Op → ℕ → Start) (laws : KeepsLaws start) (b : Pages) (T 
       let node = node_here start n registers laws b.accepted e p st move in
       let size : length s.peers ≡ n = (sound start n registers laws b.accepted p here).size in
       let wires : new.wires ≡ listed (v.nodes p).wire n =
-          B.wires ∙ (ap (λ k. sent (puts r.1.frames k) (listed (w.nodes p).wire n)) size ∙ (sent_all (w.nodes p).wire r.1.frames n ∙ ap (λ (z : Node). listed z.wire n) (sym node))) in
+      B.wires ∙ (ap (λ k. sent (puts r.1.frames k) (listed (w.nodes p).wire n)) size ∙ (sent_all (w.nodes p).wire r.1.frames n ∙ ap (λ (z : Node). listed z.wire n) (sym node))) in
       let process : new.process ≡ record { failed = false; state = (v.nodes p).state } = B.process ∙ ap (λ (z : Node). record { failed = false; state = z.state }) (sym node) in
       (λ i. record { process = process i; wires = wires i }, B.cast, B.delivered, B.reply)
 

@@ -114,20 +114,20 @@ module _ (start : Op → ℕ → Start) (b : Pages) (stations : List Standing) (
       let o = slice_get ((w.nodes from).wire to) number in
       let it = take_found (nat_lt from n) (nat_lt to n) (from == to) o from to in
       let same : cond (nat_lt from n) (cond (nat_lt to n) (cond (from == to) (Err NoFrame) (frame_or o)) (Err NoProcess)) (Err NoProcess) ≡ frame_in stations from to number =
-          ap (λ m. cond (nat_lt from m) (cond (nat_lt to m) (cond (from == to) (Err NoFrame) (frame_or o)) (Err NoProcess)) (Err NoProcess)) (sym size)
-          ∙ elim (cases_lt from n) [
-            | inl lf ↦ elim (cases_lt to n) [
-              | inl lt ↦ ap (λ l. cond (nat_lt from (length stations)) (cond (nat_lt to (length stations)) (cond (from == to) (Err NoFrame) (frame_or (slice_get l number))) (Err NoProcess)) (Err NoProcess)) (sym (wire_is from to lf lt))
-              | inr h ↦
-                  let no_to : nat_lt to (length stations) ≡ false = not_less to (length stations) (omega (arith, h, size)) in
-                  ap (λ z. cond (nat_lt from (length stations)) (cond z (cond (from == to) (Err NoFrame) (frame_or o)) (Err NoProcess)) (Err NoProcess)) no_to
-                  ∙ sym (ap (λ z. cond (nat_lt from (length stations)) (cond z (cond (from == to) (Err NoFrame) (frame_or (slice_get (wire_in (slice_get stations from) to) number))) (Err NoProcess)) (Err NoProcess)) no_to)
-            ]
-            | inr h ↦
-                let no_from : nat_lt from (length stations) ≡ false = not_less from (length stations) (omega (arith, h, size)) in
-                ap (λ z. cond z (cond (nat_lt to (length stations)) (cond (from == to) (Err NoFrame) (frame_or o)) (Err NoProcess)) (Err NoProcess)) no_from
-                ∙ sym (ap (λ z. cond z (cond (nat_lt to (length stations)) (cond (from == to) (Err NoFrame) (frame_or (slice_get (wire_in (slice_get stations from) to) number))) (Err NoProcess)) (Err NoProcess)) no_from)
-          ] in
+      ap (λ m. cond (nat_lt from m) (cond (nat_lt to m) (cond (from == to) (Err NoFrame) (frame_or o)) (Err NoProcess)) (Err NoProcess)) (sym size)
+      ∙ elim (cases_lt from n) [
+        | inl lf ↦ elim (cases_lt to n) [
+          | inl lt ↦ ap (λ l. cond (nat_lt from (length stations)) (cond (nat_lt to (length stations)) (cond (from == to) (Err NoFrame) (frame_or (slice_get l number))) (Err NoProcess)) (Err NoProcess)) (sym (wire_is from to lf lt))
+          | inr h ↦
+              let no_to : nat_lt to (length stations) ≡ false = not_less to (length stations) (omega (arith, h, size)) in
+              ap (λ z. cond (nat_lt from (length stations)) (cond z (cond (from == to) (Err NoFrame) (frame_or o)) (Err NoProcess)) (Err NoProcess)) no_to
+              ∙ sym (ap (λ z. cond (nat_lt from (length stations)) (cond z (cond (from == to) (Err NoFrame) (frame_or (slice_get (wire_in (slice_get stations from) to) number))) (Err NoProcess)) (Err NoProcess)) no_to)
+        ]
+        | inr h ↦
+            let no_from : nat_lt from (length stations) ≡ false = not_less from (length stations) (omega (arith, h, size)) in
+            ap (λ z. cond z (cond (nat_lt to (length stations)) (cond (from == to) (Err NoFrame) (frame_or o)) (Err NoProcess)) (Err NoProcess)) no_from
+            ∙ sym (ap (λ z. cond z (cond (nat_lt to (length stations)) (cond (from == to) (Err NoFrame) (frame_or (slice_get (wire_in (slice_get stations from) to) number))) (Err NoProcess)) (Err NoProcess)) no_from)
+      ] in
       subst (λ x. IsFound (event_fault n b.shape.registers w.nodes (Take from to number)) (step_of n b.shape.registers w.nodes (Take from to number)) (take_or x from to)) same it
 
   step_right : (e : Event) → IsFound (event_fault n b.shape.registers w.nodes e) (step_of n b.shape.registers w.nodes e) (found_step stations b e)

@@ -1,14 +1,16 @@
 -- A world as its callers see it, and what it is made of.
-use Rattle.std.specs.Prelude.{ℕ, ◌≡◌, ◌<◌, ◌≤◌, ◌+◌, Bool, true, false, ◌==◌, cond, nat_lt, List, [], ◌∷◌, ◌++◌, length, Option, Some, None, Result, Ok, Err, MatchOption, slice_get, slice_index_or}
+use Rattle.std.specs.Prelude.{ℕ, ◌≡◌, ◌<◌, ◌≤◌, ◌+◌, Bool, true, false, ◌==◌, ◌⊎◌, take, replicate, cond, nat_lt, List, [], ◌∷◌, ◌++◌, length, Option, Some, None, Result, Ok, Err, MatchOption, slice_get, slice_index_or}
 use Rattle.reg_base.specs.declared.limits.TheConstants.{MOST_PROCESSES, MOST_EVENTS, MOST_OPERATIONS}
 use Rattle.reg_base.specs.declared.memory.Op.{Op}
 use Rattle.reg_base.specs.Memory.{register_of}
+use Rattle.reg_base.specs.Shape.{Extent}
 use Rattle.reg_frames.specs.declared.bodies.Frame.{Frame}
 use Rattle.reg_front.specs.declared.starts.Start.{Start}
 use Rattle.reg_process.specs.declared.steps.Reply.{Reply}
 use Rattle.reg_process.specs.declared.steps.Step.{Step}
 use Rattle.reg_process.specs.declared.steps.Step.TheVariants.{Call as CallStep, Take as TakeStep, Tick as TickStep}
 use Rattle.reg_process.specs.Process.{step}
+use Rattle.reg_process.specs.Parts.{state_of, first_parts}
 use Rattle.reg_history.specs.History.{IsAt}
 use Rattle.reg_world.specs.declared.events.Event.{Event}
 use Rattle.reg_world.specs.declared.events.Event.TheVariants.{Call, Take, Tick}
@@ -123,3 +125,30 @@ found_step stations b (Tick p) = cond (nat_lt p (length stations)) (Ok (p, TickS
 
 abbrev pub found : List Standing → Pages → Event → Result (ℕ × Step) WorldFault
 found stations b e = cond (nat_lt (length b.accepted) MOST_EVENTS) (found_step stations b e) (Err TooManyEvents)
+
+abbrev pub IsMove : (Op → ℕ → Start) → Pages → Event → ℕ × Step → Type 0
+IsMove start b e m = move_of b.shape.processes b.shape.registers (run_in start (made_of false b)) e ≡ Some m
+
+-- the event was made, with this reply
+pub record Advances (start : Op → ℕ → Start) (old : Pages) (e : Event) (answer : Option Reply) (stations : List Standing) (new : Pages) : Type 0 where
+  pub world : IsWorld start false stations new
+  pub made : made_of false new ≡ with_event (made_of false old) e
+  pub reply : answer ≡ reply_in start (made_of false old) e
+
+-- a world in which nothing happened yet
+abbrev pub new_world : Extent → Made
+new_world shape = record { failed = false; processes = shape.processes; registers = shape.registers; accepted = [] }
+
+-- the world after the first events of a list, all of them accepted
+abbrev pub after_events : Extent → List Event → Made
+after_events shape events = record { failed = false; processes = shape.processes; registers = shape.registers; accepted = events }
+
+-- Why a run of these events ends at this one: the first fault that applies to it after those before it, or want of memory,
+-- which before the first event is told of that one.
+abbrev pub RunRefuses : (Op → ℕ → Start) → Extent → List Event → ℕ → WorldFault → Type 0
+RunRefuses start shape events at OutOfMemory = (at ≡ 0) ⊎ (at < length events)
+RunRefuses start shape events at fault = (e : Event) × IsAt events at e × (refusal start (after_events shape (take at events)) e ≡ Some fault)
+
+-- a process that did nothing yet
+abbrev pub first_standing : Extent → ℕ → Standing
+first_standing shape p = record { process = record { failed = false; state = state_of (first_parts p shape.processes shape.registers) }; wires = replicate shape.processes [] }

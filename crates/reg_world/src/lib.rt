@@ -8,9 +8,11 @@ mod faults;
 mod finding;
 pub mod laws;
 mod order;
+mod running;
 mod stations;
 mod witnesses;
 
 pub use events::Event;
-pub use faults::WorldFault;
+pub use faults::{RunFault, WorldFault};
 pub use order::{CopyRead, First};
+pub use running::World;
