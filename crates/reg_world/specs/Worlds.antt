@@ -10,6 +10,7 @@ use Rattle.reg_process.specs.declared.steps.Reply.{Reply}
 use Rattle.reg_process.specs.declared.steps.Step.{Step}
 use Rattle.reg_process.specs.declared.steps.Step.TheVariants.{Call as CallStep, Take as TakeStep, Tick as TickStep}
 use Rattle.reg_process.specs.Process.{step}
+use Rattle.reg_process.specs.Events.{Kept}
 use Rattle.reg_process.specs.Parts.{state_of, first_parts}
 use Rattle.reg_history.specs.History.{IsAt}
 use Rattle.reg_world.specs.declared.events.Event.{Event}
@@ -152,3 +153,14 @@ RunRefuses start shape events at fault = (e : Event) × IsAt events at e × (ref
 -- a process that did nothing yet
 abbrev pub first_standing : Extent → ℕ → Standing
 first_standing shape p = record { process = record { failed = false; state = state_of (first_parts p shape.processes shape.registers) }; wires = replicate shape.processes [] }
+
+-- the process p of the run, unless the world has stopped
+abbrev pub IsProcess : (Op → ℕ → Start) → Made → ℕ → Kept → Type 0
+IsProcess start w p k = (p < w.processes) × (w.failed ≡ false → k ≡ record { failed = false; state = ((run_in start w).nodes p).state })
+
+-- all frames ever put from one process to another, unless the world has stopped
+abbrev pub IsWire : (Op → ℕ → Start) → Made → ℕ → ℕ → List Frame → Type 0
+IsWire start w from to frames = (from < w.processes) × (to < w.processes) × (from ≡ to → ⊥) × (w.failed ≡ false → frames ≡ ((run_in start w).nodes from).wire to)
+
+abbrev pub IsNoWire : Made → ℕ → ℕ → Type 0
+IsNoWire w from to = (w.processes ≤ from) ⊎ ((w.processes ≤ to) ⊎ (from ≡ to))

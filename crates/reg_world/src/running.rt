@@ -3,11 +3,11 @@ ghost use Rattle.std.specs.Prelude.{◌≡◌, ◌<◌, ◌≤◌, ◌⊎◌, �
 ghost use Rattle.reg_base.specs.declared.limits.TheConstants.{MOST_EVENTS, MOST_PROCESSES};
 ghost use Rattle.reg_history.specs.Orders.{IsSerial, IsPointOrder};
 ghost use Rattle.reg_world.specs.Keys.{IsWitness, ArePoints};
-ghost use Rattle.reg_world.specs.Laws.{FrontsAgree, FrontsRise, FrontsMade, NothingPending, IsQuiescent};
+ghost use Rattle.reg_world.specs.Laws.{FrontsAgree, FrontsRise, NothingPending, IsQuiescent};
 ghost use Rattle.reg_world.specs.Promises.{OrderIsLongest, OrderIsRight, FirstsRight, RepliesRight, ReadsRight};
 ghost use Rattle.reg_world.specs.World.{run_of, whole};
 ghost use Rattle.reg_world.specs.Stations.{listed};
-ghost use Rattle.reg_world.specs.Worlds.{first_standing, Made, run_in, Accepts, Refuses, reply_in, IsWorld, IsMove, Advances, new_world, after_events, RunRefuses};
+ghost use Rattle.reg_world.specs.Worlds.{first_standing, Made, run_in, Accepts, Refuses, reply_in, IsWorld, IsMove, Advances, new_world, after_events, RunRefuses, IsProcess, IsWire, IsNoWire};
 
 use crate::books::Book;
 use crate::events::Event;
@@ -124,5 +124,128 @@ impl<F: FrontEnd, A: Allocator + Copy> World<F, A> {
                 Err(WorldFault::OutOfMemory)
             }
         }
+    }
+
+    /// Makes these events, one after another, in a new world. The first one that is refused ends the run; want of memory
+    /// before the first event is told of that one.
+    pub fn run(alloc: A, shape: Shape, events: &[Event]) -> Result<World<F, A>, RunFault>
+        ensures { MatchResult result (λ w. w ≡ after_events shape events.now) (λ f. RunRefuses F.start shape events.now f.at f.fault) }
+    {
+        let Ok(mut world) = World::new(alloc, shape) else {
+            let fault = WorldFault::OutOfMemory;
+            return Err(RunFault { at: 0, fault });
+        };
+        for (at, event) in events.iter().enumerate() {
+            if let Err(fault) = world.step(event) {
+                return Err(RunFault { at, fault });
+            }
+        }
+        Ok(world)
+    }
+
+    /// The number of processes and of registers.
+    pub fn shape(&self) -> Shape
+        ensures { result ≡ record { processes = self.now.processes; registers = self.now.registers } }
+    {
+        self.book.history().shape()
+    }
+
+    /// How many events were accepted.
+    pub fn events(&self) -> u32
+        ensures value { result ≡ length self.now.accepted }
+        ensures few { result ≤ MOST_EVENTS }
+    {
+        self.book.accepted().len() as u32
+    }
+
+    /// The events accepted so far. The run that the other answers tell of is that of these events.
+    pub fn accepted(&self) -> &[Event]
+        ensures value { result.now ≡ self.now.accepted }
+        ensures all { (run_in F.start self.now).accepted ≡ self.now.accepted }
+    {
+        self.book.accepted()
+    }
+
+    /// The calls and answers, each with the number of its event.
+    pub fn history(&self) -> &History<A>
+        ensures shape { result.now.shape ≡ record { processes = self.now.processes; registers = self.now.registers } }
+        ensures entries { result.now.entries ≡ (run_in F.start self.now).history }
+        ensures replies { RepliesRight self.now.registers (run_in F.start self.now) }
+    {
+        self.book.history()
+    }
+
+    /// Each cast's first delivery anywhere, in order of delivery: the one order of casts.
+    pub fn order(&self) -> &[First]
+        ensures value { result.now ≡ (run_in F.start self.now).order }
+        ensures agree { FrontsAgree self.now.processes (run_in F.start self.now).nodes }
+        ensures rise { FrontsRise self.now.processes (run_in F.start self.now).nodes }
+        ensures longest { OrderIsLongest self.now.processes (run_in F.start self.now) }
+        ensures right { OrderIsRight self.now.processes (run_in F.start self.now) }
+        ensures firsts { FirstsRight F.start self.now.processes self.now.registers (run_in F.start self.now) }
+    {
+        self.book.order()
+    }
+
+    /// The finished reads that were answered from a copy, in order of their answers.
+    pub fn reads(&self) -> &[CopyRead]
+        ensures value { result.now ≡ (run_in F.start self.now).reads }
+        ensures right { ReadsRight (run_in F.start self.now) }
+    {
+        self.book.reads()
+    }
+
+    /// A process, None where there is no such one. Nothing is claimed of it once the world has stopped.
+    pub fn process(&self, process: u8) -> Option<&Process<F, A>>
+        ensures process { MatchOption result (self.now.processes ≤ process) (λ p. IsProcess F.start self.now process p.now) }
+        ensures quiescent { NothingPending self.now.processes (run_in F.start self.now).nodes → IsQuiescent self.now.processes (run_in F.start self.now).nodes }
+    {
+        match self.stations.get(usize::from(process)) {
+            Some(station) => Some(station.process()),
+            None => None,
+        }
+    }
+
+    /// All frames ever put from one process to another, None where these are no two processes. Nothing is claimed of them
+    /// once the world has stopped.
+    pub fn wire(&self, from: u8, to: u8) -> Option<&[Frame]>
+        ensures { MatchOption result (IsNoWire self.now from to) (λ frames. IsWire F.start self.now from to frames.now) }
+    {
+        if from == to {
+            return None;
+        }
+        if usize::from(to) >= self.stations.len() {
+            return None;
+        }
+        match self.stations.get(usize::from(from)) {
+            Some(station) => Some(station.wire(to)),
+            None => None,
+        }
+    }
+
+    /// The operations that are finished, and the updates that some process has delivered, in one order: the reads from a
+    /// copy and the casts by place, and behind them the finished casts that were delivered nowhere. It is a serial order of
+    /// the history (Lamport 1979).
+    pub fn witness(&self) -> Result<Vec<OpId, A>, AllocError>
+        ensures keyed { IfOk result (λ ids. IsWitness (run_of self.now.registers (run_in F.start self.now)) ids.items) }
+        ensures serial { IfOk result (λ ids. IsSerial self.now.registers (run_in F.start self.now).history ids.items) }
+    {
+        witness_of(
+            self.alloc,
+            self.book.order(),
+            self.book.reads(),
+            self.book.callers(),
+        )
+    }
+}
+
+impl<F: RealTime, A: Allocator + Copy> World<F, A> {
+    /// The casts that are updates or finished, each at the event of its first delivery. They are a point order of the
+    /// history (Herlihy and Wing 1990): each operation takes effect between its call and its answer.
+    pub fn points(&self) -> Result<Vec<Point, A>, AllocError>
+        ensures first { IfOk result (λ points. ArePoints (run_of self.now.registers (run_in F.start self.now)) points.items) }
+        ensures ordered { IfOk result (λ points. IsPointOrder self.now.registers (run_in F.start self.now).history points.items) }
+    {
+        points_of(self.alloc, self.book.order(), self.book.callers())
     }
 }

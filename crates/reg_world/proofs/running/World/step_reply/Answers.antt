@@ -25,6 +25,6 @@ returns-in-Ok-advance g c =
 pub returns-in-Err-advance : goal.returns-in-Err-advance
 returns-in-Err-advance g c = (
   none_is g.F.FrontEnd.start c.self.inside.failed c.self.inside.book c.self.inside.stations.items c.self.invariant c.if-self.false c.args.event.now c.args.self.now c.self.view_is c.in-Ok.found
-    (ap (λ l. found l c.self.inside.book c.args.event.now) (sym c.deref.ensures.value) ∙ (sym c.found.ensures ∙ c.in-Ok.is)),
+      (ap (λ l. found l c.self.inside.book c.args.event.now) (sym c.deref.ensures.value) ∙ (sym c.found.ensures ∙ c.in-Ok.is)),
   stopped_is g.F.FrontEnd.start c.self.inside.failed c.self.inside.book c.self.inside.stations.items c.self.invariant c.if-self.false c.args.event.now c.args.self.now c.self.view_is c.advance.new.book c.in-Err-advance.ensures.0,
 )
