@@ -7,6 +7,7 @@ pub mod Telling
 pub mod Onward
 pub mod Stepping
 pub mod Beginning
+pub mod Answering
 pub mod Sending
 pub mod Rises
 pub mod Ranking
