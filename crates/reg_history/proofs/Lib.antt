@@ -14,3 +14,8 @@ pub mod Marking
 pub mod OwnOrder
 pub mod Bridges
 pub mod PointFacts
+pub mod Lacking
+pub mod Padding
+pub mod Whole
+pub mod Writing
+pub mod WithinLimits

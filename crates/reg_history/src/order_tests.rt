@@ -8,6 +8,7 @@ const WRITE_FIVE: Op = Op::Write {
     register: 0,
     value: 5,
 };
+
 const READ: Op = Op::Read { register: 0 };
 
 fn id(process: u8, number: u32) -> OpId {
@@ -59,9 +60,18 @@ fn a_stale_read_is_serial_and_has_no_points(rt: HostRuntime) {
     let history = stale_read(&rt, alloc);
     let (p, q) = (id(0, 0), id(1, 0));
     assert_eq!(rt; check_serial(alloc, &history, &[q, p]), Ok(()));
-    assert_eq!(rt; check_serial(alloc, &history, &[p, q]), Err(CheckFault::Answer { place: 1 }));
-    assert_eq!(rt; check_serial(alloc, &history, &[q]), Err(CheckFault::Missing));
-    assert_eq!(rt; check_serial(alloc, &history, &[q, p, p]), Err(CheckFault::Twice));
+    assert_eq!(rt;
+        check_serial(alloc, &history, &[p, q]),
+        Err(CheckFault::Answer { place: 1 })
+    );
+    assert_eq!(rt;
+        check_serial(alloc, &history, &[q]),
+        Err(CheckFault::Missing)
+    );
+    assert_eq!(rt;
+        check_serial(alloc, &history, &[q, p, p]),
+        Err(CheckFault::Twice)
+    );
     let falls = check_points(alloc, &history, &[point(1, 5), point(0, 4)]);
     assert_eq!(rt; falls, Err(CheckFault::Falling { place: 1 }));
     let outside = check_points(alloc, &history, &[point(1, 4), point(0, 4)]);
@@ -80,14 +90,20 @@ fn own_order_and_unfinished_reads(rt: HostRuntime) {
     ];
     let mut history = history_of(&rt, alloc, 2, &write);
     let order = [id(0, 0), id(0, 1)];
-    assert_eq!(rt; check_serial(alloc, &history, &order), Err(CheckFault::Unknown));
+    assert_eq!(rt;
+        check_serial(alloc, &history, &order),
+        Err(CheckFault::Unknown)
+    );
     assert_eq!(rt; check_serial(alloc, &history, &[id(0, 0)]), Ok(()));
     history
         .push(answered(3, id(0, 1), Answer::Value(5)))
         .expect(&rt, "in place");
     assert_eq!(rt; check_serial(alloc, &history, &order), Ok(()));
     let turned = [id(0, 1), id(0, 0)];
-    assert_eq!(rt; check_serial(alloc, &history, &turned), Err(CheckFault::OwnOrder));
+    assert_eq!(rt;
+        check_serial(alloc, &history, &turned),
+        Err(CheckFault::OwnOrder)
+    );
     let points = [
         Point {
             id: id(0, 0),

@@ -103,14 +103,7 @@ fn last_is_call(entries: &[Entry], at: u32, id: OpId) -> bool
 }
 
 /// Whether a call is in place.
-fn may_call(
-    shape: Shape,
-    entries: &[Entry],
-    progress: Progress,
-    at: u32,
-    id: OpId,
-    op: Op,
-) -> bool
+fn may_call(shape: Shape, entries: &[Entry], progress: Progress, at: u32, id: OpId, op: Op) -> bool
     requires process { id.process < shape.processes }
     requires progress { IsProgressOf entries.now id.process progress }
     ensures { IsTrue result ↔ MayCall shape.processes shape.registers entries.now at id op }

@@ -9,7 +9,10 @@ use reg_base::OpId;
 use std::alloc::{AllocError, Allocator};
 
 /// The ids of the points.
-pub fn ids_of_points<A: Allocator + Copy>(alloc: A, points: &[Point]) -> Result<Vec<OpId, A>, AllocError>
+pub fn ids_of_points<A: Allocator + Copy>(
+    alloc: A,
+    points: &[Point],
+) -> Result<Vec<OpId, A>, AllocError>
     ensures { IfOk result (λ v. v.items ≡ ids_of points.now) }
 {
     let mut ids = Vec::new(alloc);

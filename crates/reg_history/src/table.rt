@@ -27,7 +27,11 @@ pub fn set_fact<A: Allocator + Copy>(rows: &mut Vec<Vec<Fact, A>, A>, id: OpId, 
 }
 
 /// Adds the fact of a process's next operation.
-fn add_fact<A: Allocator + Copy>(rows: &mut Vec<Vec<Fact, A>, A>, id: OpId, fact: Fact) -> Result<(), AllocError>
+fn add_fact<A: Allocator + Copy>(
+    rows: &mut Vec<Vec<Fact, A>, A>,
+    id: OpId,
+    fact: Fact,
+) -> Result<(), AllocError>
     requires process { id.process < vec_len rows.old }
     requires next { (n : ℕ) → (n < id.number) ↔ IsSome (cell rows.old.items (record { process = id.process; number = n })) }
     ensures changed { OnOk result (IsChangedAt rows.old.items rows.new.items id fact) }

@@ -1,5 +1,5 @@
 //! The hold-back queue: an ordered map from stamp to operation.
-ghost use Rattle.std.specs.Prelude.{◌≡◌, ◌<◌, ◌≤◌, [], length, replicate, IfOk, IfSome, IfNone, MatchResult, MatchOption, if◌then◌else◌, is_ok, option_map, None};
+ghost use Rattle.std.specs.Prelude.{◌≡◌, ◌<◌, ◌≤◌, [], length, replicate, IfOk, IfSome, IfNone, MatchResult, MatchOption, if◌then◌else◌, is_ok, option_map, Some, None, IfErr};
 ghost use Rattle.reg_base.specs.declared.limits.TheConstants.{MOST_PROCESSES};
 ghost use Rattle.reg_base.specs.Order.{Rising};
 ghost use Rattle.reg_holdback.specs.Waiting.{is_clear as is_clear_by, cast_of, ready_of, without_first, with_cast, received, receive_fault, refusal_of, IsLatestOwn, seen_of, IsReady, NoneClear};
@@ -82,7 +82,10 @@ impl<A: Allocator + Copy> Holdback<A> {
     /// Takes in the time of a body of another process, and holds its cast, if it carries one. After a refusal nothing has
     /// changed.
     pub fn receive(&mut self, stamp: Stamp, op: Option<Op>) -> Result<(), HoldFault>
-        ensures { MatchResult result (λ _. (receive_fault self.old stamp ≡ None) × (self.new ≡ received self.old stamp op)) (λ fault. (receive_fault self.old stamp ≡ refusal_of fault) × (self.new ≡ self.old)) }
+        ensures exact { MatchResult result (λ _. (receive_fault self.old stamp ≡ None) × (self.new ≡ received self.old stamp op)) (λ fault. (receive_fault self.old stamp ≡ refusal_of fault) × (self.new ≡ self.old)) }
+
+        // A body without a cast takes no memory.
+        ensures bare { IfErr result (λ fault. op ≡ None → receive_fault self.old stamp ≡ Some fault) }
     {
         let process = stamp.process as usize;
         if stamp.process == self.me || process >= self.seen.len() {

@@ -2,6 +2,7 @@
 ghost use Rattle.std.specs.Prelude.{◌≡◌};
 
 use crate::{HoldFault, Holdback};
+use refusing::Refusing;
 use reg_base::{Op, Shape, Stamp};
 use std::alloc::AllocError;
 
@@ -138,4 +139,19 @@ fn agrees_with_a_plain_list(rt: HostRuntime) {
         assert_eq!(rt; held.len(), plain.held.len());
     }
     assert!(rt; popped > 50);
+}
+
+#[test]
+fn refused_memory_changes_nothing(rt: HostRuntime) {
+    let shape = Shape::new(2, 1).expect(&rt, "a shape of two");
+    let heap = Refusing::new(rt.alloc(), 1);
+    let mut held = Holdback::new(&heap, 1, shape).expect(&rt, "memory for the times");
+    assert!(rt; held.receive(stamp(1, 0), Some(WRITE)) == Err(HoldFault::OutOfMemory));
+    assert_eq!(rt; held.len(), 0);
+    assert!(rt; held.seen(0) == Some(0));
+    assert!(rt; held.receive(stamp(1, 0), Some(WRITE)) == Ok(()));
+    let other = Refusing::new(rt.alloc(), 1);
+    let mut own = Holdback::new(&other, 1, shape).expect(&rt, "memory for the times");
+    assert!(rt; own.cast(stamp(1, 1), WRITE).is_err());
+    assert_eq!(rt; own.len(), 0);
 }

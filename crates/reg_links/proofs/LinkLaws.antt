@@ -1,12 +1,15 @@
 -- What a step of a link keeps.
-use Rattle.std.proofs.Common.{◌≡◌, ℕ, ◌+◌, ◌-◌, ◌≤◌, suc, zero, max, true, false, cond, nat_eq, List, [], ◌∷◌, ◌++◌, length, drop, take, Option, Some, None, slice_get, MatchOption, refl, ap, sym, subst, ◌∙◌, arith, length-append, length-drop}
+use Rattle.std.proofs.Common.{◌≡◌, ℕ, ◌+◌, ◌-◌, ◌≤◌, suc, zero, max, true, false, cond, nat_eq, nat_lt, List, [], ◌∷◌, ◌++◌, length, drop, take, Option, Some, None, slice_get, MatchOption, refl, ap, sym, subst, ◌∙◌, arith, length-append, length-drop}
 use Rattle.std.specs.List.{AllByRecursion}
 use Rattle.std.proofs.lemmas.List.{drop-append-le, take-append-le}
 use Rattle.std.proofs.lemmas.Option.{slice_get_within}
 use Rattle.std.proofs.lemmas.Bool.Decides.{nat_tests}
+use Rattle.std.proofs.lemmas.Bool.{and_parts}
+use Rattle.std.specs.Prelude.{◌&&◌}
 use Rattle.reg_frames.specs.declared.bodies.Body.{Body}
-use Rattle.reg_links.specs.Link.{next_of}
-use Rattle.reg_links.specs.Laws.{Link, IsLink, LinkStep, Put, Resend, Take, Count, after, resent, taken, counted, IsNotAhead}
+use Rattle.reg_links.specs.Link.{next_of, with_queued}
+use Rattle.reg_base.specs.declared.limits.TheConstants.{FRAME_NUMBERS}
+use Rattle.reg_links.specs.Laws.{queued, unused, after_all, AcceptsPrefix, Link, IsLink, LinkStep, Put, Resend, Take, Count, after, resent, taken, counted, IsNotAhead}
 
 module _ {X : Type 0} where
   all_push : (P : X → Type 0) (xs : List X) (x : X) → AllByRecursion P xs → P x → AllByRecursion P (xs ++ x ∷ [])
@@ -47,7 +50,7 @@ module _ {X : Type 0} where
   drop_on (suc n) (suc m) [] = let e : suc (n + suc m) ≡ suc n + suc m = omega arith in ap (λ k. drop k []) e
   drop_on (suc n) m (x ∷ xs) = let e : suc (n + m) ≡ suc n + m = omega arith in drop_on n m xs ∙ ap (λ k. drop k (x ∷ xs)) e
 
-put_keeps : (l : Link) (b : Body) → IsLink l → IsLink (after l (Put b))
+put_keeps : (l : Link) (b : Body) → IsLink l → IsLink (record l { queued = l.queued ++ b ∷ []; out = with_queued l.out b; wire = l.wire ++ (next_of l.out, b) ∷ [] })
 put_keeps l b h =
     let first : l.out.first ≤ length l.queued = omega (arith, h.acknowledged, h.within) in
     record {
@@ -61,6 +64,12 @@ put_keeps l b h =
           (ap (slice_get (l.queued ++ b ∷ [])) h.next ∙ get_pushed l.queued b);
       back = h.back;
     }
+
+queue_keeps : (l : Link) (b : Body) → IsLink l → IsLink (queued l b)
+queue_keeps l b h = elim (nat_eq (next_of l.out) FRAME_NUMBERS) as (λ t. IsLink (cond t l (record l { queued = l.queued ++ b ∷ []; out = with_queued l.out b; wire = l.wire ++ (next_of l.out, b) ∷ [] }))) [
+  | true ↦ h
+  | false ↦ put_keeps l b h
+]
 
 resend_keeps : (l : Link) (i : ℕ) (o : Option Body) → slice_get l.out.pending i ≡ o → IsLink l → IsLink (resent l i o)
 resend_keeps l i None e h = h
@@ -78,8 +87,9 @@ resend_keeps l i (Some b) e h = record {
 take_keeps : (l : Link) (k : ℕ) (o : Option (ℕ × Body)) → slice_get l.wire k ≡ o → IsLink l → IsLink (taken l o)
 take_keeps l k None e h = h
 take_keeps l k (Some f) e h =
-    elim (nat_eq f.0 l.expected) as (λ t. nat_eq f.0 l.expected ≡ t → IsLink (cond t (record l { expected = l.expected + 1; accepted = l.accepted ++ f.1 ∷ []; back = l.back ++ (l.expected + 1) ∷ [] }) (record l { back = l.back ++ l.expected ∷ [] }))) [
+    elim (nat_eq f.0 l.expected && nat_lt l.expected FRAME_NUMBERS) as (λ t. (nat_eq f.0 l.expected && nat_lt l.expected FRAME_NUMBERS) ≡ t → IsLink (cond t (record l { expected = l.expected + 1; accepted = l.accepted ++ f.1 ∷ []; back = l.back ++ (l.expected + 1) ∷ [] }) (record l { back = l.back ++ l.expected ∷ [] }))) [
       | true ↦ λ t.
+          let test : nat_eq f.0 l.expected ≡ true = (and_parts (nat_eq f.0 l.expected) (nat_lt l.expected FRAME_NUMBERS) t).0 in
           let same : f.0 ≡ l.expected = grind (arith, nat_tests) in
           let there : slice_get l.queued l.expected ≡ Some f.1 = ap (slice_get l.queued) (sym same) ∙ all_at (λ f. slice_get l.queued f.0 ≡ Some f.1) l.wire k f h.wire e in
           let lt = slice_get_within l.queued l.expected f.1 there in
@@ -120,7 +130,7 @@ count_keeps l k (Some n) e h =
     }
 
 pub step_keeps : (l : Link) (s : LinkStep) → IsLink l → IsLink (after l s)
-step_keeps l (Put b) h = put_keeps l b h
+step_keeps l (Put b) h = queue_keeps l b h
 step_keeps l (Resend i) h = resend_keeps l i (slice_get l.out.pending i) refl h
 step_keeps l (Take k) h = take_keeps l k (slice_get l.wire k) refl h
 step_keeps l (Count k) h = count_keeps l k (slice_get l.back k) refl h
@@ -134,3 +144,27 @@ step_not_ahead l (Put b) h = tt
 step_not_ahead l (Resend i) h = tt
 step_not_ahead l (Take k) h = tt
 step_not_ahead l (Count k) h = not_above l k (slice_get l.back k) refl h
+
+unused_is_link : IsLink unused
+unused_is_link = record { next = refl; pending = refl; acknowledged = omega arith; within = omega arith; accepted = refl; wire = tt; back = tt }
+
+all_keep : (l : Link) (steps : List LinkStep) → IsLink l → IsLink (after_all l steps)
+all_keep l [] h = h
+all_keep l (s ∷ steps) h = all_keep (after l s) steps (step_keeps l s h)
+
+pub every_link : (steps : List LinkStep) → IsLink (after_all unused steps)
+every_link steps = all_keep unused steps unused_is_link
+
+pub every_prefix : (steps : List LinkStep) → AcceptsPrefix (after_all unused steps)
+every_prefix steps =
+    let l : Link = after_all unused steps in
+    let h : IsLink l = every_link steps in
+    (drop l.expected l.queued, ap (λ a. a ++ drop l.expected l.queued) h.accepted ∙ take-drop l.expected l.queued)
+  where
+    take-drop : (n : ℕ) (xs : List Body) → take n xs ++ drop n xs ≡ xs
+    take-drop zero xs = refl
+    take-drop (suc n) [] = refl
+    take-drop (suc n) (x ∷ xs) = ap (λ l. x ∷ l) (take-drop n xs)
+
+pub never_ahead : (steps : List LinkStep) (s : LinkStep) → IsNotAhead (after_all unused steps) s
+never_ahead steps s = step_not_ahead (after_all unused steps) s (every_link steps)

@@ -95,7 +95,8 @@ impl<A: Allocator + Copy> Outbox<A> {
 
     /// How many bodies are not acknowledged.
     pub fn pending(&self) -> u64
-        ensures { result ≡ length self.now.pending }
+        ensures value { result ≡ length self.now.pending }
+        ensures in_range { result ≤ FRAME_NUMBERS }
     {
         self.bodies.len() as u64
     }

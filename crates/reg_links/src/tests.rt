@@ -1,5 +1,6 @@
 //! A worked example of both ends.
 use crate::{Ahead, Inbox, LinkFault, Outbox};
+use refusing::Refusing;
 use reg_base::limits::FRAME_NUMBERS;
 use reg_frames::{Body, Frame};
 
@@ -46,4 +47,13 @@ fn inbox_accepts_in_order(rt: HostRuntime) {
     let mut last = Inbox::starting(FRAME_NUMBERS).expect(&rt, "the last count");
     assert!(rt; last.take(FRAME_NUMBERS, TWO) == None);
     assert!(rt; Inbox::starting(FRAME_NUMBERS + 1).is_none());
+}
+
+#[test]
+fn refused_memory_changes_nothing(rt: HostRuntime) {
+    let heap = Refusing::new(rt.alloc(), 0);
+    let mut out = Outbox::new(&heap);
+    assert!(rt; out.queue(TWO) == Err(LinkFault::OutOfMemory));
+    assert_eq!(rt; out.pending(), 0);
+    assert!(rt; out.queue(TWO) == Ok(numbered(0, TWO)));
 }

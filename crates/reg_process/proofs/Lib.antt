@@ -7,3 +7,4 @@ pub mod Sends
 pub mod Acks
 pub mod Calls
 pub mod Again
+pub mod Pending

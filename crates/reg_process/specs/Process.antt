@@ -38,6 +38,11 @@ no_peer = record { seen = 0; expected = 0; first = 0; pending = [] }
 abbrev pub next_of : Peer → ℕ
 next_of p = p.first + length p.pending
 
+-- how many bodies are not acknowledged, over all links
+abbrev pub pending_of : List Peer → ℕ
+pending_of [] = 0
+pending_of (p ∷ ps) = length p.pending + pending_of ps
+
 -- an operation that runs until its cast is delivered, or a held read
 pub data Running : Type 0 where
   Own : (stamp : Stamp) (op : Op) → Running

@@ -1,10 +1,10 @@
 -- The frames of one event, as a list.
-use Rattle.std.specs.Prelude.{ℕ, zero, suc, ◌+◌, ◌≤◌, ◌==◌, cond, List, [], ◌∷◌, ◌++◌, map, take, Option, Some, None, slice_index_or}
+use Rattle.std.specs.Prelude.{◌<◌, length, ℕ, zero, suc, ◌+◌, ◌≤◌, ◌==◌, cond, List, [], ◌∷◌, ◌++◌, map, take, Option, Some, None, slice_index_or}
 use Rattle.reg_frames.specs.declared.bodies.Body.{Body}
 use Rattle.reg_frames.specs.declared.bodies.Frame.{Frame}
 use Rattle.reg_frames.specs.declared.bodies.Frame.TheVariants.{Numbered, Got}
 use Rattle.reg_process.specs.Process.{numbered_from}
-use Rattle.reg_base.specs.declared.limits.TheConstants.{MOST_RESENT}
+use Rattle.reg_base.specs.declared.limits.TheConstants.{FRAME_NUMBERS, MOST_RESENT}
 use Rattle.reg_links.specs.Link.{Unacknowledged, next_of, with_queued}
 use Rattle.reg_process.specs.declared.outcomes.Put.{Put}
 use Rattle.reg_process.specs.Parts.{nothing}
@@ -46,3 +46,12 @@ again_at me r out = cond (r == me) [] (numbered_from out.first (take MOST_RESENT
 
 abbrev pub again_frames : ℕ → List Unacknowledged → ℕ → List Frame
 again_frames me outs r = again_at me r (slice_index_or outs r nothing)
+
+-- no outbox has used up its numbers
+abbrev pub HasNumbers : List Unacknowledged → Type 0
+HasNumbers outs = (i : ℕ) → next_of (slice_index_or outs i nothing) < FRAME_NUMBERS
+
+-- how many bodies are not acknowledged
+abbrev pub pending_in : List Unacknowledged → ℕ
+pending_in [] = 0
+pending_in (out ∷ outs) = length out.pending + pending_in outs

@@ -14,3 +14,9 @@ pub use outcomes::{Outcome, Put};
 pub use processes::Process;
 pub use reg_base::Delivered;
 pub use steps::{Reply, Step};
+
+#[cfg(test)]
+mod tests;
+
+#[cfg(test)]
+mod refusals;

@@ -1,0 +1,54 @@
+use Rattle.std.proofs.Common.{sym, ◌∙◌, subst, arith, ◌≡◌, ℕ, ◌+◌, List}
+use Rattle.reg_base.specs.Shape.{Extent}
+use Rattle.reg_history.specs.declared.entries.Entry.{Entry}
+use Rattle.reg_history.specs.History.{IsInPlace}
+use Rattle.reg_history.specs.Log.{Log, IsNextOf}
+use Rattle.reg_text.proofs.Turns.{Taken, steps, ended, refused, only_read}
+use Rattle.reg_history.specs.EntryLines.{entry_text, Follows}
+use Rattle.reg_history.proofs.blocks.read_entries.Goals as goal
+
+-- an entry in place, at a shape that is the history's
+at_shape : (h : Log) (shape : Extent) (e : Entry) → h.shape ≡ shape → IsNextOf h e → IsInPlace shape.processes shape.registers h.entries e
+at_shape h shape e same next = let P : Extent → Type 0 = λ s. IsInPlace s.processes s.registers h.entries e in subst P same next
+
+not_both : (names : List (List ℕ)) (h : Log) (shape : Extent) (e y : Entry) → h.shape ≡ shape → (¬ IsNextOf h e) → e ≡ y → Follows names shape h.entries y → ⊥
+not_both names h shape e y same none alike follows =
+    let P : Entry → Type 0 = λ x. IsInPlace shape.processes shape.registers h.entries x in
+    let Q : Extent → Type 0 = λ s. IsInPlace s.processes s.registers h.entries e in
+    none (subst Q (sym same) (subst P (sym alike) follows.1))
+
+pub returns-in_default-clause-whole : goal.returns-in_default-clause-whole
+returns-in_default-clause-whole g c = λ ys rest b.
+    absurd (ended (entry_text c.args.names.now) (Follows c.args.names.now c.args.history.now.shape) c.args.count c.args.lines.now c.loop-place.lines c.loop-place.history.entries c.loop-place._place c.loop-place-test.true c.loop-place.invariant.1 c.in_default.ensures.0 ys rest b)
+
+pub returns-in_default-read_entry-clause-whole : goal.returns-in_default-read_entry-clause-whole
+returns-in_default-read_entry-clause-whole g c = λ ys rest b.
+    absurd (refused (entry_text c.args.names.now) (Follows c.args.names.now c.args.history.now.shape) c.args.count c.args.lines.now c.loop-place.lines c.loop-place.history.entries c.loop-place._place c.loop-place-test.true c.loop-place.invariant.1
+    c.in-Some.line.now c.next.new.self c.in-Some.ensures (λ y follows e. let none = c.in_default-read_entry.ensures.whole y follows.0 e in absurd (cc)) ys rest b)
+
+pub returns-in-Err-OutOfPlace-clause-whole : goal.returns-in-Err-OutOfPlace-clause-whole
+returns-in-Err-OutOfPlace-clause-whole g c = λ ys rest b.
+    let bad = (rw c.in-Err-OutOfPlace.field-0-is at c.in-Err-OutOfPlace.ensures) in
+    absurd (refused (entry_text c.args.names.now) (Follows c.args.names.now c.args.history.now.shape) c.args.count c.args.lines.now c.loop-place.lines c.loop-place.history.entries c.loop-place._place c.loop-place-test.true c.loop-place.invariant.1
+    c.in-Some.line.now c.next.new.self c.in-Some.ensures
+    (λ y follows e.
+    let one = c.in-Some-read_entry.ensures.whole y follows.0 e in
+    let alike : c.in-Some-read_entry.entry ≡ y = cc in
+    not_both c.args.names.now c.loop-place.history c.args.history.now.shape c.in-Some-read_entry.entry y c.loop-place.invariant.0 bad.0 alike follows) ys rest b)
+
+pub loop-place-preserved : goal.loop-place-preserved
+loop-place-preserved g c =
+    let grows = c.in-Ok.ensures in
+    let P : List Entry → Type 0 = λ l. Taken (entry_text c.args.names.now) (Follows c.args.names.now c.args.history.now.shape) c.args.count c.args.lines.now c.next.new.self l (c.loop-place._place + 1) in (
+      grows.shape ∙ c.loop-place.invariant.0,
+      subst P (sym grows.entries) (steps (entry_text c.args.names.now) (Follows c.args.names.now c.args.history.now.shape) c.args.count c.args.lines.now c.loop-place.lines c.loop-place.history.entries c.loop-place._place c.loop-place-test.true c.loop-place.invariant.1
+          c.in-Some.line.now c.next.new.self c.in-Some-read_entry.entry c.in-Some.ensures c.in-Some-read_entry.ensures.read.0
+          (c.in-Some-read_entry.ensures.read.1, at_shape c.loop-place.history c.args.history.now.shape c.in-Some-read_entry.entry c.loop-place.invariant.0 grows.in_place)
+          (λ y follows e. let one = c.in-Some-read_entry.ensures.whole y follows.0 e in cc)),
+    )
+
+pub returns-clause-whole : goal.returns-clause-whole
+returns-clause-whole g c = λ ys rest b.
+    let n : c.loop-place._place ≡ c.args.count = omega arith in
+    let P : ℕ → Type 0 = λ i. Taken (entry_text c.args.names.now) (Follows c.args.names.now c.args.history.now.shape) c.args.count c.args.lines.now c.loop-place.lines c.loop-place.history.entries i in
+    only_read (entry_text c.args.names.now) (Follows c.args.names.now c.args.history.now.shape) c.args.count c.args.lines.now c.loop-place.lines c.loop-place.history.entries (subst P n c.loop-place.invariant.1) ys rest b

@@ -1,0 +1,50 @@
+-- The lines of a history in a report, and what their fields may be.
+use Rattle.std.specs.Prelude.{ℕ, ◌^◌, ◌<◌, ◌≤◌, ⊤, List, ◌++◌, codes}
+use Rattle.std.specs.Fmt.{decimal}
+use Rattle.reg_base.specs.declared.limits.TheConstants.{MOST_PROCESSES, MOST_OPERATIONS, LAST_EVENT}
+use Rattle.reg_base.specs.Shape.{Extent}
+use Rattle.reg_base.specs.declared.memory.Answer.{Answer}
+use Rattle.reg_base.specs.declared.memory.Answer.TheVariants.{Done, Value}
+use Rattle.reg_text.specs.Columns.{to_right, to_left}
+use Rattle.reg_text.specs.Ops.{op_text, OpFits, HasValue}
+use Rattle.reg_history.specs.declared.entries.Entry.{Entry}
+use Rattle.reg_history.specs.declared.entries.Entry.TheVariants.{Called, Answered}
+use Rattle.reg_history.specs.History.{IsInPlace}
+
+abbrev pub answer_text : Answer → List ℕ
+answer_text Done = codes "done"
+answer_text (Value value) = codes "value " ++ decimal value
+
+-- the event, the process and the number in their columns, and then the rest
+abbrev pub columns_text : ℕ → ℕ → ℕ → List ℕ → List ℕ
+columns_text at process number rest =
+    to_right 8 (decimal at) ++ (codes "  p" ++ (to_left 3 (decimal process) ++ (codes "  #" ++ (to_left 6 (decimal number) ++ (codes "  " ++ rest)))))
+
+-- the line of an entry
+abbrev pub entry_text : List (List ℕ) → Entry → List ℕ
+entry_text names (Called at id op) = columns_text at id.process id.number (codes "call    " ++ op_text names op)
+entry_text names (Answered at id answer) = columns_text at id.process id.number (codes "answer  " ++ answer_text answer)
+
+-- its value has 64 bits
+abbrev pub AnswerFits : Answer → Type 0
+AnswerFits Done = ⊤
+AnswerFits (Value value) = value < 2 ^ 64
+
+-- the value of its operation or answer has 64 bits
+abbrev pub EntryHasValue : Entry → Type 0
+EntryHasValue (Called at id op) = HasValue op
+EntryHasValue (Answered at id answer) = AnswerFits answer
+
+pub record ColumnsFit (at process number : ℕ) : Type 0 where
+  pub at_fits : at ≤ LAST_EVENT
+  pub process_fits : process < MOST_PROCESSES
+  pub number_fits : number < MOST_OPERATIONS
+
+-- the parts of an entry are within the limits of a report
+abbrev pub EntryFits : List (List ℕ) → Entry → Type 0
+EntryFits names (Called at id op) = ColumnsFit at id.process id.number × OpFits names op
+EntryFits names (Answered at id answer) = ColumnsFit at id.process id.number × AnswerFits answer
+
+-- the entry is within the limits, and in place after those before it
+abbrev pub Follows : List (List ℕ) → Extent → List Entry → Entry → Type 0
+Follows names shape before e = EntryFits names e × IsInPlace shape.processes shape.registers before e

@@ -1,0 +1,19 @@
+-- The lines of an order and of points.
+use Rattle.std.specs.Prelude.{ℕ, ◌<◌, ◌≤◌, List, ◌∷◌, ◌++◌, codes}
+use Rattle.std.specs.Fmt.{decimal}
+use Rattle.reg_base.specs.declared.limits.TheConstants.{MOST_PROCESSES, MOST_OPERATIONS, LAST_EVENT}
+use Rattle.reg_base.specs.declared.memory.OpId.{OpId}
+use Rattle.reg_history.specs.declared.entries.Point.{Point}
+
+abbrev pub id_text : OpId → List ℕ
+id_text id = codes "p" ++ (decimal id.process ++ 32 ∷ (codes "#" ++ decimal id.number))
+
+abbrev pub point_text : Point → List ℕ
+point_text p = codes "p" ++ (decimal p.id.process ++ 32 ∷ (codes "#" ++ (decimal p.id.number ++ 32 ∷ (codes "at " ++ decimal p.at))))
+
+-- within the limits of a report
+abbrev pub IdFits : OpId → Type 0
+IdFits id = (id.process < MOST_PROCESSES) × (id.number < MOST_OPERATIONS)
+
+abbrev pub PointFits : Point → Type 0
+PointFits p = IdFits p.id × (p.at ≤ LAST_EVENT)

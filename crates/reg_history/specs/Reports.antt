@@ -1,0 +1,93 @@
+-- The text of a report.
+use Rattle.std.specs.Prelude.{ℕ, ◌≡◌, ◌≢◌, ◌<◌, ◌≤◌, ◌&&◌, nat_lt, nat_le, Bool, true, ◌⊎◌, List, [], ◌∷◌, ◌++◌, length, map, codes, Option, None, Some}
+use Rattle.std.specs.List.{list_all}
+use Rattle.std.specs.Fmt.{decimal}
+use Rattle.reg_base.specs.declared.limits.TheConstants.{MOST_PROCESSES}
+use Rattle.reg_base.specs.declared.memory.OpId.{OpId}
+use Rattle.reg_base.specs.Shape.{Extent}
+use Rattle.reg_base.specs.Names.{names_fault}
+use Rattle.reg_text.specs.Words.{names_text, is_front_letter}
+use Rattle.reg_text.specs.Lines.{AllFit, text_of}
+use Rattle.reg_history.specs.declared.entries.Entry.{Entry}
+use Rattle.reg_history.specs.declared.entries.Point.{Point}
+use Rattle.reg_history.specs.declared.report_faults.ReportFault.{ReportFault}
+use Rattle.reg_history.specs.declared.report_faults.ReportFault.TheVariants.{Front, Names, Range}
+use Rattle.reg_history.specs.declared.report_limits.TheConstants.{MOST_ENTRIES, MOST_IDS, LONGEST_FRONT}
+use Rattle.reg_history.specs.History.{IsHistory}
+use Rattle.reg_history.specs.EntryLines.{entry_text, EntryFits}
+use Rattle.reg_history.specs.IdLines.{id_text, IdFits, point_text, PointFits}
+
+-- one word, not too long, of letters a to z or hyphens
+abbrev pub is_front : List ℕ → Bool
+is_front word = nat_lt 0 (length word) && (nat_le (length word) LONGEST_FRONT && list_all is_front_letter word)
+
+-- what a report holds
+pub record Contents : Type 0 where
+  pub front : List ℕ
+  pub shape : Extent
+  pub names : List (List ℕ)
+  pub entries : List Entry
+  pub order : List OpId
+  pub points : Option (List Point)
+
+abbrev pub head_lines : List ℕ → ℕ → List (List ℕ) → List (List ℕ) → List (List ℕ)
+head_lines front processes names rest =
+    codes "awreg report 1" ∷ (codes "front " ++ front) ∷ (codes "processes " ++ decimal processes) ∷ (codes "registers" ++ names_text names) ∷ rest
+
+-- a line with the count, and a line for each
+abbrev pub counted_lines : {X : Type 0} → List ℕ → (X → List ℕ) → List X → List (List ℕ) → List (List ℕ)
+counted_lines mark line_of xs rest = (mark ++ decimal (length xs)) ∷ (map line_of xs ++ rest)
+
+abbrev pub tail_lines : Option (List Point) → List (List ℕ)
+tail_lines None = codes "end" ∷ []
+tail_lines (Some points) = counted_lines (codes "points ") point_text points (codes "end" ∷ [])
+
+-- the lines of a report
+abbrev pub report_lines : Contents → List (List ℕ)
+report_lines r =
+    head_lines r.front r.shape.processes r.names
+    (counted_lines (codes "history ") (entry_text r.names) r.entries
+    (counted_lines (codes "order ") id_text r.order
+    (tail_lines r.points)))
+
+-- the text of a report
+abbrev pub report_text : Contents → List ℕ
+report_text r = text_of (report_lines r)
+
+-- the text, or the text without its last line feed
+abbrev pub IsTextOf : List ℕ → List ℕ → Type 0
+IsTextOf text whole = (text ≡ whole) ⊎ (text ++ 10 ∷ [] ≡ whole)
+
+-- the lines are those of a count and of as many elements, each fit, no more than the limit, and then the rest
+pub record IsCounted {X : Type 0} (mark : List ℕ) (line_of : X → List ℕ) (Fits : List X → X → Type 0) (limit : ℕ) (old rest : List (List ℕ)) (xs : List X) : Type 0 where
+  pub lines : old ≡ counted_lines mark line_of xs rest
+  pub fit : AllFit Fits xs
+  pub few : length xs ≤ limit
+
+abbrev pub PointsFit : Option (List Point) → Type 0
+PointsFit None = Unit {0}
+PointsFit (Some points) = AllFit (λ _ p. PointFits p) points × (length points ≤ MOST_IDS)
+
+-- ids, points and lengths within the limits
+pub record InRange (entries : List Entry) (order : List OpId) (points : Option (List Point)) : Type 0 where
+  pub few_entries : length entries ≤ MOST_ENTRIES
+  pub ids : AllFit (λ _ id. IdFits id) order
+  pub few_ids : length order ≤ MOST_IDS
+  pub points_fit : PointsFit points
+
+-- within the limits of a report
+pub record IsReport (r : Contents) : Type 0 where
+  pub front : is_front r.front ≡ true
+  pub names : names_fault r.names ≡ None
+  pub some_process : 0 < r.shape.processes
+  pub processes : r.shape.processes ≤ MOST_PROCESSES
+  pub registers : r.shape.registers ≡ length r.names
+  pub history : IsHistory r.shape.processes r.shape.registers r.entries
+  pub entries : AllFit (λ _ e. EntryFits r.names e) r.entries
+  pub range : InRange r.entries r.order r.points
+
+-- why parts are no report: the lowest of the three that holds
+abbrev pub IsReportFault : Contents → ReportFault → Type 0
+IsReportFault r Front = is_front r.front ≢ true
+IsReportFault r Names = (is_front r.front ≡ true) × (r.shape.registers ≢ length r.names)
+IsReportFault r Range = (is_front r.front ≡ true) × (r.shape.registers ≡ length r.names) × (¬ InRange r.entries r.order r.points)

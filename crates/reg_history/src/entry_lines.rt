@@ -1,0 +1,123 @@
+//! Readers of the lines of a history.
+ghost use Rattle.std.specs.Prelude.{◌≡◌, ◌↔◌, ℕ, List, None, Some, IfSome, IsSomeAnd, IsTrue};
+ghost use Rattle.reg_base.specs.Names.{names_fault};
+ghost use Rattle.reg_base.specs.declared.memory.Answer.{Answer};
+ghost use Rattle.reg_history.specs.declared.entries.Entry.{Entry};
+ghost use Rattle.reg_history.specs.EntryLines.{answer_text, AnswerFits, columns_text, ColumnsFit, entry_text, EntryFits};
+
+use crate::entries::Entry;
+use crate::report_faults::ReadWhy;
+use reg_base::limits::{LAST_EVENT, MOST_OPERATIONS, MOST_PROCESSES};
+use reg_base::{Answer, Names, OpId};
+use reg_text::{
+    Why, cut, form, in_front, is_numeral, left_field, numeral, op_form, read_op, right_field, skip,
+    within,
+};
+use std::alloc::Allocator;
+
+/// The answer that is the whole of the bytes.
+fn read_answer(bytes: &[u8]) -> Option<Answer>
+    ensures read { IfSome result (λ x. (bytes.now ≡ answer_text x) × AnswerFits x) }
+    ensures whole { (x : Answer) → AnswerFits x → bytes.now ≡ answer_text x → result ≡ Some x }
+{
+    if bytes == b"done".as_slice() {
+        return Some(Answer::Done);
+    }
+    let digits = skip(bytes, b"value ")?;
+    let number = numeral(digits)?;
+    Some(Answer::Value(number))
+}
+
+fn are_within(at: u64, process: u64, number: u64) -> bool
+    ensures { IsTrue result ↔ ColumnsFit at process number }
+{
+    at <= LAST_EVENT as u64 && process < MOST_PROCESSES as u64 && number < MOST_OPERATIONS as u64
+}
+
+/// The columns of a line, and the rest.
+fn read_columns(line: &[u8]) -> Option<(u32, u8, u32, &[u8])>
+    ensures read { IfSome result (λ p. (line.now ≡ columns_text p.0 p.1 p.2 p.3.now) × ColumnsFit p.0 p.1 p.2) }
+    ensures whole { (at process number : ℕ) (rest : List ℕ) → ColumnsFit at process number → line.now ≡ columns_text at process number rest → IsSomeAnd result (λ p. (p.0 ≡ at) × (p.1 ≡ process) × (p.2 ≡ number) × (p.3.now ≡ rest)) }
+{
+    let (at, after) = right_field(line, 8, b"  p")?;
+    let (process, others) = left_field(after, 3, b"  #")?;
+    let (number, rest) = left_field(others, 6, b"  ")?;
+    if !are_within(at, process, number) {
+        return None;
+    }
+    Some((at as u32, process as u8, number as u32, rest))
+}
+
+/// The entry of a line. None where the line is none, and then `why_entry` says why.
+pub fn read_entry<A: Allocator + Copy>(line: &[u8], names: &Names<A>) -> Option<Entry>
+    requires { names_fault names.now ≡ None }
+    ensures read { IfSome result (λ e. (line.now ≡ entry_text names.now e) × EntryFits names.now e) }
+    ensures whole { (e : Entry) → EntryFits names.now e → line.now ≡ entry_text names.now e → result ≡ Some e }
+{
+    let (at, process, number, rest) = read_columns(line)?;
+    let id = OpId { process, number };
+    if let Some(text) = skip(rest, b"call    ") {
+        let op = read_op(text, names)?;
+        return Some(Entry::Called { at, id, op });
+    }
+    let text = skip(rest, b"answer  ")?;
+    let answer = read_answer(text)?;
+    Some(Entry::Answered { at, id, answer })
+}
+
+fn behind(bytes: &[u8]) -> &[u8] {
+    let mut rest = bytes;
+    for _ in 0..bytes.len() {
+        match skip(rest, b" ") {
+            Some(after) => rest = after,
+            None => return rest,
+        }
+    }
+    rest
+}
+
+fn answer_form(text: &[u8]) -> Option<Why> {
+    if text == b"done".as_slice() {
+        return Some(Why::Range);
+    }
+    let digits = skip(text, b"value ")?;
+    form(is_numeral(digits))?;
+    Some(Why::Range)
+}
+
+fn tail_form<A: Allocator + Copy>(rest: &[u8], names: &Names<A>) -> Option<Why> {
+    match skip(rest, b"call    ") {
+        Some(text) => op_form(text, names),
+        None => answer_form(skip(rest, b"answer  ")?),
+    }
+}
+
+fn entry_form<A: Allocator + Copy>(line: &[u8], names: &Names<A>) -> Option<Why> {
+    let (at, rest) = cut(line, 8)?;
+    let rest = skip(rest, b"  p")?;
+    let (process, rest) = cut(rest, 3)?;
+    let rest = skip(rest, b"  #")?;
+    let (number, rest) = cut(rest, 6)?;
+    let rest = skip(rest, b"  ")?;
+    let at = behind(at);
+    let process = in_front(process);
+    let number = in_front(number);
+    form(is_numeral(at) && is_numeral(process) && is_numeral(number))?;
+    let why = tail_form(rest, names)?;
+    let columns_fit = within(at, LAST_EVENT as u64)
+        && within(process, MOST_PROCESSES as u64 - 1)
+        && within(number, MOST_OPERATIONS as u64 - 1);
+    if columns_fit {
+        Some(why)
+    } else {
+        Some(Why::Range)
+    }
+}
+
+/// Why a line is no entry.
+pub fn why_entry<A: Allocator + Copy>(line: &[u8], names: &Names<A>) -> ReadWhy {
+    match entry_form(line, names) {
+        Some(why) => ReadWhy::from(why),
+        None => ReadWhy::Form,
+    }
+}

@@ -1,0 +1,78 @@
+//! Readers of the lines of an order and of points.
+ghost use Rattle.std.specs.Prelude.{◌≡◌, None, Some, IfSome};
+ghost use Rattle.reg_base.specs.declared.memory.OpId.{OpId};
+ghost use Rattle.reg_history.specs.declared.entries.Point.{Point};
+ghost use Rattle.reg_history.specs.IdLines.{id_text, IdFits, point_text, PointFits};
+
+use crate::entries::Point;
+use crate::report_faults::ReadWhy;
+use reg_base::OpId;
+use reg_base::limits::{LAST_EVENT, MOST_OPERATIONS, MOST_PROCESSES};
+use reg_text::{cut_at, field_within, form, is_numeral, numeral_within, skip};
+
+/// The operation of a line.
+pub fn read_id(line: &[u8]) -> Option<OpId>
+    ensures read { IfSome result (λ id. (line.now ≡ id_text id) × IdFits id) }
+    ensures whole { (id : OpId) → IdFits id → line.now ≡ id_text id → result ≡ Some id }
+{
+    let text = skip(line, b"p")?;
+    let (process, after) = field_within(text, MOST_PROCESSES as u64 - 1, b' ')?;
+    let digits = skip(after, b"#")?;
+    let number = numeral_within(digits, MOST_OPERATIONS as u64 - 1)?;
+    Some(OpId {
+        process: process as u8,
+        number: number as u32,
+    })
+}
+
+/// The point of a line.
+pub fn read_point(line: &[u8]) -> Option<Point>
+    ensures read { IfSome result (λ p. (line.now ≡ point_text p) × PointFits p) }
+    ensures whole { (p : Point) → PointFits p → line.now ≡ point_text p → result ≡ Some p }
+{
+    let text = skip(line, b"p")?;
+    let (process, after) = field_within(text, MOST_PROCESSES as u64 - 1, b' ')?;
+    let digits = skip(after, b"#")?;
+    let (number, last) = field_within(digits, MOST_OPERATIONS as u64 - 1, b' ')?;
+    let event = skip(last, b"at ")?;
+    let at = numeral_within(event, LAST_EVENT as u64)?;
+    Some(Point {
+        id: OpId {
+            process: process as u8,
+            number: number as u32,
+        },
+        at: at as u32,
+    })
+}
+
+fn id_form(line: &[u8]) -> Option<()> {
+    let text = skip(line, b"p")?;
+    let (process, after) = cut_at(text, b' ')?;
+    let digits = skip(after, b"#")?;
+    form(is_numeral(process) && is_numeral(digits))
+}
+
+/// Why a line is no operation of an order.
+pub fn why_id(line: &[u8]) -> ReadWhy {
+    match id_form(line) {
+        Some(()) => ReadWhy::Range,
+        None => ReadWhy::Form,
+    }
+}
+
+fn point_form(line: &[u8]) -> Option<()> {
+    let text = skip(line, b"p")?;
+    let (process, after) = cut_at(text, b' ')?;
+    let digits = skip(after, b"#")?;
+    let (number, last) = cut_at(digits, b' ')?;
+    let event = skip(last, b"at ")?;
+    form(is_numeral(process) && is_numeral(number) && is_numeral(event))
+}
+
+/// Why a line is no point.
+pub fn why_point(line: &[u8]) -> ReadWhy {
+    match point_form(line) {
+        Some(()) => ReadWhy::Range,
+        None => ReadWhy::Form,
+    }
+}

@@ -1,0 +1,243 @@
+use crate::{
+    Entry, History, Point, ReadFault, ReadWhy, Report, ReportFault, read_report, write_report,
+};
+use reg_base::{Answer, Names, Op, OpId, Shape};
+use std::process::Abort;
+use std::test::Fail;
+
+const ONE_PROCESS: &str =
+    "awreg report 1\nfront linear\nprocesses 1\nregisters x\nhistory 4\n       0  p0    #0       call    write x 5\n       0  p0    #0       answer  done\n       1  p0    #1       call    read x\n       1  p0    #1       answer  value 5\norder 2\np0 #0\np0 #1\npoints 2\np0 #0 at 0\np0 #1 at 1\nend\n";
+
+const NO_POINTS: &str =
+    "awreg report 1\nfront local-read\nprocesses 3\nregisters x\nhistory 4\n       0  p0    #0       call    write x 5\n       4  p0    #0       answer  done\n       5  p1    #0       call    read x\n       5  p1    #0       answer  value 0\norder 2\np1 #0\np0 #0\nend\n";
+
+fn fault(line: u64, why: ReadWhy) -> Option<ReadFault> {
+    Some(ReadFault::Line { line, why })
+}
+
+fn id(number: u32) -> OpId {
+    OpId { process: 0, number }
+}
+
+fn entries() -> [Entry; 4] {
+    [
+        Entry::Called {
+            at: 0,
+            id: id(0),
+            op: Op::Write {
+                register: 0,
+                value: 5,
+            },
+        },
+        Entry::Answered {
+            at: 0,
+            id: id(0),
+            answer: Answer::Done,
+        },
+        Entry::Called {
+            at: 1,
+            id: id(1),
+            op: Op::Read { register: 0 },
+        },
+        Entry::Answered {
+            at: 1,
+            id: id(1),
+            answer: Answer::Value(5),
+        },
+    ]
+}
+
+fn points() -> [Point; 2] {
+    [Point { id: id(0), at: 0 }, Point { id: id(1), at: 1 }]
+}
+
+fn made(
+    rt: &HostRuntime,
+    front: &str,
+    names: &[&str],
+    ids: &[OpId],
+    points: &[Point],
+) -> Result<Result<Report, ReportFault>, Fail> {
+    let mut history = History::new(rt.alloc(), Shape::new(1, 1)?)?;
+    for entry in entries() {
+        history.push(entry)?;
+    }
+    let mut words = Vec::new(rt.alloc());
+    for name in names {
+        words.push(String::from_str(rt.alloc(), *name)?)?;
+    }
+    Ok(Report::new(
+        String::from_str(rt.alloc(), front)?,
+        Names::new(words)?,
+        history,
+        ids.to_vec(rt.alloc())?,
+        Some(points.to_vec(rt.alloc())?),
+    ))
+}
+
+#[test]
+fn a_report_is_written(rt: HostRuntime) -> Result<(), Fail> {
+    let report = made(&rt, "linear", &["x"], &[id(0), id(1)], &points())??;
+    assert_eq!(rt; report.front(), "linear");
+    assert_eq!(rt; report.names().count(), 1);
+    assert_eq!(rt; report.history().entries(), entries().as_slice());
+    assert_eq!(rt; report.order(), [id(0), id(1)].as_slice());
+    assert_eq!(rt; report.points(), Some(points().as_slice()));
+    let mut out = Vec::new(rt.alloc());
+    write_report(&mut out, &report)?;
+    assert_eq!(rt; out.as_slice(), ONE_PROCESS.as_bytes());
+    Ok(())
+}
+
+#[test]
+fn parts_that_are_no_report_are_refused(rt: HostRuntime) -> Result<(), Fail> {
+    let far = [OpId {
+        process: 16,
+        number: 0,
+    }];
+    let late = [Point {
+        id: id(0),
+        at: 1_048_576,
+    }];
+    assert_eq!(rt;
+        made(&rt, "", &["x", "y"], &far, &late)?.err(),
+        Some(ReportFault::Front)
+    );
+    assert_eq!(rt;
+        made(&rt, "abcdefghijklmnopq", &["x"], &[], &[])?.err(),
+        Some(ReportFault::Front)
+    );
+    assert_eq!(rt;
+        made(&rt, "linear", &["x", "y"], &far, &[])?.err(),
+        Some(ReportFault::Names)
+    );
+    assert_eq!(rt;
+        made(&rt, "linear", &["x"], &far, &[])?.err(),
+        Some(ReportFault::Range)
+    );
+    assert_eq!(rt;
+        made(&rt, "linear", &["x"], &[id(65_535)], &[])?.err(),
+        Some(ReportFault::Range)
+    );
+    assert_eq!(rt;
+        made(&rt, "linear", &["x"], &[], &late)?.err(),
+        Some(ReportFault::Range)
+    );
+    assert!(rt; made(&rt, "a-word-of-sixteen", &["x"], &[], &[])?.is_err());
+    assert!(rt; made(&rt, "another-word-too", &["x"], &[id(65_534)], &[])?.is_ok());
+    Ok(())
+}
+
+#[test]
+fn reports_are_written_as_read(rt: HostRuntime) -> Result<(), Fail> {
+    for text in [ONE_PROCESS, NO_POINTS] {
+        let report = read_report(rt.alloc(), text)?;
+        let mut out = Vec::new(rt.alloc());
+        write_report(&mut out, &report)?;
+        assert_eq!(rt; out.as_slice(), text.as_bytes());
+    }
+    Ok(())
+}
+
+fn is_refused_at_a_line(rt: &HostRuntime, bytes: &[u8]) -> Result<bool, Fail> {
+    let text = std::str::from_utf8(bytes)?;
+    Ok(matches!(
+        read_report(rt.alloc(), text).err(),
+        Some(ReadFault::Line { .. })
+    ))
+}
+
+#[test]
+fn every_shorter_text_is_refused(rt: HostRuntime) -> Result<(), Fail> {
+    let bytes = ONE_PROCESS.as_bytes();
+    for length in 0..bytes.len() {
+        let whole = length + 1 == bytes.len();
+        assert_eq!(rt;
+            is_refused_at_a_line(&rt, &bytes[..length])?,
+            !whole,
+            "{length}"
+        );
+    }
+    Ok(())
+}
+
+fn refusal(rt: &HostRuntime, text: &str, old: &str, new: &str) -> Result<Option<ReadFault>, Fail> {
+    let changed = text.replacen(rt.alloc(), old, new, 1)?;
+    Ok(read_report(rt.alloc(), changed.as_str()).err())
+}
+
+#[test]
+fn a_report_is_refused_at_its_line(rt: HostRuntime) -> Result<(), Fail> {
+    let cases = [
+        ("end\n", "", 16, ReadWhy::End),
+        ("end\n", "end\n\n", 17, ReadWhy::End),
+        ("end\n", "end\nend\n", 17, ReadWhy::End),
+        ("answer  done", "answer done", 7, ReadWhy::Form),
+        (
+            "p0    #0       call    write x 5\n       0  p0    #0       answer  done",
+            "p0    #0       answer  done\n       0  p0    #0       call    write x 5",
+            6,
+            ReadWhy::Place,
+        ),
+        ("write x 5", "write y 5", 6, ReadWhy::Name),
+        (
+            "write x 5",
+            "write x 18446744073709551616",
+            6,
+            ReadWhy::Range,
+        ),
+        ("write x 5", "write x 05", 6, ReadWhy::Form),
+        ("write x 5", "write x 5 ", 6, ReadWhy::Form),
+        ("write x 5", "write  x 5", 6, ReadWhy::Form),
+        ("write x 5", "write x 5\r", 6, ReadWhy::Form),
+        (
+            "       0  p0    #0       call",
+            " 1048576  p0    #0       call",
+            6,
+            ReadWhy::Range,
+        ),
+        (
+            "       0  p0    #0       call",
+            "       0  p16   #0       call",
+            6,
+            ReadWhy::Range,
+        ),
+        (
+            "       0  p0    #0       call",
+            "       0  p0    #65535   call",
+            6,
+            ReadWhy::Range,
+        ),
+        ("history 4", "history 2097153", 5, ReadWhy::Range),
+        ("history 4", "history 04", 5, ReadWhy::Form),
+        ("history 4", "history 5", 10, ReadWhy::Form),
+        ("front linear", "front local read", 2, ReadWhy::Form),
+        ("front linear", "front abcdefghijklmnopq", 2, ReadWhy::Form),
+        ("registers x", "registers x x", 4, ReadWhy::Name),
+        ("registers x", "registers x1", 4, ReadWhy::Name),
+        ("registers x", "registers", 4, ReadWhy::Form),
+        ("registers x", "registers x ", 4, ReadWhy::Form),
+        ("processes 1", "processes 0", 3, ReadWhy::Range),
+        ("processes 1", "processes 17", 3, ReadWhy::Range),
+        ("report 1", "report 2", 1, ReadWhy::Form),
+        ("p0 #1\npoints", "p0 #65535\npoints", 12, ReadWhy::Range),
+        ("order 2", "order 1048577", 10, ReadWhy::Range),
+        ("p0 #1 at 1", "p0 #1 at 1048576", 15, ReadWhy::Range),
+        ("p0 #1 at 1", "p0 #1 at1", 15, ReadWhy::Form),
+        ("p0 #1 at 1", "p16 #1 at 1", 15, ReadWhy::Range),
+    ];
+    for (old, new, line, why) in cases {
+        assert_eq!(rt;
+            refusal(&rt, ONE_PROCESS, old, new)?,
+            fault(line, why),
+            "{new}"
+        );
+    }
+    assert_eq!(rt; read_report(rt.alloc(), "").err(), fault(1, ReadWhy::End));
+    assert_eq!(rt; refusal(&rt, NO_POINTS, "p1 #0\n", "p15 #0\n")?, None);
+    assert_eq!(rt;
+        refusal(&rt, NO_POINTS, "p1    #0       call", "p3    #0       call")?,
+        fault(8, ReadWhy::Place)
+    );
+    Ok(())
+}

@@ -1,0 +1,273 @@
+//! Reports, and their texts.
+ghost use Rattle.std.specs.Prelude.{◌≡◌, ◌↔◌, ◌<◌, ◌≤◌, ℕ, Some, IfOk, OnOk, MatchResult, IsTrue, option_map, slice_get, string_bytes};
+ghost use Rattle.std.specs.Io.KnownBytes.{Appends};
+ghost use Rattle.reg_base.specs.declared.memory.OpId.{OpId};
+ghost use Rattle.reg_text.specs.Lines.{AllFit};
+ghost use Rattle.reg_history.specs.declared.entries.Entry.{Entry};
+ghost use Rattle.reg_history.specs.declared.entries.Point.{Point};
+ghost use Rattle.reg_history.specs.EntryLines.{EntryHasValue};
+ghost use Rattle.reg_history.specs.IdLines.{IdFits, PointFits};
+ghost use Rattle.reg_history.specs.Reports.{report_lines, report_text, IsReport, IsReportFault, InRange, PointsFit, IsTextOf, Contents};
+
+use crate::entries::{Entry, Point};
+use crate::log::History;
+use crate::parts::{is_front, read_head, read_history, read_order, read_tail};
+use crate::report_faults::{ReadFault, ReadWhy, ReportFault, WriteFault, at_line};
+use crate::report_limits::{MOST_ENTRIES, MOST_IDS};
+use crate::write::{write_count, write_entries, write_head, write_ids, write_tail};
+use reg_base::limits::{LAST_EVENT, MOST_OPERATIONS, MOST_PROCESSES};
+use reg_base::{Answer, Names, OpId, Shape};
+use reg_text::{Lines, value_fits};
+use std::alloc::{Allocator, Global};
+use std::io::Write;
+use std::marker::Model;
+
+/// A history with an order of its operations, and points where there are any.
+#[derive(Drop)]
+pub struct Report<A: Allocator + Copy = Global> {
+    front: String<A>,
+    names: Names<A>,
+    history: History<A>,
+    order: Vec<OpId, A>,
+    points: Option<Vec<Point, A>>,
+}
+
+impl<A: Allocator + Copy> Model for Report<A> {
+    ghost use Rattle.std.specs.Prelude.{option_map, string_bytes};
+    ghost use Rattle.reg_history.specs.Reports.{Contents, IsReport};
+
+    ghost Value = { Contents };
+
+    ghost view = { λ r. record { front = string_bytes r.front; shape = r.history.shape; names = r.names; entries = r.history.entries; order = r.order.items; points = option_map (λ v. v.items) r.points } };
+
+    ghost invariant = { λ r. IsReport (record { front = string_bytes r.front; shape = r.history.shape; names = r.names; entries = r.history.entries; order = r.order.items; points = option_map (λ v. v.items) r.points }) };
+}
+
+fn id_fits(id: OpId) -> bool
+    ensures { IsTrue result ↔ IdFits id }
+{
+    (id.process as u32) < MOST_PROCESSES && id.number < MOST_OPERATIONS
+}
+
+fn point_fits(point: Point) -> bool
+    ensures { IsTrue result ↔ PointFits point }
+{
+    id_fits(point.id) && point.at <= LAST_EVENT
+}
+
+fn ids_fit(ids: &[OpId]) -> bool
+    ensures { IsTrue result ↔ AllFit (λ _ id. IdFits id) ids.now }
+{
+    for id in ids {
+        if !id_fits(*id) {
+            return false;
+        }
+    }
+    true
+}
+
+fn all_points_fit(points: &[Point]) -> bool
+    ensures { IsTrue result ↔ AllFit (λ _ p. PointFits p) points.now }
+{
+    for point in points {
+        if !point_fits(*point) {
+            return false;
+        }
+    }
+    true
+}
+
+fn points_fit<A: Allocator + Copy>(points: &Option<Vec<Point, A>>) -> bool
+    ensures { IsTrue result ↔ PointsFit (option_map (λ v. v.items) points.now) }
+{
+    match points {
+        Some(points) => points.len() <= MOST_IDS as usize && all_points_fit(points.as_slice()),
+        None => true,
+    }
+}
+
+fn is_in_range<A: Allocator + Copy>(
+    entries: &[Entry],
+    order: &[OpId],
+    points: &Option<Vec<Point, A>>,
+) -> bool
+    ensures { IsTrue result ↔ InRange entries.now order.now (option_map (λ v. v.items) points.now) }
+{
+    entries.len() <= MOST_ENTRIES as usize
+        && order.len() <= MOST_IDS as usize
+        && ids_fit(order)
+        && points_fit(points)
+}
+
+// The value of every entry has 64 bits: it does nothing, and its contract says so.
+fn value_has_bits(entry: Entry)
+    ensures { EntryHasValue entry }
+{
+    match entry {
+        Entry::Called { at: _, id: _, op } => value_fits(op),
+        Entry::Answered {
+            at: _,
+            id: _,
+            answer: Answer::Done,
+        } => {}
+        Entry::Answered {
+            at: _,
+            id: _,
+            answer: Answer::Value(_),
+        } => {}
+    }
+}
+
+fn values_have_bits(entries: &[Entry])
+    ensures { (k : ℕ) (e : Entry) → slice_get entries.now k ≡ Some e → EntryHasValue e }
+{
+    for entry in entries {
+        value_has_bits(*entry);
+    }
+}
+
+// Every shape has a process and not too many: it does nothing else than ask for them.
+fn processes_fit(shape: Shape)
+    ensures some { 0 < shape.processes }
+    ensures few { shape.processes ≤ MOST_PROCESSES }
+{
+    let _processes = shape.processes();
+}
+
+impl<A: Allocator + Copy> Report<A> {
+    /// A report of these parts. It takes no memory.
+    ///
+    /// # Errors
+    ///
+    /// `Front` where `front` isn't one word of 1 to 16 letters a to z or hyphens; else `Names` where there are not as
+    /// many names as the history has registers; else `Range` where an id or a point of the lists, or the length of
+    /// one, is beyond the limits of a report.
+    pub fn new(
+        front: String<A>,
+        names: Names<A>,
+        history: History<A>,
+        order: Vec<OpId, A>,
+        points: Option<Vec<Point, A>>,
+    ) -> Result<Report<A>, ReportFault>
+        ensures { let parts : Contents = record { front = string_bytes front; shape = history.shape; names = names; entries = history.entries; order = order.items; points = option_map (λ v. v.items) points } in
+            MatchResult result (λ r. (r ≡ parts) × IsReport parts) (λ fault. IsReportFault parts fault) }
+    {
+        if !is_front(front.as_str().as_bytes()) {
+            return Err(ReportFault::Front);
+        }
+        let shape = history.shape();
+        if names.count() != shape.registers() as usize {
+            return Err(ReportFault::Names);
+        }
+        if !is_in_range(history.entries(), order.as_slice(), &points) {
+            return Err(ReportFault::Range);
+        }
+        processes_fit(shape);
+        values_have_bits(history.entries());
+        Ok(Report {
+            front,
+            names,
+            history,
+            order,
+            points,
+        })
+    }
+
+    /// The name of the front end.
+    pub fn front(&self) -> &str
+        ensures { result.now ≡ self.now.front }
+    {
+        self.front.as_str()
+    }
+
+    /// The names of the registers.
+    pub fn names(&self) -> &Names<A>
+        ensures { result.now ≡ self.now.names }
+    {
+        &self.names
+    }
+
+    /// The history. The report that it stands in is within the limits.
+    pub fn history(&self) -> &History<A>
+        ensures shape { result.now.shape ≡ self.now.shape }
+        ensures entries { result.now.entries ≡ self.now.entries }
+        ensures report { IsReport self.now }
+    {
+        &self.history
+    }
+
+    /// The order of the operations.
+    pub fn order(&self) -> &[OpId]
+        ensures { result.now ≡ self.now.order }
+    {
+        self.order.as_slice()
+    }
+
+    /// The points, where the report has any.
+    pub fn points(&self) -> Option<&[Point]>
+        ensures { option_map (λ p. p.now) result ≡ self.now.points }
+    {
+        match &self.points {
+            Some(points) => Some(points.as_slice()),
+            None => None,
+        }
+    }
+}
+
+/// The report of these lines.
+fn read_lines<A: Allocator + Copy>(alloc: A, lines: &mut Lines<'_>) -> Result<Report<A>, ReadFault>
+    ensures read { IfOk result (λ r. (lines.old ≡ report_lines r) × IsReport r) }
+    ensures whole { (r : Contents) → IsReport r → lines.old ≡ report_lines r → MatchResult result (λ w. w ≡ r) (λ f. f ≡ ReadFault.OutOfMemory) }
+{
+    let (front, processes, names) = read_head(alloc, lines)?;
+    let Ok(shape) = Shape::new(processes, names.count() as u32) else {
+        return Err(at_line(lines, ReadWhy::Range));
+    };
+    let history = read_history(alloc, lines, shape, &names)?;
+    let order = read_order(alloc, lines)?;
+    let points = read_tail(alloc, lines)?;
+    Ok(Report {
+        front,
+        names,
+        history,
+        order,
+        points,
+    })
+}
+
+/// The report that the text spells, with or without its last line feed.
+///
+/// # Errors
+///
+/// `Line` names the first line that is wrong, and what is wrong with it; `OutOfMemory` says that what was read could
+/// not be kept.
+pub fn read_report<A: Allocator + Copy>(alloc: A, text: &str) -> Result<Report<A>, ReadFault>
+    ensures read { IfOk result (λ r. IsTextOf text.now (report_text r) × IsReport r) }
+    ensures whole { (r : Contents) → IsReport r → IsTextOf text.now (report_text r) → MatchResult result (λ w. w ≡ r) (λ f. f ≡ ReadFault.OutOfMemory) }
+{
+    let mut lines = Lines::new(text.as_bytes());
+    read_lines(alloc, &mut lines)
+}
+
+/// Writes the text of a report.
+///
+/// # Errors
+///
+/// `Write` where the writer failed: how much it took before is not known.
+pub fn write_report<A: Allocator + Copy, W: Write>(
+    writer: &mut W,
+    report: &Report<A>,
+) -> Result<(), WriteFault>
+    ensures { OnOk result (Appends (W.contents writer.old) (W.contents writer.new) (report_text report.now)) }
+{
+    let processes = report.history.shape().processes();
+    let entries = report.history.entries();
+    let order = report.order.as_slice();
+    write_head(writer, report.front.as_str(), processes, &report.names)?;
+    write_count(writer, "history ", entries.len())?;
+    write_entries(writer, &report.names, entries)?;
+    write_count(writer, "order ", order.len())?;
+    write_ids(writer, order)?;
+    write_tail(writer, &report.points)?;
+    Ok(())
+}

@@ -1,0 +1,16 @@
+pub mod Decimals
+pub mod Spaces
+pub mod Digits
+pub mod Marks
+pub mod Widths
+pub mod Parts
+pub mod NamesLack
+pub mod NumbersLack
+pub mod Spelling
+pub mod Split
+pub mod Turns
+pub mod Texts
+pub mod Worded
+pub mod Shaped
+pub mod Joining
+pub mod Shorts

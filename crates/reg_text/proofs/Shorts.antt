@@ -1,0 +1,57 @@
+-- Numerals of few digits.
+use Rattle.std.proofs.Common.{ℕ, ◌≡◌, ◌+◌, ◌-◌, ◌*◌, ◌<◌, ◌≤◌, ◌^◌, List, length, take, get_or, sym, ap, ◌∙◌, subst, arith, rules}
+use borrow.Author.Count.{below_more}
+use Rattle.std.proofs.lemmas.List.{length-take-le, get_or-take, take_all}
+use Rattle.std.specs.Fmt.{decimal}
+use Rattle.std.specs.Int.{IsInRange}
+use Rattle.std.specs.Char.{digit_value}
+use Rattle.std.specs.Str.Parse.{digits_value}
+use Rattle.std.proofs.lemmas.Fmt.{digits_decimal, digits_value-decimal, decimal-digits_value}
+use Rattle.std.proofs.lemmas.Int.Digits.{digits_value_more}
+use Rattle.std.proofs.lemmas.Str.Parse.{IsNumeralModel, numerals_by_value, tells_by_index, digits_value_short}
+use Rattle.reg_text.specs.Plain.{IsPlain}
+
+abbrev pub AreDigits : List ℕ → Type 0
+AreDigits ds = (i : ℕ) → i < length ds → IsInRange 48 57 (get_or ds i 0)
+
+by_place : IsNumeralModel AreDigits (digits_value 10)
+by_place = numerals_by_value AreDigits tells_by_index
+
+taken : (bs : List ℕ) (i : ℕ) → i ≤ length bs → ((k : ℕ) → k < i → IsInRange 48 57 (get_or bs k 0)) → AreDigits (take i bs)
+taken bs i l h = λ k w.
+    let long : length (take i bs) ≡ i = length-take-le i bs l in
+    let within : k < i = omega (arith, w, long) in
+    let P : ℕ → Type 0 = λ b. IsInRange 48 57 b in
+    subst P (sym (get_or-take i bs k 0 within)) (h k within)
+
+digit_is : (c : ℕ) → IsInRange 48 57 c → digit_value c ≡ c - 48
+digit_is c h = search (rules, h)
+
+-- one more digit
+pub next_value : (bs : List ℕ) (i v : ℕ) → i < length bs → length bs ≤ 19 → v ≡ digits_value 10 (take i bs) → ((k : ℕ) → k < i → IsInRange 48 57 (get_or bs k 0)) → IsInRange 48 57 (get_or bs i 0)
+    → (v * 10 + (get_or bs i 0 - 48) ≡ digits_value 10 (take (i + 1) bs)) × (v * 10 + (get_or bs i 0 - 48) < 2 ^ 64)
+next_value bs i v l short e h here =
+    let step : v * 10 + (get_or bs i 0 - 48) ≡ digits_value 10 (take (i + 1) bs) =
+    ap (λ x. x * 10 + (get_or bs i 0 - 48)) e ∙ ap (λ d. digits_value 10 (take i bs) * 10 + d) (sym (digit_is (get_or bs i 0) here)) ∙ sym (digits_value_more 10 bs i l) in
+    let few : length (take (i + 1) bs) ≤ 19 = omega (arith, length-take-le (i + 1) bs (omega arith)) in
+    let small : digits_value 10 (take (i + 1) bs) < 10 ^ 19 = digits_value_short by_place (take (i + 1) bs) 19 (taken bs (i + 1) (omega arith) (below_more (λ k. IsInRange 48 57 (get_or bs k 0)) i h here)) few in
+    (step, omega (arith, step, small))
+
+pub all_read : (bs : List ℕ) (i v : ℕ) → IsPlain bs → length bs ≤ 19 → i ≡ length bs → v ≡ digits_value 10 (take i bs) → ((k : ℕ) → k < i → IsInRange 48 57 (get_or bs k 0))
+    → (bs ≡ decimal v) × (v < 2 ^ 64)
+all_read bs i v plain short e same h =
+    let whole : take i bs ≡ bs = take_all i bs (omega (arith, e)) in
+    let value : v ≡ digits_value 10 bs = same ∙ ap (digits_value 10) whole in
+    let digits : AreDigits bs = λ k w. h k (omega (arith, w, e)) in
+    let small : digits_value 10 bs < 10 ^ 19 = digits_value_short by_place bs 19 digits short in
+    let fits : digits_value 10 bs < 2 ^ 64 = omega (arith, small) in
+    let back : decimal (digits_value 10 bs) ≡ bs = decimal-digits_value by_place bs digits plain.0 plain.2 fits in
+    (sym back ∙ ap decimal (sym value), omega (arith, value, fits))
+
+pub one_number : (bs : List ℕ) (v n : ℕ) → (bs ≡ decimal v) × (v < 2 ^ 64) → n < 2 ^ 64 → bs ≡ decimal n → v ≡ n
+one_number bs v n h small e = sym (digits_value-decimal by_place v h.1) ∙ ap (digits_value 10) (sym h.0 ∙ e) ∙ digits_value-decimal by_place n small
+
+pub digit_there : (bs : List ℕ) (i n : ℕ) → i < length bs → n < 2 ^ 64 → bs ≡ decimal n → IsInRange 48 57 (get_or bs i 0)
+digit_there bs i n l small e =
+    let P : List ℕ → Type 0 = AreDigits in
+    subst P (sym e) (digits_decimal by_place n small) i l

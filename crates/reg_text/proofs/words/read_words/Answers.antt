@@ -1,0 +1,45 @@
+use Rattle.std.proofs.Common.{ℕ, ◌≡◌, ◌+◌, List, [], ◌∷◌, ◌++◌, sym, ap, ◌∙◌, subst, rules, string_bytes}
+use Rattle.std.proofs.lemmas.List.{map-append}
+use Rattle.reg_base.specs.Names.{texts}
+use Rattle.reg_text.proofs.Split.{empty_is}
+use Rattle.reg_text.proofs.Worded.{Worded, worded, adds, no_word, no_text, finished}
+use Rattle.reg_text.proofs.words.read_words.Goals as goal
+
+pub loop-turn-init : goal.loop-turn-init
+loop-turn-init g c =
+    let none : c.new-words.result.items ≡ [] = search rules in
+    let P : List (List ℕ) → Type 0 = λ l. Worded c.args.text.now c.args.text.now l 0 in
+    subst P (sym (ap texts none)) (worded c.args.text.now)
+
+pub returns-then-is_empty-clause-read : goal.returns-then-is_empty-clause-read
+returns-then-is_empty-clause-read g c =
+    (finished c.args.text.now c.loop-turn.rest.now (texts c.loop-turn.words.items) c.loop-turn._turn c.loop-turn.invariant (empty_is c.loop-turn.rest.now (sym c.is_empty.ensures ∙ c.if-is_empty.true))).0
+
+pub returns-then-is_empty-clause-whole : goal.returns-then-is_empty-clause-whole
+returns-then-is_empty-clause-whole g c =
+    (finished c.args.text.now c.loop-turn.rest.now (texts c.loop-turn.words.items) c.loop-turn._turn c.loop-turn.invariant (empty_is c.loop-turn.rest.now (sym c.is_empty.ensures ∙ c.if-is_empty.true))).1
+
+pub returns-in_default-clause-whole : goal.returns-in_default-clause-whole
+returns-in_default-clause-whole g c = λ ns ok e.
+    absurd (no_word c.args.text.now c.loop-turn.rest.now (texts c.loop-turn.words.items) c.loop-turn._turn c.loop-turn.invariant (sym c.is_empty.ensures ∙ c.if-is_empty.false) c.in_default.ensures.whole ns ok e)
+
+pub returns-in-Ok-None-clause-whole : goal.returns-in-Ok-None-clause-whole
+returns-in-Ok-None-clause-whole g c = λ ns ok e.
+    let bad = (rw c.in-Ok-None.field-0-is at c.in-Ok-None.ensures) in
+    absurd (no_text c.args.text.now c.loop-turn.rest.now (texts c.loop-turn.words.items) c.loop-turn._turn c.in-Some.word.now c.in-Some.after.now c.loop-turn.invariant (sym c.is_empty.ensures ∙ c.if-is_empty.false) c.in-Some.ensures.whole bad ns ok e)
+
+pub loop-turn-preserved : goal.loop-turn-preserved
+loop-turn-preserved g c =
+    let grown : c.push.new.self.items ≡ c.loop-turn.words.items ++ c.in-Ok-Some.name ∷ [] = search rules in
+    let same = (rw c.in-Ok-Some.field-0-is at c.in-Ok-Some.ensures) in
+    let all : texts c.push.new.self.items ≡ texts c.loop-turn.words.items ++ c.in-Some.word.now ∷ [] = ap texts grown ∙ map-append string_bytes c.loop-turn.words.items (c.in-Ok-Some.name ∷ []) ∙ ap (λ w. texts c.loop-turn.words.items ++ w ∷ []) same in
+    let P : List (List ℕ) → Type 0 = λ l. Worded c.args.text.now c.in-Some.after.now l (c.loop-turn._turn + 1) in
+    subst P (sym all) (adds c.args.text.now c.loop-turn.rest.now (texts c.loop-turn.words.items) c.loop-turn._turn c.in-Some.word.now c.in-Some.after.now c.loop-turn.invariant (sym c.is_empty.ensures ∙ c.if-is_empty.false) c.in-Some.ensures.read c.in-Some.ensures.whole)
+
+pub returns-then-is_empty-2-clause-read : goal.returns-then-is_empty-2-clause-read
+returns-then-is_empty-2-clause-read g c =
+    (finished c.args.text.now c.loop-turn.rest.now (texts c.loop-turn.words.items) c.loop-turn._turn c.loop-turn.invariant (empty_is c.loop-turn.rest.now (sym c.is_empty-2.ensures ∙ c.if-is_empty-2.true))).0
+
+pub returns-then-is_empty-2-clause-whole : goal.returns-then-is_empty-2-clause-whole
+returns-then-is_empty-2-clause-whole g c =
+    (finished c.args.text.now c.loop-turn.rest.now (texts c.loop-turn.words.items) c.loop-turn._turn c.loop-turn.invariant (empty_is c.loop-turn.rest.now (sym c.is_empty-2.ensures ∙ c.if-is_empty-2.true))).1

@@ -1,0 +1,6 @@
+pub mod Plain
+pub mod Columns
+pub mod Parts
+pub mod Lines
+pub mod Words
+pub mod Ops

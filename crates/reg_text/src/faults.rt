@@ -1,0 +1,24 @@
+//! Why a text is refused.
+
+/// What is wrong with a line of a text. The form of a whole line is judged first, and then its fields from left to
+/// right.
+#[derive(Clone, Copy, Debug, PartialEq, Eq)]
+pub enum Why {
+    /// The line is spelled otherwise than such lines are.
+    Form,
+    /// A number, or how many names there are, is beyond its limit.
+    Range,
+    /// A name is misspelt, repeated or not known.
+    Name,
+    /// The text ends before this line, or goes on behind its last one.
+    End,
+}
+
+/// Why a text is refused.
+#[derive(Clone, Copy, Debug, PartialEq, Eq)]
+pub enum TextFault {
+    /// This line is the first that is wrong. Lines are counted from 1.
+    Line { line: u64, why: Why },
+    /// There was no memory to keep what was read.
+    OutOfMemory,
+}

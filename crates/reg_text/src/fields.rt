@@ -1,0 +1,168 @@
+//! Exact readers of the parts of a line.
+#![tactic(auto)]
+
+ghost use Rattle.std.specs.Prelude.{◌≡◌, ◌==◌, ◌<◌, ◌≤◌, ◌^◌, ℕ, List, ◌++◌, length, Some, IfSome, IsSomeAnd, IsTrue, ◌↔◌, not, MatchOption, ◌∷◌};
+ghost use Rattle.std.specs.Fmt.{decimal};
+ghost use Rattle.std.specs.List.{prefix_len, list_all, position_from};
+ghost use Rattle.reg_text.specs.Plain.{IsPlain};
+ghost use Rattle.reg_text.specs.Columns.{to_right, to_left};
+ghost use Rattle.reg_text.specs.Parts.{Lacks};
+
+use std::str;
+
+/// Numerals of no more digits have 64 bits.
+const SHORT: usize = 19;
+
+fn is_plain(bytes: &[u8]) -> bool
+    ensures { IsTrue result ↔ IsPlain bytes.now }
+{
+    if bytes.is_empty() {
+        return false;
+    }
+    let first = bytes[0];
+    first != b'+' && (first != b'0' || bytes.len() == 1)
+}
+
+fn parsed(bytes: &[u8]) -> Option<u64>
+    requires { IsPlain bytes.now }
+    ensures read { IfSome result (λ n. (bytes.now ≡ decimal n) × (n < 2 ^ 64)) }
+    ensures whole { (n : ℕ) → n < 2 ^ 64 → bytes.now ≡ decimal n → result ≡ Some n }
+{
+    match str::from_utf8(bytes) {
+        Ok(text) => match text.parse::<u64>() {
+            Ok(number) => Some(number),
+            Err(_) => None,
+        },
+        Err(_) => None,
+    }
+}
+
+/// The same of so few bytes that the number fits, with no test of that.
+fn parsed_short(bytes: &[u8]) -> Option<u64>
+    requires plain { IsPlain bytes.now }
+    requires short { length bytes.now ≤ SHORT }
+    ensures read { IfSome result (λ n. (bytes.now ≡ decimal n) × (n < 2 ^ 64)) }
+    ensures whole { (n : ℕ) → n < 2 ^ 64 → bytes.now ≡ decimal n → result ≡ Some n }
+{
+    let mut value = 0u64;
+    for byte in bytes {
+        if !byte.is_ascii_digit() {
+            return None;
+        }
+        value = value * 10 + (*byte - b'0') as u64;
+    }
+    Some(value)
+}
+
+/// The number that a numeral of no needless zero stands for.
+pub fn numeral(bytes: &[u8]) -> Option<u64>
+    ensures read { IfSome result (λ n. (bytes.now ≡ decimal n) × (n < 2 ^ 64)) }
+    ensures whole { (n : ℕ) → n < 2 ^ 64 → bytes.now ≡ decimal n → result ≡ Some n }
+{
+    if !is_plain(bytes) {
+        return None;
+    }
+    if bytes.len() <= SHORT {
+        parsed_short(bytes)
+    } else {
+        parsed(bytes)
+    }
+}
+
+fn spaces_before(bytes: &[u8]) -> usize
+    ensures count { result ≡ prefix_len (λ b. b == 32) bytes.now }
+    ensures within { result ≤ length bytes.now }
+{
+    bytes.iter().take_while(|b| **b == b' ').count()
+}
+
+/// A number at the right of its column.
+pub fn right_column(bytes: &[u8]) -> Option<u64>
+    ensures read { IfSome result (λ n. (bytes.now ≡ to_right (length bytes.now) (decimal n)) × (n < 2 ^ 64)) }
+    ensures whole { (n : ℕ) → n < 2 ^ 64 → bytes.now ≡ to_right (length bytes.now) (decimal n) → result ≡ Some n }
+{
+    let start = spaces_before(bytes);
+    numeral(&bytes[start..])
+}
+
+fn digits_before(bytes: &[u8]) -> usize
+    ensures count { result ≡ prefix_len (λ b. not (b == 32)) bytes.now }
+    ensures within { result ≤ length bytes.now }
+{
+    bytes.iter().take_while(|b| **b != b' ').count()
+}
+
+fn is_blank(bytes: &[u8]) -> bool
+    ensures { result ≡ list_all (λ b. b == 32) bytes.now }
+{
+    bytes.iter().all(|b| *b == b' ')
+}
+
+/// A number at the left of its column.
+pub fn left_column(bytes: &[u8]) -> Option<u64>
+    ensures read { IfSome result (λ n. (bytes.now ≡ to_left (length bytes.now) (decimal n)) × (n < 2 ^ 64)) }
+    ensures whole { (n : ℕ) → n < 2 ^ 64 → bytes.now ≡ to_left (length bytes.now) (decimal n) → result ≡ Some n }
+{
+    let end = digits_before(bytes);
+    if is_blank(&bytes[end..]) {
+        numeral(&bytes[..end])
+    } else {
+        None
+    }
+}
+
+/// The first bytes, and the rest.
+pub fn cut(bytes: &[u8], places: usize) -> Option<(&[u8], &[u8])>
+    ensures read { IfSome result (λ p. (bytes.now ≡ p.0.now ++ p.1.now) × (length p.0.now ≡ places)) }
+    ensures whole { (front rest : List ℕ) → bytes.now ≡ front ++ rest → length front ≡ places → IsSomeAnd result (λ p. (p.0.now ≡ front) × (p.1.now ≡ rest)) }
+{
+    bytes.split_at_checked(places)
+}
+
+/// What stands after the mark.
+pub fn skip<'a>(bytes: &'a [u8], mark: &[u8]) -> Option<&'a [u8]>
+    ensures read { IfSome result (λ r. bytes.now ≡ mark.now ++ r.now) }
+    ensures whole { (rest : List ℕ) → bytes.now ≡ mark.now ++ rest → IsSomeAnd result (λ r. r.now ≡ rest) }
+{
+    bytes.strip_prefix(mark)
+}
+
+/// A number at the left of its column, a mark, and the rest.
+pub fn left_field<'a>(bytes: &'a [u8], places: usize, mark: &[u8]) -> Option<(u64, &'a [u8])>
+    ensures read { IfSome result (λ p. (bytes.now ≡ to_left places (decimal p.0) ++ (mark.now ++ p.1.now)) × (p.0 < 2 ^ 64)) }
+    ensures whole { (n : ℕ) (rest : List ℕ) → n < 2 ^ 64 → length (decimal n) ≤ places → bytes.now ≡ to_left places (decimal n) ++ (mark.now ++ rest) → IsSomeAnd result (λ p. (p.0 ≡ n) × (p.1.now ≡ rest)) }
+{
+    let (digits, after) = cut(bytes, places)?;
+    let number = left_column(digits)?;
+    let rest = skip(after, mark)?;
+    Some((number, rest))
+}
+
+/// A number at the right of its column, a mark, and the rest.
+pub fn right_field<'a>(bytes: &'a [u8], places: usize, mark: &[u8]) -> Option<(u64, &'a [u8])>
+    ensures read { IfSome result (λ p. (bytes.now ≡ to_right places (decimal p.0) ++ (mark.now ++ p.1.now)) × (p.0 < 2 ^ 64)) }
+    ensures whole { (n : ℕ) (rest : List ℕ) → n < 2 ^ 64 → length (decimal n) ≤ places → bytes.now ≡ to_right places (decimal n) ++ (mark.now ++ rest) → IsSomeAnd result (λ p. (p.0 ≡ n) × (p.1.now ≡ rest)) }
+{
+    let (digits, after) = cut(bytes, places)?;
+    let number = right_column(digits)?;
+    let rest = skip(after, mark)?;
+    Some((number, rest))
+}
+
+fn place_of(bytes: &[u8], mark: u8) -> Option<usize>
+    ensures place { result ≡ position_from (λ b. b == mark) 0 bytes.now }
+    ensures within { IfSome result (λ i. i < length bytes.now) }
+{
+    bytes.iter().position(|b| *b == mark)
+}
+
+/// What stands before the first mark, and what after it.
+pub fn cut_at(bytes: &[u8], mark: u8) -> Option<(&[u8], &[u8])>
+    ensures read { MatchOption result (Lacks mark bytes.now) (λ p. (bytes.now ≡ p.0.now ++ mark ∷ p.1.now) × Lacks mark p.0.now) }
+    ensures whole { (front rest : List ℕ) → Lacks mark front → bytes.now ≡ front ++ mark ∷ rest → IsSomeAnd result (λ p. (p.0.now ≡ front) × (p.1.now ≡ rest)) }
+{
+    match place_of(bytes, mark) {
+        Some(place) => Some((&bytes[..place], &bytes[place + 1..])),
+        None => None,
+    }
+}

@@ -1,0 +1,71 @@
+//! Lines that are wanted as they are, and lines with one number or word.
+ghost use Rattle.std.specs.Prelude.{◌≡◌, ◌<◌, ◌≤◌, ℕ, List, ◌∷◌, ◌++◌, Ok, Err, None, Some, true, IfOk, IfSome, OnOk, MatchResult, MatchOption, string_bytes, codes};
+ghost use Rattle.std.specs.Fmt.{decimal};
+ghost use Rattle.std.specs.Str.{IsUtf8};
+ghost use Rattle.std.specs.List.{list_all};
+ghost use Rattle.reg_text.specs.Words.{is_front_letter};
+
+use crate::cursor::Lines;
+use crate::faults::{TextFault, Why};
+use crate::fields::skip;
+use crate::forms::why_number;
+use crate::numbers::numeral_within;
+use std::alloc::{AllocError, Allocator};
+use std::str;
+
+/// A line that is wanted as it is.
+pub fn expect_line(lines: &mut Lines<'_>, text: &[u8]) -> Result<(), TextFault>
+    ensures read { OnOk result (lines.old ≡ text.now ∷ lines.new) }
+    ensures whole { (rest : List (List ℕ)) → lines.old ≡ text.now ∷ rest → MatchResult result (λ _. lines.new ≡ rest) (λ _. ⊥) }
+{
+    match lines.next() {
+        Some(line) => {
+            if line == text {
+                Ok(())
+            } else {
+                Err(lines.fault(Why::Form))
+            }
+        }
+        None => Err(lines.fault(Why::End)),
+    }
+}
+
+/// The number of a line that begins with the mark.
+pub fn read_count(lines: &mut Lines<'_>, mark: &[u8], limit: u64) -> Result<u64, TextFault>
+    ensures read { IfOk result (λ n. (lines.old ≡ (mark.now ++ decimal n) ∷ lines.new) × (n ≤ limit)) }
+    ensures whole { (n : ℕ) (rest : List (List ℕ)) → n ≤ limit → lines.old ≡ (mark.now ++ decimal n) ∷ rest → MatchResult result (λ m. (m ≡ n) × (lines.new ≡ rest)) (λ _. ⊥) }
+{
+    let Some(line) = lines.next() else {
+        return Err(lines.fault(Why::End));
+    };
+    let Some(digits) = skip(line, mark) else {
+        return Err(lines.fault(Why::Form));
+    };
+    let Some(number) = numeral_within(digits, limit) else {
+        return Err(lines.fault(why_number(digits)));
+    };
+    Ok(number)
+}
+
+/// The bytes as a text of its own.
+pub fn owned<A: Allocator + Copy>(alloc: A, word: &[u8]) -> Result<Option<String<A>>, AllocError>
+    ensures { IfOk result (λ o. MatchOption o (¬ IsUtf8 word.now) (λ s. string_bytes s ≡ word.now)) }
+{
+    match str::from_utf8(word) {
+        Ok(text) => Ok(Some(String::from_str(alloc, text)?)),
+        Err(_) => Ok(None),
+    }
+}
+
+fn is_letter(b: u8) -> bool
+    ensures { result ≡ is_front_letter b }
+{
+    b.is_ascii_lowercase() || b == b'-'
+}
+
+/// Whether all are letters a to z or hyphens.
+pub fn are_front_letters(word: &[u8]) -> bool
+    ensures { result ≡ list_all is_front_letter word.now }
+{
+    word.iter().all(|b| is_letter(*b))
+}

@@ -1,0 +1,23 @@
+//! What the texts of the project share: a cursor over lines, numerals, columns, names, and operations as text.
+//!
+//! Each reader has two clauses: `read` says that what it read is spelled so, and `whole` that all that is spelled so
+//! is read, with its value. So a text has one meaning, and no other text has it.
+#![tactic(auto)]
+
+mod cursor;
+mod faults;
+mod fields;
+mod forms;
+mod heads;
+mod numbers;
+mod ops;
+mod words;
+
+pub use cursor::Lines;
+pub use faults::{TextFault, Why};
+pub use fields::{cut, cut_at, left_field, numeral, right_field, skip};
+pub use forms::{form, in_front, is_numeral, is_word, op_form, why_number, within};
+pub use heads::{are_front_letters, expect_line, owned, read_count};
+pub use numbers::{field_within, numeral_within};
+pub use ops::{OpLine, name_at, name_of_op, read_op, value_fits};
+pub use words::read_names;

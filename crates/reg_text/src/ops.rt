@@ -1,0 +1,82 @@
+//! Operations as text. A further kind of operation adds its case to each function here, and to `op_form`.
+ghost use Rattle.std.specs.Prelude.{◌≡◌, ◌<◌, ℕ, ◌++◌, None, Some, IfSome, codes};
+ghost use Rattle.std.specs.Fmt.{decimal};
+ghost use Rattle.reg_base.specs.Names.{names_fault};
+ghost use Rattle.reg_base.specs.declared.memory.Op.{Op};
+ghost use Rattle.reg_text.specs.Ops.{op_text, OpFits, HasValue, op_line, name_of as name_of_register};
+
+use crate::fields::{cut_at, numeral, skip};
+use reg_base::{Names, Op};
+use std::alloc::Allocator;
+use std::fmt;
+
+/// The operation that is the whole of the text. None where the text spells none with a register of these names and
+/// a value of 64 bits.
+pub fn read_op<A: Allocator + Copy>(text: &[u8], names: &Names<A>) -> Option<Op>
+    requires { names_fault names.now ≡ None }
+    ensures read { IfSome result (λ op. (text.now ≡ op_text names.now op) × OpFits names.now op) }
+    ensures whole { (op : Op) → OpFits names.now op → text.now ≡ op_text names.now op → result ≡ Some op }
+{
+    if let Some(name) = skip(text, b"read ") {
+        let register = names.find(name)?;
+        return Some(Op::Read { register });
+    }
+    let rest = skip(text, b"write ")?;
+    let (name, digits) = cut_at(rest, b' ')?;
+    let register = names.find(name)?;
+    let value = numeral(digits)?;
+    Some(Op::Write { register, value })
+}
+
+/// The name of a register, and nothing where there is none.
+pub fn name_at<A: Allocator + Copy>(names: &Names<A>, register: u16) -> &str
+    ensures { result.now ≡ name_of_register names.now register }
+{
+    match names.name(register) {
+        Some(name) => name,
+        None => "",
+    }
+}
+
+/// The name of the register that an operation names.
+pub fn name_of_op<A: Allocator + Copy>(names: &Names<A>, op: Op) -> &str
+    ensures { op_line result.now op ≡ op_text names.now op }
+{
+    match op {
+        Op::Read { register } => name_at(names, register),
+        Op::Write { register, .. } => name_at(names, register),
+    }
+}
+
+/// The value of every operation has 64 bits. It does nothing: its contract says so.
+pub fn value_fits(op: Op)
+    ensures { HasValue op }
+{
+    match op {
+        Op::Read { register: _ } => {}
+        Op::Write {
+            register: _,
+            value: _,
+        } => {}
+    }
+}
+
+/// Shows an operation on the register of this name.
+#[derive(Clone, Copy)]
+pub struct OpLine<'a> {
+    /// The register's name.
+    pub name: &'a str,
+    pub op: Op,
+}
+
+impl fmt::Display for OpLine<'_> {
+    ghost output = { λ l. Some (op_line l.name.now l.op) };
+
+    fn fmt<W: fmt::Write>(&self, f: &mut fmt::Formatter<W>) -> fmt::Result {
+        let name = self.name;
+        match self.op {
+            Op::Read { .. } => write!(f, "read {name}"),
+            Op::Write { value, .. } => write!(f, "write {name} {value}"),
+        }
+    }
+}

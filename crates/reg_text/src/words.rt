@@ -1,0 +1,118 @@
+//! The names of a line.
+ghost use Rattle.std.specs.Prelude.{◌≡◌, ◌<◌, ◌≤◌, ℕ, List, ◌∷◌, ◌++◌, Ok, Err, None, Some, IfOk, IfSome, IsSomeAnd, OnOk, MatchResult, codes};
+ghost use Rattle.reg_base.specs.Names.{names_fault, texts};
+ghost use Rattle.reg_text.specs.Parts.{Lacks};
+ghost use Rattle.reg_text.specs.Words.{names_text, Starts};
+
+use crate::cursor::Lines;
+use crate::faults::{TextFault, Why};
+use crate::fields::{cut_at, skip};
+use crate::forms::is_word;
+use crate::heads::owned;
+use reg_base::Names;
+use reg_base::limits::MOST_REGISTERS;
+use std::alloc::Allocator;
+
+/// Why words are refused.
+#[derive(Clone, Copy, Debug, PartialEq, Eq)]
+pub enum WordsFault {
+    Why(Why),
+    OutOfMemory,
+}
+
+/// The word behind a space, and the rest.
+pub fn next_word(text: &[u8]) -> Option<(&[u8], &[u8])>
+    ensures read { IfSome result (λ p. text.now ≡ 32 ∷ (p.0.now ++ p.1.now)) }
+    ensures whole { (word after : List ℕ) → Lacks 32 word → Starts 32 after → text.now ≡ 32 ∷ (word ++ after) → IsSomeAnd result (λ p. (p.0.now ≡ word) × (p.1.now ≡ after)) }
+{
+    let rest = skip(text, b" ")?;
+    match cut_at(rest, b' ') {
+        Some((word, _)) => Some((word, &rest[word.len()..])),
+        None => Some((rest, b"".as_slice())),
+    }
+}
+
+/// The words, each behind a space, and no more than names may be. Where there are more, the first that is wrong in the
+/// order from left to right decides: Name for one of those that may be, and else Range.
+pub fn read_words<A: Allocator + Copy>(
+    alloc: A,
+    text: &[u8],
+) -> Result<Vec<String<A>, A>, WordsFault>
+    ensures read { IfOk result (λ v. text.now ≡ names_text (texts v.items)) }
+    ensures whole { (ns : List (List ℕ)) → names_fault ns ≡ None → text.now ≡ names_text ns → MatchResult result (λ v. texts v.items ≡ ns) (λ f. f ≡ WordsFault.OutOfMemory) }
+{
+    let mut words = Vec::new(alloc);
+    let mut rest = text;
+    for _turn in 0..MOST_REGISTERS {
+        if rest.is_empty() {
+            return Ok(words);
+        }
+        let Some((word, after)) = next_word(rest) else {
+            return Err(WordsFault::Why(Why::Form));
+        };
+        let name = match owned(alloc, word) {
+            Ok(Some(name)) => name,
+            Ok(None) => return Err(WordsFault::Why(Why::Form)),
+            Err(_) => return Err(WordsFault::OutOfMemory),
+        };
+        if words.push(name).is_err() {
+            return Err(WordsFault::OutOfMemory);
+        }
+        rest = after;
+    }
+    if rest.is_empty() {
+        return Ok(words);
+    }
+    match Names::new(words) {
+        Ok(_) => Err(WordsFault::Why(Why::Range)),
+        Err(_) => Err(WordsFault::Why(Why::Name)),
+    }
+}
+
+/// Form where the words do not have it, and else the fault that is given.
+fn why_names(text: &[u8], why: Why) -> Why {
+    let mut rest = text;
+    if rest.is_empty() {
+        return Why::Form;
+    }
+    for _ in 0..text.len() {
+        if rest.is_empty() {
+            return why;
+        }
+        match next_word(rest) {
+            Some((word, after)) => {
+                if !is_word(word) {
+                    return Why::Form;
+                }
+                rest = after;
+            }
+            None => return Why::Form,
+        }
+    }
+    why
+}
+
+/// The names of their line.
+pub fn read_names<A: Allocator + Copy>(
+    alloc: A,
+    lines: &mut Lines<'_>,
+) -> Result<Names<A>, TextFault>
+    ensures read { IfOk result (λ n. (lines.old ≡ (codes "registers" ++ names_text n) ∷ lines.new) × (names_fault n ≡ None)) }
+    ensures whole { (ns : List (List ℕ)) (rest : List (List ℕ)) → names_fault ns ≡ None → lines.old ≡ (codes "registers" ++ names_text ns) ∷ rest
+        → MatchResult result (λ n. (n ≡ ns) × (lines.new ≡ rest)) (λ f. f ≡ TextFault.OutOfMemory) }
+{
+    let Some(line) = lines.next() else {
+        return Err(lines.fault(Why::End));
+    };
+    let Some(text) = skip(line, b"registers") else {
+        return Err(lines.fault(Why::Form));
+    };
+    match read_words(alloc, text) {
+        Ok(words) => match Names::new(words) {
+            Ok(names) => Ok(names),
+            Err(_) => Err(lines.fault(why_names(text, Why::Name))),
+        },
+        Err(WordsFault::Why(why)) => Err(lines.fault(why_names(text, why))),
+        Err(WordsFault::OutOfMemory) => Err(TextFault::OutOfMemory),
+    }
+}

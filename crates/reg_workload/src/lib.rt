@@ -1,0 +1,10 @@
+//! Schedules: lists of events as text.
+#![tactic(auto)]
+
+mod event_lines;
+mod schedules;
+
+pub use schedules::{Schedule, ScheduleFault, parse_schedule};
+
+#[cfg(test)]
+mod tests;
