@@ -16,7 +16,6 @@ pub use reg_base::Delivered;
 pub use steps::{Reply, Step};
 
 #[cfg(test)]
-mod tests;
-
-#[cfg(test)]
 mod refusals;
+#[cfg(test)]
+mod tests;

@@ -2,13 +2,11 @@
 ghost use Rattle.std.specs.Prelude.{◌≡◌, ℕ, ◌<◌, ◌+◌, ◌≤◌, length, IfOk, [], not, None, is_some};
 ghost use Rattle.reg_process.specs.Process.{pending_of, peer_at, next_of, acknowledged, unsettled, called, resent};
 ghost use Rattle.reg_process.specs.Parts.{state_of, first_parts};
-ghost use Rattle.reg_base.specs.declared.limits.TheConstants.{MOST_OPERATIONS};
 ghost use Rattle.reg_process.specs.Puts.{puts};
 
 use crate::outcomes::Put;
 use crate::puts::{new_inboxes, new_outboxes, pending_in, resend_all};
 use crate::running::Current;
-use reg_base::limits::MOST_OPERATIONS;
 use reg_base::{Clock, Delivered, Registers, Shape};
 use reg_holdback::Holdback;
 use reg_links::{Inbox, Outbox};
@@ -108,14 +106,6 @@ impl<A: Allocator + Copy> Core<A> {
         ensures { result.now ≡ self.now.copy }
     {
         &self.copy
-    }
-
-    /// How many operations were called.
-    pub fn calls(&self) -> u32
-        ensures value { result ≡ self.now.calls }
-        ensures bound { result ≤ MOST_OPERATIONS }
-    {
-        self.calls
     }
 
     /// How many bodies are not acknowledged, over all links.

@@ -24,11 +24,25 @@ const ACK: Frame = Frame::Numbered {
 const STEPS: [Step; 7] = [
     Step::Call { op: WRITE },
     Step::Tick,
-    Step::Call { op: Op::Read { register: 0 } },
-    Step::Take { from: 1, frame: CAST },
-    Step::Take { from: 1, frame: CAST },
-    Step::Take { from: 1, frame: ACK },
-    Step::Take { from: 1, frame: Frame::Got { count: 1 } },
+    Step::Call {
+        op: Op::Read { register: 0 },
+    },
+    Step::Take {
+        from: 1,
+        frame: CAST,
+    },
+    Step::Take {
+        from: 1,
+        frame: CAST,
+    },
+    Step::Take {
+        from: 1,
+        frame: ACK,
+    },
+    Step::Take {
+        from: 1,
+        frame: Frame::Got { count: 1 },
+    },
 ];
 
 /// What went wrong, and whether the process has stopped.
@@ -38,7 +52,10 @@ struct Refusal {
     stopped: bool,
 }
 
-fn event<F: FrontEnd, A: Allocator + Copy>(process: &mut Process<F, A>, step: &Step) -> Result<Outcome<A>, ProcessFault> {
+fn event<F: FrontEnd, A: Allocator + Copy>(
+    process: &mut Process<F, A>,
+    step: &Step,
+) -> Result<Outcome<A>, ProcessFault> {
     match step {
         Step::Call { op } => process.call(*op),
         Step::Take { from, frame } => process.take(*from, frame),
@@ -53,11 +70,17 @@ fn has_stopped<F: FrontEnd, A: Allocator + Copy>(process: &mut Process<F, A>) ->
 /// The replies of all steps, and how many casts were delivered.
 fn play<A: Allocator + Copy>(alloc: A) -> Result<([Option<Reply>; 7], u64), Refusal> {
     let Ok(shape) = Shape::new(2, 1) else {
-        return Err(Refusal { fault: ProcessFault::NoProcess, stopped: false });
+        return Err(Refusal {
+            fault: ProcessFault::NoProcess,
+            stopped: false,
+        });
     };
     let mut process = match Process::<LocalWrite, A>::new(alloc, shape, 0) {
         Ok(process) => process,
-        Err(fault) => return Err(Refusal { fault, stopped: true }),
+        Err(fault) => return Err(Refusal {
+            fault,
+            stopped: true,
+        }),
     };
     let mut replies = [None; 7];
     for (i, step) in STEPS.iter().enumerate() {
@@ -75,8 +98,14 @@ fn play<A: Allocator + Copy>(alloc: A) -> Result<([Option<Reply>; 7], u64), Refu
 #[test]
 fn each_growth_is_refused(rt: HostRuntime) {
     let ample = play(rt.alloc()).expect(&rt, "ample memory");
-    let done = Some(Reply { answer: Answer::Done, place: 0 });
-    let read = Some(Reply { answer: Answer::Value(5), place: 1 });
+    let done = Some(Reply {
+        answer: Answer::Done,
+        place: 0,
+    });
+    let read = Some(Reply {
+        answer: Answer::Value(5),
+        place: 1,
+    });
     assert!(rt; ample == ([done, None, None, read, None, None, None], 2));
     let mut through = false;
     for before in 0..100u64 {
@@ -91,7 +120,13 @@ fn each_growth_is_refused(rt: HostRuntime) {
             }
             Err(refusal) => {
                 assert!(rt; !heap.is_waiting());
-                assert!(rt; refusal == Refusal { fault: ProcessFault::OutOfMemory, stopped: true });
+                assert!(rt;
+                    refusal
+                        == Refusal {
+                            fault: ProcessFault::OutOfMemory,
+                            stopped: true
+                        }
+                );
             }
         }
     }

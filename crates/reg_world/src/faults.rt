@@ -20,3 +20,12 @@ pub enum WorldFault {
     /// There was no memory: the world has stopped.
     OutOfMemory,
 }
+
+/// Why a run of events ends early.
+#[derive(Clone, Copy, Debug, PartialEq, Eq)]
+pub struct RunFault {
+    /// The index of the first event that was refused.
+    pub at: usize,
+    /// Why it was.
+    pub fault: WorldFault,
+}

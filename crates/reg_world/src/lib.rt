@@ -1,12 +1,18 @@
 //! All processes and wires, over a list of events.
 #![tactic(auto)]
 
-pub mod laws;
-
+mod books;
+mod callers;
 mod events;
 mod faults;
+mod finding;
+pub mod laws;
 mod order;
+mod running;
+mod stations;
+mod witnesses;
 
 pub use events::Event;
-pub use faults::WorldFault;
+pub use faults::{RunFault, WorldFault};
 pub use order::{CopyRead, First};
+pub use running::World;

@@ -1,0 +1,38 @@
+use Rattle.std.proofs.Common.{◌≡◌, ◌∙◌, ◌++◌, ℕ, ◌-◌, length, ap, sym, subst, arith, length-set}
+use Rattle.std.specs.Prelude.{vec_len}
+use Rattle.reg_base.specs.declared.stamps.Delivered.{Delivered}
+use Rattle.reg_base.specs.Order.{In}
+use Rattle.reg_process.specs.declared.steps.Step.{Step}
+use Rattle.reg_world.specs.World.{op_id, calls_in}
+use Rattle.reg_world.specs.Pages.{Pages, tally_at, calls_after}
+use Rattle.reg_world.proofs.Entering.{call_good, answer_good}
+use Rattle.reg_world.proofs.books.Book.enter.Goals as goal
+
+pub push_call-requires-clause-in_place : goal.push_call-requires-clause-in_place
+push_call-requires-clause-in_place g c =
+    let b : Pages = c.args.self.now in
+    let view = c.self.view_is in
+    call_good b c.args.process c.args.step.now c.args.outcome.now.reply c.requires.history c.reserve_all.new.history.shape c.reserve_all.new.history.entries c.len-at.result c.in_ok-ids.ids.called
+    (c.reserve_all.ensures.shape ∙ ap (λ (x : Pages). x.shape) view)
+    (c.reserve_all.ensures.entries ∙ ap (λ (x : Pages). x.entries) view)
+    (c.len-at.ensures ∙ ((let n = c.self.inside.accepted.ok.0 in let e : vec_len c.self.inside.accepted ≡ length c.self.inside.accepted.items = omega (arith, n) in e) ∙ ap (λ (x : Pages). length x.accepted) view))
+    (c.in_ok-ids.ensures.called ∙ ap (λ (x : Pages). op_id c.args.process (tally_at x.tallies c.args.process).calls) view)
+
+pub push_answer-requires-clause-in_place : goal.push_answer-requires-clause-in_place
+push_answer-requires-clause-in_place g c =
+    let b : Pages = c.args.self.now in
+    let view = c.self.view_is in
+    answer_good b c.args.process c.args.step.now c.args.outcome.now.reply c.requires.history c.push_call.new.history.shape c.push_call.new.history.entries c.len-at.result c.in_ok-ids.ids.called c.in_ok-ids.ids.answered
+    (c.push_call.ensures.shape ∙ (c.reserve_all.ensures.shape ∙ ap (λ (x : Pages). x.shape) view))
+    (c.push_call.ensures.entries ∙ ap (λ z. z ++ calls_in c.len-at.result c.in_ok-ids.ids.called c.args.step.now) (c.reserve_all.ensures.entries ∙ ap (λ (x : Pages). x.entries) view))
+    (c.len-at.ensures ∙ ((let n = c.self.inside.accepted.ok.0 in let e : vec_len c.self.inside.accepted ≡ length c.self.inside.accepted.items = omega (arith, n) in e) ∙ ap (λ (x : Pages). length x.accepted) view))
+    (c.in_ok-ids.ensures.called ∙ ap (λ (x : Pages). op_id c.args.process (tally_at x.tallies c.args.process).calls) view)
+    (c.in_ok-ids.ensures.answered ∙ ap (λ (x : Pages). op_id c.args.process (calls_after c.args.step.now (tally_at x.tallies c.args.process).calls - 1)) view)
+
+pub push_firsts-requires-clause-casters : goal.push_firsts-requires-clause-casters
+push_firsts-requires-clause-casters g c = λ d i.
+    let h = c.requires.casters d (subst (λ l. In d l) c.deref.ensures.value i) in
+    let tallies = ap (λ (x : Pages). length x.tallies) c.self.view_is in
+    let size = ap length c.in_ok-ids.ensures.callers in
+    let same = simp length-set at size in
+    omega (arith, h, tallies, same)

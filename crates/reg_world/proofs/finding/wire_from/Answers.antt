@@ -1,0 +1,17 @@
+use Rattle.std.proofs.Common.{◌≡◌, ◌∙◌, ap, sym}
+use Rattle.std.specs.Prelude.{slice_get, Some}
+use Rattle.reg_world.specs.Worlds.{wire_in}
+use Rattle.reg_world.proofs.Noted.{at_index}
+use Rattle.reg_world.proofs.Found.{past_none}
+use Rattle.reg_world.proofs.finding.wire_from.Goals as goal
+
+pub returns-in-Some : goal.returns-in-Some
+returns-in-Some g c =
+    let found = c.in-Some.ensures.lookup in
+    let at = at_index c.args.stations.now c.from.result c.in-Some.station.now found.3.0 found.1 in
+    c.wire.ensures ∙ ap (λ o. wire_in o c.args.to) (sym (sym (ap (slice_get c.args.stations.now) c.from.ensures) ∙ at))
+
+pub returns-in-None : goal.returns-in-None
+returns-in-None g c =
+    let past = past_none c.args.stations.now c.from.result c.in-None.ensures.lookup.3 in
+    ap (λ o. wire_in o c.args.to) (sym (sym (ap (slice_get c.args.stations.now) c.from.ensures) ∙ past))

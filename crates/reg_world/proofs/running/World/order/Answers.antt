@@ -1,0 +1,19 @@
+use Rattle.reg_world.specs.Worlds.{Made}
+use Rattle.reg_world.proofs.Promised.{fronts_agree, fronts_rise, longest, order_right}
+use Rattle.reg_world.proofs.Arrivals.{firsts_right}
+use Rattle.reg_world.proofs.running.World.order.Goals as goal
+
+pub returns-clause-agree : goal.returns-clause-agree
+returns-clause-agree g c = let m : Made = c.args.self.now in fronts_agree g.F.FrontEnd.start m.processes m.registers g.met.F.FrontEnd.lawful m.accepted
+
+pub returns-clause-rise : goal.returns-clause-rise
+returns-clause-rise g c = let m : Made = c.args.self.now in fronts_rise g.F.FrontEnd.start m.processes m.registers g.met.F.FrontEnd.lawful m.accepted
+
+pub returns-clause-longest : goal.returns-clause-longest
+returns-clause-longest g c = let m : Made = c.args.self.now in longest g.F.FrontEnd.start m.processes m.registers g.met.F.FrontEnd.lawful m.accepted
+
+pub returns-clause-right : goal.returns-clause-right
+returns-clause-right g c = let m : Made = c.args.self.now in order_right g.F.FrontEnd.start m.processes m.registers g.met.F.FrontEnd.lawful m.accepted
+
+pub returns-clause-firsts : goal.returns-clause-firsts
+returns-clause-firsts g c = let m : Made = c.args.self.now in firsts_right g.F.FrontEnd.start m.processes m.registers g.met.F.FrontEnd.lawful m.accepted

@@ -1,0 +1,18 @@
+use Rattle.std.specs.Prelude.{IfOk}
+use Rattle.reg_world.specs.Worlds.{Made, run_in}
+use Rattle.reg_world.specs.World.{run_of}
+use Rattle.reg_world.proofs.Answering.{if_ok, witness_told}
+use Rattle.reg_world.proofs.Premises.{R, is_run}
+use Rattle.reg_world.proofs.Serial.{witness_serial}
+use Rattle.reg_world.proofs.running.World.witness.Goals as goal
+
+pub returns-clause-keyed : goal.returns-clause-keyed
+returns-clause-keyed g c =
+    if_ok c.witness_of.result _ _ c.witness_of.ensures (λ v h.
+    witness_told g.F.FrontEnd.start g.met.F.FrontEnd.lawful c.self.inside.failed c.self.inside.book c.self.inside.stations.items c.self.invariant c.args.self.now c.self.view_is c.order.result.now c.reads.result.now c.callers.result.now v.items c.order.ensures c.reads.ensures c.callers.ensures h)
+
+pub returns-clause-serial : goal.returns-clause-serial
+returns-clause-serial g c =
+    let m : Made = c.args.self.now in
+    if_ok c.witness_of.result _ _ (returns-clause-keyed g c) (λ v h.
+    witness_serial (R g.F.FrontEnd.start m.processes m.registers g.met.F.FrontEnd.lawful m.accepted) v.items (is_run g.F.FrontEnd.start m.processes m.registers g.met.F.FrontEnd.lawful m.accepted) h)

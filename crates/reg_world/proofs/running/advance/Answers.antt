@@ -1,0 +1,17 @@
+use Rattle.std.proofs.Common.{◌∙◌, ap}
+use Rattle.std.specs.Option.{is_some}
+use Rattle.reg_process.specs.Events.{Kept}
+use Rattle.reg_world.proofs.Stepping.{act_ok, enter_ok, advances}
+use Rattle.reg_world.proofs.running.advance.Goals as goal
+
+pub act-requires : goal.act-requires
+act-requires g c =
+    act_ok g.F.FrontEnd.start g.met.F.FrontEnd.lawful c.args.book.now c.args.stations.now.items c.requires.world c.args.event c.args.process c.args.step.now c.requires.moves c.from.result c.index_mut-station.result.now c.from.ensures c.index_mut-station.ensures.value
+
+pub enter-requires : goal.enter-requires
+enter-requires g c =
+    enter_ok g.F.FrontEnd.start g.met.F.FrontEnd.lawful c.args.book.now c.args.stations.now.items c.requires.world c.args.event c.args.process c.args.step.now c.requires.moves c.from.result c.index_mut-station.result.now c.act.new.self c.in_ok-outcome.outcome.cast c.in_ok-outcome.outcome.delivered.items c.in_ok-outcome.outcome.reply c.busy-runs.result c.from.ensures c.index_mut-station.ensures.value c.in_ok-outcome.ensures (c.busy-runs.ensures ∙ ap (λ (k : Kept). is_some k.state.running) c.process.ensures)
+
+pub returns : goal.returns
+returns g c =
+    advances g.F.FrontEnd.start g.met.F.FrontEnd.lawful c.args.book.now c.args.stations.now.items c.requires.world c.args.event c.args.process c.args.step.now c.requires.moves c.from.result c.index_mut-station.result.now c.act.new.self c.in_ok-outcome.outcome.cast c.in_ok-outcome.outcome.delivered.items c.in_ok-outcome.outcome.reply c.busy-runs.result c.from.ensures c.index_mut-station.ensures.value c.in_ok-outcome.ensures (c.busy-runs.ensures ∙ ap (λ (k : Kept). is_some k.state.running) c.process.ensures) c.enter.new.self c.in_ok-enter.ensures

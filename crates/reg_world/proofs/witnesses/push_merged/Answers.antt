@@ -1,0 +1,17 @@
+use Rattle.std.proofs.Common.{◌≡◌, ◌≤◌, ◌-◌, ◌++◌, ◌∙◌, ap, take, drop, length, arith}
+use Rattle.std.proofs.lemmas.List.{take_all, take_rest}
+use Rattle.reg_world.specs.Witnesses.{is_kept}
+use Rattle.reg_world.proofs.Reading.{merged_more, merged_all, ids_read}
+use Rattle.reg_world.proofs.witnesses.push_merged.Goals as goal
+
+pub loop-place-preserved : goal.loop-place-preserved
+loop-place-preserved g c =
+    merged_more (is_kept c.args.callers.now) c.args.reads.now c.args.order.now _ c.loop-place.place c.loop-place.next c.in_ok-next.field-0 c.loop-place.ids.items c.push_reads.new.ids.items c.push_kept.new.ids.items _ (omega arith) c.loop-place.invariant c.in_ok-next.ensures c.in_ok-push_kept.ensures
+
+pub returns : goal.returns
+returns g c =
+    let reads = c.args.reads.now in
+    let next = c.loop-place.next in
+    let all : c.loop-read.ids.items ≡ c.loop-place.ids.items ++ ids_read (drop next reads) =
+    c.loop-read.invariant ∙ ap (λ l. c.loop-place.ids.items ++ ids_read l) (take_all c.loop-read.read-index (take (length reads - next) (drop next reads)) (omega arith) ∙ take_rest reads next) in
+    merged_all (is_kept c.args.callers.now) reads c.args.order.now _ c.loop-place.place next c.loop-place.ids.items c.loop-read.ids.items (omega arith) c.loop-place.invariant all

@@ -1,0 +1,24 @@
+use Rattle.std.proofs.Common.{◌≡◌, ◌++◌, ◌∙◌, ap, take, length, arith}
+use Rattle.std.proofs.lemmas.List.{take_all}
+use Rattle.reg_world.specs.Witnesses.{is_kept, ids_of, merge}
+use Rattle.reg_world.proofs.Reading.{all_ids, ids_read}
+use Rattle.reg_world.proofs.witnesses.witness_of.Goals as goal
+
+pub returns : goal.returns
+returns g c =
+    let order = c.args.order.now in
+    let kept = is_kept c.args.callers.now in
+    let reads = c.in_ok-reads.reads.items in
+    let lost = c.in_ok-lost.lost.items in
+    let ids = c.push_merged.new.ids.items in
+    let first : ids ≡ ids_of (merge kept 0 reads order) =
+    c.in_ok-push_merged.ensures ∙ (ap (λ l. l ++ ids_of (merge kept 0 c.deref.result.now order)) c.new-ids.ensures.items ∙ ap (λ l. ids_of (merge kept 0 l order)) c.deref.ensures.value) in
+    let rest : c.loop-cast.ids.items ≡ ids ++ ids_read lost =
+    c.loop-cast.invariant ∙ ap (λ l. ids ++ ids_read l) (take_all c.loop-cast.cast-index c.deref-cast-items.result.now c.loop-cast-test.false ∙ c.deref-cast-items.ensures.value) in
+    record {
+      sorted = reads;
+      lost = lost;
+      reads_sorted = c.in_ok-reads.ensures;
+      lost_sorted = c.in_ok-lost.ensures;
+      merged = all_ids kept reads lost order ids c.loop-cast.ids.items first rest;
+    }

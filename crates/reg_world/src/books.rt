@@ -1,0 +1,314 @@
+//! What a world tells of its run.
+ghost use Rattle.std.specs.Prelude.{◌≡◌, ◌<◌, ◌≤◌, ◌+◌, ◌-◌, not, ◌++◌, ◌∷◌, [], if◌then◌else◌, ℕ, length, replicate, IfOk, OnOk, MatchResult, MatchResult, vec_len, vec_capacity};
+ghost use Rattle.std.specs.List.{filter};
+ghost use Rattle.reg_base.specs.declared.stamps.Delivered.{Delivered};
+ghost use Rattle.reg_base.specs.Order.{In};
+ghost use Rattle.reg_history.specs.History.{IsAt, IsHistory};
+ghost use Rattle.reg_world.specs.World.{op_id, calls_in, answers_in};
+ghost use Rattle.reg_world.specs.Tallies.{Tally, no_calls};
+ghost use Rattle.reg_world.specs.Witnesses.{is_after as is_after_of, last_stamp as last_stamp_of};
+ghost use Rattle.reg_world.specs.Pages.{entered, copied_in, tallies_after, tally_after, calls_after, last_casts, first_in, firsts_in, tally_at, number_at, TimesDiffer, CallFits, MayEnter};
+
+use crate::callers::Caller;
+use crate::events::Event;
+use crate::order::{CopyRead, First};
+use crate::witnesses::{is_after, last_stamp};
+use reg_base::{Delivered, OpId, Shape, Stamp};
+use reg_history::{Entry, History};
+use reg_process::{Outcome, Reply, Step};
+use std::alloc::{AllocError, Allocator, Global};
+use std::marker::Model;
+
+/// What a world tells of its run: the events that it accepted, the calls and answers, each cast's first delivery and
+/// the reads from a copy, with what is kept of the operations of each process.
+#[derive(Drop)]
+pub(crate) struct Book<A: Allocator + Copy = Global> {
+    accepted: Vec<Event, A>,
+    history: History<A>,
+    order: Vec<First, A>,
+    reads: Vec<CopyRead, A>,
+    callers: Vec<Caller<A>, A>,
+}
+
+impl<A: Allocator + Copy> Model for Book<A> {
+    ghost use Rattle.reg_world.specs.Pages.{Pages};
+
+    ghost Value = { Pages };
+
+    ghost view = { λ b. record { shape = b.history.shape; accepted = b.accepted.items; entries = b.history.entries; order = b.order.items; reads = b.reads.items; tallies = b.callers.items } };
+}
+
+/// So many processes that called nothing yet.
+fn new_callers<A: Allocator + Copy>(alloc: A, count: u32) -> Result<Vec<Caller<A>, A>, AllocError>
+    ensures { IfOk result (λ v. v.items ≡ replicate count no_calls) }
+{
+    let mut callers = Vec::new(alloc);
+    for _i in 0..count {
+        callers.push(Caller::new(alloc))?;
+    }
+    Ok(callers)
+}
+
+/// Makes room in each list for what an event can add. The lists stay.
+fn reserve_all<A: Allocator + Copy>(
+    accepted: &mut Vec<Event, A>,
+    history: &mut History<A>,
+    order: &mut Vec<First, A>,
+    reads: &mut Vec<CopyRead, A>,
+    firsts: usize,
+) -> Result<(), AllocError>
+    ensures accepted { accepted.new.items ≡ accepted.old.items }
+    ensures accepted_room { OnOk result (vec_len accepted.new + 1 ≤ vec_capacity accepted.new) }
+    ensures shape { history.new.shape ≡ history.old.shape }
+    ensures entries { history.new.entries ≡ history.old.entries }
+    ensures entries_room { OnOk result (2 ≤ history.new.room) }
+    ensures order { order.new.items ≡ order.old.items }
+    ensures order_room { OnOk result (vec_len order.new + firsts ≤ vec_capacity order.new) }
+    ensures reads { reads.new.items ≡ reads.old.items }
+    ensures reads_room { OnOk result (vec_len reads.new + 1 ≤ vec_capacity reads.new) }
+{
+    accepted.reserve(1)?;
+    history.reserve(2)?;
+    order.reserve(firsts)?;
+    reads.reserve(1)
+}
+
+/// The operations of a step.
+#[derive(Clone, Copy)]
+struct StepIds {
+    /// The one that is called, where one is.
+    called: OpId,
+    /// The last one called, which a reply is to.
+    answered: OpId,
+    /// Whether a reply to it is from a copy: it made no cast.
+    is_copied: bool,
+}
+
+/// Notes a step of one process. Where memory is refused nothing has changed.
+fn enter_caller<A: Allocator + Copy>(
+    callers: &mut Vec<Caller<A>, A>,
+    process: u8,
+    step: &Step,
+    runs: bool,
+    cast: Option<Stamp>,
+) -> Result<StepIds, AllocError>
+    requires process { process < length callers.old.items }
+    requires calls { CallFits step.now (tally_at callers.old.items process).calls }
+    ensures callers { MatchResult result (λ _. callers.new.items ≡ tallies_after callers.old.items process step.now runs cast) (λ _. callers.new.items ≡ callers.old.items) }
+    ensures called { IfOk result (λ ids. ids.called ≡ op_id process (tally_at callers.old.items process).calls) }
+    ensures answered { IfOk result (λ ids. ids.answered ≡ op_id process (calls_after step.now (tally_at callers.old.items process).calls - 1)) }
+    ensures copied { IfOk result (λ ids. ids.is_copied ≡ not (last_casts (tally_after (tally_at callers.old.items process) step.now runs cast))) }
+{
+    let caller = &mut callers[usize::from(process)];
+    let number = caller.calls();
+    caller.enter(step, runs, cast)?;
+    let answered = OpId {
+        process,
+        number: caller.calls().saturating_sub(1),
+    };
+    Ok(StepIds {
+        called: OpId { process, number },
+        answered,
+        is_copied: !caller.last_casts(),
+    })
+}
+
+/// Adds the call of an operation.
+fn push_call<A: Allocator + Copy>(history: &mut History<A>, at: u32, id: OpId, step: &Step)
+    requires room { 1 ≤ history.old.room }
+    requires in_place { IsHistory history.old.shape.processes history.old.shape.registers (history.old.entries ++ calls_in at id step.now) }
+    ensures shape { history.new.shape ≡ history.old.shape }
+    ensures entries { history.new.entries ≡ history.old.entries ++ calls_in at id step.now }
+    ensures room { history.old.room ≤ history.new.room + 1 }
+{
+    if let Step::Call { op } = *step {
+        match history.push(Entry::Called { at, id, op }) {
+            Ok(()) => {}
+            Err(_) => unreachable!(),
+        }
+    }
+}
+
+/// Adds the answer of an operation.
+fn push_answer<A: Allocator + Copy>(
+    history: &mut History<A>,
+    at: u32,
+    id: OpId,
+    reply: Option<Reply>,
+)
+    requires room { 1 ≤ history.old.room }
+    requires in_place { IsHistory history.old.shape.processes history.old.shape.registers (history.old.entries ++ answers_in at id reply) }
+    ensures shape { history.new.shape ≡ history.old.shape }
+    ensures entries { history.new.entries ≡ history.old.entries ++ answers_in at id reply }
+{
+    if let Some(reply) = reply {
+        match history.push(Entry::Answered {
+            at,
+            id,
+            answer: reply.answer,
+        }) {
+            Ok(()) => {}
+            Err(_) => unreachable!(),
+        }
+    }
+}
+
+/// The id of the operation that a delivered cast carries.
+fn id_of<A: Allocator + Copy>(callers: &mut Vec<Caller<A>, A>, stamp: Stamp) -> OpId
+    requires caster { stamp.process < length callers.old.items }
+    requires differ { TimesDiffer (tally_at callers.old.items stamp.process).casts }
+    ensures same { callers.new.items ≡ callers.old.items }
+    ensures id { result ≡ op_id stamp.process (number_at (tally_at callers.old.items stamp.process).casts stamp.time) }
+{
+    let process = stamp.process;
+    let number = callers[usize::from(process)].number_of(stamp.time);
+    OpId { process, number }
+}
+
+/// Adds the cast, if it comes after the last one that was delivered.
+fn push_first<A: Allocator + Copy>(
+    order: &mut Vec<First, A>,
+    callers: &mut Vec<Caller<A>, A>,
+    at: u32,
+    last: Option<Stamp>,
+    cast: &Delivered,
+)
+    requires room { vec_len order.old < vec_capacity order.old }
+    requires caster { cast.now.stamp.process < length callers.old.items }
+    requires differ { TimesDiffer (tally_at callers.old.items cast.now.stamp.process).casts }
+    ensures order { order.new.items ≡ order.old.items ++ (if is_after_of last cast.now.stamp then first_in callers.old.items at cast.now ∷ [] else []) }
+    ensures same { callers.new.items ≡ callers.old.items }
+    ensures few { vec_len order.new ≤ vec_len order.old + 1 }
+    ensures capacity { vec_capacity order.new ≡ vec_capacity order.old }
+{
+    if is_after(last, cast.stamp) {
+        let id = id_of(callers, cast.stamp);
+        order.push_reserved(First {
+            stamp: cast.stamp,
+            id,
+            op: cast.op,
+            at,
+        });
+    }
+}
+
+/// Adds the casts that come after the last one that was delivered.
+fn push_firsts<A: Allocator + Copy>(
+    order: &mut Vec<First, A>,
+    callers: &mut Vec<Caller<A>, A>,
+    at: u32,
+    delivered: &[Delivered],
+)
+    requires room { vec_len order.old + length delivered.now ≤ vec_capacity order.old }
+    requires casters { (d : Delivered) → In d delivered.now → d.stamp.process < length callers.old.items }
+    requires differ { (p : ℕ) (t : Tally) → IsAt callers.old.items p t → TimesDiffer t.casts }
+    ensures order { order.new.items ≡ order.old.items ++ firsts_in callers.old.items at (last_stamp_of order.old.items) delivered.now }
+    ensures same { callers.new.items ≡ callers.old.items }
+{
+    let last = last_stamp(order);
+    for cast in delivered {
+        push_first(order, callers, at, last, cast);
+    }
+}
+
+impl<A: Allocator + Copy> Book<A> {
+    /// Nothing happened yet.
+    pub(crate) fn new(alloc: A, shape: Shape) -> Result<Book<A>, AllocError>
+        ensures { IfOk result (λ b. b ≡ record { shape = shape; accepted = []; entries = []; order = []; reads = []; tallies = replicate shape.processes no_calls }) }
+    {
+        let history = History::new(alloc, shape)?;
+        let callers = new_callers(alloc, shape.processes())?;
+        Ok(Book {
+            accepted: Vec::new(alloc),
+            history,
+            order: Vec::new(alloc),
+            reads: Vec::new(alloc),
+            callers,
+        })
+    }
+
+    /// The events accepted so far.
+    pub(crate) fn accepted(&self) -> &[Event]
+        ensures { result.now ≡ self.now.accepted }
+    {
+        self.accepted.as_slice()
+    }
+
+    /// The calls and answers.
+    pub(crate) fn history(&self) -> &History<A>
+        ensures shape { result.now.shape ≡ self.now.shape }
+        ensures entries { result.now.entries ≡ self.now.entries }
+    {
+        &self.history
+    }
+
+    /// Each cast's first delivery.
+    pub(crate) fn order(&self) -> &[First]
+        ensures { result.now ≡ self.now.order }
+    {
+        self.order.as_slice()
+    }
+
+    /// The reads answered from a copy.
+    pub(crate) fn reads(&self) -> &[CopyRead]
+        ensures { result.now ≡ self.now.reads }
+    {
+        self.reads.as_slice()
+    }
+
+    /// What is kept of the operations of each process.
+    pub(crate) fn callers(&self) -> &[Caller<A>]
+        ensures { result.now ≡ self.now.tallies }
+    {
+        self.callers.as_slice()
+    }
+
+    /// Enters an event in which the process made this step. Where memory is refused nothing has changed.
+    pub(crate) fn enter(
+        &mut self,
+        event: Event,
+        process: u8,
+        step: &Step,
+        runs: bool,
+        outcome: &Outcome<A>,
+    ) -> Result<(), AllocError>
+        requires { MayEnter self.old process step.now runs outcome.now.cast outcome.now.delivered.items outcome.now.reply }
+        ensures { MatchResult result (λ _. self.new ≡ entered self.old event process step.now runs outcome.now.cast outcome.now.delivered.items outcome.now.reply) (λ _. self.new ≡ self.old) }
+    {
+        let at = self.accepted.len() as u32;
+        reserve_all(
+            &mut self.accepted,
+            &mut self.history,
+            &mut self.order,
+            &mut self.reads,
+            outcome.delivered.len(),
+        )?;
+        let ids = enter_caller(&mut self.callers, process, step, runs, outcome.cast)?;
+        push_call(&mut self.history, at, ids.called, step);
+        push_answer(&mut self.history, at, ids.answered, outcome.reply);
+        push_read(&mut self.reads, ids.answered, ids.is_copied, outcome.reply);
+        push_firsts(&mut self.order, &mut self.callers, at, &outcome.delivered);
+        self.accepted.push_reserved(event);
+        Ok(())
+    }
+}
+
+/// Adds the read, if the reply is to one from a copy.
+fn push_read<A: Allocator + Copy>(
+    reads: &mut Vec<CopyRead, A>,
+    id: OpId,
+    is_copied: bool,
+    reply: Option<Reply>,
+)
+    requires { vec_len reads.old < vec_capacity reads.old }
+    ensures { reads.new.items ≡ reads.old.items ++ copied_in is_copied id reply }
+{
+    if let Some(reply) = reply
+        && is_copied
+    {
+        reads.push_reserved(CopyRead {
+            id,
+            place: reply.place,
+        });
+    }
+}

@@ -1,0 +1,251 @@
+//! All processes and wires of a run, one event after another.
+ghost use Rattle.std.specs.Prelude.{◌≡◌, ◌<◌, ◌≤◌, ◌⊎◌, ◌++◌, false, length, take, Some, IfOk, MatchOption, MatchResult};
+ghost use Rattle.reg_base.specs.declared.limits.TheConstants.{MOST_EVENTS, MOST_PROCESSES};
+ghost use Rattle.reg_history.specs.Orders.{IsSerial, IsPointOrder};
+ghost use Rattle.reg_world.specs.Keys.{IsWitness, ArePoints};
+ghost use Rattle.reg_world.specs.Laws.{FrontsAgree, FrontsRise, NothingPending, IsQuiescent};
+ghost use Rattle.reg_world.specs.Promises.{OrderIsLongest, OrderIsRight, FirstsRight, RepliesRight, ReadsRight};
+ghost use Rattle.reg_world.specs.World.{run_of, whole};
+ghost use Rattle.reg_world.specs.Stations.{listed};
+ghost use Rattle.reg_world.specs.Worlds.{first_standing, Made, run_in, Accepts, Refuses, reply_in, IsWorld, IsMove, Advances, new_world, after_events, RunRefuses, IsProcess, IsWire, IsNoWire};
+
+use crate::books::Book;
+use crate::events::Event;
+use crate::faults::{RunFault, WorldFault};
+use crate::finding::found;
+use crate::order::{CopyRead, First};
+use crate::stations::Station;
+use crate::witnesses::{points_of, witness_of};
+use reg_base::{OpId, Shape};
+use reg_frames::Frame;
+use reg_front::{FrontEnd, RealTime};
+use reg_history::{History, Point};
+use reg_process::{Process, Reply, Step};
+use std::alloc::{AllocError, Allocator, Global};
+use std::marker::Model;
+
+/// All processes of a run with their wires, and what is told of the run.
+///
+/// A wire is the list of all frames ever put from one process to another. An event takes a frame by its place there, so
+/// frames can be lost, repeated and taken in any order.
+#[derive(Drop)]
+pub struct World<F: FrontEnd, A: Allocator + Copy = Global> {
+    alloc: A,
+    failed: bool,
+    stations: Vec<Station<F, A>, A>,
+    book: Book<A>,
+}
+
+impl<F: FrontEnd, A: Allocator + Copy> Model for World<F, A> {
+    ghost use Rattle.reg_world.specs.Worlds.{Made, made_of, IsWorld};
+
+    ghost Value = { Made };
+
+    ghost view = { λ w. made_of w.failed w.book };
+
+    ghost invariant = { λ w. IsWorld F.start w.failed w.stations.items w.book };
+}
+
+/// Processes that did nothing yet.
+fn new_stations<F: FrontEnd, A: Allocator + Copy>(
+    alloc: A,
+    shape: Shape,
+) -> Result<Vec<Station<F, A>, A>, AllocError>
+    ensures stand { IfOk result (λ v. v.items ≡ listed (first_standing shape) shape.processes) }
+    ensures few { shape.processes ≤ MOST_PROCESSES }
+{
+    let mut stations = Vec::new(alloc);
+    for me in 0..shape.processes() {
+        stations.push(Station::new(alloc, shape, me as u8)?)?;
+    }
+    Ok(stations)
+}
+
+/// Makes the step of an event. Where memory is refused the book hasn't changed.
+fn advance<F: FrontEnd, A: Allocator + Copy>(
+    stations: &mut Vec<Station<F, A>, A>,
+    book: &mut Book<A>,
+    event: Event,
+    process: u8,
+    step: &Step,
+) -> Result<Option<Reply>, AllocError>
+    requires world { IsWorld F.start false stations.old.items book.old }
+    requires moves { IsMove F.start book.old event (process, step.now) }
+    ensures { MatchResult result (λ reply. Advances F.start book.old event reply stations.new.items book.new) (λ _. (book.new ≡ book.old) × (length stations.new.items ≡ length stations.old.items)) }
+{
+    let station = &mut stations[usize::from(process)];
+    let outcome = station.act(step)?;
+    let runs = station.process().busy();
+    book.enter(event, process, step, runs, &outcome)?;
+    Ok(outcome.reply)
+}
+
+impl<F: FrontEnd, A: Allocator + Copy> World<F, A> {
+    /// A world in which nothing happened yet.
+    pub fn new(alloc: A, shape: Shape) -> Result<World<F, A>, AllocError>
+        ensures { IfOk result (λ w. w ≡ new_world shape) }
+    {
+        let stations = new_stations(alloc, shape)?;
+        let book = Book::new(alloc, shape)?;
+        Ok(World {
+            alloc,
+            failed: false,
+            stations,
+            book,
+        })
+    }
+
+    /// Makes an event. It is refused by the first fault that applies, and then nothing has changed; or for want of memory,
+    /// and then the world has stopped for good, with the events, history, order and reads of the steps before.
+    pub fn step(&mut self, event: &Event) -> Result<(), WorldFault>
+        ensures { MatchResult result (λ _. Accepts F.start self.old event.now self.new) (λ fault. Refuses F.start self.old event.now fault self.new) }
+    {
+        match self.step_reply(event) {
+            Ok(_) => Ok(()),
+            Err(fault) => Err(fault),
+        }
+    }
+
+    /// The same, with the reply that the event gives.
+    pub fn step_reply(&mut self, event: &Event) -> Result<Option<Reply>, WorldFault>
+        ensures { MatchResult result (λ reply. Accepts F.start self.old event.now self.new × (reply ≡ reply_in F.start self.old event.now)) (λ fault. Refuses F.start self.old event.now fault self.new) }
+    {
+        if self.failed {
+            return Err(WorldFault::Failed);
+        }
+        let (process, step) = match found(&self.stations, &self.book, event) {
+            Ok(found) => found,
+            Err(fault) => return Err(fault),
+        };
+        match advance(&mut self.stations, &mut self.book, *event, process, &step) {
+            Ok(reply) => Ok(reply),
+            Err(_) => {
+                self.failed = true;
+                Err(WorldFault::OutOfMemory)
+            }
+        }
+    }
+
+    /// Makes these events, one after another, in a new world. The first one that is refused ends the run; want of memory
+    /// before the first event is told of that one.
+    pub fn run(alloc: A, shape: Shape, events: &[Event]) -> Result<World<F, A>, RunFault>
+        ensures { MatchResult result (λ w. w ≡ after_events shape events.now) (λ f. RunRefuses F.start shape events.now f.at f.fault) }
+    {
+        let Ok(mut world) = World::new(alloc, shape) else {
+            let fault = WorldFault::OutOfMemory;
+            return Err(RunFault { at: 0, fault });
+        };
+        for (at, event) in events.iter().enumerate() {
+            if let Err(fault) = world.step(event) {
+                return Err(RunFault { at, fault });
+            }
+        }
+        Ok(world)
+    }
+
+    /// The number of processes and of registers.
+    pub fn shape(&self) -> Shape
+        ensures { result ≡ record { processes = self.now.processes; registers = self.now.registers } }
+    {
+        self.book.history().shape()
+    }
+
+    /// How many events were accepted.
+    pub fn events(&self) -> u32
+        ensures value { result ≡ length self.now.accepted }
+        ensures few { result ≤ MOST_EVENTS }
+    {
+        self.book.accepted().len() as u32
+    }
+
+    /// The events accepted so far. The run that the other answers tell of is that of these events.
+    pub fn accepted(&self) -> &[Event]
+        ensures value { result.now ≡ self.now.accepted }
+        ensures all { (run_in F.start self.now).accepted ≡ self.now.accepted }
+    {
+        self.book.accepted()
+    }
+
+    /// The calls and answers, each with the number of its event.
+    pub fn history(&self) -> &History<A>
+        ensures shape { result.now.shape ≡ record { processes = self.now.processes; registers = self.now.registers } }
+        ensures entries { result.now.entries ≡ (run_in F.start self.now).history }
+        ensures replies { RepliesRight self.now.registers (run_in F.start self.now) }
+    {
+        self.book.history()
+    }
+
+    /// Each cast's first delivery anywhere, in order of delivery: the one order of casts.
+    pub fn order(&self) -> &[First]
+        ensures value { result.now ≡ (run_in F.start self.now).order }
+        ensures agree { FrontsAgree self.now.processes (run_in F.start self.now).nodes }
+        ensures rise { FrontsRise self.now.processes (run_in F.start self.now).nodes }
+        ensures longest { OrderIsLongest self.now.processes (run_in F.start self.now) }
+        ensures right { OrderIsRight self.now.processes (run_in F.start self.now) }
+        ensures firsts { FirstsRight F.start self.now.processes self.now.registers (run_in F.start self.now) }
+    {
+        self.book.order()
+    }
+
+    /// The finished reads that were answered from a copy, in order of their answers.
+    pub fn reads(&self) -> &[CopyRead]
+        ensures value { result.now ≡ (run_in F.start self.now).reads }
+        ensures right { ReadsRight (run_in F.start self.now) }
+    {
+        self.book.reads()
+    }
+
+    /// A process, None where there is no such one. Nothing is claimed of it once the world has stopped.
+    pub fn process(&self, process: u8) -> Option<&Process<F, A>>
+        ensures process { MatchOption result (self.now.processes ≤ process) (λ p. IsProcess F.start self.now process p.now) }
+        ensures quiescent { NothingPending self.now.processes (run_in F.start self.now).nodes → IsQuiescent self.now.processes (run_in F.start self.now).nodes }
+    {
+        match self.stations.get(usize::from(process)) {
+            Some(station) => Some(station.process()),
+            None => None,
+        }
+    }
+
+    /// All frames ever put from one process to another, None where these are no two processes. Nothing is claimed of them
+    /// once the world has stopped.
+    pub fn wire(&self, from: u8, to: u8) -> Option<&[Frame]>
+        ensures { MatchOption result (IsNoWire self.now from to) (λ frames. IsWire F.start self.now from to frames.now) }
+    {
+        if from == to {
+            return None;
+        }
+        if usize::from(to) >= self.stations.len() {
+            return None;
+        }
+        match self.stations.get(usize::from(from)) {
+            Some(station) => Some(station.wire(to)),
+            None => None,
+        }
+    }
+
+    /// The operations that are finished, and the updates that some process has delivered, in one order: the reads from a
+    /// copy and the casts by place, and behind them the finished casts that were delivered nowhere. It is a serial order of
+    /// the history (Lamport 1979).
+    pub fn witness(&self) -> Result<Vec<OpId, A>, AllocError>
+        ensures keyed { IfOk result (λ ids. IsWitness (run_of self.now.registers (run_in F.start self.now)) ids.items) }
+        ensures serial { IfOk result (λ ids. IsSerial self.now.registers (run_in F.start self.now).history ids.items) }
+    {
+        witness_of(
+            self.alloc,
+            self.book.order(),
+            self.book.reads(),
+            self.book.callers(),
+        )
+    }
+}
+
+impl<F: RealTime, A: Allocator + Copy> World<F, A> {
+    /// The casts that are updates or finished, each at the event of its first delivery. They are a point order of the
+    /// history (Herlihy and Wing 1990): each operation takes effect between its call and its answer.
+    pub fn points(&self) -> Result<Vec<Point, A>, AllocError>
+        ensures first { IfOk result (λ points. ArePoints (run_of self.now.registers (run_in F.start self.now)) points.items) }
+        ensures ordered { IfOk result (λ points. IsPointOrder self.now.registers (run_in F.start self.now).history points.items) }
+    {
+        points_of(self.alloc, self.book.order(), self.book.callers())
+    }
+}
