@@ -7,6 +7,8 @@ use Rattle.std.proofs.lemmas.Map.Keys.{IsDistinct-push, IsDistinct-head, IsDisti
 use Rattle.std.proofs.lemmas.Slice.Eq.{bytes_eq-Decides}
 use Rattle.std.proofs.lemmas.List.{take_more, length-take-le, get_or-map, take-map, length-map}
 use Rattle.std.proofs.Math.Seq.{drop-cons}
+use Rattle.std.specs.Prelude.{IsTrue, option_map}
+use Rattle.std.proofs.lemmas.Option.{same_Some, slice_get-map, slice_get-get_or}
 use Rattle.reg_base.specs.Names.{repeat_after, texts, names_fault, first_repeat, first_bad, worst_place, is_name}
 use Rattle.reg_base.specs.declared.limits.TheConstants.{MOST_REGISTERS}
 use Rattle.reg_base.specs.declared.naming.NamesFault.TheVariants.{NoName, TooManyNames}
@@ -137,3 +139,18 @@ number_is names ns s r v h e i =
 
 pub place_fits : {A : Type 0} (names : List (String A)) (s : List ℕ) (i : ℕ) → names_fault (texts names) ≡ None → Some i ≡ position_from (λ n. bytes_eq (string_bytes n) s) 0 names → i < 256
 place_fits names s i h e = number_fits (texts names) s i h (searched names s (Some i) e)
+
+-- a name that stands at a place stands at no other
+pub hinted_is : {A : Type 0} (names : List (String A)) (ns : List (List ℕ)) (s : List ℕ) (h : ℕ) → texts names ≡ ns → names_fault (texts names) ≡ None → slice_get (texts names) h ≡ Some s → (i : ℕ) → (Some h ≡ Some i) ↔ (slice_get ns i ≡ Some s)
+hinted_is names ns s h v good here i = (forth, back)
+  where
+    forth : Some h ≡ Some i → slice_get ns i ≡ Some s
+    forth e = ap (λ (t : List (List ℕ)). slice_get t i) (sym v) ∙ (ap (λ (j : ℕ). slice_get (texts names) j) (sym (same_Some h i e)) ∙ here)
+
+    back : slice_get ns i ≡ Some s → Some h ≡ Some i
+    back there = sym ((number_exact (texts names) s h good).1 here) ∙ (number_exact (texts names) s i good).1 (ap (λ (t : List (List ℕ)). slice_get t i) v ∙ there)
+
+pub stood_at : {A : Type 0} (names : List (String A)) (place : ℕ) (found : String A) (bytes name : List ℕ) → place < length names → found ≡ get_or names place found → bytes ≡ string_bytes found → IsTrue (bytes_eq bytes name) → slice_get (texts names) place ≡ Some name
+stood_at names place found bytes name lt is same equal =
+    let e : string_bytes found ≡ name = sym same ∙ (bytes_eq-Decides bytes name).0 equal in
+    slice_get-map string_bytes names place ∙ (ap (option_map string_bytes) (slice_get-get_or names place found lt) ∙ (ap (λ f. Some (string_bytes f)) (sym is) ∙ ap Some e))

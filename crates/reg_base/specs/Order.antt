@@ -1,7 +1,19 @@
 -- The order of stamps, and lists of casts in that order.
-use Rattle.std.specs.Prelude.{◌≡◌, ◌<◌, ◌≤◌, Bool, ◌&&◌, ◌||◌, ◌==◌, nat_lt, nat_le, cond, ◌⊎◌, List, [], ◌∷◌, ◌++◌}
+use Rattle.std.specs.Prelude.{◌≡◌, ℕ, zero, suc, true, ◌<◌, ◌≤◌, Bool, ◌&&◌, ◌||◌, ◌==◌, nat_lt, nat_le, cond, ◌⊎◌, List, [], ◌∷◌, ◌++◌}
 use Rattle.reg_base.specs.declared.stamps.Stamp.{Stamp}
 use Rattle.reg_base.specs.declared.stamps.Delivered.{Delivered}
+use Rattle.reg_base.specs.declared.memory.Op.{Op}
+
+abbrev pub stamp_at : ℕ → ℕ → Stamp
+stamp_at t p = record { time = t; process = p }
+
+abbrev pub cast_at : ℕ → ℕ → Op → Delivered
+cast_at t p op = record { stamp = stamp_at t p; op = op }
+
+-- a test holds of every number below n
+abbrev pub all_below : (ℕ → Bool) → ℕ → Bool
+all_below test zero = true
+all_below test (suc n) = test n && all_below test n
 
 -- (t, p) < (u, q) when t < u, or t = u and p < q
 abbrev pub Below : Stamp → Stamp → Type 0

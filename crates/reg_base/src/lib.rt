@@ -2,9 +2,8 @@
 //! of its registers.
 #![tactic(auto)]
 
-pub mod limits;
-
 mod clocks;
+pub mod limits;
 mod memory;
 mod naming;
 mod shapes;
@@ -15,3 +14,6 @@ pub use memory::{Answer, Op, OpId, Registers};
 pub use naming::{Names, NamesFault, is_name};
 pub use shapes::{Shape, ShapeFault};
 pub use stamps::{Delivered, Stamp};
+
+#[cfg(test)]
+mod tests;

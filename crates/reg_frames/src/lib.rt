@@ -2,5 +2,14 @@
 #![tactic(auto)]
 
 mod bodies;
+mod faults;
+pub mod laws;
+mod reading;
+mod spelling;
+#[cfg(test)]
+mod tests;
 
 pub use bodies::{Body, Frame};
+pub use faults::FrameFault;
+pub use reading::decode;
+pub use spelling::encode;

@@ -7,6 +7,13 @@ pub mod OneMore
 pub mod Placing
 pub mod Adding
 pub mod Keeping
+pub mod Steps
+pub mod Tables
+pub mod Noting
+pub mod Marking
+pub mod OwnOrder
+pub mod Bridges
+pub mod PointFacts
 pub mod Lacking
 pub mod Padding
 pub mod Whole

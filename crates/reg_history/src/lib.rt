@@ -1,7 +1,9 @@
 //! Histories of calls and answers, their serial orders and point orders, and the texts of reports.
 #![tactic(auto)]
 
+mod answers;
 mod blocks;
+mod check;
 mod display;
 mod entries;
 mod entry_lines;
@@ -9,13 +11,19 @@ mod faults;
 mod id_lines;
 pub mod laws;
 mod log;
+mod marks;
+#[cfg(test)]
+mod order_tests;
 mod parts;
 mod place;
+mod points;
 mod report_faults;
 mod report_limits;
 mod reports;
+mod table;
 mod write;
 
+pub use check::{check_points, check_serial};
 pub use entries::{Entry, Point};
 pub use faults::{CheckFault, HistoryFault};
 pub use log::History;

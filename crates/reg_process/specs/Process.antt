@@ -1,5 +1,5 @@
 -- One process: what each event does.
-use Rattle.std.specs.Prelude.{◌≡◌, ℕ, zero, suc, ◌+◌, ◌-◌, ◌<◌, max, Bool, true, not, ◌&&◌, ◌||◌, ◌==◌, cond, if◌then◌else◌, List, [], ◌∷◌, ◌++◌, length, map, take, drop, Option, Some, None, slice_set, slice_index_or, count_by}
+use Rattle.std.specs.Prelude.{◌≡◌, ℕ, suc, ◌+◌, ◌-◌, ◌<◌, max, Bool, not, ◌&&◌, ◌||◌, ◌==◌, cond, if◌then◌else◌, List, [], ◌∷◌, ◌++◌, length, map, take, drop, Option, Some, None, slice_set, slice_index_or, count_by}
 use Rattle.std.specs.List.{filter, list_any}
 use Rattle.reg_base.specs.declared.stamps.Stamp.{Stamp}
 use Rattle.reg_base.specs.declared.stamps.Delivered.{Delivered}
@@ -16,6 +16,7 @@ use Rattle.reg_process.specs.declared.steps.Step.{Step}
 use Rattle.reg_process.specs.declared.steps.Step.TheVariants.{Call, Take, Tick}
 use Rattle.reg_base.specs.declared.limits.TheConstants.{MOST_RESENT}
 use Rattle.reg_base.specs.Order.{AtMost, below, at_most, insert}
+pub use Rattle.reg_base.specs.Order.{stamp_at, cast_at, all_below}
 use Rattle.reg_base.specs.Memory.{Memory, answer_of, memory_after}
 
 abbrev pub time_of : Body → ℕ
@@ -36,6 +37,11 @@ no_peer = record { seen = 0; expected = 0; first = 0; pending = [] }
 -- the number of the next body
 abbrev pub next_of : Peer → ℕ
 next_of p = p.first + length p.pending
+
+-- how many bodies are not acknowledged, over all links
+abbrev pub pending_of : List Peer → ℕ
+pending_of [] = 0
+pending_of (p ∷ ps) = length p.pending + pending_of ps
 
 -- an operation that runs until its cast is delivered, or a held read
 pub data Running : Type 0 where
@@ -64,17 +70,6 @@ pub record Outcome : Type 0 where
 
 abbrev pub peer_at : State → ℕ → Peer
 peer_at s r = slice_index_or s.peers r no_peer
-
-abbrev pub stamp_at : ℕ → ℕ → Stamp
-stamp_at t p = record { time = t; process = p }
-
-abbrev pub cast_at : ℕ → ℕ → Op → Delivered
-cast_at t p op = record { stamp = stamp_at t p; op = op }
-
--- a test holds of every number below n
-abbrev pub all_below : (ℕ → Bool) → ℕ → Bool
-all_below test zero = true
-all_below test (suc n) = test n && all_below test n
 
 abbrev pub seen_at : State → ℕ → ℕ
 seen_at s r = (peer_at s r).seen

@@ -1,5 +1,5 @@
 use Rattle.std.proofs.Common.{refl}
-use Rattle.reg_base.proofs.Fitting.{value_fits, done_fits}
+use Rattle.reg_base.proofs.Operations.{value_fits, done_fits}
 use Rattle.reg_base.proofs.memory.Op.can_answer.Goals as goal
 
 pub returns-in-Value : goal.returns-in-Value

@@ -1,5 +1,5 @@
 use Rattle.std.proofs.Common.{Some, None, arith, ◌<◌}
-use Rattle.reg_base.proofs.NamesLaws.{number_is, place_fits}
+use Rattle.reg_base.proofs.NamesLaws.{number_is, place_fits, hinted_is}
 use Rattle.reg_base.proofs.naming.Names.find.Goals as goal
 
 pub overflow_cast-result : goal.overflow_cast-result
@@ -11,3 +11,8 @@ returns-in-Some g c = number_is c.self.inside.names.items c.args.self.now c.args
 
 pub returns-in-None : goal.returns-in-None
 returns-in-None g c = number_is c.self.inside.names.items c.args.self.now c.args.name.now None c.self.view_is c.self.invariant (cc)
+
+pub returns-then-stands_at : goal.returns-then-stands_at
+returns-then-stands_at g c =
+    hinted_is c.self.inside.names.items c.args.self.now c.args.name.now _ c.self.view_is c.self.invariant
+    (rw (← c.deref.ensures.value, ← c.from.ensures) (c.stands_at.ensures c.if-stands_at.true))

@@ -1,9 +1,9 @@
--- Which answers an operation can have.
-use Rattle.std.proofs.Common.{◌≡◌, ℕ, zero, suc, [], ◌∷◌, refl, sym, ap, ◌∙◌}
+-- Which answers an operation can have, and what it leaves of a memory.
+use Rattle.std.proofs.Common.{◌≡◌, ℕ, zero, suc, [], ◌∷◌, refl, sym, ap, ◌∙◌, length, length-set}
 use Rattle.std.specs.Prelude.{slice_index}
 use Rattle.reg_base.specs.declared.memory.Op.TheVariants.{Read, Write}
 use Rattle.reg_base.specs.declared.memory.Answer.TheVariants.{Done, Value}
-use Rattle.reg_base.specs.Memory.{Memory, answer_of, Fits}
+use Rattle.reg_base.specs.Memory.{Memory, answer_of, after, Fits}
 use Rattle.reg_base.specs.declared.memory.Op.{Op}
 use Rattle.reg_base.specs.declared.memory.Answer.{Answer}
 
@@ -33,3 +33,7 @@ value_fits op a r v e1 e2 = let h = read_fits r v in (h.0, e2 ∙ h.1 ∙ ap (λ
 
 pub done_fits : (op : Op) (a : Answer) (r v : ℕ) → op ≡ Write r v → a ≡ Done → Fits op a
 done_fits op a r v e1 e2 = let h = write_fits r v in (h.0, e2 ∙ h.1 ∙ ap (λ (o : Op). answer_of o h.0) (sym e1))
+
+pub length-after : (op : Op) (m : Memory) → length (after op m) ≡ length m
+length-after (Read r) m = refl
+length-after (Write r v) m = length-set m r v

@@ -1,0 +1,8 @@
+//! The commands.
+
+/// What the program is asked to do with the text on its input.
+#[derive(Clone, Copy, Debug, PartialEq, Eq)]
+pub enum Command {
+    /// Judges a report from its text alone.
+    Check,
+}

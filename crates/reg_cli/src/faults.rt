@@ -1,0 +1,32 @@
+//! Why a command gives no answer.
+use crate::input::InputFault;
+use reg_history::ReadWhy;
+use thiserror::Error;
+
+/// Why a command gives no answer. As text, the line of it on standard error.
+#[derive(Clone, Copy, Debug, PartialEq, Eq, Error)]
+pub enum Fault {
+    #[error("input: read")]
+    Unread,
+    #[error("input: too long")]
+    TooLong,
+    #[error("input: not text")]
+    NotText,
+    #[error("output: write")]
+    Output,
+    #[error("line {line}: {}", word(.why))]
+    Line { line: u64, why: ReadWhy },
+    #[error("out of memory")]
+    OutOfMemory,
+}
+
+/// What is wrong with a line, in a word.
+fn word(why: &ReadWhy) -> &'static str {
+    match *why {
+        ReadWhy::Form => "form",
+        ReadWhy::Range => "range",
+        ReadWhy::Name => "name",
+        ReadWhy::Place => "place",
+        ReadWhy::End => "end",
+    }
+}

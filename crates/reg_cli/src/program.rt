@@ -1,0 +1,51 @@
+//! The program: the words of its command line, and then the command over the standard streams.
+use crate::running::run_text;
+use crate::words::{WordsFault, choose};
+use std::io::{BufWriter, ErrorKind, Write};
+use std::rt::Env;
+use std::{env, io};
+
+fn words<R: AllocGlobal + Env>(rt: &R) -> Result<Vec<String>, WordsFault> {
+    match env::args(rt) {
+        Ok(args) => match args.collect(rt.alloc()) {
+            Ok(words) => Ok(words),
+            Err(_) => Err(WordsFault::OutOfMemory),
+        },
+        Err(error) if error.kind() == ErrorKind::OutOfMemory => Err(WordsFault::OutOfMemory),
+        Err(_) => Err(WordsFault::CommandLine),
+    }
+}
+
+fn obey_words<R, E>(rt: &R, errors: &mut E) -> Result<u8, WordsFault>
+where
+    R: AllocGlobal + Env + Input + Print,
+    E: Write,
+{
+    let words = words(rt)?;
+    let command = choose(rt.alloc(), words.as_slice())?;
+    let mut reader = rt.reader();
+    let Ok(mut writer) = BufWriter::new(rt.alloc(), io::writer(rt)) else {
+        return Err(WordsFault::OutOfMemory);
+    };
+    Ok(run_text(rt.alloc(), command, &mut reader, &mut writer, errors))
+}
+
+/// Does what the words of the command line ask for, and gives the exit status: 0, or 1 where something was refused or
+/// a check said no, or 2 for the command line. Every line of a fault goes to `errors`.
+pub fn run_program<R, E>(rt: &R, errors: &mut E) -> u8
+where
+    R: AllocGlobal + Env + Input + Print,
+    E: Write,
+{
+    match obey_words(rt, errors) {
+        Ok(status) => status,
+        Err(WordsFault::CommandLine) => {
+            let _ = writeln!(errors, "command line");
+            2
+        }
+        Err(WordsFault::OutOfMemory) => {
+            let _ = writeln!(errors, "out of memory");
+            1
+        }
+    }
+}

@@ -1,0 +1,48 @@
+//! The words of the command line.
+use crate::command::Command;
+use clap::error::ErrorKind;
+use std::alloc::{AllocError, Global};
+
+/// Why the words ask for nothing.
+#[derive(Clone, Copy, Debug, PartialEq, Eq)]
+pub enum WordsFault {
+    /// They are none of the command lines.
+    CommandLine,
+    /// There was no memory to read them.
+    OutOfMemory,
+}
+
+impl From<AllocError> for WordsFault {
+    fn from(_error: AllocError) -> WordsFault {
+        WordsFault::OutOfMemory
+    }
+}
+
+impl From<clap::Error> for WordsFault {
+    fn from(error: clap::Error) -> WordsFault {
+        match error.kind() {
+            ErrorKind::OutOfMemory => WordsFault::OutOfMemory,
+            _ => WordsFault::CommandLine,
+        }
+    }
+}
+
+/// The program's command line, with a subcommand for each command.
+fn command_line<'a>(alloc: Global) -> Result<clap::Command<'a>, AllocError> {
+    clap::Command::new(alloc, "awreg").subcommand(clap::Command::new(alloc, "check"))
+}
+
+/// What the words ask for. The first word is the program's name. Help, version texts, a line without a command and
+/// every other refusal are `CommandLine`, and so is a word `--`.
+pub fn choose<'a>(alloc: Global, words: &'a [String]) -> Result<Command, WordsFault> {
+    for word in words {
+        if word.as_str() == "--" {
+            return Err(WordsFault::CommandLine);
+        }
+    }
+    let matches = command_line::<'a>(alloc)?.try_get_matches_from(words)?;
+    match matches.subcommand() {
+        Some(("check", _)) => Ok(Command::Check),
+        _ => Err(WordsFault::CommandLine),
+    }
+}

@@ -1,0 +1,80 @@
+-- Which fault the bytes have: the first of a fixed row of tests.
+use Rattle.std.specs.Prelude.{ℕ, ◌≡◌, ◌<◌, ◌^◌, ◌-◌, ◌==◌, ◌&&◌, nat_lt, nat_le, Bool, List, length, take, drop, slice_index, Result, Ok, Err, if◌then◌else◌}
+use Rattle.std.specs.Int.{Width, w16, w64, byte_len, from_be_bytes}
+use Rattle.reg_base.specs.declared.limits.TheConstants.{MOST_REGISTERS, LAST_TIME, FRAME_NUMBERS}
+use Rattle.reg_base.specs.declared.memory.Op.{Op}
+use Rattle.reg_base.specs.declared.memory.Op.TheVariants.{Read, Write}
+use Rattle.reg_base.specs.Memory.{register_of}
+use Rattle.reg_frames.specs.declared.bodies.Body.{Body}
+use Rattle.reg_frames.specs.declared.bodies.Body.TheVariants.{Cast, Ack}
+use Rattle.reg_frames.specs.declared.bodies.Frame.{Frame}
+use Rattle.reg_frames.specs.declared.bodies.Frame.TheVariants.{Numbered, Got}
+use Rattle.reg_frames.specs.declared.faults.FrameFault.{FrameFault}
+use Rattle.reg_frames.specs.declared.faults.FrameFault.TheVariants as faults
+
+-- the number that stands at this offset
+abbrev pub number_at : Width → ℕ → List ℕ → ℕ
+number_at w at bytes = from_be_bytes w (take (byte_len w) (drop at bytes))
+
+abbrev pub is_time : ℕ → Bool
+is_time time = nat_lt 0 time && nat_le time LAST_TIME
+
+abbrev pub body_fits : Body → Bool
+body_fits (Cast time op) = is_time time && nat_lt (register_of op) MOST_REGISTERS
+body_fits (Ack time) = is_time time
+
+-- the value of a write fits its width, as each that a program holds does
+abbrev pub OpIsNarrow : Op → Type 0
+OpIsNarrow (Read register) = Unit {0}
+OpIsNarrow (Write register value) = value < 2 ^ 64
+
+abbrev pub BodyIsNarrow : Body → Type 0
+BodyIsNarrow (Cast time op) = OpIsNarrow op
+BodyIsNarrow (Ack time) = Unit {0}
+
+abbrev pub IsNarrow : Frame → Type 0
+IsNarrow (Numbered number body) = BodyIsNarrow body
+IsNarrow (Got count) = Unit {0}
+
+-- whether the fields are in range
+abbrev pub frame_fits : Frame → Bool
+frame_fits (Numbered number body) = nat_lt number FRAME_NUMBERS && body_fits body
+frame_fits (Got count) = nat_le count FRAME_NUMBERS
+
+abbrev pub in_range : Frame → Result Frame FrameFault
+in_range frame = if frame_fits frame then Ok frame else Err faults.Range
+
+-- a frame of just this size
+abbrev pub sized : ℕ → List ℕ → Frame → Result Frame FrameFault
+sized size bytes frame = if length bytes == size then in_range frame else Err faults.Size
+
+abbrev pub cast_at : List ℕ → Op → Frame
+cast_at bytes op = Numbered (number_at w64 4 bytes) (Cast (number_at w64 13 bytes) op)
+
+-- a cast by its operation's byte
+abbrev pub cast_of : List ℕ → Result Frame FrameFault
+cast_of bytes =
+    if nat_lt (length bytes) 22 then Err faults.Size else
+    if slice_index bytes 21 == 1 then sized 24 bytes (cast_at bytes (Read (number_at w16 22 bytes))) else
+    if slice_index bytes 21 == 2 then sized 32 bytes (cast_at bytes (Write (number_at w16 22 bytes) (number_at w64 24 bytes))) else
+    Err faults.Op
+
+-- a data frame by its body's byte
+abbrev pub data_of : List ℕ → Result Frame FrameFault
+data_of bytes =
+    if nat_lt (length bytes) 13 then Err faults.Size else
+    if slice_index bytes 12 == 1 then cast_of bytes else
+    if slice_index bytes 12 == 2 then sized 21 bytes (Numbered (number_at w64 4 bytes) (Ack (number_at w64 13 bytes))) else
+    Err faults.Body
+
+-- the frame, or the first fault
+abbrev pub frame_of : List ℕ → Result Frame FrameFault
+frame_of bytes =
+    if nat_lt (length bytes) 12 then Err faults.Short else
+    if number_at w16 0 bytes == length bytes - 2 then
+    (if slice_index bytes 2 == 1 then
+    (if slice_index bytes 3 == 1 then data_of bytes else
+    if slice_index bytes 3 == 2 then sized 12 bytes (Got (number_at w64 4 bytes)) else
+    Err faults.Kind)
+    else Err faults.Version)
+    else Err faults.Length

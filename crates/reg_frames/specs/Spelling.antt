@@ -1,0 +1,57 @@
+-- The bytes of a frame. All numbers are big-endian, and a frame has exactly one spelling.
+use Rattle.std.specs.Prelude.{ℕ, ◌≡◌, ◌+◌, ◌<◌, ◌≤◌, ◌^◌, List, [], ◌∷◌, ◌++◌, length}
+use Rattle.std.specs.Int.{w16, w64, to_be_bytes}
+use Rattle.reg_base.specs.declared.limits.TheConstants.{MOST_REGISTERS, LAST_TIME, FRAME_NUMBERS}
+use Rattle.reg_base.specs.declared.memory.Op.{Op}
+use Rattle.reg_base.specs.declared.memory.Op.TheVariants.{Read, Write}
+use Rattle.reg_frames.specs.declared.bodies.Body.{Body}
+use Rattle.reg_frames.specs.declared.bodies.Body.TheVariants.{Cast, Ack}
+use Rattle.reg_frames.specs.declared.bodies.Frame.{Frame}
+use Rattle.reg_frames.specs.declared.bodies.Frame.TheVariants.{Numbered, Got}
+use Rattle.reg_frames.specs.declared.faults.FrameFault.{FrameFault}
+use Rattle.reg_frames.specs.declared.faults.FrameFault.TheVariants as faults
+
+-- the operation's byte, its register in two bytes, and the value of a write in eight
+abbrev pub op_bytes : Op → List ℕ
+op_bytes (Read register) = 1 ∷ to_be_bytes w16 register
+op_bytes (Write register value) = 2 ∷ (to_be_bytes w16 register ++ to_be_bytes w64 value)
+
+-- the body's byte, its time in eight bytes, and the operation of a cast
+abbrev pub body_bytes : Body → List ℕ
+body_bytes (Cast time op) = 1 ∷ (to_be_bytes w64 time ++ op_bytes op)
+body_bytes (Ack time) = 2 ∷ to_be_bytes w64 time
+
+-- what follows the version: the frame's byte, its number or count in eight bytes, and the body of a data frame
+abbrev pub payload : Frame → List ℕ
+payload (Numbered number body) = 1 ∷ (to_be_bytes w64 number ++ body_bytes body)
+payload (Got count) = 2 ∷ to_be_bytes w64 count
+
+-- the length of what follows in two bytes, the version, and the payload
+abbrev pub spelling : Frame → List ℕ
+spelling frame = to_be_bytes w16 (length (payload frame) + 1) ++ 1 ∷ payload frame
+
+abbrev pub OpFits : Op → Type 0
+OpFits (Read register) = register < MOST_REGISTERS
+OpFits (Write register value) = (register < MOST_REGISTERS) × (value < 2 ^ 64)
+
+abbrev pub TimeFits : ℕ → Type 0
+TimeFits time = (0 < time) × (time ≤ LAST_TIME)
+
+abbrev pub BodyFits : Body → Type 0
+BodyFits (Cast time op) = TimeFits time × OpFits op
+BodyFits (Ack time) = TimeFits time
+
+-- all fields are in range
+abbrev pub Fits : Frame → Type 0
+Fits (Numbered number body) = (number < FRAME_NUMBERS) × BodyFits body
+Fits (Got count) = count ≤ FRAME_NUMBERS
+
+-- the bytes spell the frame
+abbrev pub Spells : Frame → List ℕ → Type 0
+Spells frame bytes = Fits frame × (bytes ≡ spelling frame)
+
+-- why a frame isn't spelled
+abbrev pub Refuses : Frame → FrameFault → Type 0
+Refuses frame faults.Range = ¬ Fits frame
+Refuses frame faults.OutOfMemory = Fits frame
+Refuses frame fault = ⊥

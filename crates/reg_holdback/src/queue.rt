@@ -1,0 +1,152 @@
+//! The hold-back queue: an ordered map from stamp to operation.
+ghost use Rattle.std.specs.Prelude.{◌≡◌, ◌<◌, ◌≤◌, [], length, replicate, IfOk, IfSome, IfNone, MatchResult, MatchOption, if◌then◌else◌, is_ok, option_map, Some, None, IfErr};
+ghost use Rattle.reg_base.specs.declared.limits.TheConstants.{MOST_PROCESSES};
+ghost use Rattle.reg_base.specs.Order.{Rising};
+ghost use Rattle.reg_holdback.specs.Waiting.{is_clear as is_clear_by, cast_of, ready_of, without_first, with_cast, received, receive_fault, refusal_of, IsLatestOwn, seen_of, IsReady, NoneClear};
+
+use reg_base::{Op, Shape, Stamp};
+use std::alloc::{AllocError, Allocator, Global};
+use std::collections::BTreeMap;
+use std::marker::Model;
+
+/// Why a body is refused.
+#[derive(Clone, Copy, Debug, PartialEq, Eq)]
+pub enum HoldFault {
+    /// Its sender is the process itself, or out of range.
+    NoProcess,
+    /// Its time is not above that of the last body from its sender.
+    Stale,
+    /// Memory was refused.
+    OutOfMemory,
+}
+
+/// The casts that one process holds back until every other process is known to have passed their stamps, so that all
+/// processes deliver in one order (totally ordered multicast, after Lamport 1978).
+#[derive(Drop)]
+pub struct Holdback<A: Allocator + Copy = Global> {
+    me: u8,
+    seen: Vec<u64, A>,
+    held: BTreeMap<Stamp, Op, A>,
+}
+
+impl<A: Allocator + Copy> Model for Holdback<A> {
+    ghost use Rattle.std.specs.Prelude.{length, ◌≤◌, ◌<◌};
+    ghost use Rattle.reg_holdback.specs.Waiting.{Waiting, InRange, casts_of};
+
+    ghost Value = { Waiting };
+
+    ghost view = { λ h. record { me = h.me; seen = h.seen.items; held = casts_of h.held.entries } };
+
+    ghost invariant = { λ h. InRange (record { me = h.me; seen = h.seen.items; held = casts_of h.held.entries }) };
+}
+
+/// Whether every other process is known to have passed a stamp.
+fn is_clear(seen: &[u64], me: u8, stamp: Stamp) -> bool
+    requires { length seen.now ≤ MOST_PROCESSES }
+    ensures { result ≡ is_clear_by me seen.now stamp }
+{
+    for (r, &time) in seen.iter().enumerate() {
+        let process = r as u8;
+        let known = Stamp { time, process };
+        if process != me && known < stamp {
+            return false;
+        }
+    }
+    true
+}
+
+impl<A: Allocator + Copy> Holdback<A> {
+    /// Nothing is held, and nothing was heard of anyone. The process is one of the shape.
+    pub fn new(alloc: A, me: u8, shape: Shape) -> Result<Holdback<A>, AllocError>
+        requires { me < shape.processes }
+        ensures { IfOk result (λ h. h ≡ record { me = me; seen = replicate shape.processes 0; held = [] }) }
+    {
+        let seen = vec![in alloc; 0; shape.processes() as usize]?;
+        Ok(Holdback {
+            me,
+            seen,
+            held: BTreeMap::new(alloc),
+        })
+    }
+
+    /// Holds an own cast, later than every own cast that is held. After a refusal nothing has changed.
+    pub fn cast(&mut self, stamp: Stamp, op: Op) -> Result<(), AllocError>
+        requires own { stamp.process ≡ self.old.me }
+        requires latest { IsLatestOwn self.old stamp }
+        ensures { self.new ≡ (if is_ok result then with_cast self.old stamp op else self.old) }
+    {
+        self.held.insert(stamp, op)?;
+        Ok(())
+    }
+
+    /// Takes in the time of a body of another process, and holds its cast, if it carries one. After a refusal nothing has
+    /// changed.
+    pub fn receive(&mut self, stamp: Stamp, op: Option<Op>) -> Result<(), HoldFault>
+        ensures exact { MatchResult result (λ _. (receive_fault self.old stamp ≡ None) × (self.new ≡ received self.old stamp op)) (λ fault. (receive_fault self.old stamp ≡ refusal_of fault) × (self.new ≡ self.old)) }
+
+        // A body without a cast takes no memory.
+        ensures bare { IfErr result (λ fault. op ≡ None → receive_fault self.old stamp ≡ Some fault) }
+    {
+        let process = stamp.process as usize;
+        if stamp.process == self.me || process >= self.seen.len() {
+            return Err(HoldFault::NoProcess);
+        }
+        if stamp.time <= self.seen[process] {
+            return Err(HoldFault::Stale);
+        }
+        let Some(op) = op else {
+            self.seen[process] = stamp.time;
+            return Ok(());
+        };
+        if self.held.insert(stamp, op).is_err() {
+            return Err(HoldFault::OutOfMemory);
+        }
+        self.seen[process] = stamp.time;
+        Ok(())
+    }
+
+    /// Lets the cast go that is ready: clear, so that every other process is known to have passed its stamp, and least
+    /// among those held. None comes exactly where no held cast is clear. It takes no memory.
+    pub fn pop(&mut self) -> Option<(Stamp, Op)>
+        ensures answer { option_map cast_of result ≡ ready_of self.old }
+        ensures after { MatchOption result (self.new ≡ self.old) (λ _. self.new ≡ without_first self.old) }
+        ensures rising { Rising self.old.held }
+        ensures ready { IfSome result (λ e. IsReady self.old (cast_of e)) }
+        ensures none { IfNone result (NoneClear self.old) }
+    {
+        self.pop_first_clear()
+    }
+
+    fn pop_first_clear(&mut self) -> Option<(Stamp, Op)>
+        ensures answer { option_map cast_of result ≡ ready_of self.old }
+        ensures after { MatchOption result (self.new ≡ self.old) (λ _. self.new ≡ without_first self.old) }
+        ensures rising { Rising self.old.held }
+    {
+        if self.held.len() == 0 {
+            return None;
+        }
+        let (&stamp, _) = self.held.first_key_value()?;
+        if !is_clear(&self.seen, self.me, stamp) {
+            return None;
+        }
+        self.held.pop_first()
+    }
+
+    /// How many casts are held.
+    pub fn len(&self) -> usize
+        ensures { result ≡ length self.now.held }
+    {
+        self.held.len()
+    }
+
+    /// The time of the last body from another process, 0 where there was none. None for the process itself and out of
+    /// range.
+    pub fn seen(&self, process: u8) -> Option<u64>
+        ensures { result ≡ seen_of self.now process }
+    {
+        if process == self.me {
+            return None;
+        }
+        self.seen.get(process as usize).copied()
+    }
+}

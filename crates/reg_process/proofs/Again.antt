@@ -1,0 +1,113 @@
+-- What a tick puts again.
+use Rattle.std.proofs.Common.{◌≡◌, ℕ, zero, suc, ◌+◌, ◌<◌, ◌≤◌, List, [], ◌∷◌, ◌++◌, length, take, map, Option, Some, None, refl, sym, ap, ◌∙◌, arith, add-one, append_assoc, replicate}
+use Rattle.std.proofs.lemmas.List.{length-replicate}
+use Rattle.std.specs.Prelude.{cond, slice_get, slice_index_or, option_map}
+use Rattle.std.proofs.lemmas.Bool.{ne_eqb}
+use Rattle.reg_frames.specs.declared.bodies.Body.{Body}
+use Rattle.reg_frames.specs.declared.bodies.Frame.{Frame}
+use Rattle.reg_frames.specs.declared.bodies.Frame.TheVariants.{Numbered}
+use Rattle.reg_process.specs.Process.{numbered_from, resent}
+use Rattle.reg_base.specs.declared.limits.TheConstants.{MOST_RESENT, MOST_PROCESSES}
+use Rattle.reg_links.specs.Link.{Unacknowledged, next_of}
+use Rattle.reg_process.specs.declared.outcomes.Put.{Put}
+use Rattle.reg_process.specs.Parts.{Parts, Good, state_of, nothing, first_parts}
+use Rattle.reg_holdback.specs.Waiting.{Waiting}
+use Rattle.reg_process.specs.Puts.{puts, put_to, again_at, again_frames}
+use Rattle.reg_process.proofs.Deliveries.{length-merged}
+use Rattle.reg_process.proofs.Sends.{puts_same}
+use Rattle.reg_process.proofs.Acks.{merged_out_at}
+
+one_more : (first i : ℕ) (xs : List Body) (b : Body) → slice_get xs i ≡ Some b → numbered_from first (take (suc i) xs) ≡ numbered_from first (take i xs) ++ Numbered (first + i) b ∷ []
+one_more first i [] b h = absurd (cc)
+one_more first zero (x ∷ xs) b h =
+    let e : x ≡ b = cc in let z : first ≡ first + 0 = omega arith in
+    ap (λ c. Numbered first c ∷ []) e ∙ ap (λ k. Numbered k b ∷ []) z
+one_more first (suc i) (x ∷ xs) b h =
+    let z : first + 1 + i ≡ first + suc i = omega arith in
+    ap (λ l. Numbered first x ∷ l) (one_more (first + 1) i xs b h ∙ ap (λ k. numbered_from (first + 1) (take i xs) ++ Numbered k b ∷ []) z)
+
+pub stops : (i n : ℕ) (xs : List Body) → slice_get xs i ≡ None → i ≤ n → take n xs ≡ take i xs
+stops zero zero [] h l = refl
+stops zero (suc n) [] h l = refl
+stops (suc i) zero [] h l = refl
+stops (suc i) (suc n) [] h l = refl
+stops zero n (x ∷ xs) h l = absurd (cc)
+stops (suc i) zero (x ∷ xs) h l = absurd (omega arith)
+stops (suc i) (suc n) (x ∷ xs) h l = ap (λ t. x ∷ t) (stops i n xs h (omega arith))
+
+pub map_append : (r : ℕ) (xs ys : List Frame) → map (put_to r) (xs ++ ys) ≡ map (put_to r) xs ++ map (put_to r) ys
+map_append r [] ys = refl
+map_append r (x ∷ xs) ys = ap (λ l. put_to r x ∷ l) (map_append r xs ys)
+
+some_body : (o : Option Body) (k : ℕ) (f : Frame) → Some f ≡ option_map (λ b. Numbered k b) o → (b : Body) × (o ≡ Some b) × (f ≡ Numbered k b)
+some_body None k f h = absurd (cc)
+some_body (Some b) k f h = (b, refl, cc)
+
+none_body : (o : Option Body) (k : ℕ) → None ≡ option_map (λ b. Numbered k b) o → o ≡ None
+none_body None k h = refl
+none_body (Some b) k h = absurd (cc)
+
+-- one more frame of the outbox
+pub resend_more : (out : Unacknowledged) (to i : ℕ) (f : Frame) (old fs gs : List Put) → Some f ≡ option_map (λ b. Numbered (out.first + i) b) (slice_get out.pending i) → fs ≡ old ++ map (put_to to) (numbered_from out.first (take i out.pending)) → gs ≡ fs ++ put_to to f ∷ [] → gs ≡ old ++ map (put_to to) (numbered_from out.first (take (i + 1) out.pending))
+resend_more out to i f old fs gs h e g =
+    let r = some_body (slice_get out.pending i) (out.first + i) f h in
+    let m : numbered_from out.first (take (i + 1) out.pending) ≡ numbered_from out.first (take i out.pending) ++ f ∷ [] =
+    ap (λ k. numbered_from out.first (take k out.pending)) (add-one i) ∙ one_more out.first i out.pending r.0 r.1 ∙ ap (λ x. numbered_from out.first (take i out.pending) ++ x ∷ []) (sym r.2) in
+    g ∙ ap (λ l. l ++ put_to to f ∷ []) e
+    ∙ append_assoc old (map (put_to to) (numbered_from out.first (take i out.pending))) (put_to to f ∷ [])
+    ∙ ap (λ l. old ++ l) (sym (map_append to (numbered_from out.first (take i out.pending)) (f ∷ [])))
+    ∙ ap (λ l. old ++ map (put_to to) l) (sym m)
+
+pub resend_end : (out : Unacknowledged) (me to i : ℕ) (old fs : List Put) → (to ≡ me → ⊥) → None ≡ option_map (λ b. Numbered (out.first + i) b) (slice_get out.pending i) → i ≤ MOST_RESENT → fs ≡ old ++ map (put_to to) (numbered_from out.first (take i out.pending)) → fs ≡ old ++ map (put_to to) (again_at me to out)
+resend_end out me to i old fs ne h l e =
+    e ∙ ap (λ xs. old ++ map (put_to to) (numbered_from out.first xs)) (sym (stops i MOST_RESENT out.pending (none_body (slice_get out.pending i) (out.first + i) h) l))
+    ∙ ap (λ b. old ++ map (put_to to) (cond b [] (numbered_from out.first (take MOST_RESENT out.pending)))) (sym (ne_eqb to me ne))
+
+pub resend_full : (out : Unacknowledged) (me to i : ℕ) (old fs : List Put) → (to ≡ me → ⊥) → i ≡ MOST_RESENT → fs ≡ old ++ map (put_to to) (numbered_from out.first (take i out.pending)) → fs ≡ old ++ map (put_to to) (again_at me to out)
+resend_full out me to i old fs ne l e =
+    e ∙ ap (λ k. old ++ map (put_to to) (numbered_from out.first (take k out.pending))) l
+    ∙ ap (λ b. old ++ map (put_to to) (cond b [] (numbered_from out.first (take MOST_RESENT out.pending)))) (sym (ne_eqb to me ne))
+
+pub again_is : (p : Parts) → Good p → puts (again_frames p.me p.outs) (length p.outs) ≡ puts (resent (state_of p)) (length (state_of p).peers)
+again_is p good =
+    puts_same (again_frames p.me p.outs) (resent (state_of p)) (length p.outs) (λ r. ap (again_at p.me r) (merged_out_at p.waiting.seen p.expected p.outs r good.ins good.out))
+    ∙ ap (puts (resent (state_of p))) (good.out ∙ sym (length-merged p.waiting.seen p.expected p.outs good.ins good.out))
+
+pub replicate_at : {X : Type 0} (n i : ℕ) (x : X) → slice_index_or (replicate n x) i x ≡ x
+replicate_at zero i x = refl
+replicate_at (suc n) zero x = refl
+replicate_at (suc n) (suc i) x = replicate_at n i x
+
+abbrev zeros : ℕ → List ℕ
+zeros n = replicate n 0
+
+pub first_good : (me processes registers : ℕ) → me < processes → processes ≤ MOST_PROCESSES → Good (first_parts me processes registers)
+first_good me processes registers m n =
+    let a : length (zeros processes) ≡ processes = length-replicate processes 0 in
+    let b : length (replicate processes nothing) ≡ processes = length-replicate processes nothing in
+    record {
+      same = refl;
+      me = omega (arith, a, m);
+      processes = omega (arith, a, n);
+      ins = refl;
+      out = b ∙ sym a;
+      unsettled = refl;
+      few = omega arith;
+      calls = omega arith;
+      clock = omega arith;
+      counted = omega arith;
+      held = λ c i. absurd i;
+      runs = tt;
+      numbers = λ i. let e : next_of (slice_index_or (replicate processes nothing) i nothing) ≡ 0 = ap next_of (replicate_at processes i nothing) in omega (arith, e);
+      counts = λ i. let z : ℕ = 0 in let e : slice_index_or (zeros processes) i z ≡ z = replicate_at processes i z in omega (arith, e);
+    }
+
+-- the parts that the code made
+pub same_parts : (me processes registers clock : ℕ) (w : Waiting) (es : List ℕ) (os : List Unacknowledged) (m : List ℕ) → clock ≡ 0 → w ≡ record { me = me; seen = replicate processes 0; held = [] } → es ≡ replicate processes 0 → os ≡ replicate processes nothing → m ≡ replicate registers 0 →
+    first_parts me processes registers ≡ record (first_parts me processes registers) { clock = clock; waiting = w; expected = es; outs = os; copy = m }
+same_parts me processes registers clock w es os m c a b d f =
+    ap (λ x. record (first_parts me processes registers) { clock = x }) (sym c)
+    ∙ ap (λ (x : Waiting). record (first_parts me processes registers) { clock = clock; waiting = x }) (sym a)
+    ∙ ap (λ (x : List ℕ). record (first_parts me processes registers) { clock = clock; waiting = w; expected = x }) (sym b)
+    ∙ ap (λ (x : List Unacknowledged). record (first_parts me processes registers) { clock = clock; waiting = w; expected = es; outs = x }) (sym d)
+    ∙ ap (λ (x : List ℕ). record (first_parts me processes registers) { clock = clock; waiting = w; expected = es; outs = os; copy = x }) (sym f)

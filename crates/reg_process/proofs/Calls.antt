@@ -1,0 +1,217 @@
+-- A call, from its cast and its deliveries.
+use Rattle.std.proofs.Common.{◌≡◌, ℕ, ◌<◌, ◌≤◌, ◌+◌, Bool, true, false, zero, suc, [], ◌∷◌, List, length, Option, Some, None, refl, sym, ap, ◌∙◌, subst, arith}
+use Rattle.std.specs.Prelude.{cond, ◌==◌, ◌||◌, not, nat_lt, nat_le, nat_eq, slice_get, slice_index}
+use Rattle.std.proofs.lemmas.Bool.Decides.{nat_tests}
+use Rattle.std.proofs.lemmas.Bool.{cond-false, ne_eqb, eq-eqb, false≢true}
+use Rattle.std.proofs.lemmas.List.{append-nil}
+use Rattle.reg_base.specs.declared.stamps.Stamp.{Stamp}
+use Rattle.reg_base.specs.declared.memory.Op.{Op}
+use Rattle.reg_base.specs.declared.memory.Answer.TheVariants.{Done}
+use Rattle.reg_base.specs.declared.stamps.Delivered.{Delivered}
+use Rattle.reg_process.specs.declared.steps.Reply.{Reply}
+use Rattle.reg_frames.specs.declared.bodies.Body.{Body}
+use Rattle.reg_front.specs.declared.starts.Start.{Start}
+use Rattle.reg_front.specs.declared.starts.Start.TheVariants.{Look as Looks, Hold as Holds}
+use Rattle.reg_process.specs.declared.steps.Step.TheVariants.{Call, Take}
+use Rattle.reg_frames.specs.declared.bodies.Frame.{Frame}
+use Rattle.reg_process.specs.Process.{Held}
+use Rattle.reg_process.specs.Delivery.{first_of}
+use Rattle.reg_process.specs.Process.{State, called, clear_casts, delivered_state, no_frames, look, unsettled, seen_at, time_of, peer_at, taken, accepted, quiet, got_frames}
+use Rattle.reg_holdback.specs.Waiting.{seen_of}
+use Rattle.reg_process.specs.Parts.{Parts, Good, state_of}
+use Rattle.reg_process.proofs.Deliveries.{merged_seen}
+use Rattle.reg_process.specs.Puts.{puts, put_to}
+use Rattle.reg_frames.specs.declared.bodies.Frame.TheVariants.{Numbered, Got}
+use Rattle.reg_process.proofs.Acks.{one_put}
+use Rattle.reg_process.specs.declared.faults.ProcessFault.{ProcessFault}
+use Rattle.reg_process.specs.declared.faults.ProcessFault.TheVariants.{Failed, NoProcess, Busy, NoRegister, TooManyOperations, Ahead, Stale, ClockFull, OutOfMemory}
+use Rattle.reg_process.specs.Faults.{early_fault, full_at, StopsAt, call_fault, is_out, early_body, frame_fault, take_fault, body_fault, FrameRefused, is_peer, is_stop}
+use Rattle.reg_process.specs.declared.outcomes.Put.{Put}
+use Rattle.reg_process.specs.Steps.{MakesCast, Delivers, due}
+use Rattle.reg_process.specs.Events.{Goes, cast_start, Kept, Steps, Refused, fault_of}
+
+pub broadcasts : (runs : Bool) (s : State) (op : Op) (stamp : Stamp) (frames : List Put) (s1 : State) (ds : List Delivered) (d : Option Reply) (s2 : State) (reply : Option Reply) →
+    MakesCast s op runs stamp frames s1 → Delivers s1 ds d s2 → reply ≡ cond runs d (Some (record { answer = Done; place = s.delivered })) → Goes (length s.peers) (called s op (cast_start runs)) frames (Some stamp) ds reply s2
+broadcasts true s op stamp frames s1 ds d s2 reply m v r = record {
+  state = v.state ∙ ap delivered_state m.state;
+  outcome = record { put = m.put; made = ap Some m.stamp; casts = v.casts ∙ ap clear_casts m.state; answer = r ∙ v.answer ∙ ap due m.state };
+}
+broadcasts false s op stamp frames s1 ds d s2 reply m v r = record {
+  state = v.state ∙ ap delivered_state m.state;
+  outcome = record { put = m.put; made = ap Some m.stamp; casts = v.casts ∙ ap clear_casts m.state; answer = r };
+}
+
+pub nothing_put : (n : ℕ) → puts no_frames n ≡ []
+nothing_put zero = refl
+nothing_put (suc n) = append-nil (puts no_frames n) ∙ nothing_put n
+
+pub looks : (s : State) (op : Op) (start : Start) (frames : List Put) (ds : List Delivered) (reply : Reply) (s' : State) → start ≡ Looks → frames ≡ [] → ds ≡ [] → reply ≡ look s op → s' ≡ record s { calls = s.calls + 1; running = None } → Goes (length s.peers) (called s op start) frames None ds (Some reply) s'
+looks s op start frames ds reply s' e f d r q = subst (λ st. Goes (length s.peers) (called s op st) frames None ds (Some reply) s') (sym e) (record {
+  state = q;
+  outcome = record { put = f ∙ sym (nothing_put (length s.peers)); made = refl; casts = d; answer = ap Some r };
+})
+
+pub holds : (s : State) (op : Op) (start : Start) (frames : List Put) (ds : List Delivered) (s' : State) → start ≡ Holds → frames ≡ [] → ds ≡ [] → s' ≡ record s { calls = s.calls + 1; running = Some (Held op) } → Goes (length s.peers) (called s op start) frames None ds None s'
+holds s op start frames ds s' e f d q = subst (λ st. Goes (length s.peers) (called s op st) frames None ds None s') (sym e) (record {
+  state = q;
+  outcome = record { put = f ∙ sym (nothing_put (length s.peers)); made = refl; casts = d; answer = refl };
+})
+
+module _ (start : Op → ℕ → Start) (f : Bool) (s : State) (op : Op) (st : Start) (s' : State) (runs : f ≡ false) (early : None ≡ early_fault s op s.running) (is : st ≡ start op (unsettled s)) where
+  faults : fault_of start (record { failed = f; state = s }) (Call op) ≡ full_at s.clock st
+  faults =
+      ap (λ b. cond b (Some Failed) (call_fault start s op)) runs
+      ∙ ap (λ o. first_of o (full_at s.clock (start op (unsettled s)))) (sym early)
+      ∙ ap (full_at s.clock) (sym is)
+
+  pub call_steps : (frames : List Put) (cast : Option Stamp) (ds : List Delivered) (reply : Option Reply) → full_at s.clock st ≡ None → Goes (length s.peers) (called s op st) frames cast ds reply s' → Steps start (record { failed = f; state = s }) (Call op) frames cast ds reply (record { failed = f; state = s' })
+  call_steps frames cast ds reply room g =
+      let h : Goes (length s.peers) (called s op (start op (unsettled s))) frames cast ds reply s' = subst (λ x. Goes (length s.peers) (called s op x) frames cast ds reply s') is g in
+      record {
+        no_fault = faults ∙ room;
+        state = ap (λ b. record { failed = b; state = s' }) runs ∙ ap (λ x. record { failed = false; state = x }) h.state;
+        outcome = h.outcome;
+      }
+
+  pub call_refused : (fault : ProcessFault) → StopsAt (full_at s.clock st) fault → Refused start (record { failed = f; state = s }) (Call op) fault (record { failed = true; state = s' })
+  call_refused Failed h = absurd h
+  call_refused NoProcess h = absurd h
+  call_refused Busy h = absurd h
+  call_refused NoRegister h = absurd h
+  call_refused TooManyOperations h = absurd h
+  call_refused Ahead h = absurd h
+  call_refused Stale h = absurd h
+  call_refused ClockFull h = (faults ∙ h, refl)
+  call_refused OutOfMemory h = refl
+
+get_some : (xs : List ℕ) (i x : ℕ) → Some x ≡ slice_get xs i → x ≡ slice_index xs i
+get_some [] i x h = absurd (cc)
+get_some (y ∷ ys) zero x h = cc
+get_some (y ∷ ys) (suc i) x h = get_some ys i x h
+
+get_none : (xs : List ℕ) (i : ℕ) → i < length xs → None ≡ slice_get xs i → ⊥
+get_none [] i l h = omega arith
+get_none (y ∷ ys) zero l h = cc
+get_none (y ∷ ys) (suc i) l h = get_none ys i (omega arith) h
+
+module _ (p : Parts) (good : Good p) (from : ℕ) (peer : from < length p.waiting.seen) (other : from ≡ p.me → ⊥) where
+  seen_is : seen_of p.waiting from ≡ slice_get p.waiting.seen from
+  seen_is = cond-false (nat_eq from p.waiting.me) None (slice_get p.waiting.seen from) (ne_eqb from p.waiting.me (λ q. other (q ∙ good.same)))
+
+  pub seen_some : (x : ℕ) → Some x ≡ seen_of p.waiting from → x ≡ seen_at (state_of p) from
+  seen_some x h = get_some p.waiting.seen from x (h ∙ seen_is) ∙ sym (merged_seen p.waiting.seen p.expected p.outs from good.ins good.out)
+
+  pub seen_none : None ≡ seen_of p.waiting from → ⊥
+  seen_none h = get_none p.waiting.seen from peer (h ∙ seen_is)
+
+pub late : (s : State) (from x t : ℕ) (body : Body) → is_out s body ≡ false → x ≡ seen_at s from → t ≡ time_of body → t ≤ x → Some Stale ≡ early_body s from body
+late s from x t body o e q l =
+    let h : nat_le (time_of body) (seen_at s from) ≡ true = grind (arith, nat_tests) in
+    sym (ap (λ b. cond b (Some NoRegister) (cond (nat_le (time_of body) (seen_at s from)) (Some Stale) None)) o ∙ ap (λ b. cond b (Some Stale) None) h)
+
+pub in_time : (s : State) (from x t : ℕ) (body : Body) → is_out s body ≡ false → x ≡ seen_at s from → t ≡ time_of body → x < t → None ≡ early_body s from body
+in_time s from x t body o e q l =
+    let h : nat_le (time_of body) (seen_at s from) ≡ false = grind (arith, nat_tests) in
+    sym (ap (λ b. cond b (Some NoRegister) (cond (nat_le (time_of body) (seen_at s from)) (Some Stale) None)) o ∙ ap (λ b. cond b (Some Stale) None) h)
+
+-- Frames.
+abbrev kept : Bool → State → Kept
+kept b x = record { failed = b; state = x }
+
+pub drop_goes : (s : State) (from number expected : ℕ) (body : Body) (frames : List Put) (ds : List Delivered) → expected ≡ (peer_at s from).expected → (number ≡ expected → ⊥) → from < length s.peers → frames ≡ put_to from (Got expected) ∷ [] → ds ≡ [] → Goes (length s.peers) (taken s from (Numbered number body)) frames None ds None s
+drop_goes s from number expected body frames ds e ne l f d =
+    let no : (number == (peer_at s from).expected) ≡ false = ne_eqb number (peer_at s from).expected (λ q. ne (q ∙ sym e)) in
+    let r : quiet s (got_frames from (peer_at s from).expected) ≡ taken s from (Numbered number body) = sym (ap (λ b. cond b (accepted s from body) (quiet s (got_frames from (peer_at s from).expected))) no) in
+    subst (λ x. Goes (length s.peers) x frames None ds None s) r (record {
+      state = refl;
+      outcome = record { put = f ∙ sym (one_put from expected (length s.peers) l) ∙ ap (λ n. puts (got_frames from n) (length s.peers)) e; made = refl; casts = d; answer = refl };
+    })
+
+pub drop_room : (s : State) (from number expected : ℕ) (body : Body) → expected ≡ (peer_at s from).expected → (number ≡ expected → ⊥) → frame_fault s from (Numbered number body) ≡ None
+drop_room s from number expected body e ne = ap (λ b. cond b (body_fault s from body) None) (ne_eqb number (peer_at s from).expected (λ q. ne (q ∙ sym e)))
+
+pub body_goes : (s : State) (from number expected : ℕ) (body : Body) (frames : List Put) (cast : Option Stamp) (ds : List Delivered) (reply : Option Reply) (s' : State) → expected ≡ (peer_at s from).expected → number ≡ expected → Goes (length s.peers) (accepted s from body) frames cast ds reply s' → Goes (length s.peers) (taken s from (Numbered number body)) frames cast ds reply s'
+body_goes s from number expected body frames cast ds reply s' e q g =
+    subst (λ x. Goes (length s.peers) x frames cast ds reply s') (sym (ap (λ b. cond b (accepted s from body) (quiet s (got_frames from (peer_at s from).expected))) (eq-eqb number (peer_at s from).expected (q ∙ e)))) g
+
+pub body_faults : (s : State) (from number expected : ℕ) (body : Body) → expected ≡ (peer_at s from).expected → number ≡ expected → frame_fault s from (Numbered number body) ≡ body_fault s from body
+body_faults s from number expected body e q = ap (λ b. cond b (body_fault s from body) None) (eq-eqb number (peer_at s from).expected (q ∙ e))
+
+pub early_refused : (due : Option ProcessFault) (s s' : State) (fault : ProcessFault) → due ≡ Some fault → s' ≡ s → FrameRefused due s fault s'
+early_refused due s s' Failed h e = (h, e)
+early_refused due s s' NoProcess h e = (h, e)
+early_refused due s s' Busy h e = (h, e)
+early_refused due s s' NoRegister h e = (h, e)
+early_refused due s s' TooManyOperations h e = (h, e)
+early_refused due s s' Ahead h e = (h, e)
+early_refused due s s' Stale h e = (h, e)
+early_refused due s s' ClockFull h e = h
+early_refused due s s' OutOfMemory h e = tt
+
+pub stop_refused : (due full : Option ProcessFault) (s s' : State) (fault : ProcessFault) → due ≡ full → StopsAt full fault → FrameRefused due s fault s'
+stop_refused due full s s' Failed h e = absurd e
+stop_refused due full s s' NoProcess h e = absurd e
+stop_refused due full s s' Busy h e = absurd e
+stop_refused due full s s' NoRegister h e = absurd e
+stop_refused due full s s' TooManyOperations h e = absurd e
+stop_refused due full s s' Ahead h e = absurd e
+stop_refused due full s s' Stale h e = absurd e
+stop_refused due full s s' ClockFull h e = h ∙ e
+stop_refused due full s s' OutOfMemory h e = tt
+
+pub within_peer : (n from me : ℕ) → from < n → not (nat_eq from me) ≡ not (nat_le n from || from == me)
+within_peer n from me l = let e : nat_le n from ≡ false = grind (arith, nat_tests) in sym (ap (λ b. not (b || from == me)) e)
+
+pub past_peer : (n from me : ℕ) → n ≤ from → nat_lt from n ≡ not (nat_le n from || from == me)
+past_peer n from me l =
+    let e : nat_le n from ≡ true = grind (arith, nat_tests) in
+    let d : nat_lt from n ≡ false = grind (arith, nat_tests) in
+    d ∙ sym (ap (λ b. not (b || from == me)) e)
+
+not_true : (b : Bool) → not b ≡ true → b ≡ false
+not_true true h = absurd (cc)
+not_true false h = refl
+
+or_false : (a b : Bool) → (a || b) ≡ false → (a ≡ false) × (b ≡ false)
+or_false true b h = absurd (cc)
+or_false false b h = (refl, h)
+
+pub peer_parts : (s : State) (from : ℕ) → is_peer s from ≡ true → (from < length s.peers) × (from ≡ s.me → ⊥)
+peer_parts s from h =
+    let r = or_false (nat_le (length s.peers) from) (from == s.me) (not_true _ h) in
+    ((let a = r.0 in grind (arith, nat_tests)), λ q. false≢true (sym r.1 ∙ eq-eqb from s.me q))
+
+module _ (start : Op → ℕ → Start) (f : Bool) (s : State) (from : ℕ) (frame : Frame) (runs : f ≡ false) where
+  pub no_process : is_peer s from ≡ false → Refused start (record { failed = f; state = s }) (Take from frame) NoProcess (record { failed = f; state = s })
+  no_process h =
+      let o : (nat_le (length s.peers) from || from == s.me) ≡ true = not_false (nat_le (length s.peers) from || from == s.me) h in
+      (ap (λ b. cond b (Some Failed) (take_fault s from frame)) runs ∙ ap (λ b. cond b (Some NoProcess) (frame_fault s from frame)) o, refl)
+    where
+      not_false : (b : Bool) → not b ≡ false → b ≡ true
+      not_false true k = refl
+      not_false false k = absurd (cc)
+
+  module _ (peer : is_peer s from ≡ true) (s' : State) where
+    take_faults : fault_of start (record { failed = f; state = s }) (Take from frame) ≡ frame_fault s from frame
+    take_faults = ap (λ b. cond b (Some Failed) (take_fault s from frame)) runs ∙ ap (λ b. cond b (Some NoProcess) (frame_fault s from frame)) (not_true (nat_le (length s.peers) from || from == s.me) peer)
+
+    pub take_steps : (frames : List Put) (cast : Option Stamp) (ds : List Delivered) (reply : Option Reply) → frame_fault s from frame ≡ None → Goes (length s.peers) (taken s from frame) frames cast ds reply s' → Steps start (record { failed = f; state = s }) (Take from frame) frames cast ds reply (record { failed = f; state = s' })
+    take_steps frames cast ds reply room g = record {
+      no_fault = take_faults ∙ room;
+      state = ap (λ b. record { failed = b; state = s' }) runs ∙ ap (λ x. record { failed = false; state = x }) g.state;
+      outcome = g.outcome;
+    }
+
+    same_kept : s' ≡ s → kept false s' ≡ kept f s
+    same_kept e = ap (kept false) e ∙ ap (λ b. kept b s) (sym runs)
+
+    pub take_refused : (fault : ProcessFault) → FrameRefused (frame_fault s from frame) s fault s' → Refused start (record { failed = f; state = s }) (Take from frame) fault (record { failed = is_stop fault; state = s' })
+    take_refused Failed h = (take_faults ∙ h.0, same_kept h.1)
+    take_refused NoProcess h = (take_faults ∙ h.0, same_kept h.1)
+    take_refused Busy h = (take_faults ∙ h.0, same_kept h.1)
+    take_refused NoRegister h = (take_faults ∙ h.0, same_kept h.1)
+    take_refused TooManyOperations h = (take_faults ∙ h.0, same_kept h.1)
+    take_refused Ahead h = (take_faults ∙ h.0, same_kept h.1)
+    take_refused Stale h = (take_faults ∙ h.0, same_kept h.1)
+    take_refused ClockFull h = (take_faults ∙ h, refl)
+    take_refused OutOfMemory h = refl

@@ -1,0 +1,10 @@
+pub mod Peers
+pub mod Pops
+pub mod Deliver
+pub mod Deliveries
+pub mod Queues
+pub mod Sends
+pub mod Acks
+pub mod Calls
+pub mod Again
+pub mod Pending

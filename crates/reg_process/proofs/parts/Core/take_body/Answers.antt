@@ -1,0 +1,8 @@
+use Rattle.reg_process.proofs.Calls.{drop_goes, body_goes}
+use Rattle.reg_process.proofs.parts.Core.take_body.Goals as goal
+
+pub returns-then-number-expected-clause-goes : goal.returns-then-number-expected-clause-goes
+returns-then-number-expected-clause-goes g c = drop_goes c.args.self.now c.args.from c.args.number c.expected-expected.result c.args.body c.in-Ok.frames.items c.new.result.items c.expected-expected.ensures c.if-number-expected.true c.requires.peer c.in-Ok.ensures c.new.ensures.items
+
+pub returns-in-Ok-accept-clause-goes : goal.returns-in-Ok-accept-clause-goes
+returns-in-Ok-accept-clause-goes g c = body_goes c.args.self.now c.args.from c.args.number c.expected-expected.result c.args.body c.in-Ok-accept.outcome.frames.items c.in-Ok-accept.outcome.cast c.in-Ok-accept.outcome.delivered.items c.in-Ok-accept.outcome.reply c.accept.new.self c.expected-expected.ensures c.if-number-expected.false c.in-Ok-accept.ensures.goes

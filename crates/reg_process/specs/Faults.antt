@@ -1,0 +1,96 @@
+-- When an event is refused.
+use Rattle.std.specs.Prelude.{ℕ, ◌≡◌, ◌≤◌, Bool, true, false, ◌==◌, ◌||◌, not, nat_lt, nat_le, max, length, Option, Some, None, if◌then◌else◌}
+use Rattle.reg_base.specs.declared.memory.Op.{Op}
+use Rattle.reg_frames.specs.declared.bodies.Body.{Body}
+use Rattle.reg_frames.specs.declared.bodies.Body.TheVariants.{Cast, Ack}
+use Rattle.reg_frames.specs.declared.bodies.Frame.{Frame}
+use Rattle.reg_frames.specs.declared.bodies.Frame.TheVariants.{Numbered, Got}
+use Rattle.reg_front.specs.declared.starts.Start.{Start}
+use Rattle.reg_front.specs.declared.starts.Start.TheVariants.{Cast as Casts, CastAndAnswer as CastsAndAnswers, Look as Looks, Hold as Holds}
+use Rattle.reg_process.specs.declared.steps.Step.{Step}
+use Rattle.reg_process.specs.declared.steps.Step.TheVariants.{Call, Take, Tick}
+use Rattle.reg_process.specs.Process.{Running}
+use Rattle.reg_base.specs.declared.limits.TheConstants.{LAST_TIME, MOST_OPERATIONS}
+use Rattle.reg_base.specs.Memory.{register_of}
+use Rattle.reg_process.specs.Delivery.{first_of}
+use Rattle.reg_process.specs.Process.{State, peer_at, next_of, seen_at, unsettled, time_of}
+use Rattle.reg_process.specs.declared.faults.ProcessFault.{ProcessFault}
+use Rattle.reg_process.specs.declared.faults.ProcessFault.TheVariants.{NoProcess, Busy, NoRegister, TooManyOperations, Ahead, Stale, ClockFull, OutOfMemory}
+
+-- what stops a process: the clock is full, or want of memory
+abbrev pub Stops : Bool → ProcessFault → Type 0
+Stops full OutOfMemory = Unit {0}
+Stops full ClockFull = full ≡ true
+Stops full f = ⊥
+
+abbrev pub is_cast : Start → Bool
+is_cast Casts = true
+is_cast CastsAndAnswers = true
+is_cast Looks = false
+is_cast Holds = false
+
+abbrev pub full_at : ℕ → Start → Option ProcessFault
+full_at clock start = if is_cast start then (if nat_le LAST_TIME clock then Some ClockFull else None) else None
+
+-- the faults of a call before it starts
+abbrev pub early_fault : State → Op → Option Running → Option ProcessFault
+early_fault s op (Some r) = Some Busy
+early_fault s op None =
+    if nat_le (length s.copy) (register_of op) then Some NoRegister else
+    if nat_le MOST_OPERATIONS s.calls then Some TooManyOperations else None
+
+abbrev pub call_fault : (Op → ℕ → Start) → State → Op → Option ProcessFault
+call_fault start s op = first_of (early_fault s op s.running) (full_at s.clock (start op (unsettled s)))
+
+-- the only fault of an operation that starts is a full clock
+abbrev pub StopsAt : Option ProcessFault → ProcessFault → Type 0
+StopsAt full OutOfMemory = Unit {0}
+StopsAt full ClockFull = full ≡ Some ClockFull
+StopsAt full f = ⊥
+
+abbrev pub is_out : State → Body → Bool
+is_out s (Cast t op) = nat_le (length s.copy) (register_of op)
+is_out s (Ack t) = false
+
+-- the faults of an expected body, but for a full clock
+abbrev pub early_body : State → ℕ → Body → Option ProcessFault
+early_body s from body =
+    if is_out s body then Some NoRegister else
+    if nat_le (time_of body) (seen_at s from) then Some Stale else None
+
+abbrev pub full_by : State → Body → Option ProcessFault
+full_by s body = if nat_le LAST_TIME (max s.clock (time_of body)) then Some ClockFull else None
+
+abbrev pub body_fault : State → ℕ → Body → Option ProcessFault
+body_fault s from body = first_of (early_body s from body) (full_by s body)
+
+abbrev pub frame_fault : State → ℕ → Frame → Option ProcessFault
+frame_fault s from (Numbered number body) = if number == (peer_at s from).expected then body_fault s from body else None
+frame_fault s from (Got count) = if nat_lt (next_of (peer_at s from)) count then Some Ahead else None
+
+abbrev pub take_fault : State → ℕ → Frame → Option ProcessFault
+take_fault s from frame = if nat_le (length s.peers) from || from == s.me then Some NoProcess else frame_fault s from frame
+
+abbrev pub step_fault : (Op → ℕ → Start) → State → Step → Option ProcessFault
+step_fault start s (Call op) = call_fault start s op
+step_fault start s (Take from frame) = take_fault s from frame
+step_fault start s Tick = None
+
+-- a refused frame changes nothing, unless the process stops
+abbrev pub FrameRefused : Option ProcessFault → State → ProcessFault → State → Type 0
+FrameRefused due old OutOfMemory new = Unit {0}
+FrameRefused due old ClockFull new = due ≡ Some ClockFull
+FrameRefused due old fault new = (due ≡ Some fault) × (new ≡ old)
+
+abbrev pub is_stop : ProcessFault → Bool
+is_stop ClockFull = true
+is_stop OutOfMemory = true
+is_stop fault = false
+
+abbrev pub is_peer : State → ℕ → Bool
+is_peer s from = not (nat_le (length s.peers) from || from == s.me)
+
+abbrev pub NewRefused : ℕ → ℕ → ProcessFault → Type 0
+NewRefused processes me NoProcess = processes ≤ me
+NewRefused processes me OutOfMemory = Unit {0}
+NewRefused processes me fault = ⊥

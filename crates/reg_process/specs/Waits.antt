@@ -1,0 +1,12 @@
+-- What a running operation waits for, as the code keeps it.
+use Rattle.reg_process.specs.declared.running.Awaited.{Awaited}
+use Rattle.reg_process.specs.declared.running.Awaited.TheVariants.{Cast, Settling}
+use Rattle.reg_process.specs.Process.{Running, Own, Held}
+
+abbrev pub running_of : Awaited → Running
+running_of (Cast stamp op) = Own stamp op
+running_of (Settling op) = Held op
+
+abbrev pub awaited_of : Running → Awaited
+awaited_of (Own stamp op) = Cast stamp op
+awaited_of (Held op) = Settling op

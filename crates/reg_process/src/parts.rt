@@ -1,0 +1,142 @@
+//! The parts of a process that has not failed.
+ghost use Rattle.std.specs.Prelude.{◌≡◌, ℕ, ◌<◌, ◌+◌, ◌≤◌, length, IfOk, [], not, None, is_some};
+ghost use Rattle.reg_process.specs.Process.{pending_of, peer_at, next_of, acknowledged, unsettled, called, resent};
+ghost use Rattle.reg_process.specs.Parts.{state_of, first_parts};
+ghost use Rattle.reg_base.specs.declared.limits.TheConstants.{MOST_OPERATIONS};
+ghost use Rattle.reg_process.specs.Puts.{puts};
+
+use crate::outcomes::Put;
+use crate::puts::{new_inboxes, new_outboxes, pending_in, resend_all};
+use crate::running::Current;
+use reg_base::limits::MOST_OPERATIONS;
+use reg_base::{Clock, Delivered, Registers, Shape};
+use reg_holdback::Holdback;
+use reg_links::{Inbox, Outbox};
+use std::alloc::{AllocError, Allocator};
+use std::marker::Model;
+
+mod calling;
+mod delivering;
+mod taking;
+
+/// A process that has not failed.
+#[derive(Drop)]
+pub struct Core<A: Allocator + Copy> {
+    alloc: A,
+    me: u8,
+    clock: Clock,
+    waiting: Holdback<A>,
+    inboxes: Vec<Inbox, A>,
+    outboxes: Vec<Outbox<A>, A>,
+    copy: Registers<A>,
+    delivered: u64,
+    unsettled: u32,
+    running: Option<Current>,
+    calls: u32,
+}
+
+impl<A: Allocator + Copy> Model for Core<A> {
+    ghost use Rattle.reg_process.specs.Process.{State};
+    ghost use Rattle.reg_process.specs.Parts.{Parts, state_of, Good};
+
+    ghost Value = { State };
+
+    ghost view = { λ c. state_of (record { me = c.me; clock = c.clock; waiting = c.waiting; expected = c.inboxes.items; outs = c.outboxes.items; copy = c.copy; delivered = c.delivered; unsettled = c.unsettled; running = c.running; calls = c.calls }) };
+
+    ghost invariant = { λ c. Good (record { me = c.me; clock = c.clock; waiting = c.waiting; expected = c.inboxes.items; outs = c.outboxes.items; copy = c.copy; delivered = c.delivered; unsettled = c.unsettled; running = c.running; calls = c.calls }) };
+}
+
+impl<A: Allocator + Copy> Core<A> {
+    /// A process that did nothing yet.
+    pub fn new(alloc: A, me: u8, shape: Shape) -> Result<Core<A>, AllocError>
+        requires { me < shape.processes }
+        ensures { IfOk result (λ c. c ≡ state_of (first_parts me shape.processes shape.registers)) }
+    {
+        let processes = shape.processes();
+        let registers = shape.registers();
+        let waiting = Holdback::new(alloc, me, shape)?;
+        let inboxes = new_inboxes(alloc, processes)?;
+        let outboxes = new_outboxes(alloc, processes)?;
+        let copy = Registers::new(alloc, registers as u16)?;
+        let clock = Clock::new();
+        Ok(Core {
+            alloc,
+            me,
+            clock,
+            waiting,
+            inboxes,
+            outboxes,
+            copy,
+            delivered: 0,
+            unsettled: 0,
+            running: None,
+            calls: 0,
+        })
+    }
+
+    /// The number of own casts that are on their way.
+    pub fn unsettled(&self) -> u32
+        ensures { result ≡ unsettled self.now }
+    {
+        self.unsettled
+    }
+
+    /// The count of delivered casts.
+    pub fn delivered_count(&self) -> u64
+        ensures { result ≡ self.now.delivered }
+    {
+        self.delivered
+    }
+
+    /// Whether an operation runs.
+    pub fn busy(&self) -> bool
+        ensures { result ≡ is_some self.now.running }
+    {
+        self.running.is_some()
+    }
+
+    /// The time now.
+    pub fn clock(&self) -> u64
+        ensures value { result ≡ self.now.clock }
+        ensures numbers { (r : ℕ) → next_of (peer_at self.now r) ≤ result }
+    {
+        self.clock.now()
+    }
+
+    /// The copy of the registers.
+    pub fn registers(&self) -> &Registers<A>
+        ensures { result.now ≡ self.now.copy }
+    {
+        &self.copy
+    }
+
+    /// How many operations were called.
+    pub fn calls(&self) -> u32
+        ensures value { result ≡ self.now.calls }
+        ensures bound { result ≤ MOST_OPERATIONS }
+    {
+        self.calls
+    }
+
+    /// How many bodies are not acknowledged, over all links.
+    pub fn pending(&self) -> u64
+        ensures { result ≡ pending_of self.now.peers }
+    {
+        pending_in(self.outboxes.as_slice())
+    }
+
+    /// Puts what is pending again.
+    pub fn tick(&self) -> Result<Vec<Put, A>, AllocError>
+        ensures { IfOk result (λ v. v.items ≡ puts (resent self.now) (length self.now.peers)) }
+    {
+        let frames = resend_all(self.alloc, self.outboxes.as_slice(), self.me)?;
+        Ok(frames)
+    }
+
+    /// An empty list on the process's allocator.
+    pub fn none(&self) -> Vec<Delivered, A>
+        ensures { result.items ≡ [] }
+    {
+        Vec::new(self.alloc)
+    }
+}

@@ -1,0 +1,104 @@
+//! Delivery: one clear cast after another.
+ghost use Rattle.std.specs.Prelude.{◌≡◌, ◌<◌, ◌+◌, ◌^◌, length, MatchOption, IfOk, Some, None, if◌then◌else◌};
+ghost use Rattle.reg_base.specs.Memory.{after, register_of};
+ghost use Rattle.reg_process.specs.Process.{still};
+ghost use Rattle.reg_process.specs.Parts.{reply_by, RunsWell};
+ghost use Rattle.reg_frames.specs.declared.bodies.Body.TheVariants.{Cast};
+ghost use Rattle.reg_process.specs.Steps.{DeliversOne, DeliversNone, Delivers};
+
+use super::Core;
+use crate::running::{Awaited, Current};
+use crate::steps::Reply;
+use reg_base::{Delivered, Registers};
+use std::alloc::{AllocError, Allocator};
+
+/// Applies a cast, and answers the running operation where this is due. So many own casts stay held.
+fn settle<A: Allocator + Copy>(
+    copy: &mut Registers<A>,
+    running: Option<Current>,
+    cast: Delivered,
+    left: u32,
+    place: u64,
+) -> Option<Reply>
+    requires runs { RunsWell (length copy.old) (left + 1) running }
+    requires place { place + 1 < 2 ^ 64 }
+    requires register { register_of cast.op < length copy.old }
+    ensures copy { copy.new ≡ after cast.op copy.old }
+    ensures reply { result ≡ reply_by copy.old place left cast running }
+{
+    let Some(current) = running else {
+        copy.apply(&cast.op);
+        return None;
+    };
+    match current.awaited() {
+        Awaited::Cast { stamp, op } => {
+            let answer = copy.answer(&op);
+            copy.apply(&cast.op);
+            if cast.stamp == stamp {
+                Some(Reply { answer, place })
+            } else {
+                None
+            }
+        }
+        Awaited::Settling { op } => {
+            copy.apply(&cast.op);
+            if left == 0 {
+                let answer = copy.answer(&op);
+                Some(Reply {
+                    answer,
+                    place: place + 1,
+                })
+            } else {
+                None
+            }
+        }
+    }
+}
+
+/// What runs after a reply.
+fn runs_on(running: Option<Current>, reply: Option<Reply>) -> Option<Current>
+    ensures { result ≡ still reply running }
+{
+    match reply {
+        Some(_) => None,
+        None => running,
+    }
+}
+
+impl<A: Allocator + Copy> Core<A> {
+    /// Delivers the first held cast, if it is clear.
+    fn deliver_one(&mut self) -> Option<(Delivered, Option<Reply>)>
+        ensures { MatchOption result (DeliversNone self.old × (self.new ≡ self.old)) (λ r. DeliversOne self.old r.0 r.1 self.new) }
+    {
+        let Some((stamp, op)) = self.waiting.pop() else {
+            return None;
+        };
+        let cast = Delivered { stamp, op };
+        self.unsettled -= u32::from(stamp.process == self.me);
+        let reply = settle(
+            &mut self.copy,
+            self.running,
+            cast,
+            self.unsettled,
+            self.delivered,
+        );
+        self.delivered += 1;
+        self.running = runs_on(self.running, reply);
+        Some((cast, reply))
+    }
+
+    /// Delivers all clear casts.
+    pub fn deliver(&mut self) -> Result<(Vec<Delivered, A>, Option<Reply>), AllocError>
+        ensures { IfOk result (λ r. Delivers self.old r.0.items r.1 self.new) }
+    {
+        let mut delivered = Vec::new(self.alloc);
+        let mut reply = None;
+        while let Some((cast, due)) = self.deliver_one() {
+            delivered.push(cast)?;
+            if reply.is_none() {
+                reply = due;
+            }
+        }
+        Ok((delivered, reply))
+    }
+}

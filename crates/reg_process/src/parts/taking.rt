@@ -1,0 +1,312 @@
+//! The frames that a process takes.
+ghost use Rattle.std.specs.Prelude.{◌≡◌, ◌<◌, ◌+◌, length, MatchResult, IfOk, OnOk, OnErr, IfErr, max, not, nat_le, nat_lt, slice_index, slice_set, Some, None, if◌then◌else◌};
+ghost use Rattle.reg_base.specs.Memory.{after, register_of};
+ghost use Rattle.reg_process.specs.Process.{peer_at, seen_at, next_of, acknowledged, accepted, taken, time_of};
+ghost use Rattle.reg_process.specs.Faults.{Stops, StopsAt, early_body, full_by, is_out as is_out_of, is_peer as is_peer_of, frame_fault, FrameRefused};
+ghost use Rattle.reg_frames.specs.declared.bodies.Body.TheVariants.{Cast, Ack};
+ghost use Rattle.reg_frames.specs.declared.bodies.Frame.TheVariants.{Numbered, Got};
+ghost use Rattle.reg_base.specs.declared.limits.TheConstants.{LAST_TIME, FRAME_NUMBERS};
+ghost use Rattle.reg_process.specs.Events.{Goes};
+ghost use Rattle.reg_holdback.specs.Waiting.{receive_fault, received};
+ghost use Rattle.reg_process.specs.Steps.{TakesCast, TakesAck};
+
+use super::Core;
+use crate::faults::ProcessFault;
+use crate::outcomes::{Outcome, Put};
+use crate::puts::{got_alone, queue_on_all};
+use reg_base::{Op, Stamp};
+use reg_frames::{Body, Frame};
+use reg_holdback::{HoldFault, Holdback};
+use reg_links::Inbox;
+use std::alloc::{AllocError, Allocator};
+
+/// The time of a body.
+fn body_time(body: &Body) -> u64
+    ensures { result ≡ time_of body.now }
+{
+    match *body {
+        Body::Cast { time, op: _ } => time,
+        Body::Ack { time } => time,
+    }
+}
+
+/// Accepts the body that is expected.
+fn expect_next<A: Allocator + Copy>(inboxes: &mut Vec<Inbox, A>, from: u8, body: Body)
+    requires within { from < length inboxes.old.items }
+    requires room { slice_index inboxes.old.items from < FRAME_NUMBERS }
+    ensures { inboxes.new.items ≡ slice_set inboxes.old.items from (slice_index inboxes.old.items from + 1) }
+{
+    let inbox = &mut inboxes[from as usize];
+    let number = inbox.expected();
+    inbox.take(number, body);
+}
+
+/// Holds the cast of an expected body.
+fn hold_cast<A: Allocator + Copy>(
+    waiting: &mut Holdback<A>,
+    stamp: Stamp,
+    op: Op,
+) -> Result<(), AllocError>
+    requires { receive_fault waiting.old stamp ≡ None }
+    ensures held { OnOk result (waiting.new ≡ received waiting.old stamp (Some op)) }
+    ensures unchanged { OnErr result (waiting.new ≡ waiting.old) }
+{
+    match waiting.receive(stamp, Some(op)) {
+        Ok(()) => Ok(()),
+        Err(HoldFault::OutOfMemory) => Err(AllocError),
+        Err(HoldFault::NoProcess) => unreachable!(),
+        Err(HoldFault::Stale) => unreachable!(),
+    }
+}
+
+/// Takes in the time of an expected body without a cast.
+fn hear<A: Allocator + Copy>(waiting: &mut Holdback<A>, stamp: Stamp)
+    requires { receive_fault waiting.old stamp ≡ None }
+    ensures { waiting.new ≡ received waiting.old stamp None }
+{
+    match waiting.receive(stamp, None) {
+        Ok(()) => (),
+        Err(_) => unreachable!(),
+    }
+}
+
+impl<A: Allocator + Copy> Core<A> {
+    /// Whether there is another process of this number.
+    pub fn is_peer(&self, from: u8) -> bool
+        ensures { result ≡ is_peer_of self.now from }
+    {
+        (from as usize) < self.inboxes.len() && from != self.me
+    }
+
+    /// The number expected from a process.
+    fn expected(&self, from: u8) -> u64
+        requires { from < length self.now.peers }
+        ensures { result ≡ (peer_at self.now from).expected }
+    {
+        self.inboxes[from as usize].expected()
+    }
+
+    /// Takes a frame.
+    pub fn take_frame(&mut self, from: u8, frame: &Frame) -> Result<Outcome<A>, ProcessFault>
+        requires peer { from < length self.old.peers }
+        requires other { from ≡ self.old.me → ⊥ }
+        ensures goes { IfOk result (λ o. Goes (length self.old.peers) (taken self.old from frame.now) o.frames.items o.cast o.delivered.items o.reply self.new) }
+        ensures room { OnOk result (frame_fault self.old from frame.now ≡ None) }
+        ensures fault { IfErr result (λ fault. FrameRefused (frame_fault self.old from frame.now) self.old fault self.new) }
+    {
+        match *frame {
+            Frame::Numbered { number, body } => self.take_body(from, number, body),
+            Frame::Got { count } => self.take_got(from, count),
+        }
+    }
+
+    /// Takes a count.
+    pub fn take_got(&mut self, from: u8, count: u64) -> Result<Outcome<A>, ProcessFault>
+        requires { from < length self.old.peers }
+        ensures goes { IfOk result (λ o. Goes (length self.old.peers) (taken self.old from (Got count)) o.frames.items o.cast o.delivered.items o.reply self.new) }
+        ensures room { OnOk result (frame_fault self.old from (Got count) ≡ None) }
+        ensures fault { IfErr result (λ fault. FrameRefused (frame_fault self.old from (Got count)) self.old fault self.new) }
+    {
+        if !self.acknowledge(from, count) {
+            return Err(ProcessFault::Ahead);
+        }
+        Ok(Outcome {
+            frames: Vec::new(self.alloc),
+            cast: None,
+            delivered: Vec::new(self.alloc),
+            reply: None,
+        })
+    }
+
+    /// Drops what a process has accepted. False where the count is above what was queued.
+    pub fn acknowledge(&mut self, from: u8, count: u64) -> bool
+        requires { from < length self.old.peers }
+        ensures answer { result ≡ not (nat_lt (next_of (peer_at self.old from)) count) }
+        ensures after { self.new ≡ (if result then acknowledged self.old from count else self.old) }
+    {
+        let out = &mut self.outboxes[from as usize];
+        out.got(count).is_ok()
+    }
+
+    /// Takes a data frame.
+    pub fn take_body(
+        &mut self,
+        from: u8,
+        number: u64,
+        body: Body,
+    ) -> Result<Outcome<A>, ProcessFault>
+        requires peer { from < length self.old.peers }
+        requires other { from ≡ self.old.me → ⊥ }
+        ensures goes { IfOk result (λ o. Goes (length self.old.peers) (taken self.old from (Numbered number body)) o.frames.items o.cast o.delivered.items o.reply self.new) }
+        ensures room { OnOk result (frame_fault self.old from (Numbered number body) ≡ None) }
+        ensures fault { IfErr result (λ fault. FrameRefused (frame_fault self.old from (Numbered number body)) self.old fault self.new) }
+    {
+        let expected = self.expected(from);
+        if number != expected {
+            let Ok(frames) = got_alone(self.alloc, from, expected) else {
+                return Err(ProcessFault::OutOfMemory);
+            };
+            return Ok(Outcome {
+                frames,
+                cast: None,
+                delivered: Vec::new(self.alloc),
+                reply: None,
+            });
+        }
+        if let Some(fault) = self.refuses_body(from, &body) {
+            return Err(fault);
+        }
+        match self.accept(from, body) {
+            Ok(outcome) => Ok(outcome),
+            Err(fault) => Err(fault),
+        }
+    }
+
+    /// Whether a body's cast names no register.
+    fn is_out(&self, body: &Body) -> bool
+        ensures { result ≡ is_out_of self.now body.now }
+    {
+        match *body {
+            Body::Cast { time: _, op } => op.register() as usize >= self.copy.count(),
+            Body::Ack { time: _ } => false,
+        }
+    }
+
+    /// Why an expected body is refused, a full clock aside.
+    pub fn refuses_body(&self, from: u8, body: &Body) -> Option<ProcessFault>
+        requires peer { from < length self.now.peers }
+        requires other { from ≡ self.now.me → ⊥ }
+        ensures { result ≡ early_body self.now from body.now }
+    {
+        if self.is_out(body) {
+            return Some(ProcessFault::NoRegister);
+        }
+        let time = body_time(body);
+        let Some(seen) = self.waiting.seen(from) else {
+            return Some(ProcessFault::NoProcess);
+        };
+        if time <= seen {
+            return Some(ProcessFault::Stale);
+        }
+        None
+    }
+
+    /// Accepts an expected body, and delivers what is clear.
+    pub fn accept(&mut self, from: u8, body: Body) -> Result<Outcome<A>, ProcessFault>
+        requires peer { from < length self.old.peers }
+        requires other { from ≡ self.old.me → ⊥ }
+        requires early { early_body self.old from body ≡ None }
+        ensures goes { IfOk result (λ o. Goes (length self.old.peers) (accepted self.old from body) o.frames.items o.cast o.delivered.items o.reply self.new) }
+        ensures room { OnOk result (full_by self.old body ≡ None) }
+        ensures fault { IfErr result (λ fault. StopsAt (full_by self.old body) fault) }
+    {
+        match body {
+            Body::Cast { time, op } => self.take_cast(from, time, op),
+            Body::Ack { time } => self.take_ack(from, time),
+        }
+    }
+
+    fn take_cast(&mut self, from: u8, time: u64, op: Op) -> Result<Outcome<A>, ProcessFault>
+        requires peer { from < length self.old.peers }
+        requires other { from ≡ self.old.me → ⊥ }
+        requires register { register_of op < length self.old.copy }
+        requires fresh { seen_at self.old from < time }
+        ensures goes { IfOk result (λ o. Goes (length self.old.peers) (accepted self.old from (Cast time op)) o.frames.items o.cast o.delivered.items o.reply self.new) }
+        ensures room { OnOk result (max self.old.clock time < LAST_TIME) }
+        ensures fault { IfErr result (λ fault. Stops (nat_le LAST_TIME (max self.old.clock time)) fault) }
+    {
+        let frames = match self.accept_cast(from, time, op) {
+            Ok(frames) => frames,
+            Err(fault) => return Err(fault),
+        };
+        let Ok((delivered, reply)) = self.deliver() else {
+            return Err(ProcessFault::OutOfMemory);
+        };
+        Ok(Outcome {
+            frames,
+            cast: None,
+            delivered,
+            reply,
+        })
+    }
+
+    fn take_ack(&mut self, from: u8, time: u64) -> Result<Outcome<A>, ProcessFault>
+        requires peer { from < length self.old.peers }
+        requires other { from ≡ self.old.me → ⊥ }
+        requires fresh { seen_at self.old from < time }
+        ensures goes { IfOk result (λ o. Goes (length self.old.peers) (accepted self.old from (Ack time)) o.frames.items o.cast o.delivered.items o.reply self.new) }
+        ensures room { OnOk result (max self.old.clock time < LAST_TIME) }
+        ensures fault { IfErr result (λ fault. Stops (nat_le LAST_TIME (max self.old.clock time)) fault) }
+    {
+        let frames = match self.accept_ack(from, time) {
+            Ok(frames) => frames,
+            Err(fault) => return Err(fault),
+        };
+        let Ok((delivered, reply)) = self.deliver() else {
+            return Err(ProcessFault::OutOfMemory);
+        };
+        Ok(Outcome {
+            frames,
+            cast: None,
+            delivered,
+            reply,
+        })
+    }
+
+    /// Takes in a cast of another process, and acknowledges it to all.
+    pub fn accept_cast(&mut self, from: u8, time: u64, op: Op) -> Result<Vec<Put, A>, ProcessFault>
+        requires peer { from < length self.old.peers }
+        requires other { from ≡ self.old.me → ⊥ }
+        requires register { register_of op < length self.old.copy }
+        requires fresh { seen_at self.old from < time }
+        ensures { MatchResult result (λ frames. TakesCast self.old from time op frames.items self.new) (λ fault. Stops (nat_le LAST_TIME (max self.old.clock time)) fault) }
+    {
+        let Ok(now) = self.clock.receive(time) else {
+            return Err(ProcessFault::ClockFull);
+        };
+        let count = self.inboxes[from as usize].expected() + 1;
+        let body = Body::Ack { time: now };
+        let queued = queue_on_all(
+            self.alloc,
+            &mut self.outboxes,
+            self.me,
+            body,
+            Some((from, count)),
+        );
+        let Ok(frames) = queued else {
+            return Err(ProcessFault::OutOfMemory);
+        };
+        let stamp = Stamp {
+            time,
+            process: from,
+        };
+        let Ok(()) = hold_cast(&mut self.waiting, stamp, op) else {
+            return Err(ProcessFault::OutOfMemory);
+        };
+        expect_next(&mut self.inboxes, from, body);
+        Ok(frames)
+    }
+
+    /// Takes in an acknowledgement of another process.
+    pub fn accept_ack(&mut self, from: u8, time: u64) -> Result<Vec<Put, A>, ProcessFault>
+        requires peer { from < length self.old.peers }
+        requires other { from ≡ self.old.me → ⊥ }
+        requires fresh { seen_at self.old from < time }
+        ensures { MatchResult result (λ frames. TakesAck self.old from time frames.items self.new) (λ fault. Stops (nat_le LAST_TIME (max self.old.clock time)) fault) }
+    {
+        let Ok(_) = self.clock.receive(time) else {
+            return Err(ProcessFault::ClockFull);
+        };
+        let count = self.inboxes[from as usize].expected() + 1;
+        let Ok(frames) = got_alone(self.alloc, from, count) else {
+            return Err(ProcessFault::OutOfMemory);
+        };
+        let stamp = Stamp {
+            time,
+            process: from,
+        };
+        hear(&mut self.waiting, stamp);
+        expect_next(&mut self.inboxes, from, Body::Ack { time });
+        Ok(frames)
+    }
+}

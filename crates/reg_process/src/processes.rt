@@ -1,0 +1,157 @@
+//! One process, with its stop.
+ghost use Rattle.std.specs.Prelude.{◌≡◌, ℕ, ◌<◌, ◌≤◌, MatchResult, IfOk, IfErr, is_some, false};
+ghost use Rattle.reg_process.specs.Process.{next_of, peer_at, pending_of, unsettled};
+ghost use Rattle.reg_process.specs.Parts.{state_of, first_parts};
+ghost use Rattle.reg_process.specs.declared.steps.Step.TheVariants.{Call, Take, Tick};
+ghost use Rattle.reg_process.specs.Faults.{NewRefused};
+ghost use Rattle.reg_process.specs.Events.{Steps, Refused};
+
+use crate::faults::{ProcessFault, is_stop};
+use crate::outcomes::Outcome;
+use crate::parts::Core;
+use reg_base::{Op, Registers, Shape};
+use reg_frames::Frame;
+use reg_front::FrontEnd;
+use std::alloc::{Allocator, Global};
+use std::marker::{Model, PhantomData};
+
+/// One process of a run in which all run the front end F: a clock, a copy of the registers, a hold-back queue, and an
+/// outbox and an inbox for each other process. The clock, and the order in which casts are delivered, are those of
+/// Lamport 1978.
+#[derive(Drop)]
+pub struct Process<F: FrontEnd, A: Allocator + Copy = Global> {
+    core: Core<A>,
+    failed: bool,
+    front: PhantomData<F>,
+}
+
+impl<F: FrontEnd, A: Allocator + Copy> Model for Process<F, A> {
+    ghost use Rattle.reg_process.specs.Events.{Kept};
+
+    ghost Value = { Kept };
+
+    ghost view = { λ p. record { failed = p.failed; state = p.core } };
+}
+
+impl<F: FrontEnd, A: Allocator + Copy> Process<F, A> {
+    /// A process that did nothing yet. Refused are a process that the shape does not have, and want of memory.
+    pub fn new(alloc: A, shape: Shape, me: u8) -> Result<Process<F, A>, ProcessFault>
+        ensures made { IfOk result (λ p. (me < shape.processes) × (p ≡ record { failed = false; state = state_of (first_parts me shape.processes shape.registers) })) }
+        ensures fault { IfErr result (λ fault. NewRefused shape.processes me fault) }
+    {
+        if u32::from(me) >= shape.processes() {
+            return Err(ProcessFault::NoProcess);
+        }
+        let Ok(core) = Core::new(alloc, me, shape) else {
+            return Err(ProcessFault::OutOfMemory);
+        };
+        Ok(Process {
+            core,
+            failed: false,
+            front: PhantomData,
+        })
+    }
+
+    /// The time of the clock. Every body queued raised it, so no link has used up more numbers.
+    pub fn clock(&self) -> u64
+        ensures value { result ≡ self.now.state.clock }
+        ensures numbers { (r : ℕ) → next_of (peer_at self.now.state r) ≤ result }
+    {
+        self.core.clock()
+    }
+
+    /// How many casts it has delivered.
+    pub fn delivered_count(&self) -> u64
+        ensures { result ≡ self.now.state.delivered }
+    {
+        self.core.delivered_count()
+    }
+
+    /// How many of its own casts are not delivered here.
+    pub fn unsettled(&self) -> u32
+        ensures { result ≡ unsettled self.now.state }
+    {
+        self.core.unsettled()
+    }
+
+    /// Whether an operation runs.
+    pub fn busy(&self) -> bool
+        ensures { result ≡ is_some self.now.state.running }
+    {
+        self.core.busy()
+    }
+
+    /// How many data frames are not acknowledged, over all links.
+    pub fn pending(&self) -> u64
+        ensures { result ≡ pending_of self.now.state.peers }
+    {
+        self.core.pending()
+    }
+
+    /// Its copy of the registers.
+    pub fn registers(&self) -> &Registers<A>
+        ensures { result.now ≡ self.now.state.copy }
+    {
+        self.core.registers()
+    }
+
+    /// Puts the first unacknowledged data frames of every link again. The clock stays as it is.
+    pub fn tick(&mut self) -> Result<Outcome<A>, ProcessFault>
+        ensures { MatchResult result (λ o. Steps F.start self.old Tick o.frames.items o.cast o.delivered.items o.reply self.new) (λ fault. Refused F.start self.old Tick fault self.new) }
+    {
+        if self.failed {
+            return Err(ProcessFault::Failed);
+        }
+        let Ok(frames) = self.core.tick() else {
+            self.failed = true;
+            return Err(ProcessFault::OutOfMemory);
+        };
+        let delivered = self.core.none();
+        Ok(Outcome {
+            frames,
+            cast: None,
+            delivered,
+            reply: None,
+        })
+    }
+
+    /// Takes a frame that another process put for it. A data frame out of turn is dropped and answered by the count of those
+    /// accepted; an expected one is accepted, and what is clear then is delivered.
+    pub fn take(&mut self, from: u8, frame: &Frame) -> Result<Outcome<A>, ProcessFault>
+        ensures { MatchResult result (λ o. Steps F.start self.old (Take from frame.now) o.frames.items o.cast o.delivered.items o.reply self.new) (λ fault. Refused F.start self.old (Take from frame.now) fault self.new) }
+    {
+        if self.failed {
+            return Err(ProcessFault::Failed);
+        }
+        if !self.core.is_peer(from) {
+            return Err(ProcessFault::NoProcess);
+        }
+        match self.core.take_frame(from, frame) {
+            Ok(outcome) => Ok(outcome),
+            Err(fault) => {
+                self.failed = is_stop(fault);
+                Err(fault)
+            }
+        }
+    }
+
+    /// Calls its next operation, which starts as the front end says, and delivers what is clear.
+    pub fn call(&mut self, op: Op) -> Result<Outcome<A>, ProcessFault>
+        ensures { MatchResult result (λ o. Steps F.start self.old (Call op) o.frames.items o.cast o.delivered.items o.reply self.new) (λ fault. Refused F.start self.old (Call op) fault self.new) }
+    {
+        if self.failed {
+            return Err(ProcessFault::Failed);
+        }
+        if let Some(fault) = self.core.refuses_call(&op) {
+            return Err(fault);
+        }
+        let start = F::start(&op, self.core.unsettled());
+        match self.core.begin(op, start) {
+            Ok(outcome) => Ok(outcome),
+            Err(fault) => {
+                self.failed = true;
+                Err(fault)
+            }
+        }
+    }
+}
