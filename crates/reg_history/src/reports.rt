@@ -16,8 +16,8 @@ use crate::report_faults::{ReadFault, ReadWhy, ReportFault, WriteFault, at_line}
 use crate::report_limits::{MOST_ENTRIES, MOST_IDS};
 use crate::write::{write_count, write_entries, write_head, write_ids, write_tail};
 use reg_base::limits::{LAST_EVENT, MOST_OPERATIONS, MOST_PROCESSES};
-use reg_base::{Answer, Names, OpId, Shape};
-use reg_text::{Lines, value_fits};
+use reg_base::{Names, OpId, Shape};
+use reg_text::Lines;
 use std::alloc::{Allocator, Global};
 use std::io::Write;
 use std::marker::Model;
@@ -99,24 +99,10 @@ fn is_in_range<A: Allocator + Copy>(
         && points_fit(points)
 }
 
-// The value of every entry has 64 bits: it does nothing, and its contract says so.
+// The value of every entry has 64 bits. It does nothing: its contract says so.
 fn value_has_bits(entry: Entry)
     ensures { EntryHasValue entry }
-{
-    match entry {
-        Entry::Called { at: _, id: _, op } => value_fits(op),
-        Entry::Answered {
-            at: _,
-            id: _,
-            answer: Answer::Done,
-        } => {}
-        Entry::Answered {
-            at: _,
-            id: _,
-            answer: Answer::Value(_),
-        } => {}
-    }
-}
+{}
 
 fn values_have_bits(entries: &[Entry])
     ensures { (k : ℕ) (e : Entry) → slice_get entries.now k ≡ Some e → EntryHasValue e }
@@ -126,13 +112,11 @@ fn values_have_bits(entries: &[Entry])
     }
 }
 
-// Every shape has a process and not too many: it does nothing else than ask for them.
+// Every shape has a process, and not too many. It does nothing: its contract says so.
 fn processes_fit(shape: Shape)
     ensures some { 0 < shape.processes }
     ensures few { shape.processes ≤ MOST_PROCESSES }
-{
-    let _processes = shape.processes();
-}
+{}
 
 impl<A: Allocator + Copy> Report<A> {
     /// A report of these parts. It takes no memory.

@@ -3,7 +3,7 @@ ghost use Rattle.std.specs.Prelude.{◌≡◌, ◌<◌, ℕ, ◌++◌, None, Som
 ghost use Rattle.std.specs.Fmt.{decimal};
 ghost use Rattle.reg_base.specs.Names.{names_fault};
 ghost use Rattle.reg_base.specs.declared.memory.Op.{Op};
-ghost use Rattle.reg_text.specs.Ops.{op_text, OpFits, HasValue, op_line, name_of as name_of_register};
+ghost use Rattle.reg_text.specs.Ops.{op_text, OpFits, op_line, name_of as name_of_register};
 
 use crate::fields::{cut_at, numeral, skip};
 use reg_base::{Names, Op};
@@ -45,19 +45,6 @@ pub fn name_of_op<A: Allocator + Copy>(names: &Names<A>, op: Op) -> &str
     match op {
         Op::Read { register } => name_at(names, register),
         Op::Write { register, .. } => name_at(names, register),
-    }
-}
-
-/// The value of every operation has 64 bits. It does nothing: its contract says so.
-pub fn value_fits(op: Op)
-    ensures { HasValue op }
-{
-    match op {
-        Op::Read { register: _ } => {}
-        Op::Write {
-            register: _,
-            value: _,
-        } => {}
     }
 }
 
