@@ -1,14 +1,17 @@
 -- What a command answers to a text, and what a fault says of the text.
-use Rattle.std.specs.Prelude.{ℕ, ◌≡◌, ◌<◌, ⊤, Bool, List, length, Option}
+use Rattle.std.specs.Prelude.{ℕ, ◌≡◌, ◌<◌, ⊤, Bool, true, List, length, Option}
 use Rattle.std.specs.Str.{IsUtf8}
 use Rattle.std.specs.Io.KnownBytes.{Appends}
 use Rattle.reg_base.specs.declared.limits.TheConstants.{LONGEST_INPUT}
 use Rattle.reg_history.specs.Reports.{Contents, IsReport, IsTextOf, report_text}
 use Rattle.reg_cli.specs.declared.command.Command.{Command}
-use Rattle.reg_cli.specs.declared.command.Command.TheVariants.{Check}
+use Rattle.reg_cli.specs.declared.command.Command.TheVariants.{Replay, Check}
 use Rattle.reg_cli.specs.declared.faults.Fault.{Fault}
-use Rattle.reg_cli.specs.declared.faults.Fault.TheVariants.{Unread, TooLong, NotText, Output, Line, OutOfMemory}
+use Rattle.reg_cli.specs.declared.faults.Fault.TheVariants.{Unread, TooLong, NotText, Output, Line, Event, OutOfMemory}
 use Rattle.reg_cli.specs.declared.verdicts.Verdicts.{Verdicts}
+use Rattle.reg_world.specs.declared.faults.WorldFault.{WorldFault}
+use Rattle.reg_workload.specs.Schedules.{Plan, IsPlan, Spells}
+use Rattle.reg_cli.specs.Replays.{Replays, RefusesAt}
 use Rattle.reg_cli.specs.Verdicts.{Judges, all_yes, verdicts_text}
 
 -- The text is that of a report, these are its verdicts, and they were written.
@@ -23,11 +26,18 @@ pub record Checks (agrees : Bool) (old new : Option (List ℕ)) (text : List ℕ
 
 -- what was read, whether every line agrees, and what was written
 abbrev pub Answers : Command → Bool → Option (List ℕ) → Option (List ℕ) → List ℕ → Type 0
+Answers Replay agrees old new text = (agrees ≡ true) × Replays old new text
 Answers Check agrees old new text = Checks agrees old new text
 
 -- the text is none of those that the command reads
 abbrev pub IsRefused : Command → List ℕ → Type 0
+IsRefused Replay text = (p : Plan) → IsPlan p → ¬ Spells text p
 IsRefused Check text = (r : Contents) → IsReport r → ¬ IsTextOf text (report_text r)
+
+-- the text's events are refused at this one, for this cause
+abbrev pub IsRefusedAt : Command → ℕ → WorldFault → List ℕ → Type 0
+IsRefusedAt Replay at fault text = RefusesAt at fault text
+IsRefusedAt Check at fault text = ⊥
 
 -- what a fault says of the input
 abbrev pub Blames : Command → Fault → List ℕ → Type 0
@@ -36,4 +46,5 @@ Blames command TooLong xs = LONGEST_INPUT < length xs
 Blames command NotText xs = ¬ (IsUtf8 xs)
 Blames command Output xs = ⊤
 Blames command (Line line why) xs = IsRefused command xs
+Blames command (Event at fault) xs = IsRefusedAt command at fault xs
 Blames command OutOfMemory xs = ⊤

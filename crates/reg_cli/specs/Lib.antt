@@ -1,3 +1,4 @@
 pub mod Input
 pub mod Verdicts
+pub mod Replays
 pub mod Answers

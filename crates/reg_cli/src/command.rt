@@ -3,6 +3,8 @@
 /// What the program is asked to do with the text on its input.
 #[derive(Clone, Copy, Debug, PartialEq, Eq)]
 pub enum Command {
+    /// Runs a schedule and prints the report of the run.
+    Replay,
     /// Judges a report from its text alone.
     Check,
 }

@@ -1,6 +1,7 @@
 //! Why a command gives no answer.
 use crate::input::InputFault;
 use reg_history::ReadWhy;
+use reg_world::WorldFault;
 use thiserror::Error;
 
 /// Why a command gives no answer. As text, the line of it on standard error.
@@ -16,6 +17,8 @@ pub enum Fault {
     Output,
     #[error("line {line}: {}", word(.why))]
     Line { line: u64, why: ReadWhy },
+    #[error("event {at}: {}", cause(.fault))]
+    Event { at: usize, fault: WorldFault },
     #[error("out of memory")]
     OutOfMemory,
 }
@@ -28,5 +31,19 @@ fn word(why: &ReadWhy) -> &'static str {
         ReadWhy::Name => "name",
         ReadWhy::Place => "place",
         ReadWhy::End => "end",
+    }
+}
+
+/// Why an event is refused, in words.
+fn cause(fault: &WorldFault) -> &'static str {
+    match *fault {
+        WorldFault::Failed => "failed",
+        WorldFault::TooManyEvents => "too many events",
+        WorldFault::NoProcess => "no process",
+        WorldFault::Busy => "busy",
+        WorldFault::NoRegister => "no register",
+        WorldFault::TooManyOperations => "too many operations",
+        WorldFault::NoFrame => "no frame",
+        WorldFault::OutOfMemory => "out of memory",
     }
 }

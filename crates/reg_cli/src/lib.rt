@@ -6,6 +6,7 @@ mod command;
 mod faults;
 mod input;
 mod program;
+mod replaying;
 mod running;
 mod verdicts;
 mod words;

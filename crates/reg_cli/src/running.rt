@@ -7,6 +7,7 @@ use crate::checking::check;
 use crate::command::Command;
 use crate::faults::Fault;
 use crate::input::{InputFault, read_text};
+use crate::replaying::replay;
 use reg_base::limits::LONGEST_INPUT;
 use std::alloc::Allocator;
 use std::io::{Read, Write};
@@ -40,6 +41,10 @@ fn answer<A: Allocator + Copy, W: Write>(
     ensures silent { IfErr result (λ f. f ≢ Fault.Output → writer.new ≡ writer.old) }
 {
     match command {
+        Command::Replay => match replay(alloc, text, writer) {
+            Ok(()) => Ok(true),
+            Err(fault) => Err(fault),
+        },
         Command::Check => check(alloc, text, writer),
     }
 }

@@ -29,7 +29,9 @@ impl From<clap::Error> for WordsFault {
 
 /// The program's command line, with a subcommand for each command.
 fn command_line<'a>(alloc: Global) -> Result<clap::Command<'a>, AllocError> {
-    clap::Command::new(alloc, "awreg").subcommand(clap::Command::new(alloc, "check"))
+    clap::Command::new(alloc, "awreg")
+        .subcommand(clap::Command::new(alloc, "replay"))?
+        .subcommand(clap::Command::new(alloc, "check"))
 }
 
 /// What the words ask for. The first word is the program's name. Help, version texts, a line without a command and
@@ -42,6 +44,7 @@ pub fn choose<'a>(alloc: Global, words: &'a [String]) -> Result<Command, WordsFa
     }
     let matches = command_line::<'a>(alloc)?.try_get_matches_from(words)?;
     match matches.subcommand() {
+        Some(("replay", _)) => Ok(Command::Replay),
         Some(("check", _)) => Ok(Command::Check),
         _ => Err(WordsFault::CommandLine),
     }

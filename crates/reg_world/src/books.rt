@@ -234,6 +234,14 @@ impl<A: Allocator + Copy> Book<A> {
         self.accepted.as_slice()
     }
 
+    /// The history alone.
+    pub(crate) fn into_history(self) -> History<A>
+        ensures shape { result.shape ≡ self.shape }
+        ensures entries { result.entries ≡ self.entries }
+    {
+        self.history
+    }
+
     /// The calls and answers.
     pub(crate) fn history(&self) -> &History<A>
         ensures shape { result.now.shape ≡ self.now.shape }

@@ -175,6 +175,14 @@ impl<F: FrontEnd, A: Allocator + Copy> World<F, A> {
         self.book.history()
     }
 
+    /// The history alone.
+    pub fn into_history(self) -> History<A>
+        ensures shape { result.shape ≡ record { processes = self.processes; registers = self.registers } }
+        ensures entries { result.entries ≡ (run_in F.start self).history }
+    {
+        self.book.into_history()
+    }
+
     /// Each cast's first delivery anywhere, in order of delivery: the one order of casts.
     pub fn order(&self) -> &[First]
         ensures value { result.now ≡ (run_in F.start self.now).order }

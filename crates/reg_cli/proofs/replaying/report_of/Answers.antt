@@ -1,0 +1,11 @@
+use Rattle.std.proofs.Common.{◌≡◌, None, subst}
+use Rattle.reg_world.specs.Worlds.{Made, run_in}
+use Rattle.reg_cli.proofs.Shown.{shows}
+use Rattle.reg_cli.proofs.replaying.report_of.Goals as goal
+
+pub returns-clause-shows : goal.returns-clause-shows
+returns-clause-shows g c =
+    let P : Made → Type 0 = λ w. (run_in g.F.FrontEnd.start w).accepted ≡ w.accepted in
+    shows g.F.FrontEnd.start c.args.schedule c.in_ok-world.world c.into_history.result c.in-Ok.order.items None c.report.result c.in_ok-world.ensures.ran
+    (record { accepted = subst P c.world.view_is c.world.invariant.tells.accepted; shape = c.into_history.ensures.shape; entries = c.into_history.ensures.entries; order = c.in-Ok.ensures.keyed })
+    c.report.ensures.made
