@@ -18,4 +18,6 @@ pub use running::run_text;
 pub use words::{WordsFault, choose};
 
 #[cfg(test)]
+mod replay_tests;
+#[cfg(test)]
 mod tests;

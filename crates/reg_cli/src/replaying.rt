@@ -42,10 +42,12 @@ fn run<F: FrontEnd, A: Allocator + Copy>(
 {
     match World::run(alloc, schedule.shape, &schedule.events) {
         Ok(world) => Ok(world),
-        Err(RunFault {
-            at: _,
-            fault: WorldFault::OutOfMemory,
-        }) => Err(Fault::OutOfMemory),
+        Err(
+            RunFault {
+                at: _,
+                fault: WorldFault::OutOfMemory,
+            },
+        ) => Err(Fault::OutOfMemory),
         Err(RunFault { at, fault }) => Err(Fault::Event { at, fault }),
     }
 }
@@ -59,10 +61,8 @@ fn report<A: Allocator + Copy>(
     order: Vec<OpId, A>,
     points: Option<Vec<Point, A>>,
 ) -> Result<Report<A>, Fault>
-    ensures made {
-        let parts : Contents = record { front = front_name schedule.front; shape = history.shape; names = schedule.names; entries = history.entries; order = order.items; points = option_map (λ v. v.items) points } in
-        IfOk result (λ r. r ≡ parts)
-    }
+    ensures made { let parts : Contents = record { front = front_name schedule.front; shape = history.shape; names = schedule.names; entries = history.entries; order = order.items; points = option_map (λ v. v.items) points } in
+        IfOk result (λ r. r ≡ parts) }
     ensures why { IfErr result (λ f. f ≡ Fault.OutOfMemory) }
 {
     let Ok(front) = String::from_str(alloc, schedule.front.name()) else {

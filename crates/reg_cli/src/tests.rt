@@ -7,7 +7,7 @@ use std::io::{ErrorKind, Read, Write};
 use std::process::Abort;
 
 /// One process writes 5 and reads it.
-const ONE_PROCESS: &str = "awreg report 1
+pub(crate) const ONE_PROCESS: &str = "awreg report 1
 front linear
 processes 1
 registers x
@@ -61,7 +61,7 @@ history 3
 ";
 
 /// Demands the status, the output and the faults of a command.
-fn demand(
+pub(crate) fn demand(
     rt: &impl Abort,
     alloc: Global,
     command: Command,
@@ -79,7 +79,7 @@ fn demand(
     assert_eq!(rt; got, status);
 }
 
-fn joined(rt: &impl Abort, alloc: Global, parts: [&str; 2]) -> String {
+pub(crate) fn joined(rt: &impl Abort, alloc: Global, parts: [&str; 2]) -> String {
     let mut text = String::from_str(alloc, parts[0]).expect(rt, "memory");
     text.push_str(parts[1]).expect(rt, "memory");
     text
@@ -240,7 +240,7 @@ impl Write for FailingWriter {
 }
 
 /// Every read up to the last fails in turn, and then every write.
-fn demand_failing_streams(
+pub(crate) fn demand_failing_streams(
     rt: &impl Abort,
     alloc: Global,
     command: Command,
@@ -279,7 +279,13 @@ fn demand_failing_streams(
 }
 
 /// Every growth is refused in turn: the answer is want of memory, or that of ample memory.
-fn demand_each_growth(rt: &impl Abort, alloc: Global, command: Command, input: &str, output: &str) {
+pub(crate) fn demand_each_growth(
+    rt: &impl Abort,
+    alloc: Global,
+    command: Command,
+    input: &str,
+    output: &str,
+) {
     let mut refusals = 0u32;
     for before in 0..1000u64 {
         let heap = Refusing::new(alloc, before);
