@@ -8,6 +8,8 @@ mod faults;
 mod finding;
 pub mod laws;
 mod order;
+#[cfg(test)]
+mod row_tests;
 mod running;
 mod stations;
 mod witnesses;
