@@ -1,9 +1,8 @@
 -- The report of a run, by what the world answers.
-use Rattle.std.proofs.Common.{◌≡◌, ◌∙◌, ℕ, List, Option, Some, None, Result, Ok, Err, refl, ap, sym, subst}
+use Rattle.std.proofs.Common.{◌≡◌, ℕ, List, Option, Some, Result, Ok, Err, refl, sym, subst}
 use Rattle.std.specs.Prelude.{IfOk}
 use Rattle.reg_base.specs.declared.memory.Op.{Op}
 use Rattle.reg_base.specs.declared.memory.OpId.{OpId}
-use Rattle.reg_base.specs.Shape.{Extent}
 use Rattle.reg_front.specs.declared.starts.Start.{Start}
 use Rattle.reg_front.specs.Table.{front_name}
 use Rattle.reg_history.specs.declared.entries.Point.{Point}

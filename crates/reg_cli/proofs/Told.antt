@@ -1,5 +1,5 @@
 -- The verdict of a checker's answer.
-use Rattle.std.proofs.Common.{◌≡◌, ◌≢◌, ◌∙◌, ℕ, List, Option, None, Some, Result, Ok, Err, sym, subst}
+use Rattle.std.proofs.Common.{◌≡◌, ◌≢◌, ◌∙◌, ℕ, List, Result, Ok, Err, sym, subst}
 use Rattle.std.specs.Prelude.{IfOk}
 use Rattle.reg_base.specs.declared.memory.OpId.{OpId}
 use Rattle.reg_history.specs.declared.entries.Entry.{Entry}

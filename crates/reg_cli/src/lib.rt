@@ -21,3 +21,5 @@ pub use words::{WordsFault, choose};
 mod replay_tests;
 #[cfg(test)]
 mod tests;
+#[cfg(test)]
+mod words_tests;

@@ -1,21 +1,20 @@
 -- What is read is spelled so, and what is spelled so is read.
-use Rattle.std.proofs.Common.{◌≡◌, ℕ, suc, ◌+◌, ◌-◌, ◌^◌, ◌<◌, ◌≤◌, Bool, true, false, cond, ◌⊎◌, inl, inr, ◌&&◌, ◌==◌, nat_lt, nat_le, List, [], ◌∷◌, ◌++◌, length, get_or, drop, Result, Ok, Err, refl, sym, ap, ap₂, ◌∙◌, subst, arith, length-drop, append-nil}
+use Rattle.std.proofs.Common.{◌≡◌, ℕ, ◌+◌, ◌-◌, ◌^◌, ◌<◌, ◌≤◌, Bool, true, false, cond, ◌⊎◌, inl, inr, ◌&&◌, ◌==◌, nat_lt, nat_le, List, [], ◌∷◌, ◌++◌, length, get_or, drop, Result, Ok, Err, refl, sym, ap, ap₂, ◌∙◌, subst, arith, length-drop, append-nil}
 use Rattle.std.specs.Prelude.{IfOk}
 use Rattle.std.specs.Int.{w16, w64, to_be_bytes}
-use Rattle.std.proofs.lemmas.Bool.{ltb-true, ltb-false, eqb-true}
+use Rattle.std.proofs.lemmas.Bool.{ltb-false, eqb-true}
 use Rattle.std.proofs.lemmas.Bool.Decides.{nat_tests}
 use Rattle.reg_base.specs.declared.limits.TheConstants.{MOST_REGISTERS, LAST_TIME, FRAME_NUMBERS}
 use Rattle.reg_base.specs.declared.memory.Op.{Op}
 use Rattle.reg_base.specs.declared.memory.Op.TheVariants.{Read, Write}
 use Rattle.reg_base.specs.Memory.{register_of}
-use Rattle.reg_frames.specs.declared.bodies.Body.{Body}
 use Rattle.reg_frames.specs.declared.bodies.Body.TheVariants.{Cast, Ack}
 use Rattle.reg_frames.specs.declared.bodies.Frame.{Frame}
 use Rattle.reg_frames.specs.declared.bodies.Frame.TheVariants.{Numbered, Got}
 use Rattle.reg_frames.specs.declared.faults.FrameFault.{FrameFault}
 use Rattle.reg_frames.specs.declared.faults.FrameFault.TheVariants as faults
-use Rattle.reg_frames.specs.Spelling.{op_bytes, body_bytes, payload, spelling, OpFits, TimeFits, BodyFits, Fits, Spells}
-use Rattle.reg_frames.specs.Reading.{OpIsNarrow, BodyIsNarrow, IsNarrow, number_at, is_time, body_fits, frame_fits, in_range, sized, cast_at, cast_of, data_of, frame_of}
+use Rattle.reg_frames.specs.Spelling.{op_bytes, body_bytes, payload, spelling, OpFits, TimeFits, Fits, Spells}
+use Rattle.reg_frames.specs.Reading.{OpIsNarrow, IsNarrow, number_at, is_time, body_fits, frame_fits, in_range, sized, cast_at, cast_of, data_of, frame_of}
 use Rattle.reg_frames.proofs.Fields.{IsBytes, chosen, wide16, wide64, number_there, number_below, byte_there, none_left}
 
 and_true : (a b : Bool) → (a && b) ≡ true → (a ≡ true) × (b ≡ true)

@@ -1,5 +1,5 @@
 -- Which fault the bytes have: the first of a fixed row of tests.
-use Rattle.std.specs.Prelude.{ℕ, ◌≡◌, ◌<◌, ◌^◌, ◌-◌, ◌==◌, ◌&&◌, nat_lt, nat_le, Bool, List, length, take, drop, slice_index, Result, Ok, Err, if◌then◌else◌}
+use Rattle.std.specs.Prelude.{ℕ, ◌<◌, ◌^◌, ◌-◌, ◌==◌, ◌&&◌, nat_lt, nat_le, Bool, List, length, take, drop, slice_index, Result, Ok, Err, if◌then◌else◌}
 use Rattle.std.specs.Int.{Width, w16, w64, byte_len, from_be_bytes}
 use Rattle.reg_base.specs.declared.limits.TheConstants.{MOST_REGISTERS, LAST_TIME, FRAME_NUMBERS}
 use Rattle.reg_base.specs.declared.memory.Op.{Op}

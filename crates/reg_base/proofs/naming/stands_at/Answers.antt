@@ -1,4 +1,4 @@
-use Rattle.std.proofs.Common.{ℕ, ◌<◌, ◌∙◌, sym, length}
+use Rattle.std.proofs.Common.{◌∙◌, sym, length}
 use Rattle.std.proofs.lemmas.Bool.{ltb-true}
 use Rattle.reg_base.proofs.NamesLaws.{stood_at}
 use Rattle.reg_base.proofs.naming.stands_at.Goals as goal

@@ -1,4 +1,4 @@
-use Rattle.std.proofs.Common.{refl, sym, ◌∙◌}
+use Rattle.std.proofs.Common.{sym, ◌∙◌}
 use Rattle.reg_frames.proofs.Frames.{spelt_by, fits_from}
 use Rattle.reg_frames.proofs.spelling.encode.Goals as goal
 

@@ -1,0 +1,52 @@
+//! Which command lines are taken.
+use crate::{Command, WordsFault, choose};
+use std::alloc::Global;
+use std::process::Abort;
+
+fn words_of(rt: &impl Abort, alloc: Global, line: &str) -> Vec<String> {
+    let mut words = Vec::new(alloc);
+    for word in "awreg".split_whitespace().chain(line.split_whitespace()) {
+        let word = String::from_str(alloc, word).expect(rt, "memory");
+        words.push(word).expect(rt, "memory");
+    }
+    words
+}
+
+#[test]
+fn exactly_the_command_lines_are_taken(rt: HostRuntime) {
+    let alloc = rt.alloc();
+    for (line, command) in [("replay", Command::Replay), ("check", Command::Check)] {
+        let words = words_of(&rt, alloc, line);
+        assert_eq!(rt; choose(alloc, words.as_slice()), Ok(command), "{line}");
+    }
+    let refused = [
+        "",
+        "help",
+        "help replay",
+        "-h",
+        "--help",
+        "-V",
+        "--version",
+        "--",
+        "replay --",
+        "-- replay",
+        "replay check",
+        "replay replay",
+        "rep",
+        "Replay",
+        "replay -V",
+        "replay --help",
+        "replay help",
+        "replay -",
+        "-",
+        "check x",
+        "play",
+        "play --fair",
+        "live",
+    ];
+    for line in refused {
+        let words = words_of(&rt, alloc, line);
+        let answer = choose(alloc, words.as_slice());
+        assert_eq!(rt; answer, Err(WordsFault::CommandLine), "{line}");
+    }
+}
