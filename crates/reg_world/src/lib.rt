@@ -8,8 +8,6 @@ mod faults;
 mod finding;
 pub mod laws;
 mod order;
-#[cfg(test)]
-mod row_tests;
 mod running;
 mod stations;
 mod witnesses;
@@ -18,3 +16,12 @@ pub use events::Event;
 pub use faults::{RunFault, WorldFault};
 pub use order::{CopyRead, First};
 pub use running::World;
+
+#[cfg(test)]
+mod limit_tests;
+#[cfg(test)]
+mod mixed_tests;
+#[cfg(test)]
+mod row_tests;
+#[cfg(test)]
+mod seeded_tests;
