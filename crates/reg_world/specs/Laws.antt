@@ -28,7 +28,7 @@ abbrev pub UndeliveredAbove : ℕ → Nodes → Nodes → Type 0
 UndeliveredAbove n earlier later =
     (q : ℕ) (c d : Delivered) → q < n → IsMade n later c → (In c (earlier q).front → ⊥) → In d (earlier q).front → Below d.stamp c.stamp
 
--- exactly the casts made are delivered
+-- only casts that were made are delivered
 abbrev pub FrontsMade : ℕ → Nodes → Type 0
 FrontsMade n w = (q : ℕ) (c : Delivered) → q < n → In c (w q).front → IsMade n w c
 
