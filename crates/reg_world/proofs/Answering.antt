@@ -1,8 +1,10 @@
 -- What a world answers, from its parts.
-use Rattle.std.proofs.Common.{◌≡◌, ℕ, ◌+◌, ◌<◌, ◌≤◌, ◌⊎◌, Bool, true, false, List, [], ◌∷◌, map, length, take, get_or, Option, Some, None, Result, Ok, Err, IfOk, refl, sym, ap, ◌∙◌, subst, inl, inr, arith}
+use Rattle.std.proofs.Common.{◌≡◌, ℕ, ◌+◌, ◌<◌, ◌≤◌, ◌⊎◌, Bool, true, false, not, List, [], ◌∷◌, ◌++◌, map, length, take, get_or, Option, Some, None, Result, Ok, Err, IfOk, refl, sym, ap, ◌∙◌, subst, inl, inr, arith}
 use Rattle.std.specs.List.{filter}
 use Rattle.std.proofs.lemmas.List.{get_or_default, take_more, take_all}
-use Rattle.std.proofs.lemmas.Option.{same_Some}
+use Rattle.std.specs.Option.{is_some}
+use Rattle.std.proofs.lemmas.Bool.{cond_both}
+use Rattle.std.proofs.lemmas.Option.{same_Some, none-some}
 use Rattle.reg_base.specs.declared.limits.TheConstants.{MOST_EVENTS}
 use Rattle.reg_base.specs.declared.memory.Op.{Op}
 use Rattle.reg_base.specs.declared.memory.OpId.{OpId}
@@ -11,6 +13,7 @@ use Rattle.reg_frames.specs.declared.bodies.Frame.{Frame}
 use Rattle.reg_front.specs.declared.starts.Start.{Start}
 use Rattle.reg_front.specs.Fronts.{KeepsLaws}
 use Rattle.reg_process.specs.Events.{Kept}
+use Rattle.reg_process.specs.declared.steps.Step.{Step}
 use Rattle.reg_history.specs.declared.entries.Point.{Point}
 use Rattle.reg_history.specs.History.{IsAt}
 use Rattle.reg_world.specs.declared.events.Event.{Event}
@@ -19,16 +22,17 @@ use Rattle.reg_world.specs.declared.faults.WorldFault.TheVariants.{Failed, TooMa
 use Rattle.reg_world.specs.declared.order.First.{First}
 use Rattle.reg_world.specs.declared.order.CopyRead.{CopyRead}
 use Rattle.reg_world.specs.Keys.{IsWitness, ArePoints}
-use Rattle.reg_world.specs.World.{World, run_of, whole}
+use Rattle.reg_world.specs.World.{World, run_of, fault_of, move_of, moved, whole}
 use Rattle.reg_world.specs.Tallies.{Tally}
 use Rattle.reg_world.specs.Witnesses.{is_kept, point_of, IsMerged}
 use Rattle.reg_world.specs.Pages.{Pages}
 use Rattle.reg_world.specs.Stations.{Standing, listed}
-use Rattle.reg_world.specs.Worlds.{Made, run_in, refusal, with_event, Accepts, Refuses, IsWorld, made_of, standing_of, after_events, RunRefuses, IsProcess, IsWire}
+use Rattle.reg_world.specs.Worlds.{Made, run_in, refusal, with_event, Accepts, Refuses, IsWorld, made_of, standing_of, new_world, after_events, RunRefuses, IsProcess, IsWire}
 use Rattle.reg_world.proofs.Noted.{at_index}
 use Rattle.reg_world.proofs.Tallied.{at_or, points_are, witness_is}
 use Rattle.reg_world.proofs.Telling.{at_listed}
 use Rattle.reg_world.proofs.Promised.{few_events}
+use Rattle.reg_world.proofs.Refusals.{refused_by_fault, one_more}
 
 pub if_ok : {T E : Type 0} (r : Result T E) (P Q : T → Type 0) → IfOk r P → ((x : T) → P x → Q x) → IfOk r Q
 if_ok (Ok x) P Q h f = f x h
@@ -91,9 +95,40 @@ pub run_refuses : (start : Op → ℕ → Start) (shape : Extent) (events : List
 run_refuses start shape events at d fault old new l is h =
     refused_by start shape events at (get_or events at d) fault new (at_index events at (get_or events at d) l (get_or_default events at d (get_or events at d) l)) l (subst (λ (z : Made). Refuses start z (get_or events at d) fault new) is h)
 
-pub run_more : (start : Op → ℕ → Start) (shape : Extent) (events : List Event) (at : ℕ) (d : Event) (old new : Made) → at < length events → old ≡ after_events shape (take at events) → Accepts start old (get_or events at d) new → new ≡ after_events shape (take (at + 1) events)
+-- an accepted event makes a run whose events are all accepted
+accepted_more : (start : Op → ℕ → Start) (old : Made) (e : Event) → (run_in start old).accepted ≡ old.accepted → refusal start old e ≡ None → (run_in start (with_event old e)).accepted ≡ old.accepted ++ e ∷ []
+accepted_more start old e so none = go (move_of old.processes old.registers (run_in start old) e) refl
+  where
+    no_fault : fault_of old.processes old.registers (run_in start old) e ≡ None
+    no_fault = cond_both old.failed (Some Failed) (fault_of old.processes old.registers (run_in start old) e) (λ o. o ≡ None → fault_of old.processes old.registers (run_in start old) e ≡ None) (λ f h. absurd (none-some Failed (sym h))) (λ f h. h) none
+
+    go : (o : Option (ℕ × Step)) → move_of old.processes old.registers (run_in start old) e ≡ o → (run_in start (with_event old e)).accepted ≡ old.accepted ++ e ∷ []
+    go None is = let bad : false ≡ true = sym (ap is_some is) ∙ (refused_by_fault old.processes old.registers (run_in start old) e ∙ ap (λ o. not (is_some o)) no_fault) in cc
+    go (Some m) is = ap (λ (w : World). w.accepted) (one_more start old.processes old.registers old.accepted e ∙ ap (moved start (run_in start old) e) is) ∙ ap (λ (l : List Event). l ++ e ∷ []) so
+
+run_more : (start : Op → ℕ → Start) (shape : Extent) (events : List Event) (at : ℕ) (d : Event) (old new : Made) → at < length events → old ≡ after_events shape (take at events) → Accepts start old (get_or events at d) new → new ≡ after_events shape (take (at + 1) events)
 run_more start shape events at d old new l is A =
     A.after ∙ (ap (λ (z : Made). with_event z (get_or events at d)) is ∙ ap (after_events shape) (sym (take_more events at d l)))
+
+-- so many events of the list were accepted
+pub record IsRunSoFar (start : Op → ℕ → Start) (shape : Extent) (events : List Event) (at : ℕ) (world : Made) : Type 0 where
+  pub made : world ≡ after_events shape (take at events)
+  pub all : (run_in start (after_events shape (take at events))).accepted ≡ take at events
+
+pub run_begins : (start : Op → ℕ → Start) (shape : Extent) (events : List Event) (w : Made) → w ≡ new_world shape → IsRunSoFar start shape events 0 w
+run_begins start shape events w is = record { made = is; all = refl }
+
+pub run_goes_on : (start : Op → ℕ → Start) (shape : Extent) (events : List Event) (at : ℕ) (d : Event) (old new : Made) → at < length events → IsRunSoFar start shape events at old → Accepts start old (get_or events at d) new → IsRunSoFar start shape events (at + 1) new
+run_goes_on start shape events at d old new l S A =
+    let more = take_more events at d l in
+    record {
+      made = run_more start shape events at d old new l S.made A;
+      all = subst (λ z. (run_in start (after_events shape z)).accepted ≡ z) (sym more)
+          (accepted_more start (after_events shape (take at events)) (get_or events at d) S.all (subst (λ (z : Made). refusal start z (get_or events at d) ≡ None) S.made A.no_fault));
+    }
+
+pub run_ends : (start : Op → ℕ → Start) (shape : Extent) (events : List Event) (at : ℕ) (w : Made) → length events ≤ at → IsRunSoFar start shape events at w → (run_in start (after_events shape events)).accepted ≡ events
+run_ends start shape events at w l S = subst (λ z. (run_in start (after_events shape z)).accepted ≡ z) (take_all at events l) S.all
 
 pub run_all : (shape : Extent) (events : List Event) (at : ℕ) (w : Made) → length events ≤ at → w ≡ after_events shape (take at events) → w ≡ after_events shape events
 run_all shape events at w l is = is ∙ ap (after_events shape) (take_all at events l)

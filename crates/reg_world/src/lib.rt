@@ -22,6 +22,8 @@ mod limit_tests;
 #[cfg(test)]
 mod mixed_tests;
 #[cfg(test)]
+mod refusal_tests;
+#[cfg(test)]
 mod row_tests;
 #[cfg(test)]
 mod seeded_tests;

@@ -1,9 +1,10 @@
 //! All processes and wires of a run, one event after another.
-ghost use Rattle.std.specs.Prelude.{◌≡◌, ◌<◌, ◌≤◌, ◌⊎◌, ◌++◌, false, length, take, Some, IfOk, MatchOption, MatchResult};
+ghost use Rattle.std.specs.Prelude.{◌≡◌, ◌<◌, ◌≤◌, ◌⊎◌, ◌++◌, List, false, length, take, Some, IfOk, MatchOption, MatchResult};
 ghost use Rattle.reg_base.specs.declared.limits.TheConstants.{MOST_EVENTS, MOST_PROCESSES};
 ghost use Rattle.reg_history.specs.Orders.{IsSerial, IsPointOrder};
+ghost use Rattle.reg_world.specs.declared.events.Event.{Event};
 ghost use Rattle.reg_world.specs.Keys.{IsWitness, ArePoints};
-ghost use Rattle.reg_world.specs.Laws.{FrontsAgree, FrontsRise, NothingPending, IsQuiescent};
+ghost use Rattle.reg_world.specs.Laws.{FrontsAgree, FrontsRise, FrontsMade, UndeliveredAbove, NothingPending, IsQuiescent};
 ghost use Rattle.reg_world.specs.Promises.{OrderIsLongest, OrderIsRight, FirstsRight, RepliesRight, ReadsRight};
 ghost use Rattle.reg_world.specs.World.{run_of, whole};
 ghost use Rattle.reg_world.specs.Stations.{listed};
@@ -129,7 +130,8 @@ impl<F: FrontEnd, A: Allocator + Copy> World<F, A> {
     /// Makes these events, one after another, in a new world. The first one that is refused ends the run; want of memory
     /// before the first event is told of that one.
     pub fn run(alloc: A, shape: Shape, events: &[Event]) -> Result<World<F, A>, RunFault>
-        ensures { MatchResult result (λ w. w ≡ after_events shape events.now) (λ f. RunRefuses F.start shape events.now f.at f.fault) }
+        ensures world { MatchResult result (λ w. w ≡ after_events shape events.now) (λ f. RunRefuses F.start shape events.now f.at f.fault) }
+        ensures accepted { MatchResult result (λ _. (run_in F.start (after_events shape events.now)).accepted ≡ events.now) (λ f. (run_in F.start (after_events shape (take f.at events.now))).accepted ≡ take f.at events.now) }
     {
         let Ok(mut world) = World::new(alloc, shape) else {
             let fault = WorldFault::OutOfMemory;
@@ -188,6 +190,8 @@ impl<F: FrontEnd, A: Allocator + Copy> World<F, A> {
         ensures value { result.now ≡ (run_in F.start self.now).order }
         ensures agree { FrontsAgree self.now.processes (run_in F.start self.now).nodes }
         ensures rise { FrontsRise self.now.processes (run_in F.start self.now).nodes }
+        ensures made { FrontsMade self.now.processes (run_in F.start self.now).nodes }
+        ensures above { (more : List Event) → UndeliveredAbove self.now.processes (run_in F.start self.now).nodes (whole F.start self.now.processes self.now.registers (self.now.accepted ++ more)).nodes }
         ensures longest { OrderIsLongest self.now.processes (run_in F.start self.now) }
         ensures right { OrderIsRight self.now.processes (run_in F.start self.now) }
         ensures firsts { FirstsRight F.start self.now.processes self.now.registers (run_in F.start self.now) }

@@ -1,5 +1,5 @@
 use Rattle.reg_world.specs.Worlds.{Made}
-use Rattle.reg_world.proofs.Promised.{fronts_agree, fronts_rise, longest, order_right}
+use Rattle.reg_world.proofs.Promised.{fronts_agree, fronts_rise, fronts_made, undelivered_above, longest, order_right}
 use Rattle.reg_world.proofs.Arrivals.{firsts_right}
 use Rattle.reg_world.proofs.running.World.order.Goals as goal
 
@@ -17,3 +17,9 @@ returns-clause-right g c = let m : Made = c.args.self.now in order_right g.F.Fro
 
 pub returns-clause-firsts : goal.returns-clause-firsts
 returns-clause-firsts g c = let m : Made = c.args.self.now in firsts_right g.F.FrontEnd.start m.processes m.registers g.met.F.FrontEnd.lawful m.accepted
+
+pub returns-clause-made : goal.returns-clause-made
+returns-clause-made g c = let m : Made = c.args.self.now in fronts_made g.F.FrontEnd.start m.processes m.registers g.met.F.FrontEnd.lawful m.accepted
+
+pub returns-clause-above : goal.returns-clause-above
+returns-clause-above g c = let m : Made = c.args.self.now in λ more. undelivered_above g.F.FrontEnd.start m.processes m.registers g.met.F.FrontEnd.lawful m.accepted more
