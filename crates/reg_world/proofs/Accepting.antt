@@ -13,9 +13,9 @@ use Rattle.reg_frames.specs.declared.bodies.Frame.TheVariants.{Numbered, Got}
 use Rattle.reg_base.specs.Order.{Below, AtMost, In, Rising, insert}
 use Rattle.reg_process.specs.Process.{State, Peer, no_peer, peer_at, seen_at, stamp_at, cast_at, time_of, data_frames, got_frames, both_frames, accepts, queues}
 use Rattle.reg_world.specs.Nodes.{Said, Node, Nodes, put}
-use Rattle.reg_world.proofs.Orders.{below_or, cases_stamps}
-use Rattle.reg_world.proofs.Lists.{in_left, in_right, in_cases, in_insert, insert_new, insert_old, rising_insert, Apart}
-use Rattle.reg_world.proofs.Peers.{queue_seen, queue_expected, length-queue, clear_down}
+use Rattle.reg_base.proofs.Orders.{below_or, cases_stamps}
+use Rattle.reg_base.proofs.Lists.{in_left, in_right, in_cases, in_insert, insert_new, insert_old, rising_insert, Apart}
+use Rattle.reg_process.proofs.Peers.{queue_seen, queue_expected, length-queue, clear_down}
 use Rattle.reg_world.proofs.Local.{Before, before_of}
 use Rattle.reg_world.proofs.Links.{Sent, sent_same, sent_more, link_sends, link_accepts}
 use Rattle.reg_world.proofs.Worlds.{Known, Inv, LinkOf, queues_of, count_of, count_own, count_other}

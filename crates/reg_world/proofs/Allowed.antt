@@ -22,7 +22,7 @@ use Rattle.reg_world.specs.declared.events.Event.{Event}
 use Rattle.reg_world.specs.declared.events.Event.TheVariants.{Call, Take, Tick}
 use Rattle.reg_world.specs.Nodes.{Node, Nodes, put, take_step, step_of, nodes_after, after_step, op_in}
 use Rattle.reg_world.proofs.Traced.{Answered, Past, World, answered_in, past_after, pasts_after, world_after, run_world, empty_world, whole}
-use Rattle.reg_world.proofs.Lists.{in_left, in_right}
+use Rattle.reg_base.proofs.Lists.{in_left, in_right}
 use Rattle.reg_world.proofs.Acts.{put_cases}
 use Rattle.reg_world.proofs.Turns.{done_calls}
 

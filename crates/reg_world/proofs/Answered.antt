@@ -19,7 +19,7 @@ use Rattle.reg_process.specs.Process.{State, Running, Own, Held, peer_at, seen_a
 use Rattle.reg_world.specs.Nodes.{Node, Nodes, running_op, after_result, after_step, step_of, nodes_after}
 use Rattle.reg_world.proofs.Traced.{World, world_after, run_world, empty_world, whole}
 use Rattle.reg_world.specs.Laws.{NothingPending, FrontsFull}
-use Rattle.reg_world.proofs.Lists.{in_left, in_right, in_cases, in_insert}
+use Rattle.reg_base.proofs.Lists.{in_left, in_right, in_cases, in_insert}
 use Rattle.reg_world.proofs.Bodies.{place_front, place_last, place_within}
 use Rattle.reg_world.proofs.Local.{delivery_adds_none}
 use Rattle.reg_world.proofs.Worlds.{Inv, count_other, clear_in_front}

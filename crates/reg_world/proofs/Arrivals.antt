@@ -27,7 +27,7 @@ use Rattle.reg_world.specs.Runs.{Cast}
 use Rattle.reg_world.specs.World.{World, Replied, op_id, calls_in, answers_in, casts_in, has_cast, reads_in, first_of, delivered_of, move_of, moved, happens, run, empty_world, whole}
 use Rattle.reg_world.specs.Promises.{OrderIsRight, FirstsRight, ReadsRight}
 use Rattle.reg_world.proofs.Traced.{Called as PastCall}
-use Rattle.reg_world.proofs.Lists.{in_left, in_right, in_filter}
+use Rattle.reg_base.proofs.Lists.{in_left, in_right, in_filter}
 use Rattle.reg_world.proofs.Bodies.{place_in, place_back, place_split, place_within}
 use Rattle.reg_world.proofs.NodeEvents.{put_same}
 use Rattle.reg_world.proofs.Replicas.{any_finds}

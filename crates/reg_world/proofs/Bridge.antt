@@ -14,8 +14,8 @@ use Rattle.reg_front.specs.Fronts.{KeepsLaws}
 use Rattle.reg_world.proofs.Traced.{Called, Answered, casts_of, whole, cast_of, Stands, HistoryRight}
 use Rattle.reg_world.specs.Laws.{IsMade}
 use Rattle.reg_world.proofs.Facts.{IsCastAt, memory_at, RunFacts}
-use Rattle.reg_world.proofs.Orders.{below_irrefl}
-use Rattle.reg_world.proofs.Lists.{in_cases}
+use Rattle.reg_base.proofs.Orders.{below_irrefl}
+use Rattle.reg_base.proofs.Lists.{in_cases}
 use Rattle.reg_world.proofs.Bodies.{place_in}
 use Rattle.reg_world.proofs.Worlds.{front_made, held_made, undelivered_above}
 use Rattle.reg_world.proofs.Wholes.{whole_inv}

@@ -12,9 +12,9 @@ use Rattle.reg_frames.specs.declared.bodies.Frame.TheVariants.{Numbered, Got}
 use Rattle.reg_base.specs.Order.{In}
 use Rattle.reg_process.specs.Process.{State, Peer, no_peer, peer_at, seen_at, cast_at, time_of, queue_from, data_frames, Running, cast_made}
 use Rattle.reg_world.specs.Nodes.{Said, Node, Nodes, put}
-use Rattle.reg_world.proofs.Lists.{in_left, in_right, in_cases, in_insert, insert_new, insert_old, rising_insert, Apart}
+use Rattle.reg_base.proofs.Lists.{in_left, in_right, in_cases, in_insert, insert_new, insert_old, rising_insert, Apart}
 use Rattle.reg_world.proofs.Bodies.{place_last}
-use Rattle.reg_world.proofs.Peers.{queue_other, queue_seen, queue_expected, length-queue}
+use Rattle.reg_process.proofs.Peers.{queue_other, queue_seen, queue_expected, length-queue}
 use Rattle.reg_world.proofs.Local.{before_of}
 use Rattle.reg_world.proofs.Links.{sent_more, link_sends, link_receives}
 use Rattle.reg_world.proofs.Worlds.{Inv, LinkOf, queues_of, count_of, count_own, count_other}

@@ -15,9 +15,9 @@ use Rattle.reg_process.specs.Process.{step}
 use Rattle.reg_world.specs.Nodes.{Node, Nodes, put, after_step, step_of, nodes_after, unseen}
 use Rattle.reg_world.proofs.Traced.{World, First, casts_of, firsts, order_after, world_after}
 use Rattle.reg_world.specs.Laws.{IsMade}
-use Rattle.reg_world.proofs.Orders.{same_stamp, below_irrefl}
-use Rattle.reg_world.proofs.Lists.{in_left, in_right, in_cases, in_filter, filter_in, rising_filter, rising_append, Closed, prefixes}
-use Rattle.reg_world.proofs.Peers.{clear_below}
+use Rattle.reg_base.proofs.Orders.{same_stamp, below_irrefl}
+use Rattle.reg_base.proofs.Lists.{in_left, in_right, in_cases, in_filter, filter_in, rising_filter, rising_append, Closed, prefixes}
+use Rattle.reg_process.proofs.Peers.{clear_below}
 use Rattle.reg_world.proofs.Worlds.{Inv, made_once, front_made, undelivered_above, clear_in_front}
 use Rattle.reg_world.proofs.Acts.{put_cases, inv_act}
 use Rattle.reg_world.proofs.NodeEvents.{put_same, put_other}

@@ -29,8 +29,8 @@ use Rattle.reg_world.proofs.Runs.{StepKept, step_ok, inv_happens}
 use Rattle.reg_world.proofs.NodeLaws.{empty_inv}
 use Rattle.reg_world.proofs.Firsts.{front_prefix, rising_end}
 use Rattle.reg_world.proofs.Wholes.{whole_inv, Replicas, replicas_after, replies_right}
-use Rattle.reg_world.proofs.Orders.{Decides-below, Decides-at_most, below_irrefl}
-use Rattle.reg_world.proofs.Lists.{in_left, in_right, in_cases, in_filter, filter_in, rising_filter, front_filter, insert_old, insert_new}
+use Rattle.reg_base.proofs.Orders.{Decides-below, Decides-at_most, below_irrefl}
+use Rattle.reg_base.proofs.Lists.{in_left, in_right, in_cases, in_filter, filter_in, rising_filter, front_filter, insert_old, insert_new}
 use Rattle.std.proofs.lemmas.Option.{same_Some, none-some}
 use Rattle.reg_world.proofs.Bodies.{place_back, place_front, place_last, place_split, place_within}
 use Rattle.reg_world.proofs.Local.{delivery_keeps}

@@ -21,7 +21,7 @@ use Rattle.reg_world.specs.declared.events.Event.{Event}
 use Rattle.reg_world.specs.Nodes.{Nodes, op_in}
 use Rattle.reg_world.specs.World.{World, op_id, calls_in, answers_in}
 use Rattle.reg_world.proofs.Traced.{Called as PastCall, Answered as PastAnswer, World as Trace, answered_in}
-use Rattle.reg_world.proofs.Lists.{in_cases}
+use Rattle.reg_base.proofs.Lists.{in_cases}
 use Rattle.reg_world.proofs.Bodies.{place_in, place_last, place_within}
 use Rattle.reg_world.proofs.Members.{in_at, at_in}
 use Rattle.reg_world.proofs.Allowed.{StepAllowed, CallsMade, calls_made, AllAnswered}

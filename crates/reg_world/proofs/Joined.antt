@@ -25,11 +25,11 @@ use Rattle.reg_world.specs.Nodes.{Nodes, op_in, unseen}
 use Rattle.reg_world.specs.Runs.{Cast}
 use Rattle.reg_world.specs.World.{World, Replied, op_id, calls_in, answers_in, replies_in, casts_in, has_cast, reads_in, id_of, first_of, delivered_of, told}
 use Rattle.reg_world.proofs.Traced.{Called as PastCall, Answered as PastAnswer, Past, First as PastFirst, World as Trace, called_in, answered_in, past_after, pasts_after, casts_of, firsts, order_after}
-use Rattle.reg_world.proofs.Lists.{in_left, in_right, in_cases, in_filter}
+use Rattle.reg_base.proofs.Lists.{in_left, in_right, in_cases, in_filter}
 use Rattle.reg_world.proofs.Bodies.{place_front, place_last, place_split, place_within}
 use Rattle.reg_world.proofs.Acts.{put_cases}
 use Rattle.reg_world.proofs.Replicas.{any_found, any_finds}
-use Rattle.reg_world.proofs.Orders.{same_stamp}
+use Rattle.reg_base.proofs.Orders.{same_stamp}
 use Rattle.reg_world.proofs.Members.{map_append, map_in}
 
 abbrev pub plain : First → PastFirst

@@ -19,7 +19,7 @@ use Rattle.reg_world.specs.Laws.{FrontsMade}
 use Rattle.reg_base.specs.declared.limits.TheConstants.{MOST_EVENTS}
 use Rattle.reg_world.specs.World.{World, empty_world, op_id, move_of, moved, happens, run, whole}
 use Rattle.reg_world.proofs.Traced.{Called as PastCall, Answered as PastAnswer, World as Trace, casts_of, pasts_after, order_after, count_after, world_after, run_world, empty_world as empty_trace, whole as traced, HistoryRight, CastsCalled}
-use Rattle.reg_world.proofs.Lists.{in_right}
+use Rattle.reg_base.proofs.Lists.{in_right}
 use Rattle.reg_world.proofs.NodeEvents.{put_same}
 use Rattle.reg_world.proofs.Theorems.{made}
 use Rattle.reg_world.proofs.History.{PastsOk, whole_pasts, history_right}

@@ -17,12 +17,8 @@ pub mod Reading
 pub mod Grounds
 pub mod Traced
 pub mod Facts
-pub mod Orders
-pub mod Lists
 pub mod Bodies
-pub mod Peers
 pub mod Local
-pub mod Pops
 pub mod Links
 pub mod Worlds
 pub mod Acts

@@ -7,7 +7,7 @@ use Rattle.reg_frames.specs.declared.bodies.Frame.TheVariants.{Numbered, Got}
 use Rattle.reg_base.specs.Order.{In}
 use Rattle.reg_world.specs.Laws.{names_register}
 use Rattle.reg_process.specs.Process.{Peer, time_of}
-use Rattle.reg_world.proofs.Lists.{in_cases}
+use Rattle.reg_base.proofs.Lists.{in_cases}
 use Rattle.reg_world.proofs.Bodies.{place_front, place_back, place_split, place_within}
 
 -- what a process queued: the times rise, up to its clock

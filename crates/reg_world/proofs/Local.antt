@@ -5,9 +5,9 @@ use Rattle.reg_base.specs.declared.stamps.Stamp.{Stamp}
 use Rattle.reg_base.specs.declared.stamps.Delivered.{Delivered}
 use Rattle.reg_base.specs.Order.{Below, AtMost, In, Rising}
 use Rattle.reg_process.specs.Process.{State, seen_at, stamp_at, IsClear, is_clear, clear_casts, delivered_state}
-use Rattle.reg_world.proofs.Orders.{below_or}
-use Rattle.reg_world.proofs.Lists.{in_left, in_right, in_cases, in_filter, filter_in, rising_filter, rising_append}
-use Rattle.reg_world.proofs.Peers.{Decides-clear, clear_down}
+use Rattle.reg_base.proofs.Orders.{below_or}
+use Rattle.reg_base.proofs.Lists.{in_left, in_right, in_cases, in_filter, filter_in, rising_filter, rising_append}
+use Rattle.reg_process.proofs.Peers.{Decides-clear, clear_down}
 
 -- p is the process's number, of n
 pub record Local (n p : ℕ) (s : State) (front : List Delivered) : Type 0 where

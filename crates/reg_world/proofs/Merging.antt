@@ -14,7 +14,7 @@ use Rattle.reg_world.specs.Keys.{Key, key, IsBelow, IsKept, HasKey, Copied, Deli
 use Rattle.reg_world.specs.Witnesses.{upto, later, keyed_read, keyed_cast, keyed_lost, kept_one, merge, all_keyed}
 use Rattle.reg_world.proofs.Rises.{RisesBy, rises_at, rises_append, rises_map}
 use Rattle.reg_world.proofs.Ranking.{Lower}
-use Rattle.reg_world.proofs.Lists.{in_left, in_right, in_cases}
+use Rattle.reg_base.proofs.Lists.{in_left, in_right, in_cases}
 use Rattle.reg_world.proofs.Members.{in_at, at_in, in_map, map_in}
 use Rattle.reg_world.proofs.Bodies.{place_in, place_within}
 

@@ -16,13 +16,13 @@ use Rattle.reg_process.specs.Process.{no_peer, peer_at, time_of, next_of, step}
 use Rattle.reg_world.specs.Nodes.{Node, Nodes, after_step, step_of, nodes_after, happens, run, empty, first_state}
 use Rattle.reg_world.proofs.Traced.{world_of}
 use Rattle.reg_world.specs.Laws.{FrontsAgree, FrontsRise, UndeliveredAbove, FrontsMade, NoRefusal, IsAhead, IsStale, IsFull}
-use Rattle.reg_world.proofs.Lists.{in_left, in_right, in_cases}
+use Rattle.reg_base.proofs.Lists.{in_left, in_right, in_cases}
 use Rattle.reg_world.proofs.Worlds.{Inv, one_order, front_made, clear_in_front}
 use Rattle.reg_history.proofs.Places.{element_at}
 use Rattle.reg_world.proofs.Bodies.{place_within}
 use Rattle.reg_world.proofs.Links.{Sent}
-use Rattle.reg_world.proofs.Orders.{below_or}
-use Rattle.reg_world.proofs.Peers.{clear_down}
+use Rattle.reg_base.proofs.Orders.{below_or}
+use Rattle.reg_process.proofs.Peers.{clear_down}
 use Rattle.reg_world.proofs.Acts.{put_cases}
 use Rattle.reg_world.proofs.NodeEvents.{next_is}
 use Rattle.reg_world.proofs.Runs.{inv_happens}

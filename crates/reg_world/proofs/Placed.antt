@@ -22,7 +22,7 @@ use Rattle.reg_process.specs.Process.{State, Outcome, Running, Own, Held, cast_a
 use Rattle.reg_world.specs.declared.events.Event.{Event}
 use Rattle.reg_world.specs.Nodes.{Node, put, op_in, after_step, step_of, nodes_after}
 use Rattle.reg_world.proofs.Traced.{Called, Answered, Past, World, cast_of, called_in, answered_in, past_after, pasts_after, world_after, run_world, empty_world, whole}
-use Rattle.reg_world.proofs.Lists.{in_cases}
+use Rattle.reg_base.proofs.Lists.{in_cases}
 use Rattle.reg_world.proofs.Bodies.{place_front, place_last}
 use Rattle.reg_world.proofs.Acts.{put_cases}
 use Rattle.reg_world.proofs.Worlds.{Inv}

@@ -28,7 +28,7 @@ use Rattle.reg_world.proofs.Wholes.{whole_inv, order_is_longest}
 use Rattle.reg_world.proofs.Placed.{all_seated}
 use Rattle.reg_world.proofs.Settled.{quiescent}
 use Rattle.reg_world.proofs.Bodies.{place_in, place_front}
-use Rattle.reg_world.proofs.Lists.{in_cases}
+use Rattle.reg_base.proofs.Lists.{in_cases}
 use Rattle.reg_world.proofs.Worlds.{front_made, held_made}
 use Rattle.reg_world.proofs.Members.{in_at, at_in, map_in}
 use Rattle.reg_world.proofs.Joined.{Joined, cast_of_first, IsPastCall}

@@ -21,8 +21,8 @@ use Rattle.reg_base.specs.Memory.{Memory, answer_of, after, memory_after}
 use Rattle.reg_process.specs.Process.{State, Running, Own, Held, peer_at, is_own, clear_casts, delivered_state, ops_of, casts_before, up_to_own, reply_after, reply_of, look, done_at_once, called, taken, accepted, accepts, acknowledged, queues, cast_made, cast_at, stamp_at, resent, no_frames, quiet, got_frames, unsettled}
 use Rattle.reg_world.specs.Nodes.{Said, Node, said, running_op, after_result, after_step}
 use Rattle.reg_front.specs.Fronts.{MayStart, KeepsLaws}
-use Rattle.reg_world.proofs.Orders.{Decides-below, Decides-at_most, below_trans, below_at_most}
-use Rattle.reg_world.proofs.Lists.{in_cases, DownIn, front_filter}
+use Rattle.reg_base.proofs.Orders.{Decides-below, Decides-at_most, below_trans, below_at_most}
+use Rattle.reg_base.proofs.Lists.{in_cases, DownIn, front_filter}
 use Rattle.reg_world.proofs.Firsts.{rising_end}
 
 -- the reply is the memory's, after the first casts of the front

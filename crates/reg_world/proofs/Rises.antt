@@ -7,7 +7,7 @@ use Rattle.std.proofs.lemmas.Bool.{cond_both}
 use Rattle.reg_base.specs.Order.{In}
 use Rattle.reg_history.specs.History.{IsAt}
 use Rattle.reg_world.proofs.Bodies.{place_in}
-use Rattle.reg_world.proofs.Lists.{in_cases}
+use Rattle.reg_base.proofs.Lists.{in_cases}
 use Rattle.reg_world.proofs.Members.{map_in}
 
 abbrev pub RisesBy : {X : Type 0} → (X → X → Type 0) → List X → Type 0

@@ -6,7 +6,7 @@ use Rattle.reg_frames.specs.declared.bodies.Frame.{Frame}
 use Rattle.reg_process.specs.declared.outcomes.Put.{Put}
 use Rattle.reg_process.specs.Puts.{puts, put_to}
 use Rattle.reg_world.specs.Stations.{sent, listed}
-use Rattle.reg_world.proofs.Lists.{in_cases}
+use Rattle.reg_base.proofs.Lists.{in_cases}
 use Rattle.reg_world.proofs.Members.{map_in}
 
 -- so many frames were put; what is left decides

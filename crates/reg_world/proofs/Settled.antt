@@ -23,8 +23,8 @@ use Rattle.reg_front.specs.Fronts.{MayStart, KeepsLaws}
 use Rattle.reg_world.specs.Nodes.{Node, Nodes, after_step, step_of, nodes_after}
 use Rattle.reg_world.proofs.Traced.{World, world_after, run_world, empty_world, whole}
 use Rattle.reg_world.specs.Laws.{NothingPending, IsQuiescent}
-use Rattle.reg_world.proofs.Orders.{below_irrefl}
-use Rattle.reg_world.proofs.Lists.{in_right, filter_in, insert_new, insert_old}
+use Rattle.reg_base.proofs.Orders.{below_irrefl}
+use Rattle.reg_base.proofs.Lists.{in_right, filter_in, insert_new, insert_old}
 use Rattle.reg_world.proofs.Local.{held_above}
 use Rattle.reg_world.proofs.Worlds.{held_made, front_made, one_order}
 use Rattle.reg_world.proofs.Acts.{put_cases}

@@ -35,10 +35,10 @@ use Rattle.reg_world.specs.Witnesses.{is_kept, point_of, ranked_read, last_stamp
 use Rattle.reg_world.proofs.Rises.{RisesBy, rises_append, rises_map, rises_filter, rises_weaker, rises_from_places, in_kept, kept_in}
 use Rattle.reg_world.proofs.Ranking.{Lower, lower_irrefl, sorted_in, in_sorted, sorted_rises}
 use Rattle.reg_world.proofs.Merging.{by_keys}
-use Rattle.reg_world.proofs.Lists.{in_left, in_right, in_cases}
+use Rattle.reg_base.proofs.Lists.{in_left, in_right, in_cases}
 use Rattle.reg_world.proofs.Members.{in_at, at_in, in_map, map_in, from_end}
 use Rattle.reg_world.proofs.Bodies.{place_in, place_within}
-use Rattle.reg_world.proofs.Orders.{Decides-below, below_trans, below_irrefl}
+use Rattle.reg_base.proofs.Orders.{Decides-below, below_trans, below_irrefl}
 use Rattle.reg_world.proofs.Turns.{done_calls}
 use Rattle.reg_world.proofs.Joined.{Joined, IsPastCall, same_op_id}
 use Rattle.reg_world.proofs.Kept.{Known}

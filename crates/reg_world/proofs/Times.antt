@@ -26,7 +26,7 @@ use Rattle.reg_world.proofs.Acts.{put_cases}
 use Rattle.reg_world.proofs.Runs.{StepKept, step_ok}
 use Rattle.reg_world.proofs.NodeLaws.{empty_inv}
 use Rattle.reg_world.proofs.Wholes.{Replicas, replicas_after}
-use Rattle.reg_world.proofs.Lists.{in_left, in_right, in_cases, in_filter, filter_in, insert_new}
+use Rattle.reg_base.proofs.Lists.{in_left, in_right, in_cases, in_filter, filter_in, insert_new}
 use Rattle.std.proofs.lemmas.Option.{same_Some, none-some}
 use Rattle.reg_world.proofs.Bodies.{place_back, place_last, place_split, place_within}
 use Rattle.reg_world.proofs.Replicas.{any_found}

@@ -22,7 +22,7 @@ use Rattle.reg_process.specs.Process.{State, Outcome, Running, Own, Held, is_own
 use Rattle.reg_front.specs.Fronts.{KeepsLaws}
 use Rattle.reg_world.specs.Nodes.{Node, Nodes, put, nodes_after, step_of, op_in, after_step}
 use Rattle.reg_world.proofs.Traced.{World, Called, Answered, Past, answered_in, past_after, pasts_after, world_after, run_world, empty_world, whole, AnswersInOrder}
-use Rattle.reg_world.proofs.Lists.{in_cases}
+use Rattle.reg_base.proofs.Lists.{in_cases}
 use Rattle.reg_world.proofs.Worlds.{Inv}
 use Rattle.reg_world.proofs.Acts.{put_cases}
 use Rattle.reg_world.proofs.Runs.{StepKept, step_ok, inv_happens}

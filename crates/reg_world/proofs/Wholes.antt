@@ -9,9 +9,9 @@ use Rattle.reg_base.specs.Order.{Below, In, Rising}
 use Rattle.reg_front.specs.Fronts.{KeepsLaws}
 use Rattle.reg_world.specs.Nodes.{Nodes, after_step, step_of, nodes_after, run}
 use Rattle.reg_world.proofs.Traced.{World, casts_of, world_after, run_world, empty_world, whole, OrderIsLongest, RepliesRight}
-use Rattle.reg_world.proofs.Orders.{below_irrefl, below_asym}
+use Rattle.reg_base.proofs.Orders.{below_irrefl, below_asym}
 use Rattle.std.proofs.lemmas.List.{append-nil}
-use Rattle.reg_world.proofs.Lists.{in_right}
+use Rattle.reg_base.proofs.Lists.{in_right}
 use Rattle.reg_world.proofs.Worlds.{Inv}
 use Rattle.reg_world.proofs.Acts.{put_cases}
 use Rattle.reg_world.proofs.Runs.{StepKept, step_ok, inv_happens}

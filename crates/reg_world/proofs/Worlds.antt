@@ -11,10 +11,10 @@ use Rattle.reg_base.specs.Order.{Below, AtMost, In, IsPrefixOf}
 use Rattle.reg_process.specs.Process.{IsClear, peer_at, seen_at, stamp_at, cast_at}
 use Rattle.reg_world.specs.Nodes.{Node, Nodes}
 use Rattle.reg_world.specs.Laws.{IsMade}
-use Rattle.reg_world.proofs.Orders.{below_or, same_cast}
-use Rattle.reg_world.proofs.Lists.{in_left, in_right, in_cases, Closed, prefixes}
+use Rattle.reg_base.proofs.Orders.{below_or, same_cast}
+use Rattle.reg_base.proofs.Lists.{in_left, in_right, in_cases, Closed, prefixes}
 use Rattle.reg_world.proofs.Bodies.{place_within}
-use Rattle.reg_world.proofs.Peers.{clear_below, clear_down}
+use Rattle.reg_process.proofs.Peers.{clear_below, clear_down}
 use Rattle.reg_world.proofs.Local.{Local}
 use Rattle.reg_world.proofs.Links.{Sent, Link}
 
