@@ -1,11 +1,11 @@
 -- A step that an event makes is refused by no fault of its process.
-use Rattle.std.proofs.Common.{◌≡◌, ℕ, zero, suc, ◌+◌, ◌<◌, ◌≤◌, max, Bool, true, false, not, cond, List, [], ◌∷◌, ◌++◌, length, replicate, Option, Some, None, refl, sym, ap, ◌∙◌, subst, inl, inr, arith}
-use Rattle.std.specs.Prelude.{nat_lt, nat_le, ◌==◌, ◌&&◌, ◌||◌, slice_get, slice_index_or}
+use Rattle.std.proofs.Common.{◌≡◌, ℕ, ◌+◌, ◌<◌, ◌≤◌, max, true, false, not, cond, List, [], ◌∷◌, length, replicate, Option, Some, None, refl, sym, ap, ◌∙◌, subst, arith}
+use Rattle.std.specs.Prelude.{nat_lt, nat_le, ◌==◌, ◌&&◌, ◌||◌, slice_get}
 use Rattle.std.specs.Option.{is_some}
 use Rattle.std.proofs.lemmas.Bool.{cond_both, ltb-true, leb-true, lt-leb, eqb-true, eq-eqb, and_parts}
 use Rattle.std.proofs.lemmas.List.{length-replicate}
 use Rattle.std.proofs.lemmas.Option.{same_Some, none-some}
-use Rattle.reg_base.specs.declared.limits.TheConstants.{LAST_TIME, MOST_OPERATIONS, MOST_EVENTS}
+use Rattle.reg_base.specs.declared.limits.TheConstants.{LAST_TIME, MOST_OPERATIONS}
 use Rattle.reg_base.specs.declared.memory.Op.{Op}
 use Rattle.reg_base.proofs.Operations.{length-after}
 use Rattle.reg_base.specs.Memory.{Memory, after, memory_after, register_of}
@@ -20,23 +20,21 @@ use Rattle.reg_front.specs.Fronts.{KeepsLaws}
 use Rattle.reg_process.specs.declared.steps.Step.{Step}
 use Rattle.reg_process.specs.declared.steps.Step.TheVariants.{Call as CallStep, Take as TakeStep, Tick as TickStep}
 use Rattle.reg_process.specs.Process.{State, Running, peer_at, next_of, seen_at, time_of, unsettled, ops_of}
-use Rattle.reg_process.specs.declared.faults.ProcessFault.{ProcessFault}
 use Rattle.reg_process.specs.declared.faults.ProcessFault.TheVariants.{NoProcess, NoRegister, TooManyOperations, Ahead, Stale, ClockFull}
 use Rattle.reg_process.specs.Delivery.{first_of}
-use Rattle.reg_process.specs.Faults.{is_cast, full_at, early_fault, call_fault, is_out, early_body, full_by, body_fault, frame_fault, take_fault, step_fault}
+use Rattle.reg_process.specs.Faults.{full_at, early_fault, call_fault, is_out, early_body, full_by, body_fault, frame_fault, take_fault, step_fault}
 use Rattle.reg_world.specs.declared.events.Event.{Event}
 use Rattle.reg_world.specs.declared.events.Event.TheVariants.{Call, Take, Tick}
-use Rattle.reg_world.specs.Nodes.{Node, Nodes, step_of, take_step}
-use Rattle.reg_world.specs.Laws.{NoRefusal, IsAhead, IsStale, IsFull, names_register}
+use Rattle.reg_world.specs.Nodes.{Nodes, step_of, take_step}
+use Rattle.reg_world.specs.Laws.{IsAhead, IsStale, IsFull, names_register}
 use Rattle.reg_world.specs.World.{World, move_of, whole}
-use Rattle.reg_world.specs.Stations.{MayAct, listed}
+use Rattle.reg_world.specs.Stations.{MayAct}
 use Rattle.reg_world.specs.Worlds.{standing_of}
 use Rattle.reg_world.proofs.Bodies.{place_in}
-use Rattle.reg_world.proofs.Local.{Local}
 use Rattle.reg_world.proofs.Wholes.{whole_inv, whole_replicas}
 use Rattle.reg_world.proofs.Allowed.{Allowed, allowed}
 use Rattle.reg_world.proofs.Sending.{length-listed}
-use Rattle.reg_world.proofs.Found.{less_true, not_less, differ_false}
+use Rattle.reg_world.proofs.Found.{differ_false}
 use Rattle.reg_world.proofs.Kept.{move_is}
 use Rattle.reg_world.proofs.Promised.{none_refused}
 use Rattle.reg_world.proofs.Premises.{V, K}

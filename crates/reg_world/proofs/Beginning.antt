@@ -1,19 +1,18 @@
 -- A world in which nothing happened yet.
-use Rattle.std.proofs.Common.{◌≡◌, ℕ, zero, suc, ◌<◌, ◌≤◌, false, List, [], ◌∷◌, length, replicate, Some, refl, sym, ap, ◌∙◌, subst, arith}
+use Rattle.std.proofs.Common.{◌≡◌, ℕ, zero, suc, ◌<◌, ◌≤◌, false, List, [], ◌∷◌, replicate, Some, refl, sym, ap, ◌∙◌, subst, arith}
 use Rattle.std.proofs.lemmas.List.{length-replicate}
 use Rattle.reg_base.specs.declared.limits.TheConstants.{MOST_PROCESSES}
 use Rattle.reg_base.specs.declared.memory.Op.{Op}
 use Rattle.reg_base.specs.Shape.{Extent}
 use Rattle.reg_front.specs.declared.starts.Start.{Start}
-use Rattle.reg_process.specs.Process.{State, Peer, no_peer}
+use Rattle.reg_process.specs.Process.{Peer, no_peer}
 use Rattle.reg_process.specs.Parts.{merged, nothing, state_of, first_parts}
 use Rattle.reg_history.specs.History.{IsAt}
 use Rattle.reg_world.specs.Nodes.{first_state}
-use Rattle.reg_world.specs.World.{whole}
 use Rattle.reg_world.specs.Tallies.{no_calls}
 use Rattle.reg_world.specs.Pages.{Pages}
 use Rattle.reg_world.specs.Stations.{Standing, listed}
-use Rattle.reg_world.specs.Worlds.{IsWorld, standing_of, first_standing}
+use Rattle.reg_world.specs.Worlds.{IsWorld, first_standing}
 use Rattle.reg_world.proofs.Sending.{length-listed, listed_empty}
 use Rattle.reg_world.proofs.Telling.{at_listed}
 

@@ -1,11 +1,11 @@
 -- What one more event adds to a run is what the book of the world enters.
-use Rattle.std.proofs.Common.{◌≡◌, ◌≢◌, ℕ, zero, suc, ◌+◌, ◌-◌, ◌<◌, ◌≤◌, ◌⊎◌, Bool, true, false, not, cond, List, [], ◌∷◌, ◌++◌, map, length, set, Option, Some, None, refl, sym, ap, ◌∙◌, subst, inl, inr, arith, length-set, length-append}
-use Rattle.std.specs.Prelude.{slice_get, slice_index_or, ◌==◌, ◌&&◌}
+use Rattle.std.proofs.Common.{◌≡◌, ℕ, zero, suc, ◌+◌, ◌-◌, ◌<◌, ◌≤◌, Bool, true, false, not, cond, List, [], ◌∷◌, ◌++◌, map, length, Option, Some, None, refl, sym, ap, ◌∙◌, subst, inl, inr, arith, length-set}
+use Rattle.std.specs.Prelude.{slice_get, ◌==◌, ◌&&◌}
 use Rattle.std.specs.Option.{is_some}
 use Rattle.std.specs.List.{filter, list_any}
-use Rattle.std.proofs.lemmas.Bool.{cond_both, cases_order, cases_eq, cases_Bool, eqb-true, eq-eqb, and_parts, and_from, false≢true}
-use Rattle.std.proofs.lemmas.List.{append-nil, append_assoc, map-append}
-use Rattle.std.proofs.lemmas.Option.{same_Some, none-some}
+use Rattle.std.proofs.lemmas.Bool.{cond_both, cases_order, cases_eq, eqb-true, eq-eqb, and_parts, and_from}
+use Rattle.std.proofs.lemmas.List.{append-nil, map-append}
+use Rattle.std.proofs.lemmas.Option.{same_Some}
 use Rattle.reg_base.specs.declared.stamps.Stamp.{Stamp}
 use Rattle.reg_base.specs.declared.stamps.Delivered.{Delivered}
 use Rattle.reg_base.specs.declared.memory.Op.{Op}
@@ -17,62 +17,40 @@ use Rattle.reg_process.specs.declared.steps.Reply.{Reply}
 use Rattle.reg_process.specs.declared.steps.Step.{Step}
 use Rattle.reg_process.specs.declared.steps.Step.TheVariants.{Call, Take, Tick}
 use Rattle.reg_process.specs.Process.{State, Outcome, step}
-use Rattle.reg_history.specs.History.{IsAt, IsIn}
+use Rattle.reg_history.specs.History.{IsAt}
 use Rattle.reg_world.specs.declared.events.Event.{Event}
 use Rattle.reg_world.specs.declared.order.First.{First}
 use Rattle.reg_world.specs.declared.order.CopyRead.{CopyRead}
 use Rattle.reg_world.specs.declared.callers.Note.{Note}
 use Rattle.reg_world.specs.Runs.{Cast}
-use Rattle.reg_world.specs.Nodes.{Node, Nodes, put, after_step, unseen}
+use Rattle.reg_world.specs.Nodes.{Node, after_step, unseen}
 use Rattle.reg_world.specs.World.{World, op_id, cast_in, casts_in, has_cast, reads_in, id_of, first_of, delivered_of, move_of, moved, whole}
 use Rattle.reg_world.specs.Tallies.{Tally, no_calls}
 use Rattle.reg_world.specs.Books.{note_of, notes_of, tally_of, AreTallies}
 use Rattle.reg_world.specs.Witnesses.{stamp_in, last_stamp, is_after}
-use Rattle.reg_world.specs.Pages.{calls_after, note_in, notes_in, tally_after, tally_at, tallies_after, is_number, last_casts, copied_in, read_in, number_at, first_in, firsts_in, TimesDiffer}
+use Rattle.reg_world.specs.Pages.{calls_after, note_in, notes_in, tally_after, tally_at, tallies_after, is_number, last_casts, read_in, number_at, first_in, firsts_in, TimesDiffer}
+use Rattle.reg_world.proofs.Changes.{at_set_same, at_set_other, filter_append, filter_same, map_same}
 use Rattle.reg_world.proofs.Rises.{RisesBy, rises_at, rises_filter, rises_map, in_kept, kept_in}
+<<<<<<< HEAD
 use Rattle.reg_base.proofs.Lists.{in_left, in_right, in_cases}
 use Rattle.reg_world.proofs.Members.{in_at, at_in, in_map, map_in, map_append}
 use Rattle.reg_world.proofs.Bodies.{place_in, place_within, place_front}
 use Rattle.reg_base.proofs.Orders.{Decides-below, below_trans, below_irrefl, same_stamp}
 use Rattle.reg_world.proofs.Replicas.{any_found, any_finds}
+=======
+use Rattle.reg_base.proofs.Lists.{in_right}
+use Rattle.reg_world.proofs.Members.{in_at, in_map, map_in}
+use Rattle.reg_world.proofs.Bodies.{place_in, place_within, place_front}
+use Rattle.reg_base.proofs.Orders.{Decides-below, below_trans, below_irrefl, same_stamp}
+use Rattle.reg_world.proofs.Replicas.{any_found}
+>>>>>>> 30ba09c2bf19bda27340f94b30295161d6f2d7ab
 use Rattle.reg_world.proofs.NodeEvents.{put_same, put_other}
-use Rattle.reg_world.proofs.Acts.{put_cases}
 use Rattle.reg_world.proofs.Allowed.{calls_made}
 use Rattle.reg_world.proofs.Joined.{cast_found, cast_finds}
 use Rattle.reg_world.proofs.Refusals.{one_more}
 use Rattle.reg_world.proofs.Promised.{order_right, casts_right, fronts_made}
 use Rattle.reg_world.proofs.Premises.{is_run}
 use Rattle.reg_world.proofs.Tallied.{at_or, OwnLater, fresh, casts_rise}
-
--- places of a list with one element replaced
-pub at_set_same : {X : Type 0} (xs : List X) (p : ℕ) (x : X) → p < length xs → IsAt (set xs p x) p x
-at_set_same [] p x l = absurd (omega arith)
-at_set_same (y ∷ xs) zero x l = refl
-at_set_same (y ∷ xs) (suc p) x l = at_set_same xs p x (omega arith)
-
-pub at_set_other : {X : Type 0} (xs : List X) (p q : ℕ) (x : X) → (q ≡ p → ⊥) → slice_get (set xs p x) q ≡ slice_get xs q
-at_set_other [] p q x ne = refl
-at_set_other (y ∷ xs) zero zero x ne = absurd (ne refl)
-at_set_other (y ∷ xs) zero (suc q) x ne = refl
-at_set_other (y ∷ xs) (suc p) zero x ne = refl
-at_set_other (y ∷ xs) (suc p) (suc q) x ne = at_set_other xs p q x (λ e. ne (ap suc e))
-
-pub filter_append : {X : Type 0} (f : X → Bool) (xs ys : List X) → filter f (xs ++ ys) ≡ filter f xs ++ filter f ys
-filter_append f [] ys = refl
-filter_append f (x ∷ xs) ys =
-    ap (λ l. cond (f x) (x ∷ l) l) (filter_append f xs ys)
-    ∙ cond_both (f x) (x ∷ filter f xs) (filter f xs) (λ l. cond (f x) (x ∷ (filter f xs ++ filter f ys)) (filter f xs ++ filter f ys) ≡ l ++ filter f ys)
-    (λ e. ap (λ b. cond b (x ∷ (filter f xs ++ filter f ys)) (filter f xs ++ filter f ys)) e)
-    (λ e. ap (λ b. cond b (x ∷ (filter f xs ++ filter f ys)) (filter f xs ++ filter f ys)) e)
-
-pub filter_same : {X : Type 0} (f g : X → Bool) (xs : List X) → ((x : X) → In x xs → f x ≡ g x) → filter f xs ≡ filter g xs
-filter_same f g [] h = refl
-filter_same f g (x ∷ xs) h =
-    ap (λ l. cond (f x) (x ∷ l) l) (filter_same f g xs (λ y i. h y (inr i))) ∙ ap (λ b. cond b (x ∷ filter g xs) (filter g xs)) (h x (inl refl))
-
-pub map_same : {X Y : Type 0} (f g : X → Y) (xs : List X) → ((x : X) → In x xs → f x ≡ g x) → map f xs ≡ map g xs
-map_same f g [] h = refl
-map_same f g (x ∷ xs) h = ap (λ y. y ∷ map f xs) (h x (inl refl)) ∙ ap (λ l. g x ∷ l) (map_same f g xs (λ y i. h y (inr i)))
 
 same_bool : (a b : Bool) → (a ≡ true → b ≡ true) → (b ≡ true → a ≡ true) → a ≡ b
 same_bool true b f g = sym (f refl)

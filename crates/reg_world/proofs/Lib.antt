@@ -1,5 +1,6 @@
 pub mod Noted
 pub mod Entering
+pub mod Changes
 pub mod Growing
 pub mod Found
 pub mod Acting

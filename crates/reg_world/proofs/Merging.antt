@@ -1,6 +1,6 @@
 -- The merged list is that of the keys.
-use Rattle.std.proofs.Common.{◌≡◌, ◌≢◌, ℕ, zero, suc, ◌+◌, ◌<◌, ◌≤◌, ◌⊎◌, ◌↔◌, Bool, true, false, cond, List, [], ◌∷◌, ◌++◌, map, length, Some, refl, sym, ap, ◌∙◌, subst, inl, inr, arith}
-use Rattle.std.specs.Prelude.{nat_le, slice_get, ◌||◌}
+use Rattle.std.proofs.Common.{◌≡◌, ℕ, zero, suc, ◌+◌, ◌<◌, ◌≤◌, ◌⊎◌, ◌↔◌, Bool, true, cond, List, [], ◌∷◌, ◌++◌, map, length, refl, sym, ap, ◌∙◌, subst, inl, inr, arith}
+use Rattle.std.specs.Prelude.{nat_le}
 use Rattle.std.proofs.lemmas.Bool.{cond_both, leb-true, leb-false}
 use Rattle.std.proofs.lemmas.Option.{same_Some}
 use Rattle.reg_base.specs.declared.memory.OpId.{OpId}
@@ -10,12 +10,17 @@ use Rattle.reg_world.specs.declared.order.First.{First}
 use Rattle.reg_world.specs.declared.order.CopyRead.{CopyRead}
 use Rattle.reg_world.specs.declared.witnesses.Ranked.{Ranked}
 use Rattle.reg_world.specs.Runs.{Run, Cast, IsWaiting}
-use Rattle.reg_world.specs.Keys.{Key, key, IsBelow, IsKept, HasKey, Copied, Delivered, Lost, Keyed, IsByKeys}
+use Rattle.reg_world.specs.Keys.{key, IsBelow, IsKept, HasKey, Copied, Delivered, Lost, Keyed, IsByKeys}
 use Rattle.reg_world.specs.Witnesses.{upto, later, keyed_read, keyed_cast, keyed_lost, kept_one, merge, all_keyed}
 use Rattle.reg_world.proofs.Rises.{RisesBy, rises_at, rises_append, rises_map}
 use Rattle.reg_world.proofs.Ranking.{Lower}
+<<<<<<< HEAD
 use Rattle.reg_base.proofs.Lists.{in_left, in_right, in_cases}
 use Rattle.reg_world.proofs.Members.{in_at, at_in, in_map, map_in}
+=======
+use Rattle.reg_base.proofs.Lists.{in_left, in_right, in_cases}
+use Rattle.reg_world.proofs.Members.{in_at, in_map, map_in}
+>>>>>>> 30ba09c2bf19bda27340f94b30295161d6f2d7ab
 use Rattle.reg_world.proofs.Bodies.{place_in, place_within}
 
 abbrev pub Under : Keyed → Keyed → Type 0

@@ -1,16 +1,11 @@
 -- The world after an event, from its parts.
-use Rattle.std.proofs.Common.{◌≡◌, ℕ, zero, suc, ◌+◌, ◌-◌, ◌<◌, ◌≤◌, Bool, true, false, not, cond, List, [], ◌∷◌, ◌++◌, length, map, set, Option, Some, None, Result, Ok, Err, refl, sym, ap, ◌∙◌, subst, inl, inr, arith, length-set, length-append}
-use Rattle.std.specs.Prelude.{nat_lt, ◌==◌, ◌&&◌, slice_get, slice_index_or, MatchResult}
+use Rattle.std.proofs.Common.{◌≡◌, ℕ, ◌-◌, ◌<◌, false, List, [], ◌∷◌, ◌++◌, length, set, Option, Some, refl, sym, ap, ◌∙◌, subst, inl, inr, arith, length-set}
 use Rattle.std.specs.Option.{is_some}
-use Rattle.std.proofs.lemmas.Bool.{cond_both, cases_lt, cases_eq, ltb-true}
-use Rattle.std.proofs.lemmas.Option.{same_Some, none-some}
-use Rattle.reg_base.specs.declared.limits.TheConstants.{MOST_EVENTS, MOST_OPERATIONS}
+use Rattle.std.proofs.lemmas.Bool.{cases_eq}
+use Rattle.reg_base.specs.declared.limits.TheConstants.{MOST_EVENTS}
 use Rattle.reg_base.specs.declared.memory.Op.{Op}
 use Rattle.reg_base.specs.declared.stamps.Stamp.{Stamp}
 use Rattle.reg_base.specs.declared.stamps.Delivered.{Delivered}
-use Rattle.reg_base.specs.Memory.{register_of}
-use Rattle.reg_base.specs.Order.{In}
-use Rattle.reg_frames.specs.declared.bodies.Frame.{Frame}
 use Rattle.reg_front.specs.declared.starts.Start.{Start}
 use Rattle.reg_front.specs.Fronts.{KeepsLaws}
 use Rattle.reg_process.specs.declared.steps.Reply.{Reply}
@@ -21,28 +16,23 @@ use Rattle.reg_process.specs.Puts.{puts}
 use Rattle.reg_history.specs.declared.entries.Entry.{Entry}
 use Rattle.reg_history.specs.History.{IsAt, IsHistory}
 use Rattle.reg_world.specs.declared.events.Event.{Event}
-use Rattle.reg_world.specs.declared.events.Event.TheVariants.{Call, Take, Tick}
-use Rattle.reg_world.specs.declared.faults.WorldFault.{WorldFault}
-use Rattle.reg_world.specs.declared.faults.WorldFault.TheVariants.{Failed, TooManyEvents, NoProcess, Busy, NoRegister, TooManyOperations, NoFrame, OutOfMemory}
 use Rattle.reg_world.specs.declared.order.First.{First}
 use Rattle.reg_world.specs.declared.order.CopyRead.{CopyRead}
-use Rattle.reg_world.specs.Nodes.{Node, Nodes, after_step, step_of, take_step}
-use Rattle.reg_world.specs.World.{World, op_id, calls_in, answers_in, call_fault, frame_fault, event_fault, fault_of, move_of, moved, whole}
+use Rattle.reg_world.specs.Nodes.{Node, step_of}
+use Rattle.reg_world.specs.World.{World, op_id, calls_in, answers_in, move_of, moved, whole}
 use Rattle.reg_world.specs.Tallies.{Tally}
 use Rattle.reg_world.specs.Books.{tally_of, AreTallies}
 use Rattle.reg_world.specs.Witnesses.{last_stamp}
-use Rattle.reg_world.specs.Pages.{Pages, calls_after, tally_after, tally_at, tallies_after, read_in, firsts_in, entries_after, entered, CallFits, TimesDiffer, MayEnter}
+use Rattle.reg_world.specs.Pages.{Pages, tally_after, tally_at, tallies_after, read_in, firsts_in, entries_after, entered, CallFits, MayEnter}
 use Rattle.reg_world.specs.Stations.{Standing, sent, listed, Acts}
-use Rattle.reg_world.specs.Worlds.{Tells, Stand, IsWorld, standing_of, tally_fault, call_refusal, wire_in, frame_or, frame_in, call_or, take_or, found_step, found}
-use Rattle.reg_world.proofs.Bodies.{place_within, place_front, place_last}
+use Rattle.reg_world.specs.Worlds.{Tells, Stand, IsWorld, standing_of}
 use Rattle.reg_world.proofs.Allowed.{Allowed, StepAllowed, allowed}
 use Rattle.reg_world.proofs.Kept.{move_is}
-use Rattle.reg_world.proofs.Tallied.{at_or}
-use Rattle.reg_world.proofs.Sending.{length-listed, sent_all}
-use Rattle.reg_world.proofs.Found.{less_true, not_less}
+use Rattle.reg_world.proofs.Sending.{sent_all}
 use Rattle.reg_world.proofs.Acting.{sound}
 use Rattle.reg_world.proofs.Promised.{in_place}
-use Rattle.reg_world.proofs.Growing.{next_is, node_here, node_there, tally_is, tallies_now, times_differ, reads_now, casters_now, firsts_now, calls_are, at_set_same, at_set_other}
+use Rattle.reg_world.proofs.Growing.{next_is, node_here, node_there, tally_is, tallies_now, times_differ, reads_now, casters_now, firsts_now, calls_are}
+use Rattle.reg_world.proofs.Changes.{at_set_same, at_set_other}
 
 calls_fit : (registers : ℕ) (s : State) (st : Step) → StepAllowed registers s st → CallFits st s.calls
 calls_fit registers s (CallStep op) A = A.2

@@ -1,8 +1,6 @@
 -- The loops that merge the reads with the order.
 use Rattle.std.proofs.Common.{◌≡◌, ℕ, ◌+◌, ◌-◌, ◌<◌, ◌≤◌, Bool, true, false, cond, List, [], ◌∷◌, ◌++◌, map, length, take, drop, get_or, refl, sym, ap, ◌∙◌, subst, arith, length-drop}
-use Rattle.std.specs.Prelude.{nat_le}
 use Rattle.std.proofs.lemmas.List.{append_assoc, append-nil, take_rest, get_or_default, drop_more, drop_all, map-append, drop-drop}
-use Rattle.std.proofs.lemmas.Bool.{cond_both, leb-true}
 use Rattle.reg_base.specs.declared.memory.OpId.{OpId}
 use Rattle.reg_world.specs.declared.order.First.{First}
 use Rattle.reg_world.specs.declared.witnesses.Ranked.{Ranked}

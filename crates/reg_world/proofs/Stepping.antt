@@ -1,6 +1,5 @@
 -- One step of a world, as its functions take it.
-use Rattle.std.proofs.Common.{◌≡◌, ℕ, ◌+◌, ◌<◌, ◌≤◌, Bool, true, false, cond, List, [], ◌∷◌, ◌++◌, length, get_or, set, Option, Some, None, Result, Ok, Err, refl, sym, ap, ◌∙◌, subst, inl, inr, arith}
-use Rattle.std.specs.Prelude.{slice_get}
+use Rattle.std.proofs.Common.{◌≡◌, ℕ, ◌<◌, Bool, true, false, List, length, get_or, set, Option, Some, None, Ok, Err, refl, sym, ap, ◌∙◌, subst, arith}
 use Rattle.std.specs.Option.{is_some}
 use Rattle.std.proofs.lemmas.Option.{same_Some}
 use Rattle.reg_base.specs.declared.memory.Op.{Op}
@@ -10,7 +9,7 @@ use Rattle.reg_front.specs.declared.starts.Start.{Start}
 use Rattle.reg_front.specs.Fronts.{KeepsLaws}
 use Rattle.reg_process.specs.declared.steps.Reply.{Reply}
 use Rattle.reg_process.specs.declared.steps.Step.{Step}
-use Rattle.reg_process.specs.Process.{State, step}
+use Rattle.reg_process.specs.Process.{step}
 use Rattle.reg_history.specs.History.{IsAt}
 use Rattle.reg_world.specs.declared.events.Event.{Event}
 use Rattle.reg_world.specs.declared.faults.WorldFault.{WorldFault}
@@ -19,7 +18,7 @@ use Rattle.reg_world.specs.Nodes.{Node}
 use Rattle.reg_world.specs.World.{World, fault_of, move_of, moved, whole}
 use Rattle.reg_world.specs.Pages.{Pages, entered, MayEnter}
 use Rattle.reg_world.specs.Stations.{Standing, MayAct, Acts}
-use Rattle.reg_world.specs.Worlds.{Made, run_in, refusal, with_event, stopped, reply_of_move, reply_in, Accepts, Refuses, Tells, Stand, IsWorld, made_of, standing_of, found, IsMove, Advances}
+use Rattle.reg_world.specs.Worlds.{Made, refusal, with_event, stopped, reply_of_move, reply_in, Accepts, Refuses, IsWorld, made_of, standing_of, found, IsMove, Advances}
 use Rattle.reg_world.proofs.Noted.{at_index}
 use Rattle.reg_world.proofs.Acting.{may_act}
 use Rattle.reg_world.proofs.Telling.{IsFound, found_right, ordinary}

@@ -1,12 +1,12 @@
 -- What is kept of the operations of each process tells which are finished, and which casts were delivered nowhere.
-use Rattle.std.proofs.Common.{◌≡◌, ◌≢◌, ℕ, zero, suc, ◌+◌, ◌-◌, ◌<◌, ◌≤◌, ◌⊎◌, ◌↔◌, Bool, true, false, cond, List, [], ◌∷◌, ◌++◌, map, length, Option, Some, None, refl, sym, ap, ◌∙◌, subst, inl, inr, arith}
-use Rattle.std.specs.Prelude.{slice_get, slice_index_or, nat_lt, ◌==◌, ◌&&◌, ◌||◌, if◌then◌else◌}
+use Rattle.std.proofs.Common.{◌≡◌, ◌≢◌, ℕ, zero, suc, ◌+◌, ◌-◌, ◌<◌, ◌≤◌, ◌⊎◌, ◌↔◌, Bool, true, false, List, [], ◌∷◌, ◌++◌, map, length, Option, Some, None, refl, sym, ap, ◌∙◌, subst, inl, inr, arith}
+use Rattle.std.specs.Prelude.{slice_get, slice_index_or, nat_lt, ◌==◌, ◌||◌, if◌then◌else◌}
 use Rattle.std.specs.Option.{is_some}
 use Rattle.std.specs.List.{filter}
-use Rattle.std.proofs.lemmas.Bool.{cond_both, cases_Bool, cases_lt, cases_order, ltb-true, eqb-true, eq-eqb, and_parts, and_from, false≢true}
+use Rattle.std.proofs.lemmas.Bool.{cond_both, cases_lt, cases_order, ltb-true, eqb-true, eq-eqb, and_parts, and_from, false≢true}
 use Rattle.std.proofs.lemmas.Bool.Decides.{nat_tests}
 use Rattle.std.proofs.lemmas.List.{get_or_past}
-use Rattle.std.proofs.lemmas.Option.{same_Some, none-some}
+use Rattle.std.proofs.lemmas.Option.{same_Some}
 use Rattle.reg_base.specs.declared.memory.OpId.{OpId}
 use Rattle.reg_base.specs.declared.memory.Op.{Op}
 use Rattle.reg_base.specs.declared.stamps.Stamp.{Stamp}
@@ -26,21 +26,25 @@ use Rattle.reg_world.specs.declared.callers.Note.{Note}
 use Rattle.reg_world.specs.declared.witnesses.Ranked.{Ranked}
 use Rattle.reg_world.specs.Runs.{Run, Cast, IsWaiting}
 use Rattle.reg_world.specs.Keys.{IsKept, Keeps, Nothing, Takes, Leaves, IsWitness, ArePoints}
-use Rattle.reg_history.specs.declared.entries.Point.{Point}
-use Rattle.reg_world.specs.World.{World, Replied, op_id, cast_in, casts_in, move_of, moved, whole, run_of}
+use Rattle.reg_world.specs.World.{World, op_id, casts_in, move_of, moved, whole}
 use Rattle.reg_world.specs.Nodes.{Nodes}
 use Rattle.reg_world.specs.Tallies.{Tally, no_calls, finished, is_done}
-use Rattle.reg_world.specs.Books.{note_of, notes_of, tally_of, AreTallies}
+use Rattle.reg_world.specs.Books.{note_of, tally_of, AreTallies}
 use Rattle.reg_world.specs.Witnesses.{is_kept, point_of, ranked_read, last_stamp, stamp_in, is_after, ranked_note, is_lost, lost_of, lost_from, IsSortedFrom, IsMerged, all_keyed}
 use Rattle.reg_world.proofs.Rises.{RisesBy, rises_append, rises_map, rises_filter, rises_weaker, rises_from_places, in_kept, kept_in}
-use Rattle.reg_world.proofs.Ranking.{Lower, lower_irrefl, sorted_in, in_sorted, sorted_rises}
+use Rattle.reg_world.proofs.Ranking.{Lower, sorted_in, in_sorted, sorted_rises}
 use Rattle.reg_world.proofs.Merging.{by_keys}
 use Rattle.reg_base.proofs.Lists.{in_left, in_right, in_cases}
 use Rattle.reg_world.proofs.Members.{in_at, at_in, in_map, map_in, from_end}
+<<<<<<< HEAD
 use Rattle.reg_world.proofs.Bodies.{place_in, place_within}
 use Rattle.reg_base.proofs.Orders.{Decides-below, below_trans, below_irrefl}
+=======
+use Rattle.reg_world.proofs.Bodies.{place_within}
+use Rattle.reg_base.proofs.Orders.{Decides-below, below_trans, below_irrefl}
+>>>>>>> 30ba09c2bf19bda27340f94b30295161d6f2d7ab
 use Rattle.reg_world.proofs.Turns.{done_calls}
-use Rattle.reg_world.proofs.Joined.{Joined, IsPastCall, same_op_id}
+use Rattle.reg_world.proofs.Joined.{Joined, same_op_id}
 use Rattle.reg_world.proofs.Kept.{Known}
 use Rattle.reg_world.proofs.Grounds.{IsRun}
 use Rattle.reg_world.proofs.Once.{cast_of}

@@ -1,5 +1,5 @@
 -- The laws, of the nodes of a whole run.
-use Rattle.std.proofs.Common.{ℕ, ◌^◌, ◌≤◌, List, ◌++◌, length, sym, subst}
+use Rattle.std.proofs.Common.{ℕ, ◌≤◌, List, ◌++◌, length, sym, subst}
 use Rattle.reg_base.specs.declared.limits.TheConstants.{MOST_EVENTS}
 use Rattle.reg_base.specs.declared.memory.Op.{Op}
 use Rattle.reg_front.specs.declared.starts.Start.{Start}

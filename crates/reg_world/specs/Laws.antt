@@ -1,5 +1,5 @@
 -- The laws of a run.
-use Rattle.std.specs.Prelude.{[], ◌≡◌, ℕ, ◌+◌, ◌^◌, ◌<◌, ◌≤◌, max, ◌⊎◌, slice_get, Some, None}
+use Rattle.std.specs.Prelude.{[], ◌≡◌, ℕ, ◌+◌, ◌<◌, ◌≤◌, max, ◌⊎◌, slice_get, Some, None}
 use Rattle.reg_base.specs.declared.limits.TheConstants.{FRAME_NUMBERS, LAST_TIME}
 use Rattle.reg_base.specs.declared.stamps.Delivered.{Delivered}
 use Rattle.reg_frames.specs.declared.bodies.Body.{Body}

@@ -1,15 +1,14 @@
 -- One process with its wires, and one event of it.
-use Rattle.std.specs.Prelude.{ℕ, ◌≡◌, ◌<◌, zero, suc, Bool, false, List, [], ◌∷◌, ◌++◌, length, Option, None, slice_set, slice_index_or}
+use Rattle.std.specs.Prelude.{ℕ, ◌≡◌, zero, suc, false, List, [], ◌∷◌, ◌++◌, length, Option, None, slice_set, slice_index_or}
 use Rattle.reg_base.specs.declared.stamps.Stamp.{Stamp}
 use Rattle.reg_base.specs.declared.stamps.Delivered.{Delivered}
 use Rattle.reg_base.specs.declared.memory.Op.{Op}
-use Rattle.reg_base.specs.Order.{In}
 use Rattle.reg_frames.specs.declared.bodies.Frame.{Frame}
 use Rattle.reg_front.specs.declared.starts.Start.{Start}
 use Rattle.reg_process.specs.declared.outcomes.Put.{Put}
 use Rattle.reg_process.specs.declared.steps.Reply.{Reply}
 use Rattle.reg_process.specs.declared.steps.Step.{Step}
-use Rattle.reg_process.specs.Process.{State, step}
+use Rattle.reg_process.specs.Process.{step}
 use Rattle.reg_process.specs.Puts.{puts}
 use Rattle.reg_process.specs.Faults.{step_fault}
 use Rattle.reg_process.specs.Events.{Kept}

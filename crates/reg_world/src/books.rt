@@ -227,6 +227,13 @@ impl<A: Allocator + Copy> Book<A> {
         })
     }
 
+    /// Makes room for so many events. Nothing else changes.
+    pub(crate) fn reserve(&mut self, events: usize) -> Result<(), AllocError>
+        ensures { self.new ≡ self.old }
+    {
+        self.accepted.reserve(events)
+    }
+
     /// The events accepted so far.
     pub(crate) fn accepted(&self) -> &[Event]
         ensures { result.now ≡ self.now.accepted }

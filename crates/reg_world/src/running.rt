@@ -1,6 +1,6 @@
 //! All processes and wires of a run, one event after another.
 ghost use Rattle.std.specs.Prelude.{◌≡◌, ◌<◌, ◌≤◌, ◌⊎◌, ◌++◌, List, false, length, take, Some, IfOk, MatchOption, MatchResult};
-ghost use Rattle.reg_base.specs.declared.limits.TheConstants.{MOST_EVENTS, MOST_PROCESSES};
+ghost use Rattle.reg_base.specs.declared.limits.TheConstants.{MOST_PROCESSES};
 ghost use Rattle.reg_history.specs.Orders.{IsSerial, IsPointOrder};
 ghost use Rattle.reg_world.specs.declared.events.Event.{Event};
 ghost use Rattle.reg_world.specs.Keys.{IsWitness, ArePoints};
@@ -17,6 +17,7 @@ use crate::finding::found;
 use crate::order::{CopyRead, First};
 use crate::stations::Station;
 use crate::witnesses::{points_of, witness_of};
+use reg_base::limits::MOST_EVENTS;
 use reg_base::{OpId, Shape};
 use reg_frames::Frame;
 use reg_front::{FrontEnd, RealTime};
@@ -127,13 +128,22 @@ impl<F: FrontEnd, A: Allocator + Copy> World<F, A> {
         }
     }
 
+    /// A world in which nothing happened yet, with room for so many events, or for all that a world may have.
+    fn with_room(alloc: A, shape: Shape, events: usize) -> Result<World<F, A>, AllocError>
+        ensures { IfOk result (λ w. w ≡ new_world shape) }
+    {
+        let mut world = World::new(alloc, shape)?;
+        world.book.reserve(events.min(MOST_EVENTS as usize))?;
+        Ok(world)
+    }
+
     /// Makes these events, one after another, in a new world. The first one that is refused ends the run; want of memory
     /// before the first event is told of that one.
     pub fn run(alloc: A, shape: Shape, events: &[Event]) -> Result<World<F, A>, RunFault>
         ensures world { MatchResult result (λ w. w ≡ after_events shape events.now) (λ f. RunRefuses F.start shape events.now f.at f.fault) }
         ensures accepted { MatchResult result (λ _. (run_in F.start (after_events shape events.now)).accepted ≡ events.now) (λ f. (run_in F.start (after_events shape (take f.at events.now))).accepted ≡ take f.at events.now) }
     {
-        let Ok(mut world) = World::new(alloc, shape) else {
+        let Ok(mut world) = World::with_room(alloc, shape, events.len()) else {
             let fault = WorldFault::OutOfMemory;
             return Err(RunFault { at: 0, fault });
         };

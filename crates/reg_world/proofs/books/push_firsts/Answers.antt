@@ -1,6 +1,5 @@
-use Rattle.std.proofs.Common.{◌≡◌, ◌∙◌, ap, sym, length, arith}
-use Rattle.reg_world.specs.Pages.{firsts_in}
-use Rattle.reg_world.proofs.Entering.{caster_at, differ_at, first_more, firsts_all}
+use Rattle.std.proofs.Common.{◌∙◌, arith}
+use Rattle.reg_world.proofs.Entering.{caster_at, differ_at, first_more}
 use Rattle.reg_world.proofs.books.push_firsts.Goals as goal
 
 pub push_first-requires-clause-caster : goal.push_first-requires-clause-caster

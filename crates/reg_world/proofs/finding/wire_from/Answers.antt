@@ -1,5 +1,5 @@
-use Rattle.std.proofs.Common.{◌≡◌, ◌∙◌, ap, sym}
-use Rattle.std.specs.Prelude.{slice_get, Some}
+use Rattle.std.proofs.Common.{◌∙◌, ap, sym}
+use Rattle.std.specs.Prelude.{slice_get}
 use Rattle.reg_world.specs.Worlds.{wire_in}
 use Rattle.reg_world.proofs.Noted.{at_index}
 use Rattle.reg_world.proofs.Found.{past_none}

@@ -1,5 +1,5 @@
 use Rattle.std.proofs.Common.{◌≡◌, ◌++◌, drop}
-use Rattle.reg_world.specs.Witnesses.{last_stamp, lost_from}
+use Rattle.reg_world.specs.Witnesses.{lost_from}
 use Rattle.reg_world.proofs.witnesses.lost_casts.Given as goal
 
 abbrev pub invariant-loop-process : goal.invariant-loop-process

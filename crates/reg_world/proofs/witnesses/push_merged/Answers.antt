@@ -1,4 +1,4 @@
-use Rattle.std.proofs.Common.{◌≡◌, ◌≤◌, ◌-◌, ◌++◌, ◌∙◌, ap, take, drop, length, arith}
+use Rattle.std.proofs.Common.{◌≡◌, ◌-◌, ◌++◌, ◌∙◌, ap, take, drop, length, arith}
 use Rattle.std.proofs.lemmas.List.{take_all, take_rest}
 use Rattle.reg_world.specs.Witnesses.{is_kept}
 use Rattle.reg_world.proofs.Reading.{merged_more, merged_all, ids_read}

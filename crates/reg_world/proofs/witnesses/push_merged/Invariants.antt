@@ -1,9 +1,5 @@
-use Rattle.std.proofs.Common.{◌≡◌, ◌≤◌, ◌++◌, map, drop, take, length, ℕ, List}
-use Rattle.reg_base.specs.declared.memory.OpId.{OpId}
-use Rattle.reg_world.specs.declared.witnesses.Ranked.{Ranked}
-use Rattle.reg_world.specs.Tallies.{Tally}
-use Rattle.reg_world.specs.declared.order.First.{First}
-use Rattle.std.proofs.Common.{◌≡◌, ◌≤◌}
+use Rattle.std.proofs.Common.{◌≡◌, ◌++◌, take}
+use Rattle.std.proofs.Common.{◌≡◌}
 use Rattle.reg_world.specs.Witnesses.{is_kept}
 use Rattle.reg_world.proofs.Reading.{IsMergedSoFar, ids_read}
 use Rattle.reg_world.proofs.witnesses.push_merged.Given as goal

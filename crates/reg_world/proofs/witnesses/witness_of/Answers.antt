@@ -1,4 +1,4 @@
-use Rattle.std.proofs.Common.{◌≡◌, ◌++◌, ◌∙◌, ap, take, length, arith}
+use Rattle.std.proofs.Common.{◌≡◌, ◌++◌, ◌∙◌, ap}
 use Rattle.std.proofs.lemmas.List.{take_all}
 use Rattle.reg_world.specs.Witnesses.{is_kept, ids_of, merge}
 use Rattle.reg_world.proofs.Reading.{all_ids, ids_read}

@@ -1,8 +1,6 @@
-use Rattle.std.proofs.Common.{◌≡◌, ◌∙◌, ◌++◌, ℕ, ◌-◌, length, ap, sym, subst, arith, length-set}
+use Rattle.std.proofs.Common.{◌≡◌, ◌∙◌, ◌++◌, ◌-◌, length, ap, subst, arith, length-set}
 use Rattle.std.specs.Prelude.{vec_len}
-use Rattle.reg_base.specs.declared.stamps.Delivered.{Delivered}
 use Rattle.reg_base.specs.Order.{In}
-use Rattle.reg_process.specs.declared.steps.Step.{Step}
 use Rattle.reg_world.specs.World.{op_id, calls_in}
 use Rattle.reg_world.specs.Pages.{Pages, tally_at, calls_after}
 use Rattle.reg_world.proofs.Entering.{call_good, answer_good}

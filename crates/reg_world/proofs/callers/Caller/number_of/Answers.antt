@@ -1,4 +1,4 @@
-use Rattle.std.proofs.Common.{◌≡◌, ◌∙◌, List, subst, ap}
+use Rattle.std.proofs.Common.{◌∙◌, List, subst, ap}
 use Rattle.reg_history.specs.History.{IsAt}
 use Rattle.reg_world.specs.declared.callers.Note.{Note}
 use Rattle.reg_world.specs.Tallies.{Tally}

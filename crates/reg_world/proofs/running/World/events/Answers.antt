@@ -1,5 +1,4 @@
-use Rattle.std.proofs.Common.{◌≤◌, length, ap, arith}
-use Rattle.reg_base.specs.declared.limits.TheConstants.{MOST_EVENTS}
+use Rattle.std.proofs.Common.{length, ap, arith}
 use Rattle.reg_world.proofs.Answering.{few_accepted}
 use Rattle.reg_world.proofs.running.World.events.Goals as goal
 

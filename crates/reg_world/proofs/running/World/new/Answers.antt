@@ -1,4 +1,3 @@
-use Rattle.std.proofs.Common.{◌≡◌}
 use Rattle.reg_world.proofs.Beginning.{new_is}
 use Rattle.reg_world.proofs.running.World.new.Goals as goal
 

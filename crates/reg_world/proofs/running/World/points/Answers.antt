@@ -1,4 +1,4 @@
-use Rattle.reg_world.specs.Worlds.{Made, run_in}
+use Rattle.reg_world.specs.Worlds.{Made}
 use Rattle.reg_world.proofs.Answering.{if_ok, points_told}
 use Rattle.reg_world.proofs.Premises.{R, is_run}
 use Rattle.reg_world.proofs.Moments.{is_real_time}

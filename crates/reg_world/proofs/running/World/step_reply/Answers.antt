@@ -1,4 +1,4 @@
-use Rattle.std.proofs.Common.{◌≡◌, ◌∙◌, ap, sym}
+use Rattle.std.proofs.Common.{◌∙◌, ap, sym}
 use Rattle.reg_world.specs.Worlds.{found}
 use Rattle.reg_world.proofs.Stepping.{refuses_is, move_found, none_is, accepts_is, stopped_is, stopped_world}
 use Rattle.reg_world.proofs.running.World.step_reply.Goals as goal

@@ -1,4 +1,4 @@
-use Rattle.std.proofs.Common.{◌≡◌, ◌≤◌, List, length, get_or, ap, subst, inl, arith}
+use Rattle.std.proofs.Common.{◌≡◌, List, length, get_or, ap, subst, inl, arith}
 use Rattle.reg_world.specs.Stations.{Standing}
 use Rattle.reg_world.specs.Worlds.{Made}
 use Rattle.reg_world.proofs.Answering.{wire_told}

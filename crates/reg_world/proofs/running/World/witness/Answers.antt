@@ -1,6 +1,4 @@
-use Rattle.std.specs.Prelude.{IfOk}
-use Rattle.reg_world.specs.Worlds.{Made, run_in}
-use Rattle.reg_world.specs.World.{run_of}
+use Rattle.reg_world.specs.Worlds.{Made}
 use Rattle.reg_world.proofs.Answering.{if_ok, witness_told}
 use Rattle.reg_world.proofs.Premises.{R, is_run}
 use Rattle.reg_world.proofs.Serial.{witness_serial}

@@ -1,4 +1,4 @@
-use Rattle.std.proofs.Common.{◌≡◌, ◌∙◌, List, length, subst, ap, arith}
+use Rattle.std.proofs.Common.{◌∙◌, List, length, subst, ap, arith}
 use Rattle.reg_process.specs.declared.outcomes.Put.{Put}
 use Rattle.reg_base.specs.Order.{In}
 use Rattle.reg_process.specs.Process.{step}
