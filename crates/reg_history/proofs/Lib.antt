@@ -15,7 +15,7 @@ pub mod OwnOrder
 pub mod Bridges
 pub mod PointFacts
 pub mod Lacking
-pub mod Padding
 pub mod Whole
 pub mod Writing
 pub mod WithinLimits
+pub mod Columned

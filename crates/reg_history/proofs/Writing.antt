@@ -9,14 +9,11 @@ use Rattle.reg_base.specs.declared.memory.OpId.{OpId}
 use Rattle.reg_text.specs.Lines.{text_of}
 use Rattle.reg_history.specs.declared.entries.Point.{Point}
 use Rattle.reg_history.specs.declared.entries.Entry.{Entry}
-use Rattle.reg_history.specs.Written.{columns, lines_by}
+use Rattle.reg_history.specs.Written.{lines_by}
 use Rattle.reg_history.specs.Reports.{Contents, counted_lines, head_lines, tail_lines, report_text}
 use Rattle.reg_text.specs.Words.{names_text}
-use Rattle.reg_history.specs.EntryLines.{columns_text, entry_text}
+use Rattle.reg_history.specs.EntryLines.{entry_text}
 use Rattle.reg_history.specs.IdLines.{id_text, point_text}
-
-pub in_columns : (at process number : ℕ) (mark rest : List ℕ) → columns at process number ++ mark ++ rest ≡ columns_text at process number (mark ++ rest)
-in_columns at process number mark rest = simp append_assoc refl
 
 pub appends_two : (a b c : Option (List ℕ)) (xs ys : List ℕ) → Appends a b xs → Appends b c ys → Appends a c (xs ++ ys)
 appends_two None b c xs ys h k = tt

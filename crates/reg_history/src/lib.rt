@@ -4,7 +4,6 @@
 mod answers;
 mod blocks;
 mod check;
-mod display;
 mod entries;
 mod entry_lines;
 mod faults;

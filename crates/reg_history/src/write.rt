@@ -1,55 +1,138 @@
 //! Writing a report.
-ghost use Rattle.std.specs.Prelude.{◌≡◌, ◌++◌, ◌∷◌, [], OnOk, codes, option_map};
+ghost use Rattle.std.specs.Prelude.{◌≡◌, ◌≤◌, ◌++◌, ◌∷◌, [], OnOk, codes, option_map, drop, replicate};
 ghost use Rattle.std.specs.Io.KnownBytes.{Appends};
 ghost use Rattle.std.specs.Fmt.{decimal};
-ghost use Rattle.reg_history.specs.EntryLines.{entry_text};
+ghost use Rattle.reg_history.specs.EntryLines.{answer_text, entry_text};
 ghost use Rattle.reg_history.specs.IdLines.{id_text, point_text};
-ghost use Rattle.reg_history.specs.Written.{lines_by, entry_line};
+ghost use Rattle.reg_history.specs.Written.{lines_by};
+ghost use Rattle.reg_text.specs.Columns.{to_left, to_right};
+ghost use Rattle.reg_text.specs.Ops.{op_text};
 ghost use Rattle.reg_text.specs.Words.{names_text};
 ghost use Rattle.reg_text.specs.Lines.{text_of};
 ghost use Rattle.reg_history.specs.Reports.{head_lines, tail_lines};
 
-use crate::display::{EntryLine, IdLine, PointLine};
 use crate::entries::{Entry, Point};
 use crate::report_faults::WriteFault;
-use reg_base::{Names, OpId};
-use reg_text::{name_at, name_of_op};
+use itoa::{Buffer, write_digits};
+use reg_base::{Answer, Names, Op, OpId};
+use reg_text::{OpLine, name_at, name_of_op};
 use std::alloc::Allocator;
 use std::io::Write;
 
-/// Writes a line for each operation.
-pub fn write_ids<W: Write>(writer: &mut W, ids: &[OpId]) -> Result<(), WriteFault>
-    ensures { OnOk result (Appends (W.contents writer.old) (W.contents writer.new) (lines_by id_text ids.now)) }
+/// No number of 64 bits has more digits.
+const DIGITS: usize = 20;
+
+/// Writes bytes.
+fn write_bytes<W: Write>(writer: &mut W, bytes: &[u8]) -> Result<(), WriteFault>
+    ensures { OnOk result (Appends (W.contents writer.old) (W.contents writer.new) bytes.now) }
 {
-    for id in ids {
-        let line = IdLine { id: *id };
-        if writeln!(writer, "{line}").is_err() {
-            return Err(WriteFault::Write);
-        }
+    if writer.write_all(bytes).is_err() {
+        return Err(WriteFault::Write);
     }
     Ok(())
 }
 
-/// Writes a line for each point.
-pub fn write_points<W: Write>(writer: &mut W, points: &[Point]) -> Result<(), WriteFault>
-    ensures { OnOk result (Appends (W.contents writer.old) (W.contents writer.new) (lines_by point_text points.now)) }
+/// Writes a number at the right of so many places, and the mark that stands behind twenty spaces.
+fn write_right<W: Write>(
+    writer: &mut W,
+    number: u64,
+    places: usize,
+    marked: &mut [u8],
+) -> Result<(), WriteFault>
+    requires places { places ≤ DIGITS }
+    requires marked { marked.old ≡ replicate DIGITS 32 ++ drop DIGITS marked.old }
+    ensures { OnOk result (Appends (W.contents writer.old) (W.contents writer.new) (to_right places (decimal number) ++ drop DIGITS marked.old)) }
 {
-    for point in points {
-        let line = PointLine { point: *point };
-        if writeln!(writer, "{line}").is_err() {
-            return Err(WriteFault::Write);
+    let start = write_digits(number, marked, DIGITS);
+    write_bytes(writer, &marked[start.min(DIGITS - places)..])
+}
+
+/// Writes a number at the left of so many places, and the mark that stands behind as many spaces.
+fn write_left<W: Write>(
+    writer: &mut W,
+    number: u64,
+    places: usize,
+    marked: &[u8],
+) -> Result<(), WriteFault>
+    requires { marked.now ≡ replicate places 32 ++ drop places marked.now }
+    ensures { OnOk result (Appends (W.contents writer.old) (W.contents writer.new) (to_left places (decimal number) ++ drop places marked.now)) }
+{
+    let mut buffer = Buffer::new();
+    let digits = buffer.format(number).as_bytes();
+    write_bytes(writer, digits)?;
+    write_bytes(writer, &marked[digits.len().min(places)..])
+}
+
+/// Writes the columns that a line of the history begins with, and the mark that stands behind six spaces.
+fn write_columns<W: Write>(
+    writer: &mut W,
+    at: u32,
+    id: OpId,
+    marked: &[u8],
+) -> Result<(), WriteFault>
+    requires { marked.now ≡ replicate 6 32 ++ drop 6 marked.now }
+    ensures { OnOk result (Appends (W.contents writer.old) (W.contents writer.new) (to_right 8 (decimal at) ++ codes "  p" ++ (to_left 3 (decimal id.process) ++ codes "  #" ++ (to_left 6 (decimal id.number) ++ drop 6 marked.now)))) }
+{
+    let mut event = *b"                      p";
+    write_right(writer, at as u64, 8, &mut event)?;
+    write_left(writer, id.process as u64, 3, b"     #")?;
+    write_left(writer, id.number as u64, 6, marked)
+}
+
+/// Writes a number, and ends the line.
+fn write_last<W: Write>(writer: &mut W, number: u64) -> Result<(), WriteFault>
+    ensures { OnOk result (Appends (W.contents writer.old) (W.contents writer.new) (decimal number ++ 10 ∷ [])) }
+{
+    let mut marked = *b"                    \n";
+    write_right(writer, number, 0, &mut marked)
+}
+
+/// Writes an answer, and ends the line.
+fn write_answer<W: Write>(writer: &mut W, answer: Answer) -> Result<(), WriteFault>
+    ensures { OnOk result (Appends (W.contents writer.old) (W.contents writer.new) (answer_text answer ++ 10 ∷ [])) }
+{
+    match answer {
+        Answer::Done => write_bytes(writer, b"done\n"),
+        Answer::Value(value) => {
+            write_bytes(writer, b"value ")?;
+            write_last(writer, value)
         }
+    }
+}
+
+/// Writes an operation, and ends the line.
+fn write_op<A: Allocator + Copy, W: Write>(
+    writer: &mut W,
+    names: &Names<A>,
+    op: Op,
+) -> Result<(), WriteFault>
+    ensures { OnOk result (Appends (W.contents writer.old) (W.contents writer.new) (op_text names.now op ++ 10 ∷ [])) }
+{
+    let name = name_of_op(names, op);
+    let line = OpLine { name, op };
+    if writeln!(writer, "{line}").is_err() {
+        return Err(WriteFault::Write);
     }
     Ok(())
 }
 
-/// The name of the register that an entry names.
-fn name_of<A: Allocator + Copy>(names: &Names<A>, entry: Entry) -> &str
-    ensures { entry_line result.now entry ≡ entry_text names.now entry }
+/// Writes the line of an entry.
+fn write_entry<A: Allocator + Copy, W: Write>(
+    writer: &mut W,
+    names: &Names<A>,
+    entry: Entry,
+) -> Result<(), WriteFault>
+    ensures { OnOk result (Appends (W.contents writer.old) (W.contents writer.new) (entry_text names.now entry ++ 10 ∷ [])) }
 {
     match entry {
-        Entry::Called { op, .. } => name_of_op(names, op),
-        Entry::Answered { .. } => "",
+        Entry::Called { at, id, op } => {
+            write_columns(writer, at, id, b"        call    ")?;
+            write_op(writer, names, op)
+        }
+        Entry::Answered { at, id, answer } => {
+            write_columns(writer, at, id, b"        answer  ")?;
+            write_answer(writer, answer)
+        }
     }
 }
 
@@ -62,12 +145,41 @@ pub fn write_entries<A: Allocator + Copy, W: Write>(
     ensures { OnOk result (Appends (W.contents writer.old) (W.contents writer.new) (lines_by (entry_text names.now) entries.now)) }
 {
     for entry in entries {
-        let entry = *entry;
-        let name = name_of(names, entry);
-        let line = EntryLine { name, entry };
-        if writeln!(writer, "{line}").is_err() {
-            return Err(WriteFault::Write);
-        }
+        write_entry(writer, names, *entry)?;
+    }
+    Ok(())
+}
+
+/// Writes an operation of an order, and the mark that stands behind twenty spaces.
+fn write_id<W: Write>(writer: &mut W, id: OpId, marked: &mut [u8]) -> Result<(), WriteFault>
+    requires { marked.old ≡ replicate DIGITS 32 ++ drop DIGITS marked.old }
+    ensures { OnOk result (Appends (W.contents writer.old) (W.contents writer.new) (id_text id ++ drop DIGITS marked.old)) }
+{
+    write_bytes(writer, b"p")?;
+    let mut process = *b"                     #";
+    write_right(writer, id.process as u64, 0, &mut process)?;
+    write_right(writer, id.number as u64, 0, marked)
+}
+
+/// Writes a line for each operation.
+pub fn write_ids<W: Write>(writer: &mut W, ids: &[OpId]) -> Result<(), WriteFault>
+    ensures { OnOk result (Appends (W.contents writer.old) (W.contents writer.new) (lines_by id_text ids.now)) }
+{
+    for id in ids {
+        let mut marked = *b"                    \n";
+        write_id(writer, *id, &mut marked)?;
+    }
+    Ok(())
+}
+
+/// Writes a line for each point.
+pub fn write_points<W: Write>(writer: &mut W, points: &[Point]) -> Result<(), WriteFault>
+    ensures { OnOk result (Appends (W.contents writer.old) (W.contents writer.new) (lines_by point_text points.now)) }
+{
+    for point in points {
+        let mut marked = *b"                     at ";
+        write_id(writer, point.id, &mut marked)?;
+        write_last(writer, point.at as u64)?;
     }
     Ok(())
 }

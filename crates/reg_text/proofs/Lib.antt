@@ -14,3 +14,4 @@ pub mod Worded
 pub mod Shaped
 pub mod Joining
 pub mod Shorts
+pub mod Found

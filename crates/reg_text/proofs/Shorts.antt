@@ -1,12 +1,12 @@
 -- Numerals of few digits.
-use Rattle.std.proofs.Common.{ℕ, ◌≡◌, ◌+◌, ◌-◌, ◌*◌, ◌<◌, ◌≤◌, ◌^◌, List, length, take, get_or, sym, ap, ◌∙◌, subst, arith, rules}
+use Rattle.std.proofs.Common.{ℕ, ◌≡◌, ◌+◌, ◌-◌, ◌*◌, ◌<◌, ◌≤◌, ◌^◌, List, [], ◌∷◌, length, take, get_or, sym, ap, ◌∙◌, subst, arith, rules}
 use borrow.Author.Count.{below_more}
 use Rattle.std.proofs.lemmas.List.{length-take-le, get_or-take, take_all}
 use Rattle.std.specs.Fmt.{decimal}
 use Rattle.std.specs.Int.{IsInRange}
 use Rattle.std.specs.Char.{digit_value}
 use Rattle.std.specs.Str.Parse.{digits_value}
-use Rattle.std.proofs.lemmas.Fmt.{digits_decimal, digits_value-decimal, decimal-digits_value}
+use Rattle.std.proofs.lemmas.Fmt.{digits_decimal, digits_value-decimal, decimal-digits_value, decimal_digit}
 use Rattle.std.proofs.lemmas.Int.Digits.{digits_value_more}
 use Rattle.std.proofs.lemmas.Str.Parse.{IsNumeralModel, numerals_by_value, tells_by_index, digits_value_short}
 use Rattle.reg_text.specs.Plain.{IsPlain}
@@ -55,3 +55,15 @@ pub digit_there : (bs : List ℕ) (i n : ℕ) → i < length bs → n < 2 ^ 64 �
 digit_there bs i n l small e =
     let P : List ℕ → Type 0 = AreDigits in
     subst P (sym e) (digits_decimal by_place n small) i l
+
+pub digit_read : (b : ℕ) → IsInRange 48 57 b → (b ∷ [] ≡ decimal (b - 48)) × (b - 48 < 2 ^ 64)
+digit_read b h =
+    let low : 48 ≤ b = search (rules, h) in
+    let high : b ≤ 57 = search (rules, h) in
+    let same : b ≡ 48 + (b - 48) = omega (arith, low) in
+    (ap (λ d. d ∷ []) same ∙ sym (decimal_digit (b - 48) (omega (arith, high))), omega (arith, high))
+
+pub one_digit : (b n : ℕ) → n < 2 ^ 64 → b ∷ [] ≡ decimal n → IsInRange 48 57 b × (b - 48 ≡ n)
+one_digit b n small e =
+    let here : IsInRange 48 57 b = digit_there (b ∷ []) 0 n (omega arith) small e in
+    (here, one_number (b ∷ []) (b - 48) n (digit_read b here) small e)

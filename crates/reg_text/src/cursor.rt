@@ -3,7 +3,7 @@ ghost use Rattle.std.specs.Prelude.{◌≡◌, List, ℕ, [], ◌∷◌, MatchOp
 ghost use Rattle.reg_text.specs.Lines.{lines_of, shown, kept, is_kept as is_kept_of};
 
 use crate::faults::{TextFault, Why};
-use crate::fields::cut_at;
+use memchr::memchr;
 use std::marker::Model;
 
 /// The first line of a text, with no line feed, and the rest.
@@ -14,8 +14,8 @@ fn cut_line(text: &[u8]) -> Option<(&[u8], &[u8])>
     if text.is_empty() {
         return None;
     }
-    match cut_at(text, b'\n') {
-        Some((line, after)) => Some((line, after)),
+    match memchr(b'\n', text) {
+        Some(place) => Some((&text[..place], &text[place + 1..])),
         None => Some((text, b"".as_slice())),
     }
 }

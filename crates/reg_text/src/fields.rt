@@ -1,7 +1,7 @@
 //! Exact readers of the parts of a line.
 #![tactic(auto)]
 
-ghost use Rattle.std.specs.Prelude.{◌≡◌, ◌==◌, ◌<◌, ◌≤◌, ◌^◌, ℕ, List, ◌++◌, length, Some, IfSome, IsSomeAnd, IsTrue, ◌↔◌, not, MatchOption, ◌∷◌};
+ghost use Rattle.std.specs.Prelude.{◌≡◌, ◌==◌, ◌<◌, ◌≤◌, ◌^◌, ℕ, List, ◌++◌, length, Some, IfSome, IsSomeAnd, IsTrue, ◌↔◌, not, MatchOption, ◌∷◌, []};
 ghost use Rattle.std.specs.Fmt.{decimal};
 ghost use Rattle.std.specs.List.{prefix_len, list_all, position_from};
 ghost use Rattle.reg_text.specs.Plain.{IsPlain};
@@ -54,11 +54,26 @@ fn parsed_short(bytes: &[u8]) -> Option<u64>
     Some(value)
 }
 
+/// The number that one digit stands for.
+fn digit(byte: u8) -> Option<u64>
+    ensures read { IfSome result (λ n. (byte ∷ [] ≡ decimal n) × (n < 2 ^ 64)) }
+    ensures whole { (n : ℕ) → n < 2 ^ 64 → byte ∷ [] ≡ decimal n → result ≡ Some n }
+{
+    if byte.is_ascii_digit() {
+        Some((byte - b'0') as u64)
+    } else {
+        None
+    }
+}
+
 /// The number that a numeral of no needless zero stands for.
 pub fn numeral(bytes: &[u8]) -> Option<u64>
     ensures read { IfSome result (λ n. (bytes.now ≡ decimal n) × (n < 2 ^ 64)) }
     ensures whole { (n : ℕ) → n < 2 ^ 64 → bytes.now ≡ decimal n → result ≡ Some n }
 {
+    if let [byte] = bytes {
+        return digit(*byte);
+    }
     if !is_plain(bytes) {
         return None;
     }

@@ -31,19 +31,11 @@ use Rattle.reg_world.specs.Witnesses.{stamp_in, last_stamp, is_after}
 use Rattle.reg_world.specs.Pages.{calls_after, note_in, notes_in, tally_after, tally_at, tallies_after, is_number, last_casts, read_in, number_at, first_in, firsts_in, TimesDiffer}
 use Rattle.reg_world.proofs.Changes.{at_set_same, at_set_other, filter_append, filter_same, map_same}
 use Rattle.reg_world.proofs.Rises.{RisesBy, rises_at, rises_filter, rises_map, in_kept, kept_in}
-<<<<<<< HEAD
-use Rattle.reg_base.proofs.Lists.{in_left, in_right, in_cases}
-use Rattle.reg_world.proofs.Members.{in_at, at_in, in_map, map_in, map_append}
-use Rattle.reg_world.proofs.Bodies.{place_in, place_within, place_front}
-use Rattle.reg_base.proofs.Orders.{Decides-below, below_trans, below_irrefl, same_stamp}
-use Rattle.reg_world.proofs.Replicas.{any_found, any_finds}
-=======
 use Rattle.reg_base.proofs.Lists.{in_right}
 use Rattle.reg_world.proofs.Members.{in_at, in_map, map_in}
 use Rattle.reg_world.proofs.Bodies.{place_in, place_within, place_front}
 use Rattle.reg_base.proofs.Orders.{Decides-below, below_trans, below_irrefl, same_stamp}
 use Rattle.reg_world.proofs.Replicas.{any_found}
->>>>>>> 30ba09c2bf19bda27340f94b30295161d6f2d7ab
 use Rattle.reg_world.proofs.NodeEvents.{put_same, put_other}
 use Rattle.reg_world.proofs.Allowed.{calls_made}
 use Rattle.reg_world.proofs.Joined.{cast_found, cast_finds}

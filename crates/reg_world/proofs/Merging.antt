@@ -14,13 +14,8 @@ use Rattle.reg_world.specs.Keys.{key, IsBelow, IsKept, HasKey, Copied, Delivered
 use Rattle.reg_world.specs.Witnesses.{upto, later, keyed_read, keyed_cast, keyed_lost, kept_one, merge, all_keyed}
 use Rattle.reg_world.proofs.Rises.{RisesBy, rises_at, rises_append, rises_map}
 use Rattle.reg_world.proofs.Ranking.{Lower}
-<<<<<<< HEAD
-use Rattle.reg_base.proofs.Lists.{in_left, in_right, in_cases}
-use Rattle.reg_world.proofs.Members.{in_at, at_in, in_map, map_in}
-=======
 use Rattle.reg_base.proofs.Lists.{in_left, in_right, in_cases}
 use Rattle.reg_world.proofs.Members.{in_at, in_map, map_in}
->>>>>>> 30ba09c2bf19bda27340f94b30295161d6f2d7ab
 use Rattle.reg_world.proofs.Bodies.{place_in, place_within}
 
 abbrev pub Under : Keyed → Keyed → Type 0

@@ -36,13 +36,8 @@ use Rattle.reg_world.proofs.Ranking.{Lower, sorted_in, in_sorted, sorted_rises}
 use Rattle.reg_world.proofs.Merging.{by_keys}
 use Rattle.reg_base.proofs.Lists.{in_left, in_right, in_cases}
 use Rattle.reg_world.proofs.Members.{in_at, at_in, in_map, map_in, from_end}
-<<<<<<< HEAD
-use Rattle.reg_world.proofs.Bodies.{place_in, place_within}
-use Rattle.reg_base.proofs.Orders.{Decides-below, below_trans, below_irrefl}
-=======
 use Rattle.reg_world.proofs.Bodies.{place_within}
 use Rattle.reg_base.proofs.Orders.{Decides-below, below_trans, below_irrefl}
->>>>>>> 30ba09c2bf19bda27340f94b30295161d6f2d7ab
 use Rattle.reg_world.proofs.Turns.{done_calls}
 use Rattle.reg_world.proofs.Joined.{Joined, same_op_id}
 use Rattle.reg_world.proofs.Kept.{Known}

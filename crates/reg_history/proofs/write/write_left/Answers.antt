@@ -1,0 +1,17 @@
+use Rattle.std.proofs.Common.{◌≡◌, ◌++◌, drop, take, length, min, ◌-◌, ap, sym, ◌∙◌}
+use Rattle.std.specs.Fmt.{decimal}
+use Rattle.reg_text.specs.Columns.{to_left}
+use Rattle.reg_history.proofs.Columned.{left_built, past, wrote_behind}
+use Rattle.reg_history.proofs.write.write_left.Goals as goal
+
+pub returns : goal.returns
+returns g c =
+    let marked = c.args.marked.now in
+    let places = c.args.places in
+    let ds = c.as_bytes-digits.result.now in
+    let k = c.min.result in
+    let digits : ds ≡ decimal c.args.number = c.as_bytes-digits.ensures.value ∙ c.format.ensures.text in
+    let joined : ds ++ take (length marked - k) (drop k marked) ≡ to_left places (decimal c.args.number) ++ drop places marked =
+    ap (λ l. ds ++ l) (past marked k ∙ ap (λ j. drop j marked) c.min.ensures) ∙ left_built places ds marked c.requires ∙ ap (λ l. to_left places l ++ drop places marked) digits in
+    wrote_behind c.write_bytes-2.result (g.W.Write.contents c.args.writer.now) (g.W.Write.contents c.write_bytes.new.writer) (g.W.Write.contents c.write_bytes-2.new.writer) ds (take (length marked - k) (drop k marked)) (to_left places (decimal c.args.number) ++ drop places marked)
+    c.in_ok-write_bytes.ensures joined c.write_bytes-2.ensures
