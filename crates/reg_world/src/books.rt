@@ -272,6 +272,7 @@ impl<A: Allocator + Copy> Book<A> {
     }
 
     /// Enters an event in which the process made this step. Where memory is refused nothing has changed.
+    #[inline(always)]
     pub(crate) fn enter(
         &mut self,
         event: Event,
