@@ -193,6 +193,7 @@ fn push_first<A: Allocator + Copy>(
 }
 
 /// Adds the casts that come after the last one that was delivered.
+#[inline(always)]
 fn push_firsts<A: Allocator + Copy>(
     order: &mut Vec<First, A>,
     callers: &mut Vec<Caller<A>, A>,

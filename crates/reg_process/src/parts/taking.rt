@@ -130,6 +130,7 @@ impl<A: Allocator + Copy> Core<A> {
     }
 
     /// Takes a data frame.
+    #[inline(always)]
     pub fn take_body(
         &mut self,
         from: u8,
