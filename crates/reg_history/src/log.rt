@@ -73,6 +73,7 @@ impl<A: Allocator + Copy> History<A> {
 
     /// Adds an entry at the end. One out of place is refused, and one in place for want of memory alone, where no room
     /// is left. Nothing has changed then.
+    #[inline]
     pub fn push(&mut self, entry: Entry) -> Result<(), HistoryFault>
         ensures { MatchResult result (λ _. Grows self.old self.new entry) (λ fault. Refuses self.old entry fault × (self.new ≡ self.old)) }
     {

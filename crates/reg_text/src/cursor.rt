@@ -7,6 +7,7 @@ use memchr::memchr;
 use std::marker::Model;
 
 /// The first line of a text, with no line feed, and the rest.
+#[inline(always)]
 fn cut_line(text: &[u8]) -> Option<(&[u8], &[u8])>
     ensures lines { MatchOption result (lines_of text.now ≡ []) (λ p. lines_of text.now ≡ p.0.now ∷ lines_of p.1.now) }
     ensures shorter { IfSome result (λ p. length p.1.now < length text.now) }
@@ -30,6 +31,7 @@ fn is_kept(line: &[u8]) -> bool
 }
 
 /// The first line that is kept, and the rest. The number grows by the lines passed.
+#[inline]
 fn next_kept<'a>(text: &'a [u8], number: &mut u64) -> Option<(&'a [u8], &'a [u8])>
     ensures { MatchOption result (kept (lines_of text.now) ≡ []) (λ p. kept (lines_of text.now) ≡ p.0.now ∷ kept (lines_of p.1.now)) }
 {
@@ -96,6 +98,7 @@ impl<'a> Lines<'a> {
     }
 
     /// The next line, with no line feed.
+    #[inline]
     pub fn next(&mut self) -> Option<&'a [u8]>
         ensures { MatchOption result ((self.old ≡ []) × (self.new ≡ [])) (λ line. self.old ≡ line.now ∷ self.new) }
     {

@@ -67,6 +67,7 @@ fn digit(byte: u8) -> Option<u64>
 }
 
 /// The number that a numeral of no needless zero stands for.
+#[inline]
 pub fn numeral(bytes: &[u8]) -> Option<u64>
     ensures read { IfSome result (λ n. (bytes.now ≡ decimal n) × (n < 2 ^ 64)) }
     ensures whole { (n : ℕ) → n < 2 ^ 64 → bytes.now ≡ decimal n → result ≡ Some n }

@@ -193,6 +193,7 @@ fn push_first<A: Allocator + Copy>(
 }
 
 /// Adds the casts that come after the last one that was delivered.
+#[inline(always)]
 fn push_firsts<A: Allocator + Copy>(
     order: &mut Vec<First, A>,
     callers: &mut Vec<Caller<A>, A>,
@@ -279,6 +280,7 @@ impl<A: Allocator + Copy> Book<A> {
     }
 
     /// Enters an event in which the process made this step. Where memory is refused nothing has changed.
+    #[inline(always)]
     pub(crate) fn enter(
         &mut self,
         event: Event,

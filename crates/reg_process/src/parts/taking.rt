@@ -87,6 +87,7 @@ impl<A: Allocator + Copy> Core<A> {
     }
 
     /// Takes a frame.
+    #[inline(always)]
     pub fn take_frame(&mut self, from: u8, frame: &Frame) -> Result<Outcome<A>, ProcessFault>
         requires peer { from < length self.old.peers }
         requires other { from ≡ self.old.me → ⊥ }
@@ -129,6 +130,7 @@ impl<A: Allocator + Copy> Core<A> {
     }
 
     /// Takes a data frame.
+    #[inline(always)]
     pub fn take_body(
         &mut self,
         from: u8,
