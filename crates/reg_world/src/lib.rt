@@ -1,6 +1,7 @@
 //! All processes and wires, over a list of events.
 #![tactic(auto)]
 
+mod accepted;
 mod books;
 mod callers;
 mod events;
