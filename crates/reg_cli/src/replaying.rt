@@ -27,7 +27,7 @@ use std::io::Write;
 fn read<A: Allocator + Copy>(alloc: A, text: &str) -> Result<Schedule<A>, Fault>
     ensures read { IfOk result (λ s. Spells text.now s × IsPlan s) }
     ensures why { IfErr result (λ f. Blames Command.Replay f text.now) }
-    ensures kind { IfErr result (λ f. f ≢ Fault.Output) }
+    ensures kind { IfErr result (λ f. (f ≢ Fault.Output) × (f ≢ Fault.Unread)) }
 {
     match parse_schedule(alloc, text) {
         Ok(schedule) => Ok(schedule),
@@ -163,7 +163,7 @@ fn run_schedule<A: Allocator + Copy>(alloc: A, schedule: Schedule<A>) -> Result<
 fn replayed<A: Allocator + Copy>(alloc: A, text: &str) -> Result<Report<A>, Fault>
     ensures ok { IfOk result (λ r. (p : Plan) × IsPlan p × Spells text.now p × IsReportOf p r) }
     ensures why { IfErr result (λ f. Blames Command.Replay f text.now) }
-    ensures kind { IfErr result (λ f. f ≢ Fault.Output) }
+    ensures kind { IfErr result (λ f. (f ≢ Fault.Output) × (f ≢ Fault.Unread)) }
 {
     let schedule = read(alloc, text)?;
     run_schedule(alloc, schedule)
@@ -178,6 +178,7 @@ pub fn replay<A: Allocator + Copy, W: Write>(
     ensures ok { IfOk result (λ _. Replays (W.contents writer.old) (W.contents writer.new) text.now) }
     ensures why { IfErr result (λ f. Blames Command.Replay f text.now) }
     ensures silent { IfErr result (λ f. f ≢ Fault.Output → writer.new ≡ writer.old) }
+    ensures kind { IfErr result (λ f. f ≢ Fault.Unread) }
 {
     let report = replayed(alloc, text)?;
     if write_report(writer, &report).is_err() || writer.flush().is_err() {
