@@ -6,10 +6,10 @@ use Rattle.reg_cli.proofs.replaying.report_with_points.Goals as goal
 pub returns-clause-shows : goal.returns-clause-shows
 returns-clause-shows g c =
     let P : Made → Type 0 = λ w. (run_in g.F.FrontEnd.start w).accepted ≡ w.accepted in
-    shows g.F.FrontEnd.start c.args.schedule c.in_ok-world.world c.into_history.result c.in-Ok.order.items (Some c.in-Ok-points.points.items) c.report.result c.in_ok-world.ensures.ran
+    shows g.F.FrontEnd.start c.args.schedule c.in_ok-world.world c.into_history.result c.in-Ok.order.items (Some c.in-Ok-points_of.points.items) c.report.result c.in_ok-world.ensures.ran
     (record { accepted = subst P c.world.view_is c.world.invariant.tells.accepted; shape = c.into_history.ensures.shape; entries = c.into_history.ensures.entries; order = c.in-Ok.ensures.keyed })
     c.report.ensures.made
 
 pub returns-clause-points : goal.returns-clause-points
 returns-clause-points g c =
-    shows_points g.F.FrontEnd.start c.args.schedule c.in_ok-world.world c.into_history.result c.in-Ok.order.items c.in-Ok-points.points.items c.report.result c.in_ok-world.ensures.ran c.in-Ok-points.ensures.first c.report.ensures.made
+    shows_points g.F.FrontEnd.start c.args.schedule c.in_ok-world.world c.into_history.result c.in-Ok.order.items c.in-Ok-points_of.points.items c.report.result c.in_ok-world.ensures.ran c.in-Ok-points_of.ensures.first c.report.ensures.made
