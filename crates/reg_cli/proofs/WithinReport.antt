@@ -212,10 +212,8 @@ no_fault r FrontFault front names range refused = refused front
 no_fault r NamesFault front names range refused = refused.1 names
 no_fault r RangeFault front names range refused = refused.2 range
 
--- parts of a plan's run are no report for no reason
-pub never_refused : (p : Plan) (r : Contents) (fault : ReportFault) → IsPlan p → r.front ≡ front_name p.front → r.shape ≡ p.shape → r.names ≡ p.names → IsHistory r.shape.processes r.shape.registers r.entries
+-- parts of a run are no report for no reason
+pub never_refused : (front : Front) (r : Contents) (fault : ReportFault) → r.shape.processes ≤ MOST_PROCESSES → r.front ≡ front_name front → r.shape.registers ≡ length r.names → IsHistory r.shape.processes r.shape.registers r.entries
     → IsSerial r.shape.registers r.entries r.order → PointsStand r.shape.registers r.entries r.points → IsReportFault r fault → ⊥
-never_refused p r fault plan same_front same_shape same_names good serial stand refused =
-    let few : r.shape.processes ≤ MOST_PROCESSES = rw same_shape plan.processes in
-    let names : r.shape.registers ≡ length r.names = rw (same_shape, same_names) plan.registers in
-    no_fault r fault (rw same_front (front_fits p.front)) names (in_range r.shape.processes r.shape.registers r.entries good few r.order r.points serial stand) refused
+never_refused front r fault few same_front names good serial stand refused =
+    no_fault r fault (rw same_front (front_fits front)) names (in_range r.shape.processes r.shape.registers r.entries good few r.order r.points serial stand) refused

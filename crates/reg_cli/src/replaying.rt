@@ -1,6 +1,6 @@
 //! The command that runs a schedule and prints the report of the run.
-ghost use Rattle.std.specs.Prelude.{◌≡◌, ◌≢◌, ◌≤◌, ℕ, Some, None, IfOk, IfErr, option_map};
-ghost use Rattle.reg_base.specs.declared.limits.TheConstants.{LAST_EVENT};
+ghost use Rattle.std.specs.Prelude.{◌≡◌, ◌≢◌, ◌≤◌, ℕ, Some, None, IfOk, IfErr, length, option_map};
+ghost use Rattle.reg_base.specs.declared.limits.TheConstants.{LAST_EVENT, MOST_PROCESSES};
 ghost use Rattle.reg_front.specs.Table.{front_name};
 ghost use Rattle.reg_history.specs.History.{IsAt};
 ghost use Rattle.reg_history.specs.Log.{IsLog};
@@ -39,16 +39,35 @@ fn read<A: Allocator + Copy>(alloc: A, text: &str) -> Result<Schedule<A>, Fault>
     }
 }
 
+/// The run of a schedule, with the names and the front end of its report.
+struct Ran<F: FrontEnd, A: Allocator + Copy> {
+    world: World<F, A>,
+    names: Names<A>,
+    front: Front,
+}
+
 /// Runs the events of a schedule.
 fn run<F: FrontEnd, A: Allocator + Copy>(
     alloc: A,
-    schedule: &Schedule<A>,
-) -> Result<World<F, A>, Fault>
-    ensures ran { IfOk result (λ w. w ≡ after_events schedule.now.shape schedule.now.events) }
-    ensures why { IfErr result (λ f. BlamesRun F.start schedule.now f) }
+    schedule: Schedule<A>,
+) -> Result<Ran<F, A>, Fault>
+    ensures ran { IfOk result (λ r. r.world ≡ after_events schedule.shape schedule.events) }
+    ensures names { IfOk result (λ r. r.names ≡ schedule.names) }
+    ensures front { IfOk result (λ r. r.front ≡ schedule.front) }
+    ensures why { IfErr result (λ f. BlamesRun F.start schedule f) }
 {
-    match World::run(alloc, schedule.shape, &schedule.events) {
-        Ok(world) => Ok(world),
+    let Schedule {
+        shape,
+        names,
+        front,
+        events,
+    } = schedule;
+    match World::run_owned(alloc, shape, events) {
+        Ok(world) => Ok(Ran {
+            world,
+            names,
+            front,
+        }),
         Err(RunFault { at, fault }) => match fault {
             WorldFault::OutOfMemory => Err(Fault::OutOfMemory),
             _ => Err(Fault::Event { at, fault }),
@@ -63,28 +82,29 @@ fn in_place<A: Allocator + Copy>(history: &History<A>)
     history.entries();
 }
 
-/// The report of these parts, under the front end and the names of a schedule. Serial orders and point orders are
+/// The report of these parts, under this front end and these names. Serial orders and point orders are
 /// within the limits of a report, so it is refused for want of memory alone.
 fn report<A: Allocator + Copy>(
     alloc: A,
-    schedule: Schedule<A>,
+    front: Front,
+    names: Names<A>,
     history: History<A>,
     order: Vec<OpId, A>,
     points: Option<Vec<Point, A>>,
 ) -> Result<Report<A>, Fault>
-    requires plan { IsPlan schedule }
-    requires shape { history.shape ≡ schedule.shape }
+    requires few { history.shape.processes ≤ MOST_PROCESSES }
+    requires names { history.shape.registers ≡ length names }
     requires order { IsSerial history.shape.registers history.entries order.items }
     requires points { PointsStand history.shape.registers history.entries (option_map (λ v. v.items) points) }
-    ensures made { let parts : Contents = record { front = front_name schedule.front; shape = history.shape; names = schedule.names; entries = history.entries; order = order.items; points = option_map (λ v. v.items) points } in
+    ensures made { let parts : Contents = record { front = front_name front; shape = history.shape; names = names; entries = history.entries; order = order.items; points = option_map (λ v. v.items) points } in
         IfOk result (λ r. r ≡ parts) }
     ensures why { IfErr result (λ f. f ≡ Fault.OutOfMemory) }
 {
-    let Ok(front) = String::from_str(alloc, schedule.front.name()) else {
+    let Ok(front) = String::from_str(alloc, front.name()) else {
         return Err(Fault::OutOfMemory);
     };
     in_place(&history);
-    match Report::new(front, schedule.names, history, order, points) {
+    match Report::new(front, names, history, order, points) {
         Ok(report) => Ok(report),
         Err(_) => unreachable!(),
     }
@@ -100,11 +120,15 @@ fn report_of<F: FrontEnd, A: Allocator + Copy>(
     ensures points { IfOk result (λ r. r.points ≡ None) }
     ensures why { IfErr result (λ f. BlamesRun F.start schedule f) }
 {
-    let world = run::<F, A>(alloc, &schedule)?;
+    let Ran {
+        world,
+        names,
+        front,
+    } = run::<F, A>(alloc, schedule)?;
     let Ok(order) = world.witness() else {
         return Err(Fault::OutOfMemory);
     };
-    report(alloc, schedule, world.into_history(), order, None)
+    report(alloc, front, names, world.into_history(), order, None)
 }
 
 // Each first delivery is at an event that a run may have. It does nothing: its contract says so.
@@ -137,14 +161,25 @@ fn report_with_points<F: RealTime, A: Allocator + Copy>(
     ensures points { IfOk result (λ r. ShowsPoints F.start schedule r.points) }
     ensures why { IfErr result (λ f. BlamesRun F.start schedule f) }
 {
-    let world = run::<F, A>(alloc, &schedule)?;
+    let Ran {
+        world,
+        names,
+        front,
+    } = run::<F, A>(alloc, schedule)?;
     let Ok(order) = world.witness() else {
         return Err(Fault::OutOfMemory);
     };
     let Ok(points) = points_of(&world) else {
         return Err(Fault::OutOfMemory);
     };
-    report(alloc, schedule, world.into_history(), order, Some(points))
+    report(
+        alloc,
+        front,
+        names,
+        world.into_history(),
+        order,
+        Some(points),
+    )
 }
 
 /// The report of a schedule's run, by its front end.
