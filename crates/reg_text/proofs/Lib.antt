@@ -15,3 +15,4 @@ pub mod Shaped
 pub mod Joining
 pub mod Shorts
 pub mod Found
+pub mod Formed
