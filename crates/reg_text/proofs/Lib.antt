@@ -16,3 +16,4 @@ pub mod Joining
 pub mod Shorts
 pub mod Found
 pub mod Formed
+pub mod Counting

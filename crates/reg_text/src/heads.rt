@@ -15,8 +15,8 @@ use std::str;
 
 /// A line that is wanted as it is.
 pub fn expect_line(lines: &mut Lines<'_>, text: &[u8]) -> Result<(), TextFault>
-    ensures read { OnOk result (lines.old ≡ text.now ∷ lines.new) }
-    ensures whole { (rest : List (List ℕ)) → lines.old ≡ text.now ∷ rest → MatchResult result (λ _. lines.new ≡ rest) (λ _. ⊥) }
+    ensures read { OnOk result (lines.old.left ≡ text.now ∷ lines.new.left) }
+    ensures whole { (rest : List (List ℕ)) → lines.old.left ≡ text.now ∷ rest → MatchResult result (λ _. lines.new.left ≡ rest) (λ _. ⊥) }
 {
     match lines.next() {
         Some(line) => {
@@ -32,8 +32,8 @@ pub fn expect_line(lines: &mut Lines<'_>, text: &[u8]) -> Result<(), TextFault>
 
 /// The number of a line that begins with the mark.
 pub fn read_count(lines: &mut Lines<'_>, mark: &[u8], limit: u64) -> Result<u64, TextFault>
-    ensures read { IfOk result (λ n. (lines.old ≡ (mark.now ++ decimal n) ∷ lines.new) × (n ≤ limit)) }
-    ensures whole { (n : ℕ) (rest : List (List ℕ)) → n ≤ limit → lines.old ≡ (mark.now ++ decimal n) ∷ rest → MatchResult result (λ m. (m ≡ n) × (lines.new ≡ rest)) (λ _. ⊥) }
+    ensures read { IfOk result (λ n. (lines.old.left ≡ (mark.now ++ decimal n) ∷ lines.new.left) × (n ≤ limit)) }
+    ensures whole { (n : ℕ) (rest : List (List ℕ)) → n ≤ limit → lines.old.left ≡ (mark.now ++ decimal n) ∷ rest → MatchResult result (λ m. (m ≡ n) × (lines.new.left ≡ rest)) (λ _. ⊥) }
 {
     let Some(line) = lines.next() else {
         return Err(lines.fault(Why::End));

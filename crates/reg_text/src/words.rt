@@ -97,9 +97,9 @@ pub fn read_names<A: Allocator + Copy>(
     alloc: A,
     lines: &mut Lines<'_>,
 ) -> Result<Names<A>, TextFault>
-    ensures read { IfOk result (λ n. (lines.old ≡ (codes "registers" ++ names_text n) ∷ lines.new) × (names_fault n ≡ None)) }
-    ensures whole { (ns : List (List ℕ)) (rest : List (List ℕ)) → names_fault ns ≡ None → lines.old ≡ (codes "registers" ++ names_text ns) ∷ rest
-        → MatchResult result (λ n. (n ≡ ns) × (lines.new ≡ rest)) (λ f. f ≡ TextFault.OutOfMemory) }
+    ensures read { IfOk result (λ n. (lines.old.left ≡ (codes "registers" ++ names_text n) ∷ lines.new.left) × (names_fault n ≡ None)) }
+    ensures whole { (ns : List (List ℕ)) (rest : List (List ℕ)) → names_fault ns ≡ None → lines.old.left ≡ (codes "registers" ++ names_text ns) ∷ rest
+        → MatchResult result (λ n. (n ≡ ns) × (lines.new.left ≡ rest)) (λ f. f ≡ TextFault.OutOfMemory) }
 {
     let Some(line) = lines.next() else {
         return Err(lines.fault(Why::End));
