@@ -1,6 +1,8 @@
 //! The names of a line.
-ghost use Rattle.std.specs.Prelude.{◌≡◌, ◌<◌, ◌≤◌, ℕ, List, ◌∷◌, ◌++◌, Ok, Err, None, Some, IfOk, IfSome, IsSomeAnd, OnOk, MatchResult, codes};
+ghost use Rattle.std.specs.Prelude.{◌≡◌, ◌<◌, ◌≤◌, ℕ, List, [], ◌∷◌, ◌⊎◌, ◌++◌, Ok, Err, None, Some, IfOk, IfErr, IfSome, IsSomeAnd, OnOk, MatchResult, codes};
 ghost use Rattle.reg_base.specs.Names.{names_fault, texts};
+ghost use Rattle.reg_text.specs.declared.faults.Why.{Why};
+ghost use Rattle.reg_text.specs.Lines.{IsAsked};
 ghost use Rattle.reg_text.specs.Parts.{Lacks};
 ghost use Rattle.reg_text.specs.Words.{names_text, Starts};
 
@@ -100,6 +102,9 @@ pub fn read_names<A: Allocator + Copy>(
     ensures read { IfOk result (λ n. (lines.old.left ≡ (codes "registers" ++ names_text n) ∷ lines.new.left) × (names_fault n ≡ None)) }
     ensures whole { (ns : List (List ℕ)) (rest : List (List ℕ)) → names_fault ns ≡ None → lines.old.left ≡ (codes "registers" ++ names_text ns) ∷ rest
         → MatchResult result (λ n. (n ≡ ns) × (lines.new.left ≡ rest)) (λ f. f ≡ TextFault.OutOfMemory) }
+    ensures end { lines.old.left ≡ [] → result ≡ Err (TextFault.Line lines.new.number Why.End) }
+    ensures fault { IfErr result (λ f. (f ≡ TextFault.OutOfMemory) ⊎ ((why : Why) × (f ≡ TextFault.Line lines.new.number why))) }
+    ensures asked { IsAsked lines.old lines.new }
 {
     let Some(line) = lines.next() else {
         return Err(lines.fault(Why::End));
