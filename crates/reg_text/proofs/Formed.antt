@@ -1,5 +1,5 @@
 -- Words, numerals and operations by their form alone.
-use Rattle.std.proofs.Common.{ℕ, zero, suc, ◌≡◌, ◌-◌, ◌<◌, ◌^◌, ◌==◌, not, true, false, List, [], ◌∷◌, ◌++◌, length, replicate, get_or, refl, ap, ◌∙◌, arith, rules, inl, inr, append-nil, length-append, codes}
+use Rattle.std.proofs.Common.{ℕ, zero, suc, ◌≡◌, ◌-◌, ◌<◌, ◌^◌, ◌==◌, not, true, false, cond, List, [], ◌∷◌, ◌++◌, length, replicate, get_or, refl, ap, ◌∙◌, arith, rules, inl, inr, append-nil, length-append, codes}
 use Rattle.std.specs.Char.{is_ascii, is_ascii_digit}
 use Rattle.std.specs.List.{list_all}
 use Rattle.std.specs.Fmt.{decimal}
@@ -13,6 +13,7 @@ use Rattle.reg_text.proofs.Decimals.{own, first_is}
 use Rattle.reg_text.proofs.Digits.{blank_is, all_blank}
 use Rattle.reg_text.proofs.NamesLack.{both_true}
 use Rattle.reg_text.proofs.Spaces.{is_space}
+use Rattle.reg_text.proofs.Split.{empty_is}
 
 bytes_lack : (bs : List ℕ) → list_all is_word_byte bs ≡ true → Lacks 32 bs
 bytes_lack [] h = refl
@@ -24,6 +25,26 @@ bytes_lack (b ∷ bs) h =
 -- a word has no spaces
 pub word_lacks : (w : List ℕ) → is_word w ≡ true → Lacks 32 w
 word_lacks w h = bytes_lack w (both_true (not (length w == 0)) (list_all is_word_byte w) h).1
+
+digits_lack : (m : ℕ) (bs : List ℕ) → m < 48 → list_all is_ascii_digit bs ≡ true → Lacks m bs
+digits_lack m [] low h = refl
+digits_lack m (b ∷ bs) low h =
+    let both = both_true (is_ascii_digit b) (list_all is_ascii_digit bs) h in
+    let other : not (b == m) ≡ true = search (rules, low, both.0) in
+    rw other (digits_lack m bs low both.1)
+
+-- a numeral has no signs below its digits
+pub numeral_lacks : (m : ℕ) (bs : List ℕ) → m < 48 → is_numeral bs ≡ true → Lacks m bs
+numeral_lacks m [] low h = refl
+numeral_lacks m (b ∷ bs) low h =
+    elim (b == 48) as (λ t. (b == 48) ≡ t → cond t (length bs == 0) (list_all is_ascii_digit (b ∷ bs)) ≡ true → Lacks m (b ∷ bs)) [
+      | true ↦ λ e g.
+          let same : b ≡ 48 = search (rules, e) in
+          let none : bs ≡ [] = empty_is bs g in
+          let other : not (b == m) ≡ true = search (rules, same, low) in
+          rw (other, none) refl
+      | false ↦ λ e g. digits_lack m (b ∷ bs) low g
+    ] refl h
 
 all_digits : (ds : List ℕ) → AllDigits 10 ds → list_all is_ascii_digit ds ≡ true
 all_digits [] h = refl

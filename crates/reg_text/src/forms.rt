@@ -1,5 +1,5 @@
 //! What is wrong with a line that no reader took: whether it has its form, whatever the limits and the names.
-ghost use Rattle.std.specs.Prelude.{◌≡◌, ◌↔◌, ◌<◌, ◌≤◌, ◌^◌, ℕ, List, ◌∷◌, ◌++◌, ◌⊎◌, length, codes, IsTrue, IsSome, Some, None, true, slice_get, if◌then◌else◌};
+ghost use Rattle.std.specs.Prelude.{◌≡◌, ◌↔◌, ◌<◌, ◌≤◌, ◌^◌, ℕ, List, ◌∷◌, ◌++◌, ◌⊎◌, length, codes, IsTrue, IsSome, IfSome, Some, None, true, slice_get, if◌then◌else◌};
 ghost use Rattle.std.specs.Fmt.{decimal};
 ghost use Rattle.std.specs.Char.{is_ascii_digit};
 ghost use Rattle.std.specs.List.{list_all};
@@ -87,7 +87,7 @@ pub fn within(bytes: &[u8], limit: u64) -> bool
 
 /// Why the text is no operation: Name where the register is not known, else Range. None where its form is not kept.
 pub fn op_form<A: Allocator + Copy>(text: &[u8], names: &Names<A>) -> Option<Why>
-    ensures form { IsSome result → HasOpForm text.now }
+    ensures form { IfSome result (λ why. HasOpForm text.now × ((why ≡ Why.Range) ⊎ (why ≡ Why.Name))) }
     ensures read { (name : List ℕ) → IsReadForm text.now name → result ≡ Some Why.Name }
     ensures known { (name digits : List ℕ) (i : ℕ) → IsWriteForm text.now name digits → slice_get names.now i ≡ Some name → result ≡ Some Why.Range }
     ensures unknown { (name digits : List ℕ) → IsWriteForm text.now name digits → ((i : ℕ) → ¬ (slice_get names.now i ≡ Some name)) → result ≡ Some Why.Name }
