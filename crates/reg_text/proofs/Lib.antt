@@ -17,3 +17,4 @@ pub mod Shorts
 pub mod Found
 pub mod Formed
 pub mod Counting
+pub mod Seen

@@ -4,7 +4,7 @@ ghost use Rattle.reg_base.specs.Names.{names_fault, texts};
 ghost use Rattle.reg_text.specs.declared.faults.Why.{Why};
 ghost use Rattle.reg_text.specs.Lines.{IsAsked};
 ghost use Rattle.reg_text.specs.Parts.{Lacks};
-ghost use Rattle.reg_text.specs.Words.{names_text, Starts};
+ghost use Rattle.reg_text.specs.Words.{names_text, Starts, AreWords, HasWords};
 
 use crate::cursor::Lines;
 use crate::faults::{TextFault, Why};
@@ -72,12 +72,15 @@ pub fn read_words<A: Allocator + Copy>(
 }
 
 /// Form where the words do not have it, and else the fault that is given.
-fn why_names(text: &[u8], why: Why) -> Why {
+fn why_names(text: &[u8], why: Why) -> Why
+    ensures form { (result ≡ Why.Form) ⊎ ((result ≡ why) × HasWords text.now) }
+    ensures words { (ws : List (List ℕ)) → AreWords ws → text.now ≡ names_text ws → result ≡ why }
+{
     let mut rest = text;
     if rest.is_empty() {
         return Why::Form;
     }
-    for _ in 0..text.len() {
+    for _turn in 0..text.len() {
         if rest.is_empty() {
             return why;
         }
