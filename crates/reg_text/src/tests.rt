@@ -180,34 +180,49 @@ fn the_first_name_over_is_beyond_the_limit(rt: HostRuntime) -> Result<(), Fail> 
     Ok(())
 }
 
+fn op_of(text: &[u8], names: &Names) -> Option<Op> {
+    let _count = names.count();
+    read_op(text, names)
+}
+
 #[test]
 fn operations(rt: HostRuntime) -> Result<(), Fail> {
     let names = two_names(&rt)?;
-    let write = |value: u64| Some(Op::Write { register: 1, value });
-    let cases = [
-        ("read x", Some(Op::Read { register: 0 })),
-        ("write y 5", write(5)),
-        ("write y 18446744073709551615", write(MOST)),
-        ("", None),
-        ("read", None),
-        ("read  x", None),
-        ("read x ", None),
-        ("Read x", None),
-        ("read z", None),
-        ("write z 5", None),
-        ("write x", None),
-        ("write x  5", None),
-        ("write x 5 ", None),
-        ("write x 05", None),
-        ("write x 18446744073709551616", None),
-    ];
-    for (text, op) in cases {
-        assert_eq!(rt; read_op(text.as_bytes(), &names), op, "{text}");
-        if let Some(op) = op {
-            let name = name_of_op(&names, op);
-            let line = OpLine { name, op };
-            assert_eq!(rt; format!(in rt.alloc(); "{line}")?.as_str(), text);
-        }
+    let read = Op::Read { register: 0 };
+    let most = Op::Write {
+        register: 1,
+        value: MOST,
+    };
+    let written = "write y 18446744073709551615";
+    assert_eq!(rt; op_of(b"read x".as_slice(), &names), Some(read));
+    assert_eq!(rt; op_of(written.as_bytes(), &names), Some(most));
+    let name = name_of_op(&names, read);
+    let line = OpLine { name, op: read };
+    assert_eq!(rt; format!(in rt.alloc(); "{line}")?.as_str(), "read x");
+    let name = name_of_op(&names, most);
+    let line = OpLine { name, op: most };
+    assert_eq!(rt; format!(in rt.alloc(); "{line}")?.as_str(), written);
+    Ok(())
+}
+
+#[test]
+fn texts_that_are_no_operation(rt: HostRuntime) -> Result<(), Fail> {
+    let names = two_names(&rt)?;
+    for text in [
+        "",
+        "read",
+        "read  x",
+        "read x ",
+        "Read x",
+        "read z",
+        "write z 5",
+        "write x",
+        "write x  5",
+        "write x 5 ",
+        "write x 05",
+        "write x 18446744073709551616",
+    ] {
+        assert_eq!(rt; op_of(text.as_bytes(), &names), None, "{text}");
     }
     Ok(())
 }
