@@ -23,6 +23,8 @@ mod limit_tests;
 #[cfg(test)]
 mod mixed_tests;
 #[cfg(test)]
+mod owned_tests;
+#[cfg(test)]
 mod refusal_tests;
 #[cfg(test)]
 mod row_tests;
