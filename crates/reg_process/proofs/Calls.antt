@@ -82,7 +82,7 @@ module _ (start : Op → ℕ → Start) (f : Bool) (s : State) (op : Op) (st : S
   call_refused Ahead h = absurd h
   call_refused Stale h = absurd h
   call_refused ClockFull h = (faults ∙ h, refl)
-  call_refused OutOfMemory h = refl
+  call_refused OutOfMemory h = (runs, refl)
 
 get_some : (xs : List ℕ) (i x : ℕ) → Some x ≡ slice_get xs i → x ≡ slice_index xs i
 get_some [] i x h = absurd (cc)
@@ -214,4 +214,4 @@ module _ (start : Op → ℕ → Start) (f : Bool) (s : State) (from : ℕ) (fra
     take_refused Ahead h = (take_faults ∙ h.0, same_kept h.1)
     take_refused Stale h = (take_faults ∙ h.0, same_kept h.1)
     take_refused ClockFull h = (take_faults ∙ h, refl)
-    take_refused OutOfMemory h = refl
+    take_refused OutOfMemory h = (runs, refl)
