@@ -2,3 +2,6 @@ pub mod Gathered
 pub mod Blamed
 pub mod Told
 pub mod Shown
+pub mod FirstRefused
+pub mod WithinReport
+pub mod AtEvents

@@ -11,7 +11,7 @@ use Rattle.reg_cli.specs.declared.faults.Fault.TheVariants.{Unread, TooLong, Not
 use Rattle.reg_cli.specs.declared.verdicts.Verdicts.{Verdicts}
 use Rattle.reg_world.specs.declared.faults.WorldFault.{WorldFault}
 use Rattle.reg_workload.specs.Schedules.{Plan, IsPlan, Spells}
-use Rattle.reg_cli.specs.Replays.{Replays, RefusesAt}
+use Rattle.reg_cli.specs.Replays.{start_of, run_by, Replays, RefusesAt}
 use Rattle.reg_cli.specs.Verdicts.{Judges, all_yes, verdicts_text}
 
 -- The text is that of a report, these are its verdicts, and they were written.
@@ -39,12 +39,17 @@ abbrev pub IsRefusedAt : Command → ℕ → WorldFault → List ℕ → Type 0
 IsRefusedAt Replay at fault text = RefusesAt at fault text
 IsRefusedAt Check at fault text = ⊥
 
--- what a fault says of the input
+-- The text is one that the command accepts: that of a report, or of a plan all of whose events are accepted.
+abbrev pub IsAccepted : Command → List ℕ → Type 0
+IsAccepted Replay text = (p : Plan) × IsPlan p × Spells text p × ((run_by (start_of p.front) p).accepted ≡ p.events)
+IsAccepted Check text = (r : Contents) × IsReport r × IsTextOf text (report_text r)
+
+-- what a fault says of the input; that the output failed is told only of what is accepted
 abbrev pub Blames : Command → Fault → List ℕ → Type 0
 Blames command Unread xs = ⊤
 Blames command TooLong xs = LONGEST_INPUT < length xs
 Blames command NotText xs = ¬ (IsUtf8 xs)
-Blames command Output xs = ⊤
+Blames command Output xs = IsAccepted command xs
 Blames command (Line line why) xs = IsRefused command xs
 Blames command (Event at fault) xs = IsRefusedAt command at fault xs
 Blames command OutOfMemory xs = ⊤

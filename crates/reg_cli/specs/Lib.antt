@@ -2,3 +2,4 @@ pub mod Input
 pub mod Verdicts
 pub mod Replays
 pub mod Answers
+pub mod Words

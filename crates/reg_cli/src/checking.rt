@@ -13,7 +13,7 @@ use std::io::Write;
 fn read<A: Allocator + Copy>(alloc: A, text: &str) -> Result<Report<A>, Fault>
     ensures read { IfOk result (λ r. IsTextOf text.now (report_text r) × IsReport r) }
     ensures why { IfErr result (λ f. Blames Command.Check f text.now) }
-    ensures kind { IfErr result (λ f. f ≢ Fault.Output) }
+    ensures kind { IfErr result (λ f. (f ≢ Fault.Output) × (f ≢ Fault.Unread)) }
 {
     match read_report(alloc, text) {
         Ok(report) => Ok(report),
@@ -31,6 +31,7 @@ pub fn check<A: Allocator + Copy, W: Write>(
     ensures ok { IfOk result (λ agrees. Checks agrees (W.contents writer.old) (W.contents writer.new) text.now) }
     ensures why { IfErr result (λ f. Blames Command.Check f text.now) }
     ensures silent { IfErr result (λ f. f ≢ Fault.Output → writer.new ≡ writer.old) }
+    ensures kind { IfErr result (λ f. f ≢ Fault.Unread) }
 {
     let report = read(alloc, text)?;
     let Ok(verdicts) = judge(alloc, &report) else {

@@ -20,6 +20,8 @@ pub use words::{WordsFault, choose};
 #[cfg(test)]
 mod replay_tests;
 #[cfg(test)]
+mod report_tests;
+#[cfg(test)]
 mod tests;
 #[cfg(test)]
 mod words_tests;

@@ -1,10 +1,13 @@
 //! The program: the words of its command line, and then the command over the standard streams.
+ghost use Rattle.std.specs.Prelude.{◌≡◌, ◌≤◌, IfOk, MatchResult};
+
 use crate::running::run_text;
 use crate::words::{WordsFault, choose};
 use std::io::{BufWriter, ErrorKind, Write};
 use std::rt::Env;
 use std::{env, io};
 
+/// The words of the command line.
 fn words<R: AllocGlobal + Env>(rt: &R) -> Result<Vec<String>, WordsFault> {
     match env::args(rt) {
         Ok(args) => match args.collect(rt.alloc()) {
@@ -16,10 +19,13 @@ fn words<R: AllocGlobal + Env>(rt: &R) -> Result<Vec<String>, WordsFault> {
     }
 }
 
+/// Runs the command that the words ask for, and gives its status.
 fn obey_words<R, E>(rt: &R, errors: &mut E) -> Result<u8, WordsFault>
 where
     R: AllocGlobal + Env + Input + Print,
     E: Write,
+    ensures range { IfOk result (λ status. status ≤ 1) }
+    ensures quiet { MatchResult result (λ status. status ≡ 0 → errors.new ≡ errors.old) (λ _. errors.new ≡ errors.old) }
 {
     let words = words(rt)?;
     let command = choose(rt.alloc(), words.as_slice())?;
@@ -36,6 +42,8 @@ pub fn run_program<R, E>(rt: &R, errors: &mut E) -> u8
 where
     R: AllocGlobal + Env + Input + Print,
     E: Write,
+    ensures range { result ≤ 2 }
+    ensures quiet { result ≡ 0 → errors.new ≡ errors.old }
 {
     match obey_words(rt, errors) {
         Ok(status) => status,

@@ -75,7 +75,7 @@ pub fn run_text<A: Allocator + Copy, R: Read, W: Write, E: Write>(
 ) -> u8
     ensures range { result ≤ 1 }
     ensures answered { result ≡ 0 → IfSome (R.remaining reader.old) (Answers command true (W.contents writer.old) (W.contents writer.new)) }
-    ensures refused { result ≡ 1 → IfSome (R.remaining reader.old) (Answers command false (W.contents writer.old) (W.contents writer.new))
+    ensures refused { result ≡ 1 → (IfSome (R.remaining reader.old) (Answers command false (W.contents writer.old) (W.contents writer.new)) × (errors.new ≡ errors.old))
         ⊎ ((f : Fault) × IfSome (R.remaining reader.old) (Blames command f) × (f ≢ Fault.Output → writer.new ≡ writer.old)) }
     ensures quiet { result ≡ 0 → errors.new ≡ errors.old }
 {

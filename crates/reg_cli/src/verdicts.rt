@@ -1,18 +1,39 @@
 //! Judging a report from its text alone.
-ghost use Rattle.std.specs.Prelude.{◌≡◌, ◌++◌, ◌∷◌, [], IfOk, OnOk};
+ghost use Rattle.std.specs.Prelude.{◌≡◌, ◌++◌, ◌∷◌, [], IfOk, IfErr, OnOk, MatchOption};
 ghost use Rattle.std.specs.Io.KnownBytes.{Appends};
 ghost use Rattle.std.specs.Fmt.{decimal};
-ghost use Rattle.reg_cli.specs.Verdicts.{Tells, SerialSays, PointsSay, AllPointsSay, Judges, is_yes as is_yes_of, all_yes as all_yes_of, verdict_line, points_line, verdicts_text};
+ghost use Rattle.reg_cli.specs.Verdicts.{fault_of, Tells, SerialSays, PointsSay, AllPointsSay, Judges, is_yes as is_yes_of, all_yes as all_yes_of, verdict_line, points_line, verdicts_text};
 
 use reg_history::{CheckFault, Point, Report, WriteFault, check_points, check_serial};
 use std::alloc::{AllocError, Allocator};
 use std::io::Write;
 
+/// What is wrong with an order: a fault of its check, want of memory aside.
+#[derive(Clone, Copy, Debug, PartialEq, Eq)]
+pub enum Finding {
+    /// Some id is neither a finished operation nor a called write.
+    Unknown,
+    /// Some id stands twice.
+    Twice,
+    /// Some finished operation isn't there.
+    Missing,
+    /// Some operation stands behind a later one of its process.
+    OwnOrder,
+    /// The operation at this place has another answer than one memory gives.
+    Answer { place: usize },
+    /// The point at this place is before the call or after the answer.
+    Outside { place: usize },
+    /// The point at this place is below the one before it.
+    Falling { place: usize },
+}
+
 /// What a checker says of an order.
 #[derive(Clone, Copy, Debug, PartialEq, Eq)]
 pub enum Verdict {
+    /// It is one.
     Yes,
-    No(CheckFault),
+    /// It is none, for this reason.
+    No(Finding),
 }
 
 /// What the checkers say of a report: of its order, and of its points where it has any.
@@ -42,14 +63,33 @@ pub fn all_yes(verdicts: Verdicts) -> bool
     is_yes(verdicts.serial) && points
 }
 
+/// What a fault says of the order: nothing where it is want of memory.
+fn finding_of(fault: CheckFault) -> Option<Finding>
+    ensures { MatchOption result (fault ≡ CheckFault.OutOfMemory) (λ f. fault ≡ fault_of f) }
+{
+    match fault {
+        CheckFault::Unknown => Some(Finding::Unknown),
+        CheckFault::Twice => Some(Finding::Twice),
+        CheckFault::Missing => Some(Finding::Missing),
+        CheckFault::OwnOrder => Some(Finding::OwnOrder),
+        CheckFault::Answer { place } => Some(Finding::Answer { place }),
+        CheckFault::Outside { place } => Some(Finding::Outside { place }),
+        CheckFault::Falling { place } => Some(Finding::Falling { place }),
+        CheckFault::OutOfMemory => None,
+    }
+}
+
 /// The verdict of a check.
 fn verdict_of(answer: Result<(), CheckFault>) -> Result<Verdict, AllocError>
-    ensures { IfOk result (λ v. Tells answer v) }
+    ensures tells { IfOk result (λ v. Tells answer v) }
+    ensures memory { IfErr result (λ _. answer ≡ Err CheckFault.OutOfMemory) }
 {
     match answer {
         Ok(()) => Ok(Verdict::Yes),
-        Err(CheckFault::OutOfMemory) => Err(AllocError),
-        Err(fault) => Ok(Verdict::No(fault)),
+        Err(fault) => match finding_of(fault) {
+            Some(finding) => Ok(Verdict::No(finding)),
+            None => Err(AllocError),
+        },
     }
 }
 
@@ -116,18 +156,17 @@ fn write_place<W: Write>(
     Ok(())
 }
 
-fn write_fault<W: Write>(writer: &mut W, name: &str, fault: CheckFault) -> Result<(), WriteFault>
-    ensures { OnOk result (Appends (W.contents writer.old) (W.contents writer.new) (verdict_line name.now (Verdict.No fault))) }
+fn write_finding<W: Write>(writer: &mut W, name: &str, finding: Finding) -> Result<(), WriteFault>
+    ensures { OnOk result (Appends (W.contents writer.old) (W.contents writer.new) (verdict_line name.now (Verdict.No finding))) }
 {
-    match fault {
-        CheckFault::Unknown => write_words(writer, name, " no: unknown"),
-        CheckFault::Twice => write_words(writer, name, " no: twice"),
-        CheckFault::Missing => write_words(writer, name, " no: missing"),
-        CheckFault::OwnOrder => write_words(writer, name, " no: own order"),
-        CheckFault::Answer { place } => write_place(writer, name, " no: answer at ", place),
-        CheckFault::Outside { place } => write_place(writer, name, " no: outside at ", place),
-        CheckFault::Falling { place } => write_place(writer, name, " no: falling at ", place),
-        CheckFault::OutOfMemory => write_words(writer, name, " no: out of memory"),
+    match finding {
+        Finding::Unknown => write_words(writer, name, " no: unknown"),
+        Finding::Twice => write_words(writer, name, " no: twice"),
+        Finding::Missing => write_words(writer, name, " no: missing"),
+        Finding::OwnOrder => write_words(writer, name, " no: own order"),
+        Finding::Answer { place } => write_place(writer, name, " no: answer at ", place),
+        Finding::Outside { place } => write_place(writer, name, " no: outside at ", place),
+        Finding::Falling { place } => write_place(writer, name, " no: falling at ", place),
     }
 }
 
@@ -136,7 +175,7 @@ fn write_verdict<W: Write>(writer: &mut W, name: &str, verdict: Verdict) -> Resu
 {
     match verdict {
         Verdict::Yes => write_words(writer, name, " yes"),
-        Verdict::No(fault) => write_fault(writer, name, fault),
+        Verdict::No(finding) => write_finding(writer, name, finding),
     }
 }
 

@@ -1,4 +1,9 @@
 //! The words of the command line.
+ghost use Rattle.std.specs.Prelude.{◌≡◌};
+ghost use Rattle.clap.specs.Words.{kind_of};
+ghost use Rattle.reg_cli.specs.declared.words.WordsFault.TheVariants.{OutOfMemory};
+ghost use Rattle.reg_cli.specs.Words.{words_fault};
+
 use crate::command::Command;
 use clap::error::ErrorKind;
 use std::alloc::{AllocError, Global};
@@ -13,12 +18,16 @@ pub enum WordsFault {
 }
 
 impl From<AllocError> for WordsFault {
+    ghost from_gives = { λ _ fault. fault ≡ OutOfMemory };
+
     fn from(_error: AllocError) -> WordsFault {
         WordsFault::OutOfMemory
     }
 }
 
 impl From<clap::Error> for WordsFault {
+    ghost from_gives = { λ error fault. fault ≡ words_fault (kind_of error) };
+
     fn from(error: clap::Error) -> WordsFault {
         match error.kind() {
             ErrorKind::OutOfMemory => WordsFault::OutOfMemory,

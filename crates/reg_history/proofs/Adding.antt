@@ -1,19 +1,17 @@
 -- What one more entry changes.
-use Rattle.std.proofs.Common.{◌≡◌, ℕ, zero, suc, ◌+◌, ◌<◌, ◌≤◌, ◌⊎◌, inl, inr, ◌↔◌, List, [], ◌∷◌, ◌++◌, take, length, Option, Some, None, refl, ap, ap₂, sym, ◌∙◌, subst, arith}
-use Rattle.std.proofs.lemmas.Option.{same_Some, slice_get_within}
+use Rattle.std.proofs.Common.{◌≡◌, ℕ, suc, ◌+◌, ◌<◌, ◌⊎◌, inl, inr, ◌↔◌, List, Option, Some, None, refl, ap, ap₂, sym, ◌∙◌, subst, arith}
 use Rattle.std.proofs.lemmas.Bool.{cases_order}
-use Rattle.std.proofs.lemmas.List.{take-append-le, take_at}
 use Rattle.reg_base.specs.declared.memory.OpId.{OpId}
 use Rattle.reg_base.specs.declared.memory.Op.{Op}
 use Rattle.reg_base.specs.declared.memory.Answer.{Answer}
 use Rattle.reg_history.specs.declared.entries.Entry.{Entry}
 use Rattle.reg_history.specs.declared.entries.Entry.TheVariants.{Called, Answered}
-use Rattle.reg_history.specs.History.{IsAt, IsIn, IsCalled, IsFinished, WasCalled, IsIdle, IsInPlace, IsHistory, MayCall, MayAnswer}
+use Rattle.reg_history.specs.History.{IsIn, IsCalled, IsFinished, WasCalled, IsIdle, IsHistory, MayCall, MayAnswer}
 use Rattle.reg_history.proofs.Histories.{answered_was_called}
 use Rattle.reg_history.specs.declared.place.Progress.{Progress}
 use Rattle.reg_history.specs.declared.place.Running.{Running}
 use Rattle.reg_history.specs.Progress.{op_of, IsState, IsProgressOf}
-use Rattle.reg_history.proofs.OneMore.{IsOneMore, pushed}
+use Rattle.reg_history.proofs.OneMore.{IsOneMore}
 use Rattle.reg_history.proofs.Placing.{runs_last}
 
 was_more : (es ys : List Entry) (e : Entry) (x : OpId) → IsOneMore es e ys → WasCalled es x → WasCalled ys x

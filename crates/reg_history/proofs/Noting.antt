@@ -1,7 +1,6 @@
 -- What an entry adds to the table.
-use Rattle.std.proofs.Common.{◌≡◌, ◌≢◌, ℕ, suc, ◌<◌, ◌≤◌, ◌⊎◌, inl, inr, ◌↔◌, List, length, take, Option, Some, None, false, MatchOption, IsSome, get_or, slice_get, refl, ap, sym, ◌∙◌, subst, arith}
+use Rattle.std.proofs.Common.{◌≡◌, ◌≢◌, ℕ, ◌<◌, ◌≤◌, ◌⊎◌, inl, inr, ◌↔◌, List, length, take, Option, Some, None, false, MatchOption, IsSome, get_or, refl, ap, sym, ◌∙◌, subst, arith}
 use Rattle.std.proofs.lemmas.Option.{same_Some, slice_get-get_or}
-use Rattle.std.proofs.lemmas.Bool.{cases_order}
 use Rattle.std.proofs.lemmas.List.{take-take}
 use Rattle.reg_base.specs.declared.memory.OpId.{OpId}
 use Rattle.reg_base.specs.declared.memory.Op.{Op}
@@ -10,8 +9,8 @@ use Rattle.reg_history.specs.declared.entries.Entry.{Entry}
 use Rattle.reg_history.specs.declared.entries.Entry.TheVariants.{Called, Answered}
 use Rattle.reg_history.specs.History.{IsAt, IsIn, IsCalled, IsAnswered, IsFinished, WasCalled, MayCall, IsInPlace, IsHistory}
 use Rattle.reg_history.proofs.Histories.{answered_was_called}
-use Rattle.reg_history.proofs.OneMore.{IsOneMore, one_more}
-use Rattle.reg_history.proofs.Places.{at_take, in_take}
+use Rattle.reg_history.proofs.OneMore.{IsOneMore}
+use Rattle.reg_history.proofs.Places.{in_take}
 use Rattle.reg_history.proofs.Places.{same_id}
 use Rattle.reg_history.specs.declared.answers.Fact.{Fact}
 use Rattle.reg_history.specs.declared.answers.Given.{Given}

@@ -1,5 +1,5 @@
 -- What a push into a row leaves.
-use Rattle.std.proofs.Common.{◌≡◌, ◌≢◌, ℕ, zero, suc, ◌<◌, ◌⊎◌, inl, inr, ◌↔◌, IsSome, List, [], ◌∷◌, ◌++◌, length, set, Option, Some, Vec, option_and_then, slice_get, refl, ap, ap₂, sym, ◌∙◌, subst, arith, rules}
+use Rattle.std.proofs.Common.{◌≡◌, ◌≢◌, ℕ, zero, suc, ◌<◌, ◌⊎◌, inl, inr, ◌↔◌, IsSome, List, [], ◌∷◌, ◌++◌, length, set, Option, Some, Vec, option_and_then, slice_get, ap, ap₂, sym, ◌∙◌, subst, arith, rules}
 use Rattle.std.proofs.lemmas.Option.{slice_get_within}
 use Rattle.std.proofs.lemmas.Bool.{cases_order, cases_eq}
 use Rattle.reg_base.specs.declared.memory.OpId.{OpId}

@@ -1,5 +1,5 @@
 -- The lines of a history in a report, and what their fields may be.
-use Rattle.std.specs.Prelude.{ℕ, ◌^◌, ◌<◌, ◌≤◌, ⊤, List, ◌++◌, codes}
+use Rattle.std.specs.Prelude.{ℕ, ◌^◌, ◌≡◌, ◌<◌, ◌≤◌, ◌⊎◌, ⊤, true, List, ◌++◌, codes}
 use Rattle.std.specs.Fmt.{decimal}
 use Rattle.reg_base.specs.declared.limits.TheConstants.{MOST_PROCESSES, MOST_OPERATIONS, LAST_EVENT}
 use Rattle.reg_base.specs.Shape.{Extent}
@@ -7,6 +7,7 @@ use Rattle.reg_base.specs.declared.memory.Answer.{Answer}
 use Rattle.reg_base.specs.declared.memory.Answer.TheVariants.{Done, Value}
 use Rattle.reg_text.specs.Columns.{to_right, to_left}
 use Rattle.reg_text.specs.Ops.{op_text, OpFits, HasValue}
+use Rattle.reg_text.specs.Forms.{is_numeral, HasOpForm}
 use Rattle.reg_history.specs.declared.entries.Entry.{Entry}
 use Rattle.reg_history.specs.declared.entries.Entry.TheVariants.{Called, Answered}
 use Rattle.reg_history.specs.History.{IsInPlace}
@@ -48,3 +49,11 @@ EntryFits names (Answered at id answer) = ColumnsFit at id.process id.number × 
 -- the entry is within the limits, and in place after those before it
 abbrev pub Follows : List (List ℕ) → Extent → List Entry → Entry → Type 0
 Follows names shape before e = EntryFits names e × IsInPlace shape.processes shape.registers before e
+
+-- the form of an answer, whatever its value
+abbrev pub HasAnswerForm : List ℕ → Type 0
+HasAnswerForm text = (text ≡ codes "done") ⊎ ((digits : List ℕ) × ((is_numeral digits ≡ true) × (text ≡ codes "value " ++ digits)))
+
+-- the form of what stands behind the columns
+abbrev pub HasTailForm : List ℕ → Type 0
+HasTailForm rest = ((text : List ℕ) × ((rest ≡ codes "call    " ++ text) × HasOpForm text)) ⊎ ((text : List ℕ) × ((rest ≡ codes "answer  " ++ text) × HasAnswerForm text))

@@ -25,9 +25,9 @@ pub fn read_ids<A: Allocator + Copy>(
     lines: &mut Lines<'_>,
     count: u32,
 ) -> Result<Vec<OpId, A>, ReadFault>
-    ensures read { IfOk result (λ v. IsBlock id_text (λ _ x. IdFits x) count lines.old lines.new v.items) }
-    ensures whole { (ys : List OpId) (rest : List (List ℕ)) → IsBlock id_text (λ _ x. IdFits x) count lines.old rest ys
-        → MatchResult result (λ v. (v.items ≡ ys) × (lines.new ≡ rest)) (λ f. f ≡ ReadFault.OutOfMemory) }
+    ensures read { IfOk result (λ v. IsBlock id_text (λ _ x. IdFits x) count lines.old.left lines.new.left v.items) }
+    ensures whole { (ys : List OpId) (rest : List (List ℕ)) → IsBlock id_text (λ _ x. IdFits x) count lines.old.left rest ys
+        → MatchResult result (λ v. (v.items ≡ ys) × (lines.new.left ≡ rest)) (λ f. f ≡ ReadFault.OutOfMemory) }
 {
     let mut ids = Vec::new(alloc);
     for _place in 0..count {
@@ -50,9 +50,9 @@ pub fn read_points<A: Allocator + Copy>(
     lines: &mut Lines<'_>,
     count: u32,
 ) -> Result<Vec<Point, A>, ReadFault>
-    ensures read { IfOk result (λ v. IsBlock point_text (λ _ x. PointFits x) count lines.old lines.new v.items) }
-    ensures whole { (ys : List Point) (rest : List (List ℕ)) → IsBlock point_text (λ _ x. PointFits x) count lines.old rest ys
-        → MatchResult result (λ v. (v.items ≡ ys) × (lines.new ≡ rest)) (λ f. f ≡ ReadFault.OutOfMemory) }
+    ensures read { IfOk result (λ v. IsBlock point_text (λ _ x. PointFits x) count lines.old.left lines.new.left v.items) }
+    ensures whole { (ys : List Point) (rest : List (List ℕ)) → IsBlock point_text (λ _ x. PointFits x) count lines.old.left rest ys
+        → MatchResult result (λ v. (v.items ≡ ys) × (lines.new.left ≡ rest)) (λ f. f ≡ ReadFault.OutOfMemory) }
 {
     let mut points = Vec::new(alloc);
     for _place in 0..count {
@@ -78,10 +78,10 @@ pub fn read_entries<A: Allocator + Copy>(
 ) -> Result<(), ReadFault>
     requires spelt { names_fault names.now ≡ None }
     requires empty { history.old.entries ≡ [] }
-    ensures read { OnOk result (IsBlock (entry_text names.now) (Follows names.now history.old.shape) count lines.old lines.new history.new.entries) }
+    ensures read { OnOk result (IsBlock (entry_text names.now) (Follows names.now history.old.shape) count lines.old.left lines.new.left history.new.entries) }
     ensures shape { OnOk result (history.new.shape ≡ history.old.shape) }
-    ensures whole { (ys : List Entry) (rest : List (List ℕ)) → IsBlock (entry_text names.now) (Follows names.now history.old.shape) count lines.old rest ys
-        → MatchResult result (λ _. (history.new.entries ≡ ys) × (lines.new ≡ rest)) (λ f. f ≡ ReadFault.OutOfMemory) }
+    ensures whole { (ys : List Entry) (rest : List (List ℕ)) → IsBlock (entry_text names.now) (Follows names.now history.old.shape) count lines.old.left rest ys
+        → MatchResult result (λ _. (history.new.entries ≡ ys) × (lines.new.left ≡ rest)) (λ f. f ≡ ReadFault.OutOfMemory) }
 {
     for _place in 0..count {
         let Some(line) = lines.next() else {

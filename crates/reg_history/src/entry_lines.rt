@@ -1,9 +1,10 @@
 //! Readers of the lines of a history.
-ghost use Rattle.std.specs.Prelude.{◌≡◌, ◌↔◌, ℕ, List, None, Some, IfSome, IsSomeAnd, IsTrue};
+ghost use Rattle.std.specs.Prelude.{◌≡◌, ◌↔◌, ◌⊎◌, ◌++◌, ℕ, List, true, codes, None, Some, IfSome, IsSomeAnd, IsTrue};
 ghost use Rattle.reg_base.specs.Names.{names_fault};
 ghost use Rattle.reg_base.specs.declared.memory.Answer.{Answer};
 ghost use Rattle.reg_history.specs.declared.entries.Entry.{Entry};
-ghost use Rattle.reg_history.specs.EntryLines.{answer_text, AnswerFits, columns_text, ColumnsFit, entry_text, EntryFits};
+ghost use Rattle.reg_history.specs.EntryLines.{answer_text, AnswerFits, columns_text, ColumnsFit, entry_text, EntryFits, HasAnswerForm, HasTailForm};
+ghost use Rattle.reg_text.specs.Forms.{is_numeral as is_numeral_of};
 
 use crate::entries::Entry;
 use crate::report_faults::ReadWhy;
@@ -76,7 +77,11 @@ fn behind(bytes: &[u8]) -> &[u8] {
     rest
 }
 
-fn answer_form(text: &[u8]) -> Option<Why> {
+fn answer_form(text: &[u8]) -> Option<Why>
+    ensures read { IfSome result (λ why. HasAnswerForm text.now × (why ≡ Why.Range)) }
+    ensures done { text.now ≡ codes "done" → result ≡ Some Why.Range }
+    ensures value { (digits : List ℕ) → is_numeral_of digits ≡ true → text.now ≡ codes "value " ++ digits → result ≡ Some Why.Range }
+{
     if text == b"done".as_slice() {
         return Some(Why::Range);
     }
@@ -85,14 +90,18 @@ fn answer_form(text: &[u8]) -> Option<Why> {
     Some(Why::Range)
 }
 
-fn tail_form<A: Allocator + Copy>(rest: &[u8], names: &Names<A>) -> Option<Why> {
+fn tail_form<A: Allocator + Copy>(rest: &[u8], names: &Names<A>) -> Option<Why>
+    ensures { IfSome result (λ why. HasTailForm rest.now × ((why ≡ Why.Range) ⊎ (why ≡ Why.Name))) }
+{
     match skip(rest, b"call    ") {
         Some(text) => op_form(text, names),
         None => answer_form(skip(rest, b"answer  ")?),
     }
 }
 
-fn entry_form<A: Allocator + Copy>(line: &[u8], names: &Names<A>) -> Option<Why> {
+fn entry_form<A: Allocator + Copy>(line: &[u8], names: &Names<A>) -> Option<Why>
+    ensures { IfSome result (λ why. (why ≡ Why.Range) ⊎ (why ≡ Why.Name)) }
+{
     let (at, rest) = cut(line, 8)?;
     let rest = skip(rest, b"  p")?;
     let (process, rest) = cut(rest, 3)?;
@@ -115,7 +124,9 @@ fn entry_form<A: Allocator + Copy>(line: &[u8], names: &Names<A>) -> Option<Why>
 }
 
 /// Why a line is no entry.
-pub fn why_entry<A: Allocator + Copy>(line: &[u8], names: &Names<A>) -> ReadWhy {
+pub fn why_entry<A: Allocator + Copy>(line: &[u8], names: &Names<A>) -> ReadWhy
+    ensures { (result ≡ ReadWhy.Form) ⊎ ((result ≡ ReadWhy.Range) ⊎ (result ≡ ReadWhy.Name)) }
+{
     match entry_form(line, names) {
         Some(why) => ReadWhy::from(why),
         None => ReadWhy::Form,

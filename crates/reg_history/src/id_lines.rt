@@ -1,8 +1,8 @@
 //! Readers of the lines of an order and of points.
-ghost use Rattle.std.specs.Prelude.{◌≡◌, None, Some, IfSome};
+ghost use Rattle.std.specs.Prelude.{◌≡◌, ℕ, List, None, Some, IfSome, IsSome};
 ghost use Rattle.reg_base.specs.declared.memory.OpId.{OpId};
 ghost use Rattle.reg_history.specs.declared.entries.Point.{Point};
-ghost use Rattle.reg_history.specs.IdLines.{id_text, IdFits, point_text, PointFits};
+ghost use Rattle.reg_history.specs.IdLines.{id_text, IdFits, point_text, PointFits, IsIdForm, HasIdForm, IsPointForm, HasPointForm};
 
 use crate::entries::Point;
 use crate::report_faults::ReadWhy;
@@ -45,32 +45,47 @@ pub fn read_point(line: &[u8]) -> Option<Point>
     })
 }
 
-fn id_form(line: &[u8]) -> Option<()> {
+fn id_form(line: &[u8]) -> Option<()>
+    ensures read { IsSome result → HasIdForm line.now }
+    ensures whole { (process number : List ℕ) → IsIdForm line.now process number → IsSome result }
+{
     let text = skip(line, b"p")?;
     let (process, after) = cut_at(text, b' ')?;
     let digits = skip(after, b"#")?;
-    form(is_numeral(process) && is_numeral(digits))
+    form(is_numeral(process))?;
+    form(is_numeral(digits))
 }
 
 /// Why a line is no operation of an order.
-pub fn why_id(line: &[u8]) -> ReadWhy {
+pub fn why_id(line: &[u8]) -> ReadWhy
+    ensures range { HasIdForm line.now → result ≡ ReadWhy.Range }
+    ensures form { (¬ HasIdForm line.now) → result ≡ ReadWhy.Form }
+{
     match id_form(line) {
         Some(()) => ReadWhy::Range,
         None => ReadWhy::Form,
     }
 }
 
-fn point_form(line: &[u8]) -> Option<()> {
+fn point_form(line: &[u8]) -> Option<()>
+    ensures read { IsSome result → HasPointForm line.now }
+    ensures whole { (process number at : List ℕ) → IsPointForm line.now process number at → IsSome result }
+{
     let text = skip(line, b"p")?;
     let (process, after) = cut_at(text, b' ')?;
     let digits = skip(after, b"#")?;
     let (number, last) = cut_at(digits, b' ')?;
     let event = skip(last, b"at ")?;
-    form(is_numeral(process) && is_numeral(number) && is_numeral(event))
+    form(is_numeral(process))?;
+    form(is_numeral(number))?;
+    form(is_numeral(event))
 }
 
 /// Why a line is no point.
-pub fn why_point(line: &[u8]) -> ReadWhy {
+pub fn why_point(line: &[u8]) -> ReadWhy
+    ensures range { HasPointForm line.now → result ≡ ReadWhy.Range }
+    ensures form { (¬ HasPointForm line.now) → result ≡ ReadWhy.Form }
+{
     match point_form(line) {
         Some(()) => ReadWhy::Range,
         None => ReadWhy::Form,

@@ -32,9 +32,9 @@ pub fn is_front(word: &[u8]) -> bool
 
 /// The word of the line of the front end.
 fn read_front<A: Allocator + Copy>(alloc: A, lines: &mut Lines<'_>) -> Result<String<A>, ReadFault>
-    ensures read { IfOk result (λ s. (lines.old ≡ (codes "front " ++ string_bytes s) ∷ lines.new) × (is_front_of (string_bytes s) ≡ true)) }
-    ensures whole { (front : List ℕ) (rest : List (List ℕ)) → is_front_of front ≡ true → lines.old ≡ (codes "front " ++ front) ∷ rest
-        → MatchResult result (λ s. (string_bytes s ≡ front) × (lines.new ≡ rest)) (λ f. f ≡ ReadFault.OutOfMemory) }
+    ensures read { IfOk result (λ s. (lines.old.left ≡ (codes "front " ++ string_bytes s) ∷ lines.new.left) × (is_front_of (string_bytes s) ≡ true)) }
+    ensures whole { (front : List ℕ) (rest : List (List ℕ)) → is_front_of front ≡ true → lines.old.left ≡ (codes "front " ++ front) ∷ rest
+        → MatchResult result (λ s. (string_bytes s ≡ front) × (lines.new.left ≡ rest)) (λ f. f ≡ ReadFault.OutOfMemory) }
 {
     let Some(line) = lines.next() else {
         return Err(at_line(lines, ReadWhy::End));
@@ -57,10 +57,10 @@ pub fn read_head<A: Allocator + Copy>(
     alloc: A,
     lines: &mut Lines<'_>,
 ) -> Result<(String<A>, u32, Names<A>), ReadFault>
-    ensures read { IfOk result (λ h. (lines.old ≡ head_lines (string_bytes h.0) h.1 h.2 lines.new) × (is_front_of (string_bytes h.0) ≡ true) × (0 < h.1) × (h.1 ≤ MOST_PROCESSES) × (names_fault h.2 ≡ None)) }
+    ensures read { IfOk result (λ h. (lines.old.left ≡ head_lines (string_bytes h.0) h.1 h.2 lines.new.left) × (is_front_of (string_bytes h.0) ≡ true) × (0 < h.1) × (h.1 ≤ MOST_PROCESSES) × (names_fault h.2 ≡ None)) }
     ensures whole { (front : List ℕ) (processes : ℕ) (names : List (List ℕ)) (rest : List (List ℕ))
-        → is_front_of front ≡ true → 0 < processes → processes ≤ MOST_PROCESSES → names_fault names ≡ None → lines.old ≡ head_lines front processes names rest
-        → MatchResult result (λ h. (string_bytes h.0 ≡ front) × (h.1 ≡ processes) × (h.2 ≡ names) × (lines.new ≡ rest)) (λ f. f ≡ ReadFault.OutOfMemory) }
+        → is_front_of front ≡ true → 0 < processes → processes ≤ MOST_PROCESSES → names_fault names ≡ None → lines.old.left ≡ head_lines front processes names rest
+        → MatchResult result (λ h. (string_bytes h.0 ≡ front) × (h.1 ≡ processes) × (h.2 ≡ names) × (lines.new.left ≡ rest)) (λ f. f ≡ ReadFault.OutOfMemory) }
 {
     expect_line(lines, b"awreg report 1")?;
     let front = read_front(alloc, lines)?;
@@ -81,9 +81,9 @@ pub fn read_history<A: Allocator + Copy>(
 ) -> Result<History<A>, ReadFault>
     requires { names_fault names.now ≡ None }
     ensures shape { IfOk result (λ h. h.shape ≡ shape) }
-    ensures read { IfOk result (λ h. IsCounted (codes "history ") (entry_text names.now) (Follows names.now shape) MOST_ENTRIES lines.old lines.new h.entries) }
-    ensures whole { (ys : List Entry) (rest : List (List ℕ)) → IsCounted (codes "history ") (entry_text names.now) (Follows names.now shape) MOST_ENTRIES lines.old rest ys
-        → MatchResult result (λ h. (h.entries ≡ ys) × (lines.new ≡ rest)) (λ f. f ≡ ReadFault.OutOfMemory) }
+    ensures read { IfOk result (λ h. IsCounted (codes "history ") (entry_text names.now) (Follows names.now shape) MOST_ENTRIES lines.old.left lines.new.left h.entries) }
+    ensures whole { (ys : List Entry) (rest : List (List ℕ)) → IsCounted (codes "history ") (entry_text names.now) (Follows names.now shape) MOST_ENTRIES lines.old.left rest ys
+        → MatchResult result (λ h. (h.entries ≡ ys) × (lines.new.left ≡ rest)) (λ f. f ≡ ReadFault.OutOfMemory) }
 {
     let count = read_count(lines, b"history ", MOST_ENTRIES as u64)?;
     let Ok(mut history) = History::new(alloc, shape) else {
@@ -98,9 +98,9 @@ pub fn read_order<A: Allocator + Copy>(
     alloc: A,
     lines: &mut Lines<'_>,
 ) -> Result<Vec<OpId, A>, ReadFault>
-    ensures read { IfOk result (λ v. IsCounted (codes "order ") id_text (λ _ x. IdFits x) MOST_IDS lines.old lines.new v.items) }
-    ensures whole { (ys : List OpId) (rest : List (List ℕ)) → IsCounted (codes "order ") id_text (λ _ x. IdFits x) MOST_IDS lines.old rest ys
-        → MatchResult result (λ v. (v.items ≡ ys) × (lines.new ≡ rest)) (λ f. f ≡ ReadFault.OutOfMemory) }
+    ensures read { IfOk result (λ v. IsCounted (codes "order ") id_text (λ _ x. IdFits x) MOST_IDS lines.old.left lines.new.left v.items) }
+    ensures whole { (ys : List OpId) (rest : List (List ℕ)) → IsCounted (codes "order ") id_text (λ _ x. IdFits x) MOST_IDS lines.old.left rest ys
+        → MatchResult result (λ v. (v.items ≡ ys) × (lines.new.left ≡ rest)) (λ f. f ≡ ReadFault.OutOfMemory) }
 {
     let count = read_count(lines, b"order ", MOST_IDS as u64)?;
     read_ids(alloc, lines, count as u32)
@@ -111,8 +111,8 @@ pub fn read_tail<A: Allocator + Copy>(
     alloc: A,
     lines: &mut Lines<'_>,
 ) -> Result<Option<Vec<Point, A>>, ReadFault>
-    ensures read { IfOk result (λ o. let points = option_map (λ v. v.items) o in (lines.old ≡ tail_lines points) × PointsFit points) }
-    ensures whole { (points : Option (List Point)) → PointsFit points → lines.old ≡ tail_lines points
+    ensures read { IfOk result (λ o. let points = option_map (λ v. v.items) o in (lines.old.left ≡ tail_lines points) × PointsFit points) }
+    ensures whole { (points : Option (List Point)) → PointsFit points → lines.old.left ≡ tail_lines points
         → MatchResult result (λ o. option_map (λ v. v.items) o ≡ points) (λ f. f ≡ ReadFault.OutOfMemory) }
 {
     let Some(line) = lines.next() else {

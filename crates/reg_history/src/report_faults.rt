@@ -79,7 +79,9 @@ impl From<TextFault> for ReadFault {
 }
 
 /// A fault of the line that was asked for last.
-pub fn at_line(lines: &Lines<'_>, why: ReadWhy) -> ReadFault {
+pub fn at_line(lines: &Lines<'_>, why: ReadWhy) -> ReadFault
+    ensures { result ≡ ReadFault.Line lines.now.number why }
+{
     ReadFault::Line {
         line: lines.number(),
         why,

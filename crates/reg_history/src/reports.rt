@@ -200,8 +200,8 @@ impl<A: Allocator + Copy> Report<A> {
 
 /// The report of these lines.
 fn read_lines<A: Allocator + Copy>(alloc: A, lines: &mut Lines<'_>) -> Result<Report<A>, ReadFault>
-    ensures read { IfOk result (λ r. (lines.old ≡ report_lines r) × IsReport r) }
-    ensures whole { (r : Contents) → IsReport r → lines.old ≡ report_lines r → MatchResult result (λ w. w ≡ r) (λ f. f ≡ ReadFault.OutOfMemory) }
+    ensures read { IfOk result (λ r. (lines.old.left ≡ report_lines r) × IsReport r) }
+    ensures whole { (r : Contents) → IsReport r → lines.old.left ≡ report_lines r → MatchResult result (λ w. w ≡ r) (λ f. f ≡ ReadFault.OutOfMemory) }
 {
     let (front, processes, names) = read_head(alloc, lines)?;
     let Ok(shape) = Shape::new(processes, names.count() as u32) else {

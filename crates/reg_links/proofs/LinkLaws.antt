@@ -34,7 +34,7 @@ module _ {X : Type 0} where
   get_pushed [] x = refl
   get_pushed (z ∷ zs) x = get_pushed zs x
 
-  get_drop : (n : ℕ) (xs : List X) (i : ℕ) → slice_get (drop n xs) i ≡ slice_get xs (n + i)
+  pub get_drop : (n : ℕ) (xs : List X) (i : ℕ) → slice_get (drop n xs) i ≡ slice_get xs (n + i)
   get_drop zero xs i = let e : i ≡ 0 + i = omega arith in ap (slice_get xs) e
   get_drop (suc n) [] i = refl
   get_drop (suc n) (x ∷ xs) i = let e : suc (n + i) ≡ suc n + i = omega arith in get_drop n xs i ∙ ap (slice_get (x ∷ xs)) e

@@ -1,5 +1,5 @@
-//! A worked example of both ends.
-use crate::{Ahead, Inbox, LinkFault, Outbox};
+//! A worked example of both ends, and of the links of one process together.
+use crate::{Ahead, Inbox, LinkFault, Outbox, Outboxes};
 use refusing::Refusing;
 use reg_base::limits::FRAME_NUMBERS;
 use reg_frames::{Body, Frame};
@@ -56,4 +56,52 @@ fn refused_memory_changes_nothing(rt: HostRuntime) {
     assert!(rt; out.queue(TWO) == Err(LinkFault::OutOfMemory));
     assert_eq!(rt; out.pending(), 0);
     assert!(rt; out.queue(TWO) == Ok(numbered(0, TWO)));
+}
+
+#[test]
+fn links_keep_what_is_not_acknowledged_by_all(rt: HostRuntime) {
+    let mut out = Outboxes::new(rt.alloc(), 3).expect(&rt, "three processes");
+    assert_eq!(rt; out.processes(), 3);
+    assert!(rt; out.queue(1, TWO) == Ok(0));
+    assert!(rt; out.queue(1, THREE) == Ok(1));
+    assert_eq!(rt; out.next(), 2);
+    assert_eq!(rt; out.pending(0), 2);
+    assert_eq!(rt; out.pending(1), 0);
+    assert!(rt; out.got(0, 3) == Err(Ahead));
+    assert!(rt; out.got(0, 2) == Ok(()));
+    assert!(rt; out.resend(0, 0) == None);
+    assert!(rt; out.resend(2, 0) == Some(numbered(0, TWO)));
+    assert!(rt; out.resend(2, 1) == Some(numbered(1, THREE)));
+    assert!(rt; out.resend(2, 2) == None);
+    assert!(rt; out.resend(2, 18_446_744_073_709_551_615) == None);
+    assert!(rt; out.got(2, 1) == Ok(()));
+    assert!(rt; out.got(2, 0) == Ok(()));
+    assert_eq!(rt; out.pending(2), 1);
+    assert!(rt; out.resend(2, 0) == Some(numbered(1, THREE)));
+    assert!(rt; out.queue(1, TWO) == Ok(2));
+    assert!(rt; out.resend(0, 0) == Some(numbered(2, TWO)));
+    assert!(rt; out.resend(1, 0) == None);
+    assert_eq!(rt; out.pending(2), 2);
+}
+
+#[test]
+fn one_process_has_all_that_it_queues(rt: HostRuntime) {
+    let mut out = Outboxes::new(rt.alloc(), 1).expect(&rt, "one process");
+    assert!(rt; out.queue(0, TWO) == Ok(0));
+    assert_eq!(rt; out.pending(0), 0);
+    assert!(rt; out.queue(0, THREE) == Ok(1));
+    assert!(rt; out.got(0, 3) == Err(Ahead));
+}
+
+#[test]
+fn each_refusal_changes_no_link(rt: HostRuntime) {
+    let none = Refusing::new(rt.alloc(), 0);
+    assert!(rt; Outboxes::new(&none, 3).is_err());
+    let heap = Refusing::new(rt.alloc(), 1);
+    let mut out = Outboxes::new(&heap, 3).expect(&rt, "the counts");
+    assert!(rt; out.queue(1, TWO) == Err(LinkFault::OutOfMemory));
+    assert_eq!(rt; out.next(), 0);
+    assert_eq!(rt; out.pending(0), 0);
+    assert!(rt; out.queue(1, TWO) == Ok(0));
+    assert!(rt; out.resend(0, 0) == Some(numbered(0, TWO)));
 }

@@ -121,6 +121,34 @@ merged_out_at (t ∷ ts) (e ∷ es) [] i a b = absurd (omega arith)
 merged_out_at (t ∷ ts) (e ∷ es) (o ∷ os) zero a b = refl
 merged_out_at (t ∷ ts) (e ∷ es) (o ∷ os) (suc i) a b = merged_out_at ts es os i (omega arith) (omega arith)
 
+-- the links changed, and none has a later number
+pub same_good : (p : Parts) → Good p → (outs : List Unacknowledged) → length outs ≡ length p.outs → ((i : ℕ) → next_of (slice_index_or outs i nothing) ≤ next_of (slice_index_or p.outs i nothing)) → Good (record p { outs = outs })
+same_good p good outs len low = record {
+  same = good.same;
+  me = good.me;
+  processes = good.processes;
+  ins = good.ins;
+  out = len ∙ good.out;
+  unsettled = good.unsettled;
+  few = good.few;
+  calls = good.calls;
+  clock = good.clock;
+  counted = good.counted;
+  held = good.held;
+  runs = good.runs;
+  numbers = λ i. let a = low i in let b = good.numbers i in omega (arith, a, b);
+  counts = good.counts;
+}
+
+pub set_good : (p : Parts) → Good p → (from : ℕ) (o : Unacknowledged) → from < length p.outs → next_of o ≤ next_of (slice_index_or p.outs from nothing) → Good (record p { outs = slice_set p.outs from o })
+set_good p good from o l low = same_good p good (slice_set p.outs from o) (length-set p.outs from o) (λ i. elim (cases_eq i from) [
+  | inl q ↦
+      let a = ap next_of (ap (λ k. slice_index_or (slice_set p.outs from o) k nothing) q ∙ get_or-set_same p.outs from o nothing l) in
+      let b = ap (λ k. next_of (slice_index_or p.outs k nothing)) q in
+      omega (arith, a, b, low)
+  | inr ne ↦ let a = ap next_of (get_or-set_other p.outs from i o nothing ne) in omega (arith, a)
+])
+
 set_same : {X : Type 0} (xs : List X) (i : ℕ) (x d : X) → x ≡ slice_index_or xs i d → i < length xs → slice_set xs i x ≡ xs
 set_same [] i x d e l = absurd (omega arith)
 set_same (y ∷ ys) zero x d e l = ap (λ z. z ∷ ys) e

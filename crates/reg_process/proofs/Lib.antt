@@ -8,3 +8,4 @@ pub mod Acks
 pub mod Calls
 pub mod Again
 pub mod Pending
+pub mod Outs

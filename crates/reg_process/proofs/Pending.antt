@@ -4,7 +4,8 @@ use Rattle.std.specs.Prelude.{nat_eq, slice_index, slice_index_or}
 use Rattle.std.proofs.lemmas.Bool.Decides.{nat_tests}
 use Rattle.reg_base.specs.declared.limits.TheConstants.{FRAME_NUMBERS, LAST_TIME}
 use Rattle.reg_links.specs.declared.outboxes.LinkFault.TheVariants.{NumberFull}
-use Rattle.reg_links.specs.Link.{Unacknowledged, next_of, queue_fault}
+use Rattle.reg_links.specs.Link.{Unacknowledged}
+use Rattle.reg_links.specs.Sending.{Sending, next_all, full_fault}
 use Rattle.reg_process.specs.Process.{pending_of, peer_at, seen_at}
 use Rattle.reg_process.specs.Process as process
 use Rattle.reg_base.specs.Order.{stamp_at}
@@ -15,11 +16,11 @@ use Rattle.reg_process.proofs.Sends.{merged_next}
 use Rattle.reg_process.specs.Parts.{Parts, Good, state_of, merged, nothing}
 use Rattle.reg_process.specs.Puts.{HasNumbers, pending_in}
 
-pub not_full : (out : Unacknowledged) → next_of out < FRAME_NUMBERS → queue_fault out ≡ Some NumberFull → ⊥
-not_full out h e = go (nat_eq (next_of out) FRAME_NUMBERS) refl e
+pub not_full : (s : Sending) → next_all s < FRAME_NUMBERS → full_fault s ≡ Some NumberFull → ⊥
+not_full s h e = go (nat_eq (next_all s) FRAME_NUMBERS) refl e
   where
-    go : (b : Bool) → nat_eq (next_of out) FRAME_NUMBERS ≡ b → cond b (Some NumberFull) None ≡ Some NumberFull → ⊥
-    go true t q = let same : next_of out ≡ FRAME_NUMBERS = grind (arith, nat_tests) in absurd (omega (arith, same, h))
+    go : (b : Bool) → nat_eq (next_all s) FRAME_NUMBERS ≡ b → cond b (Some NumberFull) None ≡ Some NumberFull → ⊥
+    go true t q = let same : next_all s ≡ FRAME_NUMBERS = grind (arith, nat_tests) in absurd (omega (arith, same, h))
     go false t q = absurd (cc)
 
 -- every body queued raised the clock, so while the clock is not full, no link is

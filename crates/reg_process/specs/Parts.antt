@@ -1,5 +1,6 @@
 -- The parts of one process, and its state made of them.
-use Rattle.std.specs.Prelude.{ℕ, ◌≡◌, ◌<◌, ◌≤◌, ◌+◌, Bool, ◌==◌, cond, List, [], ◌∷◌, length, Option, Some, None, slice_index_or, count_by, replicate}
+use Rattle.std.specs.Prelude.{ℕ, ◌≡◌, ◌<◌, ◌≤◌, ◌+◌, Bool, ◌==◌, cond, List, [], ◌∷◌, length, Option, Some, None, slice_index_or, count_by, replicate, map}
+use Rattle.std.specs.List.{range_with_len}
 use Rattle.reg_base.specs.declared.stamps.Delivered.{Delivered}
 use Rattle.reg_process.specs.declared.steps.Reply.{Reply}
 use Rattle.reg_base.specs.declared.limits.TheConstants.{LAST_TIME, MOST_OPERATIONS, MOST_PROCESSES}
@@ -10,6 +11,7 @@ use Rattle.reg_process.specs.Process.{Own, Held}
 use Rattle.reg_process.specs.Process.{State, Peer, still}
 use Rattle.reg_process.specs.Delivery.{is_stamp}
 use Rattle.reg_links.specs.Link.{Unacknowledged, next_of}
+use Rattle.reg_links.specs.Sending.{Sending, link_to}
 use Rattle.reg_holdback.specs.Waiting.{Waiting}
 
 pub record Parts : Type 0 where
@@ -48,6 +50,14 @@ is_from me c = c.stamp.process == me
 
 abbrev pub nothing : Unacknowledged
 nothing = record { first = 0; pending = [] }
+
+-- the link to a process; the own place stays unused
+abbrev pub out_to : ℕ → Sending → ℕ → Unacknowledged
+out_to me s r = cond (r == me) nothing (link_to s r)
+
+-- the links to all processes
+unfoldable pub outs_of : ℕ → Sending → List Unacknowledged
+outs_of me s = map (out_to me s) (range_with_len 0 (length s.counts))
 
 -- the running operation names a register, and a held read waits for own casts
 abbrev pub RunsWell : ℕ → ℕ → Option Running → Type 0

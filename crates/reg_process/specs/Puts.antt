@@ -1,11 +1,12 @@
 -- The frames of one event, as a list.
-use Rattle.std.specs.Prelude.{◌<◌, length, ℕ, zero, suc, ◌+◌, ◌≤◌, ◌==◌, cond, List, [], ◌∷◌, ◌++◌, map, take, Option, Some, None, slice_index_or}
+use Rattle.std.specs.Prelude.{◌≡◌, ◌<◌, length, ℕ, zero, suc, ◌+◌, ◌≤◌, ◌==◌, cond, List, [], ◌∷◌, ◌++◌, map, take, Option, Some, None, slice_index_or}
 use Rattle.reg_frames.specs.declared.bodies.Body.{Body}
 use Rattle.reg_frames.specs.declared.bodies.Frame.{Frame}
 use Rattle.reg_frames.specs.declared.bodies.Frame.TheVariants.{Numbered, Got}
 use Rattle.reg_process.specs.Process.{numbered_from}
 use Rattle.reg_base.specs.declared.limits.TheConstants.{FRAME_NUMBERS, MOST_RESENT}
 use Rattle.reg_links.specs.Link.{Unacknowledged, next_of, with_queued}
+use Rattle.reg_links.specs.Sending.{Sending, link_to}
 use Rattle.reg_process.specs.declared.outcomes.Put.{Put}
 use Rattle.reg_process.specs.Parts.{nothing}
 
@@ -24,6 +25,14 @@ owed (Some got) r = cond (r == got.0) (Got got.1 ∷ []) []
 
 abbrev pub body_frames : ℕ → Body → ℕ → Unacknowledged → List Frame
 body_frames me body r out = cond (r == me) [] (Numbered (next_of out) body ∷ [])
+
+-- the same frame where the number is known
+abbrev pub frame_to : ℕ → ℕ → Body → ℕ → List Frame
+frame_to me number body r = cond (r == me) [] (Numbered number body ∷ [])
+
+-- the number is the next one on the link to every other process
+abbrev pub IsNumbered : ℕ → ℕ → Sending → Type 0
+IsNumbered me number s = (r : ℕ) → r < length s.counts → (r ≡ me → ⊥) → number ≡ next_of (link_to s r)
 
 -- the frames of an event that queues a body on all outboxes
 abbrev pub all_frames : Option (ℕ × ℕ) → ℕ → Body → List Unacknowledged → ℕ → List Frame

@@ -9,7 +9,7 @@ use crate::puts::{new_inboxes, new_outboxes, pending_in, resend_all};
 use crate::running::Current;
 use reg_base::{Clock, Delivered, Registers, Shape};
 use reg_holdback::Holdback;
-use reg_links::{Inbox, Outbox};
+use reg_links::{Inbox, Outboxes};
 use std::alloc::{AllocError, Allocator};
 use std::marker::Model;
 
@@ -25,7 +25,7 @@ pub struct Core<A: Allocator + Copy> {
     clock: Clock,
     waiting: Holdback<A>,
     inboxes: Vec<Inbox, A>,
-    outboxes: Vec<Outbox<A>, A>,
+    outboxes: Outboxes<A>,
     copy: Registers<A>,
     delivered: u64,
     unsettled: u32,
@@ -35,13 +35,13 @@ pub struct Core<A: Allocator + Copy> {
 
 impl<A: Allocator + Copy> Model for Core<A> {
     ghost use Rattle.reg_process.specs.Process.{State};
-    ghost use Rattle.reg_process.specs.Parts.{Parts, state_of, Good};
+    ghost use Rattle.reg_process.specs.Parts.{Parts, state_of, Good, outs_of};
 
     ghost Value = { State };
 
-    ghost view = { λ c. state_of (record { me = c.me; clock = c.clock; waiting = c.waiting; expected = c.inboxes.items; outs = c.outboxes.items; copy = c.copy; delivered = c.delivered; unsettled = c.unsettled; running = c.running; calls = c.calls }) };
+    ghost view = { λ c. state_of (record { me = c.me; clock = c.clock; waiting = c.waiting; expected = c.inboxes.items; outs = outs_of c.me c.outboxes; copy = c.copy; delivered = c.delivered; unsettled = c.unsettled; running = c.running; calls = c.calls }) };
 
-    ghost invariant = { λ c. Good (record { me = c.me; clock = c.clock; waiting = c.waiting; expected = c.inboxes.items; outs = c.outboxes.items; copy = c.copy; delivered = c.delivered; unsettled = c.unsettled; running = c.running; calls = c.calls }) };
+    ghost invariant = { λ c. Good (record { me = c.me; clock = c.clock; waiting = c.waiting; expected = c.inboxes.items; outs = outs_of c.me c.outboxes; copy = c.copy; delivered = c.delivered; unsettled = c.unsettled; running = c.running; calls = c.calls }) };
 }
 
 impl<A: Allocator + Copy> Core<A> {
@@ -54,7 +54,7 @@ impl<A: Allocator + Copy> Core<A> {
         let registers = shape.registers();
         let waiting = Holdback::new(alloc, me, shape)?;
         let inboxes = new_inboxes(alloc, processes)?;
-        let outboxes = new_outboxes(alloc, processes)?;
+        let outboxes = new_outboxes(alloc, me, processes)?;
         let copy = Registers::new(alloc, registers as u16)?;
         let clock = Clock::new();
         Ok(Core {
@@ -112,14 +112,14 @@ impl<A: Allocator + Copy> Core<A> {
     pub fn pending(&self) -> u64
         ensures { result ≡ pending_of self.now.peers }
     {
-        pending_in(self.outboxes.as_slice())
+        pending_in(&self.outboxes, self.me)
     }
 
     /// Puts what is pending again.
     pub fn tick(&self) -> Result<Vec<Put, A>, AllocError>
         ensures { IfOk result (λ v. v.items ≡ puts (resent self.now) (length self.now.peers)) }
     {
-        let frames = resend_all(self.alloc, self.outboxes.as_slice(), self.me)?;
+        let frames = resend_all(self.alloc, &self.outboxes, self.me)?;
         Ok(frames)
     }
 

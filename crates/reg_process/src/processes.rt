@@ -15,8 +15,8 @@ use reg_front::FrontEnd;
 use std::alloc::{Allocator, Global};
 use std::marker::{Model, PhantomData};
 
-/// One process of a run in which all run the front end F: a clock, a copy of the registers, a hold-back queue, and an
-/// outbox and an inbox for each other process. The clock, and the order in which casts are delivered, are those of
+/// One process of a run in which all run the front end F: a clock, a copy of the registers, a hold-back queue, the bodies
+/// that some other process has not acknowledged, and an inbox for each. The clock, and the order of delivery, are those of
 /// Lamport 1978.
 #[derive(Drop)]
 pub struct Process<F: FrontEnd, A: Allocator + Copy = Global> {

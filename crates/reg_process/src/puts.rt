@@ -1,15 +1,15 @@
-//! Bodies queued on all outboxes, and the frames put.
+//! Bodies queued for all other processes, and the frames put.
 ghost use Rattle.std.specs.Prelude.{◌≡◌, ◌<◌, ◌≤◌, ◌+◌, ◌++◌, ◌∷◌, [], length, map, replicate, IfOk, OnOk};
-ghost use Rattle.reg_links.specs.Link.{next_of};
+ghost use Rattle.reg_links.specs.Sending.{link_to};
 ghost use Rattle.reg_frames.specs.declared.bodies.Frame.TheVariants.{Got};
 ghost use Rattle.reg_base.specs.declared.limits.TheConstants.{FRAME_NUMBERS, MOST_PROCESSES};
-ghost use Rattle.reg_process.specs.Parts.{nothing};
-ghost use Rattle.reg_process.specs.Puts.{put_to, puts, owed, body_frames, all_frames, queued_at, queue_outs, IsGrown, HasNumbers, pending_in as pending_in_all, again_at, again_frames};
+ghost use Rattle.reg_process.specs.Parts.{nothing, out_to, outs_of};
+ghost use Rattle.reg_process.specs.Puts.{put_to, puts, owed, frame_to, IsNumbered, all_frames, queue_outs, IsGrown, HasNumbers, pending_in as pending_in_all, again_at, again_frames};
 
 use crate::outcomes::Put;
 use reg_base::limits::MOST_RESENT;
 use reg_frames::{Body, Frame};
-use reg_links::{Inbox, LinkFault, Outbox};
+use reg_links::{Inbox, LinkFault, Outboxes};
 use std::alloc::{AllocError, Allocator};
 
 /// Puts the count that is owed.
@@ -33,89 +33,76 @@ fn put_got<A: Allocator + Copy>(
     Ok(())
 }
 
-/// Queues a body for another process, and puts it.
-fn put_body<A: Allocator + Copy>(
+/// Puts the count that is owed, and the body under its number.
+fn put_one<A: Allocator + Copy>(
     frames: &mut Vec<Put, A>,
-    out: &mut Outbox<A>,
     to: u8,
     me: u8,
+    number: u64,
     body: Body,
+    got: Option<(u8, u64)>,
 ) -> Result<(), AllocError>
-    requires { next_of out.old < FRAME_NUMBERS }
-    ensures frames { OnOk result (frames.new.items ≡ frames.old.items ++ map (put_to to) (body_frames me body to out.old)) }
-    ensures out { OnOk result (out.new ≡ queued_at me body to out.old) }
-    ensures grown { next_of out.new ≤ next_of out.old + 1 }
+    ensures { OnOk result (frames.new.items ≡ frames.old.items ++ map (put_to to) (owed got to ++ frame_to me number body to)) }
 {
+    put_got(frames, to, got)?;
     if to == me {
         return Ok(());
     }
-    match out.queue(body) {
-        Ok(frame) => {
-            frames.push(Put { to, frame })?;
-            Ok(())
-        }
+    frames.push(Put {
+        to,
+        frame: Frame::Numbered { number, body },
+    })?;
+    Ok(())
+}
+
+/// Queues a body for all other processes, where there are any, and gives its number.
+fn queue_for_others<A: Allocator + Copy>(
+    outboxes: &mut Outboxes<A>,
+    me: u8,
+    body: Body,
+) -> Result<u64, AllocError>
+    requires me { me < length outboxes.old.counts }
+    requires numbers { HasNumbers (outs_of me outboxes.old) }
+    ensures number { IfOk result (λ number. IsNumbered me number outboxes.old) }
+    ensures queued { OnOk result (outs_of me outboxes.new ≡ queue_outs 0 me body (outs_of me outboxes.old)) }
+    ensures grown { IsGrown (outs_of me outboxes.old) (outs_of me outboxes.new) }
+    ensures processes { length outboxes.new.counts ≡ length outboxes.old.counts }
+{
+    if outboxes.processes() == 1 {
+        return Ok(0);
+    }
+    match outboxes.queue(me, body) {
+        Ok(number) => Ok(number),
         Err(LinkFault::OutOfMemory) => Err(AllocError),
         // The clock shows more than the number of bodies queued, and so it fills first.
         Err(LinkFault::NumberFull) => unreachable!(),
     }
 }
 
-/// Both for one process.
-fn put_one<A: Allocator + Copy>(
-    frames: &mut Vec<Put, A>,
-    out: &mut Outbox<A>,
-    to: u8,
-    me: u8,
-    body: Body,
-    got: Option<(u8, u64)>,
-) -> Result<(), AllocError>
-    requires { next_of out.old < FRAME_NUMBERS }
-    ensures frames { OnOk result (frames.new.items ≡ frames.old.items ++ map (put_to to) (owed got to ++ body_frames me body to out.old)) }
-    ensures out { OnOk result (out.new ≡ queued_at me body to out.old) }
-    ensures grown { next_of out.new ≤ next_of out.old + 1 }
-{
-    put_got(frames, to, got)?;
-    put_body(frames, out, to, me, body)
-}
-
-/// Queues a body on all outboxes but the own one. Where memory is wanting, some have it.
-fn queue_on_slice<A: Allocator + Copy>(
-    alloc: A,
-    outboxes: &mut [Outbox<A>],
-    me: u8,
-    body: Body,
-    got: Option<(u8, u64)>,
-) -> Result<Vec<Put, A>, AllocError>
-    requires few { length outboxes.old ≤ MOST_PROCESSES }
-    requires numbers { HasNumbers outboxes.old }
-    ensures frames { IfOk result (λ v. v.items ≡ puts (all_frames got me body outboxes.old) (length outboxes.old)) }
-    ensures queued { OnOk result (outboxes.new ≡ queue_outs 0 me body outboxes.old) }
-    ensures grown { IsGrown outboxes.old outboxes.new }
-{
-    let count = outboxes.len().saturating_sub(1) + usize::from(got.is_some());
-    let mut frames = Vec::with_capacity(alloc, count)?;
-    for (r, out) in outboxes.iter_mut().enumerate() {
-        put_one(&mut frames, out, r as u8, me, body, got)?;
-    }
-    Ok(frames)
-}
-
-/// The same on a vector.
+/// Queues a body for all other processes, and puts it. Where memory is wanting, it may be queued.
 pub fn queue_on_all<A: Allocator + Copy>(
     alloc: A,
-    outboxes: &mut Vec<Outbox<A>, A>,
+    outboxes: &mut Outboxes<A>,
     me: u8,
     body: Body,
     got: Option<(u8, u64)>,
 ) -> Result<Vec<Put, A>, AllocError>
-    requires few { length outboxes.old.items ≤ MOST_PROCESSES }
-    requires numbers { HasNumbers outboxes.old.items }
-    ensures frames { IfOk result (λ v. v.items ≡ puts (all_frames got me body outboxes.old.items) (length outboxes.old.items)) }
-    ensures queued { OnOk result (outboxes.new.items ≡ queue_outs 0 me body outboxes.old.items) }
-    ensures grown { IsGrown outboxes.old.items outboxes.new.items }
-    ensures length { length outboxes.new.items ≡ length outboxes.old.items }
+    requires me { me < length (outs_of me outboxes.old) }
+    requires few { length (outs_of me outboxes.old) ≤ MOST_PROCESSES }
+    requires numbers { HasNumbers (outs_of me outboxes.old) }
+    ensures frames { IfOk result (λ v. v.items ≡ puts (all_frames got me body (outs_of me outboxes.old)) (length (outs_of me outboxes.old))) }
+    ensures queued { OnOk result (outs_of me outboxes.new ≡ queue_outs 0 me body (outs_of me outboxes.old)) }
+    ensures grown { IsGrown (outs_of me outboxes.old) (outs_of me outboxes.new) }
+    ensures length { length (outs_of me outboxes.new) ≡ length (outs_of me outboxes.old) }
 {
-    queue_on_slice(alloc, outboxes.as_mut_slice(), me, body, got)
+    let processes = outboxes.processes();
+    let count = processes.saturating_sub(1) + usize::from(got.is_some());
+    let mut frames = Vec::with_capacity(alloc, count)?;
+    let number = queue_for_others(outboxes, me, body)?;
+    for r in 0..processes as u8 {
+        put_one(&mut frames, r, me, number, body, got)?;
+    }
+    Ok(frames)
 }
 
 /// A count alone.
@@ -134,20 +121,21 @@ pub fn got_alone<A: Allocator + Copy>(
     Ok(frames)
 }
 
-/// Puts the first pending frames of an outbox again.
+/// Puts the first pending frames for a process again.
 fn resend_one<A: Allocator + Copy>(
     frames: &mut Vec<Put, A>,
-    out: &Outbox<A>,
+    outboxes: &Outboxes<A>,
     to: u8,
     me: u8,
 ) -> Result<(), AllocError>
-    ensures { OnOk result (frames.new.items ≡ frames.old.items ++ map (put_to to) (again_at me to out.now)) }
+    requires { to < length outboxes.now.counts }
+    ensures { OnOk result (frames.new.items ≡ frames.old.items ++ map (put_to to) (again_at me to (link_to outboxes.now to))) }
 {
     if to == me {
         return Ok(());
     }
     for i in 0..MOST_RESENT {
-        let Some(frame) = out.resend(i) else {
+        let Some(frame) = outboxes.resend(to, i) else {
             return Ok(());
         };
         frames.push(Put { to, frame })?;
@@ -155,30 +143,42 @@ fn resend_one<A: Allocator + Copy>(
     Ok(())
 }
 
-/// The same for all outboxes but the own one.
+/// The same for all other processes.
 pub fn resend_all<A: Allocator + Copy>(
     alloc: A,
-    outboxes: &[Outbox<A>],
+    outboxes: &Outboxes<A>,
     me: u8,
 ) -> Result<Vec<Put, A>, AllocError>
-    requires { length outboxes.now ≤ MOST_PROCESSES }
-    ensures { IfOk result (λ v. v.items ≡ puts (again_frames me outboxes.now) (length outboxes.now)) }
+    requires { length (outs_of me outboxes.now) ≤ MOST_PROCESSES }
+    ensures { IfOk result (λ v. v.items ≡ puts (again_frames me (outs_of me outboxes.now)) (length (outs_of me outboxes.now))) }
 {
     let mut frames = Vec::new(alloc);
-    for (r, out) in outboxes.iter().enumerate() {
-        resend_one(&mut frames, out, r as u8, me)?;
+    for r in 0..outboxes.processes() as u8 {
+        resend_one(&mut frames, outboxes, r, me)?;
     }
     Ok(frames)
 }
 
+/// How many bodies another process has not acknowledged.
+fn pending_to<A: Allocator + Copy>(outboxes: &Outboxes<A>, to: u8, me: u8) -> u64
+    requires { to < length outboxes.now.counts }
+    ensures value { result ≡ length (out_to me outboxes.now to).pending }
+    ensures in_range { result ≤ FRAME_NUMBERS }
+{
+    if to == me {
+        return 0;
+    }
+    outboxes.pending(to)
+}
+
 /// How many bodies are not acknowledged.
-pub fn pending_in<A: Allocator + Copy>(outboxes: &[Outbox<A>]) -> u64
-    requires { length outboxes.now ≤ MOST_PROCESSES }
-    ensures { result ≡ pending_in_all outboxes.now }
+pub fn pending_in<A: Allocator + Copy>(outboxes: &Outboxes<A>, me: u8) -> u64
+    requires { length (outs_of me outboxes.now) ≤ MOST_PROCESSES }
+    ensures { result ≡ pending_in_all (outs_of me outboxes.now) }
 {
     let mut total = 0;
-    for out in outboxes {
-        total += out.pending();
+    for r in 0..outboxes.processes() as u8 {
+        total += pending_to(outboxes, r, me);
     }
     total
 }
@@ -197,13 +197,10 @@ pub fn new_inboxes<A: Allocator + Copy>(alloc: A, count: u32) -> Result<Vec<Inbo
 /// Outboxes with nothing queued.
 pub fn new_outboxes<A: Allocator + Copy>(
     alloc: A,
+    me: u8,
     count: u32,
-) -> Result<Vec<Outbox<A>, A>, AllocError>
-    ensures { IfOk result (λ v. v.items ≡ replicate count nothing) }
+) -> Result<Outboxes<A>, AllocError>
+    ensures { IfOk result (λ s. outs_of me s ≡ replicate count nothing) }
 {
-    let mut all = Vec::with_capacity(alloc, count as usize)?;
-    for _i in 0..count {
-        all.push(Outbox::new(alloc))?;
-    }
-    Ok(all)
+    Outboxes::new(alloc, count)
 }

@@ -276,3 +276,35 @@ fn tick_puts_the_first_sixteen(rt: HostRuntime) {
     assert!(rt; again.frames.first() == Some(&put(1, cast(0, 1, WRITE))));
     assert!(rt; again.frames.last() == Some(&put(1, cast(15, 16, WRITE))));
 }
+
+#[test]
+fn process_alone_puts_nothing(rt: HostRuntime) {
+    let mut process = started::<LocalWrite>(&rt, rt.alloc(), 1, 0);
+    for _number in 0..17 {
+        let out = process.call(WRITE).expect(&rt, "a write");
+        assert_eq!(rt; out.frames.len(), 0);
+        assert_eq!(rt; out.delivered.len(), 1);
+    }
+    assert_eq!(rt; process.pending(), 0);
+    let again = process.tick().expect(&rt, "a tick");
+    assert_eq!(rt; again.frames.len(), 0);
+}
+
+#[test]
+fn tick_puts_what_each_has_not(rt: HostRuntime) {
+    let mut process = started::<LocalWrite>(&rt, rt.alloc(), 3, 1);
+    assert!(rt; process.call(WRITE).is_ok());
+    assert!(rt; process.call(write(6)).is_ok());
+    assert!(rt; process.take(0, &Frame::Got { count: 2 }).is_ok());
+    assert!(rt; process.take(2, &Frame::Got { count: 1 }).is_ok());
+    assert_eq!(rt; process.pending(), 1);
+    let again = process.tick().expect(&rt, "a tick");
+    assert!(rt; again.frames.as_slice() == [put(2, cast(1, 2, write(6)))].as_slice());
+    assert!(rt; process.call(READ).is_ok());
+    assert!(rt;
+        is_refused(
+            process.take(0, &Frame::Got { count: 3 }),
+            ProcessFault::Ahead
+        )
+    );
+}

@@ -15,3 +15,6 @@ pub mod Shaped
 pub mod Joining
 pub mod Shorts
 pub mod Found
+pub mod Formed
+pub mod Counting
+pub mod Seen

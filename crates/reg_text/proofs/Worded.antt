@@ -57,14 +57,14 @@ pub record Worded (all now : List ℕ) (xs : List (List ℕ)) (i : ℕ) : Type 0
 pub worded : (all : List ℕ) → Worded all all [] 0
 worded all = record { text = refl; count = refl; only = λ ns ok e. (refl, e, omega arith) }
 
-record NextName (ns : List (List ℕ)) (now : List ℕ) (i : ℕ) : Type 0 where
-  name : List ℕ
-  within : i < length ns
-  here : get_or ns i [] ≡ name
-  text : now ≡ 32 ∷ (name ++ names_text (drop (suc i) ns))
-  front : take (suc i) ns ≡ take i ns ++ name ∷ []
+pub record NextName (ns : List (List ℕ)) (now : List ℕ) (i : ℕ) : Type 0 where
+  pub name : List ℕ
+  pub within : i < length ns
+  pub here : get_or ns i [] ≡ name
+  pub text : now ≡ 32 ∷ (name ++ names_text (drop (suc i) ns))
+  pub front : take (suc i) ns ≡ take i ns ++ name ∷ []
 
-name_at : (ns : List (List ℕ)) (now : List ℕ) (i : ℕ) → (length now == 0) ≡ false → now ≡ names_text (drop i ns) → NextName ns now i
+pub name_at : (ns : List (List ℕ)) (now : List ℕ) (i : ℕ) → (length now == 0) ≡ false → now ≡ names_text (drop i ns) → NextName ns now i
 name_at [] [] zero some e = absurd (cc)
 name_at [] [] (suc i) some e = absurd (cc)
 name_at [] (b ∷ now) zero some e = absurd (cc)

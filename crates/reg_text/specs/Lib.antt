@@ -4,3 +4,4 @@ pub mod Parts
 pub mod Lines
 pub mod Words
 pub mod Ops
+pub mod Forms

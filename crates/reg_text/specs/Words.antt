@@ -1,6 +1,8 @@
 -- Words of a line.
-use Rattle.std.specs.Prelude.{ℕ, ◌≡◌, ◌==◌, ◌||◌, Bool, List, [], ◌∷◌, ◌⊎◌, flat_map}
+use Rattle.std.specs.Prelude.{ℕ, ◌≡◌, ◌==◌, ◌<◌, ◌||◌, Bool, true, List, [], ◌∷◌, ◌⊎◌, flat_map, length}
 use Rattle.std.specs.Char.{is_ascii_lowercase}
+use Rattle.std.specs.List.{list_all}
+use Rattle.reg_text.specs.Forms.{is_word}
 
 -- each name behind a space
 abbrev pub names_text : List (List ℕ) → List ℕ
@@ -13,3 +15,11 @@ Starts mark text = (text ≡ []) ⊎ ((rest : List ℕ) × (text ≡ mark ∷ re
 -- a letter from a to z, or a hyphen
 abbrev pub is_front_letter : ℕ → Bool
 is_front_letter b = is_ascii_lowercase b || (b == 45)
+
+-- one word or more, however they are spelt
+abbrev pub AreWords : List (List ℕ) → Type 0
+AreWords ws = (0 < length ws) × (list_all is_word ws ≡ true)
+
+-- such words, each behind a space
+abbrev pub HasWords : List ℕ → Type 0
+HasWords text = (ws : List (List ℕ)) × (AreWords ws × (text ≡ names_text ws))

@@ -1,6 +1,6 @@
 //! A text, line by line.
-ghost use Rattle.std.specs.Prelude.{◌≡◌, List, ℕ, [], ◌∷◌, MatchOption, IfSome, true, false, ◌<◌, ◌+◌, length};
-ghost use Rattle.reg_text.specs.Lines.{lines_of, shown, kept, is_kept as is_kept_of};
+ghost use Rattle.std.specs.Prelude.{◌≡◌, [], ◌∷◌, MatchOption, IfNone, IfSome, ◌<◌, ◌+◌, length};
+ghost use Rattle.reg_text.specs.Lines.{lines_of, kept, is_kept as is_kept_of};
 
 use crate::faults::{TextFault, Why};
 use memchr::memchr;
@@ -33,7 +33,8 @@ fn is_kept(line: &[u8]) -> bool
 /// The first line that is kept, and the rest. The number grows by the lines passed.
 #[inline]
 fn next_kept<'a>(text: &'a [u8], number: &mut u64) -> Option<(&'a [u8], &'a [u8])>
-    ensures { MatchOption result (kept (lines_of text.now) ≡ []) (λ p. kept (lines_of text.now) ≡ p.0.now ∷ kept (lines_of p.1.now)) }
+    ensures lines { MatchOption result (kept (lines_of text.now) ≡ []) (λ p. kept (lines_of text.now) ≡ p.0.now ∷ kept (lines_of p.1.now)) }
+    ensures number { number.old + length (lines_of text.now) < u64.MAX → MatchOption result (number.new ≡ number.old + length (lines_of text.now) + 1) (λ p. number.new + length (lines_of p.1.now) ≡ number.old + length (lines_of text.now)) }
 {
     let mut rest = text;
     while let Some((line, after)) = cut_line(rest) {
@@ -56,15 +57,18 @@ pub struct Lines<'a> {
 }
 
 impl<'a> Model for Lines<'a> {
-    ghost Value = { List (List ℕ) };
+    ghost use Rattle.reg_text.specs.Lines.{lines_of, shown, Rest};
 
-    ghost view = { λ l. shown l.skips (lines_of l.rest.now) };
+    ghost Value = { Rest };
+
+    ghost view = { λ l. record { left = shown l.skips (lines_of l.rest.now); all = lines_of l.rest.now; number = l.number } };
 }
 
 impl<'a> Lines<'a> {
     /// All lines of the text.
     pub fn new(text: &'a [u8]) -> Lines<'a>
-        ensures { result ≡ lines_of text.now }
+        ensures lines { (result.left ≡ lines_of text.now) × (result.all ≡ lines_of text.now) }
+        ensures number { result.number ≡ 0 }
     {
         Lines {
             rest: text,
@@ -75,7 +79,8 @@ impl<'a> Lines<'a> {
 
     /// The lines of the text that are neither empty nor begin with `#`.
     pub fn skipping(text: &'a [u8]) -> Lines<'a>
-        ensures { result ≡ kept (lines_of text.now) }
+        ensures lines { (result.left ≡ kept (lines_of text.now)) × (result.all ≡ lines_of text.now) }
+        ensures number { result.number ≡ 0 }
     {
         Lines {
             rest: text,
@@ -85,22 +90,28 @@ impl<'a> Lines<'a> {
     }
 
     /// The number of the line that was asked for last, the first being 1.
-    pub fn number(&self) -> u64 {
+    pub fn number(&self) -> u64
+        ensures { result ≡ self.now.number }
+    {
         self.number
     }
 
     /// A fault of that line.
-    pub fn fault(&self, why: Why) -> TextFault {
+    pub fn fault(&self, why: Why) -> TextFault
+        ensures { result ≡ TextFault.Line self.now.number why }
+    {
         TextFault::Line {
             line: self.number,
             why,
         }
     }
 
-    /// The next line, with no line feed.
+    /// The next line, with no line feed. The end has the number after that of the last line.
     #[inline]
     pub fn next(&mut self) -> Option<&'a [u8]>
-        ensures { MatchOption result ((self.old ≡ []) × (self.new ≡ [])) (λ line. self.old ≡ line.now ∷ self.new) }
+        ensures line { MatchOption result (self.old.left ≡ []) (λ line. self.old.left ≡ line.now ∷ self.new.left) }
+        ensures end { IfNone result ((self.new.left ≡ []) × (self.new.all ≡ [])) }
+        ensures number { self.old.number + length self.old.all < u64.MAX → MatchOption result (self.new.number ≡ self.old.number + length self.old.all + 1) (λ _. self.new.number + length self.new.all ≡ self.old.number + length self.old.all) }
     {
         let mut number = self.number;
         let found = if self.skips {
@@ -115,7 +126,10 @@ impl<'a> Lines<'a> {
                 self.rest = after;
                 Some(line)
             }
-            None => None,
+            None => {
+                self.rest = b"".as_slice();
+                None
+            }
         }
     }
 }

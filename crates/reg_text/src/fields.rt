@@ -108,7 +108,8 @@ fn digits_before(bytes: &[u8]) -> usize
     bytes.iter().take_while(|b| **b != b' ').count()
 }
 
-fn is_blank(bytes: &[u8]) -> bool
+/// Whether all bytes are spaces.
+pub fn is_blank(bytes: &[u8]) -> bool
     ensures { result ≡ list_all (λ b. b == 32) bytes.now }
 {
     bytes.iter().all(|b| *b == b' ')

@@ -1,32 +1,65 @@
-//! What is wrong with a line that no reader took. No clause speaks of it: tests do.
+//! What is wrong with a line that no reader took: whether it has its form, whatever the limits and the names.
+ghost use Rattle.std.specs.Prelude.{◌≡◌, ◌↔◌, ◌<◌, ◌≤◌, ◌^◌, ℕ, List, ◌∷◌, ◌++◌, ◌⊎◌, length, codes, IsTrue, IsSome, IfSome, Some, None, true, slice_get, if◌then◌else◌};
+ghost use Rattle.std.specs.Fmt.{decimal};
+ghost use Rattle.std.specs.Char.{is_ascii_digit};
+ghost use Rattle.std.specs.List.{list_all};
+ghost use Rattle.reg_text.specs.Columns.{to_left};
+ghost use Rattle.reg_text.specs.Parts.{Lacks};
+ghost use Rattle.reg_text.specs.Forms.{is_numeral as is_numeral_of, is_word as is_word_of, is_word_byte, IsReadForm, IsWriteForm, HasOpForm};
+
 use crate::faults::Why;
-use crate::fields::{cut_at, skip};
+use crate::fields::{cut_at, is_blank, skip};
 use crate::numbers::numeral_within;
 use reg_base::Names;
 use std::alloc::Allocator;
 
+fn are_digits(bytes: &[u8]) -> bool
+    ensures { result ≡ list_all is_ascii_digit bytes.now }
+{
+    bytes.iter().all(|b| b.is_ascii_digit())
+}
+
 /// Whether the bytes are digits that do not begin with a needless zero.
-pub fn is_numeral(bytes: &[u8]) -> bool {
+pub fn is_numeral(bytes: &[u8]) -> bool
+    ensures { result ≡ is_numeral_of bytes.now }
+{
     match bytes {
         [] => false,
-        [b'0'] => true,
-        [b'0', ..] => false,
-        _ => bytes.iter().all(|b| b.is_ascii_digit()),
+        [first, ..] => {
+            if *first == b'0' {
+                bytes.len() == 1
+            } else {
+                are_digits(bytes)
+            }
+        }
     }
 }
 
+fn are_word_bytes(bytes: &[u8]) -> bool
+    ensures { result ≡ list_all is_word_byte bytes.now }
+{
+    bytes.iter().all(|b| b.is_ascii() && *b != b' ')
+}
+
 /// Whether the bytes are a word of ASCII signs but spaces.
-pub fn is_word(bytes: &[u8]) -> bool {
-    !bytes.is_empty() && bytes.iter().all(|b| b.is_ascii() && *b != b' ')
+pub fn is_word(bytes: &[u8]) -> bool
+    ensures { result ≡ is_word_of bytes.now }
+{
+    !bytes.is_empty() && are_word_bytes(bytes)
 }
 
 /// None where the form is not kept.
-pub fn form(good: bool) -> Option<()> {
+pub fn form(good: bool) -> Option<()>
+    ensures { IsSome result ↔ IsTrue good }
+{
     if good { Some(()) } else { None }
 }
 
 /// Range for a numeral, Form for anything else.
-pub fn why_number(bytes: &[u8]) -> Why {
+pub fn why_number(bytes: &[u8]) -> Why
+    ensures form { result ≡ (if is_numeral_of bytes.now then Why.Range else Why.Form) }
+    ensures number { (n : ℕ) → n < 2 ^ 64 → bytes.now ≡ decimal n → result ≡ Why.Range }
+{
     if is_numeral(bytes) {
         Why::Range
     } else {
@@ -35,33 +68,38 @@ pub fn why_number(bytes: &[u8]) -> Why {
 }
 
 /// The bytes before the spaces at the end, and all of them where a space stands elsewhere.
-pub fn in_front(bytes: &[u8]) -> &[u8] {
+pub fn in_front(bytes: &[u8]) -> &[u8]
+    ensures front { (front : List ℕ) → Lacks 32 front → bytes.now ≡ to_left (length bytes.now) front → result.now ≡ front }
+    ensures only { (result.now ≡ bytes.now) ⊎ (Lacks 32 result.now × (bytes.now ≡ to_left (length bytes.now) result.now)) }
+{
     match cut_at(bytes, b' ') {
-        Some((front, after)) => {
-            if after.iter().all(|b| *b == b' ') {
-                front
-            } else {
-                bytes
-            }
-        }
+        Some((front, after)) => { if is_blank(after) { front } else { bytes } }
         None => bytes,
     }
 }
 
 /// Whether the bytes are a number up to the limit.
-pub fn within(bytes: &[u8], limit: u64) -> bool {
+pub fn within(bytes: &[u8], limit: u64) -> bool
+    ensures { IsTrue result ↔ ((n : ℕ) × ((n ≤ limit) × (bytes.now ≡ decimal n))) }
+{
     numeral_within(bytes, limit).is_some()
 }
 
 /// Why the text is no operation: Name where the register is not known, else Range. None where its form is not kept.
-pub fn op_form<A: Allocator + Copy>(text: &[u8], names: &Names<A>) -> Option<Why> {
+pub fn op_form<A: Allocator + Copy>(text: &[u8], names: &Names<A>) -> Option<Why>
+    ensures form { IfSome result (λ why. HasOpForm text.now × ((why ≡ Why.Range) ⊎ (why ≡ Why.Name))) }
+    ensures read { (name : List ℕ) → IsReadForm text.now name → result ≡ Some Why.Name }
+    ensures known { (name digits : List ℕ) (i : ℕ) → IsWriteForm text.now name digits → slice_get names.now i ≡ Some name → result ≡ Some Why.Range }
+    ensures unknown { (name digits : List ℕ) → IsWriteForm text.now name digits → ((i : ℕ) → ¬ (slice_get names.now i ≡ Some name)) → result ≡ Some Why.Name }
+{
     if let Some(name) = skip(text, b"read ") {
         form(is_word(name))?;
         return Some(Why::Name);
     }
     let rest = skip(text, b"write ")?;
     let (name, digits) = cut_at(rest, b' ')?;
-    form(is_word(name) && is_numeral(digits))?;
+    form(is_word(name))?;
+    form(is_numeral(digits))?;
     match names.find(name) {
         Some(_) => Some(Why::Range),
         None => Some(Why::Name),

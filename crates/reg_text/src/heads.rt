@@ -1,8 +1,10 @@
 //! Lines that are wanted as they are, and lines with one number or word.
-ghost use Rattle.std.specs.Prelude.{◌≡◌, ◌<◌, ◌≤◌, ℕ, List, ◌∷◌, ◌++◌, Ok, Err, None, Some, true, IfOk, IfSome, OnOk, MatchResult, MatchOption, string_bytes, codes};
+ghost use Rattle.std.specs.Prelude.{◌≡◌, ◌≢◌, ◌<◌, ◌≤◌, ℕ, List, [], ◌∷◌, ◌++◌, Ok, Err, None, Some, true, false, IfOk, IfErr, IfSome, OnOk, MatchResult, MatchOption, string_bytes, codes};
 ghost use Rattle.std.specs.Fmt.{decimal};
 ghost use Rattle.std.specs.Str.{IsUtf8};
 ghost use Rattle.std.specs.List.{list_all};
+ghost use Rattle.reg_text.specs.Lines.{IsAsked};
+ghost use Rattle.reg_text.specs.Forms.{is_numeral};
 ghost use Rattle.reg_text.specs.Words.{is_front_letter};
 
 use crate::cursor::Lines;
@@ -15,8 +17,11 @@ use std::str;
 
 /// A line that is wanted as it is.
 pub fn expect_line(lines: &mut Lines<'_>, text: &[u8]) -> Result<(), TextFault>
-    ensures read { OnOk result (lines.old ≡ text.now ∷ lines.new) }
-    ensures whole { (rest : List (List ℕ)) → lines.old ≡ text.now ∷ rest → MatchResult result (λ _. lines.new ≡ rest) (λ _. ⊥) }
+    ensures read { OnOk result (lines.old.left ≡ text.now ∷ lines.new.left) }
+    ensures whole { (rest : List (List ℕ)) → lines.old.left ≡ text.now ∷ rest → MatchResult result (λ _. lines.new.left ≡ rest) (λ _. ⊥) }
+    ensures end { lines.old.left ≡ [] → result ≡ Err (TextFault.Line lines.new.number Why.End) }
+    ensures form { (line : List ℕ) (rest : List (List ℕ)) → lines.old.left ≡ line ∷ rest → line ≢ text.now → result ≡ Err (TextFault.Line lines.new.number Why.Form) }
+    ensures asked { IsAsked lines.old lines.new }
 {
     match lines.next() {
         Some(line) => {
@@ -32,8 +37,12 @@ pub fn expect_line(lines: &mut Lines<'_>, text: &[u8]) -> Result<(), TextFault>
 
 /// The number of a line that begins with the mark.
 pub fn read_count(lines: &mut Lines<'_>, mark: &[u8], limit: u64) -> Result<u64, TextFault>
-    ensures read { IfOk result (λ n. (lines.old ≡ (mark.now ++ decimal n) ∷ lines.new) × (n ≤ limit)) }
-    ensures whole { (n : ℕ) (rest : List (List ℕ)) → n ≤ limit → lines.old ≡ (mark.now ++ decimal n) ∷ rest → MatchResult result (λ m. (m ≡ n) × (lines.new ≡ rest)) (λ _. ⊥) }
+    ensures read { IfOk result (λ n. (lines.old.left ≡ (mark.now ++ decimal n) ∷ lines.new.left) × (n ≤ limit)) }
+    ensures whole { (n : ℕ) (rest : List (List ℕ)) → n ≤ limit → lines.old.left ≡ (mark.now ++ decimal n) ∷ rest → MatchResult result (λ m. (m ≡ n) × (lines.new.left ≡ rest)) (λ _. ⊥) }
+    ensures end { lines.old.left ≡ [] → result ≡ Err (TextFault.Line lines.new.number Why.End) }
+    ensures range { (digits : List ℕ) (rest : List (List ℕ)) → is_numeral digits ≡ true → lines.old.left ≡ (mark.now ++ digits) ∷ rest → IfErr result (λ f. f ≡ TextFault.Line lines.new.number Why.Range) }
+    ensures form { (line : List ℕ) (rest : List (List ℕ)) → lines.old.left ≡ line ∷ rest → ((digits : List ℕ) → line ≡ mark.now ++ digits → is_numeral digits ≡ false) → result ≡ Err (TextFault.Line lines.new.number Why.Form) }
+    ensures asked { IsAsked lines.old lines.new }
 {
     let Some(line) = lines.next() else {
         return Err(lines.fault(Why::End));

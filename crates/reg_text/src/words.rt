@@ -1,8 +1,10 @@
 //! The names of a line.
-ghost use Rattle.std.specs.Prelude.{◌≡◌, ◌<◌, ◌≤◌, ℕ, List, ◌∷◌, ◌++◌, Ok, Err, None, Some, IfOk, IfSome, IsSomeAnd, OnOk, MatchResult, codes};
+ghost use Rattle.std.specs.Prelude.{◌≡◌, ◌<◌, ◌≤◌, ℕ, List, [], ◌∷◌, ◌⊎◌, ◌++◌, Ok, Err, None, Some, IfOk, IfErr, IfSome, IsSomeAnd, OnOk, MatchResult, codes};
 ghost use Rattle.reg_base.specs.Names.{names_fault, texts};
+ghost use Rattle.reg_text.specs.declared.faults.Why.{Why};
+ghost use Rattle.reg_text.specs.Lines.{IsAsked};
 ghost use Rattle.reg_text.specs.Parts.{Lacks};
-ghost use Rattle.reg_text.specs.Words.{names_text, Starts};
+ghost use Rattle.reg_text.specs.Words.{names_text, Starts, AreWords, HasWords};
 
 use crate::cursor::Lines;
 use crate::faults::{TextFault, Why};
@@ -70,12 +72,15 @@ pub fn read_words<A: Allocator + Copy>(
 }
 
 /// Form where the words do not have it, and else the fault that is given.
-fn why_names(text: &[u8], why: Why) -> Why {
+fn why_names(text: &[u8], why: Why) -> Why
+    ensures form { (result ≡ Why.Form) ⊎ ((result ≡ why) × HasWords text.now) }
+    ensures words { (ws : List (List ℕ)) → AreWords ws → text.now ≡ names_text ws → result ≡ why }
+{
     let mut rest = text;
     if rest.is_empty() {
         return Why::Form;
     }
-    for _ in 0..text.len() {
+    for _turn in 0..text.len() {
         if rest.is_empty() {
             return why;
         }
@@ -97,9 +102,12 @@ pub fn read_names<A: Allocator + Copy>(
     alloc: A,
     lines: &mut Lines<'_>,
 ) -> Result<Names<A>, TextFault>
-    ensures read { IfOk result (λ n. (lines.old ≡ (codes "registers" ++ names_text n) ∷ lines.new) × (names_fault n ≡ None)) }
-    ensures whole { (ns : List (List ℕ)) (rest : List (List ℕ)) → names_fault ns ≡ None → lines.old ≡ (codes "registers" ++ names_text ns) ∷ rest
-        → MatchResult result (λ n. (n ≡ ns) × (lines.new ≡ rest)) (λ f. f ≡ TextFault.OutOfMemory) }
+    ensures read { IfOk result (λ n. (lines.old.left ≡ (codes "registers" ++ names_text n) ∷ lines.new.left) × (names_fault n ≡ None)) }
+    ensures whole { (ns : List (List ℕ)) (rest : List (List ℕ)) → names_fault ns ≡ None → lines.old.left ≡ (codes "registers" ++ names_text ns) ∷ rest
+        → MatchResult result (λ n. (n ≡ ns) × (lines.new.left ≡ rest)) (λ f. f ≡ TextFault.OutOfMemory) }
+    ensures end { lines.old.left ≡ [] → result ≡ Err (TextFault.Line lines.new.number Why.End) }
+    ensures fault { IfErr result (λ f. (f ≡ TextFault.OutOfMemory) ⊎ ((why : Why) × (f ≡ TextFault.Line lines.new.number why))) }
+    ensures asked { IsAsked lines.old lines.new }
 {
     let Some(line) = lines.next() else {
         return Err(lines.fault(Why::End));

@@ -48,8 +48,8 @@ fn why_front(word: &[u8]) -> Why {
 
 /// The front end of its line.
 fn read_front(lines: &mut Lines<'_>) -> Result<Front, ScheduleFault>
-    ensures read { IfOk result (λ f. lines.old ≡ (codes "front " ++ front_name f) ∷ lines.new) }
-    ensures whole { (f : Front) (rest : List (List ℕ)) → lines.old ≡ (codes "front " ++ front_name f) ∷ rest → MatchResult result (λ g. (g ≡ f) × (lines.new ≡ rest)) (λ _. ⊥) }
+    ensures read { IfOk result (λ f. lines.old.left ≡ (codes "front " ++ front_name f) ∷ lines.new.left) }
+    ensures whole { (f : Front) (rest : List (List ℕ)) → lines.old.left ≡ (codes "front " ++ front_name f) ∷ rest → MatchResult result (λ g. (g ≡ f) × (lines.new.left ≡ rest)) (λ _. ⊥) }
 {
     let Some(line) = lines.next() else {
         return Err(lines.fault(Why::End));
@@ -71,10 +71,10 @@ fn read_head<A: Allocator + Copy>(
     alloc: A,
     lines: &mut Lines<'_>,
 ) -> Result<(u32, Names<A>, Front), ScheduleFault>
-    ensures read { IfOk result (λ h. (lines.old ≡ plan_head h.0 h.1 h.2 lines.new) × (0 < h.0) × (h.0 ≤ MOST_PROCESSES) × (names_fault h.1 ≡ None)) }
+    ensures read { IfOk result (λ h. (lines.old.left ≡ plan_head h.0 h.1 h.2 lines.new.left) × (0 < h.0) × (h.0 ≤ MOST_PROCESSES) × (names_fault h.1 ≡ None)) }
     ensures whole { (processes : ℕ) (names : List (List ℕ)) (front : Front) (rest : List (List ℕ))
-        → 0 < processes → processes ≤ MOST_PROCESSES → names_fault names ≡ None → lines.old ≡ plan_head processes names front rest
-        → MatchResult result (λ h. (h.0 ≡ processes) × (h.1 ≡ names) × (h.2 ≡ front) × (lines.new ≡ rest)) (λ f. f ≡ TextFault.OutOfMemory) }
+        → 0 < processes → processes ≤ MOST_PROCESSES → names_fault names ≡ None → lines.old.left ≡ plan_head processes names front rest
+        → MatchResult result (λ h. (h.0 ≡ processes) × (h.1 ≡ names) × (h.2 ≡ front) × (lines.new.left ≡ rest)) (λ f. f ≡ TextFault.OutOfMemory) }
 {
     let processes = read_count(lines, b"processes ", MOST_PROCESSES as u64)?;
     if processes == 0 {
@@ -92,8 +92,8 @@ fn read_events<A: Allocator + Copy>(
     names: &Names<A>,
 ) -> Result<Vec<Event, A>, ScheduleFault>
     requires { names_fault names.now ≡ None }
-    ensures read { IfOk result (λ v. (lines.old ≡ map (event_text names.now) v.items) × AllFit (λ _ x. EventFits names.now x) v.items × (length v.items ≤ MOST_EVENTS)) }
-    ensures whole { (ys : List Event) → AllFit (λ _ x. EventFits names.now x) ys → length ys ≤ MOST_EVENTS → lines.old ≡ map (event_text names.now) ys
+    ensures read { IfOk result (λ v. (lines.old.left ≡ map (event_text names.now) v.items) × AllFit (λ _ x. EventFits names.now x) v.items × (length v.items ≤ MOST_EVENTS)) }
+    ensures whole { (ys : List Event) → AllFit (λ _ x. EventFits names.now x) ys → length ys ≤ MOST_EVENTS → lines.old.left ≡ map (event_text names.now) ys
         → MatchResult result (λ v. v.items ≡ ys) (λ f. f ≡ TextFault.OutOfMemory) }
 {
     let mut events = Vec::new(alloc);
@@ -119,8 +119,8 @@ fn read_plan<A: Allocator + Copy>(
     alloc: A,
     lines: &mut Lines<'_>,
 ) -> Result<Schedule<A>, ScheduleFault>
-    ensures read { IfOk result (λ s. (lines.old ≡ plan_lines s) × IsPlan s) }
-    ensures whole { (p : Plan) → IsPlan p → lines.old ≡ plan_lines p → MatchResult result (λ w. w ≡ p) (λ f. f ≡ TextFault.OutOfMemory) }
+    ensures read { IfOk result (λ s. (lines.old.left ≡ plan_lines s) × IsPlan s) }
+    ensures whole { (p : Plan) → IsPlan p → lines.old.left ≡ plan_lines p → MatchResult result (λ w. w ≡ p) (λ f. f ≡ TextFault.OutOfMemory) }
 {
     let (processes, names, front) = read_head(alloc, lines)?;
     let Ok(shape) = Shape::new(processes, names.count() as u32) else {

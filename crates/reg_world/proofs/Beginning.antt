@@ -29,7 +29,7 @@ at_replicate (suc n) zero x l = refl
 at_replicate (suc n) (suc p) x l = at_replicate n p x (omega arith)
 
 abbrev pub blank_book : Extent → Pages
-blank_book shape = record { shape = shape; accepted = []; entries = []; order = []; reads = []; tallies = replicate shape.processes no_calls }
+blank_book shape = record { shape = shape; accepted = []; ahead = []; entries = []; order = []; reads = []; tallies = replicate shape.processes no_calls }
 
 pub new_is : (start : Op → ℕ → Start) (shape : Extent) (stations : List Standing) (b : Pages) → shape.processes ≤ MOST_PROCESSES → stations ≡ listed (first_standing shape) shape.processes → b ≡ blank_book shape → IsWorld start false stations b
 new_is start shape stations b few stand is =

@@ -1,11 +1,14 @@
 -- The step of an event, from the parts of a world.
 use Rattle.std.proofs.Common.{◌≡◌, ℕ, zero, suc, ◌<◌, ◌≤◌, Bool, true, false, cond, List, [], ◌∷◌, length, None, Err, refl, sym, ap, ◌∙◌, arith}
 use Rattle.std.specs.Prelude.{nat_lt, ◌==◌, slice_get}
-use Rattle.std.proofs.lemmas.Bool.{eqb-true}
+use Rattle.std.proofs.lemmas.Bool.{eqb-true, eq-eqb}
 use Rattle.std.proofs.lemmas.Bool.Decides.{nat_tests}
-use Rattle.reg_world.specs.declared.faults.WorldFault.TheVariants.{NoProcess, NoFrame}
+use Rattle.reg_world.specs.declared.faults.WorldFault.TheVariants.{NoProcess, NoFrame, TooManyEvents}
 use Rattle.reg_world.specs.Stations.{Standing}
-use Rattle.reg_world.specs.Worlds.{wire_in, frame_or, frame_in}
+use Rattle.reg_base.specs.declared.limits.TheConstants.{MOST_EVENTS}
+use Rattle.reg_world.specs.declared.events.Event.{Event}
+use Rattle.reg_world.specs.Pages.{Pages}
+use Rattle.reg_world.specs.Worlds.{wire_in, frame_or, frame_in, found_step, found}
 
 pub past_none : {X : Type 0} (xs : List X) (k : ℕ) → length xs ≤ k → slice_get xs k ≡ None
 past_none [] k l = refl
@@ -31,3 +34,28 @@ frame_is stations from to number f t ne =
     sym (ap (λ b. cond b (cond (nat_lt to (length stations)) (cond (from == to) (Err NoFrame) last) (Err NoProcess)) (Err NoProcess)) (less_true from (length stations) f)
     ∙ (ap (λ b. cond b (cond (from == to) (Err NoFrame) last) (Err NoProcess)) (less_true to (length stations) t)
     ∙ ap (λ b. cond b (Err NoFrame) last) (differ_false from to ne)))
+
+pub no_sender : (stations : List Standing) (from to number : ℕ) → length stations ≤ from → Err NoProcess ≡ frame_in stations from to number
+no_sender stations from to number f =
+    let last = frame_or (slice_get (wire_in (slice_get stations from) to) number) in
+    sym (ap (λ b. cond b (cond (nat_lt to (length stations)) (cond (from == to) (Err NoFrame) last) (Err NoProcess)) (Err NoProcess)) (not_less from (length stations) f))
+
+pub no_receiver : (stations : List Standing) (from to number : ℕ) → from < length stations → length stations ≤ to → Err NoProcess ≡ frame_in stations from to number
+no_receiver stations from to number f t =
+    let last = frame_or (slice_get (wire_in (slice_get stations from) to) number) in
+    sym (ap (λ b. cond b (cond (nat_lt to (length stations)) (cond (from == to) (Err NoFrame) last) (Err NoProcess)) (Err NoProcess)) (less_true from (length stations) f)
+    ∙ ap (λ b. cond b (cond (from == to) (Err NoFrame) last) (Err NoProcess)) (not_less to (length stations) t))
+
+pub no_wire : (stations : List Standing) (from to number : ℕ) → from < length stations → to < length stations → from ≡ to → Err NoFrame ≡ frame_in stations from to number
+no_wire stations from to number f t e =
+    let last = frame_or (slice_get (wire_in (slice_get stations from) to) number) in
+    sym (ap (λ b. cond b (cond (nat_lt to (length stations)) (cond (from == to) (Err NoFrame) last) (Err NoProcess)) (Err NoProcess)) (less_true from (length stations) f)
+    ∙ (ap (λ b. cond b (cond (from == to) (Err NoFrame) last) (Err NoProcess)) (less_true to (length stations) t)
+    ∙ ap (λ b. cond b (Err NoFrame) last) (eq-eqb from to e)))
+
+-- no event is left
+pub none_more : (stations : List Standing) (b : Pages) (e : Event) → MOST_EVENTS ≤ length b.accepted → Err TooManyEvents ≡ found stations b e
+none_more stations b e l = sym (ap (λ t. cond t (found_step stations b e) (Err TooManyEvents)) (not_less (length b.accepted) MOST_EVENTS l))
+
+pub one_more : (stations : List Standing) (b : Pages) (e : Event) → length b.accepted < MOST_EVENTS → found_step stations b e ≡ found stations b e
+one_more stations b e l = sym (ap (λ t. cond t (found_step stations b e) (Err TooManyEvents)) (less_true (length b.accepted) MOST_EVENTS l))

@@ -60,3 +60,4 @@ pub mod Moments
 pub mod Promised
 pub mod Arrivals
 pub mod Refusals
+pub mod Ahead

@@ -1,5 +1,5 @@
 -- What a world tells of its run, and what an event adds to it.
-use Rattle.std.specs.Prelude.{ℕ, ◌≡◌, ◌<◌, ◌+◌, ◌-◌, Bool, false, not, ◌==◌, cond, List, [], ◌∷◌, ◌++◌, length, map, Option, Some, None, slice_get, slice_set, slice_index_or}
+use Rattle.std.specs.Prelude.{ℕ, ◌≡◌, ◌<◌, ◌+◌, ◌-◌, Bool, false, not, ◌==◌, cond, List, [], ◌∷◌, ◌++◌, length, map, drop, Option, Some, None, slice_get, slice_set, slice_index_or}
 use Rattle.std.specs.List.{filter}
 use Rattle.reg_base.specs.declared.limits.TheConstants.{MOST_EVENTS, MOST_OPERATIONS}
 use Rattle.reg_base.specs.declared.stamps.Stamp.{Stamp}
@@ -20,9 +20,17 @@ use Rattle.reg_world.specs.World.{op_id, calls_in, answers_in}
 use Rattle.reg_world.specs.Tallies.{Tally, no_calls}
 use Rattle.reg_world.specs.Witnesses.{last_stamp, is_after}
 
+-- the events that were accepted, those that a run still has ahead, and how many can be added with no more memory
+pub record Taken : Type 0 where
+  pub taken : List Event
+  pub ahead : List Event
+  pub room : ℕ
+
+-- what is told of a run; the events ahead are no part of it
 pub record Pages : Type 0 where
   pub shape : Extent
   pub accepted : List Event
+  pub ahead : List Event
   pub entries : List Entry
   pub order : List First
   pub reads : List CopyRead
@@ -88,6 +96,7 @@ abbrev pub entered : Pages → Event → ℕ → Step → Bool → Option Stamp 
 entered b e p step runs cast ds reply = record {
   shape = b.shape;
   accepted = b.accepted ++ e ∷ [];
+  ahead = drop 1 b.ahead;
   entries = entries_after b.entries (length b.accepted) p (tally_at b.tallies p) step reply;
   order = b.order ++ firsts_in (tallies_after b.tallies p step runs cast) (length b.accepted) (last_stamp b.order) ds;
   reads = b.reads ++ read_in (tally_after (tally_at b.tallies p) step runs cast) p reply;

@@ -1,5 +1,5 @@
 -- A world as its callers see it, and what it is made of.
-use Rattle.std.specs.Prelude.{ℕ, ◌≡◌, ◌<◌, ◌≤◌, Bool, true, false, ◌==◌, ◌⊎◌, take, replicate, cond, nat_lt, List, [], ◌∷◌, ◌++◌, length, Option, Some, None, Result, Ok, Err, slice_get, slice_index_or}
+use Rattle.std.specs.Prelude.{ℕ, ◌≡◌, ◌<◌, ◌≤◌, Bool, true, false, ◌==◌, ◌⊎◌, take, drop, replicate, cond, nat_lt, List, [], ◌∷◌, ◌++◌, length, Option, Some, None, Result, Ok, Err, slice_get, slice_index_or}
 use Rattle.reg_base.specs.declared.limits.TheConstants.{MOST_PROCESSES, MOST_EVENTS, MOST_OPERATIONS}
 use Rattle.reg_base.specs.declared.memory.Op.{Op}
 use Rattle.reg_base.specs.Memory.{register_of}
@@ -135,6 +135,16 @@ pub record Advances (start : Op → ℕ → Start) (old : Pages) (e : Event) (an
   pub world : IsWorld start false stations new
   pub made : made_of false new ≡ with_event (made_of false old) e
   pub reply : answer ≡ reply_in start (made_of false old) e
+
+-- the parts of a world after an event, which is no longer ahead
+pub record PartsGoOn (start : Op → ℕ → Start) (old : Pages) (e : Event) (stations : List Standing) (new : Pages) : Type 0 where
+  pub world : IsWorld start false stations new
+  pub accepts : Accepts start (made_of false old) e (made_of false new)
+  pub ahead : new.ahead ≡ drop 1 old.ahead
+
+-- why the parts of a world refuse an event
+abbrev pub PartsRefuse : (Op → ℕ → Start) → Pages → Event → WorldFault → Type 0
+PartsRefuse start b e fault = (after : Made) × Refuses start (made_of false b) e fault after
 
 -- a world in which nothing happened yet
 abbrev pub new_world : Extent → Made

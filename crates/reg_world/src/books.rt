@@ -1,5 +1,5 @@
 //! What a world tells of its run.
-ghost use Rattle.std.specs.Prelude.{◌≡◌, ◌<◌, ◌≤◌, ◌+◌, ◌-◌, not, ◌++◌, ◌∷◌, [], if◌then◌else◌, ℕ, length, replicate, IfOk, OnOk, MatchResult, MatchResult, vec_len, vec_capacity};
+ghost use Rattle.std.specs.Prelude.{◌≡◌, ◌<◌, ◌≤◌, ◌+◌, ◌-◌, not, ◌++◌, ◌∷◌, [], if◌then◌else◌, ℕ, length, replicate, IfOk, OnOk, MatchResult, MatchResult, vec_len, vec_capacity, slice_get};
 ghost use Rattle.std.specs.List.{filter};
 ghost use Rattle.reg_base.specs.declared.stamps.Delivered.{Delivered};
 ghost use Rattle.reg_base.specs.Order.{In};
@@ -9,6 +9,7 @@ ghost use Rattle.reg_world.specs.Tallies.{Tally, no_calls};
 ghost use Rattle.reg_world.specs.Witnesses.{is_after as is_after_of, last_stamp as last_stamp_of};
 ghost use Rattle.reg_world.specs.Pages.{entered, copied_in, tallies_after, tally_after, calls_after, last_casts, first_in, firsts_in, tally_at, number_at, TimesDiffer, CallFits, MayEnter};
 
+use crate::accepted::Accepted;
 use crate::callers::Caller;
 use crate::events::Event;
 use crate::order::{CopyRead, First};
@@ -23,7 +24,7 @@ use std::marker::Model;
 /// the reads from a copy, with what is kept of the operations of each process.
 #[derive(Drop)]
 pub(crate) struct Book<A: Allocator + Copy = Global> {
-    accepted: Vec<Event, A>,
+    accepted: Accepted<A>,
     history: History<A>,
     order: Vec<First, A>,
     reads: Vec<CopyRead, A>,
@@ -35,7 +36,7 @@ impl<A: Allocator + Copy> Model for Book<A> {
 
     ghost Value = { Pages };
 
-    ghost view = { λ b. record { shape = b.history.shape; accepted = b.accepted.items; entries = b.history.entries; order = b.order.items; reads = b.reads.items; tallies = b.callers.items } };
+    ghost view = { λ b. record { shape = b.history.shape; accepted = b.accepted.taken; ahead = b.accepted.ahead; entries = b.history.entries; order = b.order.items; reads = b.reads.items; tallies = b.callers.items } };
 }
 
 /// So many processes that called nothing yet.
@@ -51,14 +52,15 @@ fn new_callers<A: Allocator + Copy>(alloc: A, count: u32) -> Result<Vec<Caller<A
 
 /// Makes room in each list for what an event can add. The lists stay.
 fn reserve_all<A: Allocator + Copy>(
-    accepted: &mut Vec<Event, A>,
+    accepted: &mut Accepted<A>,
     history: &mut History<A>,
     order: &mut Vec<First, A>,
     reads: &mut Vec<CopyRead, A>,
     firsts: usize,
 ) -> Result<(), AllocError>
-    ensures accepted { accepted.new.items ≡ accepted.old.items }
-    ensures accepted_room { OnOk result (vec_len accepted.new + 1 ≤ vec_capacity accepted.new) }
+    ensures accepted { accepted.new.taken ≡ accepted.old.taken }
+    ensures ahead { accepted.new.ahead ≡ accepted.old.ahead }
+    ensures accepted_room { OnOk result (1 ≤ accepted.new.room) }
     ensures shape { history.new.shape ≡ history.old.shape }
     ensures entries { history.new.entries ≡ history.old.entries }
     ensures entries_room { OnOk result (2 ≤ history.new.room) }
@@ -67,7 +69,7 @@ fn reserve_all<A: Allocator + Copy>(
     ensures reads { reads.new.items ≡ reads.old.items }
     ensures reads_room { OnOk result (vec_len reads.new + 1 ≤ vec_capacity reads.new) }
 {
-    accepted.reserve(1)?;
+    accepted.make_room()?;
     history.reserve(2)?;
     order.reserve(firsts)?;
     reads.reserve(1)
@@ -215,12 +217,12 @@ fn push_firsts<A: Allocator + Copy>(
 impl<A: Allocator + Copy> Book<A> {
     /// Nothing happened yet.
     pub(crate) fn new(alloc: A, shape: Shape) -> Result<Book<A>, AllocError>
-        ensures { IfOk result (λ b. b ≡ record { shape = shape; accepted = []; entries = []; order = []; reads = []; tallies = replicate shape.processes no_calls }) }
+        ensures { IfOk result (λ b. b ≡ record { shape = shape; accepted = []; ahead = []; entries = []; order = []; reads = []; tallies = replicate shape.processes no_calls }) }
     {
         let history = History::new(alloc, shape)?;
         let callers = new_callers(alloc, shape.processes())?;
         Ok(Book {
-            accepted: Vec::new(alloc),
+            accepted: Accepted::new(alloc),
             history,
             order: Vec::new(alloc),
             reads: Vec::new(alloc),
@@ -233,6 +235,21 @@ impl<A: Allocator + Copy> Book<A> {
         ensures { self.new ≡ self.old }
     {
         self.accepted.reserve(events)
+    }
+
+    /// Puts these events ahead, before any was accepted. Nothing else changes.
+    pub(crate) fn put_ahead(&mut self, events: Vec<Event, A>)
+        requires { self.old.accepted ≡ [] }
+        ensures { self.new ≡ record self.old { ahead = events.items } }
+    {
+        self.accepted.put_ahead(events);
+    }
+
+    /// The first event that is ahead.
+    pub(crate) fn next_ahead(&self) -> Option<Event>
+        ensures { result ≡ slice_get self.now.ahead 0 }
+    {
+        self.accepted.next()
     }
 
     /// The events accepted so far.
@@ -305,7 +322,7 @@ impl<A: Allocator + Copy> Book<A> {
         push_answer(&mut self.history, at, ids.answered, outcome.reply);
         push_read(&mut self.reads, ids.answered, ids.is_copied, outcome.reply);
         push_firsts(&mut self.order, &mut self.callers, at, &outcome.delivered);
-        self.accepted.push_reserved(event);
+        self.accepted.add(event);
         Ok(())
     }
 }

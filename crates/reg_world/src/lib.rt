@@ -1,6 +1,7 @@
 //! All processes and wires, over a list of events.
 #![tactic(auto)]
 
+mod accepted;
 mod books;
 mod callers;
 mod events;
@@ -21,6 +22,8 @@ pub use running::World;
 mod limit_tests;
 #[cfg(test)]
 mod mixed_tests;
+#[cfg(test)]
+mod owned_tests;
 #[cfg(test)]
 mod refusal_tests;
 #[cfg(test)]

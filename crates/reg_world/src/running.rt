@@ -1,5 +1,5 @@
 //! All processes and wires of a run, one event after another.
-ghost use Rattle.std.specs.Prelude.{◌≡◌, ◌<◌, ◌≤◌, ◌⊎◌, ◌++◌, List, false, length, take, Some, IfOk, MatchOption, MatchResult};
+ghost use Rattle.std.specs.Prelude.{◌≡◌, ◌<◌, ◌≤◌, ◌⊎◌, ◌++◌, List, false, length, take, drop, Some, IfOk, OnOk, [], MatchOption, MatchResult};
 ghost use Rattle.reg_base.specs.declared.limits.TheConstants.{MOST_PROCESSES};
 ghost use Rattle.reg_history.specs.Orders.{IsSerial, IsPointOrder};
 ghost use Rattle.reg_world.specs.declared.events.Event.{Event};
@@ -8,7 +8,7 @@ ghost use Rattle.reg_world.specs.Laws.{FrontsAgree, FrontsRise, FrontsMade, Unde
 ghost use Rattle.reg_world.specs.Promises.{OrderIsLongest, OrderIsRight, FirstsRight, RepliesRight, ReadsRight};
 ghost use Rattle.reg_world.specs.World.{run_of, whole};
 ghost use Rattle.reg_world.specs.Stations.{listed};
-ghost use Rattle.reg_world.specs.Worlds.{first_standing, Made, run_in, Accepts, Refuses, reply_in, IsWorld, IsMove, Advances, new_world, after_events, RunRefuses, IsProcess, IsWire, IsNoWire};
+ghost use Rattle.reg_world.specs.Worlds.{first_standing, Made, run_in, Accepts, Refuses, reply_in, IsWorld, IsMove, Advances, PartsGoOn, PartsRefuse, made_of, new_world, after_events, RunRefuses, IsProcess, IsWire, IsNoWire};
 
 use crate::books::Book;
 use crate::events::Event;
@@ -73,13 +73,57 @@ fn advance<F: FrontEnd, A: Allocator + Copy>(
 ) -> Result<Option<Reply>, AllocError>
     requires world { IsWorld F.start false stations.old.items book.old }
     requires moves { IsMove F.start book.old event (process, step.now) }
-    ensures { MatchResult result (λ reply. Advances F.start book.old event reply stations.new.items book.new) (λ _. (book.new ≡ book.old) × (length stations.new.items ≡ length stations.old.items)) }
+    ensures made { MatchResult result (λ reply. Advances F.start book.old event reply stations.new.items book.new) (λ _. (book.new ≡ book.old) × (length stations.new.items ≡ length stations.old.items)) }
+    ensures ahead { OnOk result (book.new.ahead ≡ drop 1 book.old.ahead) }
 {
     let station = &mut stations[usize::from(process)];
     let outcome = station.act(step)?;
     let runs = station.process().busy();
     book.enter(event, process, step, runs, &outcome)?;
     Ok(outcome.reply)
+}
+
+/// Makes an event, or tells why it is refused.
+fn step_parts<F: FrontEnd, A: Allocator + Copy>(
+    stations: &mut Vec<Station<F, A>, A>,
+    book: &mut Book<A>,
+    event: Event,
+) -> Result<(), WorldFault>
+    requires { IsWorld F.start false stations.old.items book.old }
+    ensures made { MatchResult result (λ _. PartsGoOn F.start book.old event stations.new.items book.new) (λ fault. PartsRefuse F.start book.old event fault) }
+{
+    let (process, step) = match found(stations, book, &event) {
+        Ok(found) => found,
+        Err(fault) => return Err(fault),
+    };
+    match advance(stations, book, event, process, &step) {
+        Ok(_) => Ok(()),
+        Err(_) => Err(WorldFault::OutOfMemory),
+    }
+}
+
+/// Makes the events that are ahead, one after another, up to the first that is refused.
+fn run_ahead<F: FrontEnd, A: Allocator + Copy>(
+    stations: &mut Vec<Station<F, A>, A>,
+    book: &mut Book<A>,
+    count: usize,
+) -> Result<(), RunFault>
+    requires world { IsWorld F.start false stations.old.items book.old }
+    requires none { book.old.accepted ≡ [] }
+    requires count { count ≡ length book.old.ahead }
+    ensures world { OnOk result (IsWorld F.start false stations.new.items book.new) }
+    ensures made { MatchResult result (λ _. made_of false book.new ≡ after_events book.old.shape book.old.ahead) (λ f. RunRefuses F.start book.old.shape book.old.ahead f.at f.fault) }
+    ensures accepted { MatchResult result (λ _. (run_in F.start (after_events book.old.shape book.old.ahead)).accepted ≡ book.old.ahead) (λ f. (run_in F.start (after_events book.old.shape (take f.at book.old.ahead))).accepted ≡ take f.at book.old.ahead) }
+{
+    for at in 0..count {
+        let Some(event) = book.next_ahead() else {
+            unreachable!()
+        };
+        if let Err(fault) = step_parts(stations, book, event) {
+            return Err(RunFault { at, fault });
+        }
+    }
+    Ok(())
 }
 
 impl<F: FrontEnd, A: Allocator + Copy> World<F, A> {
@@ -153,6 +197,27 @@ impl<F: FrontEnd, A: Allocator + Copy> World<F, A> {
             }
         }
         Ok(world)
+    }
+
+    /// The same, with the list itself kept as that of the accepted events, so that it takes no memory for a copy.
+    pub fn run_owned(
+        alloc: A,
+        shape: Shape,
+        events: Vec<Event, A>,
+    ) -> Result<World<F, A>, RunFault>
+        ensures world { MatchResult result (λ w. w ≡ after_events shape events.items) (λ f. RunRefuses F.start shape events.items f.at f.fault) }
+        ensures accepted { MatchResult result (λ _. (run_in F.start (after_events shape events.items)).accepted ≡ events.items) (λ f. (run_in F.start (after_events shape (take f.at events.items))).accepted ≡ take f.at events.items) }
+    {
+        let Ok(mut world) = World::new(alloc, shape) else {
+            let fault = WorldFault::OutOfMemory;
+            return Err(RunFault { at: 0, fault });
+        };
+        let count = events.len();
+        world.book.put_ahead(events);
+        match run_ahead(&mut world.stations, &mut world.book, count) {
+            Ok(()) => Ok(world),
+            Err(fault) => Err(fault),
+        }
     }
 
     /// The number of processes and of registers.

@@ -103,7 +103,8 @@ impl<A: Allocator + Copy> Core<A> {
 
     /// Takes a count.
     pub fn take_got(&mut self, from: u8, count: u64) -> Result<Outcome<A>, ProcessFault>
-        requires { from < length self.old.peers }
+        requires peer { from < length self.old.peers }
+        requires other { from ≡ self.old.me → ⊥ }
         ensures goes { IfOk result (λ o. Goes (length self.old.peers) (taken self.old from (Got count)) o.frames.items o.cast o.delivered.items o.reply self.new) }
         ensures room { OnOk result (frame_fault self.old from (Got count) ≡ None) }
         ensures fault { IfErr result (λ fault. FrameRefused (frame_fault self.old from (Got count)) self.old fault self.new) }
@@ -121,12 +122,12 @@ impl<A: Allocator + Copy> Core<A> {
 
     /// Drops what a process has accepted. False where the count is above what was queued.
     pub fn acknowledge(&mut self, from: u8, count: u64) -> bool
-        requires { from < length self.old.peers }
+        requires peer { from < length self.old.peers }
+        requires other { from ≡ self.old.me → ⊥ }
         ensures answer { result ≡ not (nat_lt (next_of (peer_at self.old from)) count) }
         ensures after { self.new ≡ (if result then acknowledged self.old from count else self.old) }
     {
-        let out = &mut self.outboxes[from as usize];
-        out.got(count).is_ok()
+        self.outboxes.got(from, count).is_ok()
     }
 
     /// Takes a data frame.

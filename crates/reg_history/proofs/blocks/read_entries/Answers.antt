@@ -19,18 +19,18 @@ not_both names h shape e y same none alike follows =
 
 pub returns-in_default-clause-whole : goal.returns-in_default-clause-whole
 returns-in_default-clause-whole g c = λ ys rest b.
-    absurd (ended (entry_text c.args.names.now) (Follows c.args.names.now c.args.history.now.shape) c.args.count c.args.lines.now c.loop-place.lines c.loop-place.history.entries c.loop-place._place c.loop-place-test.true c.loop-place.invariant.1 c.in_default.ensures.0 ys rest b)
+    absurd (ended (entry_text c.args.names.now) (Follows c.args.names.now c.args.history.now.shape) c.args.count c.args.lines.now.left c.loop-place.lines.left c.loop-place.history.entries c.loop-place._place c.loop-place-test.true c.loop-place.invariant.1 c.in_default.ensures.line ys rest b)
 
 pub returns-in_default-read_entry-clause-whole : goal.returns-in_default-read_entry-clause-whole
 returns-in_default-read_entry-clause-whole g c = λ ys rest b.
-    absurd (refused (entry_text c.args.names.now) (Follows c.args.names.now c.args.history.now.shape) c.args.count c.args.lines.now c.loop-place.lines c.loop-place.history.entries c.loop-place._place c.loop-place-test.true c.loop-place.invariant.1
-    c.in-Some.line.now c.next.new.self c.in-Some.ensures (λ y follows e. let none = c.in_default-read_entry.ensures.whole y follows.0 e in absurd (cc)) ys rest b)
+    absurd (refused (entry_text c.args.names.now) (Follows c.args.names.now c.args.history.now.shape) c.args.count c.args.lines.now.left c.loop-place.lines.left c.loop-place.history.entries c.loop-place._place c.loop-place-test.true c.loop-place.invariant.1
+    c.in-Some.line.now c.next.new.self.left c.in-Some.ensures.line (λ y follows e. let none = c.in_default-read_entry.ensures.whole y follows.0 e in absurd (cc)) ys rest b)
 
 pub returns-in-Err-OutOfPlace-clause-whole : goal.returns-in-Err-OutOfPlace-clause-whole
 returns-in-Err-OutOfPlace-clause-whole g c = λ ys rest b.
     let bad = (rw c.in-Err-OutOfPlace.field-0-is at c.in-Err-OutOfPlace.ensures) in
-    absurd (refused (entry_text c.args.names.now) (Follows c.args.names.now c.args.history.now.shape) c.args.count c.args.lines.now c.loop-place.lines c.loop-place.history.entries c.loop-place._place c.loop-place-test.true c.loop-place.invariant.1
-    c.in-Some.line.now c.next.new.self c.in-Some.ensures
+    absurd (refused (entry_text c.args.names.now) (Follows c.args.names.now c.args.history.now.shape) c.args.count c.args.lines.now.left c.loop-place.lines.left c.loop-place.history.entries c.loop-place._place c.loop-place-test.true c.loop-place.invariant.1
+    c.in-Some.line.now c.next.new.self.left c.in-Some.ensures.line
     (λ y follows e.
     let one = c.in-Some-read_entry.ensures.whole y follows.0 e in
     let alike : c.in-Some-read_entry.entry ≡ y = cc in
@@ -39,10 +39,10 @@ returns-in-Err-OutOfPlace-clause-whole g c = λ ys rest b.
 pub loop-place-preserved : goal.loop-place-preserved
 loop-place-preserved g c =
     let grows = c.in-Ok.ensures in
-    let P : List Entry → Type 0 = λ l. Taken (entry_text c.args.names.now) (Follows c.args.names.now c.args.history.now.shape) c.args.count c.args.lines.now c.next.new.self l (c.loop-place._place + 1) in (
+    let P : List Entry → Type 0 = λ l. Taken (entry_text c.args.names.now) (Follows c.args.names.now c.args.history.now.shape) c.args.count c.args.lines.now.left c.next.new.self.left l (c.loop-place._place + 1) in (
       grows.shape ∙ c.loop-place.invariant.0,
-      subst P (sym grows.entries) (steps (entry_text c.args.names.now) (Follows c.args.names.now c.args.history.now.shape) c.args.count c.args.lines.now c.loop-place.lines c.loop-place.history.entries c.loop-place._place c.loop-place-test.true c.loop-place.invariant.1
-          c.in-Some.line.now c.next.new.self c.in-Some-read_entry.entry c.in-Some.ensures c.in-Some-read_entry.ensures.read.0
+      subst P (sym grows.entries) (steps (entry_text c.args.names.now) (Follows c.args.names.now c.args.history.now.shape) c.args.count c.args.lines.now.left c.loop-place.lines.left c.loop-place.history.entries c.loop-place._place c.loop-place-test.true c.loop-place.invariant.1
+          c.in-Some.line.now c.next.new.self.left c.in-Some-read_entry.entry c.in-Some.ensures.line c.in-Some-read_entry.ensures.read.0
           (c.in-Some-read_entry.ensures.read.1, at_shape c.loop-place.history c.args.history.now.shape c.in-Some-read_entry.entry c.loop-place.invariant.0 grows.in_place)
           (λ y follows e. let one = c.in-Some-read_entry.ensures.whole y follows.0 e in cc)),
     )
@@ -50,5 +50,5 @@ loop-place-preserved g c =
 pub returns-clause-whole : goal.returns-clause-whole
 returns-clause-whole g c = λ ys rest b.
     let n : c.loop-place._place ≡ c.args.count = omega arith in
-    let P : ℕ → Type 0 = λ i. Taken (entry_text c.args.names.now) (Follows c.args.names.now c.args.history.now.shape) c.args.count c.args.lines.now c.loop-place.lines c.loop-place.history.entries i in
-    only_read (entry_text c.args.names.now) (Follows c.args.names.now c.args.history.now.shape) c.args.count c.args.lines.now c.loop-place.lines c.loop-place.history.entries (subst P n c.loop-place.invariant.1) ys rest b
+    let P : ℕ → Type 0 = λ i. Taken (entry_text c.args.names.now) (Follows c.args.names.now c.args.history.now.shape) c.args.count c.args.lines.now.left c.loop-place.lines.left c.loop-place.history.entries i in
+    only_read (entry_text c.args.names.now) (Follows c.args.names.now c.args.history.now.shape) c.args.count c.args.lines.now.left c.loop-place.lines.left c.loop-place.history.entries (subst P n c.loop-place.invariant.1) ys rest b

@@ -5,7 +5,7 @@ use Rattle.reg_history.proofs.parts.read_front.Goals as goal
 
 pub returns-in-Ok-None-clause-whole : goal.returns-in-Ok-None-clause-whole
 returns-in-Ok-None-clause-whole g c = λ front rest ok e.
-    let both : c.in-Some.line.now ∷ c.next.new.self ≡ (codes "front " ++ front) ∷ rest = sym c.in-Some.ensures ∙ e in
+    let both : c.in-Some.line.now ∷ c.next.new.self.left ≡ (codes "front " ++ front) ∷ rest = sym c.in-Some.ensures.line ∙ e in
     let first : c.in-Some.line.now ≡ codes "front " ++ front = cc in
     let word : c.in-Some-skip.word.now ≡ front = c.in-Some-skip.ensures.whole front first in
     let P : List ℕ → Type 0 = λ l. IsUtf8 l in

@@ -25,15 +25,15 @@ counted names shape s old mid rest n ys same few e b =
 
 pub returns-in_err-read_entries-clause-whole : goal.returns-in_err-read_entries-clause-whole
 returns-in_err-read_entries-clause-whole g c = λ ys rest b.
-    let k = block c.args.names.now c.args.shape c.in-Ok.history.shape c.args.lines.now c.read_count.new.lines rest c.in_ok-count.count ys c.in-Ok.ensures.0 c.in_ok-count.ensures.whole b in
+    let k = block c.args.names.now c.args.shape c.in-Ok.history.shape c.args.lines.now.left c.read_count.new.lines.left rest c.in_ok-count.count ys c.in-Ok.ensures.0 c.in_ok-count.ensures.whole b in
     let none = c.in_err-read_entries.ensures.whole ys rest k in
     search rules
 
 pub returns-clause-read : goal.returns-clause-read
 returns-clause-read g c =
-    counted c.args.names.now c.args.shape c.in-Ok.history.shape c.args.lines.now c.read_count.new.lines c.read_entries.new.lines c.in_ok-count.count c.read_entries.new.history.entries c.in-Ok.ensures.0 c.in_ok-count.ensures.read.1 c.in_ok-count.ensures.read.0 c.in_ok-read_entries.ensures.read
+    counted c.args.names.now c.args.shape c.in-Ok.history.shape c.args.lines.now.left c.read_count.new.lines.left c.read_entries.new.lines.left c.in_ok-count.count c.read_entries.new.history.entries c.in-Ok.ensures.0 c.in_ok-count.ensures.read.1 c.in_ok-count.ensures.read.0 c.in_ok-read_entries.ensures.read
 
 pub returns-clause-whole : goal.returns-clause-whole
 returns-clause-whole g c = λ ys rest b.
-    let k = block c.args.names.now c.args.shape c.in-Ok.history.shape c.args.lines.now c.read_count.new.lines rest c.in_ok-count.count ys c.in-Ok.ensures.0 c.in_ok-count.ensures.whole b in
+    let k = block c.args.names.now c.args.shape c.in-Ok.history.shape c.args.lines.now.left c.read_count.new.lines.left rest c.in_ok-count.count ys c.in-Ok.ensures.0 c.in_ok-count.ensures.whole b in
     c.in_ok-read_entries.ensures.whole ys rest k

@@ -15,7 +15,7 @@ returns-in_err-history-clause-whole g c = λ r ok e.
     let s : c.in-Ok.shape ≡ record { processes = c.in_ok-front.processes; registers = c.count.result } = shape_is c.new.result c.in_ok-front.processes c.count.result c.in-Ok.shape c.in-Ok.is c.new.ensures in
     let n : c.count.result ≡ r.shape.registers = c.count.ensures.value ∙ ap length head.2 ∙ sym ok.registers in
     let t : c.in-Ok.shape ≡ r.shape = s ∙ ap (λ x. record { processes = x; registers = c.count.result }) head.1 ∙ ap (λ x. record { processes = r.shape.processes; registers = x }) n in
-    let history = c.in_err-history.ensures.whole r.entries (after_history r) (history_part r c.in_ok-front.names c.in-Ok.shape c.read_head.new.lines head.2 t head.3 ok) in
+    let history = c.in_err-history.ensures.whole r.entries (after_history r) (history_part r c.in_ok-front.names c.in-Ok.shape c.read_head.new.lines.left head.2 t head.3 ok) in
     search rules
 
 pub returns-in_err-order-clause-whole : goal.returns-in_err-order-clause-whole
@@ -24,8 +24,8 @@ returns-in_err-order-clause-whole g c = λ r ok e.
     let s : c.in-Ok.shape ≡ record { processes = c.in_ok-front.processes; registers = c.count.result } = shape_is c.new.result c.in_ok-front.processes c.count.result c.in-Ok.shape c.in-Ok.is c.new.ensures in
     let n : c.count.result ≡ r.shape.registers = c.count.ensures.value ∙ ap length head.2 ∙ sym ok.registers in
     let t : c.in-Ok.shape ≡ r.shape = s ∙ ap (λ x. record { processes = x; registers = c.count.result }) head.1 ∙ ap (λ x. record { processes = r.shape.processes; registers = x }) n in
-    let history = c.in_ok-history.ensures.whole r.entries (after_history r) (history_part r c.in_ok-front.names c.in-Ok.shape c.read_head.new.lines head.2 t head.3 ok) in
-    let order = c.in_err-order.ensures.whole r.order (tail_lines r.points) (order_part r c.read_history.new.lines history.1 ok) in
+    let history = c.in_ok-history.ensures.whole r.entries (after_history r) (history_part r c.in_ok-front.names c.in-Ok.shape c.read_head.new.lines.left head.2 t head.3 ok) in
+    let order = c.in_err-order.ensures.whole r.order (tail_lines r.points) (order_part r c.read_history.new.lines.left history.1 ok) in
     search rules
 
 pub returns-in_err-points-clause-whole : goal.returns-in_err-points-clause-whole
@@ -34,8 +34,8 @@ returns-in_err-points-clause-whole g c = λ r ok e.
     let s : c.in-Ok.shape ≡ record { processes = c.in_ok-front.processes; registers = c.count.result } = shape_is c.new.result c.in_ok-front.processes c.count.result c.in-Ok.shape c.in-Ok.is c.new.ensures in
     let n : c.count.result ≡ r.shape.registers = c.count.ensures.value ∙ ap length head.2 ∙ sym ok.registers in
     let t : c.in-Ok.shape ≡ r.shape = s ∙ ap (λ x. record { processes = x; registers = c.count.result }) head.1 ∙ ap (λ x. record { processes = r.shape.processes; registers = x }) n in
-    let history = c.in_ok-history.ensures.whole r.entries (after_history r) (history_part r c.in_ok-front.names c.in-Ok.shape c.read_head.new.lines head.2 t head.3 ok) in
-    let order = c.in_ok-order.ensures.whole r.order (tail_lines r.points) (order_part r c.read_history.new.lines history.1 ok) in
+    let history = c.in_ok-history.ensures.whole r.entries (after_history r) (history_part r c.in_ok-front.names c.in-Ok.shape c.read_head.new.lines.left head.2 t head.3 ok) in
+    let order = c.in_ok-order.ensures.whole r.order (tail_lines r.points) (order_part r c.read_history.new.lines.left history.1 ok) in
     let points = c.in_err-points.ensures.whole r.points ok.range.points_fit order.1 in
     search rules
 
@@ -43,7 +43,7 @@ pub returns-clause-read : goal.returns-clause-read
 returns-clause-read g c =
     let head = c.in_ok-front.ensures.read in
     let s : c.in-Ok.shape ≡ record { processes = c.in_ok-front.processes; registers = c.count.result } = shape_is c.new.result c.in_ok-front.processes c.count.result c.in-Ok.shape c.in-Ok.is c.new.ensures in
-    from_parts _ c.in_ok-front.processes c.in_ok-front.names c.in-Ok.shape _ _ _ _ c.args.lines.now c.read_head.new.lines c.read_history.new.lines c.read_order.new.lines
+    from_parts _ c.in_ok-front.processes c.in_ok-front.names c.in-Ok.shape _ _ _ _ c.args.lines.now.left c.read_head.new.lines.left c.read_history.new.lines.left c.read_order.new.lines.left
     head.0 head.1 head.2 head.3 head.4 (s ∙ ap (λ x. record { processes = c.in_ok-front.processes; registers = x }) c.count.ensures.value) c.in_ok-history.ensures.shape c.in_ok-history.ensures.read c.in_ok-order.ensures.read c.in_ok-points.ensures.read.0 c.in_ok-points.ensures.read.1
 
 pub returns-clause-whole : goal.returns-clause-whole
@@ -52,8 +52,8 @@ returns-clause-whole g c = λ r ok e.
     let s : c.in-Ok.shape ≡ record { processes = c.in_ok-front.processes; registers = c.count.result } = shape_is c.new.result c.in_ok-front.processes c.count.result c.in-Ok.shape c.in-Ok.is c.new.ensures in
     let n : c.count.result ≡ r.shape.registers = c.count.ensures.value ∙ ap length head.2 ∙ sym ok.registers in
     let t : c.in-Ok.shape ≡ r.shape = s ∙ ap (λ x. record { processes = x; registers = c.count.result }) head.1 ∙ ap (λ x. record { processes = r.shape.processes; registers = x }) n in
-    let history = c.in_ok-history.ensures.whole r.entries (after_history r) (history_part r c.in_ok-front.names c.in-Ok.shape c.read_head.new.lines head.2 t head.3 ok) in
-    let order = c.in_ok-order.ensures.whole r.order (tail_lines r.points) (order_part r c.read_history.new.lines history.1 ok) in
+    let history = c.in_ok-history.ensures.whole r.entries (after_history r) (history_part r c.in_ok-front.names c.in-Ok.shape c.read_head.new.lines.left head.2 t head.3 ok) in
+    let order = c.in_ok-order.ensures.whole r.order (tail_lines r.points) (order_part r c.read_history.new.lines.left history.1 ok) in
     let points = c.in_ok-points.ensures.whole r.points ok.range.points_fit order.1 in
     same_contents r _ _ _ _ _ _ head.0 (c.in_ok-history.ensures.shape ∙ t) head.2 history.0 order.0 points
 
@@ -61,5 +61,5 @@ pub invariant_of-result : goal.invariant_of-result
 invariant_of-result g c =
     let head = c.in_ok-front.ensures.read in
     let s : c.in-Ok.shape ≡ record { processes = c.in_ok-front.processes; registers = c.count.result } = shape_is c.new.result c.in_ok-front.processes c.count.result c.in-Ok.shape c.in-Ok.is c.new.ensures in
-    (from_parts _ c.in_ok-front.processes c.in_ok-front.names c.in-Ok.shape _ _ _ _ c.args.lines.now c.read_head.new.lines c.read_history.new.lines c.read_order.new.lines
+    (from_parts _ c.in_ok-front.processes c.in_ok-front.names c.in-Ok.shape _ _ _ _ c.args.lines.now.left c.read_head.new.lines.left c.read_history.new.lines.left c.read_order.new.lines.left
     head.0 head.1 head.2 head.3 head.4 (s ∙ ap (λ x. record { processes = c.in_ok-front.processes; registers = x }) c.count.ensures.value) c.in_ok-history.ensures.shape c.in_ok-history.ensures.read c.in_ok-order.ensures.read c.in_ok-points.ensures.read.0 c.in_ok-points.ensures.read.1).1

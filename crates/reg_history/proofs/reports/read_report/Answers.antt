@@ -10,8 +10,8 @@ told (Ok r) bs ls e h = (text_with bs (report_lines r) (sym e ∙ h.0), h.1)
 told (Err f) bs ls e h = tt
 
 pub returns-clause-read : goal.returns-clause-read
-returns-clause-read g c = told c.read_lines.result c.args.text.now c.new-lines.result (c.new-lines.ensures ∙ ap lines_of c.as_bytes.ensures.value) c.read_lines.ensures.read
+returns-clause-read g c = told c.read_lines.result c.args.text.now c.new-lines.result.left (c.new-lines.ensures.lines.0 ∙ ap lines_of c.as_bytes.ensures.value) c.read_lines.ensures.read
 
 pub returns-clause-whole : goal.returns-clause-whole
 returns-clause-whole g c = λ r ok t.
-    c.read_lines.ensures.whole r ok (c.new-lines.ensures ∙ ap lines_of c.as_bytes.ensures.value ∙ lines_with c.args.text.now (report_lines r) (report_lack r ok) (report_ends r) t)
+    c.read_lines.ensures.whole r ok (c.new-lines.ensures.lines.0 ∙ ap lines_of c.as_bytes.ensures.value ∙ lines_with c.args.text.now (report_lines r) (report_lack r ok) (report_ends r) t)

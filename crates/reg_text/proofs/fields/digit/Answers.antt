@@ -1,4 +1,4 @@
-use Rattle.std.proofs.Common.{Some, ◌≡◌, ap, rules}
+use Rattle.std.proofs.Common.{Some, ap, rules}
 use Rattle.std.specs.Int.{IsInRange}
 use Rattle.reg_text.proofs.Shorts.{digit_read, one_digit}
 use Rattle.reg_text.proofs.fields.digit.Goals as goal

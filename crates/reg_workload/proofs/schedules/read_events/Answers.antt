@@ -7,12 +7,12 @@ use Rattle.reg_workload.proofs.schedules.read_events.Goals as goal
 pub loop-place-preserved : goal.loop-place-preserved
 loop-place-preserved g c =
     let grown : c.push.new.self.items ≡ c.loop-place.events.items ++ c.in-Some-read_event.event ∷ [] = search rules in
-    let P : List Event → Type 0 = λ l. Gathered (event_text c.args.names.now) (λ _ x. EventFits c.args.names.now x) c.args.lines.now c.next.new.self l (c.loop-place._place + 1) in
-    subst P (sym grown) (gathers_one (event_text c.args.names.now) (λ _ x. EventFits c.args.names.now x) c.args.lines.now c.loop-place.lines c.loop-place.events.items c.loop-place._place c.loop-place.invariant
-    c.in-Some.line.now c.next.new.self c.in-Some-read_event.event c.in-Some.ensures c.in-Some-read_event.ensures.read.0 c.in-Some-read_event.ensures.read.1
+    let P : List Event → Type 0 = λ l. Gathered (event_text c.args.names.now) (λ _ x. EventFits c.args.names.now x) c.args.lines.now.left c.next.new.self.left l (c.loop-place._place + 1) in
+    subst P (sym grown) (gathers_one (event_text c.args.names.now) (λ _ x. EventFits c.args.names.now x) c.args.lines.now.left c.loop-place.lines.left c.loop-place.events.items c.loop-place._place c.loop-place.invariant
+    c.in-Some.line.now c.next.new.self.left c.in-Some-read_event.event c.in-Some.ensures.line c.in-Some-read_event.ensures.read.0 c.in-Some-read_event.ensures.read.1
     (λ y fits e. let one = c.in-Some-read_event.ensures.whole y fits e in cc))
 
 pub returns-in_default-read_event-clause-whole : goal.returns-in_default-read_event-clause-whole
 returns-in_default-read_event-clause-whole g c = λ ys fit few e.
-    absurd (gathers_none (event_text c.args.names.now) (λ _ x. EventFits c.args.names.now x) c.args.lines.now c.loop-place.lines c.loop-place.events.items c.loop-place._place c.loop-place.invariant
-    c.in-Some.line.now c.next.new.self c.in-Some.ensures (λ y fits f. let none = c.in_default-read_event.ensures.whole y fits f in absurd (cc)) ys fit e)
+    absurd (gathers_none (event_text c.args.names.now) (λ _ x. EventFits c.args.names.now x) c.args.lines.now.left c.loop-place.lines.left c.loop-place.events.items c.loop-place._place c.loop-place.invariant
+    c.in-Some.line.now c.next.new.self.left c.in-Some.ensures.line (λ y fits f. let none = c.in_default-read_event.ensures.whole y fits f in absurd (cc)) ys fit e)

@@ -4,4 +4,4 @@ use Rattle.reg_workload.proofs.schedules.read_events.Given as goal
 
 -- as many were read as there were turns
 abbrev pub invariant-loop-place : goal.invariant-loop-place
-invariant-loop-place g l = Gathered (event_text l.names) (λ _ x. EventFits l.names x) l.initial.lines l.lines l.events.items l._place
+invariant-loop-place g l = Gathered (event_text l.names) (λ _ x. EventFits l.names x) l.initial.lines.left l.lines.left l.events.items l._place

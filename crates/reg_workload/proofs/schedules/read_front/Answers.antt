@@ -13,7 +13,7 @@ name_is_text LocalWrite = letters_text (codes "local-write") refl
 
 pub returns-in-Err-clause-whole : goal.returns-in-Err-clause-whole
 returns-in-Err-clause-whole c = λ f rest e.
-    let both : c.in-Some.line.now ∷ c.next.new.self ≡ (codes "front " ++ front_name f) ∷ rest = sym c.in-Some.ensures ∙ e in
+    let both : c.in-Some.line.now ∷ c.next.new.self.left ≡ (codes "front " ++ front_name f) ∷ rest = sym c.in-Some.ensures.line ∙ e in
     let first : c.in-Some.line.now ≡ codes "front " ++ front_name f = cc in
     let word : c.in-Some-skip.word.now ≡ front_name f = c.in-Some-skip.ensures.whole (front_name f) first in
     let P : List ℕ → Type 0 = λ l. IsUtf8 l in

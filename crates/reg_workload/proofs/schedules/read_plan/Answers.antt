@@ -25,7 +25,7 @@ returns-in_err-processes-clause-whole g c = λ p ok e.
 pub returns-in_err-events-clause-whole : goal.returns-in_err-events-clause-whole
 returns-in_err-events-clause-whole g c = λ p ok e.
     let head = c.in_ok-processes.ensures.whole p.shape.processes p.names p.front (map (event_text p.names) p.events) ok.some_process ok.processes ok.names e in
-    let events = c.in_err-events.ensures.whole p.events (fits c.in_ok-processes.names p.names p.events head.1 ok.events) ok.few (lines c.in_ok-processes.names p.names p.events c.read_head.new.lines head.1 head.3) in
+    let events = c.in_err-events.ensures.whole p.events (fits c.in_ok-processes.names p.names p.events head.1 ok.events) ok.few (lines c.in_ok-processes.names p.names p.events c.read_head.new.lines.left head.1 head.3) in
     search rules
 
 pub returns-clause-whole : goal.returns-clause-whole
@@ -34,5 +34,5 @@ returns-clause-whole g c = λ p ok e.
     let s : c.in-Ok.shape ≡ record { processes = c.in_ok-processes.processes; registers = c.count.result } = shape_is c.new.result c.in_ok-processes.processes c.count.result c.in-Ok.shape c.in-Ok.is c.new.ensures in
     let n : c.count.result ≡ p.shape.registers = c.count.ensures.value ∙ ap length head.1 ∙ sym ok.registers in
     let t : c.in-Ok.shape ≡ p.shape = s ∙ ap (λ x. record { processes = x; registers = c.count.result }) head.0 ∙ ap (λ x. record { processes = p.shape.processes; registers = x }) n in
-    let events = c.in_ok-events.ensures.whole p.events (fits c.in_ok-processes.names p.names p.events head.1 ok.events) ok.few (lines c.in_ok-processes.names p.names p.events c.read_head.new.lines head.1 head.3) in
+    let events = c.in_ok-events.ensures.whole p.events (fits c.in_ok-processes.names p.names p.events head.1 ok.events) ok.few (lines c.in_ok-processes.names p.names p.events c.read_head.new.lines.left head.1 head.3) in
     same_plan p _ _ _ _ t head.1 head.2 events

@@ -12,6 +12,6 @@ pub enter-requires : goal.enter-requires
 enter-requires g c =
     enter_ok g.F.FrontEnd.start g.met.F.FrontEnd.lawful c.args.book.now c.args.stations.now.items c.requires.world c.args.event c.args.process c.args.step.now c.requires.moves c.from.result c.index_mut-station.result.now c.act.new.self c.in_ok-outcome.outcome.cast c.in_ok-outcome.outcome.delivered.items c.in_ok-outcome.outcome.reply c.busy-runs.result c.from.ensures c.index_mut-station.ensures.value c.in_ok-outcome.ensures (c.busy-runs.ensures ∙ ap (λ (k : Kept). is_some k.state.running) c.process.ensures)
 
-pub returns : goal.returns
-returns g c =
+pub returns-clause-made : goal.returns-clause-made
+returns-clause-made g c =
     advances g.F.FrontEnd.start g.met.F.FrontEnd.lawful c.args.book.now c.args.stations.now.items c.requires.world c.args.event c.args.process c.args.step.now c.requires.moves c.from.result c.index_mut-station.result.now c.act.new.self c.in_ok-outcome.outcome.cast c.in_ok-outcome.outcome.delivered.items c.in_ok-outcome.outcome.reply c.busy-runs.result c.from.ensures c.index_mut-station.ensures.value c.in_ok-outcome.ensures (c.busy-runs.ensures ∙ ap (λ (k : Kept). is_some k.state.running) c.process.ensures) c.enter.new.self c.in_ok-enter.ensures

@@ -1,13 +1,12 @@
-use Rattle.std.proofs.Common.{◌≡◌, List, length, ap, subst, ◌∙◌}
+use Rattle.std.proofs.Common.{◌≡◌, length, subst, ◌∙◌}
 use Rattle.reg_process.specs.Process.{State, resent}
-use Rattle.reg_links.specs.Link.{Unacknowledged}
-use Rattle.reg_process.specs.Parts.{Parts}
-use Rattle.reg_process.specs.Puts.{puts, again_frames}
+use Rattle.reg_process.specs.Parts.{Parts, outs_of}
+use Rattle.reg_process.specs.Puts.{puts}
 use Rattle.reg_process.proofs.Again.{again_is}
 use Rattle.reg_process.proofs.parts.Core.tick.Goals as goal
 
 pub returns : goal.returns
 returns g c =
-    let p : Parts = record { me = c.self.inside.me; clock = c.self.inside.clock; waiting = c.self.inside.waiting; expected = c.self.inside.inboxes.items; outs = c.self.inside.outboxes.items; copy = c.self.inside.copy; delivered = c.self.inside.delivered; unsettled = c.self.inside.unsettled; running = c.self.inside.running; calls = c.self.inside.calls } in
+    let p : Parts = record { me = c.self.inside.me; clock = c.self.inside.clock; waiting = c.self.inside.waiting; expected = c.self.inside.inboxes.items; outs = outs_of c.self.inside.me c.self.inside.outboxes; copy = c.self.inside.copy; delivered = c.self.inside.delivered; unsettled = c.self.inside.unsettled; running = c.self.inside.running; calls = c.self.inside.calls } in
     subst (λ (s : State). c.in_ok-frames.frames.items ≡ puts (resent s) (length s.peers)) c.self.view_is
-    (c.in_ok-frames.ensures ∙ ap (λ (os : List Unacknowledged). puts (again_frames c.self.inside.me os) (length os)) c.as_slice.ensures.value ∙ again_is p c.self.invariant)
+    (c.in_ok-frames.ensures ∙ again_is p c.self.invariant)

@@ -1,5 +1,4 @@
 use Rattle.std.proofs.Common.{◌≡◌, ◌∙◌, ◌++◌, ◌-◌, length, ap, subst, arith, length-set}
-use Rattle.std.specs.Prelude.{vec_len}
 use Rattle.reg_base.specs.Order.{In}
 use Rattle.reg_world.specs.World.{op_id, calls_in}
 use Rattle.reg_world.specs.Pages.{Pages, tally_at, calls_after}
@@ -13,7 +12,7 @@ push_call-requires-clause-in_place g c =
     call_good b c.args.process c.args.step.now c.args.outcome.now.reply c.requires.history c.reserve_all.new.history.shape c.reserve_all.new.history.entries c.len-at.result c.in_ok-ids.ids.called
     (c.reserve_all.ensures.shape ∙ ap (λ (x : Pages). x.shape) view)
     (c.reserve_all.ensures.entries ∙ ap (λ (x : Pages). x.entries) view)
-    (c.len-at.ensures ∙ ((let n = c.self.inside.accepted.ok.0 in let e : vec_len c.self.inside.accepted ≡ length c.self.inside.accepted.items = omega (arith, n) in e) ∙ ap (λ (x : Pages). length x.accepted) view))
+    (c.len-at.ensures ∙ (ap (λ (x : Pages). length x.accepted) view))
     (c.in_ok-ids.ensures.called ∙ ap (λ (x : Pages). op_id c.args.process (tally_at x.tallies c.args.process).calls) view)
 
 pub push_answer-requires-clause-in_place : goal.push_answer-requires-clause-in_place
@@ -23,7 +22,7 @@ push_answer-requires-clause-in_place g c =
     answer_good b c.args.process c.args.step.now c.args.outcome.now.reply c.requires.history c.push_call.new.history.shape c.push_call.new.history.entries c.len-at.result c.in_ok-ids.ids.called c.in_ok-ids.ids.answered
     (c.push_call.ensures.shape ∙ (c.reserve_all.ensures.shape ∙ ap (λ (x : Pages). x.shape) view))
     (c.push_call.ensures.entries ∙ ap (λ z. z ++ calls_in c.len-at.result c.in_ok-ids.ids.called c.args.step.now) (c.reserve_all.ensures.entries ∙ ap (λ (x : Pages). x.entries) view))
-    (c.len-at.ensures ∙ ((let n = c.self.inside.accepted.ok.0 in let e : vec_len c.self.inside.accepted ≡ length c.self.inside.accepted.items = omega (arith, n) in e) ∙ ap (λ (x : Pages). length x.accepted) view))
+    (c.len-at.ensures ∙ (ap (λ (x : Pages). length x.accepted) view))
     (c.in_ok-ids.ensures.called ∙ ap (λ (x : Pages). op_id c.args.process (tally_at x.tallies c.args.process).calls) view)
     (c.in_ok-ids.ensures.answered ∙ ap (λ (x : Pages). op_id c.args.process (calls_after c.args.step.now (tally_at x.tallies c.args.process).calls - 1)) view)
 

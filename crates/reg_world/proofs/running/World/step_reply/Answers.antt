@@ -15,16 +15,16 @@ advance-requires-clause-moves g c =
 
 pub invariant_of-self-in-Err-advance : goal.invariant_of-self-in-Err-advance
 invariant_of-self-in-Err-advance g c =
-    stopped_world g.F.FrontEnd.start c.self.inside.failed c.self.inside.stations.items c.advance.new.stations.items c.self.inside.book c.advance.new.book c.self.invariant c.in-Err-advance.ensures.0 c.in-Err-advance.ensures.1
+    stopped_world g.F.FrontEnd.start c.self.inside.failed c.self.inside.stations.items c.advance.new.stations.items c.self.inside.book c.advance.new.book c.self.invariant c.in-Err-advance.ensures.made.0 c.in-Err-advance.ensures.made.1
 
 pub returns-in-Ok-advance : goal.returns-in-Ok-advance
 returns-in-Ok-advance g c =
     accepts_is g.F.FrontEnd.start c.self.inside.failed c.self.inside.book c.self.inside.stations.items c.self.invariant c.if-self.false c.args.event.now c.args.self.now c.self.view_is c.in-Ok.found
-    (ap (λ l. found l c.self.inside.book c.args.event.now) (sym c.deref.ensures.value) ∙ (sym c.found.ensures ∙ c.in-Ok.is)) c.in-Ok-advance.reply c.advance.new.stations.items c.advance.new.book c.in-Ok-advance.ensures
+    (ap (λ l. found l c.self.inside.book c.args.event.now) (sym c.deref.ensures.value) ∙ (sym c.found.ensures ∙ c.in-Ok.is)) c.in-Ok-advance.reply c.advance.new.stations.items c.advance.new.book c.in-Ok-advance.ensures.made
 
 pub returns-in-Err-advance : goal.returns-in-Err-advance
 returns-in-Err-advance g c = (
   none_is g.F.FrontEnd.start c.self.inside.failed c.self.inside.book c.self.inside.stations.items c.self.invariant c.if-self.false c.args.event.now c.args.self.now c.self.view_is c.in-Ok.found
       (ap (λ l. found l c.self.inside.book c.args.event.now) (sym c.deref.ensures.value) ∙ (sym c.found.ensures ∙ c.in-Ok.is)),
-  stopped_is g.F.FrontEnd.start c.self.inside.failed c.self.inside.book c.self.inside.stations.items c.self.invariant c.if-self.false c.args.event.now c.args.self.now c.self.view_is c.advance.new.book c.in-Err-advance.ensures.0,
+  stopped_is g.F.FrontEnd.start c.self.inside.failed c.self.inside.book c.self.inside.stations.items c.self.invariant c.if-self.false c.args.event.now c.args.self.now c.self.view_is c.advance.new.book c.in-Err-advance.ensures.made.0,
 )

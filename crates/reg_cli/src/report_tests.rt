@@ -1,0 +1,338 @@
+//! Schedules and their reports, worked by hand. Each report is judged too.
+use crate::Command;
+use crate::replay_tests::ONE_PROCESS_SCHEDULE;
+use crate::tests::{ONE_PROCESS, demand, demand_each_growth};
+
+/// A schedule and its report.
+struct Row {
+    schedule: &'static str,
+    report: &'static str,
+}
+
+const ROWS: [Row; 11] = [
+    // A write that the other process acknowledges.
+    Row {
+        schedule: "processes 2
+registers x
+front linear
+call 0 write x 5
+take 0 1 0
+take 1 0 1
+",
+        report: "awreg report 1
+front linear
+processes 2
+registers x
+history 2
+       0  p0    #0       call    write x 5
+       2  p0    #0       answer  done
+order 1
+p0 #0
+points 1
+p0 #0 at 1
+end
+",
+    },
+    // A write whose acknowledgement is lost.
+    Row {
+        schedule: "processes 2
+registers x
+front linear
+call 0 write x 5
+take 0 1 0
+take 1 0 0
+",
+        report: "awreg report 1
+front linear
+processes 2
+registers x
+history 1
+       0  p0    #0       call    write x 5
+order 1
+p0 #0
+points 1
+p0 #0 at 1
+end
+",
+    },
+    // Two writes at one time.
+    Row {
+        schedule: "processes 2
+registers x
+front linear
+call 0 write x 1
+call 1 write x 2
+take 0 1 0
+take 1 0 0
+take 0 1 2
+",
+        report: "awreg report 1
+front linear
+processes 2
+registers x
+history 4
+       0  p0    #0       call    write x 1
+       1  p1    #0       call    write x 2
+       3  p0    #0       answer  done
+       4  p1    #0       answer  done
+order 2
+p0 #0
+p1 #0
+points 2
+p0 #0 at 2
+p1 #0 at 3
+end
+",
+    },
+    // A stale local read.
+    Row {
+        schedule: "processes 3
+registers x
+front local-read
+call 0 write x 5
+take 0 1 0
+take 0 2 0
+take 1 0 1
+take 2 0 1
+call 1 read x
+",
+        report: "awreg report 1
+front local-read
+processes 3
+registers x
+history 4
+       0  p0    #0       call    write x 5
+       4  p0    #0       answer  done
+       5  p1    #0       call    read x
+       5  p1    #0       answer  value 0
+order 2
+p1 #0
+p0 #0
+end
+",
+    },
+    // A read that waits for the own write.
+    Row {
+        schedule: "processes 2
+registers x
+front local-write
+call 0 write x 5
+call 0 read x
+take 0 1 0
+take 1 0 1
+",
+        report: "awreg report 1
+front local-write
+processes 2
+registers x
+history 4
+       0  p0    #0       call    write x 5
+       0  p0    #0       answer  done
+       1  p0    #1       call    read x
+       3  p0    #1       answer  value 5
+order 2
+p0 #0
+p0 #1
+end
+",
+    },
+    // A write answered at once and delivered nowhere.
+    Row {
+        schedule: "processes 2
+registers x
+front local-write
+call 0 write x 5
+",
+        report: "awreg report 1
+front local-write
+processes 2
+registers x
+history 2
+       0  p0    #0       call    write x 5
+       0  p0    #0       answer  done
+order 1
+p0 #0
+end
+",
+    },
+    // A repeated frame.
+    Row {
+        schedule: "processes 2
+registers x
+front linear
+call 0 write x 5
+take 0 1 0
+take 0 1 0
+take 1 0 1
+",
+        report: "awreg report 1
+front linear
+processes 2
+registers x
+history 2
+       0  p0    #0       call    write x 5
+       3  p0    #0       answer  done
+order 1
+p0 #0
+points 1
+p0 #0 at 1
+end
+",
+    },
+    // Frames out of turn.
+    Row {
+        schedule: "processes 2
+registers x
+front linear
+call 0 write x 1
+call 1 write x 2
+take 0 1 0
+take 1 0 2
+take 1 0 0
+",
+        report: "awreg report 1
+front linear
+processes 2
+registers x
+history 3
+       0  p0    #0       call    write x 1
+       1  p1    #0       call    write x 2
+       4  p0    #0       answer  done
+order 2
+p0 #0
+p1 #0
+points 2
+p0 #0 at 2
+p1 #0 at 4
+end
+",
+    },
+    // A frame put again by a tick.
+    Row {
+        schedule: "processes 2
+registers x
+front linear
+call 0 write x 5
+tick 0
+take 0 1 1
+take 1 0 1
+",
+        report: "awreg report 1
+front linear
+processes 2
+registers x
+history 2
+       0  p0    #0       call    write x 5
+       3  p0    #0       answer  done
+order 1
+p0 #0
+points 1
+p0 #0 at 2
+end
+",
+    },
+    // Three processes.
+    Row {
+        schedule: "processes 3
+registers x
+front linear
+call 0 write x 1
+call 1 write x 2
+take 0 2 0
+take 2 1 0
+take 0 1 0
+take 1 0 0
+take 0 1 2
+take 2 0 1
+",
+        report: "awreg report 1
+front linear
+processes 3
+registers x
+history 4
+       0  p0    #0       call    write x 1
+       1  p1    #0       call    write x 2
+       6  p1    #0       answer  done
+       7  p0    #0       answer  done
+order 2
+p0 #0
+p1 #0
+points 2
+p0 #0 at 4
+p1 #0 at 6
+end
+",
+    },
+    // A read answered between two deliveries of one event.
+    Row {
+        schedule: "processes 2
+registers x
+front local-write
+call 0 write x 1
+call 1 write x 2
+call 0 read x
+take 1 0 0
+",
+        report: "awreg report 1
+front local-write
+processes 2
+registers x
+history 6
+       0  p0    #0       call    write x 1
+       0  p0    #0       answer  done
+       1  p1    #0       call    write x 2
+       1  p1    #0       answer  done
+       2  p0    #1       call    read x
+       3  p0    #1       answer  value 1
+order 3
+p0 #0
+p0 #1
+p1 #0
+end
+",
+    },
+];
+
+/// The verdict on a report, by the front end that it names.
+fn verdict_on(report: &str) -> &'static str {
+    if report.starts_with("awreg report 1\nfront linear\n") {
+        "serial yes\npoints yes\n"
+    } else {
+        "serial yes\n"
+    }
+}
+
+#[test]
+fn each_run_has_its_report(rt: HostRuntime) {
+    let alloc = rt.alloc();
+    let one = ONE_PROCESS_SCHEDULE.as_bytes();
+    demand(&rt, alloc, Command::Replay, one, 0, ONE_PROCESS, "");
+    for row in &ROWS {
+        let schedule = row.schedule.as_bytes();
+        demand(&rt, alloc, Command::Replay, schedule, 0, row.report, "");
+        let report = row.report.as_bytes();
+        demand(
+            &rt,
+            alloc,
+            Command::Check,
+            report,
+            0,
+            verdict_on(row.report),
+            "",
+        );
+    }
+}
+
+#[test]
+fn a_replay_with_each_growth_refused(rt: HostRuntime) {
+    demand_each_growth(
+        &rt,
+        rt.alloc(),
+        Command::Replay,
+        ONE_PROCESS_SCHEDULE,
+        ONE_PROCESS,
+    );
+    for row in &ROWS {
+        demand_each_growth(&rt, rt.alloc(), Command::Replay, row.schedule, row.report);
+    }
+}

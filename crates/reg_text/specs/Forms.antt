@@ -1,0 +1,29 @@
+-- Forms of words, of numerals and of operations, whatever the limits and the names.
+use Rattle.std.specs.Prelude.{ℕ, ◌≡◌, ◌==◌, ◌&&◌, Bool, true, false, not, List, [], ◌∷◌, ◌++◌, ◌⊎◌, length, codes, if◌then◌else◌}
+use Rattle.std.specs.Char.{is_ascii, is_ascii_digit}
+use Rattle.std.specs.List.{list_all}
+
+-- `0`, or digits that do not begin with 0
+abbrev pub is_numeral : List ℕ → Bool
+is_numeral [] = false
+is_numeral (b ∷ bytes) = if b == 48 then length bytes == 0 else list_all is_ascii_digit (b ∷ bytes)
+
+-- an ASCII byte but a space
+abbrev pub is_word_byte : ℕ → Bool
+is_word_byte b = is_ascii b && not (b == 32)
+
+-- one such byte or more
+abbrev pub is_word : List ℕ → Bool
+is_word bytes = not (length bytes == 0) && list_all is_word_byte bytes
+
+-- `read` and a word
+abbrev pub IsReadForm : List ℕ → List ℕ → Type 0
+IsReadForm text name = (is_word name ≡ true) × (text ≡ codes "read " ++ name)
+
+-- `write`, a word and a numeral
+abbrev pub IsWriteForm : List ℕ → List ℕ → List ℕ → Type 0
+IsWriteForm text name digits = (is_word name ≡ true) × (is_numeral digits ≡ true) × (text ≡ codes "write " ++ (name ++ 32 ∷ digits))
+
+-- either of them
+abbrev pub HasOpForm : List ℕ → Type 0
+HasOpForm text = ((name : List ℕ) × IsReadForm text name) ⊎ ((name : List ℕ) × ((digits : List ℕ) × IsWriteForm text name digits))

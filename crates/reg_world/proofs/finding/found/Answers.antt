@@ -1,0 +1,8 @@
+use Rattle.std.proofs.Common.{◌∙◌, ap, length, arith}
+use Rattle.reg_world.proofs.Found.{one_more}
+use Rattle.reg_world.proofs.finding.found.Goals as goal
+
+pub returns : goal.returns
+returns g c =
+    let a = ap length c.accepted.ensures in let l = c.if-accepted.false in
+    c.found_step.ensures ∙ one_more c.args.stations.now c.args.book.now c.args.event.now (omega (arith, a, l))

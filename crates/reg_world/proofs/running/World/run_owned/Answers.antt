@@ -1,0 +1,20 @@
+use Rattle.std.proofs.Common.{◌≡◌, ◌∙◌, ap, subst, List, false}
+use Rattle.reg_base.specs.Shape.{Extent}
+use Rattle.reg_world.specs.declared.events.Event.{Event}
+use Rattle.reg_world.specs.Pages.{Pages}
+use Rattle.reg_world.specs.Worlds.{Made, RunRefuses, new_world}
+use Rattle.reg_world.proofs.Ahead.{with_ahead, same_extent}
+use Rattle.reg_world.proofs.running.World.run_owned.Goals as goal
+
+pub run_ahead-requires-clause-world : goal.run_ahead-requires-clause-world
+run_ahead-requires-clause-world g c =
+    let going : c.world.inside.failed ≡ false = ap Made.failed c.world.view_is ∙ ap Made.failed c.in-Ok.ensures in
+    with_ahead g.F.FrontEnd.start c.world.inside.failed c.world.inside.stations.items c.world.inside.book c.put_ahead.new.self c.args.events.items c.world.invariant going c.put_ahead.ensures
+
+pub returns-in-Err-clause-world : goal.returns-in-Err-clause-world
+returns-in-Err-clause-world g c =
+    let is : c.in-Ok.world ≡ new_world c.args.shape = c.in-Ok.ensures in
+    let shape : c.put_ahead.new.self.shape ≡ c.args.shape = ap (λ (b : Pages). b.shape) c.put_ahead.ensures ∙ same_extent c.world.inside.book.shape c.args.shape (ap Made.processes c.world.view_is ∙ ap Made.processes is) (ap Made.registers c.world.view_is ∙ ap Made.registers is) in
+    let ahead : c.put_ahead.new.self.ahead ≡ c.args.events.items = ap (λ (b : Pages). b.ahead) c.put_ahead.ensures in
+    subst (λ (s : Extent). RunRefuses g.F.FrontEnd.start s c.args.events.items c.in-Err.fault.at c.in-Err.fault.fault) shape
+    (subst (λ (l : List Event). RunRefuses g.F.FrontEnd.start c.put_ahead.new.self.shape l c.in-Err.fault.at c.in-Err.fault.fault) ahead c.in-Err.ensures.made)
