@@ -89,9 +89,13 @@ fn play_rounds<F: FrontEnd, A: Allocator + Copy>(
 }
 
 /// Plays scripts, one for each process of the shape, in rounds: each process that is free calls its next operation, by
-/// rising number, and then each wire's next frame is taken, by sender and receiver. It ends with a round that makes no event,
-/// or once there are so many events.
-pub(crate) fn play<F: FrontEnd, A: Allocator + Copy>(
+/// rising number, and then the next frame of each wire is taken, by sender and then by receiver. It ends with a round that
+/// makes no event, or once there are so many events as the budget says.
+///
+/// # Errors
+///
+/// Memory was refused. A step of a play that the world refuses for another reason would be told so too.
+pub fn play_fair<F: FrontEnd, A: Allocator + Copy>(
     alloc: A,
     shape: Shape,
     scripts: &[Vec<Op, A>],

@@ -10,10 +10,12 @@ use reg_front::FrontEnd;
 use std::alloc::{AllocError, Allocator};
 
 /// How often of a hundred times a frame is lost, and how often it can be taken again.
-#[derive(Clone, Copy)]
-pub(crate) struct Odds {
-    pub(crate) loss: u32,
-    pub(crate) repeat: u32,
+#[derive(Clone, Copy, Debug, PartialEq, Eq)]
+pub struct Odds {
+    /// Of a hundred frames that are chosen, so many are lost.
+    pub loss: u32,
+    /// Of a hundred frames that are taken, so many can be taken again.
+    pub repeat: u32,
 }
 
 /// Whether the next word, modulo 100, is below so many.
@@ -105,9 +107,17 @@ fn play_turns<F: FrontEnd, R: Words, A: Allocator + Copy>(
     Ok(false)
 }
 
-/// Plays scripts, one for each process of the shape, for so many turns at most. Each turn makes one of the things that can
-/// happen, as the words say.
-pub(crate) fn play<F: FrontEnd, R: Words, A: Allocator + Copy>(
+/// Plays scripts, one for each process of the shape, for as many turns at most as the budget says. A turn lists what can
+/// happen next: a call for each process that is free and has an operation left, the next frame of each wire, by sender and
+/// then by receiver, and a tick for each process with frames to put again. The next word, modulo their number, says which of
+/// them it is. A frame is lost where the next word, modulo 100, is below `loss`; else it is taken, and can be taken again
+/// where the word after that, modulo 100, is below `repeat`. Where nothing can happen the play ends. Without loss, a play of
+/// fewer events than the budget is finished.
+///
+/// # Errors
+///
+/// Memory was refused. A step of a play that the world refuses for another reason would be told so too.
+pub fn play_seeded<F: FrontEnd, R: Words, A: Allocator + Copy>(
     alloc: A,
     shape: Shape,
     scripts: &[Vec<Op, A>],

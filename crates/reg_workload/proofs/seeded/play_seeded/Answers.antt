@@ -3,7 +3,7 @@ use Rattle.reg_base.specs.declared.memory.Op.{Op}
 use Rattle.reg_world.specs.Worlds.{Made}
 use Rattle.reg_workload.specs.Plays.{IsPlay}
 use Rattle.reg_workload.proofs.Scripts.{ended_or_full}
-use Rattle.reg_workload.proofs.seeded.play.Goals as goal
+use Rattle.reg_workload.proofs.seeded.play_seeded.Goals as goal
 
 pub returns-clause-play : goal.returns-clause-play
 returns-clause-play g c =

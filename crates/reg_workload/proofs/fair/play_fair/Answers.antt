@@ -1,7 +1,7 @@
 use Rattle.std.proofs.Common.{◌≡◌, ◌∙◌, subst, map, List}
 use Rattle.reg_base.specs.declared.memory.Op.{Op}
 use Rattle.reg_workload.specs.Plays.{IsPlay}
-use Rattle.reg_workload.proofs.fair.play.Goals as goal
+use Rattle.reg_workload.proofs.fair.play_fair.Goals as goal
 
 pub returns : goal.returns
 returns g c =
