@@ -1,0 +1,216 @@
+-- What the steps of a player keep.
+use Rattle.std.proofs.Common.{◌≡◌, ◌⊎◌, ℕ, zero, suc, ◌+◌, ◌<◌, ◌≤◌, Bool, true, false, List, [], ◌∷◌, ◌++◌, length, take, map, refl, sym, ap, subst, ◌∙◌, inl, inr, arith, replicate, get_or-set_same, get_or-set_other, append_assoc}
+use Rattle.std.specs.Prelude.{None, ◌↔◌, cond, ◌==◌, slice_index_or, slice_set, slice_index}
+use Rattle.std.proofs.lemmas.List.{length-replicate, length-take-le, get_or-map}
+use Rattle.std.proofs.Math.Seq.{take-suc, take-length}
+use Rattle.std.proofs.lemmas.Bool.{cases_eq, ne_eqb, eq-eqb}
+use Rattle.std.proofs.lemmas.Grind.{flat_map-append}
+use Rattle.reg_base.specs.declared.limits.TheConstants.{MOST_PROCESSES}
+use Rattle.reg_base.specs.declared.memory.Op.{Op}
+use Rattle.reg_base.specs.Shape.{Extent}
+use Rattle.reg_world.specs.declared.events.Event.{Event}
+use Rattle.reg_world.specs.declared.events.Event.TheVariants.{Call, Take, Tick}
+use Rattle.reg_world.specs.Worlds.{Made, new_world, with_event}
+use Rattle.reg_front.specs.declared.starts.Start.{Start}
+use Rattle.reg_front.specs.Fronts.{KeepsLaws}
+use Rattle.reg_process.specs.Process.{Peer, no_peer, pending_of}
+use Rattle.reg_world.specs.Laws.{IsQuiescent}
+use Rattle.reg_world.specs.Worlds.{run_in}
+use Rattle.reg_world.proofs.Promised.{settled}
+use Rattle.reg_workload.specs.Plays.{call_at, calls_of, script_of, Playing, next_at, Follows, IsPlaying, MayCall, IsDone, IsFinished, IsPlay, FollowsScript, AllStill}
+
+append_nil : {X : Type 0} (xs : List X) → xs ++ [] ≡ xs
+append_nil [] = refl
+append_nil (x ∷ xs) = ap (λ l. x ∷ l) (append_nil xs)
+
+-- one event more
+calls_more : (p : ℕ) (es : List Event) (e : Event) → calls_of p (es ++ e ∷ []) ≡ calls_of p es ++ call_at p e
+calls_more p es e = flat_map-append (call_at p) es (e ∷ []) ∙ ap (λ l. calls_of p es ++ l) (append_nil (call_at p e))
+
+same_at : {X : Type 0} (n i : ℕ) (x : X) → slice_index_or (replicate n x) i x ≡ x
+same_at zero i x = refl
+same_at (suc n) zero x = refl
+same_at (suc n) (suc i) x = same_at n i x
+
+length_set : {X : Type 0} (xs : List X) (i : ℕ) (x : X) → length (slice_set xs i x) ≡ length xs
+length_set [] i x = refl
+length_set (y ∷ xs) zero x = refl
+length_set (y ∷ xs) (suc i) x = ap suc (length_set xs i x)
+
+pub begins : (shape : Extent) (m : Made) (scripts : List (List Op)) (next : List ℕ) (n senders : ℕ) → m ≡ new_world shape → shape.processes ≤ MOST_PROCESSES → length scripts ≡ shape.processes → n ≡ shape.processes → next ≡ replicate n 0 → senders ≡ n → IsPlaying (record { made = m; scripts = scripts; next = next; senders = senders })
+begins shape m scripts next n senders e few s c z k =
+    let a : m.processes ≡ shape.processes = ap Made.processes e in
+    let b : m.accepted ≡ [] = ap Made.accepted e in
+    let l : length next ≡ n = ap length z ∙ length-replicate n 0 in
+    record {
+      few = omega (arith, a, few);
+      scripts = s ∙ sym a;
+      next = l ∙ c ∙ sym a;
+      senders = k ∙ c ∙ sym a;
+      follows = λ p _.
+          let at : slice_index_or next p 0 ≡ 0 = ap (λ (xs : List ℕ). slice_index_or xs p 0) z ∙ same_at n p 0 in
+          record {
+            calls = ap (calls_of p) b ∙ sym (ap (λ k. take k (script_of scripts p)) at);
+            within = omega (arith, at);
+          };
+    }
+
+-- a world that has the same events
+pub same : (s : Playing) (m : Made) → IsPlaying s → m.processes ≡ s.made.processes → m.accepted ≡ s.made.accepted → IsPlaying (record s { made = m })
+same s m good e a = record {
+  few = let f = good.few in omega (arith, e, f);
+  scripts = good.scripts ∙ sym e;
+  next = good.next ∙ sym e;
+  senders = good.senders ∙ sym e;
+  follows = λ p l.
+      let f = good.follows p (omega (arith, e, l)) in
+      record { calls = ap (calls_of p) a ∙ f.calls; within = f.within };
+}
+
+-- an event that is no call
+pub passes : (s : Playing) (m : Made) (e : Event) → IsPlaying s → m ≡ with_event s.made e → ((p : ℕ) → call_at p e ≡ []) → IsPlaying (record s { made = m })
+passes s m e good is none =
+    let a : m.processes ≡ s.made.processes = ap Made.processes is in
+    let b : m.accepted ≡ s.made.accepted ++ e ∷ [] = ap Made.accepted is in
+    record {
+      few = let f = good.few in omega (arith, a, f);
+      scripts = good.scripts ∙ sym a;
+      next = good.next ∙ sym a;
+      senders = good.senders ∙ sym a;
+      follows = λ p l.
+          let f = good.follows p (omega (arith, a, l)) in
+          record {
+            calls = ap (calls_of p) b ∙ calls_more p s.made.accepted e ∙ ap (λ x. calls_of p s.made.accepted ++ x) (none p) ∙ append_nil (calls_of p s.made.accepted) ∙ f.calls;
+            within = f.within;
+          };
+    }
+
+call_same : (p : ℕ) (op : Op) → call_at p (Call p op) ≡ op ∷ []
+call_same p op = ap (λ b. cond b (op ∷ []) []) (eq-eqb p p refl)
+
+call_other : (p q : ℕ) (op : Op) → (q ≡ p → ⊥) → call_at p (Call q op) ≡ []
+call_other p q op ne = ap (λ b. cond b (op ∷ []) []) (ne_eqb q p ne)
+
+-- the next call of a script
+one_call : (s : Playing) (m : Made) (q n : ℕ) (op d : Op) → IsPlaying s → m ≡ with_event s.made (Call q op) → q < s.made.processes → n ≡ next_at s q → n < length (script_of s.scripts q) → op ≡ slice_index_or (script_of s.scripts q) n d → IsPlaying (record s { made = m; next = slice_set s.next q (n + 1) })
+one_call s m q n op d good is l at k o =
+    let a : m.processes ≡ s.made.processes = ap Made.processes is in
+    let b : m.accepted ≡ s.made.accepted ++ Call q op ∷ [] = ap Made.accepted is in
+    record {
+      few = let f = good.few in omega (arith, a, f);
+      scripts = good.scripts ∙ sym a;
+      next = length_set s.next q (n + 1) ∙ good.next ∙ sym a;
+      senders = good.senders ∙ sym a;
+      follows = λ p lp. elim (cases_eq p q) [
+        | inl e ↦ subst (λ z. Follows (record s { made = m; next = slice_set s.next q (n + 1) }) z) (sym e) (own b)
+        | inr ne ↦ other b p (omega (arith, a, lp)) ne
+      ];
+    }
+  where
+    t : Playing
+    t = record s { made = m; next = slice_set s.next q (n + 1) }
+    own : m.accepted ≡ s.made.accepted ++ Call q op ∷ [] → Follows t q
+    own b =
+        let f = good.follows q l in
+        let z : q < length s.next = let g = good.next in omega (arith, g, l) in
+        let x : next_at t q ≡ n + 1 = get_or-set_same s.next q (n + 1) 0 z in
+        let y : n + 1 ≡ suc n = omega arith in
+        record {
+          calls = ap (calls_of q) b ∙ calls_more q s.made.accepted (Call q op) ∙ ap (λ c. calls_of q s.made.accepted ++ c) (call_same q op)
+              ∙ ap (λ c. c ++ op ∷ []) (f.calls ∙ ap (λ j. take j (script_of s.scripts q)) (sym at))
+              ∙ ap (λ c. take n (script_of s.scripts q) ++ c ∷ []) o
+              ∙ sym (take-suc (script_of s.scripts q) n d k)
+              ∙ ap (λ j. take j (script_of s.scripts q)) (sym y ∙ sym x);
+          within = omega (arith, x, k);
+        }
+    other : m.accepted ≡ s.made.accepted ++ Call q op ∷ [] → (p : ℕ) → p < s.made.processes → (p ≡ q → ⊥) → Follows t p
+    other b p lp ne =
+        let f = good.follows p lp in
+        let x : next_at t p ≡ next_at s p = get_or-set_other s.next q p (n + 1) 0 ne in
+        record {
+          calls = ap (calls_of p) b ∙ calls_more p s.made.accepted (Call q op) ∙ ap (λ c. calls_of p s.made.accepted ++ c) (call_other p q op (λ e. ne (sym e)))
+              ∙ append_nil (calls_of p s.made.accepted) ∙ f.calls ∙ ap (λ j. take j (script_of s.scripts p)) (sym x);
+          within = let w = f.within in omega (arith, x, w);
+        }
+
+pub calls : (s : Playing) (m : Made) (q place n : ℕ) (op d : Op) (script : List Op) → IsPlaying s → m ≡ with_event s.made (Call q op) → q < s.made.processes → place ≡ q → n ≡ slice_index_or s.next place 0 → script ≡ script_of s.scripts q → next_at s q < length (script_of s.scripts q) → op ≡ slice_index_or script n d → IsPlaying (record s { made = m; next = slice_set s.next place (n + 1) })
+calls s m q place n op d script good is l e at r k o =
+    let a : n ≡ next_at s q = at ∙ ap (λ i. slice_index_or s.next i 0) e in
+    subst (λ i. IsPlaying (record s { made = m; next = slice_set s.next i (n + 1) })) (sym e)
+    (one_call s m q n op d good is l a (omega (arith, a, k)) (o ∙ ap (λ x. slice_index_or x n d) r))
+
+length_mapped : {X Y : Type 0} (f : X → Y) (xs : List X) → length (map f xs) ≡ length xs
+length_mapped f [] = refl
+length_mapped f (x ∷ xs) = ap suc (length_mapped f xs)
+
+any_default : {X : Type 0} (xs : List X) (i : ℕ) (d e : X) → i < length xs → slice_index_or xs i d ≡ slice_index_or xs i e
+any_default [] i d e l = absurd (omega (arith, l))
+any_default (x ∷ xs) zero d e l = refl
+any_default (x ∷ xs) (suc i) d e l = any_default xs i d e (omega (arith, l))
+
+-- the same, over a list of vectors
+pub calls_in : {V : Type 0} (items : V → List Op) (vs : List V) (s : Playing) (m : Made) (q place n dn : ℕ) (dv : V) (op d : Op) → s.scripts ≡ map items vs → IsPlaying s → m ≡ with_event s.made (Call q op) → q < s.made.processes → place ≡ q
+    → n ≡ slice_index_or s.next place dn → next_at s q < length (script_of s.scripts q) → op ≡ slice_index_or (items (slice_index_or vs place dv)) n d → IsPlaying (record s { made = m; next = slice_set s.next place (n + 1) })
+calls_in items vs s m q place n dn dv op d e good is l p b k o =
+    let z : length s.scripts ≡ length vs = ap length e ∙ length_mapped items vs in
+    let g = good.scripts in let h = good.next in
+    let lv : place < length vs = omega (arith, z, g, l, p) in
+    let ln : place < length s.next = omega (arith, h, l, p) in
+    let script : items (slice_index_or vs place dv) ≡ script_of s.scripts q =
+    sym (get_or-map items vs place dv [] lv) ∙ ap (λ (xs : List (List Op)). slice_index_or xs place []) (sym e) ∙ ap (λ i. slice_index_or s.scripts i []) p in
+    calls s m q place n op d (items (slice_index_or vs place dv)) good is l p (b ∙ any_default s.next place dn 0 ln) script k o
+
+-- where nothing is left of its script, a process has called all of it
+pub all_called : (s : Playing) (p : ℕ) → Follows s p → (next_at s p < length (script_of s.scripts p) → ⊥) → calls_of p s.made.accepted ≡ script_of s.scripts p
+all_called s p f none =
+    let w = f.within in
+    let e : next_at s p ≡ length (script_of s.scripts p) = go (next_at s p) (length (script_of s.scripts p)) w none in
+    f.calls ∙ ap (λ k. take k (script_of s.scripts p)) e ∙ take-length (script_of s.scripts p)
+  where
+    go : (a b : ℕ) → a ≤ b → (a < b → ⊥) → a ≡ b
+    go a b = grind arith
+
+pub none_left : (s : Playing) (p : ℕ) → Follows s p → calls_of p s.made.accepted ≡ script_of s.scripts p → next_at s p < length (script_of s.scripts p) → ⊥
+none_left s p f e l =
+    let a = ap length (sym f.calls ∙ e) in
+    let b = length-take-le (next_at s p) (script_of s.scripts p) f.within in
+    absurd (omega (arith, a, b, l))
+
+-- no pending frames over all links, so none on one
+no_pending : (peers : List Peer) (q : ℕ) → pending_of peers ≡ 0 → (slice_index_or peers q no_peer).pending ≡ []
+no_pending [] q e = refl
+no_pending (x ∷ xs) zero e = nothing_in x.pending (omega (arith, e))
+  where
+    nothing_in : {X : Type 0} (ys : List X) → length ys ≡ 0 → ys ≡ []
+    nothing_in [] l = refl
+    nothing_in (y ∷ ys) l = absurd (omega (arith, l))
+no_pending (x ∷ xs) (suc q) e = no_pending xs q (omega (arith, e))
+
+-- where no process may call and none has a frame to put again, all is done
+pub still_done : (start : Op → ℕ → Start) → KeepsLaws start → (s : Playing) → IsPlaying s → AllStill start s → IsFinished start s.scripts s.made
+still_done start laws s good still = λ p l.
+    let k : p < s.made.processes = let e = good.scripts in omega (arith, e, l) in
+    let idle : ((run_in start s.made).nodes p).state.running ≡ None = quiet.idle p k in
+    record { calls = all_called s p (good.follows p k) (λ left. (still p k).no_call (record { idle = idle; left = left })); idle = idle }
+  where
+    quiet : IsQuiescent s.made.processes (run_in start s.made).nodes
+    quiet = settled start s.made.processes s.made.registers laws s.made.accepted (λ p q l _ _. no_pending ((run_in start s.made).nodes p).state.peers q (still p l).nothing_pending)
+
+pub follows_script : (s : Playing) (p : ℕ) → Follows s p → FollowsScript s.scripts s.made.accepted p
+follows_script s p f =
+    let e : length (calls_of p s.made.accepted) ≡ next_at s p = ap length f.calls ∙ length-take-le (next_at s p) (script_of s.scripts p) f.within in
+    f.calls ∙ ap (λ k. take k (script_of s.scripts p)) (sym e)
+
+pub is_play : (start : Op → ℕ → Start) (s : Playing) (is_finished : Bool) → IsPlaying s → s.made.failed ≡ false → ((is_finished ≡ true) ↔ IsFinished start s.scripts s.made) → (budget : ℕ) → length s.made.accepted ≤ budget → IsPlay start s.scripts budget s.made is_finished
+is_play start s b good going f budget l = record {
+  going = going;
+  processes = sym good.scripts;
+  few = l;
+  scripts = λ p k. follows_script s p (good.follows p (let e = good.scripts in omega (arith, e, k)));
+  finished = f;
+}
+
+-- a play that did not end before all turns were used up has as many events as turns
+pub ended_or_full : {P : Type 0} (ended : Bool) (events budget : ℕ) → (ended ≡ true → P) → (ended ≡ false → events ≡ budget) → events < budget → P
+ended_or_full true events budget yes_it_did full less = yes_it_did refl
+ended_or_full false events budget yes_it_did full less = let e = full refl in absurd (omega (arith, e, less))

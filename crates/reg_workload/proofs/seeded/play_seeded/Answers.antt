@@ -1,0 +1,17 @@
+use Rattle.std.proofs.Common.{◌≡◌, ◌<◌, ◌∙◌, subst, ap, map, List, length, true, false, Bool, arith}
+use Rattle.reg_base.specs.declared.memory.Op.{Op}
+use Rattle.reg_world.specs.Worlds.{Made}
+use Rattle.reg_workload.specs.Plays.{IsPlay}
+use Rattle.reg_workload.proofs.Scripts.{ended_or_full}
+use Rattle.reg_workload.proofs.seeded.play_seeded.Goals as goal
+
+pub returns-clause-play : goal.returns-clause-play
+returns-clause-play g c =
+    let went = c.in_ok-_ended.ensures.on in
+    let same : c.play_turns.new.player.scripts ≡ map (λ v. v.items) c.args.scripts.now = went.same ∙ c.in_ok-player.ensures.scripts in
+    subst (λ (s : List (List Op)). IsPlay g.F.FrontEnd.start s c.args.budget c.end.result.world c.end.result.finished) same (c.end.ensures.play c.args.budget went.few)
+
+pub returns-clause-finished : goal.returns-clause-finished
+returns-clause-finished g c = λ none less.
+    ended_or_full c.in_ok-_ended._ended (length c.play_turns.new.player.made.accepted) c.args.budget (λ e. c.end.ensures.still (c.in_ok-_ended.ensures.ended.0 e)) (λ e. c.in_ok-_ended.ensures.ended.1 e none)
+    (let w = ap (λ (m : Made). length m.accepted) c.end.ensures.world in omega (arith, w, less))

@@ -1,0 +1,135 @@
+//! The seeded player.
+ghost use Rattle.std.specs.Prelude.{◌≡◌, ◌≤◌, ◌<◌, ◌+◌, ℕ, [], length, false, true, None, Some, slice_get, OnOk, IfOk, IfSome, map};
+ghost use Rattle.reg_workload.specs.Plays.{GoesOn, Turns, IsPlay, AllStill, IsChoice, AreChoices};
+
+use crate::choices::{Choice, list};
+use crate::playing::{Play, Player};
+use crate::words::Words;
+use reg_base::{Op, Shape};
+use reg_front::FrontEnd;
+use std::alloc::{AllocError, Allocator};
+
+/// How often of a hundred times a frame is lost, and how often it can be taken again.
+#[derive(Clone, Copy, Debug, PartialEq, Eq)]
+pub struct Odds {
+    /// Of a hundred frames that are chosen, so many are lost.
+    pub loss: u32,
+    /// Of a hundred frames that are taken, so many can be taken again.
+    pub repeat: u32,
+}
+
+/// Whether the next word, modulo 100, is below so many.
+fn happens<R: Words>(words: &mut R, below: u32) -> bool
+    ensures { below ≡ 0 → result ≡ false }
+{
+    words.word() % 100 < below
+}
+
+/// Takes the next frame of a wire, or loses it.
+fn take_or_lose<F: FrontEnd, R: Words, A: Allocator + Copy>(
+    player: &mut Player<'_, F, A>,
+    from: u8,
+    to: u8,
+    number: u32,
+    words: &mut R,
+    odds: Odds,
+) -> Result<(), AllocError>
+    requires going { player.old.made.failed ≡ false }
+    requires from { from < player.old.made.processes }
+    requires to { to < player.old.made.processes }
+    ensures { OnOk result (Turns odds.loss player.old player.new) }
+{
+    if happens(words, odds.loss) {
+        player.leave(from, to);
+        return Ok(());
+    }
+    player.take(from, to, number)?;
+    if !happens(words, odds.repeat) {
+        player.leave(from, to);
+    }
+    Ok(())
+}
+
+/// Makes a choice.
+fn choose<F: FrontEnd, R: Words, A: Allocator + Copy>(
+    player: &mut Player<'_, F, A>,
+    choice: Choice,
+    words: &mut R,
+    odds: Odds,
+) -> Result<(), AllocError>
+    requires going { player.old.made.failed ≡ false }
+    requires choice { IsChoice F.start player.old choice }
+    ensures { OnOk result (Turns odds.loss player.old player.new) }
+{
+    match choice {
+        Choice::Call { process } => player.call(process),
+        Choice::Take { from, to, number } => take_or_lose(player, from, to, number, words, odds),
+        Choice::Tick { process } => player.tick(process),
+    }
+}
+
+/// The choice that a word gives.
+fn pick(choices: &[Choice], word: u32) -> Option<Choice>
+    ensures some { IfSome result (λ c. (k : ℕ) × (slice_get choices.now k ≡ Some c)) }
+    ensures none { result ≡ None → choices.now ≡ [] }
+{
+    if choices.is_empty() {
+        return None;
+    }
+    Some(choices[word as usize % choices.len()])
+}
+
+/// Turns, until nothing can happen or there were so many. Tells whether nothing can happen.
+fn play_turns<F: FrontEnd, R: Words, A: Allocator + Copy>(
+    alloc: A,
+    player: &mut Player<'_, F, A>,
+    words: &mut R,
+    odds: Odds,
+    budget: u32,
+) -> Result<bool, AllocError>
+    requires going { player.old.made.failed ≡ false }
+    requires none { length player.old.made.accepted ≡ 0 }
+    ensures on { OnOk result (GoesOn budget player.old player.new) }
+    ensures ended { IfOk result (λ ended. (ended ≡ true → AllStill F.start player.new) × (ended ≡ false → odds.loss ≡ 0 → length player.new.made.accepted ≡ budget)) }
+{
+    let mut choices = Vec::new(alloc);
+    for _turn in 0..budget {
+        list(player, &mut choices)?;
+        if choices.is_empty() {
+            return Ok(true);
+        }
+        let word = words.word();
+        let Some(choice) = pick(&choices, word) else {
+            return Ok(true);
+        };
+        choose(player, choice, words, odds)?;
+    }
+    Ok(false)
+}
+
+/// Plays scripts, one for each process of the shape, for as many turns at most as the budget says. A turn lists what can
+/// happen next: a call for each process that is free and has an operation left, the next frame of each wire, by sender and
+/// then by receiver, and a tick for each process with frames to put again. The next word, modulo their number, says which of
+/// them it is. A frame is lost where the next word, modulo 100, is below `loss`; else it is taken, and can be taken again
+/// where the word after that, modulo 100, is below `repeat`. Where nothing can happen the play ends. Without loss, a play of
+/// fewer events than the budget is finished.
+///
+/// # Errors
+///
+/// Memory was refused. A step of a play that the world refuses for another reason would be told so too.
+pub fn play_seeded<F: FrontEnd, R: Words, A: Allocator + Copy>(
+    alloc: A,
+    shape: Shape,
+    scripts: &[Vec<Op, A>],
+    words: &mut R,
+    odds: Odds,
+    budget: u32,
+) -> Result<Play<F, A>, AllocError>
+    requires { length scripts.now ≡ shape.processes }
+    ensures play { IfOk result (λ p. IsPlay F.start (map (λ v. v.items) scripts.now) budget p.world p.finished) }
+    ensures finished { IfOk result (λ p. odds.loss ≡ 0 → length p.world.accepted < budget → p.finished ≡ true) }
+{
+    let mut player = Player::new(alloc, shape, scripts)?;
+    let _ended = play_turns(alloc, &mut player, words, odds, budget)?;
+    Ok(player.end())
+}
