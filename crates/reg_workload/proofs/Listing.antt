@@ -1,10 +1,10 @@
 -- One more choice.
-use Rattle.std.proofs.Common.{◌≡◌, ℕ, zero, suc, ◌+◌, ◌<◌, ◌≤◌, List, [], ◌∷◌, ◌++◌, Option, Some, None, refl, sym, subst, arith, length, false}
+use Rattle.std.proofs.Common.{◌≡◌, ℕ, zero, suc, ◌<◌, List, [], ◌∷◌, ◌++◌, Some, sym, subst, arith, length, false}
 use Rattle.std.specs.Prelude.{slice_get, ◌==◌}
 use Rattle.reg_base.specs.declared.memory.Op.{Op}
 use Rattle.reg_front.specs.declared.starts.Start.{Start}
 use Rattle.reg_workload.specs.declared.choices.Choice.{Choice}
-use Rattle.reg_workload.specs.Plays.{Playing, IsChoice, AreChoices, NoCall, NoTick, MayCall}
+use Rattle.reg_workload.specs.Plays.{Playing, IsChoice, AreChoices}
 
 one_more : {X : Type 0} (P : X → Type 0) (xs : List X) (x : X) → ((k : ℕ) (c : X) → slice_get xs k ≡ Some c → P c) → P x → (k : ℕ) (c : X) → slice_get (xs ++ x ∷ []) k ≡ Some c → P c
 one_more P [] x h p zero c e = let z : x ≡ c = cc in subst P z p

@@ -1,6 +1,6 @@
 -- What the steps of a player keep.
-use Rattle.std.proofs.Common.{◌≡◌, ◌⊎◌, ℕ, zero, suc, ◌+◌, ◌<◌, ◌≤◌, Bool, true, false, List, [], ◌∷◌, ◌++◌, length, take, map, refl, sym, ap, subst, ◌∙◌, inl, inr, arith, replicate, get_or-set_same, get_or-set_other, append_assoc}
-use Rattle.std.specs.Prelude.{None, ◌↔◌, cond, ◌==◌, slice_index_or, slice_set, slice_index}
+use Rattle.std.proofs.Common.{◌≡◌, ℕ, zero, suc, ◌+◌, ◌<◌, ◌≤◌, Bool, true, false, List, [], ◌∷◌, ◌++◌, length, take, map, refl, sym, ap, subst, ◌∙◌, inl, inr, arith, replicate, get_or-set_same, get_or-set_other}
+use Rattle.std.specs.Prelude.{None, ◌↔◌, cond, slice_index_or, slice_set}
 use Rattle.std.proofs.lemmas.List.{length-replicate, length-take-le, get_or-map}
 use Rattle.std.proofs.Math.Seq.{take-suc, take-length}
 use Rattle.std.proofs.lemmas.Bool.{cases_eq, ne_eqb, eq-eqb}
@@ -9,7 +9,7 @@ use Rattle.reg_base.specs.declared.limits.TheConstants.{MOST_PROCESSES}
 use Rattle.reg_base.specs.declared.memory.Op.{Op}
 use Rattle.reg_base.specs.Shape.{Extent}
 use Rattle.reg_world.specs.declared.events.Event.{Event}
-use Rattle.reg_world.specs.declared.events.Event.TheVariants.{Call, Take, Tick}
+use Rattle.reg_world.specs.declared.events.Event.TheVariants.{Call}
 use Rattle.reg_world.specs.Worlds.{Made, new_world, with_event}
 use Rattle.reg_front.specs.declared.starts.Start.{Start}
 use Rattle.reg_front.specs.Fronts.{KeepsLaws}
@@ -17,7 +17,7 @@ use Rattle.reg_process.specs.Process.{Peer, no_peer, pending_of}
 use Rattle.reg_world.specs.Laws.{IsQuiescent}
 use Rattle.reg_world.specs.Worlds.{run_in}
 use Rattle.reg_world.proofs.Promised.{settled}
-use Rattle.reg_workload.specs.Plays.{call_at, calls_of, script_of, Playing, next_at, Follows, IsPlaying, MayCall, IsDone, IsFinished, IsPlay, FollowsScript, AllStill}
+use Rattle.reg_workload.specs.Plays.{call_at, calls_of, script_of, Playing, next_at, Follows, IsPlaying, IsFinished, IsPlay, FollowsScript, AllStill}
 
 append_nil : {X : Type 0} (xs : List X) → xs ++ [] ≡ xs
 append_nil [] = refl
@@ -109,6 +109,7 @@ one_call s m q n op d good is l at k o =
   where
     t : Playing
     t = record s { made = m; next = slice_set s.next q (n + 1) }
+
     own : m.accepted ≡ s.made.accepted ++ Call q op ∷ [] → Follows t q
     own b =
         let f = good.follows q l in
@@ -123,6 +124,7 @@ one_call s m q n op d good is l at k o =
               ∙ ap (λ j. take j (script_of s.scripts q)) (sym y ∙ sym x);
           within = omega (arith, x, k);
         }
+
     other : m.accepted ≡ s.made.accepted ++ Call q op ∷ [] → (p : ℕ) → p < s.made.processes → (p ≡ q → ⊥) → Follows t p
     other b p lp ne =
         let f = good.follows p lp in

@@ -19,10 +19,7 @@ const SOME: Odds = Odds {
     repeat: 20,
 };
 
-const NONE: Odds = Odds {
-    loss: 0,
-    repeat: 0,
-};
+const NONE: Odds = Odds { loss: 0, repeat: 0 };
 
 fn id(process: u8, number: u32) -> OpId {
     OpId { process, number }
@@ -110,10 +107,7 @@ fn a_fair_play_keeps_its_budget(rt: HostRuntime) {
 
 #[test]
 fn a_seed_gives_one_play(rt: HostRuntime) {
-    let cases = [
-        (0, history_of(0, 1, 3, 17)),
-        (3, history_of(0, 1, 7, 7)),
-    ];
+    let cases = [(0, history_of(0, 1, 3, 17)), (3, history_of(0, 1, 7, 7))];
     for (seed, entries) in cases {
         let play = seeded::<LocalWrite, _>(rt.alloc(), seed, SOME).expect(&rt, "memory");
         assert!(rt; play.world.history().entries() == entries.as_slice());
@@ -123,16 +117,16 @@ fn a_seed_gives_one_play(rt: HostRuntime) {
 
 #[test]
 fn seeded_plays_are_serial(rt: HostRuntime) {
-    let mut finished = 0;
+    let mut finished = false;
     for seed in 0..10 {
         let play = seeded::<Linear, _>(rt.alloc(), seed, SOME).expect(&rt, "memory");
         let order = play.world.witness().expect(&rt, "memory");
-        assert!(rt; check_serial(play.world.history(), &order) == Ok(()));
+        assert!(rt; check_serial(rt.alloc(), play.world.history(), &order) == Ok(()));
         let points = play.world.points().expect(&rt, "memory");
-        assert!(rt; check_points(play.world.history(), &points) == Ok(()));
-        finished += u32::from(play.finished);
+        assert!(rt; check_points(rt.alloc(), play.world.history(), &points) == Ok(()));
+        finished = finished || play.finished;
     }
-    assert!(rt; finished > 0);
+    assert!(rt; finished);
 }
 
 #[test]

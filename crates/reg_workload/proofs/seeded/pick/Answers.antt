@@ -1,4 +1,4 @@
-use Rattle.std.proofs.Common.{◌≡◌, ◌<◌, ◌%◌, length, false, arith}
+use Rattle.std.proofs.Common.{◌%◌, length}
 use Rattle.std.proofs.lemmas.Option.{slice_get-get_or}
 use Rattle.std.proofs.lemmas.Nat.{mod_below}
 use Rattle.reg_workload.proofs.Listing.{some_length}

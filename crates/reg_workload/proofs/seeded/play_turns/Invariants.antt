@@ -1,4 +1,4 @@
-use Rattle.std.proofs.Common.{◌≡◌, ◌≤◌, length}
+use Rattle.std.proofs.Common.{◌≡◌, length}
 use Rattle.reg_workload.specs.Plays.{GoesOn}
 use Rattle.reg_workload.proofs.seeded.play_turns.Given as goal
 

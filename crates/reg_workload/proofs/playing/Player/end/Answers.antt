@@ -1,4 +1,4 @@
-use Rattle.std.proofs.Common.{◌≡◌, subst, sym, ap}
+use Rattle.std.proofs.Common.{subst, sym, ap}
 use Rattle.reg_world.specs.Worlds.{Made}
 use Rattle.reg_workload.specs.Plays.{Playing, IsPlaying, IsPlay}
 use Rattle.reg_workload.proofs.Scripts.{is_play}

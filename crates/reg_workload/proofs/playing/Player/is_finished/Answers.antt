@@ -1,4 +1,4 @@
-use Rattle.std.proofs.Common.{◌≡◌, ◌<◌, length, subst, arith}
+use Rattle.std.proofs.Common.{◌<◌, length, subst, arith}
 use Rattle.reg_workload.specs.Plays.{Playing, IsPlaying, IsFinished}
 use Rattle.reg_workload.proofs.Scripts.{still_done}
 use Rattle.reg_workload.proofs.playing.Player.is_finished.Given.{Over}

@@ -1,4 +1,3 @@
-use Rattle.std.proofs.Common.{◌≡◌}
 use Rattle.reg_workload.proofs.playing.Player.may_call.Goals as goal
 
 pub returns-then-has_left : goal.returns-then-has_left
