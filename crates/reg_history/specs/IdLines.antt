@@ -29,7 +29,7 @@ HasIdForm line = (process : List ℕ) × ((number : List ℕ) × IsIdForm line p
 -- the same of a point's line
 abbrev pub IsPointForm : List ℕ → List ℕ → List ℕ → List ℕ → Type 0
 IsPointForm line process number at = (is_numeral process ≡ true) × (is_numeral number ≡ true) × (is_numeral at ≡ true)
-  × (line ≡ codes "p" ++ (process ++ 32 ∷ (codes "#" ++ (number ++ 32 ∷ (codes "at " ++ at)))))
+    × (line ≡ codes "p" ++ (process ++ 32 ∷ (codes "#" ++ (number ++ 32 ∷ (codes "at " ++ at)))))
 
 abbrev pub HasPointForm : List ℕ → Type 0
 HasPointForm line = (process : List ℕ) × ((number : List ℕ) × ((at : List ℕ) × IsPointForm line process number at))

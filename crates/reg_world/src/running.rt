@@ -200,11 +200,7 @@ impl<F: FrontEnd, A: Allocator + Copy> World<F, A> {
     }
 
     /// The same, with the list itself kept as that of the accepted events, so that it takes no memory for a copy.
-    pub fn run_owned(
-        alloc: A,
-        shape: Shape,
-        events: Vec<Event, A>,
-    ) -> Result<World<F, A>, RunFault>
+    pub fn run_owned(alloc: A, shape: Shape, events: Vec<Event, A>) -> Result<World<F, A>, RunFault>
         ensures world { MatchResult result (λ w. w ≡ after_events shape events.items) (λ f. RunRefuses F.start shape events.items f.at f.fault) }
         ensures accepted { MatchResult result (λ _. (run_in F.start (after_events shape events.items)).accepted ≡ events.items) (λ f. (run_in F.start (after_events shape (take f.at events.items))).accepted ≡ take f.at events.items) }
     {

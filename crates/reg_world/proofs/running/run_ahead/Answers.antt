@@ -1,4 +1,4 @@
-use Rattle.std.proofs.Common.{◌≡◌, sym, subst, false, get_or, arith}
+use Rattle.std.proofs.Common.{sym, subst, false}
 use Rattle.reg_world.specs.declared.events.Event.{Event}
 use Rattle.reg_world.specs.Worlds.{Accepts, Refuses, made_of}
 use Rattle.reg_world.proofs.Ahead.{first_ahead, next_ahead}
@@ -19,10 +19,9 @@ loop-at-preserved g c =
     let b = c.args.book.now in
     let went = c.loop-at.invariant in
     let next = first_ahead c.loop-at.at b.ahead c.loop-at.book.ahead c.in-Some.event went.2 c.in-Some.ensures in
-    let on = c.in_default-step_parts.ensures.made in
-    (
+    let on = c.in_default-step_parts.ensures.made in (
       on.world,
       run_goes_on g.F.FrontEnd.start b.shape b.ahead c.loop-at.at c.in-Some.event (made_of false c.loop-at.book) (made_of false c.step_parts.new.book) next.0 went.1
-      (subst (λ (e : Event). Accepts g.F.FrontEnd.start (made_of false c.loop-at.book) e (made_of false c.step_parts.new.book)) (sym next.1) on.accepts),
+          (subst (λ (e : Event). Accepts g.F.FrontEnd.start (made_of false c.loop-at.book) e (made_of false c.step_parts.new.book)) (sym next.1) on.accepts),
       next_ahead c.loop-at.at b.ahead c.loop-at.book.ahead c.step_parts.new.book.ahead went.2 on.ahead,
     )

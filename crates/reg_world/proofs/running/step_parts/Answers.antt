@@ -10,7 +10,7 @@ returns-in-Err g c =
       made = (
         made_of false b,
         refuses_is g.F.FrontEnd.start false b c.args.stations.now.items c.requires refl c.args.event (made_of false b) refl c.in-Err.fault
-        (ap (λ l. found l b c.args.event) (sym c.deref.ensures.value) ∙ (sym c.found.ensures ∙ c.in-Err.is)),
+            (ap (λ l. found l b c.args.event) (sym c.deref.ensures.value) ∙ (sym c.found.ensures ∙ c.in-Err.is)),
       );
     }
 
@@ -27,7 +27,7 @@ returns-in-Ok-advance g c =
       made = record {
         world = c.in-Ok-advance.ensures.made.world;
         accepts = (accepts_is g.F.FrontEnd.start false b c.args.stations.now.items c.requires refl c.args.event (made_of false b) refl c.in-Ok.found
-        (ap (λ l. found l b c.args.event) (sym c.deref.ensures.value) ∙ (sym c.found.ensures ∙ c.in-Ok.is)) c.in-Ok-advance.field-0 c.advance.new.stations.items c.advance.new.book c.in-Ok-advance.ensures.made).0;
+            (ap (λ l. found l b c.args.event) (sym c.deref.ensures.value) ∙ (sym c.found.ensures ∙ c.in-Ok.is)) c.in-Ok-advance.field-0 c.advance.new.stations.items c.advance.new.book c.in-Ok-advance.ensures.made).0;
         ahead = c.in-Ok-advance.ensures.ahead;
       };
     }
@@ -36,5 +36,5 @@ pub returns-in-Err-advance : goal.returns-in-Err-advance
 returns-in-Err-advance g c =
     let b = c.args.book.now in
     let none = none_is g.F.FrontEnd.start false b c.args.stations.now.items c.requires refl c.args.event (made_of false b) refl c.in-Ok.found
-        (ap (λ l. found l b c.args.event) (sym c.deref.ensures.value) ∙ (sym c.found.ensures ∙ c.in-Ok.is)) in
+    (ap (λ l. found l b c.args.event) (sym c.deref.ensures.value) ∙ (sym c.found.ensures ∙ c.in-Ok.is)) in
     record { made = (stopped (made_of false b), (none, refl)) }

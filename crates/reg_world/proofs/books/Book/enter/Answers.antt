@@ -1,4 +1,4 @@
-use Rattle.std.proofs.Common.{◌≡◌, ◌∙◌, ◌++◌, ◌-◌, length, ap, subst, arith, length-set}
+use Rattle.std.proofs.Common.{◌∙◌, ◌++◌, ◌-◌, length, ap, subst, arith, length-set}
 use Rattle.reg_base.specs.Order.{In}
 use Rattle.reg_world.specs.World.{op_id, calls_in}
 use Rattle.reg_world.specs.Pages.{Pages, tally_at, calls_after}
