@@ -1,7 +1,7 @@
 -- What the steps of a player keep.
-use Rattle.std.proofs.Common.{◌≡◌, ℕ, zero, suc, ◌+◌, ◌<◌, ◌≤◌, Bool, true, false, List, [], ◌∷◌, ◌++◌, length, take, map, refl, sym, ap, subst, ◌∙◌, inl, inr, arith, replicate, get_or-set_same, get_or-set_other}
+use Rattle.std.proofs.Common.{length-set, ◌≡◌, ℕ, zero, suc, ◌+◌, ◌<◌, ◌≤◌, Bool, true, false, List, [], ◌∷◌, ◌++◌, length, take, map, refl, sym, ap, subst, ◌∙◌, inl, inr, arith, replicate, get_or-set_same, get_or-set_other}
 use Rattle.std.specs.Prelude.{None, ◌↔◌, cond, slice_index_or, slice_set}
-use Rattle.std.proofs.lemmas.List.{length-replicate, length-take-le, get_or-map}
+use Rattle.std.proofs.lemmas.List.{append-nil, length-map, length-replicate, length-take-le, get_or-map, get_or_default}
 use Rattle.std.proofs.Math.Seq.{take-suc, take-length}
 use Rattle.std.proofs.lemmas.Bool.{cases_eq, ne_eqb, eq-eqb}
 use Rattle.std.proofs.lemmas.Grind.{flat_map-append}
@@ -16,26 +16,13 @@ use Rattle.reg_front.specs.Fronts.{KeepsLaws}
 use Rattle.reg_process.specs.Process.{Peer, no_peer, pending_of}
 use Rattle.reg_world.specs.Laws.{IsQuiescent}
 use Rattle.reg_world.specs.Worlds.{run_in}
+use Rattle.reg_process.proofs.Again.{replicate_at}
 use Rattle.reg_world.proofs.Promised.{settled}
 use Rattle.reg_workload.specs.Plays.{call_at, calls_of, script_of, Playing, next_at, Follows, IsPlaying, IsFinished, IsPlay, FollowsScript, AllStill}
 
-append_nil : {X : Type 0} (xs : List X) → xs ++ [] ≡ xs
-append_nil [] = refl
-append_nil (x ∷ xs) = ap (λ l. x ∷ l) (append_nil xs)
-
 -- one event more
 calls_more : (p : ℕ) (es : List Event) (e : Event) → calls_of p (es ++ e ∷ []) ≡ calls_of p es ++ call_at p e
-calls_more p es e = flat_map-append (call_at p) es (e ∷ []) ∙ ap (λ l. calls_of p es ++ l) (append_nil (call_at p e))
-
-same_at : {X : Type 0} (n i : ℕ) (x : X) → slice_index_or (replicate n x) i x ≡ x
-same_at zero i x = refl
-same_at (suc n) zero x = refl
-same_at (suc n) (suc i) x = same_at n i x
-
-length_set : {X : Type 0} (xs : List X) (i : ℕ) (x : X) → length (slice_set xs i x) ≡ length xs
-length_set [] i x = refl
-length_set (y ∷ xs) zero x = refl
-length_set (y ∷ xs) (suc i) x = ap suc (length_set xs i x)
+calls_more p es e = flat_map-append (call_at p) es (e ∷ []) ∙ ap (λ l. calls_of p es ++ l) (append-nil (call_at p e))
 
 pub begins : (shape : Extent) (m : Made) (scripts : List (List Op)) (next : List ℕ) (n senders : ℕ) → m ≡ new_world shape → shape.processes ≤ MOST_PROCESSES → length scripts ≡ shape.processes → n ≡ shape.processes → next ≡ replicate n 0 → senders ≡ n → IsPlaying (record { made = m; scripts = scripts; next = next; senders = senders })
 begins shape m scripts next n senders e few s c z k =
@@ -48,7 +35,7 @@ begins shape m scripts next n senders e few s c z k =
       next = l ∙ c ∙ sym a;
       senders = k ∙ c ∙ sym a;
       follows = λ p _.
-          let at : slice_index_or next p 0 ≡ 0 = ap (λ (xs : List ℕ). slice_index_or xs p 0) z ∙ same_at n p 0 in
+          let at : slice_index_or next p 0 ≡ 0 = ap (λ (xs : List ℕ). slice_index_or xs p 0) z ∙ replicate_at n p 0 in
           record {
             calls = ap (calls_of p) b ∙ sym (ap (λ k. take k (script_of scripts p)) at);
             within = omega (arith, at);
@@ -80,7 +67,7 @@ passes s m e good is none =
       follows = λ p l.
           let f = good.follows p (omega (arith, a, l)) in
           record {
-            calls = ap (calls_of p) b ∙ calls_more p s.made.accepted e ∙ ap (λ x. calls_of p s.made.accepted ++ x) (none p) ∙ append_nil (calls_of p s.made.accepted) ∙ f.calls;
+            calls = ap (calls_of p) b ∙ calls_more p s.made.accepted e ∙ ap (λ x. calls_of p s.made.accepted ++ x) (none p) ∙ append-nil (calls_of p s.made.accepted) ∙ f.calls;
             within = f.within;
           };
     }
@@ -99,7 +86,7 @@ one_call s m q n op d good is l at k o =
     record {
       few = let f = good.few in omega (arith, a, f);
       scripts = good.scripts ∙ sym a;
-      next = length_set s.next q (n + 1) ∙ good.next ∙ sym a;
+      next = length-set s.next q (n + 1) ∙ good.next ∙ sym a;
       senders = good.senders ∙ sym a;
       follows = λ p lp. elim (cases_eq p q) [
         | inl e ↦ subst (λ z. Follows (record s { made = m; next = slice_set s.next q (n + 1) }) z) (sym e) (own b)
@@ -131,7 +118,7 @@ one_call s m q n op d good is l at k o =
         let x : next_at t p ≡ next_at s p = get_or-set_other s.next q p (n + 1) 0 ne in
         record {
           calls = ap (calls_of p) b ∙ calls_more p s.made.accepted (Call q op) ∙ ap (λ c. calls_of p s.made.accepted ++ c) (call_other p q op (λ e. ne (sym e)))
-              ∙ append_nil (calls_of p s.made.accepted) ∙ f.calls ∙ ap (λ j. take j (script_of s.scripts p)) (sym x);
+              ∙ append-nil (calls_of p s.made.accepted) ∙ f.calls ∙ ap (λ j. take j (script_of s.scripts p)) (sym x);
           within = let w = f.within in omega (arith, x, w);
         }
 
@@ -141,26 +128,17 @@ calls s m q place n op d script good is l e at r k o =
     subst (λ i. IsPlaying (record s { made = m; next = slice_set s.next i (n + 1) })) (sym e)
     (one_call s m q n op d good is l a (omega (arith, a, k)) (o ∙ ap (λ x. slice_index_or x n d) r))
 
-length_mapped : {X Y : Type 0} (f : X → Y) (xs : List X) → length (map f xs) ≡ length xs
-length_mapped f [] = refl
-length_mapped f (x ∷ xs) = ap suc (length_mapped f xs)
-
-any_default : {X : Type 0} (xs : List X) (i : ℕ) (d e : X) → i < length xs → slice_index_or xs i d ≡ slice_index_or xs i e
-any_default [] i d e l = absurd (omega (arith, l))
-any_default (x ∷ xs) zero d e l = refl
-any_default (x ∷ xs) (suc i) d e l = any_default xs i d e (omega (arith, l))
-
 -- the same, over a list of vectors
 pub calls_in : {V : Type 0} (items : V → List Op) (vs : List V) (s : Playing) (m : Made) (q place n dn : ℕ) (dv : V) (op d : Op) → s.scripts ≡ map items vs → IsPlaying s → m ≡ with_event s.made (Call q op) → q < s.made.processes → place ≡ q
     → n ≡ slice_index_or s.next place dn → next_at s q < length (script_of s.scripts q) → op ≡ slice_index_or (items (slice_index_or vs place dv)) n d → IsPlaying (record s { made = m; next = slice_set s.next place (n + 1) })
 calls_in items vs s m q place n dn dv op d e good is l p b k o =
-    let z : length s.scripts ≡ length vs = ap length e ∙ length_mapped items vs in
+    let z : length s.scripts ≡ length vs = ap length e ∙ length-map vs items in
     let g = good.scripts in let h = good.next in
     let lv : place < length vs = omega (arith, z, g, l, p) in
     let ln : place < length s.next = omega (arith, h, l, p) in
     let script : items (slice_index_or vs place dv) ≡ script_of s.scripts q =
     sym (get_or-map items vs place dv [] lv) ∙ ap (λ (xs : List (List Op)). slice_index_or xs place []) (sym e) ∙ ap (λ i. slice_index_or s.scripts i []) p in
-    calls s m q place n op d (items (slice_index_or vs place dv)) good is l p (b ∙ any_default s.next place dn 0 ln) script k o
+    calls s m q place n op d (items (slice_index_or vs place dv)) good is l p (b ∙ get_or_default s.next place dn 0 ln) script k o
 
 -- where nothing is left of its script, a process has called all of it
 pub all_called : (s : Playing) (p : ℕ) → Follows s p → (next_at s p < length (script_of s.scripts p) → ⊥) → calls_of p s.made.accepted ≡ script_of s.scripts p
@@ -203,12 +181,13 @@ follows_script s p f =
     let e : length (calls_of p s.made.accepted) ≡ next_at s p = ap length f.calls ∙ length-take-le (next_at s p) (script_of s.scripts p) f.within in
     f.calls ∙ ap (λ k. take k (script_of s.scripts p)) (sym e)
 
-pub is_play : (start : Op → ℕ → Start) (s : Playing) (is_finished : Bool) → IsPlaying s → s.made.failed ≡ false → ((is_finished ≡ true) ↔ IsFinished start s.scripts s.made) → (budget : ℕ) → length s.made.accepted ≤ budget → IsPlay start s.scripts budget s.made is_finished
-is_play start s b good going f budget l = record {
+pub is_play : (start : Op → ℕ → Start) (shape : Extent) (s : Playing) (is_finished : Bool) → IsPlaying s → s.made.failed ≡ false → ((is_finished ≡ true) ↔ IsFinished start s.scripts s.made) → (budget : ℕ) → s.made.processes ≡ shape.processes → s.made.registers ≡ shape.registers → length s.made.accepted ≤ budget → IsPlay start shape s.scripts budget s.made is_finished
+is_play start shape s b good going f budget p r l = record {
   going = going;
-  processes = sym good.scripts;
+  processes = p;
+  registers = r;
   few = l;
-  scripts = λ p k. follows_script s p (good.follows p (let e = good.scripts in omega (arith, e, k)));
+  scripts = λ q k. follows_script s q (good.follows q (let e = good.scripts in omega (arith, e, k)));
   finished = f;
 }
 

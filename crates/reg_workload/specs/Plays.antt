@@ -3,6 +3,7 @@ use Rattle.std.specs.Prelude.{ℕ, ◌≡◌, ◌<◌, ◌≤◌, ◌↔◌, ◌
 use Rattle.std.specs.List.{flat_map}
 use Rattle.reg_base.specs.declared.limits.TheConstants.{MOST_PROCESSES}
 use Rattle.reg_base.specs.declared.memory.Op.{Op}
+use Rattle.reg_base.specs.Shape.{Extent}
 use Rattle.reg_front.specs.declared.starts.Start.{Start}
 use Rattle.reg_process.specs.Process.{pending_of}
 use Rattle.reg_world.specs.declared.events.Event.{Event}
@@ -38,10 +39,11 @@ pub record IsDone (start : Op → ℕ → Start) (scripts : List (List Op)) (w :
 abbrev pub IsFinished : (Op → ℕ → Start) → List (List Op) → Made → Type 0
 IsFinished start scripts w = (p : ℕ) → p < length scripts → IsDone start scripts w p
 
--- What happened in a play of these scripts, one for each process, with so many events at most.
-pub record IsPlay (start : Op → ℕ → Start) (all : List (List Op)) (budget : ℕ) (w : Made) (is_finished : Bool) : Type 0 where
+-- What happened in a play of these scripts, one for each process of this shape, with so many events at most.
+pub record IsPlay (start : Op → ℕ → Start) (shape : Extent) (all : List (List Op)) (budget : ℕ) (w : Made) (is_finished : Bool) : Type 0 where
   pub going : w.failed ≡ false
-  pub processes : w.processes ≡ length all
+  pub processes : w.processes ≡ shape.processes
+  pub registers : w.registers ≡ shape.registers
   pub few : length w.accepted ≤ budget
   pub scripts : (p : ℕ) → p < length all → FollowsScript all w.accepted p
   pub finished : (is_finished ≡ true) ↔ IsFinished start all w
@@ -78,6 +80,7 @@ pub record MayCall (start : Op → ℕ → Start) (s : Playing) (p : ℕ) : Type
 pub record GoesOn (budget : ℕ) (old new : Playing) : Type 0 where
   pub same : new.scripts ≡ old.scripts
   pub processes : new.made.processes ≡ old.made.processes
+  pub registers : new.made.registers ≡ old.made.registers
   pub going : new.made.failed ≡ false
   pub few : length new.made.accepted ≤ budget
 
@@ -110,6 +113,7 @@ NoTick start s n choices = choices ≡ [] → (p : ℕ) → p < n → pending_of
 pub record Turns (loss : ℕ) (old new : Playing) : Type 0 where
   pub same : new.scripts ≡ old.scripts
   pub processes : new.made.processes ≡ old.made.processes
+  pub registers : new.made.registers ≡ old.made.registers
   pub going : new.made.failed ≡ false
   pub most : length new.made.accepted ≤ length old.made.accepted + 1
   pub least : loss ≡ 0 → length new.made.accepted ≡ length old.made.accepted + 1

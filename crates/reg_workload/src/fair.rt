@@ -102,7 +102,7 @@ pub fn play_fair<F: FrontEnd, A: Allocator + Copy>(
     budget: u32,
 ) -> Result<Play<F, A>, AllocError>
     requires { length scripts.now ≡ shape.processes }
-    ensures { IfOk result (λ p. IsPlay F.start (map (λ v. v.items) scripts.now) budget p.world p.finished) }
+    ensures { IfOk result (λ p. IsPlay F.start shape (map (λ v. v.items) scripts.now) budget p.world p.finished) }
 {
     let mut player = Player::new(alloc, shape, scripts)?;
     play_rounds(&mut player, budget)?;

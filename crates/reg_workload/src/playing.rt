@@ -1,5 +1,6 @@
 //! A world in which each process calls the operations of its script.
 ghost use Rattle.std.specs.Prelude.{◌≡◌, ◌<◌, ◌≤◌, ◌↔◌, ◌⊎◌, ◌+◌, ℕ, [], length, replicate, map, true, false, None, IfOk, OnOk, IfSome, IsTrue};
+ghost use Rattle.reg_base.specs.Shape.{Extent};
 ghost use Rattle.reg_process.specs.Process.{pending_of};
 ghost use Rattle.reg_base.specs.declared.limits.TheConstants.{MOST_PROCESSES};
 ghost use Rattle.reg_world.specs.Worlds.{new_world, with_event, run_in};
@@ -51,6 +52,7 @@ fn make<F: FrontEnd, A: Allocator + Copy>(
 ) -> Result<(), AllocError>
     ensures made { OnOk result (world.new ≡ with_event world.old event) }
     ensures processes { world.new.processes ≡ world.old.processes }
+    ensures registers { world.new.registers ≡ world.old.registers }
     ensures kept { result ≡ Ok tt ⊎ (world.new.accepted ≡ world.old.accepted) }
 {
     match world.step(&event) {
@@ -81,6 +83,7 @@ impl<'w, F: FrontEnd, A: Allocator + Copy> Player<'w, F, A> {
             cursors,
         })
     }
+
     /// The number of processes.
     pub(crate) fn processes(&self) -> u8
         ensures value { result ≡ self.now.made.processes }
@@ -143,6 +146,7 @@ impl<'w, F: FrontEnd, A: Allocator + Copy> Player<'w, F, A> {
         requires going { self.old.made.failed ≡ false }
         ensures same { self.new.scripts ≡ self.old.scripts }
         ensures processes { self.new.made.processes ≡ self.old.made.processes }
+        ensures registers { self.new.made.registers ≡ self.old.made.registers }
         ensures going { OnOk result (self.new.made.failed ≡ false) }
         ensures more { OnOk result (length self.new.made.accepted ≡ length self.old.made.accepted + 1) }
     {
@@ -160,6 +164,7 @@ impl<'w, F: FrontEnd, A: Allocator + Copy> Player<'w, F, A> {
         requires going { self.old.made.failed ≡ false }
         ensures same { self.new.scripts ≡ self.old.scripts }
         ensures processes { self.new.made.processes ≡ self.old.made.processes }
+        ensures registers { self.new.made.registers ≡ self.old.made.registers }
         ensures going { OnOk result (self.new.made.failed ≡ false) }
         ensures more { OnOk result (length self.new.made.accepted ≡ length self.old.made.accepted + 1) }
     {
@@ -171,6 +176,7 @@ impl<'w, F: FrontEnd, A: Allocator + Copy> Player<'w, F, A> {
         requires going { self.old.made.failed ≡ false }
         ensures same { self.new.scripts ≡ self.old.scripts }
         ensures processes { self.new.made.processes ≡ self.old.made.processes }
+        ensures registers { self.new.made.registers ≡ self.old.made.registers }
         ensures going { OnOk result (self.new.made.failed ≡ false) }
         ensures more { OnOk result (length self.new.made.accepted ≡ length self.old.made.accepted + 1) }
     {
@@ -196,6 +202,7 @@ impl<'w, F: FrontEnd, A: Allocator + Copy> Player<'w, F, A> {
         requires going { self.old.made.failed ≡ false }
         ensures same { self.new.scripts ≡ self.old.scripts }
         ensures processes { self.new.made.processes ≡ self.old.made.processes }
+        ensures registers { self.new.made.registers ≡ self.old.made.registers }
         ensures going { OnOk result (self.new.made.failed ≡ false) }
         ensures more { OnOk result (length self.new.made.accepted ≡ length self.old.made.accepted + 1) }
     {
@@ -241,7 +248,7 @@ impl<'w, F: FrontEnd, A: Allocator + Copy> Player<'w, F, A> {
     pub(crate) fn end(self) -> Play<F, A>
         requires { self.made.failed ≡ false }
         ensures world { result.world ≡ self.entry.made }
-        ensures play { (budget : ℕ) → length self.entry.made.accepted ≤ budget → IsPlay F.start self.entry.scripts budget result.world result.finished }
+        ensures play { (shape : Extent) (budget : ℕ) → self.entry.made.processes ≡ shape.processes → self.entry.made.registers ≡ shape.registers → length self.entry.made.accepted ≤ budget → IsPlay F.start shape self.entry.scripts budget result.world result.finished }
         ensures still { AllStill F.start self.entry → result.finished ≡ true }
     {
         let _world = &self.world;

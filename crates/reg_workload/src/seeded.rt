@@ -126,7 +126,7 @@ pub fn play_seeded<F: FrontEnd, R: Words, A: Allocator + Copy>(
     budget: u32,
 ) -> Result<Play<F, A>, AllocError>
     requires { length scripts.now ≡ shape.processes }
-    ensures play { IfOk result (λ p. IsPlay F.start (map (λ v. v.items) scripts.now) budget p.world p.finished) }
+    ensures play { IfOk result (λ p. IsPlay F.start shape (map (λ v. v.items) scripts.now) budget p.world p.finished) }
     ensures finished { IfOk result (λ p. odds.loss ≡ 0 → length p.world.accepted < budget → p.finished ≡ true) }
 {
     let mut player = Player::new(alloc, shape, scripts)?;

@@ -9,7 +9,7 @@ pub returns-clause-play : goal.returns-clause-play
 returns-clause-play g c =
     let went = c.in_ok-_ended.ensures.on in
     let same : c.play_turns.new.player.scripts ≡ map (λ v. v.items) c.args.scripts.now = went.same ∙ c.in_ok-player.ensures.scripts in
-    subst (λ (s : List (List Op)). IsPlay g.F.FrontEnd.start s c.args.budget c.end.result.world c.end.result.finished) same (c.end.ensures.play c.args.budget went.few)
+    subst (λ (s : List (List Op)). IsPlay g.F.FrontEnd.start c.args.shape s c.args.budget c.end.result.world c.end.result.finished) same (c.end.ensures.play c.args.shape c.args.budget (went.processes ∙ ap (λ (m : Made). m.processes) c.in_ok-player.ensures.made) (went.registers ∙ ap (λ (m : Made). m.registers) c.in_ok-player.ensures.made) went.few)
 
 pub returns-clause-finished : goal.returns-clause-finished
 returns-clause-finished g c = λ none less.
