@@ -10,6 +10,7 @@ pub mod Stepping
 pub mod Beginning
 pub mod Answering
 pub mod Sending
+pub mod Strands
 pub mod Rises
 pub mod Ranking
 pub mod Merging

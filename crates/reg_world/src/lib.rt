@@ -11,6 +11,7 @@ pub mod laws;
 mod order;
 mod running;
 mod stations;
+mod wires;
 mod witnesses;
 
 pub use events::Event;

@@ -7,89 +7,19 @@ ghost use Rattle.reg_process.specs.Faults.{step_fault};
 ghost use Rattle.reg_process.specs.Events.{Steps};
 ghost use Rattle.reg_world.specs.Stations.{sent, MayAct, Acts};
 
+use crate::wires::Wires;
 use reg_base::Shape;
 use reg_frames::Frame;
 use reg_front::FrontEnd;
-use reg_process::{Outcome, Process, ProcessFault, Put, Step};
+use reg_process::{Outcome, Process, ProcessFault, Step};
 use std::alloc::{AllocError, Allocator, Global};
 use std::marker::Model;
-
-/// All frames ever put from one process to another, the first of them first.
-#[derive(Drop)]
-pub(crate) struct Wire<A: Allocator + Copy = Global> {
-    frames: Vec<Frame, A>,
-}
-
-impl<A: Allocator + Copy> Model for Wire<A> {
-    ghost use Rattle.std.specs.Prelude.{List};
-    ghost use Rattle.reg_frames.specs.declared.bodies.Frame.{Frame};
-
-    ghost Value = { List Frame };
-
-    ghost view = { λ w. w.frames.items };
-}
-
-impl<A: Allocator + Copy> Wire<A> {
-    /// A wire with no frame.
-    fn new(alloc: A) -> Wire<A>
-        ensures { result ≡ [] }
-    {
-        Wire {
-            frames: Vec::new(alloc),
-        }
-    }
-
-    /// The frames.
-    pub(crate) fn frames(&self) -> &[Frame]
-        ensures { result.now ≡ self.now }
-    {
-        self.frames.as_slice()
-    }
-
-    /// Puts a frame.
-    fn push(&mut self, frame: Frame) -> Result<(), AllocError>
-        ensures { OnOk result (self.new ≡ self.old ++ frame ∷ []) }
-    {
-        self.frames.push(frame)?;
-        Ok(())
-    }
-}
-
-/// A wire to each of so many processes, with no frame.
-fn new_wires<A: Allocator + Copy>(alloc: A, count: u32) -> Result<Vec<Wire<A>, A>, AllocError>
-    ensures { IfOk result (λ v. v.items ≡ replicate count []) }
-{
-    let mut wires = Vec::new(alloc);
-    for _i in 0..count {
-        wires.push(Wire::new(alloc))?;
-    }
-    Ok(wires)
-}
-
-/// Puts a frame on its wire.
-fn put_one<A: Allocator + Copy>(wires: &mut Vec<Wire<A>, A>, put: &Put) -> Result<(), AllocError>
-    requires { put.now.to < length wires.old.items }
-    ensures { OnOk result (wires.new.items ≡ slice_set wires.old.items put.now.to (slice_index_or wires.old.items put.now.to [] ++ put.now.frame ∷ [])) }
-{
-    wires[usize::from(put.to)].push(put.frame)
-}
-
-/// Puts the frames of an event on their wires.
-fn put_all<A: Allocator + Copy>(wires: &mut Vec<Wire<A>, A>, puts: &[Put]) -> Result<(), AllocError>
-    requires { (p : Put) → In p puts.now → p.to < length wires.old.items }
-    ensures { OnOk result (wires.new.items ≡ sent puts.now wires.old.items) }
-{
-    for put in puts {
-        put_one(wires, put)?;
-    }
-    Ok(())
-}
 
 /// One process, and all frames that it ever put for each process.
 #[derive(Drop)]
 pub(crate) struct Station<F: FrontEnd, A: Allocator + Copy = Global> {
     process: Process<F, A>,
-    wires: Vec<Wire<A>, A>,
+    wires: Wires<A>,
 }
 
 impl<F: FrontEnd, A: Allocator + Copy> Model for Station<F, A> {
@@ -97,7 +27,7 @@ impl<F: FrontEnd, A: Allocator + Copy> Model for Station<F, A> {
 
     ghost Value = { Standing };
 
-    ghost view = { λ s. record { process = s.process; wires = s.wires.items } };
+    ghost view = { λ s. record { process = s.process; wires = s.wires } };
 }
 
 impl<F: FrontEnd, A: Allocator + Copy> Station<F, A> {
@@ -108,7 +38,7 @@ impl<F: FrontEnd, A: Allocator + Copy> Station<F, A> {
         let Ok(process) = Process::new(alloc, shape, me) else {
             return Err(AllocError);
         };
-        let wires = new_wires(alloc, shape.processes())?;
+        let wires = Wires::new(alloc, shape.processes())?;
         Ok(Station { process, wires })
     }
 
@@ -123,10 +53,7 @@ impl<F: FrontEnd, A: Allocator + Copy> Station<F, A> {
     pub(crate) fn wire(&self, to: u8) -> &[Frame]
         ensures { result.now ≡ slice_index_or self.now.wires to [] }
     {
-        match self.wires.get(usize::from(to)) {
-            Some(wire) => wire.frames(),
-            None => &[],
-        }
+        self.wires.to(to)
     }
 
     /// Makes a step that no fault applies to, and puts its frames on their wires. It fails for want of memory alone;
@@ -136,7 +63,7 @@ impl<F: FrontEnd, A: Allocator + Copy> Station<F, A> {
         ensures { IfOk result (λ o. Acts F.start self.old step.now o.cast o.delivered.items o.reply self.new) }
     {
         let outcome = act(&mut self.process, step)?;
-        put_all(&mut self.wires, &outcome.frames)?;
+        self.wires.put_all(&outcome.frames)?;
         Ok(outcome)
     }
 }

@@ -1,0 +1,22 @@
+use Rattle.std.proofs.Common.{◌≡◌, ◌<◌, ◌++◌, ◌∷◌, [], List, length, map, set, get_or, ap, ◌∙◌, subst, arith}
+use Rattle.std.proofs.lemmas.List.{length-map}
+use Rattle.reg_frames.specs.declared.bodies.Frame.{Frame}
+use Rattle.reg_world.specs.Wires.{frames_in}
+use Rattle.reg_world.proofs.Strands.{put_on_one}
+use Rattle.reg_world.proofs.wires.Wires.put.Goals as goal
+
+pub returns : goal.returns
+returns g c =
+    let old = c.self.inside.common.items in
+    let new = c.put.new.common.items in
+    let strands = c.self.inside.wires.items in
+    let d = c.index_mut.result.now in
+    let r = c.args.put.now.to in
+    let f = c.args.put.now.frame in
+    let from : c.from.result ≡ r = c.from.ensures in
+    let l : r < length strands = let a = ap length c.self.view_is in let b = length-map strands (frames_in old) in let e = c.requires in omega (arith, a, b, e) in
+    let is : d ≡ get_or strands r d = c.index_mut.ensures.value ∙ ap (λ k. get_or strands k d) from in
+    ap (λ k. map (frames_in new) (set strands k c.put.new.self)) from
+    ∙ subst (λ (z : List (List Frame)). map (frames_in new) (set strands r c.put.new.self) ≡ set z r (get_or z r [] ++ f ∷ [])) c.self.view_is
+    (put_on_one old new strands r c.put.new.self d f c.in_ok-put.ensures.longer c.self.invariant l
+    (c.in_ok-put.ensures.frames ∙ ap (λ s. frames_in old s ++ f ∷ []) is))

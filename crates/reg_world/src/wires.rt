@@ -1,0 +1,160 @@
+//! The wires of one process.
+ghost use Rattle.std.specs.Prelude.{◌≡◌, ◌<◌, ◌≤◌, ◌++◌, ◌∷◌, [], length, replicate, IfOk, OnOk, slice_set, slice_index_or};
+ghost use Rattle.reg_base.specs.Order.{In};
+ghost use Rattle.reg_process.specs.declared.outcomes.Put.{Put};
+ghost use Rattle.reg_world.specs.Stations.{sent};
+ghost use Rattle.reg_world.specs.Wires.{frames_in, no_frames, IsLonger};
+
+use reg_frames::Frame;
+use reg_process::Put;
+use std::alloc::{AllocError, Allocator, Global};
+use std::marker::Model;
+
+/// What is kept of a wire: how many of the common frames it has, or all of its frames once they differ from those.
+#[derive(Drop)]
+pub(crate) struct Wire<A: Allocator + Copy = Global> {
+    shared: usize,
+    own: Vec<Frame, A>,
+}
+
+impl<A: Allocator + Copy> Model for Wire<A> {
+    ghost use Rattle.reg_world.specs.Wires.{Strand};
+
+    ghost Value = { Strand };
+
+    ghost view = { λ w. record { shared = w.shared; own = w.own.items } };
+}
+
+impl<A: Allocator + Copy> Wire<A> {
+    /// A wire with no frame.
+    fn new(alloc: A) -> Wire<A>
+        ensures { result ≡ no_frames }
+    {
+        Wire {
+            shared: 0,
+            own: Vec::new(alloc),
+        }
+    }
+
+    /// The frames.
+    fn frames<'w>(&'w self, common: &'w [Frame]) -> &'w [Frame]
+        requires { self.now.shared ≤ length common.now }
+        ensures { result.now ≡ frames_in common.now self.now }
+    {
+        if self.own.is_empty() {
+            &common[..self.shared]
+        } else {
+            self.own.as_slice()
+        }
+    }
+
+    /// Puts a frame that isn't the next one of the common frames: from now on the wire has its own.
+    fn part(&mut self, common: &[Frame], frame: Frame) -> Result<(), AllocError>
+        requires shared { self.old.shared ≤ length common.now }
+        requires own { self.old.own ≡ [] }
+        ensures frames { OnOk result (frames_in common.now self.new ≡ frames_in common.now self.old ++ frame ∷ []) }
+        ensures shared { self.new.shared ≡ self.old.shared }
+    {
+        let shared = &common[..self.shared];
+        self.own.extend_from_slice(shared)?;
+        self.own.push(frame)?;
+        Ok(())
+    }
+
+    /// Puts a frame. It is kept once where it is the next one of the common frames, or can be.
+    #[inline(always)]
+    fn put(&mut self, common: &mut Vec<Frame, A>, frame: Frame) -> Result<(), AllocError>
+        requires { self.old.shared ≤ length common.old.items }
+        ensures frames { OnOk result (frames_in common.new.items self.new ≡ frames_in common.old.items self.old ++ frame ∷ []) }
+        ensures longer { IsLonger common.old.items common.new.items }
+        ensures shared { self.new.shared ≤ length common.new.items }
+    {
+        if !self.own.is_empty() {
+            self.own.push(frame)?;
+            return Ok(());
+        }
+        if self.shared == common.len() {
+            common.push(frame)?;
+            self.shared = common.len();
+            return Ok(());
+        }
+        if common[self.shared] == frame {
+            self.shared += 1;
+            return Ok(());
+        }
+        self.part(common, frame)
+    }
+}
+
+/// A wire to each of so many processes, with no frame.
+fn new_wires<A: Allocator + Copy>(alloc: A, count: u32) -> Result<Vec<Wire<A>, A>, AllocError>
+    ensures { IfOk result (λ v. v.items ≡ replicate count no_frames) }
+{
+    let mut wires = Vec::new(alloc);
+    for _i in 0..count {
+        wires.push(Wire::new(alloc))?;
+    }
+    Ok(wires)
+}
+
+/// All frames that a process ever put for each process. Most go to all others, so frames that stand on several wires at
+/// the same place are kept once, up to the first that differs.
+#[derive(Drop)]
+pub(crate) struct Wires<A: Allocator + Copy = Global> {
+    common: Vec<Frame, A>,
+    wires: Vec<Wire<A>, A>,
+}
+
+impl<A: Allocator + Copy> Model for Wires<A> {
+    ghost use Rattle.std.specs.Prelude.{List, map};
+    ghost use Rattle.reg_frames.specs.declared.bodies.Frame.{Frame};
+    ghost use Rattle.reg_world.specs.Wires.{frames_in, AreShared};
+
+    ghost Value = { List (List Frame) };
+
+    ghost view = { λ w. map (frames_in w.common.items) w.wires.items };
+
+    ghost invariant = { λ w. AreShared w.common.items w.wires.items };
+}
+
+impl<A: Allocator + Copy> Wires<A> {
+    /// A wire to each of so many processes, with no frame.
+    pub(crate) fn new(alloc: A, count: u32) -> Result<Wires<A>, AllocError>
+        ensures { IfOk result (λ w. w ≡ replicate count []) }
+    {
+        let common = Vec::new(alloc);
+        let wires = new_wires(alloc, count)?;
+        Ok(Wires { common, wires })
+    }
+
+    /// All frames ever put for a process, none where there is no such process.
+    pub(crate) fn to(&self, to: u8) -> &[Frame]
+        ensures { result.now ≡ slice_index_or self.now to [] }
+    {
+        match self.wires.get(usize::from(to)) {
+            Some(wire) => wire.frames(&self.common),
+            None => &[],
+        }
+    }
+
+    /// Puts a frame on its wire.
+    #[inline(always)]
+    fn put(&mut self, put: &Put) -> Result<(), AllocError>
+        requires { put.now.to < length self.old }
+        ensures { OnOk result (self.new ≡ slice_set self.old put.now.to (slice_index_or self.old put.now.to [] ++ put.now.frame ∷ [])) }
+    {
+        self.wires[usize::from(put.to)].put(&mut self.common, put.frame)?;
+        Ok(())
+    }
+
+    /// Puts the frames of an event on their wires.
+    pub(crate) fn put_all(&mut self, puts: &[Put]) -> Result<(), AllocError>
+        requires { (p : Put) → In p puts.now → p.to < length self.old }
+        ensures { OnOk result (self.new ≡ sent puts.now self.old) }
+    {
+        for put in puts {
+            self.put(put)?;
+        }
+        Ok(())
+    }
+}
