@@ -1,8 +1,11 @@
 //! What goes out of one event.
+ghost use Rattle.std.specs.Prelude.{◌≡◌, []};
+
 use crate::steps::Reply;
 use reg_base::{Delivered, Stamp};
 use reg_frames::Frame;
 use std::alloc::{Allocator, Global};
+use std::mem;
 
 /// A frame, and the process that it is put for.
 #[derive(Clone, Copy, Debug, PartialEq, Eq)]
@@ -22,4 +25,35 @@ pub struct Outcome<A: Allocator + Copy = Global> {
     pub delivered: Vec<Delivered, A>,
     /// The reply to the operation that was called in this event or was running.
     pub reply: Option<Reply>,
+}
+
+/// A list that a later event can put its frames in, so that it takes no memory for one.
+#[derive(Drop)]
+pub struct Spare<A: Allocator + Copy> {
+    list: Vec<Put, A>,
+}
+
+impl<A: Allocator + Copy> Spare<A> {
+    /// A list without room.
+    pub fn new(alloc: A) -> Spare<A> {
+        Spare {
+            list: Vec::new(alloc),
+        }
+    }
+
+    /// The list, with nothing in it. One without room stays.
+    pub fn take(&mut self, alloc: A) -> Vec<Put, A>
+        ensures { result.items ≡ [] }
+    {
+        let mut list = mem::replace(&mut self.list, Vec::new(alloc));
+        list.clear();
+        list
+    }
+
+    /// Keeps a list for later, where it has more room.
+    pub fn keep(&mut self, list: Vec<Put, A>) {
+        if self.list.capacity() < list.capacity() {
+            self.list = list;
+        }
+    }
 }

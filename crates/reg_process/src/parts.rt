@@ -4,7 +4,7 @@ ghost use Rattle.reg_process.specs.Process.{pending_of, peer_at, next_of, acknow
 ghost use Rattle.reg_process.specs.Parts.{state_of, first_parts};
 ghost use Rattle.reg_process.specs.Puts.{puts};
 
-use crate::outcomes::Put;
+use crate::outcomes::{Put, Spare};
 use crate::puts::{new_inboxes, new_outboxes, pending_in, resend_all};
 use crate::running::Current;
 use reg_base::{Clock, Delivered, Registers, Shape};
@@ -31,6 +31,7 @@ pub struct Core<A: Allocator + Copy> {
     unsettled: u32,
     running: Option<Current>,
     calls: u32,
+    spare: Spare<A>,
 }
 
 impl<A: Allocator + Copy> Model for Core<A> {
@@ -69,6 +70,7 @@ impl<A: Allocator + Copy> Core<A> {
             unsettled: 0,
             running: None,
             calls: 0,
+            spare: Spare::new(alloc),
         })
     }
 
@@ -121,6 +123,13 @@ impl<A: Allocator + Copy> Core<A> {
     {
         let frames = resend_all(self.alloc, &self.outboxes, self.me)?;
         Ok(frames)
+    }
+
+    /// Keeps a list of frames for a later event. Nothing else changes.
+    pub fn keep(&mut self, frames: Vec<Put, A>)
+        ensures { self.new ≡ self.old }
+    {
+        self.spare.keep(frames);
     }
 
     /// An empty list on the process's allocator.

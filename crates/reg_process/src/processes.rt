@@ -7,7 +7,7 @@ ghost use Rattle.reg_process.specs.Faults.{NewRefused};
 ghost use Rattle.reg_process.specs.Events.{Steps, Refused};
 
 use crate::faults::{ProcessFault, is_stop};
-use crate::outcomes::Outcome;
+use crate::outcomes::{Outcome, Put};
 use crate::parts::Core;
 use reg_base::{Op, Registers, Shape};
 use reg_frames::Frame;
@@ -93,6 +93,13 @@ impl<F: FrontEnd, A: Allocator + Copy> Process<F, A> {
         ensures { result.now ≡ self.now.state.copy }
     {
         self.core.registers()
+    }
+
+    /// Takes back the list of an event's frames, so that a later event takes no memory for one. Nothing else changes.
+    pub fn reuse(&mut self, frames: Vec<Put, A>)
+        ensures { self.new ≡ self.old }
+    {
+        self.core.keep(frames);
     }
 
     /// Puts the first unacknowledged data frames of every link again. The clock stays as it is.

@@ -79,14 +79,15 @@ fn queue_for_others<A: Allocator + Copy>(
     }
 }
 
-/// Queues a body for all other processes, and puts it. Where memory is wanting, it may be queued.
+/// Queues a body for all other processes, and puts it in an empty list. Where memory is wanting, it may be queued.
 pub fn queue_on_all<A: Allocator + Copy>(
-    alloc: A,
+    mut frames: Vec<Put, A>,
     outboxes: &mut Outboxes<A>,
     me: u8,
     body: Body,
     got: Option<(u8, u64)>,
 ) -> Result<Vec<Put, A>, AllocError>
+    requires empty { frames.items ≡ [] }
     requires me { me < length (outs_of me outboxes.old) }
     requires few { length (outs_of me outboxes.old) ≤ MOST_PROCESSES }
     requires numbers { HasNumbers (outs_of me outboxes.old) }
@@ -97,7 +98,7 @@ pub fn queue_on_all<A: Allocator + Copy>(
 {
     let processes = outboxes.processes();
     let count = processes.saturating_sub(1) + usize::from(got.is_some());
-    let mut frames = Vec::with_capacity(alloc, count)?;
+    frames.reserve(count)?;
     let number = queue_for_others(outboxes, me, body)?;
     for r in 0..processes as u8 {
         put_one(&mut frames, r, me, number, body, got)?;
@@ -105,15 +106,15 @@ pub fn queue_on_all<A: Allocator + Copy>(
     Ok(frames)
 }
 
-/// A count alone.
+/// Puts a count alone in an empty list.
 pub fn got_alone<A: Allocator + Copy>(
-    alloc: A,
+    mut frames: Vec<Put, A>,
     to: u8,
     count: u64,
 ) -> Result<Vec<Put, A>, AllocError>
+    requires { frames.items ≡ [] }
     ensures { IfOk result (λ v. v.items ≡ put_to to (Got count) ∷ []) }
 {
-    let mut frames = Vec::with_capacity(alloc, 1)?;
     frames.push(Put {
         to,
         frame: Frame::Got { count },

@@ -80,6 +80,7 @@ fn advance<F: FrontEnd, A: Allocator + Copy>(
     let outcome = station.act(step)?;
     let runs = station.process().busy();
     book.enter(event, process, step, runs, &outcome)?;
+    station.reuse(outcome.frames);
     Ok(outcome.reply)
 }
 

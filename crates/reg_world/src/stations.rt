@@ -11,7 +11,7 @@ use crate::wires::Wires;
 use reg_base::Shape;
 use reg_frames::Frame;
 use reg_front::FrontEnd;
-use reg_process::{Outcome, Process, ProcessFault, Step};
+use reg_process::{Outcome, Process, ProcessFault, Put, Step};
 use std::alloc::{AllocError, Allocator, Global};
 use std::marker::Model;
 
@@ -65,6 +65,13 @@ impl<F: FrontEnd, A: Allocator + Copy> Station<F, A> {
         let outcome = act(&mut self.process, step)?;
         self.wires.put_all(&outcome.frames)?;
         Ok(outcome)
+    }
+
+    /// Takes back the list of a step's frames for a later step. Nothing else changes.
+    pub(crate) fn reuse(&mut self, frames: Vec<Put, A>)
+        ensures { self.new ≡ self.old }
+    {
+        self.process.reuse(frames);
     }
 }
 

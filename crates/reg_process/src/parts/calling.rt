@@ -163,7 +163,8 @@ impl<A: Allocator + Copy> Core<A> {
             process: self.me,
         };
         let body = Body::Cast { time, op };
-        let queued = queue_on_all(self.alloc, &mut self.outboxes, self.me, body, None);
+        let list = self.spare.take(self.alloc);
+        let queued = queue_on_all(list, &mut self.outboxes, self.me, body, None);
         let Ok(frames) = queued else {
             return Err(ProcessFault::OutOfMemory);
         };

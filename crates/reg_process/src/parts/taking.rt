@@ -146,7 +146,8 @@ impl<A: Allocator + Copy> Core<A> {
     {
         let expected = self.expected(from);
         if number != expected {
-            let Ok(frames) = got_alone(self.alloc, from, expected) else {
+            let list = Vec::new(self.alloc);
+            let Ok(frames) = got_alone(list, from, expected) else {
                 return Err(ProcessFault::OutOfMemory);
             };
             return Ok(Outcome {
@@ -269,13 +270,8 @@ impl<A: Allocator + Copy> Core<A> {
         };
         let count = self.inboxes[from as usize].expected() + 1;
         let body = Body::Ack { time: now };
-        let queued = queue_on_all(
-            self.alloc,
-            &mut self.outboxes,
-            self.me,
-            body,
-            Some((from, count)),
-        );
+        let list = self.spare.take(self.alloc);
+        let queued = queue_on_all(list, &mut self.outboxes, self.me, body, Some((from, count)));
         let Ok(frames) = queued else {
             return Err(ProcessFault::OutOfMemory);
         };
@@ -301,7 +297,8 @@ impl<A: Allocator + Copy> Core<A> {
             return Err(ProcessFault::ClockFull);
         };
         let count = self.inboxes[from as usize].expected() + 1;
-        let Ok(frames) = got_alone(self.alloc, from, count) else {
+        let list = self.spare.take(self.alloc);
+        let Ok(frames) = got_alone(list, from, count) else {
             return Err(ProcessFault::OutOfMemory);
         };
         let stamp = Stamp {
