@@ -1,5 +1,5 @@
 //! The frames that a process takes.
-ghost use Rattle.std.specs.Prelude.{◌≡◌, ◌<◌, ◌+◌, length, MatchResult, IfOk, OnOk, OnErr, IfErr, max, not, nat_le, nat_lt, slice_index, slice_set, Some, None, if◌then◌else◌};
+ghost use Rattle.std.specs.Prelude.{◌≡◌, ◌<◌, ◌+◌, ◌∷◌, [], length, MatchResult, IfOk, OnOk, OnErr, IfErr, max, not, nat_le, nat_lt, slice_index, slice_set, Some, None, if◌then◌else◌};
 ghost use Rattle.reg_base.specs.Memory.{after, register_of};
 ghost use Rattle.reg_process.specs.Process.{peer_at, seen_at, next_of, acknowledged, accepted, taken, time_of};
 ghost use Rattle.reg_process.specs.Faults.{Stops, StopsAt, early_body, full_by, is_out as is_out_of, is_peer as is_peer_of, frame_fault, FrameRefused};
@@ -7,6 +7,7 @@ ghost use Rattle.reg_frames.specs.declared.bodies.Body.TheVariants.{Cast, Ack};
 ghost use Rattle.reg_frames.specs.declared.bodies.Frame.TheVariants.{Numbered, Got};
 ghost use Rattle.reg_base.specs.declared.limits.TheConstants.{LAST_TIME, FRAME_NUMBERS};
 ghost use Rattle.reg_process.specs.Events.{Goes};
+ghost use Rattle.reg_process.specs.Puts.{put_to};
 ghost use Rattle.reg_holdback.specs.Waiting.{receive_fault, received};
 ghost use Rattle.reg_process.specs.Steps.{TakesCast, TakesAck};
 
@@ -130,6 +131,15 @@ impl<A: Allocator + Copy> Core<A> {
         self.outboxes.got(from, count).is_ok()
     }
 
+    /// Puts a count alone. Nothing changes.
+    fn put_count(&mut self, to: u8, count: u64) -> Result<Vec<Put, A>, AllocError>
+        ensures frames { IfOk result (λ v. v.items ≡ put_to to (Got count) ∷ []) }
+        ensures same { self.new ≡ self.old }
+    {
+        let list = self.spare.take(self.alloc);
+        got_alone(list, to, count)
+    }
+
     /// Takes a data frame.
     #[inline(always)]
     pub fn take_body(
@@ -146,8 +156,7 @@ impl<A: Allocator + Copy> Core<A> {
     {
         let expected = self.expected(from);
         if number != expected {
-            let list = Vec::new(self.alloc);
-            let Ok(frames) = got_alone(list, from, expected) else {
+            let Ok(frames) = self.put_count(from, expected) else {
                 return Err(ProcessFault::OutOfMemory);
             };
             return Ok(Outcome {
