@@ -1,5 +1,1 @@
-pub mod Input
-pub mod Verdicts
-pub mod Replays
-pub mod Answers
 pub mod Words

@@ -1,27 +1,12 @@
-//! The commands of the program, over any reader and writer, and the words of its command line.
+//! The words of the program's command line, and the program: the commands over the standard streams.
 #![tactic(auto)]
 
-mod checking;
-mod command;
-mod faults;
-mod input;
 mod program;
-mod replaying;
-mod running;
-mod verdicts;
 mod words;
 
-pub use command::Command;
-pub use faults::Fault;
 pub use program::run_program;
-pub use running::run_text;
+pub use reg_commands::{Command, Fault, run_text};
 pub use words::{WordsFault, choose};
 
-#[cfg(test)]
-mod replay_tests;
-#[cfg(test)]
-mod report_tests;
-#[cfg(test)]
-mod tests;
 #[cfg(test)]
 mod words_tests;

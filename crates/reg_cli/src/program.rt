@@ -1,8 +1,8 @@
 //! The program: the words of its command line, and then the command over the standard streams.
 ghost use Rattle.std.specs.Prelude.{◌≡◌, ◌≤◌, IfOk, MatchResult};
 
-use crate::running::run_text;
 use crate::words::{WordsFault, choose};
+use reg_commands::run_text;
 use std::io::{BufWriter, ErrorKind, Write};
 use std::rt::Env;
 use std::{env, io};

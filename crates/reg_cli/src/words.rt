@@ -4,8 +4,8 @@ ghost use Rattle.clap.specs.Words.{kind_of};
 ghost use Rattle.reg_cli.specs.declared.words.WordsFault.TheVariants.{OutOfMemory};
 ghost use Rattle.reg_cli.specs.Words.{words_fault};
 
-use crate::command::Command;
 use clap::error::ErrorKind;
+use reg_commands::Command;
 use std::alloc::{AllocError, Global};
 
 /// Why the words ask for nothing.

@@ -1,7 +1,0 @@
-use Rattle.std.proofs.Common.{◌∙◌}
-use Rattle.reg_cli.proofs.WithinReport.{never_refused}
-use Rattle.reg_cli.proofs.replaying.report.Goals as goal
-
-pub unreachable-requires : goal.unreachable-requires
-unreachable-requires g c =
-    never_refused c.args.front _ c.in-Err.field-0 c.requires.few (c.in-Ok.ensures.ok ∙ c.name.ensures) c.requires.names c.in_place.ensures c.requires.order c.requires.points c.in-Err.ensures

@@ -1,0 +1,4 @@
+pub mod Input
+pub mod Verdicts
+pub mod Replays
+pub mod Answers

@@ -1,0 +1,99 @@
+-- What the replay of a schedule writes.
+use Rattle.std.specs.Prelude.{ℕ, ◌≡◌, ◌≤◌, List, take, Option, Some, None}
+use Rattle.std.specs.Io.KnownBytes.{Appends}
+use Rattle.reg_base.specs.declared.limits.TheConstants.{LAST_EVENT}
+use Rattle.reg_base.specs.declared.memory.Op.{Op}
+use Rattle.reg_front.specs.declared.starts.Start.{Start}
+use Rattle.reg_front.specs.declared.named.Front.{Front}
+use Rattle.reg_front.specs.declared.named.Front.TheVariants.{Linear, LocalRead, LocalWrite}
+use Rattle.reg_front.specs.Table.{linear, local_read, local_write, front_name}
+use Rattle.reg_history.specs.declared.entries.Entry.{Entry}
+use Rattle.reg_history.specs.declared.entries.Point.{Point}
+use Rattle.reg_history.specs.History.{IsAt}
+use Rattle.reg_history.specs.Orders.{IsPointOrder}
+use Rattle.reg_history.specs.Reports.{Contents, report_text}
+use Rattle.reg_world.specs.World.{World, run_of, whole, fault_of}
+use Rattle.reg_world.specs.declared.events.Event.{Event}
+use Rattle.reg_world.specs.declared.faults.WorldFault.{WorldFault}
+use Rattle.reg_world.specs.Keys.{IsWitness, ArePoints}
+use Rattle.reg_workload.specs.Schedules.{Plan, IsPlan, Spells}
+use Rattle.reg_commands.specs.declared.faults.Fault.{Fault}
+use Rattle.reg_commands.specs.declared.faults.Fault.TheVariants.{Event as EventFault, OutOfMemory}
+
+-- how the front end of a plan starts an operation
+abbrev pub start_of : Front → Op → ℕ → Start
+start_of Linear = linear
+start_of LocalRead = local_read
+start_of LocalWrite = local_write
+
+-- the run of a plan's events
+abbrev pub run_by : (Op → ℕ → Start) → Plan → World
+run_by start p = whole start p.shape.processes p.shape.registers p.events
+
+-- All events of a plan are accepted, and this is the report of the run: its history and its witness, under the plan's front
+-- end and names.
+pub record Shows (start : Op → ℕ → Start) (p : Plan) (r : Contents) : Type 0 where
+  pub accepted : (run_by start p).accepted ≡ p.events
+  pub front : r.front ≡ front_name p.front
+  pub shape : r.shape ≡ p.shape
+  pub names : r.names ≡ p.names
+  pub entries : r.entries ≡ (run_by start p).history
+  pub order : IsWitness (run_of p.shape.registers (run_by start p)) r.order
+
+-- with the points of the run
+abbrev pub ShowsPoints : (Op → ℕ → Start) → Plan → Option (List Point) → Type 0
+ShowsPoints start p None = ⊥
+ShowsPoints start p (Some ps) = ArePoints (run_of p.shape.registers (run_by start p)) ps
+
+-- a real-time front end has points, the others have none
+abbrev pub PointsOf : Front → Plan → Option (List Point) → Type 0
+PointsOf Linear p points = ShowsPoints linear p points
+PointsOf LocalRead p points = points ≡ None
+PointsOf LocalWrite p points = points ≡ None
+
+-- the report of a plan's run
+pub record IsReportOf (p : Plan) (r : Contents) : Type 0 where
+  pub shows : Shows (start_of p.front) p r
+  pub points : PointsOf p.front p r.points
+
+-- the points are at events that a run may have
+abbrev pub AreAtEvents : List Point → Type 0
+AreAtEvents ps = (k : ℕ) (p : Point) → IsAt ps k p → p.at ≤ LAST_EVENT
+
+-- points, where there are any, are a point order at such events
+abbrev pub PointsStand : ℕ → List Entry → Option (List Point) → Type 0
+PointsStand registers h None = Unit {0}
+PointsStand registers h (Some ps) = IsPointOrder registers h ps × AreAtEvents ps
+
+-- The text is that of a plan, and the report of its run was written.
+pub record Replays (old new : Option (List ℕ)) (text : List ℕ) : Type 0 where
+  pub plan : Plan
+  pub good : IsPlan plan
+  pub read : Spells text plan
+  pub report : Contents
+  pub shown : IsReportOf plan report
+  pub written : Appends old new (report_text report)
+
+-- the run of a plan's events before this one
+abbrev pub run_before : (Op → ℕ → Start) → Plan → ℕ → World
+run_before start p at = whole start p.shape.processes p.shape.registers (take at p.events)
+
+-- All events of a plan before this one are accepted, and the first fault that applies to it after them is this.
+pub record IsFirstRefused (start : Op → ℕ → Start) (p : Plan) (at : ℕ) (fault : WorldFault) : Type 0 where
+  pub event : Event
+  pub here : IsAt p.events at event
+  pub before : (run_before start p at).accepted ≡ take at p.events
+  pub refused : fault_of p.shape.processes p.shape.registers (run_before start p at) event ≡ Some fault
+
+-- The text is that of a plan, and this is the first event that is refused, with its fault.
+pub record RefusesAt (at : ℕ) (fault : WorldFault) (text : List ℕ) : Type 0 where
+  pub plan : Plan
+  pub good : IsPlan plan
+  pub read : Spells text plan
+  pub first : IsFirstRefused (start_of plan.front) plan at fault
+
+-- what a fault of a run says of its plan
+abbrev pub BlamesRun : (Op → ℕ → Start) → Plan → Fault → Type 0
+BlamesRun start p (EventFault at fault) = IsFirstRefused start p at fault
+BlamesRun start p OutOfMemory = Unit {0}
+BlamesRun start p fault = ⊥

@@ -1,0 +1,21 @@
+//! The commands over any reader and writer.
+#![tactic(auto)]
+
+mod checking;
+mod command;
+mod faults;
+mod input;
+mod replaying;
+mod running;
+mod verdicts;
+
+pub use command::Command;
+pub use faults::Fault;
+pub use running::run_text;
+
+#[cfg(test)]
+mod replay_tests;
+#[cfg(test)]
+mod report_tests;
+#[cfg(test)]
+mod tests;

@@ -1,0 +1,90 @@
+//! Running a command over any reader and writer.
+ghost use Rattle.std.specs.Prelude.{◌≡◌, ◌≢◌, ◌≤◌, ◌⊎◌, IfOk, IfErr, IfSome, true, false, string_bytes};
+ghost use Rattle.reg_commands.specs.Answers.{Answers, Blames};
+ghost use Rattle.reg_commands.specs.declared.faults.Fault.{Fault};
+
+use crate::checking::check;
+use crate::command::Command;
+use crate::faults::Fault;
+use crate::input::{InputFault, read_text};
+use crate::replaying::replay;
+use reg_base::limits::LONGEST_INPUT;
+use std::alloc::Allocator;
+use std::io::{Read, Write};
+
+fn read<A: Allocator, R: Read>(
+    alloc: A,
+    command: Command,
+    reader: &mut R,
+) -> Result<String<A>, Fault>
+    ensures ok { IfOk result (λ s. IfSome (R.remaining reader.old) (λ xs. string_bytes s ≡ xs)) }
+    ensures why { IfErr result (λ f. IfSome (R.remaining reader.old) (Blames command f)) }
+    ensures kind { IfErr result (λ f. f ≢ Fault.Output) }
+{
+    match read_text(alloc, reader, LONGEST_INPUT) {
+        Ok(text) => Ok(text),
+        Err(InputFault::Read) => Err(Fault::Unread),
+        Err(InputFault::TooLong) => Err(Fault::TooLong),
+        Err(InputFault::NotText) => Err(Fault::NotText),
+        Err(InputFault::OutOfMemory) => Err(Fault::OutOfMemory),
+    }
+}
+
+fn answer<A: Allocator + Copy, W: Write>(
+    alloc: A,
+    command: Command,
+    text: &str,
+    writer: &mut W,
+) -> Result<bool, Fault>
+    ensures ok { IfOk result (λ agrees. Answers command agrees (W.contents writer.old) (W.contents writer.new) text.now) }
+    ensures why { IfErr result (λ f. Blames command f text.now) }
+    ensures silent { IfErr result (λ f. f ≢ Fault.Output → writer.new ≡ writer.old) }
+{
+    match command {
+        Command::Replay => match replay(alloc, text, writer) {
+            Ok(()) => Ok(true),
+            Err(fault) => Err(fault),
+        },
+        Command::Check => check(alloc, text, writer),
+    }
+}
+
+fn obey<A: Allocator + Copy, R: Read, W: Write>(
+    alloc: A,
+    command: Command,
+    reader: &mut R,
+    writer: &mut W,
+) -> Result<bool, Fault>
+    ensures ok { IfOk result (λ agrees. IfSome (R.remaining reader.old) (Answers command agrees (W.contents writer.old) (W.contents writer.new))) }
+    ensures why { IfErr result (λ f. IfSome (R.remaining reader.old) (Blames command f)) }
+    ensures silent { IfErr result (λ f. f ≢ Fault.Output → writer.new ≡ writer.old) }
+{
+    let text = read(alloc, command, reader)?;
+    answer(alloc, command, text.as_str(), writer)
+}
+
+/// Runs a command: it reads the whole input, and writes once all of it is accepted. The answer is the status: 0, or 1
+/// where the answer is a no or something was refused, with one line on `errors` in the second case. That `errors`
+/// fails changes no status.
+pub fn run_text<A: Allocator + Copy, R: Read, W: Write, E: Write>(
+    alloc: A,
+    command: Command,
+    reader: &mut R,
+    writer: &mut W,
+    errors: &mut E,
+) -> u8
+    ensures range { result ≤ 1 }
+    ensures answered { result ≡ 0 → IfSome (R.remaining reader.old) (Answers command true (W.contents writer.old) (W.contents writer.new)) }
+    ensures refused { result ≡ 1 → (IfSome (R.remaining reader.old) (Answers command false (W.contents writer.old) (W.contents writer.new)) × (errors.new ≡ errors.old))
+        ⊎ ((f : Fault) × IfSome (R.remaining reader.old) (Blames command f) × (f ≢ Fault.Output → writer.new ≡ writer.old)) }
+    ensures quiet { result ≡ 0 → errors.new ≡ errors.old }
+{
+    match obey(alloc, command, reader, writer) {
+        Ok(true) => 0,
+        Ok(false) => 1,
+        Err(fault) => {
+            let _ = writeln!(errors, "{fault}");
+            1
+        }
+    }
+}
