@@ -30,7 +30,7 @@ fn read_all<A: Allocator, R: Read>(
     ensures long { IsErrOf result InputFault.TooLong → IfSome (R.remaining reader.old) (λ xs. limit < length xs) }
 {
     let mut bytes = Vec::new(alloc);
-    let mut chunk = [0u8; 8192];
+    let mut chunk = [0u8; 65536];
     for _ in 0..u64::MAX {
         match reader.read(&mut chunk) {
             Ok(0) => return Ok(bytes),
