@@ -1,2 +1,6 @@
 pub mod Scripts
 pub mod Listing
+pub mod Wires
+pub mod Moving
+pub mod Fairness
+pub mod Rounds
