@@ -7,24 +7,6 @@ use Rattle.reg_workload.specs.Plays.{Playing, GoesOn}
 use Rattle.reg_workload.specs.Fair.{IsFair, GoesFairly, RoundPart}
 
 module _ (start : Op → ℕ → Start) (budget : ℕ) where
-  -- nothing happened
-  pub stays : (s : Playing) (rest : Type 0) → IsFair start s → s.made.failed ≡ false → length s.made.accepted ≤ budget → rest → RoundPart start budget s s false rest
-  stays s rest fair going few r = record {
-    goes = record { on = record { same = refl; processes = refl; registers = refl; going = going; few = few }; fair = fair; more = omega arith };
-    full = λ e. absurd (false≢true e);
-    same = λ _. refl;
-    still = λ _ _. r;
-  }
-
-  -- the budget is used up
-  pub ends : (s : Playing) (rest : Type 0) → IsFair start s → s.made.failed ≡ false → length s.made.accepted ≡ budget → RoundPart start budget s s true rest
-  ends s rest fair going full = record {
-    goes = record { on = record { same = refl; processes = refl; registers = refl; going = going; few = omega (arith, full) }; fair = fair; more = omega arith };
-    full = λ _. full;
-    same = λ _. refl;
-    still = λ e _. absurd (false≢true (sym e));
-  }
-
   -- an event was made
   pub makes : (old new : Playing) (rest : Type 0) → length old.made.accepted ≤ budget → length old.made.accepted ≢ budget → IsFair start new → new.scripts ≡ old.scripts → new.made.processes ≡ old.made.processes → new.made.registers ≡ old.made.registers → new.made.failed ≡ false → length new.made.accepted ≡ length old.made.accepted + 1 → RoundPart start budget old new false rest
   makes old new rest few not_full fair same processes registers going more = record {
@@ -54,9 +36,3 @@ module _ (start : Op → ℕ → Start) (budget : ℕ) where
             let second : length new.made.accepted ≡ length mid.made.accepted = omega (arith, e, x, y) in
             so f (subst P (sym (b.same second)) (a.still refl (omega (arith, e, x, y)))) (b.still f second);
       }
-
-  pub all_more : (P : ℕ → Type 0) (n : ℕ) → ((k : ℕ) → k < n → P k) → P n → (k : ℕ) → k < n + 1 → P k
-  all_more P n below here k l = elim (last k n l) [ inl b ↦ below k b | inr e ↦ subst P (sym e) here ]
-    where
-      last : (i m : ℕ) → i < m + 1 → (i < m) ⊎ (i ≡ m)
-      last i m l = grind arith
