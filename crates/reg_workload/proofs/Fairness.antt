@@ -2,7 +2,7 @@
 use Rattle.std.proofs.Common.{◌≡◌, ℕ, zero, suc, ◌+◌, ◌<◌, ◌≤◌, ◌≢◌, Bool, true, false, not, List, [], ◌∷◌, ◌++◌, length, drop, Option, Some, None, refl, sym, ap, ◌∙◌, subst, inl, inr, arith, length-append}
 use Rattle.std.specs.Prelude.{cond, ◌==◌, ◌&&◌, nat_lt, slice_get, slice_index_or, replicate}
 use Rattle.std.specs.Option.{is_some}
-use Rattle.std.proofs.lemmas.Bool.{cond-true, cond-false, eq-eqb, ne_eqb, cond_both, cases_eq, eqb-false, ltb-true, and_parts, not-true, false≢true}
+use Rattle.std.proofs.lemmas.Bool.{cond-true, cond-false, eq-eqb, ne_eqb, cases_eq, eqb-false, ltb-true, and_parts, not-true, false≢true}
 use Rattle.std.proofs.lemmas.Option.{slice_get_within}
 use Rattle.reg_base.specs.declared.limits.TheConstants.{MOST_EVENTS, MOST_OPERATIONS}
 use Rattle.reg_base.specs.declared.memory.Op.{Op}
@@ -16,9 +16,9 @@ use Rattle.reg_process.specs.declared.steps.Step.TheVariants.{Call as CallStep, 
 use Rattle.reg_world.specs.declared.events.Event.{Event}
 use Rattle.reg_world.specs.declared.events.Event.TheVariants.{Call, Take}
 use Rattle.reg_world.specs.Laws.{NothingPending}
-use Rattle.reg_world.specs.Nodes.{Node, Nodes, put, after_step, take_step}
+use Rattle.reg_world.specs.Nodes.{put, after_step, take_step}
 use Rattle.reg_world.specs.World.{World, move_of, moved, fault_of, whole}
-use Rattle.reg_world.specs.Worlds.{Made, Accepts, run_in, refusal, with_event, new_world}
+use Rattle.reg_world.specs.Worlds.{Made, Accepts, run_in, with_event, new_world}
 use Rattle.reg_process.specs.Process.{Peer, no_peer}
 use Rattle.reg_process.proofs.Again.{replicate_at}
 use Rattle.reg_world.proofs.Worlds.{Inv}
@@ -27,7 +27,7 @@ use Rattle.reg_world.proofs.Premises.{K}
 use Rattle.reg_world.proofs.Refusals.{refused_by_fault, one_more}
 use Rattle.reg_workload.specs.Plays.{Playing, cursor_at}
 use Rattle.reg_workload.specs.Fair.{expected_after, counted_after, InStep, IsFair, IsBehind, Leaves}
-use Rattle.reg_workload.proofs.Wires.{Moves, Takes, moves_on, all_behind, first_left}
+use Rattle.reg_workload.proofs.Wires.{Takes, moves_on, all_behind, first_left}
 use Rattle.reg_workload.proofs.Moving.{none_got, one_got, called_moves, taken_moves}
 
 run_inv : (start : Op → ℕ → Start) → KeepsLaws start → (n registers : ℕ) (events : List Event) → Inv n registers (length (whole start n registers events).accepted + 0) (whole start n registers events).nodes

@@ -1,7 +1,7 @@
 -- What each kind of step does to the ends of the wires.
-use Rattle.std.proofs.Common.{◌≡◌, ℕ, zero, suc, ◌+◌, ◌-◌, inl, inr, ◌<◌, ◌≤◌, ◌≢◌, max, Bool, true, false, List, [], ◌∷◌, ◌++◌, length, drop, take, Option, Some, None, refl, sym, ap, ◌∙◌, arith, length-append}
+use Rattle.std.proofs.Common.{◌≡◌, ℕ, zero, suc, ◌+◌, ◌-◌, inl, inr, ◌<◌, ◌≤◌, ◌≢◌, max, Bool, true, false, List, [], ◌∷◌, ◌++◌, length, drop, take, Some, refl, sym, ap, ◌∙◌, arith, length-append}
 use Rattle.std.specs.Prelude.{cond, ◌==◌, slice_index_or}
-use Rattle.std.proofs.lemmas.Bool.{cond-true, cond-false, eq-eqb, ne_eqb, cond_both, cases_eq, eqb-true, eqb-false}
+use Rattle.std.proofs.lemmas.Bool.{cond-false, ne_eqb, cond_both, cases_eq, eqb-true, eqb-false}
 use Rattle.std.proofs.lemmas.List.{append-nil, get_or-set_same, get_or-set_other}
 use Rattle.reg_base.specs.declared.limits.TheConstants.{MOST_RESENT}
 use Rattle.reg_base.specs.declared.memory.Op.{Op}
@@ -11,12 +11,12 @@ use Rattle.reg_frames.specs.declared.bodies.Frame.{Frame}
 use Rattle.reg_frames.specs.declared.bodies.Frame.TheVariants.{Numbered, Got}
 use Rattle.reg_front.specs.declared.starts.Start.{Start}
 use Rattle.reg_front.specs.declared.starts.Start.TheVariants.{Cast as Casts, CastAndAnswer as CastsAndAnswers, Look as Looks, Hold as Holds}
-use Rattle.reg_process.specs.Process.{State, Peer, no_peer, peer_at, next_of, Running, stamp_at, Own, queue_from, data_frames, got_frames, numbered_from, accepts, called, taken, accepted, acknowledged, resent, quiet}
+use Rattle.reg_process.specs.Process.{State, Peer, no_peer, peer_at, next_of, queue_from, data_frames, got_frames, numbered_from, accepts, called, taken, accepted, acknowledged, resent, quiet}
 use Rattle.reg_process.proofs.Peers.{queue_expected}
 use Rattle.reg_world.specs.Nodes.{Node, Nodes, after_result}
 use Rattle.reg_world.proofs.Worlds.{Inv}
 use Rattle.reg_world.proofs.NodeEvents.{next_is}
-use Rattle.reg_world.proofs.Accepting.{Accepted, accepts_is, accepts_first}
+use Rattle.reg_world.proofs.Accepting.{accepts_is, accepts_first}
 use Rattle.reg_workload.specs.Fair.{expected_after, counted_after}
 use Rattle.reg_workload.proofs.Wires.{Moves, expected_both, counted_both, next_expected, other_expected, none_expected, numbered_counted, got_expected, got_counted, none_counted}
 

@@ -1,9 +1,9 @@
 -- The parts of a round, one after another.
-use Rattle.std.proofs.Common.{◌≡◌, ℕ, ◌+◌, ◌<◌, ◌≤◌, ◌≢◌, ◌⊎◌, Bool, true, false, length, refl, sym, ap, ◌∙◌, subst, inl, inr, arith}
+use Rattle.std.proofs.Common.{◌≡◌, ℕ, ◌+◌, ◌≤◌, ◌≢◌, Bool, false, length, refl, sym, ◌∙◌, subst, arith}
 use Rattle.std.proofs.lemmas.Bool.{false≢true}
 use Rattle.reg_base.specs.declared.memory.Op.{Op}
 use Rattle.reg_front.specs.declared.starts.Start.{Start}
-use Rattle.reg_workload.specs.Plays.{Playing, GoesOn}
+use Rattle.reg_workload.specs.Plays.{Playing}
 use Rattle.reg_workload.specs.Fair.{IsFair, GoesFairly, RoundPart}
 
 module _ (start : Op → ℕ → Start) (budget : ℕ) where

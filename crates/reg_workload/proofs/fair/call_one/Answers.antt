@@ -1,4 +1,4 @@
-use Rattle.std.proofs.Common.{◌≡◌, ◌≢◌, ◌∙◌, length, arith, sym}
+use Rattle.std.proofs.Common.{◌≢◌, ◌∙◌, length}
 use Rattle.reg_workload.proofs.Fairness.{call_fair}
 use Rattle.reg_workload.proofs.Rounds.{makes}
 use Rattle.reg_workload.proofs.fair.call_one.Goals as goal

@@ -1,4 +1,4 @@
-use Rattle.std.proofs.Common.{◌≡◌, ◌∙◌, ◌<◌, ap, subst, map, List, length, arith}
+use Rattle.std.proofs.Common.{◌≡◌, ◌∙◌, ap, subst, map, List, length, arith}
 use Rattle.reg_base.specs.declared.memory.Op.{Op}
 use Rattle.reg_world.specs.Worlds.{Made}
 use Rattle.reg_workload.specs.Plays.{IsPlay}

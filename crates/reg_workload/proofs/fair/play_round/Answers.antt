@@ -1,4 +1,4 @@
-use Rattle.std.proofs.Common.{Bool, false, subst}
+use Rattle.std.proofs.Common.{false, subst}
 use Rattle.std.proofs.lemmas.Result.{IfOk-weaker}
 use Rattle.reg_workload.specs.Plays.{Playing}
 use Rattle.reg_workload.specs.Fair.{RoundPart, NoneMayCall, AllBehind, AtRest}

@@ -1,4 +1,4 @@
-use Rattle.std.proofs.Common.{◌≡◌, ◌≢◌, ◌∙◌, ap, length, arith, sym}
+use Rattle.std.proofs.Common.{◌≢◌, ◌∙◌, ap, length}
 use Rattle.reg_world.specs.Worlds.{Made}
 use Rattle.reg_workload.proofs.Fairness.{take_fair}
 use Rattle.reg_workload.proofs.Rounds.{makes}

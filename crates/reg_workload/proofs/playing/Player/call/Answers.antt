@@ -1,4 +1,4 @@
-use Rattle.std.proofs.Common.{rules, map, length, refl}
+use Rattle.std.proofs.Common.{rules, map, refl}
 use Rattle.reg_workload.proofs.Scripts.{calls_in}
 use Rattle.reg_workload.specs.Plays.{Playing}
 use Rattle.reg_workload.proofs.playing.Player.call.Goals as goal
