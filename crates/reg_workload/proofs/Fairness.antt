@@ -2,6 +2,8 @@
 use Rattle.std.proofs.Common.{◌≡◌, ℕ, zero, suc, ◌+◌, ◌<◌, ◌≤◌, ◌≢◌, Bool, true, false, not, List, [], ◌∷◌, ◌++◌, length, drop, Option, Some, None, refl, sym, ap, ◌∙◌, subst, inl, inr, arith, length-append}
 use Rattle.std.specs.Prelude.{cond, ◌==◌, ◌&&◌, nat_lt, slice_get, slice_index_or, replicate}
 use Rattle.std.specs.Option.{is_some}
+use Rattle.std.specs.List.{range_with_len}
+use Rattle.std.proofs.lemmas.List.{append-nil}
 use Rattle.std.proofs.lemmas.Bool.{cond-true, cond-false, eq-eqb, ne_eqb, cases_eq, eqb-false, ltb-true, and_parts, not-true, false≢true}
 use Rattle.std.proofs.lemmas.Option.{slice_get_within}
 use Rattle.reg_base.specs.declared.limits.TheConstants.{MOST_EVENTS, MOST_OPERATIONS}
@@ -26,7 +28,8 @@ use Rattle.reg_world.proofs.Wholes.{whole_inv}
 use Rattle.reg_world.proofs.Premises.{K}
 use Rattle.reg_world.proofs.Refusals.{refused_by_fault, one_more}
 use Rattle.reg_workload.specs.Plays.{Playing, cursor_at}
-use Rattle.reg_workload.specs.Fair.{expected_after, counted_after, InStep, IsFair, IsBehind, Leaves}
+use Rattle.reg_workload.specs.Fair.{takes_of, expected_after, counted_after, InStep, IsFair, IsBehind, Leaves}
+use Rattle.reg_workload.proofs.InOrder.{takes_more, ticks_same, taken_here, taken_other, range_more}
 use Rattle.reg_workload.proofs.Wires.{Takes, moves_on, all_behind, first_left}
 use Rattle.reg_workload.proofs.Moving.{none_got, one_got, called_moves, taken_moves}
 
@@ -121,6 +124,10 @@ call_fair start laws s s1 p op F A c =
     record {
       in_step = subst (InStep s1.made.processes (run_in start s1.made).nodes) (sym same) r.0;
       few = λ a b. let l = r.1 a b in let e = ap (λ (f : ℕ → ℕ → ℕ). f a b) same in omega (arith, l, e);
+      takes = λ a b.
+          takes_more a b m.accepted s1.made.accepted (Call p op) (ap Made.accepted A.after)
+          ∙ (append-nil (takes_of a b m.accepted) ∙ (F.takes a b ∙ ap (range_with_len 0) (sym (ap (λ (f : ℕ → ℕ → ℕ). f a b) same))));
+      ticks = ticks_same m.accepted s1.made.accepted (Call p op) (ap Made.accepted A.after) refl ∙ F.ticks;
     }
 
 pub take_fair : (start : Op → ℕ → Start) → KeepsLaws start → (s s1 s2 : Playing) (a p number : ℕ) → IsFair start s → number ≡ cursor_at s a p → Accepts start s.made (Take a p number) s1.made → s1.cursors ≡ s.cursors → Leaves s1 a p s2 → IsFair start s2
@@ -160,8 +167,23 @@ take_fair start laws s s1 s2 a p number F at A c L =
       ]
       | inr away ↦ (let l = F.few x y in let u = others x y (λ q _. away q) in omega (arith, l, u))
     ] in
+    let now : s1.made.accepted ≡ m.accepted ++ Take a p number ∷ [] = ap Made.accepted A.after in
+    let passed_by : (x y : ℕ) → (x ≡ a → y ≡ p → ⊥) → takes_of x y s1.made.accepted ≡ range_with_len 0 (cursor_at s2 x y) = λ x y ne.
+    takes_more x y m.accepted s1.made.accepted (Take a p number) now
+    ∙ (ap (λ l. takes_of x y m.accepted ++ l) (taken_other x y a p number ne) ∙ (append-nil (takes_of x y m.accepted) ∙ (F.takes x y ∙ ap (range_with_len 0) (sym (others x y ne))))) in
+    let takes : (x y : ℕ) → takes_of x y s1.made.accepted ≡ range_with_len 0 (cursor_at s2 x y) = λ x y. elim (cases_eq x a) [
+      | inl e ↦ elim (cases_eq y p) [
+        | inl g ↦
+            let was : takes_of x y m.accepted ≡ range_with_len 0 number = F.takes x y ∙ ap (range_with_len 0) (ap (λ z. cursor_at s z y) e ∙ (ap (cursor_at s a) g ∙ sym at)) in
+            let becomes : number + 1 ≡ cursor_at s2 x y = sym (ap (λ z. cursor_at s2 z y) e ∙ (ap (cursor_at s2 a) g ∙ one)) in
+            takes_more x y m.accepted s1.made.accepted (Take a p number) now
+            ∙ (ap (λ l. takes_of x y m.accepted ++ l) (taken_here x y a p number e g) ∙ (ap (λ l. l ++ number ∷ []) was ∙ (sym (range_more 0 number number (omega arith)) ∙ ap (range_with_len 0) becomes)))
+        | inr away ↦ passed_by x y (λ _ q. away q)
+      ]
+      | inr away ↦ passed_by x y (λ q _. away q)
+    ] in
     let r = after_step_fair start m s1.made (Take a p number) (p, TakeStep a f) (cursor_at s2) A.after M.step S few in
-    subst (λ (z : Made). IsFair start (record s2 { made = z })) (sym L.made) (record { in_step = r.0; few = r.1 })
+    subst (λ (z : Made). IsFair start (record s2 { made = z })) (sym L.made) (record { in_step = r.0; few = r.1; takes = takes; ticks = ticks_same m.accepted s1.made.accepted (Take a p number) now refl ∙ F.ticks })
 
 -- where each frame is behind, nothing is pending
 pub rests : (start : Op → ℕ → Start) → KeepsLaws start → (s : Playing) → IsFair start s → ((p q : ℕ) → p < s.made.processes → q < s.made.processes → IsBehind start s p q) → NothingPending s.made.processes (run_in start s.made).nodes
@@ -179,6 +201,8 @@ begins_fair start shape s new none = subst (λ (m : Made). IsFair start (record 
     counts = λ p q _ _ _. ap (λ k. counted_after (slice_index_or (replicate shape.processes no_peer) q no_peer).first (drop k [])) (none q p) ∙ (ap (λ (z : Peer). z.first) (replicate_at shape.processes q no_peer) ∙ sym (ap (λ (z : Peer). z.expected) (replicate_at shape.processes p no_peer)));
   };
   few = λ p q. let z = none p q in omega (arith, z);
+  takes = λ p q. ap (range_with_len 0) (sym (none p q));
+  ticks = refl;
 })
 
 pub none_behind : (n m a b : ℕ) → let z : ℕ = 0 in slice_index_or (slice_index_or (replicate n (replicate m z)) a []) b z ≡ z

@@ -1,5 +1,6 @@
 pub mod Scripts
 pub mod Listing
+pub mod InOrder
 pub mod Wires
 pub mod Moving
 pub mod Fairness

@@ -1,15 +1,40 @@
 -- Fair plays: the frames of each wire are taken in order, each once.
-use Rattle.std.specs.Prelude.{ℕ, ◌≡◌, ◌≢◌, ◌+◌, ◌<◌, ◌≤◌, max, ◌==◌, cond, Bool, true, false, List, [], ◌∷◌, length, drop}
+use Rattle.std.specs.Prelude.{ℕ, ◌≡◌, ◌≢◌, ◌+◌, ◌<◌, ◌≤◌, max, ◌==◌, ◌&&◌, cond, Bool, true, false, List, [], ◌∷◌, length, drop}
 use Rattle.reg_frames.specs.declared.bodies.Frame.{Frame}
 use Rattle.reg_frames.specs.declared.bodies.Frame.TheVariants.{Numbered, Got}
 use Rattle.reg_front.specs.declared.starts.Start.{Start}
 use Rattle.reg_base.specs.declared.memory.Op.{Op}
 use Rattle.reg_process.specs.Process.{peer_at}
+use Rattle.reg_world.specs.declared.events.Event.{Event}
+use Rattle.reg_world.specs.declared.events.Event.TheVariants.{Call, Take, Tick}
 use Rattle.reg_world.specs.Nodes.{Nodes}
 use Rattle.reg_world.specs.Laws.{NothingPending}
+use Rattle.std.specs.List.{flat_map, range_with_len}
 use Rattle.reg_base.specs.declared.limits.TheConstants.{MOST_EVENTS}
 use Rattle.reg_world.specs.Worlds.{run_in}
 use Rattle.reg_workload.specs.Plays.{Playing, cursor_at, MayCall, GoesOn}
+
+-- the numbers of the frames of a wire that are taken, and the processes that tick, in an event and in these events, in order
+abbrev pub take_at : ℕ → ℕ → Event → List ℕ
+take_at from to (Call p op) = []
+take_at from to (Take a b number) = cond ((a == from) && (b == to)) (number ∷ []) []
+take_at from to (Tick p) = []
+
+abbrev pub takes_of : ℕ → ℕ → List Event → List ℕ
+takes_of from to events = flat_map (take_at from to) events
+
+abbrev pub tick_in : Event → List ℕ
+tick_in (Call p op) = []
+tick_in (Take a b number) = []
+tick_in (Tick p) = p ∷ []
+
+abbrev pub ticks_of : List Event → List ℕ
+ticks_of events = flat_map tick_in events
+
+-- the frames of each wire are taken in order, each once, and none is put again
+pub record TakesInOrder (events : List Event) : Type 0 where
+  pub takes : (from to : ℕ) → takes_of from to events ≡ range_with_len 0 (length (takes_of from to events))
+  pub ticks : ticks_of events ≡ []
 
 -- the number that a receiver expects after these frames, in order
 abbrev pub expected_after : ℕ → List Frame → ℕ
@@ -30,10 +55,12 @@ pub record InStep (n : ℕ) (w : Nodes) (behind : ℕ → ℕ → ℕ) : Type 0 
   pub bodies : (p q : ℕ) → p < n → q < n → p ≢ q → expected_after (peer_at (w q).state p).expected (drop (behind p q) ((w p).wire q)) ≡ length (w p).queued
   pub counts : (p q : ℕ) → p < n → q < n → p ≢ q → counted_after (peer_at (w p).state q).first (drop (behind q p) ((w q).wire p)) ≡ (peer_at (w q).state p).expected
 
--- the frames behind are those taken, and there are no more of them than events
+-- the frames behind are those taken, in order, and there are no more of them than events
 pub record IsFair (start : Op → ℕ → Start) (s : Playing) : Type 0 where
   pub in_step : InStep s.made.processes (run_in start s.made).nodes (cursor_at s)
   pub few : (p q : ℕ) → cursor_at s p q ≤ length (run_in start s.made).accepted
+  pub takes : (p q : ℕ) → takes_of p q s.made.accepted ≡ range_with_len 0 (cursor_at s p q)
+  pub ticks : ticks_of s.made.accepted ≡ []
 
 -- each frame of the wire is behind
 abbrev pub IsBehind : (Op → ℕ → Start) → Playing → ℕ → ℕ → Type 0

@@ -1,7 +1,7 @@
 //! The fair player.
 ghost use Rattle.std.specs.Prelude.{◌≡◌, ◌≤◌, ◌<◌, length, false, true, OnOk, IfOk, map};
 ghost use Rattle.reg_workload.specs.Plays.{GoesOn, IsPlay, MayCall};
-ghost use Rattle.reg_workload.specs.Fair.{IsFair, IsBehind, RoundPart, NoneMayCall, AllBehindFrom, AllBehind, AtRest};
+ghost use Rattle.reg_workload.specs.Fair.{TakesInOrder, IsFair, IsBehind, RoundPart, NoneMayCall, AllBehindFrom, AllBehind, AtRest};
 
 use crate::playing::{Play, Player};
 use reg_base::{Op, Shape};
@@ -136,6 +136,7 @@ fn play_rounds<F: FrontEnd, A: Allocator + Copy>(
     requires few { length player.old.made.accepted ≤ budget }
     requires fair { IsFair F.start player.old }
     ensures on { OnOk result (GoesOn budget player.old player.new) }
+    ensures fair { OnOk result (IsFair F.start player.new) }
     ensures rest { OnOk result (length player.new.made.accepted < budget → AtRest F.start player.new) }
 {
     for _round in 0..budget {
@@ -149,7 +150,8 @@ fn play_rounds<F: FrontEnd, A: Allocator + Copy>(
 
 /// Plays scripts, one for each process of the shape, in rounds: each process that is free calls its next operation, by
 /// rising number, and then the next frame of each wire is taken, by sender and then by receiver. It ends with a round that
-/// makes no event, or once there are so many events as the budget says. A play of fewer events than the budget is finished.
+/// makes no event, or once there are so many events as the budget says. So the frames of each wire are taken in order, each
+/// once, and none is put again. A play of fewer events than the budget is finished.
 ///
 /// # Errors
 ///
@@ -162,6 +164,7 @@ pub fn play_fair<F: FrontEnd, A: Allocator + Copy>(
 ) -> Result<Play<F, A>, AllocError>
     requires { length scripts.now ≡ shape.processes }
     ensures play { IfOk result (λ p. IsPlay F.start shape (map (λ v. v.items) scripts.now) budget p.world p.finished) }
+    ensures in_order { IfOk result (λ p. TakesInOrder p.world.accepted) }
     ensures finished { IfOk result (λ p. length p.world.accepted < budget → p.finished ≡ true) }
 {
     let mut player = Player::new(alloc, shape, scripts)?;
