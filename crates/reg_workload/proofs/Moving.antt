@@ -1,9 +1,8 @@
 -- What each kind of step does to the ends of the wires.
-use Rattle.std.proofs.Common.{◌≡◌, ℕ, zero, suc, ◌+◌, ◌-◌, inl, inr, ◌<◌, ◌≤◌, ◌≢◌, max, Bool, true, false, List, [], ◌∷◌, ◌++◌, length, drop, take, Some, refl, sym, ap, ◌∙◌, arith, length-append}
+use Rattle.std.proofs.Common.{◌≡◌, ℕ, zero, suc, ◌+◌, ◌-◌, inl, inr, ◌<◌, ◌≢◌, max, Bool, true, false, List, [], ◌∷◌, ◌++◌, length, drop, Some, refl, sym, ap, ◌∙◌, arith, length-append}
 use Rattle.std.specs.Prelude.{cond, ◌==◌, slice_index_or}
 use Rattle.std.proofs.lemmas.Bool.{cond-false, ne_eqb, cond_both, cases_eq, eqb-true, eqb-false}
 use Rattle.std.proofs.lemmas.List.{append-nil, get_or-set_same, get_or-set_other}
-use Rattle.reg_base.specs.declared.limits.TheConstants.{MOST_RESENT}
 use Rattle.reg_base.specs.declared.memory.Op.{Op}
 use Rattle.reg_frames.specs.declared.bodies.Body.{Body}
 use Rattle.reg_frames.specs.declared.bodies.Body.TheVariants.{Cast, Ack}
@@ -11,14 +10,14 @@ use Rattle.reg_frames.specs.declared.bodies.Frame.{Frame}
 use Rattle.reg_frames.specs.declared.bodies.Frame.TheVariants.{Numbered, Got}
 use Rattle.reg_front.specs.declared.starts.Start.{Start}
 use Rattle.reg_front.specs.declared.starts.Start.TheVariants.{Cast as Casts, CastAndAnswer as CastsAndAnswers, Look as Looks, Hold as Holds}
-use Rattle.reg_process.specs.Process.{State, Peer, no_peer, peer_at, next_of, queue_from, data_frames, got_frames, numbered_from, accepts, called, taken, accepted, acknowledged, resent, quiet}
+use Rattle.reg_process.specs.Process.{State, Peer, no_peer, peer_at, next_of, queue_from, data_frames, got_frames, accepts, called, taken, accepted, acknowledged, quiet}
 use Rattle.reg_process.proofs.Peers.{queue_expected}
 use Rattle.reg_world.specs.Nodes.{Node, Nodes, after_result}
 use Rattle.reg_world.proofs.Worlds.{Inv}
 use Rattle.reg_world.proofs.NodeEvents.{next_is}
 use Rattle.reg_world.proofs.Accepting.{accepts_is, accepts_first}
 use Rattle.reg_workload.specs.Fair.{expected_after, counted_after}
-use Rattle.reg_workload.proofs.Wires.{Moves, expected_both, counted_both, next_expected, other_expected, none_expected, numbered_counted, got_expected, got_counted, none_counted}
+use Rattle.reg_workload.proofs.Wires.{Moves, expected_both, counted_both, next_expected, other_expected, got_expected, got_counted, none_counted}
 
 -- no frame taken, and one frame of one process
 abbrev pub none_got : ℕ → List Frame
@@ -35,12 +34,6 @@ queue_first body r me (p ∷ ps) zero = cond_first (r == me) p body
     cond_first true p body = refl
     cond_first false p body = refl
 queue_first body r me (p ∷ ps) (suc i) = queue_first body (suc r) me ps i
-
-length_take : {X : Type 0} (m : ℕ) (xs : List X) → length (take m xs) ≤ length xs
-length_take zero [] = omega arith
-length_take zero (x ∷ xs) = omega arith
-length_take (suc m) [] = omega arith
-length_take (suc m) (x ∷ xs) = let h = length_take m xs in omega (arith, h)
 
 module _ (n registers k : ℕ) (w : Nodes) (I : Inv n registers k w) (p : ℕ) (l : p < n) where
   abbrev s : State
@@ -88,21 +81,6 @@ module _ (n registers k : ℕ) (w : Nodes) (I : Inv n registers k w) (p : ℕ) (
   called_moves op CastsAndAnswers = cast_moves op (after_result (w p) op (called s op CastsAndAnswers)) (Cast (s.clock + 1) op) refl refl (λ b. refl)
   called_moves op Looks = record { wire = λ b _ _. refl; bodies = λ b _ _. nothing_more; counts = λ b _ _. refl; accepts = λ b _ _. refl; knows = λ b _ _. refl }
   called_moves op Holds = record { wire = λ b _ _. refl; bodies = λ b _ _. nothing_more; counts = λ b _ _. refl; accepts = λ b _ _. refl; knows = λ b _ _. refl }
-
-  pub tick_moves : (op : Op) → Moves n p (w p) (after_result (w p) op (quiet s (resent s))) (resent s) none_got
-  tick_moves op = record {
-    wire = λ b _ _. refl;
-    bodies = λ b lb ne. cond_both (b == s.me) [] (numbered_from (peer_at s b).first (take MOST_RESENT (peer_at s b).pending)) (λ fs. expected_after (length queued) fs ≡ length (queued ++ []))
-        (λ _. nothing_more)
-        (λ _.
-        none_expected (length queued) (peer_at s b).first (take MOST_RESENT (peer_at s b).pending)
-        (let a = length_take MOST_RESENT (peer_at s b).pending in let e = next_here b lb ne in omega (arith, a, e))
-        ∙ nothing_more);
-    counts = λ b lb ne. cond_both (b == s.me) [] (numbered_from (peer_at s b).first (take MOST_RESENT (peer_at s b).pending)) (λ fs. counted_after (expects b) fs ≡ expects b)
-        (λ _. refl) (λ _. numbered_counted (expects b) (peer_at s b).first (take MOST_RESENT (peer_at s b).pending));
-    accepts = λ b _ _. refl;
-    knows = λ b _ _. refl;
-  }
 
   module _ (a : ℕ) (la : a < n) where
     in_peers : a < length s.peers

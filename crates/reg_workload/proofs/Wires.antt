@@ -6,7 +6,7 @@ use Rattle.std.proofs.lemmas.List.{drop-append-le, drop_all}
 use Rattle.reg_frames.specs.declared.bodies.Body.{Body}
 use Rattle.reg_frames.specs.declared.bodies.Frame.{Frame}
 use Rattle.reg_frames.specs.declared.bodies.Frame.TheVariants.{Numbered, Got}
-use Rattle.reg_process.specs.Process.{peer_at, got_frames, numbered_from}
+use Rattle.reg_process.specs.Process.{peer_at, got_frames}
 use Rattle.reg_world.specs.Laws.{NothingPending}
 use Rattle.reg_world.specs.Nodes.{Node, Nodes, put}
 use Rattle.reg_world.proofs.Acts.{put_cases}
@@ -29,16 +29,6 @@ next_expected e i body q = cond-true (i == e) (e + 1) e (eq-eqb i e q)
 
 pub other_expected : (e i : ℕ) (body : Body) → (i ≡ e → ⊥) → expected_after e (Numbered i body ∷ []) ≡ e
 other_expected e i body ne = cond-false (i == e) (e + 1) e (ne_eqb i e ne)
-
--- bodies below the one that is expected
-pub none_expected : (e j : ℕ) (bs : List Body) → j + length bs ≤ e → expected_after e (numbered_from j bs) ≡ e
-none_expected e j [] l = refl
-none_expected e j (b ∷ bs) l =
-    ap (λ z. expected_after z (numbered_from (j + 1) bs)) (other_expected e j b (λ q. omega (arith, l, q))) ∙ none_expected e (j + 1) bs (omega (arith, l))
-
-pub numbered_counted : (c j : ℕ) (bs : List Body) → counted_after c (numbered_from j bs) ≡ c
-numbered_counted c j [] = refl
-numbered_counted c j (b ∷ bs) = numbered_counted c (j + 1) bs
 
 pub got_expected : (e a count b : ℕ) → expected_after e (got_frames a count b) ≡ e
 got_expected e a count b = cond_both (b == a) (Got count ∷ []) [] (λ fs. expected_after e fs ≡ e) (λ _. refl) (λ _. refl)
