@@ -19,13 +19,14 @@ use Rattle.reg_world.specs.Worlds.{run_in}
 use Rattle.reg_process.proofs.Again.{replicate_at}
 use Rattle.reg_world.proofs.Promised.{settled}
 use Rattle.reg_workload.specs.Plays.{call_at, calls_of, script_of, Playing, next_at, Follows, IsPlaying, IsFinished, IsPlay, FollowsScript, AllStill}
+use Rattle.reg_workload.specs.Fair.{AtRest}
 
 -- one event more
 calls_more : (p : ℕ) (es : List Event) (e : Event) → calls_of p (es ++ e ∷ []) ≡ calls_of p es ++ call_at p e
 calls_more p es e = flat_map-append (call_at p) es (e ∷ []) ∙ ap (λ l. calls_of p es ++ l) (append-nil (call_at p e))
 
-pub begins : (shape : Extent) (m : Made) (scripts : List (List Op)) (next : List ℕ) (n senders : ℕ) → m ≡ new_world shape → shape.processes ≤ MOST_PROCESSES → length scripts ≡ shape.processes → n ≡ shape.processes → next ≡ replicate n 0 → senders ≡ n → IsPlaying (record { made = m; scripts = scripts; next = next; senders = senders })
-begins shape m scripts next n senders e few s c z k =
+pub begins : (shape : Extent) (m : Made) (scripts : List (List Op)) (next : List ℕ) (n : ℕ) (cursors : List (List ℕ)) → m ≡ new_world shape → shape.processes ≤ MOST_PROCESSES → length scripts ≡ shape.processes → n ≡ shape.processes → next ≡ replicate n 0 → length cursors ≡ n → IsPlaying (record { made = m; scripts = scripts; next = next; cursors = cursors })
+begins shape m scripts next n cursors e few s c z k =
     let a : m.processes ≡ shape.processes = ap Made.processes e in
     let b : m.accepted ≡ [] = ap Made.accepted e in
     let l : length next ≡ n = ap length z ∙ length-replicate n 0 in
@@ -166,15 +167,22 @@ no_pending (x ∷ xs) zero e = nothing_in x.pending (omega (arith, e))
     nothing_in (y ∷ ys) l = absurd (omega (arith, l))
 no_pending (x ∷ xs) (suc q) e = no_pending xs q (omega (arith, e))
 
--- where no process may call and none has a frame to put again, all is done
-pub still_done : (start : Op → ℕ → Start) → KeepsLaws start → (s : Playing) → IsPlaying s → AllStill start s → IsFinished start s.scripts s.made
-still_done start laws s good still = λ p l.
+-- where no process may call and nothing is pending, all is done
+pub rest_done : (start : Op → ℕ → Start) → KeepsLaws start → (s : Playing) → IsPlaying s → AtRest start s → IsFinished start s.scripts s.made
+rest_done start laws s good rest = λ p l.
     let k : p < s.made.processes = let e = good.scripts in omega (arith, e, l) in
     let idle : ((run_in start s.made).nodes p).state.running ≡ None = quiet.idle p k in
-    record { calls = all_called s p (good.follows p k) (λ left. (still p k).no_call (record { idle = idle; left = left })); idle = idle }
+    record { calls = all_called s p (good.follows p k) (λ left. rest.no_call p k (record { idle = idle; left = left })); idle = idle }
   where
     quiet : IsQuiescent s.made.processes (run_in start s.made).nodes
-    quiet = settled start s.made.processes s.made.registers laws s.made.accepted (λ p q l _ _. no_pending ((run_in start s.made).nodes p).state.peers q (still p l).nothing_pending)
+    quiet = settled start s.made.processes s.made.registers laws s.made.accepted rest.nothing_pending
+
+-- where no process has a frame to put again, nothing is pending
+pub still_rests : (start : Op → ℕ → Start) (s : Playing) → AllStill start s → AtRest start s
+still_rests start s still = record {
+  no_call = λ p l. (still p l).no_call;
+  nothing_pending = λ p q l _ _. no_pending ((run_in start s.made).nodes p).state.peers q (still p l).nothing_pending;
+}
 
 pub follows_script : (s : Playing) (p : ℕ) → Follows s p → FollowsScript s.scripts s.made.accepted p
 follows_script s p f =

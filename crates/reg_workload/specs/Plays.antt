@@ -49,15 +49,18 @@ pub record IsPlay (start : Op → ℕ → Start) (shape : Extent) (all : List (L
   pub finished : (is_finished ≡ true) ↔ IsFinished start all w
 
 -- A play under way: the world, the scripts, how many operations of its script each process has called, and
--- how many senders have cursors.
+-- how many frames of each wire are behind, by sender and then by receiver.
 pub record Playing : Type 0 where
   pub made : Made
   pub scripts : List (List Op)
   pub next : List ℕ
-  pub senders : ℕ
+  pub cursors : List (List ℕ)
 
 abbrev pub next_at : Playing → ℕ → ℕ
 next_at s p = slice_index_or s.next p 0
+
+abbrev pub cursor_at : Playing → ℕ → ℕ → ℕ
+cursor_at s from to = slice_index_or (slice_index_or s.cursors from []) to 0
 
 -- so many operations of its script were called, and no others
 pub record Follows (s : Playing) (p : ℕ) : Type 0 where
@@ -68,7 +71,7 @@ pub record IsPlaying (s : Playing) : Type 0 where
   pub few : s.made.processes ≤ MOST_PROCESSES
   pub scripts : length s.scripts ≡ s.made.processes
   pub next : length s.next ≡ s.made.processes
-  pub senders : s.senders ≡ s.made.processes
+  pub senders : length s.cursors ≡ s.made.processes
   pub follows : (p : ℕ) → p < s.made.processes → Follows s p
 
 -- the process is free, and has an operation left

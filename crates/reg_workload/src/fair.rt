@@ -1,11 +1,34 @@
 //! The fair player.
-ghost use Rattle.std.specs.Prelude.{◌≡◌, ◌≤◌, ◌<◌, length, false, OnOk, IfOk, map};
-ghost use Rattle.reg_workload.specs.Plays.{GoesOn, IsPlay};
+ghost use Rattle.std.specs.Prelude.{◌≡◌, ◌≤◌, ◌<◌, length, false, true, OnOk, IfOk, map};
+ghost use Rattle.reg_workload.specs.Plays.{GoesOn, IsPlay, MayCall};
+ghost use Rattle.reg_workload.specs.Fair.{TakesInOrder, IsFair, IsBehind, RoundPart, NoneMayCall, AllBehindFrom, AllBehind, AtRest};
 
 use crate::playing::{Play, Player};
 use reg_base::{Op, Shape};
 use reg_front::FrontEnd;
 use std::alloc::{AllocError, Allocator};
+
+/// A process calls its next operation, where it is free and has one left, unless the budget is used up. Tells whether it is.
+fn call_one<F: FrontEnd, A: Allocator + Copy>(
+    player: &mut Player<'_, F, A>,
+    process: u8,
+    budget: u32,
+) -> Result<bool, AllocError>
+    requires process { process < player.old.made.processes }
+    requires going { player.old.made.failed ≡ false }
+    requires few { length player.old.made.accepted ≤ budget }
+    requires fair { IsFair F.start player.old }
+    ensures { IfOk result (λ full. RoundPart F.start budget player.old player.new full (MayCall F.start player.new process → ⊥)) }
+{
+    if !player.may_call(process) {
+        return Ok(false);
+    }
+    if player.events() == budget {
+        return Ok(true);
+    }
+    player.call(process)?;
+    Ok(false)
+}
 
 /// Each process that is free calls its next operation, until the budget is used up. Tells whether it is.
 fn call_each<F: FrontEnd, A: Allocator + Copy>(
@@ -14,16 +37,39 @@ fn call_each<F: FrontEnd, A: Allocator + Copy>(
 ) -> Result<bool, AllocError>
     requires going { player.old.made.failed ≡ false }
     requires few { length player.old.made.accepted ≤ budget }
-    ensures { OnOk result (GoesOn budget player.old player.new) }
+    requires fair { IsFair F.start player.old }
+    ensures { IfOk result (λ full. RoundPart F.start budget player.old player.new full (NoneMayCall F.start player.new player.new.made.processes)) }
 {
     for process in 0..player.processes() {
-        if player.may_call(process) {
-            if player.events() == budget {
-                return Ok(true);
-            }
-            player.call(process)?;
+        if call_one(player, process, budget)? {
+            return Ok(true);
         }
     }
+    Ok(false)
+}
+
+/// The next frame of a wire is taken, where there is one, unless the budget is used up. Tells whether it is.
+fn take_one<F: FrontEnd, A: Allocator + Copy>(
+    player: &mut Player<'_, F, A>,
+    from: u8,
+    to: u8,
+    budget: u32,
+) -> Result<bool, AllocError>
+    requires from { from < player.old.made.processes }
+    requires to { to < player.old.made.processes }
+    requires going { player.old.made.failed ≡ false }
+    requires few { length player.old.made.accepted ≤ budget }
+    requires fair { IsFair F.start player.old }
+    ensures { IfOk result (λ full. RoundPart F.start budget player.old player.new full (IsBehind F.start player.new from to)) }
+{
+    let Some(number) = player.frame(from, to) else {
+        return Ok(false);
+    };
+    if player.events() == budget {
+        return Ok(true);
+    }
+    player.take(from, to, number)?;
+    player.leave(from, to);
     Ok(false)
 }
 
@@ -36,15 +82,12 @@ fn take_from<F: FrontEnd, A: Allocator + Copy>(
     requires from { from < player.old.made.processes }
     requires going { player.old.made.failed ≡ false }
     requires few { length player.old.made.accepted ≤ budget }
-    ensures { OnOk result (GoesOn budget player.old player.new) }
+    requires fair { IsFair F.start player.old }
+    ensures { IfOk result (λ full. RoundPart F.start budget player.old player.new full (AllBehindFrom F.start player.new from player.new.made.processes)) }
 {
     for to in 0..player.processes() {
-        if let Some(number) = player.frame(from, to) {
-            if player.events() == budget {
-                return Ok(true);
-            }
-            player.take(from, to, number)?;
-            player.leave(from, to);
+        if take_one(player, from, to, budget)? {
+            return Ok(true);
         }
     }
     Ok(false)
@@ -57,7 +100,8 @@ fn take_each<F: FrontEnd, A: Allocator + Copy>(
 ) -> Result<bool, AllocError>
     requires going { player.old.made.failed ≡ false }
     requires few { length player.old.made.accepted ≤ budget }
-    ensures { OnOk result (GoesOn budget player.old player.new) }
+    requires fair { IsFair F.start player.old }
+    ensures { IfOk result (λ full. RoundPart F.start budget player.old player.new full (AllBehind F.start player.new player.new.made.processes)) }
 {
     for from in 0..player.processes() {
         if take_from(player, from, budget)? {
@@ -67,6 +111,22 @@ fn take_each<F: FrontEnd, A: Allocator + Copy>(
     Ok(false)
 }
 
+/// A round, until the budget is used up. Tells whether it is.
+fn play_round<F: FrontEnd, A: Allocator + Copy>(
+    player: &mut Player<'_, F, A>,
+    budget: u32,
+) -> Result<bool, AllocError>
+    requires going { player.old.made.failed ≡ false }
+    requires few { length player.old.made.accepted ≤ budget }
+    requires fair { IsFair F.start player.old }
+    ensures { IfOk result (λ full. RoundPart F.start budget player.old player.new full (AtRest F.start player.new)) }
+{
+    if call_each(player, budget)? {
+        return Ok(true);
+    }
+    take_each(player, budget)
+}
+
 /// Rounds, until one makes no event or the budget is used up.
 fn play_rounds<F: FrontEnd, A: Allocator + Copy>(
     player: &mut Player<'_, F, A>,
@@ -74,14 +134,14 @@ fn play_rounds<F: FrontEnd, A: Allocator + Copy>(
 ) -> Result<(), AllocError>
     requires going { player.old.made.failed ≡ false }
     requires few { length player.old.made.accepted ≤ budget }
-    ensures { OnOk result (GoesOn budget player.old player.new) }
+    requires fair { IsFair F.start player.old }
+    ensures on { OnOk result (GoesOn budget player.old player.new) }
+    ensures fair { OnOk result (IsFair F.start player.new) }
+    ensures rest { OnOk result (length player.new.made.accepted < budget → AtRest F.start player.new) }
 {
-    for _round in 0..=budget {
+    for _round in 0..budget {
         let before = player.events();
-        if call_each(player, budget)? || take_each(player, budget)? {
-            return Ok(());
-        }
-        if player.events() == before {
+        if play_round(player, budget)? || player.events() == before {
             return Ok(());
         }
     }
@@ -90,7 +150,8 @@ fn play_rounds<F: FrontEnd, A: Allocator + Copy>(
 
 /// Plays scripts, one for each process of the shape, in rounds: each process that is free calls its next operation, by
 /// rising number, and then the next frame of each wire is taken, by sender and then by receiver. It ends with a round that
-/// makes no event, or once there are so many events as the budget says.
+/// makes no event, or once there are so many events as the budget says. So the frames of each wire are taken in order, each
+/// once, and none is put again. A play of fewer events than the budget is finished.
 ///
 /// # Errors
 ///
@@ -102,7 +163,9 @@ pub fn play_fair<F: FrontEnd, A: Allocator + Copy>(
     budget: u32,
 ) -> Result<Play<F, A>, AllocError>
     requires { length scripts.now ≡ shape.processes }
-    ensures { IfOk result (λ p. IsPlay F.start shape (map (λ v. v.items) scripts.now) budget p.world p.finished) }
+    ensures play { IfOk result (λ p. IsPlay F.start shape (map (λ v. v.items) scripts.now) budget p.world p.finished) }
+    ensures in_order { IfOk result (λ p. TakesInOrder p.world.accepted) }
+    ensures finished { IfOk result (λ p. length p.world.accepted < budget → p.finished ≡ true) }
 {
     let mut player = Player::new(alloc, shape, scripts)?;
     play_rounds(&mut player, budget)?;

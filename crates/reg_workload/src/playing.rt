@@ -3,9 +3,11 @@ ghost use Rattle.std.specs.Prelude.{◌≡◌, ◌<◌, ◌≤◌, ◌↔◌, �
 ghost use Rattle.reg_base.specs.Shape.{Extent};
 ghost use Rattle.reg_process.specs.Process.{pending_of};
 ghost use Rattle.reg_base.specs.declared.limits.TheConstants.{MOST_PROCESSES};
-ghost use Rattle.reg_world.specs.Worlds.{new_world, with_event, run_in};
+ghost use Rattle.reg_world.specs.Worlds.{Accepts, new_world, run_in};
 ghost use Rattle.reg_world.specs.declared.events.Event.TheVariants.{Call, Take, Tick};
-ghost use Rattle.reg_workload.specs.Plays.{script_of, next_at, call_at, MayCall, IsDone, IsFinished, IsPlay, AllStill, Playing};
+ghost use Rattle.reg_base.specs.declared.memory.Op.{Op};
+ghost use Rattle.reg_workload.specs.Plays.{script_of, next_at, cursor_at, call_at, MayCall, IsDone, IsFinished, IsPlay, Playing};
+ghost use Rattle.reg_workload.specs.Fair.{IsBehind, Leaves, AtRest};
 
 use reg_base::limits::MOST_PROCESSES;
 use reg_base::{Op, Shape};
@@ -40,9 +42,9 @@ impl<'w, F: FrontEnd, A: Allocator + Copy> Model for Player<'w, F, A> {
 
     ghost Value = { Playing };
 
-    ghost view = { λ p. record { made = p.world; scripts = map (λ v. v.items) p.scripts.now; next = p.next.items; senders = length p.cursors.items } };
+    ghost view = { λ p. record { made = p.world; scripts = map (λ v. v.items) p.scripts.now; next = p.next.items; cursors = p.cursors.items } };
 
-    ghost invariant = { λ p. IsPlaying (record { made = p.world; scripts = map (λ v. v.items) p.scripts.now; next = p.next.items; senders = length p.cursors.items }) };
+    ghost invariant = { λ p. IsPlaying (record { made = p.world; scripts = map (λ v. v.items) p.scripts.now; next = p.next.items; cursors = p.cursors.items }) };
 }
 
 /// Makes an event. Any refusal is told as want of memory: a player only makes events that can be made.
@@ -50,7 +52,7 @@ fn make<F: FrontEnd, A: Allocator + Copy>(
     world: &mut World<F, A>,
     event: Event,
 ) -> Result<(), AllocError>
-    ensures made { OnOk result (world.new ≡ with_event world.old event) }
+    ensures made { OnOk result (Accepts F.start world.old event world.new) }
     ensures processes { world.new.processes ≡ world.old.processes }
     ensures registers { world.new.registers ≡ world.old.registers }
     ensures kept { result ≡ Ok tt ⊎ (world.new.accepted ≡ world.old.accepted) }
@@ -71,6 +73,7 @@ impl<'w, F: FrontEnd, A: Allocator + Copy> Player<'w, F, A> {
         requires { length scripts.now ≡ shape.processes }
         ensures made { IfOk result (λ p. p.made ≡ new_world shape) }
         ensures scripts { IfOk result (λ p. p.scripts ≡ map (λ v. v.items) scripts.now) }
+        ensures cursors { IfOk result (λ p. (a b : ℕ) → cursor_at p a b ≡ 0) }
     {
         let world = World::new(alloc, shape)?;
         let count = shape.processes() as usize;
@@ -149,6 +152,8 @@ impl<'w, F: FrontEnd, A: Allocator + Copy> Player<'w, F, A> {
         ensures registers { self.new.made.registers ≡ self.old.made.registers }
         ensures going { OnOk result (self.new.made.failed ≡ false) }
         ensures more { OnOk result (length self.new.made.accepted ≡ length self.old.made.accepted + 1) }
+        ensures cursors { OnOk result (self.new.cursors ≡ self.old.cursors) }
+        ensures accepts { OnOk result ((op : Op) × Accepts F.start self.old.made (Call process op) self.new.made) }
     {
         let place = usize::from(process);
         let number = self.next[place];
@@ -167,6 +172,8 @@ impl<'w, F: FrontEnd, A: Allocator + Copy> Player<'w, F, A> {
         ensures registers { self.new.made.registers ≡ self.old.made.registers }
         ensures going { OnOk result (self.new.made.failed ≡ false) }
         ensures more { OnOk result (length self.new.made.accepted ≡ length self.old.made.accepted + 1) }
+        ensures cursors { OnOk result (self.new.cursors ≡ self.old.cursors) }
+        ensures accepts { OnOk result (Accepts F.start self.old.made event self.new.made) }
     {
         make(&mut self.world, event)
     }
@@ -187,6 +194,8 @@ impl<'w, F: FrontEnd, A: Allocator + Copy> Player<'w, F, A> {
     pub(crate) fn frame(&self, from: u8, to: u8) -> Option<u32>
         requires from { from < self.now.made.processes }
         requires to { to < self.now.made.processes }
+        ensures next { IfSome result (λ number. number ≡ cursor_at self.now from to) }
+        ensures behind { result ≡ None → self.now.made.failed ≡ false → IsBehind F.start self.now from to }
     {
         let cursor = self.cursors[usize::from(from)][usize::from(to)];
         let frames = self.world.wire(from, to)?;
@@ -205,6 +214,8 @@ impl<'w, F: FrontEnd, A: Allocator + Copy> Player<'w, F, A> {
         ensures registers { self.new.made.registers ≡ self.old.made.registers }
         ensures going { OnOk result (self.new.made.failed ≡ false) }
         ensures more { OnOk result (length self.new.made.accepted ≡ length self.old.made.accepted + 1) }
+        ensures cursors { OnOk result (self.new.cursors ≡ self.old.cursors) }
+        ensures accepts { OnOk result (Accepts F.start self.old.made (Take from to number) self.new.made) }
     {
         self.pass(Event::Take { from, to, number })
     }
@@ -213,7 +224,8 @@ impl<'w, F: FrontEnd, A: Allocator + Copy> Player<'w, F, A> {
     pub(crate) fn leave(&mut self, from: u8, to: u8)
         requires from { from < self.old.made.processes }
         requires to { to < self.old.made.processes }
-        ensures { self.new ≡ self.old }
+        ensures made { self.new.made ≡ self.old.made }
+        ensures left { Leaves self.old from to self.new }
     {
         let cursor = &mut self.cursors[usize::from(from)][usize::from(to)];
         *cursor = cursor.saturating_add(1);
@@ -233,7 +245,7 @@ impl<'w, F: FrontEnd, A: Allocator + Copy> Player<'w, F, A> {
     fn is_finished(&self) -> bool
         requires { self.now.made.failed ≡ false }
         ensures finished { result ≡ true ↔ IsFinished F.start self.now.scripts self.now.made }
-        ensures still { AllStill F.start self.now → result ≡ true }
+        ensures rest { AtRest F.start self.now → result ≡ true }
     {
         let _world = &self.world;
         for process in 0..self.processes() {
@@ -249,7 +261,7 @@ impl<'w, F: FrontEnd, A: Allocator + Copy> Player<'w, F, A> {
         requires { self.made.failed ≡ false }
         ensures world { result.world ≡ self.entry.made }
         ensures play { (shape : Extent) (budget : ℕ) → self.entry.made.processes ≡ shape.processes → self.entry.made.registers ≡ shape.registers → length self.entry.made.accepted ≤ budget → IsPlay F.start shape self.entry.scripts budget result.world result.finished }
-        ensures still { AllStill F.start self.entry → result.finished ≡ true }
+        ensures rest { AtRest F.start self.entry → result.finished ≡ true }
     {
         let _world = &self.world;
         let finished = self.is_finished();

@@ -1,5 +1,6 @@
-use Rattle.reg_workload.specs.Plays.{GoesOn}
+use Rattle.std.proofs.Common.{false}
+use Rattle.reg_workload.specs.Fair.{RoundPart, NoneMayCall}
 use Rattle.reg_workload.proofs.fair.call_each.Given as goal
 
 abbrev pub invariant-loop-process : goal.invariant-loop-process
-invariant-loop-process g l = GoesOn l.fn.budget l.initial.player l.player
+invariant-loop-process g l = RoundPart g.F.FrontEnd.start l.fn.budget l.initial.player l.player false (NoneMayCall g.F.FrontEnd.start l.player l.process)

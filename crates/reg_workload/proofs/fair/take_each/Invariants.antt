@@ -1,5 +1,6 @@
-use Rattle.reg_workload.specs.Plays.{GoesOn}
+use Rattle.std.proofs.Common.{false}
+use Rattle.reg_workload.specs.Fair.{RoundPart, AllBehind}
 use Rattle.reg_workload.proofs.fair.take_each.Given as goal
 
 abbrev pub invariant-loop-from : goal.invariant-loop-from
-invariant-loop-from g l = GoesOn l.fn.budget l.initial.player l.player
+invariant-loop-from g l = RoundPart g.F.FrontEnd.start l.fn.budget l.initial.player l.player false (AllBehind g.F.FrontEnd.start l.player l.from)

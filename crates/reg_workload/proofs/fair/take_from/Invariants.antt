@@ -1,5 +1,6 @@
-use Rattle.reg_workload.specs.Plays.{GoesOn}
+use Rattle.std.proofs.Common.{false}
+use Rattle.reg_workload.specs.Fair.{RoundPart, AllBehindFrom}
 use Rattle.reg_workload.proofs.fair.take_from.Given as goal
 
 abbrev pub invariant-loop-to : goal.invariant-loop-to
-invariant-loop-to g l = GoesOn l.fn.budget l.initial.player l.player
+invariant-loop-to g l = RoundPart g.F.FrontEnd.start l.fn.budget l.initial.player l.player false (AllBehindFrom g.F.FrontEnd.start l.player l.fn.from l.to)

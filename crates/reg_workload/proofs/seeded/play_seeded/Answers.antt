@@ -2,7 +2,7 @@ use Rattle.std.proofs.Common.{◌≡◌, ◌∙◌, subst, ap, map, List, length
 use Rattle.reg_base.specs.declared.memory.Op.{Op}
 use Rattle.reg_world.specs.Worlds.{Made}
 use Rattle.reg_workload.specs.Plays.{IsPlay}
-use Rattle.reg_workload.proofs.Scripts.{ended_or_full}
+use Rattle.reg_workload.proofs.Scripts.{ended_or_full, still_rests}
 use Rattle.reg_workload.proofs.seeded.play_seeded.Goals as goal
 
 pub returns-clause-play : goal.returns-clause-play
@@ -13,5 +13,5 @@ returns-clause-play g c =
 
 pub returns-clause-finished : goal.returns-clause-finished
 returns-clause-finished g c = λ none less.
-    ended_or_full c.in_ok-_ended._ended (length c.play_turns.new.player.made.accepted) c.args.budget (λ e. c.end.ensures.still (c.in_ok-_ended.ensures.ended.0 e)) (λ e. c.in_ok-_ended.ensures.ended.1 e none)
+    ended_or_full c.in_ok-_ended._ended (length c.play_turns.new.player.made.accepted) c.args.budget (λ e. c.end.ensures.rest (still_rests g.F.FrontEnd.start c.play_turns.new.player (c.in_ok-_ended.ensures.ended.0 e))) (λ e. c.in_ok-_ended.ensures.ended.1 e none)
     (let w = ap (λ (m : Made). length m.accepted) c.end.ensures.world in omega (arith, w, less))

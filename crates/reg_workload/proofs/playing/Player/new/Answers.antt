@@ -1,7 +1,9 @@
-use Rattle.std.proofs.Common.{rules, ◌≡◌, ◌≤◌, map, length, replicate, arith}
+use Rattle.std.proofs.Common.{rules, ◌≡◌, ◌∙◌, ◌≤◌, ℕ, List, [], ap, slice_index_or, map, length, replicate, arith}
+use Rattle.std.specs.List.{each_same}
 use Rattle.std.proofs.lemmas.List.{length-map}
 use Rattle.reg_base.specs.declared.limits.TheConstants.{MOST_PROCESSES}
 use Rattle.reg_workload.proofs.Scripts.{begins}
+use Rattle.reg_workload.proofs.Fairness.{none_behind}
 use Rattle.reg_workload.proofs.playing.Player.new.Goals as goal
 
 pub invariant_of-result : goal.invariant_of-result
@@ -10,4 +12,9 @@ invariant_of-result g c =
     let next : c.in_ok-next.next.items ≡ replicate c.processes-count.result 0 = search rules in
     let senders : length c.in_ok-cursors.cursors.items ≡ c.processes-count.result = search rules in
     let scripts : length (map (λ v. v.items) c.args.scripts.now) ≡ c.args.shape.processes = search (rules, length-map) in
-    begins c.args.shape c.in_ok-world.world (map (λ v. v.items) c.args.scripts.now) c.in_ok-next.next.items c.processes-count.result (length c.in_ok-cursors.cursors.items) c.in_ok-world.ensures few scripts c.processes-count.ensures.value next senders
+    begins c.args.shape c.in_ok-world.world (map (λ v. v.items) c.args.scripts.now) c.in_ok-next.next.items c.processes-count.result c.in_ok-cursors.cursors.items c.in_ok-world.ensures few scripts c.processes-count.ensures.value next senders
+
+pub returns-clause-cursors : goal.returns-clause-cursors
+returns-clause-cursors g c =
+    let rows : c.in_ok-cursors.cursors.items ≡ replicate c.processes-count.result (replicate 16 0) = c.in_ok-cursors.ensures.items_if_clones_equal (λ y h. each_same (replicate 16 0) y h.whole) in
+    λ a b. ap (λ (z : List (List ℕ)). slice_index_or (slice_index_or z a []) b 0) rows ∙ none_behind c.processes-count.result 16 a b
