@@ -1,0 +1,18 @@
+use Rattle.std.proofs.Common.{◌≡◌, rules}
+use Rattle.toml.specs.View.{view}
+use Rattle.reg_front.specs.Table.{front_name}
+use Rattle.reg_toml.proofs.Accessors.{text_is, front_known, front_unknown}
+use Rattle.reg_toml.proofs.values.front_of.Goals as goal
+
+pub returns-in-Some-from_name : goal.returns-in-Some-from_name
+returns-in-Some-from_name c =
+    let is = text_is (view c.args.value.now) c.in-Some.name.now c.in-Some.ensures in
+    let named : front_name c.in-Some-from_name.front ≡ c.in-Some.name.now = (c.in-Some-from_name.ensures c.in-Some-from_name.front).0 (search rules) in
+    let known = front_known c.in-Some-from_name.front c.in-Some.name.now named in
+    (cc, rw (is, known))
+
+pub returns-in-None : goal.returns-in-None
+returns-in-None c =
+    let is = text_is (view c.args.value.now) c.in-Some.name.now c.in-Some.ensures in
+    let unknown = front_unknown c.in-Some.name.now (λ f e. let some = (c.in-None.ensures f).1 e in absurd (cc)) in
+    rw (is, unknown)
