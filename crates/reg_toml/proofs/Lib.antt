@@ -3,3 +3,4 @@ pub mod Accessors
 pub mod Lists
 pub mod Spelled
 pub mod Loaded
+pub mod Whole

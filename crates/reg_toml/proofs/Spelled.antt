@@ -20,9 +20,10 @@ pub record Spelled {X : Type 0} (spell : X → Data) (Fits : X → Type 0) (vs :
   pub within : n ≤ length vs
   pub before : map view (take n vs) ≡ map spell xs
   pub known : AllFit (λ _ x. Fits x) xs
+  pub only : (ys : List X) → AllFit (λ _ y. Fits y) ys → map view vs ≡ map spell ys → xs ≡ take n ys
 
 pub spelled_none : {X : Type 0} (spell : X → Data) (Fits : X → Type 0) (vs : List Value) → Spelled spell Fits vs 0 []
-spelled_none spell Fits vs = record { within = omega arith; before = refl; known = λ k x e. absurd (cc) }
+spelled_none spell Fits vs = record { within = omega arith; before = refl; known = λ k x e. absurd (cc); only = λ ys f e. refl }
 
 one_more : {X : Type 0} (P : X → Type 0) (xs : List X) (x : X) → ((k : ℕ) (y : X) → slice_get xs k ≡ Some y → P y) → P x → (k : ℕ) (y : X) → slice_get (xs ++ x ∷ []) k ≡ Some y → P y
 one_more P [] x h p zero y e = let z : x ≡ y = cc in subst P z p
@@ -30,9 +31,20 @@ one_more P [] x h p (suc k) y e = absurd (cc)
 one_more P (z ∷ xs) x h p zero y e = h zero y e
 one_more P (z ∷ xs) x h p (suc k) y e = one_more P xs x (λ i d q. h (suc i) d q) p k y e
 
+-- what the n-th value spells is the n-th of all that the values spell
+nth_only : {X : Type 0} (spell : X → Data) (Fits : X → Type 0) (vs : List Value) (n : ℕ) (v : Value) (x : X) (ys : List X)
+    → n < length vs → v ≡ get_or vs n v → ((y : X) → Fits y → view v ≡ spell y → x ≡ y) → AllFit (λ _ y. Fits y) ys → map view vs ≡ map spell ys → x ≡ get_or ys n x
+nth_only spell Fits vs n v x ys h at one fit e =
+    let count : length vs ≡ length ys = sym (length-map vs view) ∙ ap length e ∙ length-map ys spell in
+    let less : n < length ys = omega arith in
+    let here : slice_get ys n ≡ Some (get_or ys n x) = slice_get-get_or ys n x less in
+    let same : view v ≡ spell (get_or ys n x) =
+    ap view at ∙ sym (get_or-map view vs n v (view v) h) ∙ ap (λ l. get_or l n (view v)) e ∙ get_or-map spell ys n x (view v) less in
+    one (get_or ys n x) (fit n (get_or ys n x) here) same
+
 pub spelled_more : {X : Type 0} (spell : X → Data) (Fits : X → Type 0) (vs : List Value) (n : ℕ) (xs ys : List X) (v : Value) (x : X)
-    → n < length vs → v ≡ get_or vs n v → view v ≡ spell x → Fits x → ys ≡ xs ++ x ∷ [] → Spelled spell Fits vs n xs → Spelled spell Fits vs (n + 1) ys
-spelled_more {X} spell Fits vs n xs ys v x h at is fits e s =
+    → n < length vs → v ≡ get_or vs n v → view v ≡ spell x → Fits x → ((y : X) → Fits y → view v ≡ spell y → x ≡ y) → ys ≡ xs ++ x ∷ [] → Spelled spell Fits vs n xs → Spelled spell Fits vs (n + 1) ys
+spelled_more {X} spell Fits vs n xs ys v x h at is fits one e s =
     let more : map view (take (n + 1) vs) ≡ map view (take n vs) ++ view (get_or vs n v) ∷ [] =
     ap (map view) (take_more vs n v h) ∙ map-append view (take n vs) (get_or vs n v ∷ []) in
     let end : view (get_or vs n v) ≡ spell x = ap view (sym at) ∙ is in
@@ -41,7 +53,19 @@ spelled_more {X} spell Fits vs n xs ys v x h at is fits e s =
       within = omega arith;
       before = more ∙ ap (λ l. l ++ view (get_or vs n v) ∷ []) s.before ∙ ap (λ d. map spell xs ++ d ∷ []) end ∙ sym (map-append spell xs (x ∷ []));
       known = one_more Fits xs x s.known fits;
+      only = λ zs f e.
+          let count : length vs ≡ length zs = sym (length-map vs view) ∙ ap length e ∙ length-map zs spell in
+          let more : take (n + 1) zs ≡ take n zs ++ get_or zs n x ∷ [] = take_more zs n x (omega arith) in
+          let last = nth_only spell Fits vs n v x zs h at one f e in
+          let front = s.only zs f e in
+          let P : X → Type 0 = λ z. xs ++ x ∷ [] ≡ take n zs ++ z ∷ [] in
+          subst P last (ap (λ l. l ++ x ∷ []) front) ∙ sym more;
     })
+
+pub spelled_only : {X : Type 0} (spell : X → Data) (Fits : X → Type 0) (vs : List Value) (n : ℕ) (xs ys : List X) → length vs ≤ n → Spelled spell Fits vs n xs → AllFit (λ _ y. Fits y) ys → map view vs ≡ map spell ys → xs ≡ ys
+spelled_only spell Fits vs n xs ys h s f e =
+    let count : length vs ≡ length ys = sym (length-map vs view) ∙ ap length e ∙ length-map ys spell in
+    s.only ys f e ∙ take_all n ys (omega arith)
 
 pub spelled_all : {X : Type 0} (spell : X → Data) (Fits : X → Type 0) (vs : List Value) (n : ℕ) (xs : List X) → length vs ≤ n → Spelled spell Fits vs n xs → map view vs ≡ map spell xs
 spelled_all spell Fits vs n xs h s = ap (map view) (sym (take_all n vs h)) ∙ s.before

@@ -40,6 +40,7 @@ fn script_of<A: Allocator + Copy>(
     requires names { names_fault names.now ≡ None }
     requires short { length lines.now ≤ MOST_OPERATIONS }
     ensures read { IfOk result (λ v. (map view lines.now ≡ map (op_data names.now) v.items) × IsScript names.now v.items) }
+    ensures only { IfOk result (λ v. (ops : List Op) → IsScript names.now ops → map view lines.now ≡ map (op_data names.now) ops → v.items ≡ ops) }
     ensures refused { IfErr result (λ e. (e ≡ OutOfMemory) ⊎ ((place : ℕ) × (e ≡ Script process place) × IsFirstWrong names.now (map view lines.now) place)) }
 {
     let mut ops = Vec::new(alloc);
@@ -80,6 +81,7 @@ pub(crate) fn scripts_of<A: Allocator + Copy>(
     requires kind { list_all (λ v. is_script (view v)) scripts.now ≡ true }
     requires short { list_all (λ v. is_short (view v)) scripts.now ≡ true }
     ensures read { IfOk result (λ v. (map view scripts.now ≡ map (script_data names.now) (map (λ s. s.items) v.items)) × AllFit (λ _ ops. IsScript names.now ops) (map (λ s. s.items) v.items)) }
+    ensures only { IfOk result (λ v. (all : List (List Op)) → AllFit (λ _ ops. IsScript names.now ops) all → map view scripts.now ≡ map (script_data names.now) all → map (λ s. s.items) v.items ≡ all) }
     ensures refused { IfErr result (λ e. (e ≡ OutOfMemory) ⊎ ((process : ℕ) × (place : ℕ) × (e ≡ Script process place) × IsFirstRefused names.now (map view scripts.now) process place)) }
 {
     let mut all = Vec::new(alloc);

@@ -1,10 +1,11 @@
 //! The values of a table.
-ghost use Rattle.std.specs.Prelude.{◌≡◌, ◌⊎◌, ◌<◌, ◌≤◌, ℕ, Option, List, None, Some, true, IsTrue, IfOk, MatchResult, map, length, option_map, nat_lt, nat_le, ◌&&◌};
+ghost use Rattle.std.specs.Prelude.{◌≡◌, ◌⊎◌, ◌<◌, ◌≤◌, ℕ, Option, List, None, Some, Ok, true, IsTrue, IfOk, MatchResult, map, length, option_map, nat_lt, nat_le, ◌&&◌};
 ghost use Rattle.std.specs.List.{list_all};
 ghost use Rattle.toml.specs.Data.{Data, get_member, string, array};
 ghost use Rattle.toml.specs.View.{table_view, view, items_of};
 ghost use Rattle.reg_base.specs.Names.{texts, names_fault};
 ghost use Rattle.reg_base.specs.declared.limits.TheConstants.{MOST_PROCESSES, MOST_OPERATIONS};
+ghost use Rattle.reg_front.specs.declared.named.Front.{Front};
 ghost use Rattle.reg_front.specs.Table.{front_name};
 ghost use Rattle.reg_toml.specs.Keys.{key_name, all_known};
 ghost use Rattle.reg_toml.specs.declared.keys.Key.TheVariants as key;
@@ -37,7 +38,8 @@ pub(crate) fn value_at(table: &Table, key: Key) -> Option<&Value>
 
 /// The front end that a value names.
 fn front_of(value: &Value) -> Result<Front, WorkloadFault>
-    ensures { MatchResult result (λ f. (view value.now ≡ string (front_name f)) × (front_fault (view value.now) ≡ None)) (λ e. front_fault (view value.now) ≡ Some e) }
+    ensures fault { MatchResult result (λ f. (view value.now ≡ string (front_name f)) × (front_fault (view value.now) ≡ None)) (λ e. front_fault (view value.now) ≡ Some e) }
+    ensures whole { (f : Front) → view value.now ≡ string (front_name f) → result ≡ Ok f }
 {
     let Some(name) = value.as_str() else {
         return Err(WorkloadFault::Kind { key: Key::Front });
@@ -50,7 +52,8 @@ fn front_of(value: &Value) -> Result<Front, WorkloadFault>
 
 /// The front end of a table.
 pub(crate) fn read_front(table: &Table) -> Result<Front, WorkloadFault>
-    ensures { MatchResult result (λ f. (get_member (key_name key.Front) (table_view table.now) ≡ Some (string (front_name f))) × (front_at (table_view table.now) ≡ None)) (λ e. front_at (table_view table.now) ≡ Some e) }
+    ensures fault { MatchResult result (λ f. (get_member (key_name key.Front) (table_view table.now) ≡ Some (string (front_name f))) × (front_at (table_view table.now) ≡ None)) (λ e. front_at (table_view table.now) ≡ Some e) }
+    ensures whole { (f : Front) → get_member (key_name key.Front) (table_view table.now) ≡ Some (string (front_name f)) → result ≡ Ok f }
 {
     match value_at(table, Key::Front) {
         Some(value) => front_of(value),

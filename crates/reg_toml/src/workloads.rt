@@ -1,10 +1,10 @@
 //! Workloads, and their reader.
-ghost use Rattle.std.specs.Prelude.{◌≡◌, ◌⊎◌, None, Some, IfOk, IfErr};
+ghost use Rattle.std.specs.Prelude.{◌≡◌, ◌⊎◌, None, Some, IfOk, IfErr, MatchResult};
 ghost use Rattle.toml.specs.Data.{Members};
 ghost use Rattle.toml.specs.Parse.{parse_document};
 ghost use Rattle.toml.specs.View.{table_view};
 ghost use Rattle.reg_toml.specs.declared.faults.WorkloadFault.TheVariants.{OutOfMemory, Toml};
-ghost use Rattle.reg_toml.specs.Loads.{IsLoad, Says};
+ghost use Rattle.reg_toml.specs.Loads.{Load, IsLoad, Says};
 ghost use Rattle.reg_toml.specs.Judged.{IsFault};
 
 use crate::faults::WorkloadFault;
@@ -46,6 +46,50 @@ impl<A: Allocator + Copy> Model for Workload<A> {
     ghost invariant = { λ w. IsLoad (record { shape = w.shape; names = w.names; front = w.front; scripts = map (λ s. s.items) w.scripts.items; seed = w.seed; loss = w.loss; repeat = w.repeat; budget = w.budget }) };
 }
 
+/// The workload that a table says, or the table's first fault.
+fn workload_of<A: Allocator + Copy>(alloc: A, table: &Table) -> Result<Workload<A>, WorkloadFault>
+    ensures read { IfOk result (λ w. Says (table_view table.now) w × IsLoad w) }
+    ensures only { IfOk result (λ w. (l : Load) → Says (table_view table.now) l → IsLoad l → w ≡ l) }
+    ensures refused { IfErr result (λ e. (e ≡ OutOfMemory) ⊎ IsFault (table_view table.now) e) }
+{
+    if !has_known_keys(table) {
+        return Err(WorkloadFault::UnknownKey);
+    }
+    let front = match read_front(table) {
+        Ok(front) => front,
+        Err(fault) => return Err(fault),
+    };
+    let names = match read_names(alloc, table) {
+        Ok(names) => names,
+        Err(fault) => return Err(fault),
+    };
+    let lines = match read_scripts(table) {
+        Ok(lines) => lines,
+        Err(fault) => return Err(fault),
+    };
+    let numbers = match read_numbers(table) {
+        Ok(numbers) => numbers,
+        Err(fault) => return Err(fault),
+    };
+    let scripts = match scripts_of(alloc, lines, &names) {
+        Ok(scripts) => scripts,
+        Err(fault) => return Err(fault),
+    };
+    let Ok(shape) = Shape::new(scripts.len() as u32, names.count() as u32) else {
+        unreachable!();
+    };
+    Ok(Workload {
+        shape,
+        names,
+        front,
+        scripts,
+        seed: numbers.seed,
+        loss: numbers.loss,
+        repeat: numbers.repeat,
+        budget: numbers.budget,
+    })
+}
+
 impl<A: Allocator + Copy> Workload<A> {
     /// The workload that a table says.
     ///
@@ -55,44 +99,13 @@ impl<A: Allocator + Copy> Workload<A> {
     /// that is none.
     pub fn from_table(alloc: A, table: &Table) -> Result<Workload<A>, WorkloadFault>
         ensures read { IfOk result (λ w. Says (table_view table.now) w × IsLoad w) }
+        ensures whole { (l : Load) → Says (table_view table.now) l → IsLoad l → MatchResult result (λ w. w ≡ l) (λ e. e ≡ OutOfMemory) }
         ensures refused { IfErr result (λ e. (e ≡ OutOfMemory) ⊎ IsFault (table_view table.now) e) }
     {
-        if !has_known_keys(table) {
-            return Err(WorkloadFault::UnknownKey);
+        match workload_of(alloc, table) {
+            Ok(work) => Ok(work),
+            Err(fault) => Err(fault),
         }
-        let front = match read_front(table) {
-            Ok(front) => front,
-            Err(fault) => return Err(fault),
-        };
-        let names = match read_names(alloc, table) {
-            Ok(names) => names,
-            Err(fault) => return Err(fault),
-        };
-        let lines = match read_scripts(table) {
-            Ok(lines) => lines,
-            Err(fault) => return Err(fault),
-        };
-        let numbers = match read_numbers(table) {
-            Ok(numbers) => numbers,
-            Err(fault) => return Err(fault),
-        };
-        let scripts = match scripts_of(alloc, lines, &names) {
-            Ok(scripts) => scripts,
-            Err(fault) => return Err(fault),
-        };
-        let Ok(shape) = Shape::new(scripts.len() as u32, names.count() as u32) else {
-            unreachable!();
-        };
-        Ok(Workload {
-            shape,
-            names,
-            front,
-            scripts,
-            seed: numbers.seed,
-            loss: numbers.loss,
-            repeat: numbers.repeat,
-            budget: numbers.budget,
-        })
     }
 }
 
@@ -125,6 +138,7 @@ impl Workload {
     /// The text is no document, or the first fault of its table.
     pub fn from_toml(alloc: Global, text: &str) -> Result<Workload, WorkloadFault>
         ensures read { IfOk result (λ w. (ms : Members) × (parse_document text.now ≡ Some ms) × Says ms w × IsLoad w) }
+        ensures whole { (ms : Members) (l : Load) → parse_document text.now ≡ Some ms → Says ms l → IsLoad l → MatchResult result (λ w. w ≡ l) (λ e. e ≡ OutOfMemory) }
         ensures refused { IfErr result (λ e. (e ≡ OutOfMemory) ⊎ ((e ≡ Toml) × (parse_document text.now ≡ None)) ⊎ ((ms : Members) × (parse_document text.now ≡ Some ms) × IsFault ms e)) }
     {
         match read_table(alloc, text) {
