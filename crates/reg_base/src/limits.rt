@@ -20,3 +20,9 @@ pub const MOST_OPERATIONS: u32 = 65_535;
 pub const MOST_RESENT: u64 = 16;
 /// The most bytes of a text that the program reads.
 pub const LONGEST_INPUT: usize = 268_435_456;
+/// The last seed of a workload: the greatest integer that a TOML document can write.
+pub const LAST_SEED: u64 = 9_223_372_036_854_775_807;
+/// The most frames of a hundred that a workload can have lost, or taken again.
+pub const MOST_ODDS: u32 = 100;
+/// The events that a workload has at most where it says nothing of them.
+pub const USUAL_BUDGET: u32 = 100_000;

@@ -156,7 +156,7 @@ fn play_rounds<F: FrontEnd, A: Allocator + Copy>(
 /// # Errors
 ///
 /// Memory was refused. A step of a play that the world refuses for another reason would be told so too.
-pub fn play_fair<F: FrontEnd, A: Allocator + Copy>(
+pub(crate) fn play_fair<F: FrontEnd, A: Allocator + Copy>(
     alloc: A,
     shape: Shape,
     scripts: &[Vec<Op, A>],

@@ -1,7 +1,7 @@
 //! Plays of small scripts.
-use crate::{Odds, Play, SeedWords, Words, play_fair, play_seeded};
+use crate::{Play, SeedWords, Words, Workload, WorkloadFault, play_fair, play_seeded, read_table};
 use refusing::Refusing;
-use reg_base::{Answer, Op, OpId, Shape};
+use reg_base::{Answer, Op, OpId};
 use reg_front::{FrontEnd, Linear, LocalWrite};
 use reg_history::{Entry, check_points, check_serial};
 use std::alloc::{AllocError, Allocator};
@@ -14,12 +14,12 @@ const WRITE: Op = Op::Write {
     value: 5,
 };
 
-const SOME: Odds = Odds {
-    loss: 20,
-    repeat: 20,
-};
+/// A write and a read at process 0, and a read at process 1.
+const SMALL: &str =
+    "front = \"local-write\"\nregisters = [\"x\"]\nscripts = [[\"write x 5\", \"read x\"], [\"read x\"]]\n";
 
-const NONE: Odds = Odds { loss: 0, repeat: 0 };
+/// How a fifth of the frames is lost, and a fifth can be taken again.
+const LOSSY: &str = "loss = 20\nrepeat = 20\n";
 
 fn id(process: u8, number: u32) -> OpId {
     OpId { process, number }
@@ -33,14 +33,10 @@ fn answered(at: u32, id: OpId, answer: Answer) -> Entry {
     Entry::Answered { at, id, answer }
 }
 
-/// A write and a read at process 0, and a read at process 1.
-fn scripts_of<A: Allocator + Copy>(alloc: A) -> Result<Vec<Vec<Op, A>, A>, AllocError> {
-    let first = vec![in alloc; WRITE, READ]?;
-    let second = vec![in alloc; READ]?;
-    let mut scripts = Vec::new(alloc);
-    scripts.push(first)?;
-    scripts.push(second)?;
-    Ok(scripts)
+/// The small workload, with these lines more.
+fn small(rt: &(impl AllocGlobal + Abort), lines: &str) -> Workload {
+    let text = format!(in rt.alloc(); "{SMALL}{lines}").expect(rt, "memory");
+    Workload::from_toml(rt.alloc(), text.as_str()).expect(rt, "a workload")
 }
 
 /// The history of the scripts, where the second read of process 0 is called and answered at these events.
@@ -60,36 +56,14 @@ fn history_of(read: u32, write: u32, called_at: u32, answered_at: u32) -> [Entry
     first
 }
 
-fn fair<A: Allocator + Copy>(alloc: A, budget: u32) -> Result<Play<LocalWrite, A>, AllocError> {
-    let scripts = scripts_of(alloc)?;
-    let Ok(shape) = Shape::new(2, 1) else {
-        return Err(AllocError);
-    };
-    if scripts.len() != shape.processes() as usize {
-        return Err(AllocError);
-    }
-    play_fair(alloc, shape, &scripts, budget)
-}
-
-fn seeded<F: FrontEnd, A: Allocator + Copy>(
-    alloc: A,
-    seed: u64,
-    odds: Odds,
-) -> Result<Play<F, A>, AllocError> {
-    let scripts = scripts_of(alloc)?;
-    let Ok(shape) = Shape::new(2, 1) else {
-        return Err(AllocError);
-    };
-    if scripts.len() != shape.processes() as usize {
-        return Err(AllocError);
-    }
-    let mut words = SeedWords::new(seed);
-    play_seeded(alloc, shape, &scripts, &mut words, odds, 100_000)
+fn seeded<F: FrontEnd>(rt: &(impl AllocGlobal + Abort), work: &Workload, seed: u64) -> Play<F> {
+    play_seeded(rt.alloc(), work, SeedWords::new(seed)).expect(rt, "memory")
 }
 
 #[test]
 fn a_fair_play_takes_turns(rt: HostRuntime) {
-    let play = fair(rt.alloc(), 100_000).expect(&rt, "memory");
+    let work = small(&rt, "");
+    let play = play_fair::<LocalWrite, _>(rt.alloc(), &work).expect(&rt, "memory");
     assert!(rt; play.finished);
     assert_eq!(rt; play.world.events(), 7);
     assert!(rt; play.world.history().entries() == history_of(1, 0, 4, 5).as_slice());
@@ -99,7 +73,8 @@ fn a_fair_play_takes_turns(rt: HostRuntime) {
 
 #[test]
 fn a_fair_play_keeps_its_budget(rt: HostRuntime) {
-    let play = fair(rt.alloc(), 3).expect(&rt, "memory");
+    let work = small(&rt, "budget = 3\n");
+    let play = play_fair::<LocalWrite, _>(rt.alloc(), &work).expect(&rt, "memory");
     assert!(rt; !play.finished);
     assert_eq!(rt; play.world.events(), 3);
     assert_eq!(rt; play.world.history().entries().len(), 4);
@@ -107,9 +82,10 @@ fn a_fair_play_keeps_its_budget(rt: HostRuntime) {
 
 #[test]
 fn a_seed_gives_one_play(rt: HostRuntime) {
+    let work = small(&rt, LOSSY);
     let cases = [(0, history_of(0, 1, 3, 17)), (3, history_of(0, 1, 7, 7))];
     for (seed, entries) in cases {
-        let play = seeded::<LocalWrite, _>(rt.alloc(), seed, SOME).expect(&rt, "memory");
+        let play = seeded::<LocalWrite>(&rt, &work, seed);
         assert!(rt; play.world.history().entries() == entries.as_slice());
         assert!(rt; play.finished);
     }
@@ -117,9 +93,10 @@ fn a_seed_gives_one_play(rt: HostRuntime) {
 
 #[test]
 fn seeded_plays_are_serial(rt: HostRuntime) {
+    let work = small(&rt, LOSSY);
     let mut finished = false;
     for seed in 0..10 {
-        let play = seeded::<Linear, _>(rt.alloc(), seed, SOME).expect(&rt, "memory");
+        let play = seeded::<Linear>(&rt, &work, seed);
         let order = play.world.witness().expect(&rt, "memory");
         assert!(rt; check_serial(rt.alloc(), play.world.history(), &order) == Ok(()));
         let points = play.world.points().expect(&rt, "memory");
@@ -131,11 +108,20 @@ fn seeded_plays_are_serial(rt: HostRuntime) {
 
 #[test]
 fn without_loss_a_play_is_finished(rt: HostRuntime) {
+    let work = small(&rt, "repeat = 50\n");
     for seed in 0..10 {
-        let play = seeded::<Linear, _>(rt.alloc(), seed, NONE).expect(&rt, "memory");
+        let play = seeded::<Linear>(&rt, &work, seed);
         assert!(rt; play.finished);
         assert!(rt; play.world.events() < 100_000);
     }
+}
+
+#[test]
+fn a_seeded_play_keeps_its_budget(rt: HostRuntime) {
+    let work = small(&rt, "budget = 2\n");
+    let play = seeded::<LocalWrite>(&rt, &work, 0);
+    assert!(rt; !play.finished);
+    assert_eq!(rt; play.world.events(), 2);
 }
 
 #[test]
@@ -149,16 +135,33 @@ fn seeds_differ(rt: HostRuntime) {
     assert_eq!(rt; one.word(), same.word());
 }
 
+/// Reads the small workload and plays it by turns.
+fn read_and_play<A: Allocator + Copy>(
+    rt: &(impl AllocGlobal + Abort),
+    alloc: A,
+) -> Result<Play<LocalWrite, A>, AllocError> {
+    let table = read_table(rt.alloc(), SMALL).expect(rt, "a document");
+    let work = match Workload::from_table(alloc, &table) {
+        Ok(work) => work,
+        Err(fault) => {
+            assert_eq!(rt; fault, WorkloadFault::OutOfMemory);
+            return Err(AllocError);
+        }
+    };
+    let _fair = play_fair::<LocalWrite, _>(alloc, &work)?;
+    play_seeded(alloc, &work, SeedWords::new(0))
+}
+
 #[test]
 fn each_growth_is_refused(rt: HostRuntime) {
     let mut through = false;
-    for before in 0..200u64 {
+    for before in 0..500u64 {
         let heap = Refusing::new(rt.alloc(), before);
-        match fair(&heap, 100_000) {
+        match read_and_play(&rt, &heap) {
             Ok(play) => {
                 assert!(rt; heap.is_waiting());
                 assert!(rt; play.finished);
-                assert!(rt; before > 10);
+                assert!(rt; before > 20);
                 through = true;
                 break;
             }

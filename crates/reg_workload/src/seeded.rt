@@ -11,11 +11,11 @@ use std::alloc::{AllocError, Allocator};
 
 /// How often of a hundred times a frame is lost, and how often it can be taken again.
 #[derive(Clone, Copy, Debug, PartialEq, Eq)]
-pub struct Odds {
+pub(crate) struct Odds {
     /// Of a hundred frames that are chosen, so many are lost.
-    pub loss: u32,
+    pub(crate) loss: u32,
     /// Of a hundred frames that are taken, so many can be taken again.
-    pub repeat: u32,
+    pub(crate) repeat: u32,
 }
 
 /// Whether the next word, modulo 100, is below so many.
@@ -117,7 +117,7 @@ fn play_turns<F: FrontEnd, R: Words, A: Allocator + Copy>(
 /// # Errors
 ///
 /// Memory was refused. A step of a play that the world refuses for another reason would be told so too.
-pub fn play_seeded<F: FrontEnd, R: Words, A: Allocator + Copy>(
+pub(crate) fn play_seeded<F: FrontEnd, R: Words, A: Allocator + Copy>(
     alloc: A,
     shape: Shape,
     scripts: &[Vec<Op, A>],

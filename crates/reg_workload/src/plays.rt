@@ -1,0 +1,63 @@
+//! Plays of workloads.
+ghost use Rattle.std.specs.Prelude.{◌≡◌, ◌<◌, length, true, IfOk};
+ghost use Rattle.reg_workload.specs.Fair.{TakesInOrder};
+ghost use Rattle.reg_workload.specs.Plays.{IsPlay};
+
+use crate::fair;
+use crate::playing::Play;
+use crate::seeded::{self, Odds};
+use crate::words::Words;
+use reg_front::FrontEnd;
+use reg_toml::Workload;
+use std::alloc::{AllocError, Allocator};
+
+/// Plays a workload in rounds: each process that is free calls its next operation, by rising number, and then the next
+/// frame of each wire is taken, by sender and then by receiver. It ends with a round that makes no event, or once there are
+/// so many events as the budget says. So the frames of each wire are taken in order, each once, and none is put again. A
+/// play of fewer events than the budget is finished.
+///
+/// # Errors
+///
+/// Memory was refused. A step of a play that the world refuses for another reason would be told so too.
+pub fn play_fair<F: FrontEnd, A: Allocator + Copy>(
+    alloc: A,
+    work: &Workload<A>,
+) -> Result<Play<F, A>, AllocError>
+    ensures play { IfOk result (λ p. IsPlay F.start work.now.shape work.now.scripts work.now.budget p.world p.finished) }
+    ensures in_order { IfOk result (λ p. TakesInOrder p.world.accepted) }
+    ensures finished { IfOk result (λ p. length p.world.accepted < work.now.budget → p.finished ≡ true) }
+{
+    fair::play_fair(alloc, work.shape, &work.scripts, work.budget)
+}
+
+/// Plays a workload for as many turns at most as its budget says. A turn lists what can happen next: a call for each process
+/// that is free and has an operation left, the next frame of each wire, by sender and then by receiver, and a tick for each
+/// process with frames to put again. The next word, modulo their number, says which of them it is. A frame is lost where the
+/// next word, modulo 100, is below `loss`; else it is taken, and can be taken again where the word after that, modulo 100, is
+/// below `repeat`. Where nothing can happen the play ends. Without loss, a play of fewer events than the budget is finished.
+///
+/// # Errors
+///
+/// Memory was refused. A step of a play that the world refuses for another reason would be told so too.
+pub fn play_seeded<F: FrontEnd, R: Words + Drop, A: Allocator + Copy>(
+    alloc: A,
+    work: &Workload<A>,
+    words: R,
+) -> Result<Play<F, A>, AllocError>
+    ensures play { IfOk result (λ p. IsPlay F.start work.now.shape work.now.scripts work.now.budget p.world p.finished) }
+    ensures finished { IfOk result (λ p. work.now.loss ≡ 0 → length p.world.accepted < work.now.budget → p.finished ≡ true) }
+{
+    let mut words = words;
+    let odds = Odds {
+        loss: work.loss,
+        repeat: work.repeat,
+    };
+    seeded::play_seeded(
+        alloc,
+        work.shape,
+        &work.scripts,
+        &mut words,
+        odds,
+        work.budget,
+    )
+}
