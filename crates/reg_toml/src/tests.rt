@@ -39,6 +39,7 @@ fn numbers_are_read(rt: HostRuntime) {
         "front = \"linear\"\nregisters = [\"x\", \"yy\"]\nscripts = [[], []]\nseed = 9223372036854775807\nloss = 100\nrepeat = 99\nbudget = 1048576\n";
     let work = Workload::from_toml(rt.alloc(), most).expect(&rt, "a workload");
     assert_eq!(rt; work.shape.registers(), 2);
+    assert_eq!(rt; work.scripts.len(), 2);
     assert_eq!(rt; work.scripts[1].len(), 0);
     assert_eq!(rt; work.seed, 9_223_372_036_854_775_807);
     assert_eq!(rt; work.loss, 100);
