@@ -14,6 +14,3 @@ pub use memory::{Answer, Op, OpId, Registers};
 pub use naming::{Names, NamesFault, is_name};
 pub use shapes::{Shape, ShapeFault};
 pub use stamps::{Delivered, Stamp};
-
-#[cfg(test)]
-mod tests;

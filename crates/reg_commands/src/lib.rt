@@ -12,10 +12,3 @@ mod verdicts;
 pub use command::Command;
 pub use faults::Fault;
 pub use running::run_text;
-
-#[cfg(test)]
-mod replay_tests;
-#[cfg(test)]
-mod report_tests;
-#[cfg(test)]
-mod tests;

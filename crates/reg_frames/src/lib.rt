@@ -6,8 +6,6 @@ mod faults;
 pub mod laws;
 mod reading;
 mod spelling;
-#[cfg(test)]
-mod tests;
 
 pub use bodies::{Body, Frame};
 pub use faults::FrameFault;

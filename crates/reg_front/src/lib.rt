@@ -8,6 +8,3 @@ mod starts;
 pub use ends::{FrontEnd, Linear, LocalRead, LocalWrite, RealTime};
 pub use named::Front;
 pub use starts::Start;
-
-#[cfg(test)]
-mod tests;

@@ -11,8 +11,6 @@ mod id_lines;
 pub mod laws;
 mod log;
 mod marks;
-#[cfg(test)]
-mod order_tests;
 mod parts;
 mod place;
 mod points;
@@ -29,6 +27,3 @@ pub use log::History;
 pub use report_faults::{ReadFault, ReadWhy, ReportFault, WriteFault};
 pub use report_limits::{LONGEST_FRONT, MOST_ENTRIES, MOST_IDS};
 pub use reports::{Report, read_report, write_report};
-
-#[cfg(test)]
-mod report_tests;

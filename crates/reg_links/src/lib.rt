@@ -9,6 +9,3 @@ mod outboxes;
 pub use fanout::Outboxes;
 pub use inboxes::Inbox;
 pub use outboxes::{Ahead, LinkFault, Outbox};
-
-#[cfg(test)]
-mod tests;

@@ -14,8 +14,3 @@ pub use outcomes::{Outcome, Put};
 pub use processes::Process;
 pub use reg_base::Delivered;
 pub use steps::{Reply, Step};
-
-#[cfg(test)]
-mod refusals;
-#[cfg(test)]
-mod tests;

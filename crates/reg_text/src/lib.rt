@@ -21,6 +21,3 @@ pub use heads::{are_front_letters, expect_line, owned, read_count};
 pub use numbers::{field_within, numeral_within};
 pub use ops::{OpLine, name_at, name_of_op, read_op};
 pub use words::read_names;
-
-#[cfg(test)]
-mod tests;

@@ -11,6 +11,3 @@ mod workloads;
 pub use faults::WorkloadFault;
 pub use keys::Key;
 pub use workloads::{Workload, read_table};
-
-#[cfg(test)]
-mod tests;

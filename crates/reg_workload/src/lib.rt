@@ -16,8 +16,3 @@ pub use plays::{play_fair, play_seeded};
 pub use reg_toml::{Key, Workload, WorkloadFault, read_table};
 pub use schedules::{Schedule, ScheduleFault, parse_schedule};
 pub use words::{SeedWords, Words};
-
-#[cfg(test)]
-mod play_tests;
-#[cfg(test)]
-mod tests;

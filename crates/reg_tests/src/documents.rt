@@ -1,8 +1,8 @@
 //! Workloads that are read, and that are refused.
-use crate::{Key, Workload, WorkloadFault, read_table};
 use refusing::Refusing;
 use reg_base::Op;
 use reg_front::Front;
+use reg_toml::{Key, Workload, WorkloadFault, read_table};
 use std::alloc::AllocError;
 use std::process::Abort;
 

@@ -1,7 +1,7 @@
 //! A run that keeps the list of its events.
-use crate::{Event, RunFault, World, WorldFault};
 use reg_base::{Op, Shape};
 use reg_front::Linear;
+use reg_world::{Event, RunFault, World, WorldFault};
 use std::test::Fail;
 
 const CALL: Event = Event::Call {

@@ -1,6 +1,6 @@
 //! Schedules that are refused, and the limits and streams of a replay.
-use crate::Command;
-use crate::tests::{ONE_PROCESS, demand, demand_failing_streams};
+use crate::checks::{ONE_PROCESS, demand, demand_failing_streams};
+use reg_commands::Command;
 use std::alloc::Global;
 use std::process::Abort;
 

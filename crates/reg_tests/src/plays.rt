@@ -1,18 +1,14 @@
 //! Plays of small scripts.
-use crate::{Play, SeedWords, Words, Workload, WorkloadFault, play_fair, play_seeded, read_table};
+use crate::values::{READ, WRITE_FIVE, answered, called, id};
 use refusing::Refusing;
 use reg_base::{Answer, Op, OpId};
 use reg_front::{FrontEnd, Linear, LocalWrite};
 use reg_history::{Entry, check_points, check_serial};
+use reg_workload::{
+    Play, SeedWords, Words, Workload, WorkloadFault, play_fair, play_seeded, read_table,
+};
 use std::alloc::{AllocError, Allocator};
 use std::process::Abort;
-
-const READ: Op = Op::Read { register: 0 };
-
-const WRITE: Op = Op::Write {
-    register: 0,
-    value: 5,
-};
 
 /// A write and a read at process 0, and a read at process 1.
 const SMALL: &str =
@@ -20,18 +16,6 @@ const SMALL: &str =
 
 /// How a fifth of the frames is lost, and a fifth can be taken again.
 const LOSSY: &str = "loss = 20\nrepeat = 20\n";
-
-fn id(process: u8, number: u32) -> OpId {
-    OpId { process, number }
-}
-
-fn called(at: u32, id: OpId, op: Op) -> Entry {
-    Entry::Called { at, id, op }
-}
-
-fn answered(at: u32, id: OpId, answer: Answer) -> Entry {
-    Entry::Answered { at, id, answer }
-}
 
 /// The small workload, with these lines more.
 fn small(rt: &(impl AllocGlobal + Abort), lines: &str) -> Workload {
@@ -44,7 +28,7 @@ fn history_of(read: u32, write: u32, called_at: u32, answered_at: u32) -> [Entry
     let mut first = [
         called(read, id(1, 0), READ),
         answered(read, id(1, 0), Answer::Value(0)),
-        called(write, id(0, 0), WRITE),
+        called(write, id(0, 0), WRITE_FIVE),
         answered(write, id(0, 0), Answer::Done),
         called(called_at, id(0, 1), READ),
         answered(answered_at, id(0, 1), Answer::Value(5)),

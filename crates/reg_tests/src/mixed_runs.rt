@@ -1,46 +1,17 @@
-//! A front end of a user's own: it answers its writes at once, and casts its reads.
-use crate::{Event, World};
+//! A run of the front end of a user's own.
+use crate::mixed::Mixed;
+use crate::values::{READ, WRITE_FIVE, id};
 use reg_base::{Answer, Op, OpId, Shape};
 use reg_front::{FrontEnd, Start};
 use reg_history::Entry;
-
-const READ: Op = Op::Read { register: 0 };
-
-const WRITE: Op = Op::Write {
-    register: 0,
-    value: 5,
-};
-
-struct Mixed;
-
-impl FrontEnd for Mixed {
-    ghost use Rattle.reg_world.specs.Mixed.{mixed, mixed_keeps};
-
-    ghost start = { mixed };
-
-    fn start(op: &Op, _unsettled: u32) -> Start {
-        match *op {
-            Op::Read { register: _ } => Start::Cast,
-            Op::Write {
-                register: _,
-                value: _,
-            } => Start::CastAndAnswer,
-        }
-    }
-
-    ghost lawful = { mixed_keeps };
-}
-
-fn id(number: u32) -> OpId {
-    OpId { process: 0, number }
-}
+use reg_world::{Event, World};
 
 #[test]
 fn reads_of_the_mixed_front_end_see_own_writes(rt: HostRuntime) {
     let events = [
         Event::Call {
             process: 0,
-            op: WRITE,
+            op: WRITE_FIVE,
         },
         Event::Call {
             process: 0,
@@ -69,26 +40,28 @@ fn reads_of_the_mixed_front_end_see_own_writes(rt: HostRuntime) {
     let history = [
         Entry::Called {
             at: 0,
-            id: id(0),
-            op: WRITE,
+            id: id(0, 0),
+            op: WRITE_FIVE,
         },
         Entry::Answered {
             at: 0,
-            id: id(0),
+            id: id(0, 0),
             answer: Answer::Done,
         },
         Entry::Called {
             at: 1,
-            id: id(1),
+            id: id(0, 1),
             op: READ,
         },
         Entry::Answered {
             at: 3,
-            id: id(1),
+            id: id(0, 1),
             answer: Answer::Value(5),
         },
     ];
     assert!(rt; world.history().entries() == history.as_slice());
-    assert!(rt; world.witness().expect(&rt, "memory").as_slice() == [id(0), id(1)].as_slice());
+    assert!(rt;
+        world.witness().expect(&rt, "memory").as_slice() == [id(0, 0), id(0, 1)].as_slice()
+    );
     assert_eq!(rt; world.order().len(), 2);
 }

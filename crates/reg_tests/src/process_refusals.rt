@@ -1,20 +1,20 @@
 //! Each growth refused in turn: an event answers want of memory and stops the process, or it answers as ever.
-use crate::{Outcome, Process, ProcessFault, Reply, Step};
 use refusing::Refusing;
 use reg_base::{Answer, Op, Shape};
 use reg_frames::{Body, Frame};
 use reg_front::{FrontEnd, LocalWrite};
+use reg_process::{Outcome, Process, ProcessFault, Reply, Step};
 use std::alloc::Allocator;
-
-const WRITE: Op = Op::Write {
-    register: 0,
-    value: 5,
-};
 
 const CAST: Frame = Frame::Numbered {
     number: 0,
-    body: Body::Cast { time: 1, op: WRITE },
+    body: Body::Cast {
+        time: 1,
+        op: WRITE_FIVE,
+    },
 };
+
+use crate::values::WRITE_FIVE;
 
 const ACK: Frame = Frame::Numbered {
     number: 1,
@@ -22,7 +22,7 @@ const ACK: Frame = Frame::Numbered {
 };
 
 const STEPS: [Step; 7] = [
-    Step::Call { op: WRITE },
+    Step::Call { op: WRITE_FIVE },
     Step::Tick,
     Step::Call {
         op: Op::Read { register: 0 },

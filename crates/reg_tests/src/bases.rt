@@ -1,5 +1,5 @@
 //! Shapes, clocks, registers and names, as worked by hand.
-use crate::{
+use reg_base::{
     Answer, Clock, ClockFull, Names, NamesFault, Op, Registers, Shape, ShapeFault, Stamp, is_name,
 };
 use std::alloc::Global;

@@ -1,9 +1,9 @@
 //! A plain list of the witness, by a scan of all reads for each place, beside the merged one on pseudo-random runs.
-use crate::{Event, World};
 use reg_base::{Op, OpId, Shape};
 use reg_frames::{Body, Frame};
 use reg_front::{FrontEnd, Linear, LocalRead, LocalWrite};
 use reg_history::{Entry, check_points, check_serial};
+use reg_world::{Event, World};
 use std::alloc::{AllocError, Global};
 use std::process::Abort;
 

@@ -1,6 +1,6 @@
 //! The commands as a user meets them, on reports and schedules worked by hand.
-use crate::{Command, run_text};
 use refusing::Refusing;
+use reg_commands::{Command, run_text};
 use std::alloc::Global;
 use std::io;
 use std::io::{ErrorKind, Read, Write};

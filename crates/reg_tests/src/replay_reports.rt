@@ -1,7 +1,7 @@
 //! Schedules and their reports, worked by hand. Each report is judged too.
-use crate::Command;
-use crate::replay_tests::ONE_PROCESS_SCHEDULE;
-use crate::tests::{ONE_PROCESS, demand, demand_each_growth};
+use crate::checks::{ONE_PROCESS, demand, demand_each_growth};
+use crate::replays::ONE_PROCESS_SCHEDULE;
+use reg_commands::Command;
 
 /// A schedule and its report.
 struct Row {

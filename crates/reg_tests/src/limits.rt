@@ -1,14 +1,10 @@
 //! The limits of a run.
-use crate::{Event, World, WorldFault};
+use crate::values::WRITE_FIVE;
 use reg_base::limits::{MOST_EVENTS, MOST_OPERATIONS};
 use reg_base::{Op, Shape};
 use reg_front::Linear;
+use reg_world::{Event, World, WorldFault};
 use std::process::Abort;
-
-const WRITE: Op = Op::Write {
-    register: 0,
-    value: 5,
-};
 
 fn shape_of(rt: &impl Abort, processes: u32) -> Shape {
     Shape::new(processes, 1).expect(rt, "a shape")
@@ -30,7 +26,7 @@ fn a_process_calls_so_many_operations(rt: HostRuntime) {
     let mut world = World::<Linear>::new(rt.alloc(), shape_of(&rt, 1)).expect(&rt, "memory");
     let call = Event::Call {
         process: 0,
-        op: WRITE,
+        op: WRITE_FIVE,
     };
     for _i in 0..MOST_OPERATIONS {
         world.step(&call).expect(&rt, "accepted");

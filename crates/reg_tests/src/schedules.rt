@@ -1,7 +1,7 @@
-use crate::{ScheduleFault, parse_schedule};
 use reg_base::Op;
 use reg_front::Front;
 use reg_text::Why;
+use reg_workload::{ScheduleFault, parse_schedule};
 use reg_world::Event;
 use std::test::Fail;
 

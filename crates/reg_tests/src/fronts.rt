@@ -1,6 +1,6 @@
 //! What the tables say.
-use crate::{Front, FrontEnd, Linear, LocalRead, LocalWrite, Start};
 use reg_base::Op;
+use reg_front::{Front, FrontEnd, Linear, LocalRead, LocalWrite, Start};
 
 const READ: Op = Op::Read { register: 0 };
 

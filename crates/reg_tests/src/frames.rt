@@ -1,6 +1,7 @@
 //! Frames and their bytes, as worked by hand.
-use crate::{Body, Frame, FrameFault, decode, encode};
+use crate::values::cast;
 use reg_base::Op;
+use reg_frames::{Body, Frame, FrameFault, decode, encode};
 use std::process::Abort;
 
 const WRITE: [u8; 32] = [
@@ -17,11 +18,6 @@ const ACK: [u8; 21] = [
 const READ: [u8; 24] = [
     0, 0x16, 1, 1, 0, 0, 0, 0, 0, 0, 0, 0, 1, 0, 0, 0, 0, 0, 0, 0, 1, 1, 0, 0,
 ];
-
-fn cast(number: u64, time: u64, op: Op) -> Frame {
-    let body = Body::Cast { time, op };
-    Frame::Numbered { number, body }
-}
 
 fn write_of_five() -> Frame {
     let (register, value) = (0, 5);

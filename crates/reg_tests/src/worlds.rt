@@ -1,17 +1,12 @@
 //! Runs as worked by hand: histories, orders, points, copies and wires.
-use crate::{Event, RunFault, World, WorldFault};
+use crate::values::{READ, ack, answered, called, cast, id, point, write_of};
 use reg_base::{Answer, Op, OpId, Shape};
 use reg_frames::{Body, Frame};
 use reg_front::{FrontEnd, Linear, LocalRead, LocalWrite};
 use reg_history::{Entry, Point};
+use reg_world::{Event, RunFault, World, WorldFault};
 use std::alloc::Global;
 use std::process::Abort;
-
-const READ: Op = Op::Read { register: 0 };
-
-fn write_of(value: u64) -> Op {
-    Op::Write { register: 0, value }
-}
 
 fn write(process: u8, value: u64) -> Event {
     let op = write_of(value);
@@ -24,18 +19,6 @@ fn read(process: u8) -> Event {
 
 fn take(from: u8, to: u8, number: u32) -> Event {
     Event::Take { from, to, number }
-}
-
-fn id(process: u8, number: u32) -> OpId {
-    OpId { process, number }
-}
-
-fn called(at: u32, id: OpId, op: Op) -> Entry {
-    Entry::Called { at, id, op }
-}
-
-fn answered(at: u32, id: OpId, answer: Answer) -> Entry {
-    Entry::Answered { at, id, answer }
 }
 
 fn shape_of(rt: &impl Abort, processes: u32) -> Shape {
@@ -52,13 +35,6 @@ fn is_order<F: FrontEnd>(world: &World<F>, order: &[Point]) -> bool {
     firsts.len() == order.len()
         && firsts.iter().zip(order).all(|(first, point)| first.id == point.id
             && first.at == point.at)
-}
-
-fn point(process: u8, number: u32, at: u32) -> Point {
-    Point {
-        id: id(process, number),
-        at,
-    }
 }
 
 fn is_witness<F: FrontEnd>(rt: &impl Abort, world: &World<F>, ids: &[OpId]) -> bool {
@@ -85,21 +61,6 @@ fn is_wire<F: FrontEnd>(
     frames: &[Frame],
 ) -> bool {
     world.wire(from, to).expect(rt, "a wire") == frames
-}
-
-fn cast(number: u64, time: u64, value: u64) -> Frame {
-    let op = write_of(value);
-    Frame::Numbered {
-        number,
-        body: Body::Cast { time, op },
-    }
-}
-
-fn ack(number: u64, time: u64) -> Frame {
-    Frame::Numbered {
-        number,
-        body: Body::Ack { time },
-    }
 }
 
 #[test]
@@ -283,7 +244,11 @@ fn a_tick_puts_the_frames_again(rt: HostRuntime) {
             &world,
             0,
             1,
-            &[cast(0, 1, 5), cast(0, 1, 5), Frame::Got { count: 1 }]
+            &[
+                cast(0, 1, write_of(5)),
+                cast(0, 1, write_of(5)),
+                Frame::Got { count: 1 }
+            ]
         )
     );
     assert!(rt; are_points(&rt, &world, &[point(0, 0, 2)]));
@@ -302,7 +267,7 @@ fn a_tick_puts_the_first_sixteen_again(rt: HostRuntime) {
     assert_eq!(rt; wire.len(), 33);
     for (i, frame) in wire.iter().enumerate() {
         let number = if i < 17 { i as u64 } else { i as u64 - 17 };
-        assert!(rt; *frame == cast(number, number.saturating_add(1), 1));
+        assert!(rt; *frame == cast(number, number.saturating_add(1), write_of(1)));
     }
 }
 

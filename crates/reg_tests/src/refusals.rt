@@ -1,8 +1,8 @@
 //! Each growth refused in turn: a world answers want of memory, stops and keeps what it told before, or it answers as ever.
-use crate::{Event, World, WorldFault};
 use refusing::Refusing;
 use reg_base::{Op, OpId, Shape};
 use reg_front::LocalWrite;
+use reg_world::{Event, World, WorldFault};
 use std::alloc::{Allocator, Global};
 use std::process::Abort;
 

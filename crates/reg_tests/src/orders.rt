@@ -1,27 +1,9 @@
 //! Histories and their orders, as worked by hand.
-use crate::{CheckFault, Entry, History, HistoryFault, Point, check_points, check_serial};
+use crate::values::{READ, WRITE_FIVE, answered, called, id, point};
 use reg_base::{Answer, Op, OpId, Shape};
+use reg_history::{CheckFault, Entry, History, HistoryFault, Point, check_points, check_serial};
 use std::alloc::Global;
 use std::process::Abort;
-
-const WRITE_FIVE: Op = Op::Write {
-    register: 0,
-    value: 5,
-};
-
-const READ: Op = Op::Read { register: 0 };
-
-fn id(process: u8, number: u32) -> OpId {
-    OpId { process, number }
-}
-
-fn called(at: u32, id: OpId, op: Op) -> Entry {
-    Entry::Called { at, id, op }
-}
-
-fn answered(at: u32, id: OpId, answer: Answer) -> Entry {
-    Entry::Answered { at, id, answer }
-}
 
 fn history_of(rt: &impl Abort, alloc: Global, processes: u32, entries: &[Entry]) -> History {
     let shape = Shape::new(processes, 1).expect(rt, "a shape");
@@ -47,13 +29,6 @@ fn stale_read(rt: &impl Abort, alloc: Global) -> History {
     )
 }
 
-fn point(process: u8, at: u32) -> Point {
-    Point {
-        id: id(process, 0),
-        at,
-    }
-}
-
 #[test]
 fn a_stale_read_is_serial_and_has_no_points(rt: HostRuntime) {
     let alloc = rt.alloc();
@@ -72,11 +47,11 @@ fn a_stale_read_is_serial_and_has_no_points(rt: HostRuntime) {
         check_serial(alloc, &history, &[q, p, p]),
         Err(CheckFault::Twice)
     );
-    let falls = check_points(alloc, &history, &[point(1, 5), point(0, 4)]);
+    let falls = check_points(alloc, &history, &[point(1, 0, 5), point(0, 0, 4)]);
     assert_eq!(rt; falls, Err(CheckFault::Falling { place: 1 }));
-    let outside = check_points(alloc, &history, &[point(1, 4), point(0, 4)]);
+    let outside = check_points(alloc, &history, &[point(1, 0, 4), point(0, 0, 4)]);
     assert_eq!(rt; outside, Err(CheckFault::Outside { place: 0 }));
-    let answer = check_points(alloc, &history, &[point(0, 4), point(1, 5)]);
+    let answer = check_points(alloc, &history, &[point(0, 0, 4), point(1, 0, 5)]);
     assert_eq!(rt; answer, Err(CheckFault::Answer { place: 1 }));
 }
 

@@ -1,8 +1,8 @@
 //! A worked example of both ends, and of the links of one process together.
-use crate::{Ahead, Inbox, LinkFault, Outbox, Outboxes};
 use refusing::Refusing;
 use reg_base::limits::FRAME_NUMBERS;
 use reg_frames::{Body, Frame};
+use reg_links::{Ahead, Inbox, LinkFault, Outbox, Outboxes};
 
 const TWO: Body = Body::Ack { time: 2 };
 

@@ -1,7 +1,8 @@
-use crate::{
+use crate::values::id;
+use reg_base::{Answer, Names, Op, OpId, Shape};
+use reg_history::{
     Entry, History, Point, ReadFault, ReadWhy, Report, ReportFault, read_report, write_report,
 };
-use reg_base::{Answer, Names, Op, OpId, Shape};
 use std::process::Abort;
 use std::test::Fail;
 
@@ -15,15 +16,11 @@ fn fault(line: u64, why: ReadWhy) -> Option<ReadFault> {
     Some(ReadFault::Line { line, why })
 }
 
-fn id(number: u32) -> OpId {
-    OpId { process: 0, number }
-}
-
 fn entries() -> [Entry; 4] {
     [
         Entry::Called {
             at: 0,
-            id: id(0),
+            id: id(0, 0),
             op: Op::Write {
                 register: 0,
                 value: 5,
@@ -31,24 +28,33 @@ fn entries() -> [Entry; 4] {
         },
         Entry::Answered {
             at: 0,
-            id: id(0),
+            id: id(0, 0),
             answer: Answer::Done,
         },
         Entry::Called {
             at: 1,
-            id: id(1),
+            id: id(0, 1),
             op: Op::Read { register: 0 },
         },
         Entry::Answered {
             at: 1,
-            id: id(1),
+            id: id(0, 1),
             answer: Answer::Value(5),
         },
     ]
 }
 
 fn points() -> [Point; 2] {
-    [Point { id: id(0), at: 0 }, Point { id: id(1), at: 1 }]
+    [
+        Point {
+            id: id(0, 0),
+            at: 0,
+        },
+        Point {
+            id: id(0, 1),
+            at: 1,
+        },
+    ]
 }
 
 fn made(
@@ -77,11 +83,11 @@ fn made(
 
 #[test]
 fn a_report_is_written(rt: HostRuntime) -> Result<(), Fail> {
-    let report = made(&rt, "linear", &["x"], &[id(0), id(1)], &points())??;
+    let report = made(&rt, "linear", &["x"], &[id(0, 0), id(0, 1)], &points())??;
     assert_eq!(rt; report.front(), "linear");
     assert_eq!(rt; report.names().count(), 1);
     assert_eq!(rt; report.history().entries(), entries().as_slice());
-    assert_eq!(rt; report.order(), [id(0), id(1)].as_slice());
+    assert_eq!(rt; report.order(), [id(0, 0), id(0, 1)].as_slice());
     assert_eq!(rt; report.points(), Some(points().as_slice()));
     let mut out = Vec::new(rt.alloc());
     write_report(&mut out, &report)?;
@@ -96,7 +102,7 @@ fn parts_that_are_no_report_are_refused(rt: HostRuntime) -> Result<(), Fail> {
         number: 0,
     }];
     let late = [Point {
-        id: id(0),
+        id: id(0, 0),
         at: 1_048_576,
     }];
     assert_eq!(rt;
@@ -116,7 +122,7 @@ fn parts_that_are_no_report_are_refused(rt: HostRuntime) -> Result<(), Fail> {
         Some(ReportFault::Range)
     );
     assert_eq!(rt;
-        made(&rt, "linear", &["x"], &[id(65_535)], &[])?.err(),
+        made(&rt, "linear", &["x"], &[id(0, 65_535)], &[])?.err(),
         Some(ReportFault::Range)
     );
     assert_eq!(rt;
@@ -124,7 +130,7 @@ fn parts_that_are_no_report_are_refused(rt: HostRuntime) -> Result<(), Fail> {
         Some(ReportFault::Range)
     );
     assert!(rt; made(&rt, "a-word-of-sixteen", &["x"], &[], &[])?.is_err());
-    assert!(rt; made(&rt, "another-word-too", &["x"], &[id(65_534)], &[])?.is_ok());
+    assert!(rt; made(&rt, "another-word-too", &["x"], &[id(0, 65_534)], &[])?.is_ok());
     Ok(())
 }
 

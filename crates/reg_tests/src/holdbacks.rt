@@ -1,9 +1,9 @@
 //! Worked examples, and a plain list beside the queue.
 ghost use Rattle.std.specs.Prelude.{◌≡◌};
 
-use crate::{HoldFault, Holdback};
 use refusing::Refusing;
 use reg_base::{Op, Shape, Stamp};
+use reg_holdback::{HoldFault, Holdback};
 use std::alloc::AllocError;
 
 const WRITE: Op = Op::Write {

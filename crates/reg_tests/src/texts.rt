@@ -1,10 +1,10 @@
 //! Lines, parts of lines and operations as text, as the formats have them.
-use crate::{
+use refusing::Refusing;
+use reg_base::{Names, Op};
+use reg_text::{
     Lines, OpLine, TextFault, Why, expect_line, field_within, in_front, is_numeral, left_field,
     name_of_op, numeral, op_form, read_count, read_names, read_op, right_field, why_number, within,
 };
-use refusing::Refusing;
-use reg_base::{Names, Op};
 use std::test::Fail;
 
 const MOST: u64 = 18_446_744_073_709_551_615;

@@ -1,0 +1,24 @@
+//! A front end of a user's own.
+use reg_base::Op;
+use reg_front::{FrontEnd, Start};
+
+/// It answers its writes at once, and casts its reads.
+pub struct Mixed;
+
+impl FrontEnd for Mixed {
+    ghost use Rattle.reg_tests.specs.Mixed.{mixed, mixed_keeps};
+
+    ghost start = { mixed };
+
+    fn start(op: &Op, _unsettled: u32) -> Start {
+        match *op {
+            Op::Read { register: _ } => Start::Cast,
+            Op::Write {
+                register: _,
+                value: _,
+            } => Start::CastAndAnswer,
+        }
+    }
+
+    ghost lawful = { mixed_keeps };
+}
