@@ -1,5 +1,5 @@
 -- Numerals of few digits.
-use Rattle.std.proofs.Common.{ℕ, ◌≡◌, ◌+◌, ◌-◌, ◌*◌, ◌<◌, ◌≤◌, ◌^◌, List, [], ◌∷◌, length, take, get_or, sym, ap, ◌∙◌, subst, arith, rules}
+use Rattle.std.proofs.Common.{◌++◌, ◌==◌, not, true, drop, refl, slice_index_or, ℕ, ◌≡◌, ◌+◌, ◌-◌, ◌*◌, ◌<◌, ◌≤◌, ◌^◌, List, [], ◌∷◌, length, take, get_or, sym, ap, ◌∙◌, subst, arith, rules}
 use borrow.Author.Count.{below_more}
 use Rattle.std.proofs.lemmas.List.{length-take-le, get_or-take, take_all}
 use Rattle.std.specs.Fmt.{decimal}
@@ -10,6 +10,9 @@ use Rattle.std.proofs.lemmas.Fmt.{digits_decimal, digits_value-decimal, decimal-
 use Rattle.std.proofs.lemmas.Int.Digits.{digits_value_more}
 use Rattle.std.proofs.lemmas.Str.Parse.{IsNumeralModel, numerals_by_value, tells_by_index, digits_value_short}
 use Rattle.reg_text.specs.Plain.{IsPlain}
+use Rattle.reg_text.specs.Parts.{Lacks}
+use Rattle.reg_text.proofs.NamesLack.{both_true}
+use Rattle.std.specs.List.{list_all}
 
 abbrev pub AreDigits : List ℕ → Type 0
 AreDigits ds = (i : ℕ) → i < length ds → IsInRange 48 57 (get_or ds i 0)
@@ -67,3 +70,23 @@ pub one_digit : (b n : ℕ) → n < 2 ^ 64 → b ∷ [] ≡ decimal n → IsInRa
 one_digit b n small e =
     let here : IsInRange 48 57 b = digit_there (b ∷ []) 0 n (omega arith) small e in
     (here, one_number (b ∷ []) (b - 48) n (digit_read b here) small e)
+
+abbrev pub OneBefore : List ℕ → List ℕ → List ℕ → Type 0
+OneBefore bs ds rest = (slice_index_or bs 0 0 ∷ [] ≡ ds) × (drop 2 bs ≡ rest)
+
+one_of : (m : ℕ) (ds rest : List ℕ) → 0 < length ds → Lacks m ds → slice_index_or (ds ++ m ∷ rest) 1 0 ≡ m → OneBefore (ds ++ m ∷ rest) ds rest
+one_of m [] rest some h e = absurd (omega (arith, some))
+one_of m (d ∷ []) rest some h e = (refl, refl)
+one_of m (d ∷ f ∷ ds) rest some h e =
+    let both = both_true (not (d == m)) (list_all (λ c. not (c == m)) (f ∷ ds)) h in
+    let more = both_true (not (f == m)) (list_all (λ c. not (c == m)) ds) both.1 in
+    let here : f ≡ m = e in
+    let other : not (f == m) ≡ true = more.0 in
+    let wrong : ⊥ = search (rules, here, other) in
+    absurd wrong
+
+-- a mark at the second place: what lacks it in front is one byte
+pub one_before : (m : ℕ) (bs ds rest : List ℕ) → 0 < length ds → Lacks m ds → slice_index_or bs 1 0 ≡ m → bs ≡ ds ++ m ∷ rest → OneBefore bs ds rest
+one_before m bs ds rest some h e same =
+    let P : List ℕ → Type 0 = λ l. slice_index_or l 1 0 ≡ m → OneBefore l ds rest in
+    subst P (sym same) (one_of m ds rest some h) e

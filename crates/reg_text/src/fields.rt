@@ -13,6 +13,7 @@ use std::str;
 /// Numerals of no more digits have 64 bits.
 const SHORT: usize = 19;
 
+#[inline]
 fn is_plain(bytes: &[u8]) -> bool
     ensures { IsTrue result ↔ IsPlain bytes.now }
 {
@@ -38,6 +39,7 @@ fn parsed(bytes: &[u8]) -> Option<u64>
 }
 
 /// The same of so few bytes that the number fits, with no test of that.
+#[inline]
 fn parsed_short(bytes: &[u8]) -> Option<u64>
     requires plain { IsPlain bytes.now }
     requires short { length bytes.now ≤ SHORT }
@@ -55,7 +57,8 @@ fn parsed_short(bytes: &[u8]) -> Option<u64>
 }
 
 /// The number that one digit stands for.
-fn digit(byte: u8) -> Option<u64>
+#[inline]
+pub(crate) fn digit(byte: u8) -> Option<u64>
     ensures read { IfSome result (λ n. (byte ∷ [] ≡ decimal n) × (n < 2 ^ 64)) }
     ensures whole { (n : ℕ) → n < 2 ^ 64 → byte ∷ [] ≡ decimal n → result ≡ Some n }
 {

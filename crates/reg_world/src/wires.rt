@@ -1,5 +1,5 @@
 //! The wires of one process.
-ghost use Rattle.std.specs.Prelude.{◌≡◌, ◌<◌, ◌≤◌, ◌++◌, ◌∷◌, [], length, replicate, IfOk, OnOk, slice_set, slice_index_or};
+ghost use Rattle.std.specs.Prelude.{◌≡◌, ◌<◌, ◌≤◌, ◌++◌, ◌∷◌, [], length, replicate, IfOk, OnOk, OnErr, slice_set, slice_index_or};
 ghost use Rattle.reg_base.specs.Order.{In};
 ghost use Rattle.reg_process.specs.declared.outcomes.Put.{Put};
 ghost use Rattle.reg_world.specs.Stations.{sent};
@@ -9,6 +9,37 @@ use reg_frames::Frame;
 use reg_process::Put;
 use std::alloc::{AllocError, Allocator, Global};
 use std::marker::Model;
+
+/// A list of fewer frames grows to twice its room.
+const SHORT: usize = 256;
+
+/// A longer one grows by at least so many.
+const MANY: usize = 4096;
+
+/// Makes room for a frame more. Growing a list can copy its frames, while room that isn't used costs next to nothing: so a
+/// list that isn't short gets much at once. Nothing else changes.
+fn make_room<A: Allocator + Copy>(frames: &mut Vec<Frame, A>) -> Result<(), AllocError>
+    ensures { frames.new.items ≡ frames.old.items }
+{
+    if frames.len() < SHORT {
+        frames.reserve(1)
+    } else {
+        frames.reserve(MANY)
+    }
+}
+
+/// Puts a frame at the end.
+#[inline(always)]
+fn push<A: Allocator + Copy>(frames: &mut Vec<Frame, A>, frame: Frame) -> Result<(), AllocError>
+    ensures put { OnOk result (frames.new.items ≡ frames.old.items ++ frame ∷ []) }
+    ensures kept { OnErr result (frames.new.items ≡ frames.old.items) }
+{
+    if frames.len() == frames.capacity() {
+        make_room(frames)?;
+    }
+    frames.push(frame)?;
+    Ok(())
+}
 
 /// What is kept of a wire: how many of the common frames it has, or all of its frames once they differ from those.
 #[derive(Drop)]
@@ -70,11 +101,11 @@ impl<A: Allocator + Copy> Wire<A> {
         ensures shared { self.new.shared ≤ length common.new.items }
     {
         if !self.own.is_empty() {
-            self.own.push(frame)?;
+            push(&mut self.own, frame)?;
             return Ok(());
         }
         if self.shared == common.len() {
-            common.push(frame)?;
+            push(common, frame)?;
             self.shared = common.len();
             return Ok(());
         }
