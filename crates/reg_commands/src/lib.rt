@@ -5,7 +5,9 @@ mod checking;
 mod command;
 mod faults;
 mod input;
+mod playing;
 mod replaying;
+mod reporting;
 mod running;
 mod verdicts;
 
@@ -13,6 +15,8 @@ pub use command::Command;
 pub use faults::Fault;
 pub use running::run_text;
 
+#[cfg(test)]
+mod play_tests;
 #[cfg(test)]
 mod replay_tests;
 #[cfg(test)]
