@@ -188,7 +188,9 @@ budget = 400
 
 /// The report of its seeded play by each front end.
 const BY_FRONT: [(&str, &str); 3] = [
-    ("front = \"linear\"\n", "awreg report 1
+    (
+        "front = \"linear\"\n",
+        "awreg report 1
 front linear
 processes 3
 registers x y
@@ -216,8 +218,11 @@ p0 #0 at 49
 p1 #1 at 70
 p2 #1 at 184
 end
-"),
-    ("front = \"local-read\"\n", "awreg report 1
+",
+    ),
+    (
+        "front = \"local-read\"\n",
+        "awreg report 1
 front local-read
 processes 3
 registers x y
@@ -242,8 +247,11 @@ p0 #1
 p2 #1
 p1 #1
 end
-"),
-    ("front = \"local-write\"\n", "awreg report 1
+",
+    ),
+    (
+        "front = \"local-write\"\n",
+        "awreg report 1
 front local-write
 processes 3
 registers x y
@@ -268,7 +276,8 @@ p1 #0
 p1 #1
 p2 #1
 end
-"),
+",
+    ),
 ];
 
 /// Demands the report of a play, and that it is judged well.
