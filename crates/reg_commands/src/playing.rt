@@ -1,5 +1,5 @@
 //! The command that plays a workload and prints the report of what happened.
-ghost use Rattle.std.specs.Prelude.{◌≡◌, ◌≢◌, ◌⊎◌, IfOk, IfErr};
+ghost use Rattle.std.specs.Prelude.{◌≡◌, ◌≢◌, ◌⊎◌, Bool, IfOk, IfErr};
 ghost use Rattle.reg_toml.specs.declared.faults.WorkloadFault.TheVariants.{OutOfMemory};
 ghost use Rattle.reg_toml.specs.Loads.{Load};
 ghost use Rattle.reg_commands.specs.Answers.{Blames};
