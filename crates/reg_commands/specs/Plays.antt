@@ -15,7 +15,7 @@ use Rattle.reg_toml.specs.Judged.{IsFault}
 use Rattle.reg_workload.specs.Schedules.{Plan}
 use Rattle.reg_workload.specs.Plays.{IsPlay}
 use Rattle.reg_workload.specs.Fair.{TakesInOrder}
-use Rattle.reg_commands.specs.Replays.{start_of, plan_in, Shows, ShowsPoints, PointsOf}
+use Rattle.reg_commands.specs.Replays.{start_of, plan_in, Shows, PointsOf}
 
 -- the text is a document whose table says this workload
 pub record Holds (text : List ℕ) (work : Load) : Type 0 where
