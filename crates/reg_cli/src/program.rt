@@ -33,7 +33,8 @@ where
     let Ok(mut writer) = BufWriter::new(rt.alloc(), io::writer(rt)) else {
         return Err(WordsFault::OutOfMemory);
     };
-    Ok(run_text(rt.alloc(), command, &mut reader, &mut writer, errors))
+    let (alloc, global) = (rt.alloc(), rt.alloc());
+    Ok(run_text(alloc, global, command, &mut reader, &mut writer, errors))
 }
 
 /// Does what the words of the command line ask for, and gives the exit status: 0, or 1 where something was refused or

@@ -5,6 +5,7 @@ ghost use Rattle.reg_cli.specs.declared.words.WordsFault.TheVariants.{OutOfMemor
 ghost use Rattle.reg_cli.specs.Words.{words_fault};
 
 use clap::error::ErrorKind;
+use clap::{Arg, ArgAction};
 use reg_commands::Command;
 use std::alloc::{AllocError, Global};
 
@@ -38,9 +39,13 @@ impl From<clap::Error> for WordsFault {
 
 /// The program's command line, with a subcommand for each command.
 fn command_line<'a>(alloc: Global) -> Result<clap::Command<'a>, AllocError> {
+    let fair = Arg::new(alloc, "fair")
+        .long("fair")
+        .action(ArgAction::SetTrue);
     clap::Command::new(alloc, "awreg")
         .subcommand(clap::Command::new(alloc, "replay"))?
-        .subcommand(clap::Command::new(alloc, "check"))
+        .subcommand(clap::Command::new(alloc, "check"))?
+        .subcommand(clap::Command::new(alloc, "play").arg(fair)?)
 }
 
 /// What the words ask for. The first word is the program's name. Help, version texts, a line without a command and
@@ -55,6 +60,9 @@ pub fn choose<'a>(alloc: Global, words: &'a [String]) -> Result<Command, WordsFa
     match matches.subcommand() {
         Some(("replay", _)) => Ok(Command::Replay),
         Some(("check", _)) => Ok(Command::Check),
+        Some(("play", play)) => Ok(Command::Play {
+            fair: play.get_flag("fair"),
+        }),
         _ => Err(WordsFault::CommandLine),
     }
 }

@@ -15,7 +15,13 @@ fn words_of(rt: &impl Abort, alloc: Global, line: &str) -> Vec<String> {
 #[test]
 fn exactly_the_command_lines_are_taken(rt: HostRuntime) {
     let alloc = rt.alloc();
-    for (line, command) in [("replay", Command::Replay), ("check", Command::Check)] {
+    let taken = [
+        ("replay", Command::Replay),
+        ("check", Command::Check),
+        ("play", Command::Play { fair: false }),
+        ("play --fair", Command::Play { fair: true }),
+    ];
+    for (line, command) in taken {
         let words = words_of(&rt, alloc, line);
         assert_eq!(rt; choose(alloc, words.as_slice()), Ok(command), "{line}");
     }
@@ -40,8 +46,17 @@ fn exactly_the_command_lines_are_taken(rt: HostRuntime) {
         "replay -",
         "-",
         "check x",
-        "play",
-        "play --fair",
+        "--fair",
+        "--fair play",
+        "replay --fair",
+        "play fair",
+        "play --fai",
+        "play --fair --fair",
+        "play --fair=true",
+        "play --fair true",
+        "play -f",
+        "play --",
+        "play --help",
         "live",
     ];
     for line in refused {

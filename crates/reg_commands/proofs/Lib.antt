@@ -2,6 +2,7 @@ pub mod Gathered
 pub mod Blamed
 pub mod Told
 pub mod Shown
+pub mod Played
 pub mod FirstRefused
 pub mod WithinReport
 pub mod AtEvents

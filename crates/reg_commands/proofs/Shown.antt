@@ -15,7 +15,7 @@ use Rattle.reg_world.specs.Worlds.{Made, run_in, after_events}
 use Rattle.reg_workload.specs.Schedules.{Plan}
 use Rattle.reg_commands.specs.declared.faults.Fault.{Fault}
 use Rattle.reg_commands.specs.declared.faults.Fault.TheVariants.{OutOfMemory}
-use Rattle.reg_commands.specs.Replays.{Shows, ShowsPoints, BlamesRun}
+use Rattle.reg_commands.specs.Replays.{plan_in, Shows, ShowsPoints, BlamesRun}
 
 -- what the world tells of its run
 pub record Told (start : Op → ℕ → Start) (w : Made) (history : Log) (ids : List OpId) : Type 0 where
@@ -25,11 +25,11 @@ pub record Told (start : Op → ℕ → Start) (w : Made) (history : Log) (ids :
   pub order : IsWitness (run_of w.registers (run_in start w)) ids
 
 -- the report of these parts
-abbrev pub parts_of : Plan → Log → List OpId → Option (List Point) → Contents
-parts_of p history ids points = record { front = front_name p.front; shape = history.shape; names = p.names; entries = history.entries; order = ids; points = points }
+abbrev pub parts_of : Front → List (List ℕ) → Log → List OpId → Option (List Point) → Contents
+parts_of front names history ids points = record { front = front_name front; shape = history.shape; names = names; entries = history.entries; order = ids; points = points }
 
-one_shows : (start : Op → ℕ → Start) (p : Plan) (history : Log) (ids : List OpId) (points : Option (List Point)) → Told start (after_events p.shape p.events) history ids → Shows start p (parts_of p history ids points)
-one_shows start p history ids points told = record {
+one_shows : (start : Op → ℕ → Start) (front : Front) (names : List (List ℕ)) (w : Made) (history : Log) (ids : List OpId) (points : Option (List Point)) → Told start w history ids → Shows start (plan_in front names w) (parts_of front names history ids points)
+one_shows start front names w history ids points told = record {
   accepted = told.accepted;
   front = refl;
   shape = told.shape;
@@ -38,24 +38,27 @@ one_shows start p history ids points told = record {
   order = told.order;
 }
 
-pub shows : {E : Type 0} (start : Op → ℕ → Start) (p : Plan) (w : Made) (history : Log) (ids : List OpId) (points : Option (List Point)) (report : Result Contents E) → w ≡ after_events p.shape p.events
-    → Told start w history ids → IfOk report (λ r. r ≡ parts_of p history ids points) → IfOk report (λ r. Shows start p r)
-shows start p w history ids points (Ok r) is told made =
-    subst (λ (x : Contents). Shows start p x) (sym made) (one_shows start p history ids points (subst (λ (x : Made). Told start x history ids) is told))
-shows start p w history ids points (Err e) is told made = tt
+pub shows : {E : Type 0} (start : Op → ℕ → Start) (front : Front) (names : List (List ℕ)) (w : Made) (history : Log) (ids : List OpId) (points : Option (List Point)) (report : Result Contents E) → Told start w history ids
+    → IfOk report (λ r. r ≡ parts_of front names history ids points) → IfOk report (λ r. Shows start (plan_in front names w) r)
+shows start front names w history ids points (Ok r) told made =
+    subst (λ (x : Contents). Shows start (plan_in front names w) x) (sym made) (one_shows start front names w history ids points told)
+shows start front names w history ids points (Err e) told made = tt
 
-pub shows_points : {E : Type 0} (start : Op → ℕ → Start) (p : Plan) (w : Made) (history : Log) (ids : List OpId) (ps : List Point) (report : Result Contents E) → w ≡ after_events p.shape p.events
-    → ArePoints (run_of w.registers (run_in start w)) ps → IfOk report (λ r. r ≡ parts_of p history ids (Some ps)) → IfOk report (λ r. ShowsPoints start p r.points)
-shows_points start p w history ids ps (Ok r) is are made =
-    subst (λ (x : Contents). ShowsPoints start p x.points) (sym made) (subst (λ (x : Made). ArePoints (run_of x.registers (run_in start x)) ps) is are)
-shows_points start p w history ids ps (Err e) is are made = tt
+pub shows_points : {E : Type 0} (start : Op → ℕ → Start) (front : Front) (names : List (List ℕ)) (w : Made) (history : Log) (ids : List OpId) (ps : List Point) (report : Result Contents E)
+    → ArePoints (run_of w.registers (run_in start w)) ps → IfOk report (λ r. r ≡ parts_of front names history ids (Some ps)) → IfOk report (λ r. ShowsPoints start (plan_in front names w) r.points)
+shows_points start front names w history ids ps (Ok r) are made =
+    subst (λ (x : Contents). ShowsPoints start (plan_in front names w) x.points) (sym made) are
+shows_points start front names w history ids ps (Err e) are made = tt
 
--- the same, with the front end and the names at hand
-pub made_as : {E : Type 0} (p : Plan) (front : Front) (names : List (List ℕ)) (history : Log) (ids : List OpId) (points : Option (List Point)) (report : Result Contents E) → names ≡ p.names → front ≡ p.front
-    → IfOk report (λ r. r ≡ record { front = front_name front; shape = history.shape; names = names; entries = history.entries; order = ids; points = points }) → IfOk report (λ r. r ≡ parts_of p history ids points)
-made_as p front names history ids points report same_names same_front made =
-    subst (λ (n : List (List ℕ)). IfOk report (λ r. r ≡ record { front = front_name p.front; shape = history.shape; names = n; entries = history.entries; order = ids; points = points })) same_names
-    (subst (λ (f : Front). IfOk report (λ r. r ≡ record { front = front_name f; shape = history.shape; names = names; entries = history.entries; order = ids; points = points })) same_front made)
+-- a run of the events of a plan, under its front end and its names, is that plan
+pub same_plan : (p : Plan) (front : Front) (names : List (List ℕ)) (w : Made) → w ≡ after_events p.shape p.events → names ≡ p.names → front ≡ p.front → plan_in front names w ≡ p
+same_plan p front names w is same_names same_front = rw (is, same_names, same_front) refl
+
+pub shows_same : {E : Type 0} (start : Op → ℕ → Start) (p q : Plan) (report : Result Contents E) → p ≡ q → IfOk report (λ r. Shows start p r) → IfOk report (λ r. Shows start q r)
+shows_same start p q report same shown = subst (λ (x : Plan). IfOk report (λ r. Shows start x r)) same shown
+
+pub points_same : {E : Type 0} (start : Op → ℕ → Start) (p q : Plan) (report : Result Contents E) → p ≡ q → IfOk report (λ r. ShowsPoints start p r.points) → IfOk report (λ r. ShowsPoints start q r.points)
+points_same start p q report same shown = subst (λ (x : Plan). IfOk report (λ r. ShowsPoints start x r.points)) same shown
 
 pub no_points : {E : Type 0} (parts : Contents) (report : Result Contents E) → parts.points ≡ None → IfOk report (λ r. r ≡ parts) → IfOk report (λ r. r.points ≡ None)
 no_points parts (Ok r) none made = ap (λ (q : Contents). q.points) made ∙ none

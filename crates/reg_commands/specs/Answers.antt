@@ -5,13 +5,16 @@ use Rattle.std.specs.Io.KnownBytes.{Appends}
 use Rattle.reg_base.specs.declared.limits.TheConstants.{LONGEST_INPUT}
 use Rattle.reg_history.specs.Reports.{Contents, IsReport, IsTextOf, report_text}
 use Rattle.reg_commands.specs.declared.command.Command.{Command}
-use Rattle.reg_commands.specs.declared.command.Command.TheVariants.{Replay, Check}
+use Rattle.reg_commands.specs.declared.command.Command.TheVariants.{Replay, Check, Play}
 use Rattle.reg_commands.specs.declared.faults.Fault.{Fault}
-use Rattle.reg_commands.specs.declared.faults.Fault.TheVariants.{Unread, TooLong, NotText, Output, Line, Event, OutOfMemory}
+use Rattle.reg_commands.specs.declared.faults.Fault.TheVariants.{Unread, TooLong, NotText, Output, Line, Event, Workload, OutOfMemory}
 use Rattle.reg_commands.specs.declared.verdicts.Verdicts.{Verdicts}
 use Rattle.reg_world.specs.declared.faults.WorldFault.{WorldFault}
+use Rattle.reg_toml.specs.declared.faults.WorkloadFault.{WorkloadFault}
+use Rattle.reg_toml.specs.Loads.{Load}
 use Rattle.reg_workload.specs.Schedules.{Plan, IsPlan, Spells}
 use Rattle.reg_commands.specs.Replays.{start_of, run_by, Replays, RefusesAt}
+use Rattle.reg_commands.specs.Plays.{Holds, RefusesDocument, Plays}
 use Rattle.reg_commands.specs.Verdicts.{Judges, all_yes, verdicts_text}
 
 -- The text is that of a report, these are its verdicts, and they were written.
@@ -28,21 +31,31 @@ pub record Checks (agrees : Bool) (old new : Option (List ℕ)) (text : List ℕ
 abbrev pub Answers : Command → Bool → Option (List ℕ) → Option (List ℕ) → List ℕ → Type 0
 Answers Replay agrees old new text = (agrees ≡ true) × Replays old new text
 Answers Check agrees old new text = Checks agrees old new text
+Answers (Play fair) agrees old new text = (agrees ≡ true) × Plays fair old new text
 
--- the text is none of those that the command reads
+-- the text is none of those that the command reads, as a line shows; no line of a document is named
 abbrev pub IsRefused : Command → List ℕ → Type 0
 IsRefused Replay text = (p : Plan) → IsPlan p → ¬ Spells text p
 IsRefused Check text = (r : Contents) → IsReport r → ¬ IsTextOf text (report_text r)
+IsRefused (Play fair) text = ⊥
 
 -- the text's events are refused at this one, for this cause
 abbrev pub IsRefusedAt : Command → ℕ → WorldFault → List ℕ → Type 0
 IsRefusedAt Replay at fault text = RefusesAt at fault text
 IsRefusedAt Check at fault text = ⊥
+IsRefusedAt (Play fair) at fault text = ⊥
 
--- The text is one that the command accepts: that of a report, or of a plan all of whose events are accepted.
+-- the text says no workload, for this reason
+abbrev pub IsRefusedFor : Command → WorkloadFault → List ℕ → Type 0
+IsRefusedFor Replay fault text = ⊥
+IsRefusedFor Check fault text = ⊥
+IsRefusedFor (Play fair) fault text = RefusesDocument text fault
+
+-- The text is one that the command accepts: that of a report, of a plan all of whose events are accepted, or of a workload.
 abbrev pub IsAccepted : Command → List ℕ → Type 0
 IsAccepted Replay text = (p : Plan) × IsPlan p × Spells text p × ((run_by (start_of p.front) p).accepted ≡ p.events)
 IsAccepted Check text = (r : Contents) × IsReport r × IsTextOf text (report_text r)
+IsAccepted (Play fair) text = (work : Load) × Holds text work
 
 -- what a fault says of the input; that the output failed is told only of what is accepted
 abbrev pub Blames : Command → Fault → List ℕ → Type 0
@@ -52,4 +65,5 @@ Blames command NotText xs = ¬ (IsUtf8 xs)
 Blames command Output xs = IsAccepted command xs
 Blames command (Line line why) xs = IsRefused command xs
 Blames command (Event at fault) xs = IsRefusedAt command at fault xs
+Blames command (Workload fault) xs = IsRefusedFor command fault xs
 Blames command OutOfMemory xs = ⊤

@@ -1,4 +1,5 @@
 pub mod Input
 pub mod Verdicts
 pub mod Replays
+pub mod Plays
 pub mod Answers

@@ -16,6 +16,7 @@ use Rattle.reg_world.specs.World.{World, run_of, whole, fault_of}
 use Rattle.reg_world.specs.declared.events.Event.{Event}
 use Rattle.reg_world.specs.declared.faults.WorldFault.{WorldFault}
 use Rattle.reg_world.specs.Keys.{IsWitness, ArePoints}
+use Rattle.reg_world.specs.Worlds.{Made}
 use Rattle.reg_workload.specs.Schedules.{Plan, IsPlan, Spells}
 use Rattle.reg_commands.specs.declared.faults.Fault.{Fault}
 use Rattle.reg_commands.specs.declared.faults.Fault.TheVariants.{Event as EventFault, OutOfMemory}
@@ -29,6 +30,10 @@ start_of LocalWrite = local_write
 -- the run of a plan's events
 abbrev pub run_by : (Op → ℕ → Start) → Plan → World
 run_by start p = whole start p.shape.processes p.shape.registers p.events
+
+-- what a world did as a plan, under a front end and names
+abbrev pub plan_in : Front → List (List ℕ) → Made → Plan
+plan_in front names w = record { shape = record { processes = w.processes; registers = w.registers }; names = names; front = front; events = w.accepted }
 
 -- All events of a plan are accepted, and this is the report of the run: its history and its witness, under the plan's front
 -- end and names.

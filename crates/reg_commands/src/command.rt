@@ -7,4 +7,9 @@ pub enum Command {
     Replay,
     /// Judges a report from its text alone.
     Check,
+    /// Plays a workload and prints the report of what happened.
+    Play {
+        /// Whether the play is the fair one. Else the words of the workload's seed make its choices.
+        fair: bool,
+    },
 }

@@ -1,6 +1,7 @@
 //! Why a command gives no answer.
 use crate::input::InputFault;
 use reg_history::ReadWhy;
+use reg_workload::WorkloadFault;
 use reg_world::WorldFault;
 use thiserror::Error;
 
@@ -19,6 +20,8 @@ pub enum Fault {
     Line { line: u64, why: ReadWhy },
     #[error("event {at}: {}", cause(.fault))]
     Event { at: usize, fault: WorldFault },
+    #[error("{fault}")]
+    Workload { fault: WorkloadFault },
     #[error("out of memory")]
     OutOfMemory,
 }

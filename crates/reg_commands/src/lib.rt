@@ -5,7 +5,9 @@ mod checking;
 mod command;
 mod faults;
 mod input;
+mod playing;
 mod replaying;
+mod reporting;
 mod running;
 mod verdicts;
 

@@ -1,27 +1,19 @@
 //! The command that runs a schedule and prints the report of the run.
-ghost use Rattle.std.specs.Prelude.{◌≡◌, ◌≢◌, ◌≤◌, ℕ, Some, None, IfOk, IfErr, length, option_map};
-ghost use Rattle.reg_base.specs.declared.limits.TheConstants.{LAST_EVENT, MOST_PROCESSES};
-ghost use Rattle.reg_front.specs.Table.{front_name};
-ghost use Rattle.reg_history.specs.History.{IsAt};
-ghost use Rattle.reg_history.specs.Log.{IsLog};
-ghost use Rattle.reg_history.specs.Orders.{IsSerial};
-ghost use Rattle.reg_history.specs.Reports.{Contents};
-ghost use Rattle.reg_world.specs.declared.order.First.{First};
-ghost use Rattle.reg_world.specs.Keys.{ArePoints};
-ghost use Rattle.reg_world.specs.World.{run_of};
-ghost use Rattle.reg_world.specs.Worlds.{run_in, after_events};
+ghost use Rattle.std.specs.Prelude.{◌≡◌, ◌≢◌, None, IfOk, IfErr};
+ghost use Rattle.reg_world.specs.Worlds.{after_events};
 ghost use Rattle.reg_workload.specs.Schedules.{Plan, IsPlan, Spells};
 ghost use Rattle.reg_commands.specs.Answers.{Blames};
-ghost use Rattle.reg_commands.specs.Replays.{start_of, Shows, ShowsPoints, PointsStand, IsReportOf, Replays, BlamesRun};
+ghost use Rattle.reg_commands.specs.Replays.{start_of, Shows, ShowsPoints, IsReportOf, Replays, BlamesRun};
 
 use crate::command::Command;
 use crate::faults::Fault;
-use reg_base::{Names, OpId};
+use crate::reporting::{report_run, report_run_with_points};
+use reg_base::Names;
 use reg_front::{Front, FrontEnd, Linear, LocalRead, LocalWrite, RealTime};
-use reg_history::{History, Point, ReadWhy, Report, write_report};
+use reg_history::{ReadWhy, Report, write_report};
 use reg_workload::{Schedule, ScheduleFault, parse_schedule};
 use reg_world::{RunFault, World, WorldFault};
-use std::alloc::{AllocError, Allocator};
+use std::alloc::Allocator;
 use std::io::Write;
 
 fn read<A: Allocator + Copy>(alloc: A, text: &str) -> Result<Schedule<A>, Fault>
@@ -75,41 +67,6 @@ fn run<F: FrontEnd, A: Allocator + Copy>(
     }
 }
 
-// Each entry of a history is in place. It does nothing: its contract says so.
-fn in_place<A: Allocator + Copy>(history: &History<A>)
-    ensures { IsLog history.now }
-{
-    history.entries();
-}
-
-/// The report of these parts, under this front end and these names. Serial orders and point orders are
-/// within the limits of a report, so it is refused for want of memory alone.
-fn report<A: Allocator + Copy>(
-    alloc: A,
-    front: Front,
-    names: Names<A>,
-    history: History<A>,
-    order: Vec<OpId, A>,
-    points: Option<Vec<Point, A>>,
-) -> Result<Report<A>, Fault>
-    requires few { history.shape.processes ≤ MOST_PROCESSES }
-    requires names { history.shape.registers ≡ length names }
-    requires order { IsSerial history.shape.registers history.entries order.items }
-    requires points { PointsStand history.shape.registers history.entries (option_map (λ v. v.items) points) }
-    ensures made { let parts : Contents = record { front = front_name front; shape = history.shape; names = names; entries = history.entries; order = order.items; points = option_map (λ v. v.items) points } in
-        IfOk result (λ r. r ≡ parts) }
-    ensures why { IfErr result (λ f. f ≡ Fault.OutOfMemory) }
-{
-    let Ok(front) = String::from_str(alloc, front.name()) else {
-        return Err(Fault::OutOfMemory);
-    };
-    in_place(&history);
-    match Report::new(front, names, history, order, points) {
-        Ok(report) => Ok(report),
-        Err(_) => unreachable!(),
-    }
-}
-
 /// The report of a schedule's run, with no points.
 fn report_of<F: FrontEnd, A: Allocator + Copy>(
     alloc: A,
@@ -125,30 +82,7 @@ fn report_of<F: FrontEnd, A: Allocator + Copy>(
         names,
         front,
     } = run::<F, A>(alloc, schedule)?;
-    let Ok(order) = world.witness() else {
-        return Err(Fault::OutOfMemory);
-    };
-    report(alloc, front, names, world.into_history(), order, None)
-}
-
-// Each first delivery is at an event that a run may have. It does nothing: its contract says so.
-fn firsts_at_events<F: FrontEnd, A: Allocator + Copy>(world: &World<F, A>)
-    ensures { (k : ℕ) (f : First) → IsAt (run_in F.start world.now).order k f → f.at ≤ LAST_EVENT }
-{
-    world.order();
-    world.accepted();
-    world.events();
-}
-
-/// The points of a run.
-fn points_of<F: RealTime, A: Allocator + Copy>(
-    world: &World<F, A>,
-) -> Result<Vec<Point, A>, AllocError>
-    ensures first { IfOk result (λ v. ArePoints (run_of world.now.registers (run_in F.start world.now)) v.items) }
-    ensures stand { IfOk result (λ v. PointsStand world.now.registers (run_in F.start world.now).history (Some v.items)) }
-{
-    firsts_at_events(world);
-    world.points()
+    report_run(alloc, front, names, world)
 }
 
 /// The report of a schedule's run, with its points.
@@ -166,20 +100,7 @@ fn report_with_points<F: RealTime, A: Allocator + Copy>(
         names,
         front,
     } = run::<F, A>(alloc, schedule)?;
-    let Ok(order) = world.witness() else {
-        return Err(Fault::OutOfMemory);
-    };
-    let Ok(points) = points_of(&world) else {
-        return Err(Fault::OutOfMemory);
-    };
-    report(
-        alloc,
-        front,
-        names,
-        world.into_history(),
-        order,
-        Some(points),
-    )
+    report_run_with_points(alloc, front, names, world)
 }
 
 /// The report of a schedule's run, by its front end.

@@ -7,9 +7,10 @@ use crate::checking::check;
 use crate::command::Command;
 use crate::faults::Fault;
 use crate::input::{InputFault, read_text};
+use crate::playing::play;
 use crate::replaying::replay;
 use reg_base::limits::LONGEST_INPUT;
-use std::alloc::Allocator;
+use std::alloc::{Allocator, Global};
 use std::io::{Read, Write};
 
 fn read<A: Allocator, R: Read>(
@@ -32,6 +33,7 @@ fn read<A: Allocator, R: Read>(
 
 fn answer<A: Allocator + Copy, W: Write>(
     alloc: A,
+    global: Global,
     command: Command,
     text: &str,
     writer: &mut W,
@@ -46,11 +48,16 @@ fn answer<A: Allocator + Copy, W: Write>(
             Err(fault) => Err(fault),
         },
         Command::Check => check(alloc, text, writer),
+        Command::Play { fair } => match play(alloc, global, text, fair, writer) {
+            Ok(()) => Ok(true),
+            Err(fault) => Err(fault),
+        },
     }
 }
 
 fn obey<A: Allocator + Copy, R: Read, W: Write>(
     alloc: A,
+    global: Global,
     command: Command,
     reader: &mut R,
     writer: &mut W,
@@ -60,14 +67,15 @@ fn obey<A: Allocator + Copy, R: Read, W: Write>(
     ensures silent { IfErr result (λ f. f ≢ Fault.Output → writer.new ≡ writer.old) }
 {
     let text = read(alloc, command, reader)?;
-    answer(alloc, command, text.as_str(), writer)
+    answer(alloc, global, command, text.as_str(), writer)
 }
 
 /// Runs a command: it reads the whole input, and writes once all of it is accepted. The answer is the status: 0, or 1
 /// where the answer is a no or something was refused, with one line on `errors` in the second case. That `errors`
-/// fails changes no status.
+/// fails changes no status. The table of a workload is kept in the global heap, all else in the other one.
 pub fn run_text<A: Allocator + Copy, R: Read, W: Write, E: Write>(
     alloc: A,
+    global: Global,
     command: Command,
     reader: &mut R,
     writer: &mut W,
@@ -79,7 +87,7 @@ pub fn run_text<A: Allocator + Copy, R: Read, W: Write, E: Write>(
         ⊎ ((f : Fault) × IfSome (R.remaining reader.old) (Blames command f) × (f ≢ Fault.Output → writer.new ≡ writer.old)) }
     ensures quiet { result ≡ 0 → errors.new ≡ errors.old }
 {
-    match obey(alloc, command, reader, writer) {
+    match obey(alloc, global, command, reader, writer) {
         Ok(true) => 0,
         Ok(false) => 1,
         Err(fault) => {

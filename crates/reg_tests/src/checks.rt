@@ -73,7 +73,14 @@ pub(crate) fn demand(
     let mut reader = input;
     let mut written = Vec::new(alloc);
     let mut errors = Vec::new(alloc);
-    let got = run_text(alloc, command, &mut reader, &mut written, &mut errors);
+    let got = run_text(
+        alloc,
+        alloc,
+        command,
+        &mut reader,
+        &mut written,
+        &mut errors,
+    );
     assert_eq!(rt; errors.as_slice(), faults.as_bytes());
     assert_eq!(rt; written.as_slice(), output.as_bytes());
     assert_eq!(rt; got, status);
@@ -253,7 +260,15 @@ pub(crate) fn demand_failing_streams(
         let mut reader = FailingReader { bytes, before };
         let mut written = Vec::new(alloc);
         let mut errors = Vec::new(alloc);
-        if run_text(alloc, command, &mut reader, &mut written, &mut errors) == 0 {
+        if run_text(
+            alloc,
+            alloc,
+            command,
+            &mut reader,
+            &mut written,
+            &mut errors,
+        ) == 0
+        {
             assert_eq!(rt; written.as_slice(), output.as_bytes());
             break;
         }
@@ -268,7 +283,7 @@ pub(crate) fn demand_failing_streams(
         let taken = Vec::new(alloc);
         let mut writer = FailingWriter { taken, before };
         let mut errors = Vec::new(alloc);
-        if run_text(alloc, command, &mut reader, &mut writer, &mut errors) == 0 {
+        if run_text(alloc, alloc, command, &mut reader, &mut writer, &mut errors) == 0 {
             assert_eq!(rt; writer.taken.as_slice(), output.as_bytes());
             break;
         }
@@ -292,7 +307,14 @@ pub(crate) fn demand_each_growth(
         let mut reader = input.as_bytes();
         let mut written = Vec::new(alloc);
         let mut errors = Vec::new(alloc);
-        let status = run_text(&heap, command, &mut reader, &mut written, &mut errors);
+        let status = run_text(
+            &heap,
+            alloc,
+            command,
+            &mut reader,
+            &mut written,
+            &mut errors,
+        );
         if status == 0 {
             assert_eq!(rt; written.as_slice(), output.as_bytes());
             if heap.is_waiting() {
@@ -315,6 +337,7 @@ fn a_check_with_failing_streams(rt: HostRuntime) {
     let mut written = Vec::new(rt.alloc());
     let mut errors = Vec::new(rt.alloc());
     let status = run_text(
+        rt.alloc(),
         rt.alloc(),
         Command::Check,
         &mut Endless,

@@ -27,6 +27,8 @@ mod orders;
 #[cfg(test)]
 mod owned;
 #[cfg(test)]
+mod play_reports;
+#[cfg(test)]
 mod plays;
 #[cfg(test)]
 mod process_refusals;

@@ -294,7 +294,7 @@ end
 ];
 
 /// The verdict on a report, by the front end that it names.
-fn verdict_on(report: &str) -> &'static str {
+pub(crate) fn verdict_on(report: &str) -> &'static str {
     if report.starts_with("awreg report 1\nfront linear\n") {
         "serial yes\npoints yes\n"
     } else {

@@ -1,18 +1,13 @@
-use Rattle.std.proofs.Common.{◌≡◌, Some, subst}
-use Rattle.reg_world.specs.Worlds.{Made, run_in}
-use Rattle.reg_commands.proofs.Shown.{memory_blames, made_as, shows, shows_points}
+use Rattle.reg_commands.proofs.Shown.{memory_blames, points_same, same_plan, shows_same}
 use Rattle.reg_commands.proofs.replaying.report_with_points.Goals as goal
 
 pub returns-clause-shows : goal.returns-clause-shows
 returns-clause-shows g c =
-    let P : Made → Type 0 = λ w. (run_in g.F.FrontEnd.start w).accepted ≡ w.accepted in
-    shows g.F.FrontEnd.start c.args.schedule c.in_ok-world.field-0.world c.into_history.result c.in-Ok.order.items (Some c.in-Ok-points_of.points.items) c.report.result c.in_ok-world.ensures.ran
-    (record { accepted = subst P c.world.view_is c.world.invariant.tells.accepted; shape = c.into_history.ensures.shape; entries = c.into_history.ensures.entries; order = c.in-Ok.ensures.keyed })
-    (made_as c.args.schedule c.in_ok-world.field-0.front c.in_ok-world.field-0.names c.into_history.result c.in-Ok.order.items (Some c.in-Ok-points_of.points.items) c.report.result c.in_ok-world.ensures.names c.in_ok-world.ensures.front c.report.ensures.made)
+    shows_same g.F.FrontEnd.start _ c.args.schedule c.report_run_with_points.result (same_plan c.args.schedule c.in_ok-world.field-0.front c.in_ok-world.field-0.names c.in_ok-world.field-0.world c.in_ok-world.ensures.ran c.in_ok-world.ensures.names c.in_ok-world.ensures.front) c.report_run_with_points.ensures.shows
 
 pub returns-clause-points : goal.returns-clause-points
 returns-clause-points g c =
-    shows_points g.F.FrontEnd.start c.args.schedule c.in_ok-world.field-0.world c.into_history.result c.in-Ok.order.items c.in-Ok-points_of.points.items c.report.result c.in_ok-world.ensures.ran c.in-Ok-points_of.ensures.first (made_as c.args.schedule c.in_ok-world.field-0.front c.in_ok-world.field-0.names c.into_history.result c.in-Ok.order.items (Some c.in-Ok-points_of.points.items) c.report.result c.in_ok-world.ensures.names c.in_ok-world.ensures.front c.report.ensures.made)
+    points_same g.F.FrontEnd.start _ c.args.schedule c.report_run_with_points.result (same_plan c.args.schedule c.in_ok-world.field-0.front c.in_ok-world.field-0.names c.in_ok-world.field-0.world c.in_ok-world.ensures.ran c.in_ok-world.ensures.names c.in_ok-world.ensures.front) c.report_run_with_points.ensures.points
 
 pub returns-clause-why : goal.returns-clause-why
-returns-clause-why g c = memory_blames g.F.FrontEnd.start c.args.schedule c.report.result c.report.ensures.why
+returns-clause-why g c = memory_blames g.F.FrontEnd.start c.args.schedule c.report_run_with_points.result c.report_run_with_points.ensures.why

@@ -1,6 +1,6 @@
 use Rattle.std.proofs.Common.{◌∙◌}
 use Rattle.reg_commands.proofs.WithinReport.{never_refused}
-use Rattle.reg_commands.proofs.replaying.report.Goals as goal
+use Rattle.reg_commands.proofs.reporting.report.Goals as goal
 
 pub unreachable-requires : goal.unreachable-requires
 unreachable-requires g c =

@@ -1,0 +1,138 @@
+//! The command that plays a workload and prints the report of what happened.
+ghost use Rattle.std.specs.Prelude.{◌≡◌, ◌≢◌, ◌⊎◌, Bool, IfOk, IfErr};
+ghost use Rattle.reg_toml.specs.declared.faults.WorkloadFault.TheVariants.{OutOfMemory};
+ghost use Rattle.reg_toml.specs.Loads.{Load};
+ghost use Rattle.reg_commands.specs.Answers.{Blames};
+ghost use Rattle.reg_commands.specs.Replays.{ShowsPoints};
+ghost use Rattle.reg_commands.specs.Plays.{Holds, RefusesDocument, IsPlayBy, ShowsPlay, HasNoPoints, IsReportOfPlay, Plays};
+
+use crate::command::Command;
+use crate::faults::Fault;
+use crate::reporting::{report_run, report_run_with_points};
+use reg_front::{Front, FrontEnd, Linear, LocalRead, LocalWrite, RealTime};
+use reg_history::{Report, write_report};
+use reg_workload::{Play, SeedWords, Workload, WorkloadFault, play_fair, play_seeded, read_table};
+use std::alloc::{AllocError, Allocator, Global};
+use std::io::Write;
+
+/// The workload that a document says. Its table is kept in the global heap, where `toml` keeps it.
+fn workload_in<A: Allocator + Copy>(
+    alloc: A,
+    global: Global,
+    text: &str,
+) -> Result<Workload<A>, WorkloadFault>
+    ensures read { IfOk result (λ w. Holds text.now w) }
+    ensures why { IfErr result (λ e. (e ≡ OutOfMemory) ⊎ RefusesDocument text.now e) }
+{
+    match read_table(global, text) {
+        Ok(table) => Workload::from_table(alloc, &table),
+        Err(fault) => Err(fault),
+    }
+}
+
+fn read<A: Allocator + Copy>(alloc: A, global: Global, text: &str) -> Result<Workload<A>, Fault>
+    ensures read { IfOk result (λ w. Holds text.now w) }
+    ensures why { IfErr result (λ f. (fair : Bool) → Blames (Command.Play fair) f text.now) }
+    ensures kind { IfErr result (λ f. (f ≢ Fault.Output) × (f ≢ Fault.Unread)) }
+{
+    match workload_in(alloc, global, text) {
+        Ok(work) => Ok(work),
+        Err(WorkloadFault::OutOfMemory) => Err(Fault::OutOfMemory),
+        Err(fault) => Err(Fault::Workload { fault }),
+    }
+}
+
+/// Plays a workload, fairly or as the words of its seed say.
+fn play_by<F: FrontEnd, A: Allocator + Copy>(
+    alloc: A,
+    work: &Workload<A>,
+    fair: bool,
+) -> Result<Play<F, A>, AllocError>
+    ensures { IfOk result (λ p. IsPlayBy fair F.start work.now p.world p.finished) }
+{
+    if fair {
+        play_fair(alloc, work)
+    } else {
+        play_seeded(alloc, work, SeedWords::new(work.seed))
+    }
+}
+
+/// The report of a play, with no points.
+fn report_of<F: FrontEnd, A: Allocator + Copy>(
+    alloc: A,
+    work: Workload<A>,
+    fair: bool,
+) -> Result<Report<A>, Fault>
+    ensures shows { IfOk result (λ r. ShowsPlay fair F.start work HasNoPoints r) }
+    ensures why { IfErr result (λ f. f ≡ Fault.OutOfMemory) }
+{
+    let Ok(play) = play_by::<F, A>(alloc, &work, fair) else {
+        return Err(Fault::OutOfMemory);
+    };
+    report_run(alloc, work.front, work.names, play.world)
+}
+
+/// The report of a play, with its points.
+fn report_with_points<F: RealTime, A: Allocator + Copy>(
+    alloc: A,
+    work: Workload<A>,
+    fair: bool,
+) -> Result<Report<A>, Fault>
+    ensures shows { IfOk result (λ r. ShowsPlay fair F.start work (ShowsPoints F.start) r) }
+    ensures why { IfErr result (λ f. f ≡ Fault.OutOfMemory) }
+{
+    let Ok(play) = play_by::<F, A>(alloc, &work, fair) else {
+        return Err(Fault::OutOfMemory);
+    };
+    report_run_with_points(alloc, work.front, work.names, play.world)
+}
+
+/// The report of a play, by the front end of its workload.
+fn play_workload<A: Allocator + Copy>(
+    alloc: A,
+    work: Workload<A>,
+    fair: bool,
+) -> Result<Report<A>, Fault>
+    ensures ok { IfOk result (λ r. IsReportOfPlay fair work r) }
+    ensures why { IfErr result (λ f. f ≡ Fault.OutOfMemory) }
+{
+    match work.front {
+        Front::Linear => report_with_points::<Linear, A>(alloc, work, fair),
+        Front::LocalRead => report_of::<LocalRead, A>(alloc, work, fair),
+        Front::LocalWrite => report_of::<LocalWrite, A>(alloc, work, fair),
+    }
+}
+
+fn played<A: Allocator + Copy>(
+    alloc: A,
+    global: Global,
+    text: &str,
+    fair: bool,
+) -> Result<Report<A>, Fault>
+    ensures ok { IfOk result (λ r. (work : Load) × Holds text.now work × IsReportOfPlay fair work r) }
+    ensures why { IfErr result (λ f. Blames (Command.Play fair) f text.now) }
+    ensures kind { IfErr result (λ f. (f ≢ Fault.Output) × (f ≢ Fault.Unread)) }
+{
+    let work = read(alloc, global, text)?;
+    play_workload(alloc, work, fair)
+}
+
+/// Reads a workload, plays it, and writes the report of what happened.
+pub fn play<A: Allocator + Copy, W: Write>(
+    alloc: A,
+    global: Global,
+    text: &str,
+    fair: bool,
+    writer: &mut W,
+) -> Result<(), Fault>
+    ensures ok { IfOk result (λ _. Plays fair (W.contents writer.old) (W.contents writer.new) text.now) }
+    ensures why { IfErr result (λ f. Blames (Command.Play fair) f text.now) }
+    ensures silent { IfErr result (λ f. f ≢ Fault.Output → writer.new ≡ writer.old) }
+    ensures kind { IfErr result (λ f. f ≢ Fault.Unread) }
+{
+    let report = played(alloc, global, text, fair)?;
+    if write_report(writer, &report).is_err() || writer.flush().is_err() {
+        return Err(Fault::Output);
+    }
+    Ok(())
+}

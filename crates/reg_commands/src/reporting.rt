@@ -1,0 +1,121 @@
+//! The report of a run.
+ghost use Rattle.std.specs.Prelude.{◌≡◌, ◌≤◌, ℕ, Some, None, IfOk, IfErr, length, option_map};
+ghost use Rattle.reg_base.specs.declared.limits.TheConstants.{LAST_EVENT, MOST_PROCESSES};
+ghost use Rattle.reg_front.specs.Table.{front_name};
+ghost use Rattle.reg_history.specs.History.{IsAt};
+ghost use Rattle.reg_history.specs.Log.{IsLog};
+ghost use Rattle.reg_history.specs.Orders.{IsSerial};
+ghost use Rattle.reg_history.specs.Reports.{Contents};
+ghost use Rattle.reg_world.specs.declared.order.First.{First};
+ghost use Rattle.reg_world.specs.Keys.{ArePoints};
+ghost use Rattle.reg_world.specs.World.{run_of};
+ghost use Rattle.reg_world.specs.Worlds.{run_in};
+ghost use Rattle.reg_commands.specs.Replays.{plan_in, Shows, ShowsPoints, PointsStand};
+
+use crate::faults::Fault;
+use reg_base::{Names, OpId};
+use reg_front::{Front, FrontEnd, RealTime};
+use reg_history::{History, Point, Report};
+use reg_world::World;
+use std::alloc::{AllocError, Allocator};
+
+// Each entry of a history is in place. It does nothing: its contract says so.
+fn in_place<A: Allocator + Copy>(history: &History<A>)
+    ensures { IsLog history.now }
+{
+    history.entries();
+}
+
+/// The report of these parts, under this front end and these names. Serial orders and point orders are
+/// within the limits of a report, so it is refused for want of memory alone.
+fn report<A: Allocator + Copy>(
+    alloc: A,
+    front: Front,
+    names: Names<A>,
+    history: History<A>,
+    order: Vec<OpId, A>,
+    points: Option<Vec<Point, A>>,
+) -> Result<Report<A>, Fault>
+    requires few { history.shape.processes ≤ MOST_PROCESSES }
+    requires names { history.shape.registers ≡ length names }
+    requires order { IsSerial history.shape.registers history.entries order.items }
+    requires points { PointsStand history.shape.registers history.entries (option_map (λ v. v.items) points) }
+    ensures made { let parts : Contents = record { front = front_name front; shape = history.shape; names = names; entries = history.entries; order = order.items; points = option_map (λ v. v.items) points } in
+        IfOk result (λ r. r ≡ parts) }
+    ensures why { IfErr result (λ f. f ≡ Fault.OutOfMemory) }
+{
+    let Ok(front) = String::from_str(alloc, front.name()) else {
+        return Err(Fault::OutOfMemory);
+    };
+    in_place(&history);
+    match Report::new(front, names, history, order, points) {
+        Ok(report) => Ok(report),
+        Err(_) => unreachable!(),
+    }
+}
+
+/// The report of what a world did, under this front end and these names, with no points.
+pub fn report_run<F: FrontEnd, A: Allocator + Copy>(
+    alloc: A,
+    front: Front,
+    names: Names<A>,
+    world: World<F, A>,
+) -> Result<Report<A>, Fault>
+    requires { world.registers ≡ length names }
+    ensures shows { IfOk result (λ r. Shows F.start (plan_in front names world) r) }
+    ensures points { IfOk result (λ r. r.points ≡ None) }
+    ensures why { IfErr result (λ f. f ≡ Fault.OutOfMemory) }
+{
+    let Ok(order) = world.witness() else {
+        return Err(Fault::OutOfMemory);
+    };
+    report(alloc, front, names, world.into_history(), order, None)
+}
+
+// Each first delivery is at an event that a run may have. It does nothing: its contract says so.
+fn firsts_at_events<F: FrontEnd, A: Allocator + Copy>(world: &World<F, A>)
+    ensures { (k : ℕ) (f : First) → IsAt (run_in F.start world.now).order k f → f.at ≤ LAST_EVENT }
+{
+    world.order();
+    world.accepted();
+    world.events();
+}
+
+/// The points of a run.
+fn points_of<F: RealTime, A: Allocator + Copy>(
+    world: &World<F, A>,
+) -> Result<Vec<Point, A>, AllocError>
+    ensures first { IfOk result (λ v. ArePoints (run_of world.now.registers (run_in F.start world.now)) v.items) }
+    ensures stand { IfOk result (λ v. PointsStand world.now.registers (run_in F.start world.now).history (Some v.items)) }
+{
+    firsts_at_events(world);
+    world.points()
+}
+
+/// The report of what a world did, under this front end and these names, with its points.
+pub fn report_run_with_points<F: RealTime, A: Allocator + Copy>(
+    alloc: A,
+    front: Front,
+    names: Names<A>,
+    world: World<F, A>,
+) -> Result<Report<A>, Fault>
+    requires { world.registers ≡ length names }
+    ensures shows { IfOk result (λ r. Shows F.start (plan_in front names world) r) }
+    ensures points { IfOk result (λ r. ShowsPoints F.start (plan_in front names world) r.points) }
+    ensures why { IfErr result (λ f. f ≡ Fault.OutOfMemory) }
+{
+    let Ok(order) = world.witness() else {
+        return Err(Fault::OutOfMemory);
+    };
+    let Ok(points) = points_of(&world) else {
+        return Err(Fault::OutOfMemory);
+    };
+    report(
+        alloc,
+        front,
+        names,
+        world.into_history(),
+        order,
+        Some(points),
+    )
+}

@@ -1,0 +1,357 @@
+//! Plays of workloads, with reports worked out apart from this code, and documents that are refused.
+use crate::checks::{demand, demand_each_growth, demand_failing_streams, joined};
+use crate::replay_reports::verdict_on;
+use reg_commands::Command;
+use std::alloc::Global;
+use std::process::Abort;
+
+/// A write and a read at process 0, and a read at process 1.
+const SMALL: &str =
+    "front = \"local-write\"\nregisters = [\"x\"]\nscripts = [[\"write x 5\", \"read x\"], [\"read x\"]]\n";
+
+/// How the report of its plays begins.
+const SMALL_HEAD: &str = "awreg report 1
+front local-write
+processes 2
+registers x
+";
+
+/// The rest of the report of its fair play.
+const FAIR: &str = "history 6
+       0  p0    #0       call    write x 5
+       0  p0    #0       answer  done
+       1  p1    #0       call    read x
+       1  p1    #0       answer  value 0
+       4  p0    #1       call    read x
+       5  p0    #1       answer  value 5
+order 3
+p1 #0
+p0 #0
+p0 #1
+end
+";
+
+/// The same up to the third event.
+const FAIR_THREE: &str = "history 4
+       0  p0    #0       call    write x 5
+       0  p0    #0       answer  done
+       1  p1    #0       call    read x
+       1  p1    #0       answer  value 0
+order 2
+p1 #0
+p0 #0
+end
+";
+
+/// The same of its seeded plays, by seed, where one frame of five is lost and one of five can be taken again.
+const SEEDED: [&str; 10] = [
+    "history 6
+       0  p1    #0       call    read x
+       0  p1    #0       answer  value 0
+       1  p0    #0       call    write x 5
+       1  p0    #0       answer  done
+       3  p0    #1       call    read x
+      17  p0    #1       answer  value 5
+order 3
+p1 #0
+p0 #0
+p0 #1
+end
+",
+    "history 6
+       0  p0    #0       call    write x 5
+       0  p0    #0       answer  done
+       3  p0    #1       call    read x
+       4  p1    #0       call    read x
+       4  p1    #0       answer  value 0
+       8  p0    #1       answer  value 5
+order 3
+p1 #0
+p0 #0
+p0 #1
+end
+",
+    "history 6
+       0  p0    #0       call    write x 5
+       0  p0    #0       answer  done
+       1  p1    #0       call    read x
+       1  p1    #0       answer  value 0
+       7  p0    #1       call    read x
+       9  p0    #1       answer  value 5
+order 3
+p1 #0
+p0 #0
+p0 #1
+end
+",
+    "history 6
+       0  p1    #0       call    read x
+       0  p1    #0       answer  value 0
+       1  p0    #0       call    write x 5
+       1  p0    #0       answer  done
+       7  p0    #1       call    read x
+       7  p0    #1       answer  value 5
+order 3
+p1 #0
+p0 #0
+p0 #1
+end
+",
+    "history 6
+       0  p1    #0       call    read x
+       0  p1    #0       answer  value 0
+       1  p0    #0       call    write x 5
+       1  p0    #0       answer  done
+       5  p0    #1       call    read x
+      12  p0    #1       answer  value 5
+order 3
+p1 #0
+p0 #0
+p0 #1
+end
+",
+    "history 6
+       0  p0    #0       call    write x 5
+       0  p0    #0       answer  done
+       1  p0    #1       call    read x
+       5  p1    #0       call    read x
+       5  p1    #0       answer  value 5
+      11  p0    #1       answer  value 5
+order 3
+p0 #0
+p0 #1
+p1 #0
+end
+",
+    "history 6
+       0  p0    #0       call    write x 5
+       0  p0    #0       answer  done
+       1  p0    #1       call    read x
+       3  p0    #1       answer  value 5
+      17  p1    #0       call    read x
+      17  p1    #0       answer  value 5
+order 3
+p0 #0
+p0 #1
+p1 #0
+end
+",
+    "history 6
+       0  p1    #0       call    read x
+       0  p1    #0       answer  value 0
+       1  p0    #0       call    write x 5
+       1  p0    #0       answer  done
+       2  p0    #1       call    read x
+       7  p0    #1       answer  value 5
+order 3
+p1 #0
+p0 #0
+p0 #1
+end
+",
+    "history 6
+       0  p0    #0       call    write x 5
+       0  p0    #0       answer  done
+       2  p1    #0       call    read x
+       2  p1    #0       answer  value 0
+       3  p0    #1       call    read x
+      10  p0    #1       answer  value 5
+order 3
+p1 #0
+p0 #0
+p0 #1
+end
+",
+    "history 6
+       0  p0    #0       call    write x 5
+       0  p0    #0       answer  done
+       6  p0    #1       call    read x
+      10  p1    #0       call    read x
+      10  p1    #0       answer  value 5
+      19  p0    #1       answer  value 5
+order 3
+p0 #0
+p0 #1
+p1 #0
+end
+",
+];
+
+/// Two operations of each of three processes, but for the front end.
+const THREE: &str = "registers = [\"x\", \"y\"]
+scripts = [[\"write x 1\", \"read y\"], [\"write y 2\", \"read x\"], [\"read x\", \"write x 3\"]]
+seed = 7
+loss = 10
+repeat = 10
+budget = 400
+";
+
+/// The report of its seeded play by each front end.
+const BY_FRONT: [(&str, &str); 3] = [
+    (
+        "front = \"linear\"\n",
+        "awreg report 1
+front linear
+processes 3
+registers x y
+history 10
+       0  p2    #0       call    read x
+       1  p1    #0       call    write y 2
+       7  p0    #0       call    write x 1
+      11  p1    #0       answer  done
+      21  p1    #1       call    read x
+      42  p2    #0       answer  value 0
+      43  p2    #1       call    write x 3
+      58  p0    #0       answer  done
+      64  p0    #1       call    read y
+     184  p1    #1       answer  value 1
+order 5
+p1 #0
+p2 #0
+p0 #0
+p1 #1
+p2 #1
+points 5
+p1 #0 at 6
+p2 #0 at 11
+p0 #0 at 49
+p1 #1 at 70
+p2 #1 at 184
+end
+",
+    ),
+    (
+        "front = \"local-read\"\n",
+        "awreg report 1
+front local-read
+processes 3
+registers x y
+history 12
+       0  p2    #0       call    read x
+       0  p2    #0       answer  value 0
+       1  p2    #1       call    write x 3
+       2  p0    #0       call    write x 1
+       5  p1    #0       call    write y 2
+       6  p0    #0       answer  done
+       8  p0    #1       call    read y
+       8  p0    #1       answer  value 2
+      36  p2    #1       answer  done
+      43  p1    #0       answer  done
+      62  p1    #1       call    read x
+      62  p1    #1       answer  value 3
+order 6
+p2 #0
+p0 #0
+p1 #0
+p0 #1
+p2 #1
+p1 #1
+end
+",
+    ),
+    (
+        "front = \"local-write\"\n",
+        "awreg report 1
+front local-write
+processes 3
+registers x y
+history 12
+       0  p2    #0       call    read x
+       0  p2    #0       answer  value 0
+       1  p2    #1       call    write x 3
+       1  p2    #1       answer  done
+       2  p0    #0       call    write x 1
+       2  p0    #0       answer  done
+       5  p0    #1       call    read y
+       8  p1    #0       call    write y 2
+       8  p1    #0       answer  done
+      16  p0    #1       answer  value 0
+      19  p1    #1       call    read x
+      48  p1    #1       answer  value 1
+order 6
+p2 #0
+p0 #0
+p0 #1
+p1 #0
+p1 #1
+p2 #1
+end
+",
+    ),
+];
+
+/// Demands the report of a play, and that it is judged well.
+fn demand_play(rt: &impl Abort, alloc: Global, fair: bool, document: &str, report: &str) {
+    let document = document.as_bytes();
+    demand(rt, alloc, Command::Play { fair }, document, 0, report, "");
+    let verdict = verdict_on(report);
+    demand(rt, alloc, Command::Check, report.as_bytes(), 0, verdict, "");
+}
+
+#[test]
+fn each_play_has_its_report(rt: HostRuntime) {
+    let alloc = rt.alloc();
+    for (line, tail) in [("", FAIR), ("budget = 3\n", FAIR_THREE)] {
+        let document = joined(&rt, alloc, [SMALL, line]);
+        let report = joined(&rt, alloc, [SMALL_HEAD, tail]);
+        demand_play(&rt, alloc, true, document.as_str(), report.as_str());
+    }
+    for (seed, tail) in SEEDED.iter().enumerate() {
+        let document = format!(in alloc; "{SMALL}loss = 20\nrepeat = 20\nseed = {seed}\n").expect(
+            &rt, "memory",
+        );
+        let report = joined(&rt, alloc, [SMALL_HEAD, tail]);
+        demand_play(&rt, alloc, false, document.as_str(), report.as_str());
+    }
+    for (front, report) in &BY_FRONT {
+        let document = joined(&rt, alloc, [front, THREE]);
+        demand_play(&rt, alloc, false, document.as_str(), report);
+    }
+}
+
+#[test]
+fn documents_are_refused(rt: HostRuntime) {
+    let alloc = rt.alloc();
+    let front = "front = \"linear\"\n";
+    let short = "front = \"linear\"\nregisters = [\"x\"]\n";
+    let table = [
+        ("", "", "missing front\n"),
+        (front, "", "missing registers\n"),
+        (front, "registers = [\"x", "toml\n"),
+        (SMALL, "speed = 1\n", "unknown key\n"),
+        ("front = 3\n", THREE, "kind front\n"),
+        ("front = \"other\"\n", THREE, "range front\n"),
+        (short, "scripts = []\n", "range scripts\n"),
+        (SMALL, "seed = -1\n", "range seed\n"),
+        (SMALL, "loss = 101\n", "range loss\n"),
+        (SMALL, "budget = 0\n", "range budget\n"),
+        (
+            short,
+            "scripts = [[\"read x\", \"write y 5\"]]\n",
+            "script 0 1\n",
+        ),
+    ];
+    for (head, tail, line) in table {
+        let document = joined(&rt, alloc, [head, tail]);
+        let document = document.as_bytes();
+        for fair in [true, false] {
+            demand(&rt, alloc, Command::Play { fair }, document, 1, "", line);
+        }
+    }
+    let command = Command::Play { fair: true };
+    demand(&rt, alloc, command, b"\xff", 1, "", "input: not text\n");
+}
+
+#[test]
+fn a_play_with_failing_streams(rt: HostRuntime) {
+    let report = joined(&rt, rt.alloc(), [SMALL_HEAD, FAIR]);
+    let command = Command::Play { fair: true };
+    demand_failing_streams(&rt, rt.alloc(), command, SMALL, report.as_str());
+}
+
+#[test]
+fn a_play_with_each_growth_refused(rt: HostRuntime) {
+    let report = joined(&rt, rt.alloc(), [SMALL_HEAD, FAIR]);
+    let command = Command::Play { fair: true };
+    demand_each_growth(&rt, rt.alloc(), command, SMALL, report.as_str());
+}
