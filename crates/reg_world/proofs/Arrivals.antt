@@ -32,7 +32,7 @@ use Rattle.reg_world.proofs.Bodies.{place_in, place_back, place_split, place_wit
 use Rattle.reg_world.proofs.NodeEvents.{put_same}
 use Rattle.reg_world.proofs.Replicas.{any_finds}
 use Rattle.reg_world.proofs.Members.{in_at, at_in, in_map, map_in}
-use Rattle.reg_world.proofs.Joined.{IsPastCall}
+use Rattle.reg_world.proofs.Added.{IsPastCall}
 use Rattle.reg_world.proofs.Kept.{Kept, kept, kept_moved, move_is, call_of}
 use Rattle.reg_world.proofs.Allowed.{Allowed, allowed}
 use Rattle.reg_world.proofs.Promised.{run_parts, order_right}

@@ -38,7 +38,7 @@ use Rattle.reg_base.proofs.Orders.{Decides-below, below_trans, below_irrefl, sam
 use Rattle.reg_world.proofs.Replicas.{any_found}
 use Rattle.reg_world.proofs.NodeEvents.{put_same, put_other}
 use Rattle.reg_world.proofs.Allowed.{calls_made}
-use Rattle.reg_world.proofs.Joined.{cast_found, cast_finds}
+use Rattle.reg_world.proofs.Added.{cast_found, cast_finds}
 use Rattle.reg_world.proofs.Refusals.{one_more}
 use Rattle.reg_world.proofs.Promised.{order_right, casts_right, fronts_made}
 use Rattle.reg_world.proofs.Premises.{is_run}

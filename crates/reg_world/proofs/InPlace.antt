@@ -27,7 +27,8 @@ use Rattle.reg_world.proofs.Members.{in_at, at_in}
 use Rattle.reg_world.proofs.Allowed.{StepAllowed, CallsMade, calls_made, AllAnswered}
 use Rattle.reg_world.proofs.Turns.{done_calls, StepFits, fits_at}
 use Rattle.reg_world.proofs.Times.{new_at}
-use Rattle.reg_world.proofs.Joined.{Joined, IsPastCall, IsPastAnswer, pasts_now, told_now, call_cases, answer_added, calls_now, no_answer, called_new}
+use Rattle.reg_world.proofs.Joined.{Joined, pasts_now, told_now, call_cases, answer_added, calls_now}
+use Rattle.reg_world.proofs.Added.{IsPastCall, IsPastAnswer, no_answer, called_new}
 
 later_of : (es : List Entry) (at : ℕ) → ((x : Entry) → In x es → event_of x < at) → IsLater es at
 later_of es at h = go (last_of es) refl

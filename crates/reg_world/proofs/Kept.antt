@@ -26,7 +26,8 @@ use Rattle.reg_world.proofs.History.{PastsOk, whole_pasts, history_right}
 use Rattle.reg_world.proofs.Turns.{AllPlaces, all_places, step_fits}
 use Rattle.reg_world.proofs.Named.{casts_called}
 use Rattle.reg_world.proofs.Allowed.{Allowed, allowed, AllAnswered, all_answered}
-use Rattle.reg_world.proofs.Joined.{Joined, IsPastCall, IsPastAnswer, same_op_id, joined_now}
+use Rattle.reg_world.proofs.Joined.{Joined, joined_now}
+use Rattle.reg_world.proofs.Added.{IsPastCall, IsPastAnswer, same_op_id}
 use Rattle.reg_world.proofs.InPlace.{history_now}
 
 -- what is known of the trace of a run

@@ -35,6 +35,7 @@ pub mod Wholes
 pub mod Answered
 pub mod Settled
 pub mod Theorems
+pub mod Standing
 pub mod History
 pub mod Named
 pub mod Turns
@@ -53,6 +54,7 @@ pub mod Points
 pub mod Replies
 pub mod Members
 pub mod Allowed
+pub mod Added
 pub mod Joined
 pub mod InPlace
 pub mod Kept

@@ -23,7 +23,8 @@ use Rattle.reg_world.proofs.Times.{laws_of, times_right}
 use Rattle.reg_world.proofs.Copied.{each_call}
 use Rattle.reg_world.proofs.Bodies.{place_in}
 use Rattle.reg_world.proofs.Members.{in_at, at_in, in_map, map_in}
-use Rattle.reg_world.proofs.Joined.{Joined, IsPastCall, IsPastAnswer, plain, cast_of_first}
+use Rattle.reg_world.proofs.Joined.{Joined}
+use Rattle.reg_world.proofs.Added.{IsPastCall, IsPastAnswer, plain, cast_of_first}
 use Rattle.reg_world.proofs.Kept.{call_of}
 use Rattle.reg_world.proofs.Once.{order_once}
 use Rattle.reg_world.proofs.Premises.{W, V, R, J, G, first_at, one_id, is_run}

@@ -31,7 +31,8 @@ use Rattle.reg_world.proofs.NodeLaws.{empty_inv}
 use Rattle.reg_world.proofs.Firsts.{rising_end}
 use Rattle.reg_world.proofs.Wholes.{Replicas, replicas_after}
 use Rattle.reg_world.proofs.Settled.{IsRunning, runs_after, Runs, longer}
-use Rattle.reg_world.proofs.History.{RunsAs, PastOk, PastsOk, pasts_step, own_placed}
+use Rattle.reg_world.proofs.History.{PastsOk, pasts_step}
+use Rattle.reg_world.proofs.Standing.{RunsAs, PastOk, own_placed}
 use Rattle.reg_world.proofs.Turns.{answered_one}
 use Rattle.reg_world.proofs.Allowed.{calls_made}
 

@@ -27,7 +27,8 @@ use Rattle.reg_world.proofs.Facts.{IsCastAt, IsWaiting as WaitsInTrace, memory_a
 use Rattle.reg_world.proofs.Bridge.{run_facts}
 use Rattle.reg_world.proofs.Bodies.{place_in}
 use Rattle.reg_world.proofs.Members.{in_at, at_in}
-use Rattle.reg_world.proofs.Joined.{Joined, IsPastCall, IsPastAnswer, cast_of_first, plain_casts}
+use Rattle.reg_world.proofs.Joined.{Joined}
+use Rattle.reg_world.proofs.Added.{IsPastCall, IsPastAnswer, cast_of_first, plain_casts}
 use Rattle.reg_world.proofs.Kept.{Known, known, one_stamp, trace_of, Kept, kept}
 use Rattle.reg_world.proofs.Replies.{ordered_is_run}
 use Rattle.reg_world.proofs.Grounds.{IsRun, Came, AtDelivery, AtOnce, FromCopy, IsCopyRead, IsOrdered}

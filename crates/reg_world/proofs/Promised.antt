@@ -31,7 +31,8 @@ use Rattle.reg_world.proofs.Bodies.{place_in, place_front}
 use Rattle.reg_base.proofs.Lists.{in_cases}
 use Rattle.reg_world.proofs.Worlds.{front_made, held_made}
 use Rattle.reg_world.proofs.Members.{in_at, at_in, map_in}
-use Rattle.reg_world.proofs.Joined.{Joined, cast_of_first, IsPastCall}
+use Rattle.reg_world.proofs.Joined.{Joined}
+use Rattle.reg_world.proofs.Added.{cast_of_first, IsPastCall}
 use Rattle.reg_world.proofs.Kept.{call_of}
 use Rattle.reg_world.proofs.Premises.{W, V, J, G, K, same_casts, first_at, ordered, told_reply, one_id, from_trace}
 use Rattle.reg_world.proofs.Grounds.{Came, AtDelivery, AtOnce, FromCopy}

@@ -39,7 +39,8 @@ use Rattle.reg_world.proofs.Members.{in_at, at_in, in_map, map_in, from_end}
 use Rattle.reg_world.proofs.Bodies.{place_within}
 use Rattle.reg_base.proofs.Orders.{Decides-below, below_trans, below_irrefl}
 use Rattle.reg_world.proofs.Turns.{done_calls}
-use Rattle.reg_world.proofs.Joined.{Joined, same_op_id}
+use Rattle.reg_world.proofs.Joined.{Joined}
+use Rattle.reg_world.proofs.Added.{same_op_id}
 use Rattle.reg_world.proofs.Kept.{Known}
 use Rattle.reg_world.proofs.Grounds.{IsRun}
 use Rattle.reg_world.proofs.Once.{cast_of}

@@ -35,7 +35,8 @@ use Rattle.reg_world.proofs.NodeEvents.{put_same}
 use Rattle.reg_world.proofs.Firsts.{Ordered, ordered_after, world_happens, WorldInv}
 use Rattle.reg_world.proofs.Worlds.{front_made}
 use Rattle.reg_world.proofs.Turns.{answered_one}
-use Rattle.reg_world.proofs.History.{RunsAs, PastOk, PastsOk, pasts_step}
+use Rattle.reg_world.proofs.History.{PastsOk, pasts_step}
+use Rattle.reg_world.proofs.Standing.{RunsAs, PastOk}
 
 pub laws_of : (start : Op → ℕ → Start) → CastsAll start → KeepsLaws start
 laws_of start all op u = subst (MayStart op u) (sym (all op u)) tt

@@ -29,7 +29,8 @@ use Rattle.reg_world.proofs.Runs.{StepKept, step_ok, inv_happens}
 use Rattle.reg_world.proofs.NodeLaws.{empty_inv}
 use Rattle.reg_world.proofs.Settled.{IsRunning, runs_after}
 use Rattle.reg_world.proofs.Wholes.{Replicas, replicas_after}
-use Rattle.reg_world.proofs.History.{RunsAs, PastOk, PastsOk, pasts_step}
+use Rattle.reg_world.proofs.History.{PastsOk, pasts_step}
+use Rattle.reg_world.proofs.Standing.{RunsAs, PastOk}
 
 -- the calls that have their answer
 abbrev pub done_calls : State → Option Running → ℕ
