@@ -106,6 +106,7 @@ fn take_step(frame: Result<Frame, WorldFault>, from: u8, to: u8) -> Result<(u8, 
 }
 
 /// The same, of an event that isn't one too many.
+#[inline(always)]
 fn found_step<F: FrontEnd, A: Allocator + Copy>(
     stations: &[Station<F, A>],
     book: &Book<A>,
@@ -138,6 +139,7 @@ fn found_step<F: FrontEnd, A: Allocator + Copy>(
 }
 
 /// Which process makes which step in the event, or the first fault that applies.
+#[inline(always)]
 pub(crate) fn found<F: FrontEnd, A: Allocator + Copy>(
     stations: &[Station<F, A>],
     book: &Book<A>,

@@ -64,6 +64,7 @@ fn new_stations<F: FrontEnd, A: Allocator + Copy>(
 }
 
 /// Makes the step of an event. Where memory is refused the book hasn't changed.
+#[inline(always)]
 fn advance<F: FrontEnd, A: Allocator + Copy>(
     stations: &mut Vec<Station<F, A>, A>,
     book: &mut Book<A>,
@@ -85,6 +86,7 @@ fn advance<F: FrontEnd, A: Allocator + Copy>(
 }
 
 /// Makes an event, or tells why it is refused.
+#[inline(always)]
 fn step_parts<F: FrontEnd, A: Allocator + Copy>(
     stations: &mut Vec<Station<F, A>, A>,
     book: &mut Book<A>,

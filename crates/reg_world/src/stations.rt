@@ -58,6 +58,7 @@ impl<F: FrontEnd, A: Allocator + Copy> Station<F, A> {
 
     /// Makes a step that no fault applies to, and puts its frames on their wires. It fails for want of memory alone;
     /// nothing is claimed of the station then.
+    #[inline(always)]
     pub(crate) fn act(&mut self, step: &Step) -> Result<Outcome<A>, AllocError>
         requires { MayAct F.start self.old step.now }
         ensures { IfOk result (λ o. Acts F.start self.old step.now o.cast o.delivered.items o.reply self.new) }
@@ -76,6 +77,7 @@ impl<F: FrontEnd, A: Allocator + Copy> Station<F, A> {
 }
 
 /// Makes a step that no fault applies to.
+#[inline(always)]
 fn act<F: FrontEnd, A: Allocator + Copy>(
     process: &mut Process<F, A>,
     step: &Step,

@@ -6,7 +6,7 @@ use reg_front::{FrontEnd, Start};
 pub struct Mixed;
 
 impl FrontEnd for Mixed {
-    ghost use Rattle.reg_tests.specs.Mixed.{mixed, mixed_keeps};
+    ghost use Rattle.run_tests.specs.Mixed.{mixed, mixed_keeps};
 
     ghost start = { mixed };
 

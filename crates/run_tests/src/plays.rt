@@ -1,5 +1,5 @@
 //! Plays of small scripts.
-use crate::values::{READ, WRITE_FIVE, answered, called, id};
+use part_tests::values::{READ, WRITE_FIVE, answered, called, id};
 use refusing::Refusing;
 use reg_base::{Answer, Op, OpId};
 use reg_front::{FrontEnd, Linear, LocalWrite};

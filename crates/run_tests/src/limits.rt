@@ -1,5 +1,5 @@
 //! The limits of a run.
-use crate::values::WRITE_FIVE;
+use part_tests::values::WRITE_FIVE;
 use reg_base::limits::{MOST_EVENTS, MOST_OPERATIONS};
 use reg_base::{Op, Shape};
 use reg_front::Linear;

@@ -1,5 +1,5 @@
 //! Runs as worked by hand: histories, orders, points, copies and wires.
-use crate::values::{READ, ack, answered, called, cast, id, point, write_of};
+use part_tests::values::{READ, ack, answered, called, cast, id, point, write_of};
 use reg_base::{Answer, Op, OpId, Shape};
 use reg_frames::{Body, Frame};
 use reg_front::{FrontEnd, Linear, LocalRead, LocalWrite};

@@ -1,6 +1,6 @@
 //! A run of the front end of a user's own.
 use crate::mixed::Mixed;
-use crate::values::{READ, WRITE_FIVE, id};
+use part_tests::values::{READ, WRITE_FIVE, id};
 use reg_base::{Answer, Op, OpId, Shape};
 use reg_front::{FrontEnd, Start};
 use reg_history::Entry;

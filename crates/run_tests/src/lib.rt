@@ -1,0 +1,29 @@
+//! Tests of whole runs, by worlds, players and commands, over their public calls: runs worked by hand, refusals, limits, and
+//! want of memory at each growth.
+#![tactic(auto)]
+
+#[cfg(test)]
+mod checks;
+#[cfg(test)]
+mod limits;
+pub mod mixed;
+#[cfg(test)]
+mod mixed_runs;
+#[cfg(test)]
+mod owned;
+#[cfg(test)]
+mod play_reports;
+#[cfg(test)]
+mod plays;
+#[cfg(test)]
+mod refusals;
+#[cfg(test)]
+mod replay_reports;
+#[cfg(test)]
+mod replays;
+#[cfg(test)]
+mod schedules;
+#[cfg(test)]
+mod seeded;
+#[cfg(test)]
+mod worlds;
