@@ -1,6 +1,6 @@
 //! Histories and their orders, as worked by hand.
 use crate::values::{READ, WRITE_FIVE, answered, called, id, point};
-use reg_base::{Answer, Op, OpId, Shape};
+use reg_base::{Answer, Shape};
 use reg_history::{CheckFault, Entry, History, HistoryFault, Point, check_points, check_serial};
 use std::alloc::Global;
 use std::process::Abort;

@@ -2,7 +2,7 @@
 use crate::values::{READ, WRITE_FIVE, ack, cast, write_of};
 use reg_base::limits::{LAST_TIME, MOST_OPERATIONS};
 use reg_base::{Answer, Op, Shape, Stamp};
-use reg_frames::{Body, Frame};
+use reg_frames::Frame;
 use reg_front::{FrontEnd, Linear, LocalRead, LocalWrite};
 use reg_process::{Delivered, Outcome, Process, ProcessFault, Put, Reply};
 use std::alloc::Global;

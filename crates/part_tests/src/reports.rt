@@ -3,7 +3,6 @@ use reg_base::{Answer, Names, Op, OpId, Shape};
 use reg_history::{
     Entry, History, Point, ReadFault, ReadWhy, Report, ReportFault, read_report, write_report,
 };
-use std::process::Abort;
 use std::test::Fail;
 
 const ONE_PROCESS: &str =

@@ -1,7 +1,7 @@
 //! The limits of a run.
 use part_tests::values::WRITE_FIVE;
+use reg_base::Shape;
 use reg_base::limits::{MOST_EVENTS, MOST_OPERATIONS};
-use reg_base::{Op, Shape};
 use reg_front::Linear;
 use reg_world::{Event, World, WorldFault};
 use std::process::Abort;

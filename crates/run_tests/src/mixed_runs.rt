@@ -1,8 +1,7 @@
 //! A run of the front end of a user's own.
 use crate::mixed::Mixed;
 use part_tests::values::{READ, WRITE_FIVE, id};
-use reg_base::{Answer, Op, OpId, Shape};
-use reg_front::{FrontEnd, Start};
+use reg_base::{Answer, Shape};
 use reg_history::Entry;
 use reg_world::{Event, World};
 

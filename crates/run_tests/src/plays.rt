@@ -1,7 +1,7 @@
 //! Plays of small scripts.
 use part_tests::values::{READ, WRITE_FIVE, answered, called, id};
 use refusing::Refusing;
-use reg_base::{Answer, Op, OpId};
+use reg_base::Answer;
 use reg_front::{FrontEnd, Linear, LocalWrite};
 use reg_history::{Entry, check_points, check_serial};
 use reg_workload::{

@@ -1,9 +1,9 @@
 //! Runs as worked by hand: histories, orders, points, copies and wires.
 use part_tests::values::{READ, ack, answered, called, cast, id, point, write_of};
 use reg_base::{Answer, Op, OpId, Shape};
-use reg_frames::{Body, Frame};
+use reg_frames::Frame;
 use reg_front::{FrontEnd, Linear, LocalRead, LocalWrite};
-use reg_history::{Entry, Point};
+use reg_history::Point;
 use reg_world::{Event, RunFault, World, WorldFault};
 use std::alloc::Global;
 use std::process::Abort;
