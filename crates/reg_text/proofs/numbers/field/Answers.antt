@@ -1,9 +1,9 @@
-use Rattle.std.proofs.Common.{rules, ◌≡◌, List, ℕ, slice_index_or, ◌∙◌, sym, Some, None}
+use Rattle.std.proofs.Common.{rules, ◌≡◌, slice_index_or, ◌∙◌, sym, Some, None}
 use Rattle.std.specs.Fmt.{decimal}
 use Rattle.reg_text.proofs.Decimals.{plain_decimal}
 use Rattle.reg_text.proofs.NumbersLack.{decimal_lacks}
 use Rattle.reg_text.proofs.Parts.{rest_of}
-use Rattle.reg_text.proofs.Shorts.{one_before, one_number, digit_read}
+use Rattle.reg_text.proofs.Shorts.{one_before}
 use Rattle.reg_text.proofs.numbers.field.Goals as goal
 
 pub returns-in_err-number-clause-whole : goal.returns-in_err-number-clause-whole
