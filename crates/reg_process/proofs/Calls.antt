@@ -82,7 +82,7 @@ module _ (start : Op → ℕ → Start) (f : Bool) (s : State) (op : Op) (st : S
   call_refused Ahead h = absurd h
   call_refused Stale h = absurd h
   call_refused ClockFull h = (faults ∙ h, refl)
-  call_refused OutOfMemory h = (runs, refl)
+  call_refused OutOfMemory h = (faults ∙ h, refl)
 
 get_some : (xs : List ℕ) (i x : ℕ) → Some x ≡ slice_get xs i → x ≡ slice_index xs i
 get_some [] i x h = absurd (cc)
@@ -137,28 +137,6 @@ body_goes s from number expected body frames cast ds reply s' e q g =
 pub body_faults : (s : State) (from number expected : ℕ) (body : Body) → expected ≡ (peer_at s from).expected → number ≡ expected → frame_fault s from (Numbered number body) ≡ body_fault s from body
 body_faults s from number expected body e q = ap (λ b. cond b (body_fault s from body) None) (eq-eqb number (peer_at s from).expected (q ∙ e))
 
-pub early_refused : (due : Option ProcessFault) (s s' : State) (fault : ProcessFault) → due ≡ Some fault → s' ≡ s → FrameRefused due s fault s'
-early_refused due s s' Failed h e = (h, e)
-early_refused due s s' NoProcess h e = (h, e)
-early_refused due s s' Busy h e = (h, e)
-early_refused due s s' NoRegister h e = (h, e)
-early_refused due s s' TooManyOperations h e = (h, e)
-early_refused due s s' Ahead h e = (h, e)
-early_refused due s s' Stale h e = (h, e)
-early_refused due s s' ClockFull h e = h
-early_refused due s s' OutOfMemory h e = tt
-
-pub stop_refused : (due full : Option ProcessFault) (s s' : State) (fault : ProcessFault) → due ≡ full → StopsAt full fault → FrameRefused due s fault s'
-stop_refused due full s s' Failed h e = absurd e
-stop_refused due full s s' NoProcess h e = absurd e
-stop_refused due full s s' Busy h e = absurd e
-stop_refused due full s s' NoRegister h e = absurd e
-stop_refused due full s s' TooManyOperations h e = absurd e
-stop_refused due full s s' Ahead h e = absurd e
-stop_refused due full s s' Stale h e = absurd e
-stop_refused due full s s' ClockFull h e = h ∙ e
-stop_refused due full s s' OutOfMemory h e = tt
-
 pub within_peer : (n from me : ℕ) → from < n → not (nat_eq from me) ≡ not (nat_le n from || from == me)
 within_peer n from me l = let e : nat_le n from ≡ false = grind (arith, nat_tests) in sym (ap (λ b. not (b || from == me)) e)
 
@@ -201,17 +179,3 @@ module _ (start : Op → ℕ → Start) (f : Bool) (s : State) (from : ℕ) (fra
       state = ap (λ b. record { failed = b; state = s' }) runs ∙ ap (λ x. record { failed = false; state = x }) g.state;
       outcome = g.outcome;
     }
-
-    same_kept : s' ≡ s → kept false s' ≡ kept f s
-    same_kept e = ap (kept false) e ∙ ap (λ b. kept b s) (sym runs)
-
-    pub take_refused : (fault : ProcessFault) → FrameRefused (frame_fault s from frame) s fault s' → Refused start (record { failed = f; state = s }) (Take from frame) fault (record { failed = is_stop fault; state = s' })
-    take_refused Failed h = (take_faults ∙ h.0, same_kept h.1)
-    take_refused NoProcess h = (take_faults ∙ h.0, same_kept h.1)
-    take_refused Busy h = (take_faults ∙ h.0, same_kept h.1)
-    take_refused NoRegister h = (take_faults ∙ h.0, same_kept h.1)
-    take_refused TooManyOperations h = (take_faults ∙ h.0, same_kept h.1)
-    take_refused Ahead h = (take_faults ∙ h.0, same_kept h.1)
-    take_refused Stale h = (take_faults ∙ h.0, same_kept h.1)
-    take_refused ClockFull h = (take_faults ∙ h, refl)
-    take_refused OutOfMemory h = (runs, refl)

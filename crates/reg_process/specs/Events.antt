@@ -45,6 +45,6 @@ pub record Steps (start : Op → ℕ → Start) (old : Kept) (e : Step) (frames 
 
 -- a refused one: stopped for good, or unchanged
 abbrev pub Refused : (Op → ℕ → Start) → Kept → Step → ProcessFault → Kept → Type 0
-Refused start old e OutOfMemory new = (old.failed ≡ false) × (new.failed ≡ true)
+Refused start old e OutOfMemory new = (fault_of start old e ≡ None) × (new.failed ≡ true)
 Refused start old e ClockFull new = (fault_of start old e ≡ Some ClockFull) × (new.failed ≡ true)
 Refused start old e fault new = (fault_of start old e ≡ Some fault) × (new ≡ old)

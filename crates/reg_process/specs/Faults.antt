@@ -1,5 +1,5 @@
 -- When an event is refused.
-use Rattle.std.specs.Prelude.{ℕ, ◌≡◌, ◌≤◌, Bool, true, false, ◌==◌, ◌||◌, not, nat_lt, nat_le, max, length, Option, Some, None, if◌then◌else◌}
+use Rattle.std.specs.Prelude.{ℕ, ◌≡◌, ◌<◌, ◌≤◌, Bool, true, false, ◌==◌, ◌||◌, not, nat_lt, nat_le, max, length, Option, Some, None, if◌then◌else◌}
 use Rattle.reg_base.specs.declared.memory.Op.{Op}
 use Rattle.reg_frames.specs.declared.bodies.Body.{Body}
 use Rattle.reg_frames.specs.declared.bodies.Body.TheVariants.{Cast, Ack}
@@ -19,7 +19,7 @@ use Rattle.reg_process.specs.declared.faults.ProcessFault.TheVariants.{NoProcess
 
 -- what stops a process: the clock is full, or want of memory
 abbrev pub Stops : Bool → ProcessFault → Type 0
-Stops full OutOfMemory = Unit {0}
+Stops full OutOfMemory = full ≡ false
 Stops full ClockFull = full ≡ true
 Stops full f = ⊥
 
@@ -44,7 +44,7 @@ call_fault start s op = first_of (early_fault s op s.running) (full_at s.clock (
 
 -- the only fault of an operation that starts is a full clock
 abbrev pub StopsAt : Option ProcessFault → ProcessFault → Type 0
-StopsAt full OutOfMemory = Unit {0}
+StopsAt full OutOfMemory = full ≡ None
 StopsAt full ClockFull = full ≡ Some ClockFull
 StopsAt full f = ⊥
 
@@ -78,7 +78,7 @@ step_fault start s Tick = None
 
 -- a refused frame changes nothing, unless the process stops
 abbrev pub FrameRefused : Option ProcessFault → State → ProcessFault → State → Type 0
-FrameRefused due old OutOfMemory new = Unit {0}
+FrameRefused due old OutOfMemory new = due ≡ None
 FrameRefused due old ClockFull new = due ≡ Some ClockFull
 FrameRefused due old fault new = (due ≡ Some fault) × (new ≡ old)
 
@@ -92,5 +92,5 @@ is_peer s from = not (nat_le (length s.peers) from || from == s.me)
 
 abbrev pub NewRefused : ℕ → ℕ → ProcessFault → Type 0
 NewRefused processes me NoProcess = processes ≤ me
-NewRefused processes me OutOfMemory = Unit {0}
+NewRefused processes me OutOfMemory = me < processes
 NewRefused processes me fault = ⊥
