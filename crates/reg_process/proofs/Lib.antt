@@ -9,3 +9,4 @@ pub mod Calls
 pub mod Again
 pub mod Pending
 pub mod Outs
+pub mod Waiting
