@@ -1,4 +1,5 @@
-use Rattle.std.proofs.Common.{◌≡◌, ◌∙◌, ap, subst, List, false}
+use Rattle.std.proofs.Common.{◌≡◌, ◌∙◌, ap, subst, List, false, arith}
+use Rattle.std.proofs.lemmas.Grind.{common_steps}
 use Rattle.reg_base.specs.Shape.{Extent}
 use Rattle.reg_world.specs.declared.events.Event.{Event}
 use Rattle.reg_world.specs.Pages.{Pages}
@@ -18,3 +19,6 @@ returns-in-Err-clause-world g c =
     let ahead : c.put_ahead.new.self.ahead ≡ c.args.events.items = ap (λ (b : Pages). b.ahead) c.put_ahead.ensures in
     subst (λ (s : Extent). RunRefuses g.F.FrontEnd.start s c.args.events.items c.in-Err.fault.at c.in-Err.fault.fault) shape
     (subst (λ (l : List Event). RunRefuses g.F.FrontEnd.start c.put_ahead.new.self.shape l c.in-Err.fault.at c.in-Err.fault.fault) ahead c.in-Err.ensures.made)
+
+pub run_ahead-requires-clause-count : goal.run_ahead-requires-clause-count
+run_ahead-requires-clause-count g c = grind (arith, common_steps)

@@ -1,0 +1,5 @@
+use Rattle.std.proofs.Common.{rules}
+use Rattle.reg_commands.proofs.running.run_text.Goals as goal
+
+pub returns-in-Ok-false-clause-answered : goal.returns-in-Ok-false-clause-answered
+returns-in-Ok-false-clause-answered g c = search rules
