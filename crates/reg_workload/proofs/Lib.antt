@@ -1,7 +1,11 @@
 pub mod Scripts
-pub mod Listing
+pub mod Allowed
+pub mod Loaded
 pub mod InOrder
+pub mod Listing
+pub mod Turning
 pub mod Wires
 pub mod Moving
 pub mod Fairness
+pub mod Rounding
 pub mod Rounds

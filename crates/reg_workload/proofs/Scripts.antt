@@ -7,6 +7,7 @@ use Rattle.std.proofs.lemmas.Bool.{cases_eq, ne_eqb, eq-eqb}
 use Rattle.std.proofs.lemmas.Grind.{flat_map-append}
 use Rattle.reg_base.specs.declared.limits.TheConstants.{MOST_PROCESSES}
 use Rattle.reg_base.specs.declared.memory.Op.{Op}
+use Rattle.reg_base.specs.declared.memory.Op.TheVariants.{Read}
 use Rattle.reg_base.specs.Shape.{Extent}
 use Rattle.reg_world.specs.declared.events.Event.{Event}
 use Rattle.reg_world.specs.declared.events.Event.TheVariants.{Call}
@@ -18,15 +19,15 @@ use Rattle.reg_world.specs.Laws.{IsQuiescent}
 use Rattle.reg_world.specs.Worlds.{run_in}
 use Rattle.reg_process.proofs.Again.{replicate_at}
 use Rattle.reg_world.proofs.Promised.{settled}
-use Rattle.reg_workload.specs.Plays.{call_at, calls_of, script_of, Playing, next_at, Follows, IsPlaying, IsFinished, IsPlay, FollowsScript, AllStill}
+use Rattle.reg_workload.specs.Plays.{call_at, calls_of, script_of, Playing, next_at, next_op, Follows, IsPlayable, ArePlayable, IsPlaying, IsFinished, IsPlay, FollowsScript, AllStill}
 use Rattle.reg_workload.specs.Fair.{AtRest}
 
 -- one event more
 calls_more : (p : ℕ) (es : List Event) (e : Event) → calls_of p (es ++ e ∷ []) ≡ calls_of p es ++ call_at p e
 calls_more p es e = flat_map-append (call_at p) es (e ∷ []) ∙ ap (λ l. calls_of p es ++ l) (append-nil (call_at p e))
 
-pub begins : (shape : Extent) (m : Made) (scripts : List (List Op)) (next : List ℕ) (n : ℕ) (cursors : List (List ℕ)) → m ≡ new_world shape → shape.processes ≤ MOST_PROCESSES → length scripts ≡ shape.processes → n ≡ shape.processes → next ≡ replicate n 0 → length cursors ≡ n → IsPlaying (record { made = m; scripts = scripts; next = next; cursors = cursors })
-begins shape m scripts next n cursors e few s c z k =
+pub begins : (shape : Extent) (m : Made) (scripts : List (List Op)) (next : List ℕ) (n : ℕ) (cursors : List (List ℕ)) → m ≡ new_world shape → shape.processes ≤ MOST_PROCESSES → length scripts ≡ shape.processes → n ≡ shape.processes → next ≡ replicate n 0 → length cursors ≡ n → ArePlayable shape.registers scripts → IsPlaying (record { made = m; scripts = scripts; next = next; cursors = cursors })
+begins shape m scripts next n cursors e few s c z k fit =
     let a : m.processes ≡ shape.processes = ap Made.processes e in
     let b : m.accepted ≡ [] = ap Made.accepted e in
     let l : length next ≡ n = ap length z ∙ length-replicate n 0 in
@@ -41,11 +42,12 @@ begins shape m scripts next n cursors e few s c z k =
             calls = ap (calls_of p) b ∙ sym (ap (λ k. take k (script_of scripts p)) at);
             within = omega (arith, at);
           };
+      playable = λ p l. subst (λ r. IsPlayable r (script_of scripts p)) (sym (ap Made.registers e)) (fit p l);
     }
 
 -- a world that has the same events
-pub same : (s : Playing) (m : Made) → IsPlaying s → m.processes ≡ s.made.processes → m.accepted ≡ s.made.accepted → IsPlaying (record s { made = m })
-same s m good e a = record {
+pub same : (s : Playing) (m : Made) → IsPlaying s → m.processes ≡ s.made.processes → m.registers ≡ s.made.registers → m.accepted ≡ s.made.accepted → IsPlaying (record s { made = m })
+same s m good e r a = record {
   few = let f = good.few in omega (arith, e, f);
   scripts = good.scripts ∙ sym e;
   next = good.next ∙ sym e;
@@ -53,6 +55,7 @@ same s m good e a = record {
   follows = λ p l.
       let f = good.follows p (omega (arith, e, l)) in
       record { calls = ap (calls_of p) a ∙ f.calls; within = f.within };
+  playable = λ p l. subst (λ k. IsPlayable k (script_of s.scripts p)) (sym r) (good.playable p l);
 }
 
 -- an event that is no call
@@ -71,6 +74,7 @@ passes s m e good is none =
             calls = ap (calls_of p) b ∙ calls_more p s.made.accepted e ∙ ap (λ x. calls_of p s.made.accepted ++ x) (none p) ∙ append-nil (calls_of p s.made.accepted) ∙ f.calls;
             within = f.within;
           };
+      playable = λ p l. subst (λ r. IsPlayable r (script_of s.scripts p)) (sym (ap Made.registers is)) (good.playable p l);
     }
 
 call_same : (p : ℕ) (op : Op) → call_at p (Call p op) ≡ op ∷ []
@@ -93,6 +97,7 @@ one_call s m q n op d good is l at k o =
         | inl e ↦ subst (λ z. Follows (record s { made = m; next = slice_set s.next q (n + 1) }) z) (sym e) (own b)
         | inr ne ↦ other b p (omega (arith, a, lp)) ne
       ];
+      playable = λ p lp. subst (λ r. IsPlayable r (script_of s.scripts p)) (sym (ap Made.registers is)) (good.playable p lp);
     }
   where
     t : Playing
@@ -140,6 +145,19 @@ calls_in items vs s m q place n dn dv op d e good is l p b k o =
     let script : items (slice_index_or vs place dv) ≡ script_of s.scripts q =
     sym (get_or-map items vs place dv [] lv) ∙ ap (λ (xs : List (List Op)). slice_index_or xs place []) (sym e) ∙ ap (λ i. slice_index_or s.scripts i []) p in
     calls s m q place n op d (items (slice_index_or vs place dv)) good is l p (b ∙ get_or_default s.next place dn 0 ln) script k o
+
+-- the operation that is called next
+pub next_in : {V : Type 0} (items : V → List Op) (vs : List V) (s : Playing) (q place n dn : ℕ) (dv : V) (op d : Op) → s.scripts ≡ map items vs → IsPlaying s → q < s.made.processes → place ≡ q
+    → n ≡ slice_index_or s.next place dn → next_at s q < length (script_of s.scripts q) → op ≡ slice_index_or (items (slice_index_or vs place dv)) n d → (n ≡ next_at s q) × (op ≡ next_op s q)
+next_in items vs s q place n dn dv op d e good l p b k o =
+    let z : length s.scripts ≡ length vs = ap length e ∙ length-map vs items in
+    let g = good.scripts in let h = good.next in
+    let lv : place < length vs = omega (arith, z, g, l, p) in
+    let ln : place < length s.next = omega (arith, h, l, p) in
+    let script : items (slice_index_or vs place dv) ≡ script_of s.scripts q =
+    sym (get_or-map items vs place dv [] lv) ∙ ap (λ (xs : List (List Op)). slice_index_or xs place []) (sym e) ∙ ap (λ i. slice_index_or s.scripts i []) p in
+    let at : n ≡ next_at s q = b ∙ get_or_default s.next place dn 0 ln ∙ ap (λ i. slice_index_or s.next i 0) p in
+    (at, o ∙ ap (λ x. slice_index_or x n d) script ∙ ap (λ i. slice_index_or (script_of s.scripts q) i d) at ∙ get_or_default (script_of s.scripts q) (next_at s q) d (Read 0) k)
 
 -- where nothing is left of its script, a process has called all of it
 pub all_called : (s : Playing) (p : ℕ) → Follows s p → (next_at s p < length (script_of s.scripts p) → ⊥) → calls_of p s.made.accepted ≡ script_of s.scripts p

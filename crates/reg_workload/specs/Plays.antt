@@ -1,14 +1,17 @@
 -- Plays: runs in which each process calls the operations of its script, one after another.
-use Rattle.std.specs.Prelude.{ℕ, ◌≡◌, ◌<◌, ◌≤◌, ◌↔◌, ◌==◌, Bool, true, false, cond, ◌+◌, List, [], ◌∷◌, length, take, Some, None, slice_get, slice_index_or}
+use Rattle.std.specs.Prelude.{ℕ, ◌≡◌, ◌<◌, ◌≤◌, ◌↔◌, ◌==◌, ◌&&◌, not, nat_lt, Bool, true, false, cond, zero, suc, ◌+◌, List, [], ◌∷◌, length, take, replicate, Option, Some, None, slice_get, slice_index_or, slice_set}
 use Rattle.std.specs.List.{flat_map}
-use Rattle.reg_base.specs.declared.limits.TheConstants.{MOST_PROCESSES}
+use Rattle.std.specs.Option.{is_some}
+use Rattle.reg_base.specs.declared.limits.TheConstants.{MOST_PROCESSES, MOST_OPERATIONS}
 use Rattle.reg_base.specs.declared.memory.Op.{Op}
+use Rattle.reg_base.specs.declared.memory.Op.TheVariants.{Read}
+use Rattle.reg_base.specs.Memory.{register_of}
 use Rattle.reg_base.specs.Shape.{Extent}
 use Rattle.reg_front.specs.declared.starts.Start.{Start}
 use Rattle.reg_process.specs.Process.{pending_of}
 use Rattle.reg_world.specs.declared.events.Event.{Event}
 use Rattle.reg_world.specs.declared.events.Event.TheVariants.{Call, Take, Tick}
-use Rattle.reg_world.specs.Worlds.{Made, run_in}
+use Rattle.reg_world.specs.Worlds.{Made, run_in, new_world, with_event}
 use Rattle.reg_workload.specs.declared.choices.Choice.{Choice}
 use Rattle.reg_workload.specs.declared.choices.Choice.TheVariants.{Call as CallNext, Take as TakeNext, Tick as PutAgain}
 
@@ -67,12 +70,64 @@ pub record Follows (s : Playing) (p : ℕ) : Type 0 where
   pub calls : calls_of p s.made.accepted ≡ take (next_at s p) (script_of s.scripts p)
   pub within : next_at s p ≤ length (script_of s.scripts p)
 
+-- a script that a process can call: not too many operations, each on a register that there is
+pub record IsPlayable (registers : ℕ) (script : List Op) : Type 0 where
+  pub few : length script ≤ MOST_OPERATIONS
+  pub known : (k : ℕ) (op : Op) → slice_get script k ≡ Some op → register_of op < registers
+
+abbrev pub ArePlayable : ℕ → List (List Op) → Type 0
+ArePlayable registers scripts = (p : ℕ) → p < length scripts → IsPlayable registers (script_of scripts p)
+
 pub record IsPlaying (s : Playing) : Type 0 where
   pub few : s.made.processes ≤ MOST_PROCESSES
   pub scripts : length s.scripts ≡ s.made.processes
   pub next : length s.next ≡ s.made.processes
   pub senders : length s.cursors ≡ s.made.processes
   pub follows : (p : ℕ) → p < s.made.processes → Follows s p
+  pub playable : ArePlayable s.made.registers s.scripts
+
+-- nothing happened yet
+abbrev pub new_play : Extent → List (List Op) → Playing
+new_play shape scripts = record {
+  made = new_world shape;
+  scripts = scripts;
+  next = replicate shape.processes 0;
+  cursors = replicate shape.processes (replicate MOST_PROCESSES 0);
+}
+
+-- the steps of the first numbers, one after another
+abbrev pub steps : {S : Type 0} → (ℕ → S → S) → ℕ → S → S
+steps step zero s = s
+steps step (suc n) s = step n (steps step n s)
+
+-- whether the process is free and has an operation left
+abbrev pub may_call : (Op → ℕ → Start) → Playing → ℕ → Bool
+may_call start s p = nat_lt (next_at s p) (length (script_of s.scripts p)) && not (is_some ((run_in start s.made).nodes p).state.running)
+
+-- the first frame of a wire that is not behind
+abbrev pub next_frame : (Op → ℕ → Start) → Playing → ℕ → ℕ → Option ℕ
+next_frame start s from to =
+    cond (not (from == to) && nat_lt (cursor_at s from to) (length (((run_in start s.made).nodes from).wire to))) (Some (cursor_at s from to)) None
+
+-- how many frames the process has to put again
+abbrev pub pending_at : (Op → ℕ → Start) → Playing → ℕ → ℕ
+pending_at start s p = pending_of ((run_in start s.made).nodes p).state.peers
+
+-- the play after one more event
+abbrev pub makes : Playing → Event → Playing
+makes s e = record s { made = with_event s.made e }
+
+-- the next operation of a script
+abbrev pub next_op : Playing → ℕ → Op
+next_op s p = slice_index_or (script_of s.scripts p) (next_at s p) (Read 0)
+
+-- the process called its next operation
+abbrev pub calls_next : Playing → ℕ → Playing
+calls_next s p = record s { made = with_event s.made (Call p (next_op s p)); next = slice_set s.next p (next_at s p + 1) }
+
+-- one more frame of the wire is behind
+abbrev pub passes : Playing → ℕ → ℕ → Playing
+passes s from to = record s { cursors = slice_set s.cursors from (slice_set (slice_index_or s.cursors from []) to (cursor_at s from to + 1)) }
 
 -- the process is free, and has an operation left
 pub record MayCall (start : Op → ℕ → Start) (s : Playing) (p : ℕ) : Type 0 where
@@ -98,7 +153,7 @@ AllStill start s = (p : ℕ) → p < s.made.processes → IsStill start s p
 -- a process may call, a frame of a wire is taken, or a process puts frames again
 abbrev pub IsChoice : (Op → ℕ → Start) → Playing → Choice → Type 0
 IsChoice start s (CallNext p) = (p < s.made.processes) × MayCall start s p
-IsChoice start s (TakeNext from to number) = (from < s.made.processes) × (to < s.made.processes)
+IsChoice start s (TakeNext from to number) = (from < s.made.processes) × (to < s.made.processes) × (next_frame start s from to ≡ Some number)
 IsChoice start s (PutAgain p) = p < s.made.processes
 
 abbrev pub AreChoices : (Op → ℕ → Start) → Playing → List Choice → Type 0

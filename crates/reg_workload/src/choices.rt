@@ -1,6 +1,7 @@
 //! What can happen next in a seeded play.
-ghost use Rattle.std.specs.Prelude.{◌≡◌, ◌<◌, ◌≤◌, [], false, OnOk};
+ghost use Rattle.std.specs.Prelude.{◌≡◌, ◌<◌, ◌≤◌, ◌++◌, [], false, OnOk};
 ghost use Rattle.reg_workload.specs.Plays.{AreChoices, NoCall, NoTick, AllStill};
+ghost use Rattle.reg_workload.specs.Seeded.{call_choices, take_choices_from, take_choices, tick_choices, choices_of};
 
 use crate::playing::Player;
 use reg_front::FrontEnd;
@@ -24,6 +25,7 @@ fn list_calls<F: FrontEnd, A: Allocator + Copy>(
 ) -> Result<(), AllocError>
     requires going { player.now.made.failed ≡ false }
     requires empty { choices.old.items ≡ [] }
+    ensures value { OnOk result (choices.new.items ≡ call_choices F.start player.now player.now.made.processes) }
     ensures choices { OnOk result (AreChoices F.start player.now choices.new.items) }
     ensures all { OnOk result (NoCall F.start player.now player.now.made.processes choices.new.items) }
 {
@@ -41,8 +43,10 @@ fn list_takes_from<F: FrontEnd, A: Allocator + Copy>(
     from: u8,
     choices: &mut Vec<Choice, A>,
 ) -> Result<(), AllocError>
+    requires going { player.now.made.failed ≡ false }
     requires from { from < player.now.made.processes }
     requires choices { AreChoices F.start player.now choices.old.items }
+    ensures value { OnOk result (choices.new.items ≡ choices.old.items ++ take_choices_from F.start player.now from player.now.made.processes) }
     ensures choices { OnOk result (AreChoices F.start player.now choices.new.items) }
     ensures more { OnOk result (choices.new.items ≡ [] → choices.old.items ≡ []) }
 {
@@ -59,7 +63,9 @@ fn list_takes<F: FrontEnd, A: Allocator + Copy>(
     player: &Player<'_, F, A>,
     choices: &mut Vec<Choice, A>,
 ) -> Result<(), AllocError>
+    requires going { player.now.made.failed ≡ false }
     requires choices { AreChoices F.start player.now choices.old.items }
+    ensures value { OnOk result (choices.new.items ≡ choices.old.items ++ take_choices F.start player.now player.now.made.processes) }
     ensures choices { OnOk result (AreChoices F.start player.now choices.new.items) }
     ensures more { OnOk result (choices.new.items ≡ [] → choices.old.items ≡ []) }
 {
@@ -76,6 +82,7 @@ fn list_ticks<F: FrontEnd, A: Allocator + Copy>(
 ) -> Result<(), AllocError>
     requires going { player.now.made.failed ≡ false }
     requires choices { AreChoices F.start player.now choices.old.items }
+    ensures value { OnOk result (choices.new.items ≡ choices.old.items ++ tick_choices F.start player.now player.now.made.processes) }
     ensures choices { OnOk result (AreChoices F.start player.now choices.new.items) }
     ensures more { OnOk result (choices.new.items ≡ [] → choices.old.items ≡ []) }
     ensures all { OnOk result (NoTick F.start player.now player.now.made.processes choices.new.items) }
@@ -94,6 +101,7 @@ pub(crate) fn list<F: FrontEnd, A: Allocator + Copy>(
     choices: &mut Vec<Choice, A>,
 ) -> Result<(), AllocError>
     requires going { player.now.made.failed ≡ false }
+    ensures value { OnOk result (choices.new.items ≡ choices_of F.start player.now) }
     ensures choices { OnOk result (AreChoices F.start player.now choices.new.items) }
     ensures all { OnOk result (choices.new.items ≡ [] → AllStill F.start player.now) }
 {

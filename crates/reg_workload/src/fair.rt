@@ -1,6 +1,8 @@
 //! The fair player.
 ghost use Rattle.std.specs.Prelude.{◌≡◌, ◌≤◌, ◌<◌, length, false, true, OnOk, IfOk, map};
-ghost use Rattle.reg_workload.specs.Plays.{GoesOn, IsPlay, MayCall};
+ghost use Rattle.reg_base.specs.declared.limits.TheConstants.{MOST_EVENTS};
+ghost use Rattle.reg_workload.specs.Plays.{GoesOn, IsPlay, MayCall, ArePlayable};
+ghost use Rattle.reg_workload.specs.Rounds.{call_in_round, take_in_round, calls_in_round, takes_from_in_round, takes_in_round, round, rounds, fair_play};
 ghost use Rattle.reg_workload.specs.Fair.{TakesInOrder, IsFair, IsBehind, RoundPart, NoneMayCall, AllBehindFrom, AllBehind, AtRest};
 
 use crate::playing::{Play, Player};
@@ -17,8 +19,10 @@ fn call_one<F: FrontEnd, A: Allocator + Copy>(
     requires process { process < player.old.made.processes }
     requires going { player.old.made.failed ≡ false }
     requires few { length player.old.made.accepted ≤ budget }
+    requires budget { budget ≤ MOST_EVENTS }
     requires fair { IsFair F.start player.old }
-    ensures { IfOk result (λ full. RoundPart F.start budget player.old player.new full (MayCall F.start player.new process → ⊥)) }
+    ensures value { OnOk result (player.new ≡ call_in_round F.start budget player.old process) }
+    ensures part { IfOk result (λ full. RoundPart F.start budget player.old player.new full (MayCall F.start player.new process → ⊥)) }
 {
     if !player.may_call(process) {
         return Ok(false);
@@ -37,8 +41,10 @@ fn call_each<F: FrontEnd, A: Allocator + Copy>(
 ) -> Result<bool, AllocError>
     requires going { player.old.made.failed ≡ false }
     requires few { length player.old.made.accepted ≤ budget }
+    requires budget { budget ≤ MOST_EVENTS }
     requires fair { IsFair F.start player.old }
-    ensures { IfOk result (λ full. RoundPart F.start budget player.old player.new full (NoneMayCall F.start player.new player.new.made.processes)) }
+    ensures value { OnOk result (player.new ≡ calls_in_round F.start budget player.old.made.processes player.old) }
+    ensures part { IfOk result (λ full. RoundPart F.start budget player.old player.new full (NoneMayCall F.start player.new player.new.made.processes)) }
 {
     for process in 0..player.processes() {
         if call_one(player, process, budget)? {
@@ -59,8 +65,10 @@ fn take_one<F: FrontEnd, A: Allocator + Copy>(
     requires to { to < player.old.made.processes }
     requires going { player.old.made.failed ≡ false }
     requires few { length player.old.made.accepted ≤ budget }
+    requires budget { budget ≤ MOST_EVENTS }
     requires fair { IsFair F.start player.old }
-    ensures { IfOk result (λ full. RoundPart F.start budget player.old player.new full (IsBehind F.start player.new from to)) }
+    ensures value { OnOk result (player.new ≡ take_in_round F.start budget player.old from to) }
+    ensures part { IfOk result (λ full. RoundPart F.start budget player.old player.new full (IsBehind F.start player.new from to)) }
 {
     let Some(number) = player.frame(from, to) else {
         return Ok(false);
@@ -82,8 +90,10 @@ fn take_from<F: FrontEnd, A: Allocator + Copy>(
     requires from { from < player.old.made.processes }
     requires going { player.old.made.failed ≡ false }
     requires few { length player.old.made.accepted ≤ budget }
+    requires budget { budget ≤ MOST_EVENTS }
     requires fair { IsFair F.start player.old }
-    ensures { IfOk result (λ full. RoundPart F.start budget player.old player.new full (AllBehindFrom F.start player.new from player.new.made.processes)) }
+    ensures value { OnOk result (player.new ≡ takes_from_in_round F.start budget from player.old.made.processes player.old) }
+    ensures part { IfOk result (λ full. RoundPart F.start budget player.old player.new full (AllBehindFrom F.start player.new from player.new.made.processes)) }
 {
     for to in 0..player.processes() {
         if take_one(player, from, to, budget)? {
@@ -100,8 +110,10 @@ fn take_each<F: FrontEnd, A: Allocator + Copy>(
 ) -> Result<bool, AllocError>
     requires going { player.old.made.failed ≡ false }
     requires few { length player.old.made.accepted ≤ budget }
+    requires budget { budget ≤ MOST_EVENTS }
     requires fair { IsFair F.start player.old }
-    ensures { IfOk result (λ full. RoundPart F.start budget player.old player.new full (AllBehind F.start player.new player.new.made.processes)) }
+    ensures value { OnOk result (player.new ≡ takes_in_round F.start budget player.old.made.processes player.old) }
+    ensures part { IfOk result (λ full. RoundPart F.start budget player.old player.new full (AllBehind F.start player.new player.new.made.processes)) }
 {
     for from in 0..player.processes() {
         if take_from(player, from, budget)? {
@@ -118,8 +130,10 @@ fn play_round<F: FrontEnd, A: Allocator + Copy>(
 ) -> Result<bool, AllocError>
     requires going { player.old.made.failed ≡ false }
     requires few { length player.old.made.accepted ≤ budget }
+    requires budget { budget ≤ MOST_EVENTS }
     requires fair { IsFair F.start player.old }
-    ensures { IfOk result (λ full. RoundPart F.start budget player.old player.new full (AtRest F.start player.new)) }
+    ensures value { OnOk result (player.new ≡ round F.start budget player.old) }
+    ensures part { IfOk result (λ full. RoundPart F.start budget player.old player.new full (AtRest F.start player.new)) }
 {
     if call_each(player, budget)? {
         return Ok(true);
@@ -134,7 +148,9 @@ fn play_rounds<F: FrontEnd, A: Allocator + Copy>(
 ) -> Result<(), AllocError>
     requires going { player.old.made.failed ≡ false }
     requires few { length player.old.made.accepted ≤ budget }
+    requires budget { budget ≤ MOST_EVENTS }
     requires fair { IsFair F.start player.old }
+    ensures value { OnOk result (player.new ≡ rounds F.start budget budget player.old) }
     ensures on { OnOk result (GoesOn budget player.old player.new) }
     ensures fair { OnOk result (IsFair F.start player.new) }
     ensures rest { OnOk result (length player.new.made.accepted < budget → AtRest F.start player.new) }
@@ -155,14 +171,17 @@ fn play_rounds<F: FrontEnd, A: Allocator + Copy>(
 ///
 /// # Errors
 ///
-/// Memory was refused. A step of a play that the world refuses for another reason would be told so too.
+/// Memory was refused.
 pub(crate) fn play_fair<F: FrontEnd, A: Allocator + Copy>(
     alloc: A,
     shape: Shape,
     scripts: &[Vec<Op, A>],
     budget: u32,
 ) -> Result<Play<F, A>, AllocError>
-    requires { length scripts.now ≡ shape.processes }
+    requires count { length scripts.now ≡ shape.processes }
+    requires playable { ArePlayable shape.registers (map (λ v. v.items) scripts.now) }
+    requires budget { budget ≤ MOST_EVENTS }
+    ensures rounds { IfOk result (λ p. p.world ≡ (fair_play F.start shape (map (λ v. v.items) scripts.now) budget).made) }
     ensures play { IfOk result (λ p. IsPlay F.start shape (map (λ v. v.items) scripts.now) budget p.world p.finished) }
     ensures in_order { IfOk result (λ p. TakesInOrder p.world.accepted) }
     ensures finished { IfOk result (λ p. length p.world.accepted < budget → p.finished ≡ true) }

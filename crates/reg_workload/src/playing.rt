@@ -1,18 +1,18 @@
 //! A world in which each process calls the operations of its script.
-ghost use Rattle.std.specs.Prelude.{◌≡◌, ◌<◌, ◌≤◌, ◌↔◌, ◌⊎◌, ◌+◌, ℕ, [], length, replicate, map, true, false, None, IfOk, OnOk, IfSome, IsTrue};
+ghost use Rattle.std.specs.Prelude.{◌≡◌, ◌<◌, ◌≤◌, ◌↔◌, ◌⊎◌, ◌+◌, ℕ, [], length, replicate, map, true, false, Some, None, IfOk, OnOk, IfSome, IsTrue};
 ghost use Rattle.reg_base.specs.Shape.{Extent};
 ghost use Rattle.reg_process.specs.Process.{pending_of};
-ghost use Rattle.reg_base.specs.declared.limits.TheConstants.{MOST_PROCESSES};
-ghost use Rattle.reg_world.specs.Worlds.{Accepts, new_world, run_in};
+ghost use Rattle.reg_base.specs.declared.limits.TheConstants.{MOST_PROCESSES, MOST_EVENTS};
+ghost use Rattle.reg_world.specs.Worlds.{Accepts, new_world, refusal, run_in};
 ghost use Rattle.reg_world.specs.declared.events.Event.TheVariants.{Call, Take, Tick};
 ghost use Rattle.reg_base.specs.declared.memory.Op.{Op};
-ghost use Rattle.reg_workload.specs.Plays.{script_of, next_at, cursor_at, call_at, MayCall, IsDone, IsFinished, IsPlay, Playing};
+ghost use Rattle.reg_workload.specs.Plays.{script_of, next_at, cursor_at, call_at, MayCall, IsDone, IsFinished, IsPlay, Playing, ArePlayable, new_play, may_call, next_frame, next_op, makes, calls_next, passes};
 ghost use Rattle.reg_workload.specs.Fair.{IsBehind, Leaves, AtRest};
 
 use reg_base::limits::MOST_PROCESSES;
 use reg_base::{Op, Shape};
 use reg_front::FrontEnd;
-use reg_world::{Event, World};
+use reg_world::{Event, World, WorldFault};
 use std::alloc::{AllocError, Allocator, Global};
 use std::marker::Model;
 
@@ -47,11 +47,12 @@ impl<'w, F: FrontEnd, A: Allocator + Copy> Model for Player<'w, F, A> {
     ghost invariant = { λ p. IsPlaying (record { made = p.world; scripts = map (λ v. v.items) p.scripts.now; next = p.next.items; cursors = p.cursors.items }) };
 }
 
-/// Makes an event. Any refusal is told as want of memory: a player only makes events that can be made.
+/// Makes an event that no fault applies to: only memory can be wanting.
 fn make<F: FrontEnd, A: Allocator + Copy>(
     world: &mut World<F, A>,
     event: Event,
 ) -> Result<(), AllocError>
+    requires { refusal F.start world.old event ≡ None }
     ensures made { OnOk result (Accepts F.start world.old event world.new) }
     ensures processes { world.new.processes ≡ world.old.processes }
     ensures registers { world.new.registers ≡ world.old.registers }
@@ -59,7 +60,8 @@ fn make<F: FrontEnd, A: Allocator + Copy>(
 {
     match world.step(&event) {
         Ok(()) => Ok(()),
-        Err(_) => Err(AllocError),
+        Err(WorldFault::OutOfMemory) => Err(AllocError),
+        Err(_) => unreachable!(),
     }
 }
 
@@ -70,7 +72,9 @@ impl<'w, F: FrontEnd, A: Allocator + Copy> Player<'w, F, A> {
         shape: Shape,
         scripts: &'w [Vec<Op, A>],
     ) -> Result<Player<'w, F, A>, AllocError>
-        requires { length scripts.now ≡ shape.processes }
+        requires count { length scripts.now ≡ shape.processes }
+        requires playable { ArePlayable shape.registers (map (λ v. v.items) scripts.now) }
+        ensures value { IfOk result (λ p. p ≡ new_play shape (map (λ v. v.items) scripts.now)) }
         ensures made { IfOk result (λ p. p.made ≡ new_world shape) }
         ensures scripts { IfOk result (λ p. p.scripts ≡ map (λ v. v.items) scripts.now) }
         ensures cursors { IfOk result (λ p. (a b : ℕ) → cursor_at p a b ≡ 0) }
@@ -126,7 +130,8 @@ impl<'w, F: FrontEnd, A: Allocator + Copy> Player<'w, F, A> {
     pub(crate) fn may_call(&self, process: u8) -> bool
         requires process { process < self.now.made.processes }
         requires going { self.now.made.failed ≡ false }
-        ensures { result ≡ true ↔ MayCall F.start self.now process }
+        ensures may { result ≡ true ↔ MayCall F.start self.now process }
+        ensures value { result ≡ may_call F.start self.now process }
     {
         self.has_left(process) && self.is_idle(process)
     }
@@ -147,6 +152,8 @@ impl<'w, F: FrontEnd, A: Allocator + Copy> Player<'w, F, A> {
         requires may { MayCall F.start self.old process }
         requires process { process < self.old.made.processes }
         requires going { self.old.made.failed ≡ false }
+        requires room { length self.old.made.accepted < MOST_EVENTS }
+        ensures value { OnOk result (self.new ≡ calls_next self.old process) }
         ensures same { self.new.scripts ≡ self.old.scripts }
         ensures processes { self.new.made.processes ≡ self.old.made.processes }
         ensures registers { self.new.made.registers ≡ self.old.made.registers }
@@ -167,6 +174,8 @@ impl<'w, F: FrontEnd, A: Allocator + Copy> Player<'w, F, A> {
     fn pass(&mut self, event: Event) -> Result<(), AllocError>
         requires no_call { (p : ℕ) → call_at p event ≡ [] }
         requires going { self.old.made.failed ≡ false }
+        requires allowed { refusal F.start self.old.made event ≡ None }
+        ensures value { OnOk result (self.new ≡ makes self.old event) }
         ensures same { self.new.scripts ≡ self.old.scripts }
         ensures processes { self.new.made.processes ≡ self.old.made.processes }
         ensures registers { self.new.made.registers ≡ self.old.made.registers }
@@ -180,7 +189,10 @@ impl<'w, F: FrontEnd, A: Allocator + Copy> Player<'w, F, A> {
 
     /// A process puts what is not acknowledged again.
     pub(crate) fn tick(&mut self, process: u8) -> Result<(), AllocError>
+        requires process { process < self.old.made.processes }
         requires going { self.old.made.failed ≡ false }
+        requires room { length self.old.made.accepted < MOST_EVENTS }
+        ensures value { OnOk result (self.new ≡ makes self.old (Tick process)) }
         ensures same { self.new.scripts ≡ self.old.scripts }
         ensures processes { self.new.made.processes ≡ self.old.made.processes }
         ensures registers { self.new.made.registers ≡ self.old.made.registers }
@@ -194,6 +206,7 @@ impl<'w, F: FrontEnd, A: Allocator + Copy> Player<'w, F, A> {
     pub(crate) fn frame(&self, from: u8, to: u8) -> Option<u32>
         requires from { from < self.now.made.processes }
         requires to { to < self.now.made.processes }
+        ensures value { self.now.made.failed ≡ false → result ≡ next_frame F.start self.now from to }
         ensures next { IfSome result (λ number. number ≡ cursor_at self.now from to) }
         ensures behind { result ≡ None → self.now.made.failed ≡ false → IsBehind F.start self.now from to }
     {
@@ -206,9 +219,14 @@ impl<'w, F: FrontEnd, A: Allocator + Copy> Player<'w, F, A> {
         }
     }
 
-    /// Takes a frame.
+    /// Takes the first frame of a wire that is not behind.
     pub(crate) fn take(&mut self, from: u8, to: u8, number: u32) -> Result<(), AllocError>
+        requires from { from < self.old.made.processes }
+        requires to { to < self.old.made.processes }
+        requires next { next_frame F.start self.old from to ≡ Some number }
         requires going { self.old.made.failed ≡ false }
+        requires room { length self.old.made.accepted < MOST_EVENTS }
+        ensures value { OnOk result (self.new ≡ makes self.old (Take from to number)) }
         ensures same { self.new.scripts ≡ self.old.scripts }
         ensures processes { self.new.made.processes ≡ self.old.made.processes }
         ensures registers { self.new.made.registers ≡ self.old.made.registers }
@@ -226,6 +244,7 @@ impl<'w, F: FrontEnd, A: Allocator + Copy> Player<'w, F, A> {
         requires to { to < self.old.made.processes }
         ensures made { self.new.made ≡ self.old.made }
         ensures left { Leaves self.old from to self.new }
+        ensures value { cursor_at self.old from to < MOST_EVENTS → self.new ≡ passes self.old from to }
     {
         let cursor = &mut self.cursors[usize::from(from)][usize::from(to)];
         *cursor = cursor.saturating_add(1);

@@ -2,6 +2,8 @@
 ghost use Rattle.std.specs.Prelude.{◌≡◌, ◌<◌, length, true, IfOk};
 ghost use Rattle.reg_workload.specs.Fair.{TakesInOrder};
 ghost use Rattle.reg_workload.specs.Plays.{IsPlay};
+ghost use Rattle.reg_workload.specs.Rounds.{fair_play};
+ghost use Rattle.reg_workload.specs.Seeded.{seeded_play};
 
 use crate::fair;
 use crate::playing::Play;
@@ -18,11 +20,12 @@ use std::alloc::{AllocError, Allocator};
 ///
 /// # Errors
 ///
-/// Memory was refused. A step of a play that the world refuses for another reason would be told so too.
+/// Memory was refused.
 pub fn play_fair<F: FrontEnd, A: Allocator + Copy>(
     alloc: A,
     work: &Workload<A>,
 ) -> Result<Play<F, A>, AllocError>
+    ensures rounds { IfOk result (λ p. p.world ≡ (fair_play F.start work.now.shape work.now.scripts work.now.budget).made) }
     ensures play { IfOk result (λ p. IsPlay F.start work.now.shape work.now.scripts work.now.budget p.world p.finished) }
     ensures in_order { IfOk result (λ p. TakesInOrder p.world.accepted) }
     ensures finished { IfOk result (λ p. length p.world.accepted < work.now.budget → p.finished ≡ true) }
@@ -38,12 +41,13 @@ pub fn play_fair<F: FrontEnd, A: Allocator + Copy>(
 ///
 /// # Errors
 ///
-/// Memory was refused. A step of a play that the world refuses for another reason would be told so too.
+/// Memory was refused.
 pub fn play_seeded<F: FrontEnd, R: Words + Drop, A: Allocator + Copy>(
     alloc: A,
     work: &Workload<A>,
     words: R,
 ) -> Result<Play<F, A>, AllocError>
+    ensures turns { IfOk result (λ p. p.world ≡ (seeded_play F.start R.next_word work.now.shape work.now.scripts work.now.loss work.now.repeat work.now.budget words).0.made) }
     ensures play { IfOk result (λ p. IsPlay F.start work.now.shape work.now.scripts work.now.budget p.world p.finished) }
     ensures finished { IfOk result (λ p. work.now.loss ≡ 0 → length p.world.accepted < work.now.budget → p.finished ≡ true) }
 {

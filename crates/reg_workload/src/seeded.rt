@@ -1,6 +1,8 @@
 //! The seeded player.
 ghost use Rattle.std.specs.Prelude.{◌≡◌, ◌≤◌, ◌<◌, ◌+◌, ℕ, [], length, false, true, None, Some, slice_get, OnOk, IfOk, IfSome, map};
-ghost use Rattle.reg_workload.specs.Plays.{GoesOn, Turns, IsPlay, AllStill, IsChoice, AreChoices};
+ghost use Rattle.reg_base.specs.declared.limits.TheConstants.{MOST_EVENTS};
+ghost use Rattle.reg_workload.specs.Plays.{GoesOn, Turns, IsPlay, AllStill, IsChoice, AreChoices, ArePlayable, cursor_at, next_frame};
+ghost use Rattle.reg_workload.specs.Seeded.{says, picked, takes_or_loses, chooses, choices_of, turn, turns, seeded_play};
 
 use crate::choices::{Choice, list};
 use crate::playing::{Play, Player};
@@ -20,7 +22,9 @@ pub(crate) struct Odds {
 
 /// Whether the next word, modulo 100, is below so many.
 fn happens<R: Words>(words: &mut R, below: u32) -> bool
-    ensures { below ≡ 0 → result ≡ false }
+    ensures value { result ≡ says below (R.next_word words.old).0 }
+    ensures words { words.new ≡ (R.next_word words.old).1 }
+    ensures never { below ≡ 0 → result ≡ false }
 {
     words.word() % 100 < below
 }
@@ -37,7 +41,11 @@ fn take_or_lose<F: FrontEnd, R: Words, A: Allocator + Copy>(
     requires going { player.old.made.failed ≡ false }
     requires from { from < player.old.made.processes }
     requires to { to < player.old.made.processes }
-    ensures { OnOk result (Turns odds.loss player.old player.new) }
+    requires next { next_frame F.start player.old from to ≡ Some number }
+    requires room { length player.old.made.accepted < MOST_EVENTS }
+    requires behind { cursor_at player.old from to < MOST_EVENTS }
+    ensures value { OnOk result ((player.new, words.new) ≡ takes_or_loses R.next_word odds.loss odds.repeat player.old from to number words.old) }
+    ensures turns { OnOk result (Turns odds.loss player.old player.new) }
 {
     if happens(words, odds.loss) {
         player.leave(from, to);
@@ -59,7 +67,10 @@ fn choose<F: FrontEnd, R: Words, A: Allocator + Copy>(
 ) -> Result<(), AllocError>
     requires going { player.old.made.failed ≡ false }
     requires choice { IsChoice F.start player.old choice }
-    ensures { OnOk result (Turns odds.loss player.old player.new) }
+    requires room { length player.old.made.accepted < MOST_EVENTS }
+    requires behind { (from to : ℕ) → cursor_at player.old from to < MOST_EVENTS }
+    ensures value { OnOk result ((player.new, words.new) ≡ chooses R.next_word odds.loss odds.repeat player.old choice words.old) }
+    ensures turns { OnOk result (Turns odds.loss player.old player.new) }
 {
     match choice {
         Choice::Call { process } => player.call(process),
@@ -70,6 +81,7 @@ fn choose<F: FrontEnd, R: Words, A: Allocator + Copy>(
 
 /// The choice that a word gives.
 fn pick(choices: &[Choice], word: u32) -> Option<Choice>
+    ensures value { result ≡ picked choices.now word }
     ensures some { IfSome result (λ c. (k : ℕ) × (slice_get choices.now k ≡ Some c)) }
     ensures none { result ≡ None → choices.now ≡ [] }
 {
@@ -77,6 +89,32 @@ fn pick(choices: &[Choice], word: u32) -> Option<Choice>
         return None;
     }
     Some(choices[word as usize % choices.len()])
+}
+
+/// A turn. Tells whether nothing can happen.
+fn play_turn<F: FrontEnd, R: Words, A: Allocator + Copy>(
+    player: &mut Player<'_, F, A>,
+    choices: &mut Vec<Choice, A>,
+    words: &mut R,
+    odds: Odds,
+) -> Result<bool, AllocError>
+    requires going { player.old.made.failed ≡ false }
+    requires room { length player.old.made.accepted < MOST_EVENTS }
+    requires behind { (from to : ℕ) → cursor_at player.old from to < MOST_EVENTS }
+    ensures value { OnOk result ((player.new, words.new) ≡ turn F.start R.next_word odds.loss odds.repeat (player.old, words.old)) }
+    ensures ended { IfOk result (λ ended. ended ≡ true → (choices_of F.start player.old ≡ []) × AllStill F.start player.old × (player.new ≡ player.old)) }
+    ensures turns { IfOk result (λ ended. ended ≡ false → Turns odds.loss player.old player.new) }
+{
+    list(player, choices)?;
+    if choices.is_empty() {
+        return Ok(true);
+    }
+    let word = words.word();
+    let Some(choice) = pick(choices, word) else {
+        return Ok(true);
+    };
+    choose(player, choice, words, odds)?;
+    Ok(false)
 }
 
 /// Turns, until nothing can happen or there were so many. Tells whether nothing can happen.
@@ -89,20 +127,17 @@ fn play_turns<F: FrontEnd, R: Words, A: Allocator + Copy>(
 ) -> Result<bool, AllocError>
     requires going { player.old.made.failed ≡ false }
     requires none { length player.old.made.accepted ≡ 0 }
+    requires first { (from to : ℕ) → cursor_at player.old from to ≡ 0 }
+    requires budget { budget ≤ MOST_EVENTS }
+    ensures value { OnOk result ((player.new, words.new) ≡ turns F.start R.next_word odds.loss odds.repeat budget (player.old, words.old)) }
     ensures on { OnOk result (GoesOn budget player.old player.new) }
     ensures ended { IfOk result (λ ended. (ended ≡ true → AllStill F.start player.new) × (ended ≡ false → odds.loss ≡ 0 → length player.new.made.accepted ≡ budget)) }
 {
     let mut choices = Vec::new(alloc);
     for _turn in 0..budget {
-        list(player, &mut choices)?;
-        if choices.is_empty() {
+        if play_turn(player, &mut choices, words, odds)? {
             return Ok(true);
         }
-        let word = words.word();
-        let Some(choice) = pick(&choices, word) else {
-            return Ok(true);
-        };
-        choose(player, choice, words, odds)?;
     }
     Ok(false)
 }
@@ -116,7 +151,7 @@ fn play_turns<F: FrontEnd, R: Words, A: Allocator + Copy>(
 ///
 /// # Errors
 ///
-/// Memory was refused. A step of a play that the world refuses for another reason would be told so too.
+/// Memory was refused.
 pub(crate) fn play_seeded<F: FrontEnd, R: Words, A: Allocator + Copy>(
     alloc: A,
     shape: Shape,
@@ -125,7 +160,11 @@ pub(crate) fn play_seeded<F: FrontEnd, R: Words, A: Allocator + Copy>(
     odds: Odds,
     budget: u32,
 ) -> Result<Play<F, A>, AllocError>
-    requires { length scripts.now ≡ shape.processes }
+    requires count { length scripts.now ≡ shape.processes }
+    requires playable { ArePlayable shape.registers (map (λ v. v.items) scripts.now) }
+    requires budget { budget ≤ MOST_EVENTS }
+    ensures turns { IfOk result (λ p. p.world ≡ (seeded_play F.start R.next_word shape (map (λ v. v.items) scripts.now) odds.loss odds.repeat budget words.old).0.made) }
+    ensures words { OnOk result (words.new ≡ (seeded_play F.start R.next_word shape (map (λ v. v.items) scripts.now) odds.loss odds.repeat budget words.old).1) }
     ensures play { IfOk result (λ p. IsPlay F.start shape (map (λ v. v.items) scripts.now) budget p.world p.finished) }
     ensures finished { IfOk result (λ p. odds.loss ≡ 0 → length p.world.accepted < budget → p.finished ≡ true) }
 {
