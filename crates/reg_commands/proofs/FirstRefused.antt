@@ -12,7 +12,7 @@ use Rattle.reg_workload.specs.Schedules.{Plan}
 use Rattle.reg_commands.specs.Replays.{run_before, IsFirstRefused}
 
 module _ (start : Op → ℕ → Start) (p : Plan) (at : ℕ) where
-  first : (fault : WorldFault) → (run_before start p at).accepted ≡ take at p.events → (e : Event) × IsAt p.events at e × (refusal start (after_events p.shape (take at p.events)) e ≡ Some fault) → IsFirstRefused start p at fault
+  first : (fault : WorldFault) → (run_before start p at).accepted ≡ take at p.events → (e : Event) × IsAt p.events at e × (refusal start (after_events start p.shape (take at p.events)) e ≡ Some fault) → IsFirstRefused start p at fault
   first fault before (e, here, refused) = record { event = e; here = here; before = before; refused = refused }
 
   by_fault : (fault : WorldFault) → fault ≢ OutOfMemory → (run_before start p at).accepted ≡ take at p.events → RunRefuses start p.shape p.events at fault → IsFirstRefused start p at fault
@@ -27,6 +27,6 @@ module _ (start : Op → ℕ → Start) (p : Plan) (at : ℕ) where
 
   -- want of memory aside, a run names the first one
   pub first_refused : (shape : Extent) (events : List Event) (fault : WorldFault) → shape ≡ p.shape → events ≡ p.events → fault ≢ OutOfMemory → RunRefuses start shape events at fault
-      → (run_in start (after_events shape (take at events))).accepted ≡ take at events → IsFirstRefused start p at fault
+      → (run_in start (after_events start shape (take at events))).accepted ≡ take at events → IsFirstRefused start p at fault
   first_refused shape events fault same_shape same_events other refuses before =
       by_fault fault other (rw (← same_shape, ← same_events) before) (rw (← same_shape, ← same_events) refuses)

@@ -10,7 +10,7 @@ use Rattle.reg_front.specs.Table.{linear, local_read, local_write, front_name}
 use Rattle.reg_history.specs.declared.entries.Entry.{Entry}
 use Rattle.reg_history.specs.declared.entries.Point.{Point}
 use Rattle.reg_history.specs.History.{IsAt}
-use Rattle.reg_history.specs.Orders.{IsPointOrder}
+use Rattle.reg_history.specs.Orders.{IsSerial, IsPointOrder}
 use Rattle.reg_history.specs.Reports.{Contents, report_text}
 use Rattle.reg_world.specs.World.{World, run_of, whole, fault_of}
 use Rattle.reg_world.specs.declared.events.Event.{Event}
@@ -35,6 +35,21 @@ run_by start p = whole start p.shape.processes p.shape.registers p.events
 abbrev pub plan_in : Front → List (List ℕ) → Made → Plan
 plan_in front names w = record { shape = record { processes = w.processes; registers = w.registers }; names = names; front = front; events = w.accepted }
 
+-- the points are at events that a run may have
+abbrev pub AreAtEvents : List Point → Type 0
+AreAtEvents ps = (k : ℕ) (p : Point) → IsAt ps k p → p.at ≤ LAST_EVENT
+
+-- points, where there are any, are a point order at such events
+abbrev pub PointsStand : ℕ → List Entry → Option (List Point) → Type 0
+PointsStand registers h None = Unit {0}
+PointsStand registers h (Some ps) = IsPointOrder registers h ps × AreAtEvents ps
+
+-- The report's order is a serial order of its history, and its points, where it has any, are a linearization. This takes no
+-- definition of a run.
+pub record IsOrdered (r : Contents) : Type 0 where
+  pub serial : IsSerial r.shape.registers r.entries r.order
+  pub points : PointsStand r.shape.registers r.entries r.points
+
 -- All events of a plan are accepted, and this is the report of the run: its history and its witness, under the plan's front
 -- end and names.
 pub record Shows (start : Op → ℕ → Start) (p : Plan) (r : Contents) : Type 0 where
@@ -44,6 +59,7 @@ pub record Shows (start : Op → ℕ → Start) (p : Plan) (r : Contents) : Type
   pub names : r.names ≡ p.names
   pub entries : r.entries ≡ (run_by start p).history
   pub order : IsWitness (run_of p.shape.registers (run_by start p)) r.order
+  pub ordered : IsOrdered r
 
 -- with the points of the run
 abbrev pub ShowsPoints : (Op → ℕ → Start) → Plan → Option (List Point) → Type 0
@@ -60,15 +76,6 @@ PointsOf LocalWrite p points = points ≡ None
 pub record IsReportOf (p : Plan) (r : Contents) : Type 0 where
   pub shows : Shows (start_of p.front) p r
   pub points : PointsOf p.front p r.points
-
--- the points are at events that a run may have
-abbrev pub AreAtEvents : List Point → Type 0
-AreAtEvents ps = (k : ℕ) (p : Point) → IsAt ps k p → p.at ≤ LAST_EVENT
-
--- points, where there are any, are a point order at such events
-abbrev pub PointsStand : ℕ → List Entry → Option (List Point) → Type 0
-PointsStand registers h None = Unit {0}
-PointsStand registers h (Some ps) = IsPointOrder registers h ps × AreAtEvents ps
 
 -- The text is that of a plan, and the report of its run was written.
 pub record Replays (old new : Option (List ℕ)) (text : List ℕ) : Type 0 where

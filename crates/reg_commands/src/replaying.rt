@@ -43,7 +43,7 @@ fn run<F: FrontEnd, A: Allocator + Copy>(
     alloc: A,
     schedule: Schedule<A>,
 ) -> Result<Ran<F, A>, Fault>
-    ensures ran { IfOk result (λ r. r.world ≡ after_events schedule.shape schedule.events) }
+    ensures ran { IfOk result (λ r. r.world ≡ after_events F.start schedule.shape schedule.events) }
     ensures names { IfOk result (λ r. r.names ≡ schedule.names) }
     ensures front { IfOk result (λ r. r.front ≡ schedule.front) }
     ensures why { IfErr result (λ f. BlamesRun F.start schedule f) }

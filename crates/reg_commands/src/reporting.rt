@@ -66,7 +66,7 @@ pub fn report_run<F: FrontEnd, A: Allocator + Copy>(
     ensures points { IfOk result (λ r. r.points ≡ None) }
     ensures why { IfErr result (λ f. f ≡ Fault.OutOfMemory) }
 {
-    let Ok(order) = world.witness() else {
+    let Ok((_, order)) = world.serial_order() else {
         return Err(Fault::OutOfMemory);
     };
     report(alloc, front, names, world.into_history(), order, None)
@@ -86,10 +86,11 @@ fn points_of<F: RealTime, A: Allocator + Copy>(
     world: &World<F, A>,
 ) -> Result<Vec<Point, A>, AllocError>
     ensures first { IfOk result (λ v. ArePoints (run_of world.now.registers (run_in F.start world.now)) v.items) }
-    ensures stand { IfOk result (λ v. PointsStand world.now.registers (run_in F.start world.now).history (Some v.items)) }
+    ensures stand { IfOk result (λ v. PointsStand world.now.registers world.now.history (Some v.items)) }
 {
     firsts_at_events(world);
-    world.points()
+    let (_, points) = world.linearization()?;
+    Ok(points)
 }
 
 /// The report of what a world did, under this front end and these names, with its points.
@@ -104,7 +105,7 @@ pub fn report_run_with_points<F: RealTime, A: Allocator + Copy>(
     ensures points { IfOk result (λ r. ShowsPoints F.start (plan_in front names world) r.points) }
     ensures why { IfErr result (λ f. f ≡ Fault.OutOfMemory) }
 {
-    let Ok(order) = world.witness() else {
+    let Ok((_, order)) = world.serial_order() else {
         return Err(Fault::OutOfMemory);
     };
     let Ok(points) = points_of(&world) else {

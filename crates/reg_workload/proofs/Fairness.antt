@@ -98,7 +98,7 @@ take_made n registers w a p number h =
     go false may o h = absurd (false≢true h)
 
 -- the world after the step
-after_step_fair : (start : Op → ℕ → Start) (m m1 : Made) (e : Event) (s : ℕ × Step) (behind : ℕ → ℕ → ℕ) → m1 ≡ with_event m e → move_of m.processes m.registers (run_in start m) e ≡ Some s → InStep m.processes (put (run_in start m).nodes s.0 (after_step start ((run_in start m).nodes s.0) s.1)) behind → ((p q : ℕ) → behind p q ≤ length (run_in start m).accepted + 1)
+after_step_fair : (start : Op → ℕ → Start) (m m1 : Made) (e : Event) (s : ℕ × Step) (behind : ℕ → ℕ → ℕ) → m1 ≡ with_event start m e → move_of m.processes m.registers (run_in start m) e ≡ Some s → InStep m.processes (put (run_in start m).nodes s.0 (after_step start ((run_in start m).nodes s.0) s.1)) behind → ((p q : ℕ) → behind p q ≤ length (run_in start m).accepted + 1)
     → InStep m1.processes (run_in start m1).nodes behind × ((p q : ℕ) → behind p q ≤ length (run_in start m1).accepted)
 after_step_fair start m m1 e s behind now is S few =
     let w = run_in start m in

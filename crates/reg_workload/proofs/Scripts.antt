@@ -59,8 +59,8 @@ same s m good e r a = record {
 }
 
 -- an event that is no call
-pub passes : (s : Playing) (m : Made) (e : Event) → IsPlaying s → m ≡ with_event s.made e → ((p : ℕ) → call_at p e ≡ []) → IsPlaying (record s { made = m })
-passes s m e good is none =
+pub passes : (start : Op → ℕ → Start) (s : Playing) (m : Made) (e : Event) → IsPlaying s → m ≡ with_event start s.made e → ((p : ℕ) → call_at p e ≡ []) → IsPlaying (record s { made = m })
+passes start s m e good is none =
     let a : m.processes ≡ s.made.processes = ap Made.processes is in
     let b : m.accepted ≡ s.made.accepted ++ e ∷ [] = ap Made.accepted is in
     record {
@@ -84,8 +84,8 @@ call_other : (p q : ℕ) (op : Op) → (q ≡ p → ⊥) → call_at p (Call q o
 call_other p q op ne = ap (λ b. cond b (op ∷ []) []) (ne_eqb q p ne)
 
 -- the next call of a script
-one_call : (s : Playing) (m : Made) (q n : ℕ) (op d : Op) → IsPlaying s → m ≡ with_event s.made (Call q op) → q < s.made.processes → n ≡ next_at s q → n < length (script_of s.scripts q) → op ≡ slice_index_or (script_of s.scripts q) n d → IsPlaying (record s { made = m; next = slice_set s.next q (n + 1) })
-one_call s m q n op d good is l at k o =
+one_call : (start : Op → ℕ → Start) (s : Playing) (m : Made) (q n : ℕ) (op d : Op) → IsPlaying s → m ≡ with_event start s.made (Call q op) → q < s.made.processes → n ≡ next_at s q → n < length (script_of s.scripts q) → op ≡ slice_index_or (script_of s.scripts q) n d → IsPlaying (record s { made = m; next = slice_set s.next q (n + 1) })
+one_call start s m q n op d good is l at k o =
     let a : m.processes ≡ s.made.processes = ap Made.processes is in
     let b : m.accepted ≡ s.made.accepted ++ Call q op ∷ [] = ap Made.accepted is in
     record {
@@ -128,23 +128,23 @@ one_call s m q n op d good is l at k o =
           within = let w = f.within in omega (arith, x, w);
         }
 
-pub calls : (s : Playing) (m : Made) (q place n : ℕ) (op d : Op) (script : List Op) → IsPlaying s → m ≡ with_event s.made (Call q op) → q < s.made.processes → place ≡ q → n ≡ slice_index_or s.next place 0 → script ≡ script_of s.scripts q → next_at s q < length (script_of s.scripts q) → op ≡ slice_index_or script n d → IsPlaying (record s { made = m; next = slice_set s.next place (n + 1) })
-calls s m q place n op d script good is l e at r k o =
+pub calls : (start : Op → ℕ → Start) (s : Playing) (m : Made) (q place n : ℕ) (op d : Op) (script : List Op) → IsPlaying s → m ≡ with_event start s.made (Call q op) → q < s.made.processes → place ≡ q → n ≡ slice_index_or s.next place 0 → script ≡ script_of s.scripts q → next_at s q < length (script_of s.scripts q) → op ≡ slice_index_or script n d → IsPlaying (record s { made = m; next = slice_set s.next place (n + 1) })
+calls start s m q place n op d script good is l e at r k o =
     let a : n ≡ next_at s q = at ∙ ap (λ i. slice_index_or s.next i 0) e in
     subst (λ i. IsPlaying (record s { made = m; next = slice_set s.next i (n + 1) })) (sym e)
-    (one_call s m q n op d good is l a (omega (arith, a, k)) (o ∙ ap (λ x. slice_index_or x n d) r))
+    (one_call start s m q n op d good is l a (omega (arith, a, k)) (o ∙ ap (λ x. slice_index_or x n d) r))
 
 -- the same, over a list of vectors
-pub calls_in : {V : Type 0} (items : V → List Op) (vs : List V) (s : Playing) (m : Made) (q place n dn : ℕ) (dv : V) (op d : Op) → s.scripts ≡ map items vs → IsPlaying s → m ≡ with_event s.made (Call q op) → q < s.made.processes → place ≡ q
+pub calls_in : {V : Type 0} (start : Op → ℕ → Start) (items : V → List Op) (vs : List V) (s : Playing) (m : Made) (q place n dn : ℕ) (dv : V) (op d : Op) → s.scripts ≡ map items vs → IsPlaying s → m ≡ with_event start s.made (Call q op) → q < s.made.processes → place ≡ q
     → n ≡ slice_index_or s.next place dn → next_at s q < length (script_of s.scripts q) → op ≡ slice_index_or (items (slice_index_or vs place dv)) n d → IsPlaying (record s { made = m; next = slice_set s.next place (n + 1) })
-calls_in items vs s m q place n dn dv op d e good is l p b k o =
+calls_in start items vs s m q place n dn dv op d e good is l p b k o =
     let z : length s.scripts ≡ length vs = ap length e ∙ length-map vs items in
     let g = good.scripts in let h = good.next in
     let lv : place < length vs = omega (arith, z, g, l, p) in
     let ln : place < length s.next = omega (arith, h, l, p) in
     let script : items (slice_index_or vs place dv) ≡ script_of s.scripts q =
     sym (get_or-map items vs place dv [] lv) ∙ ap (λ (xs : List (List Op)). slice_index_or xs place []) (sym e) ∙ ap (λ i. slice_index_or s.scripts i []) p in
-    calls s m q place n op d (items (slice_index_or vs place dv)) good is l p (b ∙ get_or_default s.next place dn 0 ln) script k o
+    calls start s m q place n op d (items (slice_index_or vs place dv)) good is l p (b ∙ get_or_default s.next place dn 0 ln) script k o
 
 -- the operation that is called next
 pub next_in : {V : Type 0} (items : V → List Op) (vs : List V) (s : Playing) (q place n dn : ℕ) (dv : V) (op d : Op) → s.scripts ≡ map items vs → IsPlaying s → q < s.made.processes → place ≡ q

@@ -35,6 +35,7 @@ with_ahead start failed stations b new events I no_stop is = subst (λ (z : Page
   few = I.few;
   size = I.size;
   tells = record { accepted = I.tells.accepted; entries = I.tells.entries; order = I.tells.order; reads = I.tells.reads; tallies = I.tells.tallies };
+  makes = I.makes;
   stand = λ h. record { each = (I.stand no_stop).each };
 })
 

@@ -81,7 +81,7 @@ module _ (start : Op → ℕ → Start) (laws : KeepsLaws start) (failed : Bool)
           λ f. is_wire ∙ (ap (λ (z : Standing). get_or z.wires to []) (stands from s place (omega (arith, same, l)) f) ∙ at_or (listed (w.nodes from).wire b.shape.processes) to ((w.nodes from).wire to) [] (at_listed (w.nodes from).wire b.shape.processes to (omega (arith, lt, size)))),
         )
 
-refused_by : (start : Op → ℕ → Start) (shape : Extent) (events : List Event) (at : ℕ) (e : Event) (fault : WorldFault) (new : Made) → IsAt events at e → at < length events → Refuses start (after_events shape (take at events)) e fault new → RunRefuses start shape events at fault
+refused_by : (start : Op → ℕ → Start) (shape : Extent) (events : List Event) (at : ℕ) (e : Event) (fault : WorldFault) (new : Made) → IsAt events at e → at < length events → Refuses start (after_events start shape (take at events)) e fault new → RunRefuses start shape events at fault
 refused_by start shape events at e Failed new here l h = (e, here, h.0)
 refused_by start shape events at e TooManyEvents new here l h = (e, here, h.0)
 refused_by start shape events at e NoProcess new here l h = (e, here, h.0)
@@ -91,29 +91,29 @@ refused_by start shape events at e TooManyOperations new here l h = (e, here, h.
 refused_by start shape events at e NoFrame new here l h = (e, here, h.0)
 refused_by start shape events at e OutOfMemory new here l h = inr l
 
-pub run_refuses : (start : Op → ℕ → Start) (shape : Extent) (events : List Event) (at : ℕ) (d : Event) (fault : WorldFault) (old new : Made) → at < length events → old ≡ after_events shape (take at events) → Refuses start old (get_or events at d) fault new → RunRefuses start shape events at fault
+pub run_refuses : (start : Op → ℕ → Start) (shape : Extent) (events : List Event) (at : ℕ) (d : Event) (fault : WorldFault) (old new : Made) → at < length events → old ≡ after_events start shape (take at events) → Refuses start old (get_or events at d) fault new → RunRefuses start shape events at fault
 run_refuses start shape events at d fault old new l is h =
     refused_by start shape events at (get_or events at d) fault new (at_index events at (get_or events at d) l (get_or_default events at d (get_or events at d) l)) l (subst (λ (z : Made). Refuses start z (get_or events at d) fault new) is h)
 
 -- an accepted event makes a run whose events are all accepted
-accepted_more : (start : Op → ℕ → Start) (old : Made) (e : Event) → (run_in start old).accepted ≡ old.accepted → refusal start old e ≡ None → (run_in start (with_event old e)).accepted ≡ old.accepted ++ e ∷ []
+accepted_more : (start : Op → ℕ → Start) (old : Made) (e : Event) → (run_in start old).accepted ≡ old.accepted → refusal start old e ≡ None → (run_in start (with_event start old e)).accepted ≡ old.accepted ++ e ∷ []
 accepted_more start old e so none = go (move_of old.processes old.registers (run_in start old) e) refl
   where
     no_fault : fault_of old.processes old.registers (run_in start old) e ≡ None
     no_fault = cond_both old.failed (Some Failed) (fault_of old.processes old.registers (run_in start old) e) (λ o. o ≡ None → fault_of old.processes old.registers (run_in start old) e ≡ None) (λ f h. absurd (none-some Failed (sym h))) (λ f h. h) none
 
-    go : (o : Option (ℕ × Step)) → move_of old.processes old.registers (run_in start old) e ≡ o → (run_in start (with_event old e)).accepted ≡ old.accepted ++ e ∷ []
+    go : (o : Option (ℕ × Step)) → move_of old.processes old.registers (run_in start old) e ≡ o → (run_in start (with_event start old e)).accepted ≡ old.accepted ++ e ∷ []
     go None is = let bad : false ≡ true = sym (ap is_some is) ∙ (refused_by_fault old.processes old.registers (run_in start old) e ∙ ap (λ o. not (is_some o)) no_fault) in cc
     go (Some m) is = ap (λ (w : World). w.accepted) (one_more start old.processes old.registers old.accepted e ∙ ap (moved start (run_in start old) e) is) ∙ ap (λ (l : List Event). l ++ e ∷ []) so
 
-run_more : (start : Op → ℕ → Start) (shape : Extent) (events : List Event) (at : ℕ) (d : Event) (old new : Made) → at < length events → old ≡ after_events shape (take at events) → Accepts start old (get_or events at d) new → new ≡ after_events shape (take (at + 1) events)
+run_more : (start : Op → ℕ → Start) (shape : Extent) (events : List Event) (at : ℕ) (d : Event) (old new : Made) → at < length events → old ≡ after_events start shape (take at events) → Accepts start old (get_or events at d) new → new ≡ after_events start shape (take (at + 1) events)
 run_more start shape events at d old new l is A =
-    A.after ∙ (ap (λ (z : Made). with_event z (get_or events at d)) is ∙ ap (after_events shape) (sym (take_more events at d l)))
+    A.after ∙ (ap (λ (z : Made). with_event start z (get_or events at d)) is ∙ ap (after_events start shape) (sym (take_more events at d l)))
 
 -- so many events of the list were accepted
 pub record IsRunSoFar (start : Op → ℕ → Start) (shape : Extent) (events : List Event) (at : ℕ) (world : Made) : Type 0 where
-  pub made : world ≡ after_events shape (take at events)
-  pub all : (run_in start (after_events shape (take at events))).accepted ≡ take at events
+  pub made : world ≡ after_events start shape (take at events)
+  pub all : (run_in start (after_events start shape (take at events))).accepted ≡ take at events
 
 pub run_begins : (start : Op → ℕ → Start) (shape : Extent) (events : List Event) (w : Made) → w ≡ new_world shape → IsRunSoFar start shape events 0 w
 run_begins start shape events w is = record { made = is; all = refl }
@@ -123,12 +123,12 @@ run_goes_on start shape events at d old new l S A =
     let more = take_more events at d l in
     record {
       made = run_more start shape events at d old new l S.made A;
-      all = subst (λ z. (run_in start (after_events shape z)).accepted ≡ z) (sym more)
-          (accepted_more start (after_events shape (take at events)) (get_or events at d) S.all (subst (λ (z : Made). refusal start z (get_or events at d) ≡ None) S.made A.no_fault));
+      all = subst (λ z. (run_in start (after_events start shape z)).accepted ≡ z) (sym more)
+          (accepted_more start (after_events start shape (take at events)) (get_or events at d) S.all (subst (λ (z : Made). refusal start z (get_or events at d) ≡ None) S.made A.no_fault));
     }
 
-pub run_ends : (start : Op → ℕ → Start) (shape : Extent) (events : List Event) (at : ℕ) (w : Made) → length events ≤ at → IsRunSoFar start shape events at w → (run_in start (after_events shape events)).accepted ≡ events
-run_ends start shape events at w l S = subst (λ z. (run_in start (after_events shape z)).accepted ≡ z) (take_all at events l) S.all
+pub run_ends : (start : Op → ℕ → Start) (shape : Extent) (events : List Event) (at : ℕ) (w : Made) → length events ≤ at → IsRunSoFar start shape events at w → (run_in start (after_events start shape events)).accepted ≡ events
+run_ends start shape events at w l S = subst (λ z. (run_in start (after_events start shape z)).accepted ≡ z) (take_all at events l) S.all
 
-pub run_all : (shape : Extent) (events : List Event) (at : ℕ) (w : Made) → length events ≤ at → w ≡ after_events shape (take at events) → w ≡ after_events shape events
-run_all shape events at w l is = is ∙ ap (after_events shape) (take_all at events l)
+pub run_all : (start : Op → ℕ → Start) (shape : Extent) (events : List Event) (at : ℕ) (w : Made) → length events ≤ at → w ≡ after_events start shape (take at events) → w ≡ after_events start shape events
+run_all start shape events at w l is = is ∙ ap (after_events start shape) (take_all at events l)

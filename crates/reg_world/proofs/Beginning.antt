@@ -8,6 +8,7 @@ use Rattle.reg_front.specs.declared.starts.Start.{Start}
 use Rattle.reg_process.specs.Process.{Peer, no_peer}
 use Rattle.reg_process.specs.Parts.{merged, nothing, state_of, first_parts}
 use Rattle.reg_history.specs.History.{IsAt}
+use Rattle.reg_world.specs.Histories.{Nothing}
 use Rattle.reg_world.specs.Nodes.{first_state}
 use Rattle.reg_world.specs.Tallies.{no_calls}
 use Rattle.reg_world.specs.Pages.{Pages}
@@ -43,6 +44,7 @@ new_is start shape stations b few stand is =
         reads = refl;
         tallies = record { size = length-replicate shape.processes no_calls; each = λ p l. at_replicate shape.processes p no_calls l };
       };
+      makes = Nothing;
       stand = λ h. record {
         each = λ p l. at_listed (first_standing shape) shape.processes p l ∙ λ i. Some (record { process = record { failed = false; state = first_is p shape.processes shape.registers i }; wires = listed_empty {X = _} [] shape.processes i });
       };

@@ -5,6 +5,7 @@ pub mod Growing
 pub mod Found
 pub mod Acting
 pub mod Telling
+pub mod Recorded
 pub mod Onward
 pub mod Stepping
 pub mod Beginning

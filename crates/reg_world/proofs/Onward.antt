@@ -27,6 +27,8 @@ use Rattle.reg_world.specs.Pages.{Pages, tally_after, tally_at, tallies_after, r
 use Rattle.reg_world.specs.Stations.{Standing, sent, listed, Acts}
 use Rattle.reg_world.specs.Worlds.{Tells, Stand, IsWorld, standing_of}
 use Rattle.reg_world.proofs.Allowed.{Allowed, StepAllowed, allowed}
+use Rattle.reg_world.specs.Histories.{Grows, More}
+use Rattle.reg_world.proofs.Recorded.{grows}
 use Rattle.reg_world.proofs.Kept.{move_is}
 use Rattle.reg_world.proofs.Sending.{sent_all}
 use Rattle.reg_world.proofs.Acting.{sound}
@@ -94,6 +96,9 @@ module _ (start : Op → ℕ → Start) (laws : KeepsLaws start) (b : Pages) (T 
     once = times_differ start n registers laws b.accepted e p st move b.tallies T.tallies here;
   }
 
+  pub grows_now : Grows (length b.accepted) b.entries e r.1.reply (entries_after b.entries (length b.accepted) p (tally_at b.tallies p) st r.1.reply)
+  grows_now = grows n registers (length b.accepted) b.entries (tally_at b.tallies p) r.1.reply w.nodes e (p, st) moves.1 may_enter.history
+
   abbrev after : Pages
   after = entered b e p st (is_some r.0.running) r.1.cast r.1.delivered r.1.reply
 
@@ -140,5 +145,6 @@ module _ (start : Op → ℕ → Start) (laws : KeepsLaws start) (b : Pages) (T 
     few = I.few;
     size = length-set stations p new ∙ I.size;
     tells = tells_now;
+    makes = More e r.1.reply I.makes grows_now;
     stand = λ f. stand_now stations new I.size (I.stand refl) is;
   })

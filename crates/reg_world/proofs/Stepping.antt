@@ -1,5 +1,5 @@
 -- One step of a world, as its functions take it.
-use Rattle.std.proofs.Common.{◌≡◌, ℕ, ◌<◌, Bool, true, false, List, length, get_or, set, Option, Some, None, Ok, Err, refl, sym, ap, ◌∙◌, subst, arith}
+use Rattle.std.proofs.Common.{◌≡◌, ℕ, ◌<◌, Bool, true, false, List, [], ◌∷◌, ◌++◌, length, get_or, set, Option, Some, None, Ok, Err, refl, sym, ap, ◌∙◌, subst, arith}
 use Rattle.std.specs.Option.{is_some}
 use Rattle.std.proofs.lemmas.Option.{same_Some}
 use Rattle.reg_base.specs.declared.memory.Op.{Op}
@@ -16,13 +16,14 @@ use Rattle.reg_world.specs.declared.faults.WorldFault.{WorldFault}
 use Rattle.reg_world.specs.declared.faults.WorldFault.TheVariants.{Failed, TooManyEvents, NoProcess, Busy, NoRegister, TooManyOperations, NoFrame, OutOfMemory}
 use Rattle.reg_world.specs.Nodes.{Node}
 use Rattle.reg_world.specs.World.{World, fault_of, move_of, moved, whole}
-use Rattle.reg_world.specs.Pages.{Pages, entered, MayEnter}
+use Rattle.reg_world.specs.Histories.{Grows}
+use Rattle.reg_world.specs.Pages.{Pages, entered, entries_after, tally_at, MayEnter}
 use Rattle.reg_world.specs.Stations.{Standing, MayAct, Acts}
 use Rattle.reg_world.specs.Worlds.{Made, refusal, with_event, stopped, reply_of_move, reply_in, Accepts, Refuses, IsWorld, made_of, standing_of, found, IsMove, Advances}
 use Rattle.reg_world.proofs.Noted.{at_index}
 use Rattle.reg_world.proofs.Acting.{may_act}
 use Rattle.reg_world.proofs.Telling.{IsFound, found_right, ordinary}
-use Rattle.reg_world.proofs.Onward.{here, may_enter, acted, world_now}
+use Rattle.reg_world.proofs.Onward.{here, may_enter, grows_now, acted, world_now}
 use Rattle.reg_world.proofs.Growing.{node_here}
 
 module _ (start : Op → ℕ → Start) (laws : KeepsLaws start) (b : Pages) (stations : List Standing) (I : IsWorld start false stations b) (e : Event) (p : ℕ) (st : Step) (move : IsMove start b e (p, st)) where
@@ -59,9 +60,13 @@ module _ (start : Op → ℕ → Start) (laws : KeepsLaws start) (b : Pages) (st
     advances now is =
         let r = step start (w.nodes p).state st in
         let exact : now ≡ entered b e p st (is_some r.0.running) r.1.cast r.1.delivered r.1.reply = is ∙ λ i. entered b e p st (runs_is i) (facts.1 i) (facts.2 i) (facts.3 i) in
+        let world : IsWorld start false (set stations k new) now = subst (λ j. IsWorld start false (set stations j new) now) (sym same) (world_now start laws b I.tells e p st move stations new now I facts.0 exact) in
+        let told : (entered b e p st runs made casts answer).entries ≡ (whole start b.shape.processes b.shape.registers (b.accepted ++ e ∷ [])).history =
+        sym (subst (λ (z : Pages). (whole start z.shape.processes z.shape.registers z.accepted).history ≡ z.entries) is world.tells.entries) in
         record {
-          world = subst (λ j. IsWorld start false (set stations j new) now) (sym same) (world_now start laws b I.tells e p st move stations new now I facts.0 exact);
-          made = ap (made_of false) is;
+          world = world;
+          made = ap (made_of false) is ∙ λ i. record (made_of false (entered b e p st runs made casts answer)) { history = told i };
+          grows = subst (λ (z : Pages). Grows (length b.accepted) b.entries e answer z.entries) (sym is) (subst (λ (z : Option Reply). Grows (length b.accepted) b.entries e z (entries_after b.entries (length b.accepted) p (tally_at b.tallies p) st z)) (sym facts.3) (grows_now start laws b I.tells e p st move));
           reply = facts.3 ∙ sym (ap (reply_of_move start w) move);
         }
 
@@ -103,9 +108,12 @@ module _ (start : Op → ℕ → Start) (failed : Bool) (b : Pages) (stations : 
 
   pub accepts_is : (x : ℕ × Step) → found stations b e ≡ Ok x → (answer : Option Reply) (now : List Standing) (after : Pages) → Advances start b e answer now after → Accepts start m e (made_of failed after) × (answer ≡ reply_in start m e)
   accepts_is x h answer now after A = (
-    record { no_fault = none_is x h; after = ap (λ f. made_of f after) no_stop ∙ (A.made ∙ ap (λ z. with_event z e) here_false) },
+    record { no_fault = none_is x h; after = ap (λ f. made_of f after) no_stop ∙ (A.made ∙ ap (λ z. with_event start z e) here_false) },
     A.reply ∙ ap (λ z. reply_in start z e) here_false,
   )
+
+  pub grows_is : (answer : Option Reply) (now : List Standing) (after : Pages) → Advances start b e answer now after → Grows (length m.accepted) m.history e answer (made_of failed after).history
+  grows_is answer now after A = subst (λ (z : Made). Grows (length z.accepted) z.history e answer after.entries) is A.grows
 
   pub stopped_is : (after : Pages) → after ≡ b → made_of true after ≡ stopped m
   stopped_is after same = ap (made_of true) same ∙ ap stopped here_false
@@ -115,5 +123,6 @@ stopped_world start failed stations now b after I same size = subst (λ z. IsWor
   few = I.few;
   size = size ∙ I.size;
   tells = I.tells;
+  makes = I.makes;
   stand = λ h. absurd (let bad : ⊥ = cc in bad);
 })

@@ -12,23 +12,26 @@ use Rattle.reg_process.specs.declared.steps.Step.TheVariants.{Call as CallStep, 
 use Rattle.reg_process.specs.Process.{step}
 use Rattle.reg_process.specs.Events.{Kept}
 use Rattle.reg_process.specs.Parts.{state_of, first_parts}
+use Rattle.reg_history.specs.declared.entries.Entry.{Entry}
 use Rattle.reg_history.specs.History.{IsAt}
 use Rattle.reg_world.specs.declared.events.Event.{Event}
 use Rattle.reg_world.specs.declared.events.Event.TheVariants.{Call, Take, Tick}
 use Rattle.reg_world.specs.declared.faults.WorldFault.{WorldFault}
 use Rattle.reg_world.specs.declared.faults.WorldFault.TheVariants.{Failed, TooManyEvents, NoProcess, Busy, NoRegister, TooManyOperations, NoFrame, OutOfMemory}
 use Rattle.reg_world.specs.World.{World, move_of, fault_of, whole}
+use Rattle.reg_world.specs.Histories.{Grows, Makes}
 use Rattle.reg_world.specs.Tallies.{Tally}
 use Rattle.reg_world.specs.Books.{AreTallies}
 use Rattle.reg_world.specs.Pages.{Pages, tally_at}
 use Rattle.reg_world.specs.Stations.{Standing, listed}
 
--- a world: whether it has stopped, its shape, and the events that it accepted
+-- a world: whether it has stopped, its shape, the events that it accepted, and its history
 pub record Made : Type 0 where
   pub failed : Bool
   pub processes : ℕ
   pub registers : ℕ
   pub accepted : List Event
+  pub history : List Entry
 
 -- the run of its events, to which all laws apply
 abbrev pub run_in : (Op → ℕ → Start) → Made → World
@@ -39,8 +42,8 @@ abbrev pub refusal : (Op → ℕ → Start) → Made → Event → Option WorldF
 refusal start w e = cond w.failed (Some Failed) (fault_of w.processes w.registers (run_in start w) e)
 
 -- the same with one more event
-abbrev pub with_event : Made → Event → Made
-with_event w e = record w { accepted = w.accepted ++ e ∷ [] }
+abbrev pub with_event : (Op → ℕ → Start) → Made → Event → Made
+with_event start w e = record w { accepted = w.accepted ++ e ∷ []; history = (whole start w.processes w.registers (w.accepted ++ e ∷ [])).history }
 
 -- the same, but stopped for good
 abbrev pub stopped : Made → Made
@@ -57,7 +60,7 @@ reply_in start w e = reply_of_move start (run_in start w) (move_of w.processes w
 -- An event that no fault applies to was accepted.
 pub record Accepts (start : Op → ℕ → Start) (old : Made) (e : Event) (new : Made) : Type 0 where
   pub no_fault : refusal start old e ≡ None
-  pub after : new ≡ with_event old e
+  pub after : new ≡ with_event start old e
 
 -- An event was refused: by the first fault that applies, and nothing has changed; or for want of memory, and the world
 -- has stopped.
@@ -86,10 +89,11 @@ pub record IsWorld (start : Op → ℕ → Start) (failed : Bool) (stations : Li
   pub few : b.shape.processes ≤ MOST_PROCESSES
   pub size : length stations ≡ b.shape.processes
   pub tells : Tells start b
+  pub makes : Makes b.accepted b.entries
   pub stand : failed ≡ false → Stand start b stations
 
 abbrev pub made_of : Bool → Pages → Made
-made_of failed b = record { failed = failed; processes = b.shape.processes; registers = b.shape.registers; accepted = b.accepted }
+made_of failed b = record { failed = failed; processes = b.shape.processes; registers = b.shape.registers; accepted = b.accepted; history = b.entries }
 
 -- which process makes which step in an event, from the parts of a world
 abbrev pub tally_fault : Tally → ℕ → Op → Option WorldFault
@@ -133,8 +137,9 @@ IsMove start b e m = move_of b.shape.processes b.shape.registers (run_in start (
 -- the event was made, with this reply
 pub record Advances (start : Op → ℕ → Start) (old : Pages) (e : Event) (answer : Option Reply) (stations : List Standing) (new : Pages) : Type 0 where
   pub world : IsWorld start false stations new
-  pub made : made_of false new ≡ with_event (made_of false old) e
+  pub made : made_of false new ≡ with_event start (made_of false old) e
   pub reply : answer ≡ reply_in start (made_of false old) e
+  pub grows : Grows (length old.accepted) old.entries e answer new.entries
 
 -- the parts of a world after an event, which is no longer ahead
 pub record PartsGoOn (start : Op → ℕ → Start) (old : Pages) (e : Event) (stations : List Standing) (new : Pages) : Type 0 where
@@ -148,17 +153,17 @@ PartsRefuse start b e fault = (after : Made) × Refuses start (made_of false b) 
 
 -- a world in which nothing happened yet
 abbrev pub new_world : Extent → Made
-new_world shape = record { failed = false; processes = shape.processes; registers = shape.registers; accepted = [] }
+new_world shape = record { failed = false; processes = shape.processes; registers = shape.registers; accepted = []; history = [] }
 
 -- the world after the first events of a list, all of them accepted
-abbrev pub after_events : Extent → List Event → Made
-after_events shape events = record { failed = false; processes = shape.processes; registers = shape.registers; accepted = events }
+abbrev pub after_events : (Op → ℕ → Start) → Extent → List Event → Made
+after_events start shape events = record { failed = false; processes = shape.processes; registers = shape.registers; accepted = events; history = (whole start shape.processes shape.registers events).history }
 
 -- Why a run of these events ends at this one: the first fault that applies to it after those before it, or want of memory,
 -- which before the first event is told of that one.
 abbrev pub RunRefuses : (Op → ℕ → Start) → Extent → List Event → ℕ → WorldFault → Type 0
 RunRefuses start shape events at OutOfMemory = (at ≡ 0) ⊎ (at < length events)
-RunRefuses start shape events at fault = (e : Event) × IsAt events at e × (refusal start (after_events shape (take at events)) e ≡ Some fault)
+RunRefuses start shape events at fault = (e : Event) × IsAt events at e × (refusal start (after_events start shape (take at events)) e ≡ Some fault)
 
 -- a process that did nothing yet
 abbrev pub first_standing : Extent → ℕ → Standing

@@ -1,8 +1,11 @@
 //! All processes and wires of a run, one event after another.
-ghost use Rattle.std.specs.Prelude.{◌≡◌, ◌<◌, ◌≤◌, ◌⊎◌, ◌++◌, List, false, length, take, drop, Some, IfOk, OnOk, [], MatchOption, MatchResult};
+ghost use Rattle.std.specs.Prelude.{◌≡◌, ◌<◌, ◌≤◌, ◌⊎◌, ◌++◌, ◌∷◌, List, false, length, take, drop, Option, Some, IfOk, OnOk, [], MatchOption, MatchResult};
 ghost use Rattle.reg_base.specs.declared.limits.TheConstants.{MOST_PROCESSES};
+ghost use Rattle.reg_history.specs.Log.{IsLog};
 ghost use Rattle.reg_history.specs.Orders.{IsSerial, IsPointOrder};
+ghost use Rattle.reg_process.specs.declared.steps.Reply.{Reply};
 ghost use Rattle.reg_world.specs.declared.events.Event.{Event};
+ghost use Rattle.reg_world.specs.Histories.{Grows, Makes};
 ghost use Rattle.reg_world.specs.Keys.{IsWitness, ArePoints};
 ghost use Rattle.reg_world.specs.Laws.{FrontsAgree, FrontsRise, FrontsMade, UndeliveredAbove, NothingPending, IsQuiescent};
 ghost use Rattle.reg_world.specs.Promises.{OrderIsLongest, OrderIsRight, FirstsRight, RepliesRight, ReadsRight};
@@ -115,8 +118,8 @@ fn run_ahead<F: FrontEnd, A: Allocator + Copy>(
     requires none { book.old.accepted ≡ [] }
     requires count { count ≡ length book.old.ahead }
     ensures world { OnOk result (IsWorld F.start false stations.new.items book.new) }
-    ensures made { MatchResult result (λ _. made_of false book.new ≡ after_events book.old.shape book.old.ahead) (λ f. RunRefuses F.start book.old.shape book.old.ahead f.at f.fault) }
-    ensures accepted { MatchResult result (λ _. (run_in F.start (after_events book.old.shape book.old.ahead)).accepted ≡ book.old.ahead) (λ f. (run_in F.start (after_events book.old.shape (take f.at book.old.ahead))).accepted ≡ take f.at book.old.ahead) }
+    ensures made { MatchResult result (λ _. made_of false book.new ≡ after_events F.start book.old.shape book.old.ahead) (λ f. RunRefuses F.start book.old.shape book.old.ahead f.at f.fault) }
+    ensures accepted { MatchResult result (λ _. (run_in F.start (after_events F.start book.old.shape book.old.ahead)).accepted ≡ book.old.ahead) (λ f. (run_in F.start (after_events F.start book.old.shape (take f.at book.old.ahead))).accepted ≡ take f.at book.old.ahead) }
 {
     for at in 0..count {
         let Some(event) = book.next_ahead() else {
@@ -145,9 +148,12 @@ impl<F: FrontEnd, A: Allocator + Copy> World<F, A> {
     }
 
     /// Makes an event. It is refused by the first fault that applies, and then nothing has changed; or for want of memory,
-    /// and then the world has stopped for good, with the events, history, order and reads of the steps before.
+    /// and then the world has stopped for good, with the events, history, order and reads of the steps before. The history
+    /// grows by the event's own call, and by an answer where the event gives one.
     pub fn step(&mut self, event: &Event) -> Result<(), WorldFault>
-        ensures { MatchResult result (λ _. Accepts F.start self.old event.now self.new) (λ fault. Refuses F.start self.old event.now fault self.new) }
+        ensures made { MatchResult result (λ _. Accepts F.start self.old event.now self.new) (λ fault. Refuses F.start self.old event.now fault self.new) }
+        ensures history { MatchResult result (λ _. (reply : Option Reply) × Grows (length self.old.accepted) self.old.history event.now reply self.new.history) (λ _. self.new.history ≡ self.old.history) }
+        ensures accepted { MatchResult result (λ _. self.new.accepted ≡ self.old.accepted ++ event.now ∷ []) (λ _. self.new.accepted ≡ self.old.accepted) }
     {
         match self.step_reply(event) {
             Ok(_) => Ok(()),
@@ -155,9 +161,11 @@ impl<F: FrontEnd, A: Allocator + Copy> World<F, A> {
         }
     }
 
-    /// The same, with the reply that the event gives.
+    /// The same, with the reply that the event gives: its answer is the one that the history grows by.
     pub fn step_reply(&mut self, event: &Event) -> Result<Option<Reply>, WorldFault>
-        ensures { MatchResult result (λ reply. Accepts F.start self.old event.now self.new × (reply ≡ reply_in F.start self.old event.now)) (λ fault. Refuses F.start self.old event.now fault self.new) }
+        ensures made { MatchResult result (λ reply. Accepts F.start self.old event.now self.new × (reply ≡ reply_in F.start self.old event.now)) (λ fault. Refuses F.start self.old event.now fault self.new) }
+        ensures history { MatchResult result (λ reply. Grows (length self.old.accepted) self.old.history event.now reply self.new.history) (λ _. self.new.history ≡ self.old.history) }
+        ensures accepted { MatchResult result (λ _. self.new.accepted ≡ self.old.accepted ++ event.now ∷ []) (λ _. self.new.accepted ≡ self.old.accepted) }
     {
         if self.failed {
             return Err(WorldFault::Failed);
@@ -187,8 +195,9 @@ impl<F: FrontEnd, A: Allocator + Copy> World<F, A> {
     /// Makes these events, one after another, in a new world. The first one that is refused ends the run; want of memory
     /// before the first event is told of that one.
     pub fn run(alloc: A, shape: Shape, events: &[Event]) -> Result<World<F, A>, RunFault>
-        ensures world { MatchResult result (λ w. w ≡ after_events shape events.now) (λ f. RunRefuses F.start shape events.now f.at f.fault) }
-        ensures accepted { MatchResult result (λ _. (run_in F.start (after_events shape events.now)).accepted ≡ events.now) (λ f. (run_in F.start (after_events shape (take f.at events.now))).accepted ≡ take f.at events.now) }
+        ensures world { MatchResult result (λ w. w ≡ after_events F.start shape events.now) (λ f. RunRefuses F.start shape events.now f.at f.fault) }
+        ensures history { IfOk result (λ w. Makes events.now w.history) }
+        ensures accepted { MatchResult result (λ _. (run_in F.start (after_events F.start shape events.now)).accepted ≡ events.now) (λ f. (run_in F.start (after_events F.start shape (take f.at events.now))).accepted ≡ take f.at events.now) }
     {
         let Ok(mut world) = World::with_room(alloc, shape, events.len()) else {
             let fault = WorldFault::OutOfMemory;
@@ -199,13 +208,15 @@ impl<F: FrontEnd, A: Allocator + Copy> World<F, A> {
                 return Err(RunFault { at, fault });
             }
         }
+        world.history();
         Ok(world)
     }
 
     /// The same, with the list itself kept as that of the accepted events, so that it takes no memory for a copy.
     pub fn run_owned(alloc: A, shape: Shape, events: Vec<Event, A>) -> Result<World<F, A>, RunFault>
-        ensures world { MatchResult result (λ w. w ≡ after_events shape events.items) (λ f. RunRefuses F.start shape events.items f.at f.fault) }
-        ensures accepted { MatchResult result (λ _. (run_in F.start (after_events shape events.items)).accepted ≡ events.items) (λ f. (run_in F.start (after_events shape (take f.at events.items))).accepted ≡ take f.at events.items) }
+        ensures world { MatchResult result (λ w. w ≡ after_events F.start shape events.items) (λ f. RunRefuses F.start shape events.items f.at f.fault) }
+        ensures history { IfOk result (λ w. Makes events.items w.history) }
+        ensures accepted { MatchResult result (λ _. (run_in F.start (after_events F.start shape events.items)).accepted ≡ events.items) (λ f. (run_in F.start (after_events F.start shape (take f.at events.items))).accepted ≡ take f.at events.items) }
     {
         let Ok(mut world) = World::new(alloc, shape) else {
             let fault = WorldFault::OutOfMemory;
@@ -214,7 +225,10 @@ impl<F: FrontEnd, A: Allocator + Copy> World<F, A> {
         let count = events.len();
         world.book.put_ahead(events);
         match run_ahead(&mut world.stations, &mut world.book, count) {
-            Ok(()) => Ok(world),
+            Ok(()) => {
+                world.history();
+                Ok(world)
+            }
             Err(fault) => Err(fault),
         }
     }
@@ -245,6 +259,8 @@ impl<F: FrontEnd, A: Allocator + Copy> World<F, A> {
     /// The calls and answers, each with the number of its event.
     pub fn history(&self) -> &History<A>
         ensures shape { result.now.shape ≡ record { processes = self.now.processes; registers = self.now.registers } }
+        ensures value { result.now.entries ≡ self.now.history }
+        ensures made { Makes self.now.accepted self.now.history }
         ensures entries { result.now.entries ≡ (run_in F.start self.now).history }
         ensures replies { RepliesRight self.now.registers (run_in F.start self.now) }
     {
@@ -254,6 +270,7 @@ impl<F: FrontEnd, A: Allocator + Copy> World<F, A> {
     /// The history alone.
     pub fn into_history(self) -> History<A>
         ensures shape { result.shape ≡ record { processes = self.processes; registers = self.registers } }
+        ensures value { result.entries ≡ self.history }
         ensures entries { result.entries ≡ (run_in F.start self).history }
     {
         self.book.into_history()
@@ -323,6 +340,21 @@ impl<F: FrontEnd, A: Allocator + Copy> World<F, A> {
             self.book.callers(),
         )
     }
+
+    /// The history, and the operations of `witness`: a serial order of it (Lamport 1979). To believe it takes the definitions
+    /// of histories and their orders alone, and none of a run.
+    pub fn serial_order(&self) -> Result<(&History<A>, Vec<OpId, A>), AllocError>
+        ensures shape { IfOk result (λ r. r.0.now.shape ≡ record { processes = self.now.processes; registers = self.now.registers }) }
+        ensures value { IfOk result (λ r. r.0.now.entries ≡ self.now.history) }
+        ensures history { IfOk result (λ r. IsLog r.0.now) }
+        ensures serial { IfOk result (λ r. IsSerial r.0.now.shape.registers r.0.now.entries r.1.items) }
+        ensures keyed { IfOk result (λ r. IsWitness (run_of self.now.registers (run_in F.start self.now)) r.1.items) }
+    {
+        let ids = self.witness()?;
+        let history = self.history();
+        history.entries();
+        Ok((history, ids))
+    }
 }
 
 impl<F: RealTime, A: Allocator + Copy> World<F, A> {
@@ -333,5 +365,20 @@ impl<F: RealTime, A: Allocator + Copy> World<F, A> {
         ensures ordered { IfOk result (λ points. IsPointOrder self.now.registers (run_in F.start self.now).history points.items) }
     {
         points_of(self.alloc, self.book.order(), self.book.callers())
+    }
+
+    /// The history, and `points`: a linearization of it (Herlihy and Wing 1990), which gives each operation a point between its
+    /// call and its answer. To believe it takes the definitions of histories and their orders alone, and none of a run.
+    pub fn linearization(&self) -> Result<(&History<A>, Vec<Point, A>), AllocError>
+        ensures shape { IfOk result (λ r. r.0.now.shape ≡ record { processes = self.now.processes; registers = self.now.registers }) }
+        ensures value { IfOk result (λ r. r.0.now.entries ≡ self.now.history) }
+        ensures history { IfOk result (λ r. IsLog r.0.now) }
+        ensures points { IfOk result (λ r. IsPointOrder r.0.now.shape.registers r.0.now.entries r.1.items) }
+        ensures first { IfOk result (λ r. ArePoints (run_of self.now.registers (run_in F.start self.now)) r.1.items) }
+    {
+        let points = self.points()?;
+        let history = self.history();
+        history.entries();
+        Ok((history, points))
     }
 }

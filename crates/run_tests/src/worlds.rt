@@ -39,10 +39,12 @@ fn is_order<F: FrontEnd>(world: &World<F>, order: &[Point]) -> bool {
 
 fn is_witness<F: FrontEnd>(rt: &impl Abort, world: &World<F>, ids: &[OpId]) -> bool {
     world.witness().expect(rt, "memory").as_slice() == ids
+        && world.serial_order().expect(rt, "memory").1.as_slice() == ids
 }
 
 fn are_points(rt: &impl Abort, world: &World<Linear>, points: &[Point]) -> bool {
     world.points().expect(rt, "memory").as_slice() == points
+        && world.linearization().expect(rt, "memory").1.as_slice() == points
 }
 
 fn copy_of<F: FrontEnd>(rt: &impl Abort, world: &World<F>, process: u8) -> Option<u64> {

@@ -1,0 +1,141 @@
+//! A tour of the library: a world stepped by hand, its serial order and its linearization, and what the checkers say.
+#![tactic(auto)]
+
+ghost use Rattle.std.specs.Prelude.{◌≡◌, [], length, IfOk};
+ghost use Rattle.library_tour.specs.Firsts.{first_entries};
+
+use anyhow::anyhow;
+use reg_base::{Op, OpId, Shape};
+use reg_front::Linear;
+use reg_history::{Entry, History, Point, check_points, check_serial};
+use reg_process::Reply;
+use reg_world::{Event, World, WorldFault};
+
+const WRITE: Op = Op::Write {
+    register: 0,
+    value: 5,
+};
+
+const READ: Op = Op::Read { register: 0 };
+
+/// After process 0 called a write: it reads, which is refused, since it runs an operation; the frames that matter are taken,
+/// and process 1 reads.
+const EVENTS: [Event; 6] = [
+    Event::Call {
+        process: 0,
+        op: READ,
+    },
+    Event::Take {
+        from: 0,
+        to: 1,
+        number: 0,
+    },
+    Event::Take {
+        from: 1,
+        to: 0,
+        number: 1,
+    },
+    Event::Call {
+        process: 1,
+        op: READ,
+    },
+    Event::Take {
+        from: 1,
+        to: 0,
+        number: 2,
+    },
+    Event::Take {
+        from: 0,
+        to: 1,
+        number: 3,
+    },
+];
+
+/// Calls an operation where nothing was called yet. Then the history is this call, with the answer if one came: so much
+/// follows from what `step_reply` says of histories, without the definition of a run.
+fn call_first(world: &mut World<Linear>, process: u8, op: Op) -> Result<Option<Reply>, WorldFault>
+    requires { world.old.history ≡ [] }
+    ensures { IfOk result (λ reply. world.new.history ≡ first_entries (length world.old.accepted) process op reply) }
+{
+    world.step_reply(&Event::Call { process, op })
+}
+
+/// Tells what came of an event.
+fn tell(
+    rt: &impl Print,
+    event: &Event,
+    outcome: Result<Option<Reply>, WorldFault>,
+) -> anyhow::Result<()> {
+    match outcome {
+        Ok(Some(reply)) => println!(rt; "{event:?}, answered {:?}", reply.answer)?,
+        Ok(None) => println!(rt; "{event:?}")?,
+        Err(fault) => println!(rt; "{event:?}, refused: {fault:?}")?,
+    }
+    Ok(())
+}
+
+/// Tells the calls and answers.
+fn tell_history(rt: &impl Print, history: &History) -> anyhow::Result<()> {
+    println!(rt; "history")?;
+    for entry in history.entries() {
+        match *entry {
+            Entry::Called { at, id, op } => {
+                println!(rt; "  {at}: p{} #{} calls {op:?}", id.process, id.number)?
+            }
+            Entry::Answered { at, id, answer } => {
+                println!(rt;
+                    "  {at}: p{} #{} is answered {answer:?}",
+                    id.process, id.number
+                )?
+            }
+        }
+    }
+    Ok(())
+}
+
+fn tell_order(rt: &impl Print, ids: &[OpId]) -> anyhow::Result<()> {
+    println!(rt; "serial order")?;
+    for id in ids {
+        println!(rt; "  p{} #{}", id.process, id.number)?;
+    }
+    Ok(())
+}
+
+fn tell_points(rt: &impl Print, points: &[Point]) -> anyhow::Result<()> {
+    println!(rt; "linearization")?;
+    for point in points {
+        println!(rt;
+            "  p{} #{} at {}",
+            point.id.process, point.id.number, point.at
+        )?;
+    }
+    Ok(())
+}
+
+fn main(rt: HostRuntime) -> anyhow::Result<()> {
+    let Ok(shape) = Shape::new(2, 1) else {
+        return Err(anyhow!("no shape"));
+    };
+    let mut world = World::<Linear>::new(rt.alloc(), shape)?;
+    let first = Event::Call {
+        process: 0,
+        op: WRITE,
+    };
+    tell(&rt, &first, call_first(&mut world, 0, WRITE))?;
+    for event in &EVENTS {
+        tell(&rt, event, world.step_reply(event))?;
+    }
+    let (history, mut ids) = world.serial_order()?;
+    tell_history(&rt, history)?;
+    tell_order(&rt, &ids)?;
+    println!(rt; "  checked: {:?}", check_serial(rt.alloc(), history, &ids))?;
+    ids.reverse();
+    println!(rt; "  reversed: {:?}", check_serial(rt.alloc(), history, &ids))?;
+    let (history, points) = world.linearization()?;
+    tell_points(&rt, &points)?;
+    println!(rt;
+        "  checked: {:?}",
+        check_points(rt.alloc(), history, &points)
+    )?;
+    Ok(())
+}
