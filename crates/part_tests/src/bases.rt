@@ -67,6 +67,13 @@ fn one_memory(rt: HostRuntime) {
     assert_eq!(rt; registers.apply(&read), Some(Answer::Value(0)));
     assert_eq!(rt; registers.apply(&write), Some(Answer::Done));
     assert_eq!(rt; registers.apply(&read), Some(Answer::Value(5)));
+    let swap = Op::Swap { register, value: 6 };
+    assert_eq!(rt; registers.answer(&swap), Answer::Value(5));
+    assert_eq!(rt; registers.apply(&swap), Some(Answer::Value(5)));
+    assert_eq!(rt; registers.apply(&swap), Some(Answer::Value(6)));
+    assert_eq!(rt; registers.apply(&write), Some(Answer::Done));
+    assert!(rt; swap.updates() && swap.register() == 0);
+    assert!(rt; swap.can_answer(&Answer::Value(9)) && !swap.can_answer(&Answer::Done));
     let outside = Op::Write {
         register: 1,
         value: 7,

@@ -9,6 +9,11 @@ const WRITE: [u8; 32] = [
     5,
 ];
 
+const SWAP: [u8; 32] = [
+    0, 0x1e, 2, 1, 0, 0, 0, 0, 0, 0, 0, 1, 1, 0, 0, 0, 0, 0, 0, 0, 3, 3, 0, 0, 0, 0, 0, 0, 0, 0, 0,
+    7,
+];
+
 const GOT: [u8; 12] = [0, 0x0a, 1, 2, 0, 0, 0, 0, 0, 0, 0, 1];
 
 const ACK: [u8; 21] = [
@@ -22,6 +27,11 @@ const READ: [u8; 24] = [
 fn write_of_five() -> Frame {
     let (register, value) = (0, 5);
     cast(0, 1, Op::Write { register, value })
+}
+
+fn swap_of_seven() -> Frame {
+    let (register, value) = (0, 7);
+    cast(1, 3, Op::Swap { register, value })
 }
 
 /// The fault of the bytes with one of them changed.
@@ -42,6 +52,7 @@ fn each_form_there_and_back(rt: HostRuntime) {
     };
     let table = [
         (write_of_five(), WRITE.as_slice()),
+        (swap_of_seven(), SWAP.as_slice()),
         (Frame::Got { count: 1 }, GOT.as_slice()),
         (ack, ACK.as_slice()),
         (cast(0, 1, Op::Read { register: 0 }), READ.as_slice()),
@@ -61,7 +72,8 @@ fn each_fault(rt: HostRuntime) {
     assert_eq!(rt; decode(&GOT[..11]), Err(FrameFault::Short));
     let one_byte = [
         (1, 0x1d, FrameFault::Length),
-        (2, 2, FrameFault::Version),
+        (2, 2, FrameFault::Op),
+        (2, 3, FrameFault::Version),
         (3, 3, FrameFault::Kind),
         (12, 3, FrameFault::Body),
         (21, 3, FrameFault::Op),
@@ -72,6 +84,11 @@ fn each_fault(rt: HostRuntime) {
     for (place, byte, fault) in one_byte {
         assert_eq!(rt; changed(&rt, &WRITE, place, byte), Err(fault), "at {place}");
     }
+    assert_eq!(rt; changed(&rt, &SWAP, 2, 1), Err(FrameFault::Op));
+    assert_eq!(rt; changed(&rt, &SWAP, 2, 3), Err(FrameFault::Version));
+    assert_eq!(rt; changed(&rt, &SWAP[..31], 1, 0x1d), Err(FrameFault::Size));
+    assert_eq!(rt; changed(&rt, &GOT, 2, 2), Err(FrameFault::Kind));
+    assert_eq!(rt; changed(&rt, &ACK, 2, 2), Err(FrameFault::Body));
     let data_without_body = [0, 0x0a, 1, 1, 0, 0, 0, 0, 0, 0, 0, 0];
     assert_eq!(rt; decode(&data_without_body), Err(FrameFault::Size));
     let mut longer = [0u8; 25];
@@ -87,6 +104,7 @@ fn each_fault(rt: HostRuntime) {
 fn prefixes_and_changed_bytes(rt: HostRuntime) {
     for bytes in [
         WRITE.as_slice(),
+        SWAP.as_slice(),
         GOT.as_slice(),
         ACK.as_slice(),
         READ.as_slice(),

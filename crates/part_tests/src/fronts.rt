@@ -9,6 +9,11 @@ const WRITE: Op = Op::Write {
     value: 5,
 };
 
+const SWAP: Op = Op::Swap {
+    register: 0,
+    value: 5,
+};
+
 fn starts<F: FrontEnd>() -> [Start; 4] {
     [
         F::start(&WRITE, 0),
@@ -31,6 +36,17 @@ fn the_table(rt: HostRuntime) {
                 Start::Hold
             ]
     );
+}
+
+fn casts_swaps<F: FrontEnd>() -> bool {
+    [F::start(&SWAP, 0), F::start(&SWAP, 1)] == [Start::Cast, Start::Cast]
+}
+
+#[test]
+fn each_casts_a_swap(rt: HostRuntime) {
+    assert!(rt; casts_swaps::<Linear>());
+    assert!(rt; casts_swaps::<LocalRead>());
+    assert!(rt; casts_swaps::<LocalWrite>());
 }
 
 #[test]

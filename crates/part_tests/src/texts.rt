@@ -199,6 +199,14 @@ fn operations(rt: HostRuntime) -> Result<(), Fail> {
     let name = name_of_op(&names, read);
     let line = OpLine { name, op: read };
     assert_eq!(rt; format!(in rt.alloc(); "{line}")?.as_str(), "read x");
+    let swap = Op::Swap {
+        register: 1,
+        value: 5,
+    };
+    assert_eq!(rt; op_of(b"swap y 5".as_slice(), &names), Some(swap));
+    let name = name_of_op(&names, swap);
+    let line = OpLine { name, op: swap };
+    assert_eq!(rt; format!(in rt.alloc(); "{line}")?.as_str(), "swap y 5");
     let name = name_of_op(&names, most);
     let line = OpLine { name, op: most };
     assert_eq!(rt; format!(in rt.alloc(); "{line}")?.as_str(), written);
@@ -221,6 +229,10 @@ fn texts_that_are_no_operation(rt: HostRuntime) -> Result<(), Fail> {
         "write x 5 ",
         "write x 05",
         "write x 18446744073709551616",
+        "swap z 5",
+        "swap x",
+        "swap  x 5",
+        "swapx 5",
     ] {
         assert_eq!(rt; op_of(text.as_bytes(), &names), None, "{text}");
     }
@@ -245,6 +257,10 @@ fn why_a_text_is_no_operation(rt: HostRuntime) -> Result<(), Fail> {
         ("write  5", None),
         ("write x 05", None),
         ("write é 5", None),
+        ("swap z 5", Some(Why::Name)),
+        ("swap x 18446744073709551616", Some(Why::Range)),
+        ("swap x", None),
+        ("swap x 05", None),
         ("erase x", None),
     ];
     for (text, why) in cases {

@@ -1,8 +1,8 @@
--- One memory (the sequential specification of read and write registers, Herlihy and Wing 1990, section 2).
--- A third kind of operation changes `register_of`, `updates`, `answer_of` and `after` alone.
+-- One memory (the sequential specification of read and write registers, Herlihy and Wing 1990, section 2, with a swap).
+-- A further kind of operation changes `register_of`, `updates`, `answer_of` and `after` alone.
 use Rattle.std.specs.Prelude.{◌≡◌, replicate, ℕ, Bool, true, false, List, [], ◌∷◌, slice_index, slice_set}
 use Rattle.reg_base.specs.declared.memory.Op.{Op}
-use Rattle.reg_base.specs.declared.memory.Op.TheVariants.{Read, Write}
+use Rattle.reg_base.specs.declared.memory.Op.TheVariants.{Read, Write, Swap}
 use Rattle.reg_base.specs.declared.memory.Answer.{Answer}
 use Rattle.reg_base.specs.declared.memory.Answer.TheVariants.{Done, Value}
 
@@ -14,21 +14,25 @@ Memory = List ℕ
 abbrev pub register_of : Op → ℕ
 register_of (Read r) = r
 register_of (Write r v) = r
+register_of (Swap r v) = r
 
 -- whether the operation may change the memory
 abbrev pub updates : Op → Bool
 updates (Read r) = false
 updates (Write r v) = true
+updates (Swap r v) = true
 
--- a read answers its register's value; a write answers Done
+-- a read answers its register's value; a write answers Done; a swap answers its register's old value
 abbrev pub answer_of : Op → Memory → Answer
 answer_of (Read r) m = Value (slice_index m r)
 answer_of (Write r v) m = Done
+answer_of (Swap r v) m = Value (slice_index m r)
 
--- a write replaces its register's value; a read changes nothing
+-- a write or a swap replaces its register's value; a read changes nothing
 abbrev pub after : Op → Memory → Memory
 after (Read r) m = m
 after (Write r v) m = slice_set m r v
+after (Swap r v) m = slice_set m r v
 
 -- the memory after these operations, the first of them first
 abbrev pub memory_after : List Op → Memory → Memory

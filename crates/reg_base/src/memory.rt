@@ -4,6 +4,7 @@ ghost use Rattle.reg_base.specs.Memory.{register_of, updates, answer_of, after, 
 
 use std::alloc::{AllocError, Allocator, Global};
 use std::marker::Model;
+use std::mem;
 
 /// An operation on one register.
 #[derive(Clone, Copy, Debug, PartialEq, Eq)]
@@ -12,6 +13,8 @@ pub enum Op {
     Read { register: u16 },
     /// Replaces the register's value.
     Write { register: u16, value: u64 },
+    /// Replaces the register's value, and answers the old one.
+    Swap { register: u16, value: u64 },
 }
 
 /// What an operation answers.
@@ -19,7 +22,7 @@ pub enum Op {
 pub enum Answer {
     /// The answer of a write.
     Done,
-    /// The answer of a read: the register's value.
+    /// The answer of a read or a swap: the register's value before it.
     Value(u64),
 }
 
@@ -38,6 +41,10 @@ impl Op {
         match *self {
             Op::Read { register: _ } => false,
             Op::Write {
+                register: _,
+                value: _,
+            } => true,
+            Op::Swap {
                 register: _,
                 value: _,
             } => true,
@@ -60,6 +67,13 @@ impl Op {
                 Answer::Done => true,
                 Answer::Value(_) => false,
             },
+            Op::Swap {
+                register: _,
+                value: _,
+            } => match *answer {
+                Answer::Done => false,
+                Answer::Value(_) => true,
+            },
         }
     }
 
@@ -70,6 +84,7 @@ impl Op {
         match *self {
             Op::Read { register } => register,
             Op::Write { register, value: _ } => register,
+            Op::Swap { register, value: _ } => register,
         }
     }
 }
@@ -122,6 +137,7 @@ impl<A: Allocator + Copy> Registers<A> {
                 register: _,
                 value: _,
             } => Answer::Done,
+            Op::Swap { register, value: _ } => Answer::Value(self.values[register as usize]),
         }
     }
 
@@ -136,6 +152,10 @@ impl<A: Allocator + Copy> Registers<A> {
                 let kept = self.values.get_mut(register as usize)?;
                 *kept = value;
                 Some(Answer::Done)
+            }
+            Op::Swap { register, value } => {
+                let kept = self.values.get_mut(register as usize)?;
+                Some(Answer::Value(mem::replace(kept, value)))
             }
         }
     }

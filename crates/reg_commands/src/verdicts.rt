@@ -11,7 +11,7 @@ use std::io::Write;
 /// What is wrong with an order: a fault of its check, want of memory aside.
 #[derive(Clone, Copy, Debug, PartialEq, Eq)]
 pub enum Finding {
-    /// Some id is neither a finished operation nor a called write.
+    /// Some id is neither a finished operation nor a called write or swap.
     Unknown,
     /// Some id stands twice.
     Twice,

@@ -6,15 +6,15 @@ use Rattle.std.proofs.lemmas.Bool.{ltb-false, eqb-true}
 use Rattle.std.proofs.lemmas.Bool.Decides.{nat_tests}
 use Rattle.reg_base.specs.declared.limits.TheConstants.{MOST_REGISTERS, LAST_TIME, FRAME_NUMBERS}
 use Rattle.reg_base.specs.declared.memory.Op.{Op}
-use Rattle.reg_base.specs.declared.memory.Op.TheVariants.{Read, Write}
+use Rattle.reg_base.specs.declared.memory.Op.TheVariants.{Read, Write, Swap}
 use Rattle.reg_base.specs.Memory.{register_of}
 use Rattle.reg_frames.specs.declared.bodies.Body.TheVariants.{Cast, Ack}
 use Rattle.reg_frames.specs.declared.bodies.Frame.{Frame}
 use Rattle.reg_frames.specs.declared.bodies.Frame.TheVariants.{Numbered, Got}
 use Rattle.reg_frames.specs.declared.faults.FrameFault.{FrameFault}
 use Rattle.reg_frames.specs.declared.faults.FrameFault.TheVariants as faults
-use Rattle.reg_frames.specs.Spelling.{op_bytes, body_bytes, payload, spelling, OpFits, TimeFits, Fits, Spells}
-use Rattle.reg_frames.specs.Reading.{OpIsNarrow, IsNarrow, number_at, is_time, body_fits, frame_fits, in_range, sized, cast_at, cast_of, data_of, frame_of}
+use Rattle.reg_frames.specs.Spelling.{op_bytes, body_bytes, payload, version_of, spelling, OpFits, TimeFits, Fits, Spells}
+use Rattle.reg_frames.specs.Reading.{OpIsNarrow, IsNarrow, number_at, is_time, body_fits, frame_fits, in_range, sized, cast_at, cast_of, data_of, plain_of, swap_cast_of, swap_data_of, swap_of, frame_of}
 use Rattle.reg_frames.proofs.Fields.{IsBytes, chosen, wide16, wide64, number_there, number_below, byte_there, none_left}
 
 and_true : (a b : Bool) → (a && b) ≡ true → (a ≡ true) × (b ≡ true)
@@ -27,6 +27,7 @@ time_fits time h = let p = and_true (nat_lt 0 time) (nat_le time LAST_TIME) h in
 op_fits : (op : Op) → OpIsNarrow op → nat_lt (register_of op) MOST_REGISTERS ≡ true → OpFits op
 op_fits (Read register) narrow h = grind (arith, nat_tests)
 op_fits (Write register value) narrow h = (grind (arith, nat_tests), narrow)
+op_fits (Swap register value) narrow h = (grind (arith, nat_tests), narrow)
 
 pub fits_from : (frame : Frame) → IsNarrow frame → frame_fits frame ≡ true → Fits frame
 fits_from (Got count) narrow h = grind (arith, nat_tests)
@@ -47,6 +48,7 @@ time_back time h = let a = h.0 in let b = h.1 in both_true (nat_lt 0 time) (nat_
 op_back : (op : Op) → OpFits op → nat_lt (register_of op) MOST_REGISTERS ≡ true
 op_back (Read register) h = grind (arith, nat_tests)
 op_back (Write register value) h = let a = h.0 in grind (arith, nat_tests)
+op_back (Swap register value) h = let a = h.0 in grind (arith, nat_tests)
 
 pub fits_back : (frame : Frame) → Fits frame → frame_fits frame ≡ true
 fits_back (Got count) h = grind (arith, nat_tests)
@@ -94,13 +96,13 @@ sized_is size bytes frame f e = go (chosen (length bytes == size) (in_range fram
 
 module _ (bytes : List ℕ) (fits : IsBytes bytes) where
   -- what stands before the payload's fields
-  head : (kind : ℕ) (rest : List ℕ) → 12 ≤ length bytes → number_at w16 0 bytes ≡ length bytes - 2 → get_or bytes 2 0 ≡ 1 → get_or bytes 3 0 ≡ kind → drop 4 bytes ≡ rest → bytes ≡ to_be_bytes w16 (length (kind ∷ rest) + 1) ++ 1 ∷ kind ∷ rest
-  head kind rest long len version kind_is rest_is =
+  head : (v kind : ℕ) (rest : List ℕ) → 12 ≤ length bytes → number_at w16 0 bytes ≡ length bytes - 2 → get_or bytes 2 0 ≡ v → get_or bytes 3 0 ≡ kind → drop 4 bytes ≡ rest → bytes ≡ to_be_bytes w16 (length (kind ∷ rest) + 1) ++ v ∷ kind ∷ rest
+  head v kind rest long len version kind_is rest_is =
       let size : length bytes - 2 ≡ length (kind ∷ rest) + 1 = omega (arith, length-drop 4 bytes, ap length rest_is) in
       let a = number_there bytes fits w16 (2 ^ 16) wide16 0 2 refl (omega arith) in
-      let b = byte_there bytes fits 2 1 (omega arith) version in
+      let b = byte_there bytes fits 2 v (omega arith) version in
       let c = byte_there bytes fits 3 kind (omega arith) kind_is in
-      a ∙ (ap (λ (n : ℕ). to_be_bytes w16 n ++ drop 2 bytes) (len ∙ size) ∙ ap (λ (xs : List ℕ). to_be_bytes w16 (length (kind ∷ rest) + 1) ++ xs) (b ∙ (ap (λ (xs : List ℕ). 1 ∷ xs) (c ∙ ap (λ (xs : List ℕ). kind ∷ xs) rest_is))))
+      a ∙ (ap (λ (n : ℕ). to_be_bytes w16 n ++ drop 2 bytes) (len ∙ size) ∙ ap (λ (xs : List ℕ). to_be_bytes w16 (length (kind ∷ rest) + 1) ++ xs) (b ∙ (ap (λ (xs : List ℕ). v ∷ xs) (c ∙ ap (λ (xs : List ℕ). kind ∷ xs) rest_is))))
 
   got_form : length bytes ≡ 12 → drop 4 bytes ≡ to_be_bytes w64 (number_at w64 4 bytes)
   got_form size =
@@ -120,9 +122,10 @@ module _ (bytes : List ℕ) (fits : IsBytes bytes) where
       byte_there bytes fits 21 1 (omega arith) is ∙ ap (λ (xs : List ℕ). 1 ∷ xs)
       (number_there bytes fits w16 (2 ^ 16) wide16 22 24 refl (omega arith) ∙ (ap (λ (xs : List ℕ). to_be_bytes w16 (number_at w16 22 bytes) ++ xs) (none_left bytes 24 size) ∙ append-nil (to_be_bytes w16 (number_at w16 22 bytes))))
 
-  write_form : length bytes ≡ 32 → get_or bytes 21 0 ≡ 2 → drop 21 bytes ≡ op_bytes (Write (number_at w16 22 bytes) (number_at w64 24 bytes))
-  write_form size is =
-      byte_there bytes fits 21 2 (omega arith) is ∙ ap (λ (xs : List ℕ). 2 ∷ xs)
+  -- a write, or a swap, by its operation's byte
+  valued_form : (kind : ℕ) → length bytes ≡ 32 → get_or bytes 21 0 ≡ kind → drop 21 bytes ≡ kind ∷ (to_be_bytes w16 (number_at w16 22 bytes) ++ to_be_bytes w64 (number_at w64 24 bytes))
+  valued_form kind size is =
+      byte_there bytes fits 21 kind (omega arith) is ∙ ap (λ (xs : List ℕ). kind ∷ xs)
       (number_there bytes fits w16 (2 ^ 16) wide16 22 24 refl (omega arith) ∙ ap (λ (xs : List ℕ). to_be_bytes w16 (number_at w16 22 bytes) ++ xs)
       (number_there bytes fits w64 (2 ^ 64) wide64 24 32 refl (omega arith) ∙ (ap (λ (xs : List ℕ). to_be_bytes w64 (number_at w64 24 bytes) ++ xs) (none_left bytes 32 size) ∙ append-nil (to_be_bytes w64 (number_at w64 24 bytes)))))
 
@@ -131,12 +134,12 @@ module _ (bytes : List ℕ) (fits : IsBytes bytes) where
       data_form 2 [] (omega arith) body (none_left bytes 21 size) ∙ ap (λ (xs : List ℕ). to_be_bytes w64 (number_at w64 4 bytes) ++ 2 ∷ xs) (append-nil (to_be_bytes w64 (number_at w64 13 bytes)))
 
   -- a frame of the right size, whose fields the bytes spell
-  spelt : (size kind : ℕ) (rest : List ℕ) (frame f : Frame) → 12 ≤ length bytes → number_at w16 0 bytes ≡ length bytes - 2 → get_or bytes 2 0 ≡ 1 → get_or bytes 3 0 ≡ kind → IsNarrow frame
-      → (length bytes ≡ size → drop 4 bytes ≡ rest) → kind ∷ rest ≡ payload frame → sized size bytes frame ≡ Ok f → Spells f bytes
-  spelt size kind rest frame f long len version kind_is narrow form same e =
+  spelt : (v size kind : ℕ) (rest : List ℕ) (frame f : Frame) → 12 ≤ length bytes → number_at w16 0 bytes ≡ length bytes - 2 → get_or bytes 2 0 ≡ v → get_or bytes 3 0 ≡ kind → IsNarrow frame
+      → (length bytes ≡ size → drop 4 bytes ≡ rest) → v ≡ version_of frame → kind ∷ rest ≡ payload frame → sized size bytes frame ≡ Ok f → Spells f bytes
+  spelt v size kind rest frame f long len version kind_is narrow form versed same e =
       let s = sized_is size bytes frame f e in
-      let whole = head kind rest long len version kind_is (form s.0) in
-      let bytes_are : bytes ≡ spelling frame = whole ∙ ap (λ (p : List ℕ). to_be_bytes w16 (length p + 1) ++ 1 ∷ p) same in
+      let whole = head v kind rest long len version kind_is (form s.0) in
+      let bytes_are : bytes ≡ spelling frame = whole ∙ ap₂ (λ (w : ℕ) (p : List ℕ). to_be_bytes w16 (length p + 1) ++ w ∷ p) versed same in
       subst (λ (x : Frame). Spells x bytes) s.2 (fits_from frame narrow s.1, bytes_are)
 
   -- the numbers that are read fit their widths
@@ -149,6 +152,9 @@ module _ (bytes : List ℕ) (fits : IsBytes bytes) where
   abbrev a_write : Frame
   a_write = cast_at bytes (Write (number_at w16 22 bytes) (number_at w64 24 bytes))
 
+  abbrev a_swap : Frame
+  a_swap = cast_at bytes (Swap (number_at w16 22 bytes) (number_at w64 24 bytes))
+
   abbrev an_ack : Frame
   an_ack = Numbered (number_at w64 4 bytes) (Ack (number_at w64 13 bytes))
 
@@ -159,12 +165,12 @@ module _ (bytes : List ℕ) (fits : IsBytes bytes) where
         go (chosen (get_or bytes 21 0 == 1) (sized 24 bytes a_read) (cond (get_or bytes 21 0 == 2) (sized 32 bytes a_write) (failed faults.Op)) (done f) g.1)
       where
         go : (((get_or bytes 21 0 == 1) ≡ true) × (sized 24 bytes a_read ≡ done f)) ⊎ (((get_or bytes 21 0 == 1) ≡ false) × (cond (get_or bytes 21 0 == 2) (sized 32 bytes a_write) (failed faults.Op) ≡ done f)) → Spells f bytes
-        go (inl (is, h)) = spelt 24 1 (to_be_bytes w64 (number_at w64 4 bytes) ++ body_bytes (Cast (number_at w64 13 bytes) (Read (number_at w16 22 bytes)))) a_read f long len version kind tt
-            (λ size. data_form 1 (op_bytes (Read (number_at w16 22 bytes))) (omega arith) body (read_form size (eqb-true (get_or bytes 21 0) 1 is))) refl h
+        go (inl (is, h)) = spelt 1 24 1 (to_be_bytes w64 (number_at w64 4 bytes) ++ body_bytes (Cast (number_at w64 13 bytes) (Read (number_at w16 22 bytes)))) a_read f long len version kind tt
+            (λ size. data_form 1 (op_bytes (Read (number_at w16 22 bytes))) (omega arith) body (read_form size (eqb-true (get_or bytes 21 0) 1 is))) refl refl h
         go (inr (not, h)) =
             let w = wanted (get_or bytes 21 0 == 2) faults.Op (sized 32 bytes a_write) f h in
-            spelt 32 1 (to_be_bytes w64 (number_at w64 4 bytes) ++ body_bytes (Cast (number_at w64 13 bytes) (Write (number_at w16 22 bytes) (number_at w64 24 bytes)))) a_write f long len version kind (below64 24)
-            (λ size. data_form 1 (op_bytes (Write (number_at w16 22 bytes) (number_at w64 24 bytes))) (omega arith) body (write_form size (eqb-true (get_or bytes 21 0) 2 w.0))) refl w.1
+            spelt 1 32 1 (to_be_bytes w64 (number_at w64 4 bytes) ++ body_bytes (Cast (number_at w64 13 bytes) (Write (number_at w16 22 bytes) (number_at w64 24 bytes)))) a_write f long len version kind (below64 24)
+            (λ size. data_form 1 (op_bytes (Write (number_at w16 22 bytes) (number_at w64 24 bytes))) (omega arith) body (valued_form 2 size (eqb-true (get_or bytes 21 0) 2 w.0))) refl refl w.1
 
     data_takes : get_or bytes 3 0 ≡ 1 → data_of bytes ≡ done f → Spells f bytes
     data_takes kind e =
@@ -175,26 +181,43 @@ module _ (bytes : List ℕ) (fits : IsBytes bytes) where
         go (inl (is, h)) = cast_takes kind (eqb-true (get_or bytes 12 0) 1 is) h
         go (inr (not, h)) =
             let w = wanted (get_or bytes 12 0 == 2) faults.Body (sized 21 bytes an_ack) f h in
-            spelt 21 1 (to_be_bytes w64 (number_at w64 4 bytes) ++ body_bytes (Ack (number_at w64 13 bytes))) an_ack f long len version kind tt
-            (λ size. ack_form size (eqb-true (get_or bytes 12 0) 2 w.0)) refl w.1
+            spelt 1 21 1 (to_be_bytes w64 (number_at w64 4 bytes) ++ body_bytes (Ack (number_at w64 13 bytes))) an_ack f long len version kind tt
+            (λ size. ack_form size (eqb-true (get_or bytes 12 0) 2 w.0)) refl refl w.1
 
-    frame_takes : cond (get_or bytes 3 0 == 1) (data_of bytes) (cond (get_or bytes 3 0 == 2) (sized 12 bytes (Got (number_at w64 4 bytes))) (failed faults.Kind)) ≡ done f → Spells f bytes
-    frame_takes e = go (chosen (get_or bytes 3 0 == 1) (data_of bytes) (cond (get_or bytes 3 0 == 2) (sized 12 bytes (Got (number_at w64 4 bytes))) (failed faults.Kind)) (done f) e)
+    plain_takes : plain_of bytes ≡ done f → Spells f bytes
+    plain_takes e = go (chosen (get_or bytes 3 0 == 1) (data_of bytes) (cond (get_or bytes 3 0 == 2) (sized 12 bytes (Got (number_at w64 4 bytes))) (failed faults.Kind)) (done f) e)
       where
         go : (((get_or bytes 3 0 == 1) ≡ true) × (data_of bytes ≡ done f)) ⊎ (((get_or bytes 3 0 == 1) ≡ false) × (cond (get_or bytes 3 0 == 2) (sized 12 bytes (Got (number_at w64 4 bytes))) (failed faults.Kind) ≡ done f)) → Spells f bytes
         go (inl (is, h)) = data_takes (eqb-true (get_or bytes 3 0) 1 is) h
         go (inr (not, h)) =
             let w = wanted (get_or bytes 3 0 == 2) faults.Kind (sized 12 bytes (Got (number_at w64 4 bytes))) f h in
-            spelt 12 2 (to_be_bytes w64 (number_at w64 4 bytes)) (Got (number_at w64 4 bytes)) f long len version (eqb-true (get_or bytes 3 0) 2 w.0) tt got_form refl w.1
+            spelt 1 12 2 (to_be_bytes w64 (number_at w64 4 bytes)) (Got (number_at w64 4 bytes)) f long len version (eqb-true (get_or bytes 3 0) 2 w.0) tt got_form refl refl w.1
+
+  module _ (f : Frame) (long : 12 ≤ length bytes) (len : number_at w16 0 bytes ≡ length bytes - 2) (version : get_or bytes 2 0 ≡ 2) where
+    swap_takes : swap_of bytes ≡ done f → Spells f bytes
+    swap_takes e =
+        let a = wanted (get_or bytes 3 0 == 1) faults.Kind (swap_data_of bytes) f e in
+        let b = guard (nat_lt (length bytes) 13) faults.Size (cond (get_or bytes 12 0 == 1) (swap_cast_of bytes) (failed faults.Body)) f a.1 in
+        let c = wanted (get_or bytes 12 0 == 1) faults.Body (swap_cast_of bytes) f b.1 in
+        let d = guard (nat_lt (length bytes) 22) faults.Size (cond (get_or bytes 21 0 == 3) (sized 32 bytes a_swap) (failed faults.Op)) f c.1 in
+        let w = wanted (get_or bytes 21 0 == 3) faults.Op (sized 32 bytes a_swap) f d.1 in
+        spelt 2 32 1 (to_be_bytes w64 (number_at w64 4 bytes) ++ body_bytes (Cast (number_at w64 13 bytes) (Swap (number_at w16 22 bytes) (number_at w64 24 bytes)))) a_swap f long len version (eqb-true (get_or bytes 3 0) 1 a.0) (below64 24)
+        (λ size. data_form 1 (op_bytes (Swap (number_at w16 22 bytes) (number_at w64 24 bytes))) (omega arith) (eqb-true (get_or bytes 12 0) 1 c.0) (valued_form 3 size (eqb-true (get_or bytes 21 0) 3 w.0))) refl refl w.1
 
 -- what is read is spelled so
 pub takes : (bytes : List ℕ) (f : Frame) → IsBytes bytes → frame_of bytes ≡ Ok f → Spells f bytes
 takes bytes f fits e =
-    let rest : Result Frame FrameFault = cond (get_or bytes 3 0 == 1) (data_of bytes) (cond (get_or bytes 3 0 == 2) (sized 12 bytes (Got (number_at w64 4 bytes))) (failed faults.Kind)) in
-    let a = guard (nat_lt (length bytes) 12) faults.Short (cond (number_at w16 0 bytes == length bytes - 2) (cond (get_or bytes 2 0 == 1) rest (failed faults.Version)) (failed faults.Length)) f e in
-    let b = wanted (number_at w16 0 bytes == length bytes - 2) faults.Length (cond (get_or bytes 2 0 == 1) rest (failed faults.Version)) f a.1 in
-    let c = wanted (get_or bytes 2 0 == 1) faults.Version rest f b.1 in
-    frame_takes bytes fits f (ltb-false (length bytes) 12 a.0) (eqb-true (number_at w16 0 bytes) (length bytes - 2) b.0) (eqb-true (get_or bytes 2 0) 1 c.0) c.1
+    let versions : Result Frame FrameFault = cond (get_or bytes 2 0 == 1) (plain_of bytes) (cond (get_or bytes 2 0 == 2) (swap_of bytes) (failed faults.Version)) in
+    let a = guard (nat_lt (length bytes) 12) faults.Short (cond (number_at w16 0 bytes == length bytes - 2) versions (failed faults.Length)) f e in
+    let b = wanted (number_at w16 0 bytes == length bytes - 2) faults.Length versions f a.1 in
+    go (ltb-false (length bytes) 12 a.0) (eqb-true (number_at w16 0 bytes) (length bytes - 2) b.0) (chosen (get_or bytes 2 0 == 1) (plain_of bytes) (cond (get_or bytes 2 0 == 2) (swap_of bytes) (failed faults.Version)) (done f) b.1)
+  where
+    go : 12 ≤ length bytes → number_at w16 0 bytes ≡ length bytes - 2
+        → (((get_or bytes 2 0 == 1) ≡ true) × (plain_of bytes ≡ done f)) ⊎ (((get_or bytes 2 0 == 1) ≡ false) × (cond (get_or bytes 2 0 == 2) (swap_of bytes) (failed faults.Version) ≡ done f)) → Spells f bytes
+    go long len (inl (is, h)) = plain_takes bytes fits f long len (eqb-true (get_or bytes 2 0) 1 is) h
+    go long len (inr (not, h)) =
+        let w = wanted (get_or bytes 2 0 == 2) faults.Version (swap_of bytes) f h in
+        swap_takes bytes fits f long len (eqb-true (get_or bytes 2 0) 2 w.0) w.1
 
 in_range_is : (frame : Frame) → Fits frame → in_range frame ≡ Ok frame
 in_range_is frame fits = ap (λ (b : Bool). cond b (done frame) (failed faults.Range)) (fits_back frame fits)
@@ -220,6 +243,12 @@ again (Numbered number (Cast time (Write register value))) fits =
     let r : register < 2 ^ 16 = (let a = fits.1.1.0 in omega arith) in
     ap₂ (λ (n t : ℕ). in_range (Numbered n (Cast t (Write (number_at w16 0 (to_be_bytes w16 register)) (number_at w64 0 (to_be_bytes w64 value)))))) (wide64.again number n) (wide64.again time t)
     ∙ (ap₂ (λ (k v : ℕ). in_range (Numbered number (Cast time (Write k v)))) (wide16.again register r) (wide64.again value fits.1.1.1) ∙ in_range_is (Numbered number (Cast time (Write register value))) fits)
+again (Numbered number (Cast time (Swap register value))) fits =
+    let n : number < 2 ^ 64 = (let a = fits.0 in omega arith) in
+    let t : time < 2 ^ 64 = (let a = fits.1.0.1 in omega arith) in
+    let r : register < 2 ^ 16 = (let a = fits.1.1.0 in omega arith) in
+    ap₂ (λ (n t : ℕ). in_range (Numbered n (Cast t (Swap (number_at w16 0 (to_be_bytes w16 register)) (number_at w64 0 (to_be_bytes w64 value)))))) (wide64.again number n) (wide64.again time t)
+    ∙ (ap₂ (λ (k v : ℕ). in_range (Numbered number (Cast time (Swap k v)))) (wide16.again register r) (wide64.again value fits.1.1.1) ∙ in_range_is (Numbered number (Cast time (Swap register value))) fits)
 
 pub spelt_by : (frame : Frame) (bytes : List ℕ) → IsNarrow frame → frame_fits frame ≡ true → bytes ≡ spelling frame → Spells frame bytes
 spelt_by frame bytes narrow fits is = (fits_from frame narrow fits, is)

@@ -3,7 +3,7 @@ use Rattle.std.specs.Prelude.{ℕ, ◌<◌, ◌^◌, ◌-◌, ◌==◌, ◌&&◌
 use Rattle.std.specs.Int.{Width, w16, w64, byte_len, from_be_bytes}
 use Rattle.reg_base.specs.declared.limits.TheConstants.{MOST_REGISTERS, LAST_TIME, FRAME_NUMBERS}
 use Rattle.reg_base.specs.declared.memory.Op.{Op}
-use Rattle.reg_base.specs.declared.memory.Op.TheVariants.{Read, Write}
+use Rattle.reg_base.specs.declared.memory.Op.TheVariants.{Read, Write, Swap}
 use Rattle.reg_base.specs.Memory.{register_of}
 use Rattle.reg_frames.specs.declared.bodies.Body.{Body}
 use Rattle.reg_frames.specs.declared.bodies.Body.TheVariants.{Cast, Ack}
@@ -23,10 +23,11 @@ abbrev pub body_fits : Body → Bool
 body_fits (Cast time op) = is_time time && nat_lt (register_of op) MOST_REGISTERS
 body_fits (Ack time) = is_time time
 
--- the value of a write fits its width, as each that a program holds does
+-- the value of a write or a swap fits its width, as each that a program holds does
 abbrev pub OpIsNarrow : Op → Type 0
 OpIsNarrow (Read register) = Unit {0}
 OpIsNarrow (Write register value) = value < 2 ^ 64
+OpIsNarrow (Swap register value) = value < 2 ^ 64
 
 abbrev pub BodyIsNarrow : Body → Type 0
 BodyIsNarrow (Cast time op) = OpIsNarrow op
@@ -67,14 +68,35 @@ data_of bytes =
     if slice_index bytes 12 == 2 then sized 21 bytes (Numbered (number_at w64 4 bytes) (Ack (number_at w64 13 bytes))) else
     Err faults.Body
 
+-- a frame of version 1 by its kind
+abbrev pub plain_of : List ℕ → Result Frame FrameFault
+plain_of bytes =
+    if slice_index bytes 3 == 1 then data_of bytes else
+    if slice_index bytes 3 == 2 then sized 12 bytes (Got (number_at w64 4 bytes)) else
+    Err faults.Kind
+
+-- a frame of version 2, which is the cast of a swap
+abbrev pub swap_cast_of : List ℕ → Result Frame FrameFault
+swap_cast_of bytes =
+    if nat_lt (length bytes) 22 then Err faults.Size else
+    if slice_index bytes 21 == 3 then sized 32 bytes (cast_at bytes (Swap (number_at w16 22 bytes) (number_at w64 24 bytes))) else
+    Err faults.Op
+
+abbrev pub swap_data_of : List ℕ → Result Frame FrameFault
+swap_data_of bytes =
+    if nat_lt (length bytes) 13 then Err faults.Size else
+    if slice_index bytes 12 == 1 then swap_cast_of bytes else
+    Err faults.Body
+
+abbrev pub swap_of : List ℕ → Result Frame FrameFault
+swap_of bytes = if slice_index bytes 3 == 1 then swap_data_of bytes else Err faults.Kind
+
 -- the frame, or the first fault
 abbrev pub frame_of : List ℕ → Result Frame FrameFault
 frame_of bytes =
     if nat_lt (length bytes) 12 then Err faults.Short else
     if number_at w16 0 bytes == length bytes - 2 then
-    (if slice_index bytes 2 == 1 then
-    (if slice_index bytes 3 == 1 then data_of bytes else
-    if slice_index bytes 3 == 2 then sized 12 bytes (Got (number_at w64 4 bytes)) else
-    Err faults.Kind)
-    else Err faults.Version)
+    (if slice_index bytes 2 == 1 then plain_of bytes else
+    if slice_index bytes 2 == 2 then swap_of bytes else
+    Err faults.Version)
     else Err faults.Length

@@ -3,7 +3,7 @@ use Rattle.std.specs.Prelude.{ℕ, ◌≡◌, ◌+◌, ◌<◌, ◌≤◌, ◌^�
 use Rattle.std.specs.Int.{w16, w64, to_be_bytes}
 use Rattle.reg_base.specs.declared.limits.TheConstants.{MOST_REGISTERS, LAST_TIME, FRAME_NUMBERS}
 use Rattle.reg_base.specs.declared.memory.Op.{Op}
-use Rattle.reg_base.specs.declared.memory.Op.TheVariants.{Read, Write}
+use Rattle.reg_base.specs.declared.memory.Op.TheVariants.{Read, Write, Swap}
 use Rattle.reg_frames.specs.declared.bodies.Body.{Body}
 use Rattle.reg_frames.specs.declared.bodies.Body.TheVariants.{Cast, Ack}
 use Rattle.reg_frames.specs.declared.bodies.Frame.{Frame}
@@ -11,10 +11,11 @@ use Rattle.reg_frames.specs.declared.bodies.Frame.TheVariants.{Numbered, Got}
 use Rattle.reg_frames.specs.declared.faults.FrameFault.{FrameFault}
 use Rattle.reg_frames.specs.declared.faults.FrameFault.TheVariants as faults
 
--- the operation's byte, its register in two bytes, and the value of a write in eight
+-- the operation's byte, its register in two bytes, and the value of a write or a swap in eight
 abbrev pub op_bytes : Op → List ℕ
 op_bytes (Read register) = 1 ∷ to_be_bytes w16 register
 op_bytes (Write register value) = 2 ∷ (to_be_bytes w16 register ++ to_be_bytes w64 value)
+op_bytes (Swap register value) = 3 ∷ (to_be_bytes w16 register ++ to_be_bytes w64 value)
 
 -- the body's byte, its time in eight bytes, and the operation of a cast
 abbrev pub body_bytes : Body → List ℕ
@@ -26,13 +27,28 @@ abbrev pub payload : Frame → List ℕ
 payload (Numbered number body) = 1 ∷ (to_be_bytes w64 number ++ body_bytes body)
 payload (Got count) = 2 ∷ to_be_bytes w64 count
 
+-- the cast of a swap has version 2, all else version 1
+abbrev pub op_version : Op → ℕ
+op_version (Read register) = 1
+op_version (Write register value) = 1
+op_version (Swap register value) = 2
+
+abbrev pub body_version : Body → ℕ
+body_version (Cast time op) = op_version op
+body_version (Ack time) = 1
+
+abbrev pub version_of : Frame → ℕ
+version_of (Numbered number body) = body_version body
+version_of (Got count) = 1
+
 -- the length of what follows in two bytes, the version, and the payload
 abbrev pub spelling : Frame → List ℕ
-spelling frame = to_be_bytes w16 (length (payload frame) + 1) ++ 1 ∷ payload frame
+spelling frame = to_be_bytes w16 (length (payload frame) + 1) ++ version_of frame ∷ payload frame
 
 abbrev pub OpFits : Op → Type 0
 OpFits (Read register) = register < MOST_REGISTERS
 OpFits (Write register value) = (register < MOST_REGISTERS) × (value < 2 ^ 64)
+OpFits (Swap register value) = (register < MOST_REGISTERS) × (value < 2 ^ 64)
 
 abbrev pub TimeFits : ℕ → Type 0
 TimeFits time = (0 < time) × (time ≤ LAST_TIME)

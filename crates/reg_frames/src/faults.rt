@@ -7,13 +7,13 @@ pub enum FrameFault {
     Short,
     /// The length field isn't the number of bytes after it.
     Length,
-    /// The version isn't 1.
+    /// The version is neither 1 nor 2.
     Version,
-    /// The frame is neither a data frame nor a count.
+    /// The frame is neither a data frame nor a count, or no data frame in version 2.
     Kind,
-    /// The body is neither a cast nor an acknowledgement.
+    /// The body is neither a cast nor an acknowledgement, or no cast in version 2.
     Body,
-    /// The operation is neither a read nor a write.
+    /// The operation is neither a read nor a write in version 1, or no swap in version 2.
     Op,
     /// There are more or fewer bytes than the form has.
     Size,

@@ -2,12 +2,12 @@
 ghost use Rattle.std.specs.Prelude.{◌≡◌, ◌+◌, ◌≤◌, nat_lt, length, IfOk, Ok};
 ghost use Rattle.reg_base.specs.Memory.{register_of};
 ghost use Rattle.std.specs.Int.{w16, w64};
-ghost use Rattle.reg_base.specs.declared.memory.Op.TheVariants.{Read, Write};
+ghost use Rattle.reg_base.specs.declared.memory.Op.TheVariants.{Read, Write, Swap};
 ghost use Rattle.reg_frames.specs.declared.bodies.Body.TheVariants.{Ack};
 ghost use Rattle.reg_frames.specs.declared.bodies.Frame.{Frame};
 ghost use Rattle.reg_frames.specs.declared.bodies.Frame.TheVariants.{Numbered, Got};
 ghost use Rattle.reg_frames.specs.Spelling.{Spells};
-ghost use Rattle.reg_frames.specs.Reading.{number_at, cast_at, is_time, body_fits as is_body, OpIsNarrow, BodyIsNarrow, IsNarrow, frame_fits, in_range as in_range_of, sized as sized_of, cast_of, data_of, frame_of};
+ghost use Rattle.reg_frames.specs.Reading.{number_at, cast_at, is_time, body_fits as is_body, OpIsNarrow, BodyIsNarrow, IsNarrow, frame_fits, in_range as in_range_of, sized as sized_of, cast_of, data_of, plain_of, swap_cast_of, swap_data_of, swap_of, frame_of};
 
 use crate::bodies::{Body, Frame};
 use crate::faults::FrameFault;
@@ -39,6 +39,7 @@ fn op_fits(op: Op) -> bool
     let _value = match op {
         Op::Read { register: _ } => 0,
         Op::Write { register: _, value } => value,
+        Op::Swap { register: _, value } => value,
     };
     u32::from(op.register()) < MOST_REGISTERS
 }
@@ -177,6 +178,64 @@ fn got(bytes: &[u8]) -> Result<Frame, FrameFault>
     in_range(Frame::Got { count })
 }
 
+fn plain(bytes: &[u8]) -> Result<Frame, FrameFault>
+    requires { 12 ≤ length bytes.now }
+    ensures { result ≡ plain_of bytes.now }
+{
+    if bytes[3] == 1 {
+        return data_frame(bytes);
+    }
+    if bytes[3] == 2 {
+        return got(bytes);
+    }
+    Err(FrameFault::Kind)
+}
+
+fn swap_cast(bytes: &[u8]) -> Result<Frame, FrameFault>
+    ensures { result ≡ swap_cast_of bytes.now }
+{
+    if bytes.len() < 22 {
+        return Err(FrameFault::Size);
+    }
+    if bytes[21] != 3 {
+        return Err(FrameFault::Op);
+    }
+    if bytes.len() != 32 {
+        return Err(FrameFault::Size);
+    }
+    let register = u16_at(bytes, 22);
+    let value = u64_at(bytes, 24);
+    let time = u64_at(bytes, 13);
+    let body = Body::Cast {
+        time,
+        op: Op::Swap { register, value },
+    };
+    let number = u64_at(bytes, 4);
+    in_range(Frame::Numbered { number, body })
+}
+
+fn swap_data_frame(bytes: &[u8]) -> Result<Frame, FrameFault>
+    ensures { result ≡ swap_data_of bytes.now }
+{
+    if bytes.len() < 13 {
+        return Err(FrameFault::Size);
+    }
+    if bytes[12] == 1 {
+        return swap_cast(bytes);
+    }
+    Err(FrameFault::Body)
+}
+
+fn swap(bytes: &[u8]) -> Result<Frame, FrameFault>
+    requires { 12 ≤ length bytes.now }
+    ensures { result ≡ swap_of bytes.now }
+{
+    if bytes[3] == 1 {
+        return swap_data_frame(bytes);
+    }
+    Err(FrameFault::Kind)
+}
+
 fn frame(bytes: &[u8]) -> Result<Frame, FrameFault>
     ensures { result ≡ frame_of bytes.now }
 {
@@ -186,16 +245,13 @@ fn frame(bytes: &[u8]) -> Result<Frame, FrameFault>
     if u16_at(bytes, 0) as usize != bytes.len() - 2 {
         return Err(FrameFault::Length);
     }
-    if bytes[2] != 1 {
-        return Err(FrameFault::Version);
+    if bytes[2] == 1 {
+        return plain(bytes);
     }
-    if bytes[3] == 1 {
-        return data_frame(bytes);
+    if bytes[2] == 2 {
+        return swap(bytes);
     }
-    if bytes[3] == 2 {
-        return got(bytes);
-    }
-    Err(FrameFault::Kind)
+    Err(FrameFault::Version)
 }
 
 /// The frame that the bytes spell, or the first fault of the fixed row of tests. Takes no memory.

@@ -1,6 +1,6 @@
 //! The bytes of a frame.
 ghost use Rattle.std.specs.Prelude.{◌≡◌, ◌+◌, ◌++◌, length, OnOk, IfOk, MatchResult};
-ghost use Rattle.reg_frames.specs.Spelling.{op_bytes, body_bytes, payload, spelling, Spells, Refuses};
+ghost use Rattle.reg_frames.specs.Spelling.{op_bytes, body_bytes, payload, version_of as version_of_frame, spelling, Spells, Refuses};
 
 use crate::bodies::{Body, Frame};
 use crate::faults::FrameFault;
@@ -22,6 +22,33 @@ fn size_of(frame: Frame) -> u16
                     register: _,
                     value: _,
                 } => 30,
+                Op::Swap {
+                    register: _,
+                    value: _,
+                } => 30,
+            },
+        },
+    }
+}
+
+/// The cast of a swap has version 2, all else version 1.
+fn version_of(frame: Frame) -> u8
+    ensures { result ≡ version_of_frame frame }
+{
+    match frame {
+        Frame::Got { count: _ } => 1,
+        Frame::Numbered { number: _, body } => match body {
+            Body::Ack { time: _ } => 1,
+            Body::Cast { time: _, op } => match op {
+                Op::Read { register: _ } => 1,
+                Op::Write {
+                    register: _,
+                    value: _,
+                } => 1,
+                Op::Swap {
+                    register: _,
+                    value: _,
+                } => 2,
             },
         },
     }
@@ -37,6 +64,11 @@ fn put_op<A: Allocator + Copy>(bytes: &mut Vec<u8, A>, op: Op) -> Result<(), All
         }
         Op::Write { register, value } => {
             bytes.push(2)?;
+            bytes.extend_from_slice(&register.to_be_bytes())?;
+            bytes.extend_from_slice(&value.to_be_bytes())?;
+        }
+        Op::Swap { register, value } => {
+            bytes.push(3)?;
             bytes.extend_from_slice(&register.to_be_bytes())?;
             bytes.extend_from_slice(&value.to_be_bytes())?;
         }
@@ -85,7 +117,7 @@ fn spell<A: Allocator + Copy>(alloc: A, frame: Frame) -> Result<Vec<u8, A>, Allo
     let mut bytes = Vec::new(alloc);
     bytes.reserve(usize::from(size) + 2)?;
     bytes.extend_from_slice(&size.to_be_bytes())?;
-    bytes.push(1)?;
+    bytes.push(version_of(frame))?;
     put_payload(&mut bytes, frame)?;
     Ok(bytes)
 }

@@ -1,7 +1,7 @@
 -- How the three named front ends start an operation, and their names.
 use Rattle.std.specs.Prelude.{ℕ, ◌==◌, cond, List, codes}
 use Rattle.reg_base.specs.declared.memory.Op.{Op}
-use Rattle.reg_base.specs.declared.memory.Op.TheVariants.{Read, Write}
+use Rattle.reg_base.specs.declared.memory.Op.TheVariants.{Read, Write, Swap}
 use Rattle.reg_front.specs.declared.starts.Start.{Start}
 use Rattle.reg_front.specs.declared.starts.Start.TheVariants.{Cast as Casts, CastAndAnswer as CastsAndAnswers, Look as Looks, Hold as Holds}
 use Rattle.reg_front.specs.declared.named.Front.{Front}
@@ -13,10 +13,12 @@ linear op unsettled = Casts
 abbrev pub local_read : Op → ℕ → Start
 local_read (Read r) unsettled = cond (unsettled == 0) Looks Holds
 local_read (Write r v) unsettled = Casts
+local_read (Swap r v) unsettled = Casts
 
 abbrev pub local_write : Op → ℕ → Start
 local_write (Read r) unsettled = cond (unsettled == 0) Looks Holds
 local_write (Write r v) unsettled = CastsAndAnswers
+local_write (Swap r v) unsettled = Casts
 
 -- the name of a front end in texts
 abbrev pub front_name : Front → List ℕ

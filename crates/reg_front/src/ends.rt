@@ -19,8 +19,8 @@ pub trait FrontEnd {
     fn start(op: &Op, unsettled: u32) -> Start
         ensures { result ≡ start op.now unsettled };
 
-    /// What changes the memory is cast, and answered at once only where its answer is Done whatever the memory is. What
-    /// isn't cast looks at once where no own cast is on its way, and else waits.
+    /// What changes the memory is cast, and answered at once only where its answer is Done whatever the memory is, so
+    /// that a swap runs until its delivery. What isn't cast looks at once where no own cast is on its way, and else waits.
     ghost lawful: { (op : Op) (unsettled : ℕ) → MayStart op unsettled (start op unsettled) };
 }
 
@@ -46,7 +46,7 @@ impl RealTime for Linear {
     ghost casts_all = { linear_casts };
 }
 
-/// Casts its writes, and reads its own copy (Attiya and Welch 1994).
+/// Casts its writes and swaps, and reads its own copy (Attiya and Welch 1994).
 pub struct LocalRead;
 
 impl FrontEnd for LocalRead {
@@ -55,17 +55,14 @@ impl FrontEnd for LocalRead {
     fn start(op: &Op, unsettled: u32) -> Start {
         match *op {
             Op::Read { register: _ } => look_or_hold(unsettled),
-            Op::Write {
-                register: _,
-                value: _,
-            } => Start::Cast,
+            Op::Write { .. } | Op::Swap { .. } => Start::Cast,
         }
     }
 
     ghost lawful = { local_read_keeps };
 }
 
-/// Answers its writes at once; a read waits for the own writes before it (Attiya and Welch 1994).
+/// Answers its writes at once, and casts its swaps; a read waits for the own writes before it (Attiya and Welch 1994).
 pub struct LocalWrite;
 
 impl FrontEnd for LocalWrite {
@@ -78,6 +75,10 @@ impl FrontEnd for LocalWrite {
                 register: _,
                 value: _,
             } => Start::CastAndAnswer,
+            Op::Swap {
+                register: _,
+                value: _,
+            } => Start::Cast,
         }
     }
 

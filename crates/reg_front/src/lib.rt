@@ -2,6 +2,7 @@
 #![tactic(auto)]
 
 mod ends;
+pub mod laws;
 mod named;
 mod starts;
 

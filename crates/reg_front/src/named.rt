@@ -8,9 +8,9 @@ ghost use Rattle.reg_front.specs.Table.{front_name};
 pub enum Front {
     /// Casts every operation.
     Linear,
-    /// Casts its writes, and reads its own copy.
+    /// Casts its writes and swaps, and reads its own copy.
     LocalRead,
-    /// Answers its writes at once.
+    /// Answers its writes at once, and casts its swaps.
     LocalWrite,
 }
 

@@ -97,7 +97,7 @@ fn judge_points<A: Allocator + Copy>(
 }
 
 /// Whether the ids are a serial order of the history (sequential consistency, Lamport 1979): every finished operation
-/// once, and besides only called writes; each process's own order; each answer that of one memory. A fault is the
+/// once, and besides only called writes and swaps; each process's own order; each answer that of one memory. A fault is the
 /// lowest of its kind that holds, at its first place.
 pub fn check_serial<A: Allocator + Copy>(
     alloc: A,

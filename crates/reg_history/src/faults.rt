@@ -3,7 +3,7 @@
 /// What is wrong with an order of operations: the first of these that holds. A place counts from 0.
 #[derive(Clone, Copy, Debug, PartialEq, Eq)]
 pub enum CheckFault {
-    /// Some id is neither a finished operation nor a called write.
+    /// Some id is neither a finished operation nor a called write or swap.
     Unknown,
     /// Some id stands twice.
     Twice,

@@ -1,17 +1,16 @@
 -- One delivery, by the parts of a process.
-use Rattle.std.proofs.Common.{◌≡◌, ℕ, zero, suc, ◌+◌, ◌-◌, ◌<◌, ◌≤◌, Bool, true, false, List, [], ◌∷◌, length, Option, Some, None, refl, sym, ap, ◌∙◌, subst, inl, inr, arith, length-set}
+use Rattle.std.proofs.Common.{◌≡◌, ℕ, zero, suc, ◌+◌, ◌-◌, ◌<◌, ◌≤◌, Bool, true, false, List, [], ◌∷◌, length, Option, Some, None, refl, sym, ap, ◌∙◌, subst, inl, inr, arith}
 use Rattle.std.specs.List.{filter}
 use Rattle.std.specs.Prelude.{cond, ◌==◌, ◌||◌, slice_index, slice_index_or, count_by}
 use Rattle.std.proofs.lemmas.Bool.{eq-eqb, false≢true}
 use mir.Val.{bool_byte}
 use Rattle.reg_base.specs.declared.stamps.Stamp.{Stamp}
-use Rattle.reg_base.specs.declared.memory.Op.{Op}
-use Rattle.reg_base.specs.declared.memory.Op.TheVariants.{Read, Write}
 use Rattle.reg_base.specs.declared.stamps.Delivered.{Delivered}
 use Rattle.reg_process.specs.declared.steps.Reply.{Reply}
 use Rattle.reg_process.specs.Process.{Running}
 use Rattle.reg_process.specs.Process.{Own, Held}
 use Rattle.reg_base.specs.Memory.{Memory, after, register_of, answer_of}
+use Rattle.reg_base.proofs.Operations.{length-after}
 use Rattle.reg_base.specs.Order.{In, Rising, at_most}
 use Rattle.reg_process.specs.Process.{State, no_peer, seen_at, stamp_at, all_below, is_clear, clear_casts, still, delivered_state}
 use Rattle.reg_process.specs.Delivery.{is_stamp, reply_one, popped, first_of, Waits}
@@ -66,10 +65,6 @@ ready_parts w c h = go w.held h
       | true ↦ λ e q. let same : d ≡ c = cc in (ds, ap (λ (x : Delivered). x ∷ ds) same, ap (λ (x : Delivered). waiting.is_clear w.me w.seen x.stamp) (sym same) ∙ e)
       | false ↦ λ e q. absurd (cc)
     ] refl k
-
-pub length-after : (op : Op) (m : Memory) → length (after op m) ≡ length m
-length-after (Read r) m = refl
-length-after (Write r v) m = length-set m r v
 
 module _ (p : Parts) (good : Good p) (c : Delivered) (rest : List Delivered) (left : ℕ) (held : p.waiting.held ≡ c ∷ rest) (less : left ≡ p.unsettled - cond (is_from p.me c) 1 0) where
   counted : p.unsettled ≡ cond (is_from p.me c) 1 0 + count_by (is_from p.me) rest

@@ -1,5 +1,5 @@
 -- Words, numerals and operations by their form alone.
-use Rattle.std.proofs.Common.{ℕ, zero, suc, ◌≡◌, ◌-◌, ◌<◌, ◌^◌, ◌==◌, not, true, false, cond, List, [], ◌∷◌, ◌++◌, length, replicate, get_or, refl, ap, ◌∙◌, arith, rules, inl, inr, append-nil, length-append, codes}
+use Rattle.std.proofs.Common.{ℕ, zero, suc, ◌≡◌, ◌-◌, ◌<◌, ◌^◌, ◌==◌, not, true, false, cond, List, [], ◌∷◌, ◌++◌, length, replicate, get_or, refl, ap, ◌∙◌, arith, rules, inl, inr, append-nil, length-append}
 use Rattle.std.specs.Char.{is_ascii, is_ascii_digit}
 use Rattle.std.specs.List.{list_all}
 use Rattle.std.specs.Fmt.{decimal}
@@ -8,7 +8,7 @@ use Rattle.std.proofs.lemmas.Str.Parse.{digit_from_value}
 use Rattle.std.proofs.lemmas.Fmt.{digits_decimal}
 use Rattle.reg_text.specs.Columns.{to_left}
 use Rattle.reg_text.specs.Parts.{Lacks}
-use Rattle.reg_text.specs.Forms.{is_numeral, is_word, is_word_byte, IsWriteForm}
+use Rattle.reg_text.specs.Forms.{is_numeral, is_word, is_word_byte, IsValuedForm}
 use Rattle.reg_text.proofs.Decimals.{own, first_is}
 use Rattle.reg_text.proofs.Digits.{blank_is, all_blank}
 use Rattle.reg_text.proofs.NamesLack.{both_true}
@@ -83,7 +83,6 @@ unpadded bs front a after (suc m) cut other lacks e =
     let blank = ap (list_all is_space) both.1 ∙ all_blank m in
     absurd (cc)
 
--- the parts of a write
-pub write_parts : (text rest name digits w d : List ℕ) → ((r : List ℕ) → text ≡ codes "write " ++ r → rest ≡ r)
-    → ((f r : List ℕ) → Lacks 32 f → rest ≡ f ++ 32 ∷ r → (name ≡ f) × (digits ≡ r)) → IsWriteForm text w d → (name ≡ w) × (digits ≡ d)
-write_parts text rest name digits w d skip cut h = cut w d (word_lacks w h.0) (skip (w ++ 32 ∷ d) h.2)
+-- the parts of a name and a value
+pub valued_parts : (text name digits w d : List ℕ) → ((f r : List ℕ) → Lacks 32 f → text ≡ f ++ 32 ∷ r → (name ≡ f) × (digits ≡ r)) → IsValuedForm text w d → (name ≡ w) × (digits ≡ d)
+valued_parts text name digits w d cut h = cut w d (word_lacks w h.0) h.2

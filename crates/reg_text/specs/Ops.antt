@@ -2,28 +2,36 @@
 use Rattle.std.specs.Prelude.{ℕ, ◌^◌, ◌<◌, ⊤, List, [], ◌∷◌, ◌++◌, length, codes, slice_index_or}
 use Rattle.std.specs.Fmt.{decimal}
 use Rattle.reg_base.specs.declared.memory.Op.{Op}
-use Rattle.reg_base.specs.declared.memory.Op.TheVariants.{Read, Write}
+use Rattle.reg_base.specs.declared.memory.Op.TheVariants.{Read, Write, Swap}
 
 -- a register's name
 abbrev pub name_of : List (List ℕ) → ℕ → List ℕ
 name_of names register = slice_index_or names register []
 
+-- a register's name and a value
+abbrev pub valued : List (List ℕ) → ℕ → ℕ → List ℕ
+valued names register value = name_of names register ++ 32 ∷ decimal value
+
 -- the operation in text
 abbrev pub op_text : List (List ℕ) → Op → List ℕ
 op_text names (Read register) = codes "read " ++ name_of names register
-op_text names (Write register value) = codes "write " ++ (name_of names register ++ 32 ∷ decimal value)
+op_text names (Write register value) = codes "write " ++ valued names register value
+op_text names (Swap register value) = codes "swap " ++ valued names register value
 
 -- its value has 64 bits
 abbrev pub HasValue : Op → Type 0
 HasValue (Read register) = ⊤
 HasValue (Write register value) = value < 2 ^ 64
+HasValue (Swap register value) = value < 2 ^ 64
 
 -- its register has a name, and its value has 64 bits
 abbrev pub OpFits : List (List ℕ) → Op → Type 0
 OpFits names (Read register) = register < length names
 OpFits names (Write register value) = (register < length names) × (value < 2 ^ 64)
+OpFits names (Swap register value) = (register < length names) × (value < 2 ^ 64)
 
 -- the same, with the name at hand, as it is written
 abbrev pub op_line : List ℕ → Op → List ℕ
 op_line name (Read register) = codes "read " ++ name
 op_line name (Write register value) = codes "write " ++ name ++ codes " " ++ decimal value
+op_line name (Swap register value) = codes "swap " ++ name ++ codes " " ++ decimal value

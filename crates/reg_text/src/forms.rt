@@ -5,7 +5,7 @@ ghost use Rattle.std.specs.Char.{is_ascii_digit};
 ghost use Rattle.std.specs.List.{list_all};
 ghost use Rattle.reg_text.specs.Columns.{to_left};
 ghost use Rattle.reg_text.specs.Parts.{Lacks};
-ghost use Rattle.reg_text.specs.Forms.{is_numeral as is_numeral_of, is_word as is_word_of, is_word_byte, IsReadForm, IsWriteForm, HasOpForm};
+ghost use Rattle.reg_text.specs.Forms.{is_numeral as is_numeral_of, is_word as is_word_of, is_word_byte, IsReadForm, IsValuedForm, IsWriteForm, IsSwapForm, HasOpForm};
 
 use crate::faults::Why;
 use crate::fields::{cut_at, is_blank, skip};
@@ -85,23 +85,37 @@ pub fn within(bytes: &[u8], limit: u64) -> bool
     numeral_within(bytes, limit).is_some()
 }
 
-/// Why the text is no operation: Name where the register is not known, else Range. None where its form is not kept.
-pub fn op_form<A: Allocator + Copy>(text: &[u8], names: &Names<A>) -> Option<Why>
-    ensures form { IfSome result (λ why. HasOpForm text.now × ((why ≡ Why.Range) ⊎ (why ≡ Why.Name))) }
-    ensures read { (name : List ℕ) → IsReadForm text.now name → result ≡ Some Why.Name }
-    ensures known { (name digits : List ℕ) (i : ℕ) → IsWriteForm text.now name digits → slice_get names.now i ≡ Some name → result ≡ Some Why.Range }
-    ensures unknown { (name digits : List ℕ) → IsWriteForm text.now name digits → ((i : ℕ) → ¬ (slice_get names.now i ≡ Some name)) → result ≡ Some Why.Name }
+/// Why the text is no register and value: Name where the register is not known, else Range. None where its form is
+/// not kept.
+fn valued_form<A: Allocator + Copy>(text: &[u8], names: &Names<A>) -> Option<Why>
+    ensures form { IfSome result (λ why. ((name : List ℕ) × ((digits : List ℕ) × IsValuedForm text.now name digits)) × ((why ≡ Why.Range) ⊎ (why ≡ Why.Name))) }
+    ensures known { (name digits : List ℕ) (i : ℕ) → IsValuedForm text.now name digits → slice_get names.now i ≡ Some name → result ≡ Some Why.Range }
+    ensures unknown { (name digits : List ℕ) → IsValuedForm text.now name digits → ((i : ℕ) → ¬ (slice_get names.now i ≡ Some name)) → result ≡ Some Why.Name }
 {
-    if let Some(name) = skip(text, b"read ") {
-        form(is_word(name))?;
-        return Some(Why::Name);
-    }
-    let rest = skip(text, b"write ")?;
-    let (name, digits) = cut_at(rest, b' ')?;
+    let (name, digits) = cut_at(text, b' ')?;
     form(is_word(name))?;
     form(is_numeral(digits))?;
     match names.find(name) {
         Some(_) => Some(Why::Range),
         None => Some(Why::Name),
     }
+}
+
+/// Why the text is no operation: Name where the register is not known, else Range. None where its form is not kept.
+pub fn op_form<A: Allocator + Copy>(text: &[u8], names: &Names<A>) -> Option<Why>
+    ensures form { IfSome result (λ why. HasOpForm text.now × ((why ≡ Why.Range) ⊎ (why ≡ Why.Name))) }
+    ensures read { (name : List ℕ) → IsReadForm text.now name → result ≡ Some Why.Name }
+    ensures known { (name digits : List ℕ) (i : ℕ) → IsWriteForm text.now name digits → slice_get names.now i ≡ Some name → result ≡ Some Why.Range }
+    ensures unknown { (name digits : List ℕ) → IsWriteForm text.now name digits → ((i : ℕ) → ¬ (slice_get names.now i ≡ Some name)) → result ≡ Some Why.Name }
+    ensures known_swap { (name digits : List ℕ) (i : ℕ) → IsSwapForm text.now name digits → slice_get names.now i ≡ Some name → result ≡ Some Why.Range }
+    ensures unknown_swap { (name digits : List ℕ) → IsSwapForm text.now name digits → ((i : ℕ) → ¬ (slice_get names.now i ≡ Some name)) → result ≡ Some Why.Name }
+{
+    if let Some(name) = skip(text, b"read ") {
+        form(is_word(name))?;
+        return Some(Why::Name);
+    }
+    if let Some(rest) = skip(text, b"write ") {
+        return valued_form(rest, names);
+    }
+    valued_form(skip(text, b"swap ")?, names)
 }

@@ -1,14 +1,27 @@
 //! Operations as text. A further kind of operation adds its case to each function here, and to `op_form`.
-ghost use Rattle.std.specs.Prelude.{◌≡◌, ◌<◌, ℕ, ◌++◌, None, Some, IfSome, codes};
+ghost use Rattle.std.specs.Prelude.{◌≡◌, ◌<◌, ◌^◌, ℕ, ◌++◌, None, Some, IfSome, codes, length};
 ghost use Rattle.std.specs.Fmt.{decimal};
 ghost use Rattle.reg_base.specs.Names.{names_fault};
 ghost use Rattle.reg_base.specs.declared.memory.Op.{Op};
-ghost use Rattle.reg_text.specs.Ops.{op_text, OpFits, op_line, name_of as name_of_register};
+ghost use Rattle.reg_text.specs.Ops.{op_text, valued, OpFits, op_line, name_of as name_of_register};
 
 use crate::fields::{cut_at, numeral, skip};
 use reg_base::{Names, Op};
 use std::alloc::Allocator;
 use std::fmt;
+
+/// The register and the value that are the whole of the text. None where the text is none with a register of these
+/// names and a value of 64 bits.
+fn read_valued<A: Allocator + Copy>(text: &[u8], names: &Names<A>) -> Option<(u16, u64)>
+    requires { names_fault names.now ≡ None }
+    ensures read { IfSome result (λ p. (text.now ≡ valued names.now p.0 p.1) × (p.0 < length names.now) × (p.1 < 2 ^ 64)) }
+    ensures whole { (register value : ℕ) → register < length names.now → value < 2 ^ 64 → text.now ≡ valued names.now register value → result ≡ Some (register, value) }
+{
+    let (name, digits) = cut_at(text, b' ')?;
+    let register = names.find(name)?;
+    let value = numeral(digits)?;
+    Some((register, value))
+}
 
 /// The operation that is the whole of the text. None where the text spells none with a register of these names and
 /// a value of 64 bits.
@@ -21,11 +34,13 @@ pub fn read_op<A: Allocator + Copy>(text: &[u8], names: &Names<A>) -> Option<Op>
         let register = names.find(name)?;
         return Some(Op::Read { register });
     }
-    let rest = skip(text, b"write ")?;
-    let (name, digits) = cut_at(rest, b' ')?;
-    let register = names.find(name)?;
-    let value = numeral(digits)?;
-    Some(Op::Write { register, value })
+    if let Some(rest) = skip(text, b"write ") {
+        let (register, value) = read_valued(rest, names)?;
+        return Some(Op::Write { register, value });
+    }
+    let rest = skip(text, b"swap ")?;
+    let (register, value) = read_valued(rest, names)?;
+    Some(Op::Swap { register, value })
 }
 
 /// The name of a register, and nothing where there is none.
@@ -45,6 +60,7 @@ pub fn name_of_op<A: Allocator + Copy>(names: &Names<A>, op: Op) -> &str
     match op {
         Op::Read { register } => name_at(names, register),
         Op::Write { register, .. } => name_at(names, register),
+        Op::Swap { register, .. } => name_at(names, register),
     }
 }
 
@@ -64,6 +80,7 @@ impl fmt::Display for OpLine<'_> {
         match self.op {
             Op::Read { .. } => write!(f, "read {name}"),
             Op::Write { value, .. } => write!(f, "write {name} {value}"),
+            Op::Swap { value, .. } => write!(f, "swap {name} {value}"),
         }
     }
 }

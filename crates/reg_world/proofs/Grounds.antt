@@ -11,7 +11,7 @@ use Rattle.reg_history.specs.History.{IsIn, IsAt, IsCalled, IsAnswered, IsFinish
 use Rattle.reg_world.specs.Runs.{Run, Cast, IsWaiting, memory_of}
 
 -- How a reply came, with its place: at the delivery of the operation's own cast, which is the cast at that place;
--- at once with the cast, as only a write does; or from a copy, as only a read does.
+-- at once with the cast, as only a write does; or from a copy, as only a read does. So a swap's comes at its delivery.
 pub data Came (r : Run) (id : OpId) (op : Op) (place : ℕ) : Type 0 where
   AtDelivery : (c : First) → IsAt r.order place c → c.id ≡ id → Came r id op place
   AtOnce : (d : Cast) → IsIn r.casts d → d.id ≡ id → IsBlind op → Came r id op place

@@ -1,37 +1,17 @@
 -- Worked schedules, computed.
 use Rattle.std.proofs.Common.{◌≡◌, ℕ, List, [], ◌∷◌, ◌++◌, length, map, refl}
-use Rattle.std.specs.Prelude.{cond, ◌==◌}
-use Rattle.std.proofs.Common.{arith}
-use Rattle.std.proofs.lemmas.Bool.{cond_both, eqb-true, eqb-false}
-use Rattle.reg_front.specs.Fronts.{MayStart, KeepsLaws}
-use Rattle.reg_base.specs.declared.memory.Op.{Op}
-use Rattle.reg_base.specs.declared.memory.Op.TheVariants.{Read, Write}
+use Rattle.reg_base.specs.declared.memory.Op.TheVariants.{Read, Write, Swap}
 use Rattle.reg_base.specs.declared.memory.Answer.TheVariants.{Done, Value}
 use Rattle.reg_frames.specs.declared.bodies.Body.TheVariants.{Ack}
 use Rattle.reg_frames.specs.declared.bodies.Frame.TheVariants.{Numbered, Got}
 use Rattle.reg_process.specs.declared.steps.Reply.{Reply}
-use Rattle.reg_front.specs.declared.starts.Start.{Start}
-use Rattle.reg_front.specs.declared.starts.Start.TheVariants.{Cast as Casts, CastAndAnswer as CastsAndAnswers, Look as Looks, Hold as Holds}
+use Rattle.reg_front.specs.Table.{linear, local_read, local_write}
 use Rattle.reg_world.specs.declared.events.Event.TheVariants.{Call, Take, Tick}
 use Rattle.reg_process.specs.Process.{cast_at}
 use Rattle.reg_world.specs.Nodes.{Said}
 use Rattle.reg_world.specs.declared.order.First.{First}
 use Rattle.reg_history.specs.declared.entries.Entry.TheVariants.{Called, Answered}
 use Rattle.reg_world.specs.World.{World, whole, delivered_of, op_id}
-
-abbrev linear : Op → ℕ → Start
-linear op unsettled = Casts
-
-abbrev looks : ℕ → Start
-looks unsettled = cond (unsettled == 0) Looks Holds
-
-abbrev local_read : Op → ℕ → Start
-local_read (Read r) unsettled = looks unsettled
-local_read (Write r v) unsettled = Casts
-
-abbrev local_write : Op → ℕ → Start
-local_write (Read r) unsettled = looks unsettled
-local_write (Write r v) unsettled = CastsAndAnswers
 
 abbrev told : World → ℕ → List Reply
 told w p = map (λ (s : Said). s.reply) (w.nodes p).replies
@@ -250,20 +230,42 @@ row18_reads : row18.reads ≡ record { id = op_id 0 1; place = 1 } ∷ []
 unfolding row18
 row18_reads = refl
 
--- the three front ends keep the laws
-looks_may : (r unsettled : ℕ) → MayStart (Read r) unsettled (looks unsettled)
-looks_may r unsettled =
-    cond_both (unsettled == 0) Looks Holds (MayStart (Read r) unsettled)
-    (λ e. (refl, eqb-true unsettled 0 e))
-    (λ e. (refl, (let ne = eqb-false unsettled 0 e in omega (arith, ne))))
+-- a swap answers the old value
+swap1 : World
+swap1 = whole linear 1 1 (Call 0 (Swap 0 5) ∷ Call 0 (Swap 0 6) ∷ [])
 
-linear_keeps : KeepsLaws linear
-linear_keeps op unsettled = tt
+swap1_history : swap1.history ≡ Called 0 (op_id 0 0) (Swap 0 5) ∷ Answered 0 (op_id 0 0) (Value 0) ∷ Called 1 (op_id 0 1) (Swap 0 6) ∷ Answered 1 (op_id 0 1) (Value 5) ∷ []
+unfolding swap1
+swap1_history = refl
 
-local_read_keeps : KeepsLaws local_read
-local_read_keeps (Read r) unsettled = looks_may r unsettled
-local_read_keeps (Write r v) unsettled = tt
+-- a write that is answered at once, and a swap that waits for its delivery
+swap2 : World
+swap2 = whole local_write 2 1 (Call 0 (Write 0 5) ∷ Call 0 (Swap 0 6) ∷ Take 0 1 0 ∷ Take 1 0 1 ∷ [])
 
-local_write_keeps : KeepsLaws local_write
-local_write_keeps (Read r) unsettled = looks_may r unsettled
-local_write_keeps (Write r v) unsettled = λ m. refl
+swap2_history : swap2.history ≡ Called 0 (op_id 0 0) (Write 0 5) ∷ Answered 0 (op_id 0 0) Done ∷ Called 1 (op_id 0 1) (Swap 0 6) ∷ Answered 3 (op_id 0 1) (Value 5) ∷ []
+unfolding swap2
+swap2_history = refl
+
+swap2_told : told swap2 0 ≡ record { answer = Done; place = 0 } ∷ record { answer = Value 5; place = 1 } ∷ []
+unfolding swap2
+swap2_told = refl
+
+swap2_copies : (swap2.nodes 0).state.copy ++ (swap2.nodes 1).state.copy ≡ 6 ∷ 5 ∷ []
+unfolding swap2
+swap2_copies = refl
+
+swap2_ids : map (λ (f : First). f.id) swap2.order ≡ op_id 0 0 ∷ op_id 0 1 ∷ []
+unfolding swap2
+swap2_ids = refl
+
+-- a read that sees an unfinished swap
+swap3 : World
+swap3 = whole local_read 2 1 (Call 0 (Swap 0 5) ∷ Take 0 1 0 ∷ Call 1 (Read 0) ∷ [])
+
+swap3_history : swap3.history ≡ Called 0 (op_id 0 0) (Swap 0 5) ∷ Called 2 (op_id 1 0) (Read 0) ∷ Answered 2 (op_id 1 0) (Value 5) ∷ []
+unfolding swap3
+swap3_history = refl
+
+swap3_ids : map (λ (f : First). f.id) swap3.order ≡ op_id 0 0 ∷ []
+unfolding swap3
+swap3_ids = refl

@@ -1,7 +1,7 @@
--- A front end of a user's own, as the tests have it: it answers its writes at once, and casts its reads.
+-- A front end of a user's own, as the tests have it: it answers its writes at once, and casts its reads and swaps.
 use Rattle.std.specs.Prelude.{ℕ, refl}
 use Rattle.reg_base.specs.declared.memory.Op.{Op}
-use Rattle.reg_base.specs.declared.memory.Op.TheVariants.{Read, Write}
+use Rattle.reg_base.specs.declared.memory.Op.TheVariants.{Read, Write, Swap}
 use Rattle.reg_front.specs.declared.starts.Start.{Start}
 use Rattle.reg_front.specs.declared.starts.Start.TheVariants.{Cast, CastAndAnswer}
 use Rattle.reg_front.specs.Fronts.{KeepsLaws}
@@ -9,7 +9,9 @@ use Rattle.reg_front.specs.Fronts.{KeepsLaws}
 abbrev pub mixed : Op → ℕ → Start
 mixed (Read r) unsettled = Cast
 mixed (Write r v) unsettled = CastAndAnswer
+mixed (Swap r v) unsettled = Cast
 
 pub mixed_keeps : KeepsLaws mixed
 mixed_keeps (Read r) unsettled = tt
 mixed_keeps (Write r v) unsettled = λ m. refl
+mixed_keeps (Swap r v) unsettled = tt

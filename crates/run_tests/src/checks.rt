@@ -60,6 +60,17 @@ history 3
        1  p0    #1       call    read x
 ";
 
+/// A read that saw a swap, which has no answer yet.
+const SEEN_SWAP: &str = "awreg report 1
+front local-read
+processes 2
+registers x
+history 3
+       0  p0    #0       call    swap x 5
+       2  p1    #0       call    read x
+       2  p1    #0       answer  value 5
+";
+
 /// Demands the status, the output and the faults of a command.
 pub(crate) fn demand(
     rt: &impl Abort,
@@ -113,6 +124,12 @@ fn orders_are_judged(rt: HostRuntime) {
             WAITING_READ,
             "order 2\np0 #1\np0 #0\nend\n",
             "serial no: own order\n",
+        ),
+        (SEEN_SWAP, "order 2\np0 #0\np1 #0\nend\n", "serial yes\n"),
+        (
+            SEEN_SWAP,
+            "order 1\np1 #0\nend\n",
+            "serial no: answer at 0\n",
         ),
         (
             UNFINISHED_READ,

@@ -2,7 +2,7 @@
 use reg_base::Op;
 use reg_front::{FrontEnd, Start};
 
-/// It answers its writes at once, and casts its reads.
+/// It answers its writes at once, and casts its reads and swaps.
 pub struct Mixed;
 
 impl FrontEnd for Mixed {
@@ -17,6 +17,10 @@ impl FrontEnd for Mixed {
                 register: _,
                 value: _,
             } => Start::CastAndAnswer,
+            Op::Swap {
+                register: _,
+                value: _,
+            } => Start::Cast,
         }
     }
 

@@ -9,7 +9,7 @@ struct Row {
     report: &'static str,
 }
 
-const ROWS: [Row; 11] = [
+const ROWS: [Row; 14] = [
     // A write that the other process acknowledges.
     Row {
         schedule: "processes 2
@@ -287,6 +287,80 @@ history 6
 order 3
 p0 #0
 p0 #1
+p1 #0
+end
+",
+    },
+    // Two swaps of one process.
+    Row {
+        schedule: "processes 1
+registers x
+front linear
+call 0 swap x 5
+call 0 swap x 6
+",
+        report: "awreg report 1
+front linear
+processes 1
+registers x
+history 4
+       0  p0    #0       call    swap x 5
+       0  p0    #0       answer  value 0
+       1  p0    #1       call    swap x 6
+       1  p0    #1       answer  value 5
+order 2
+p0 #0
+p0 #1
+points 2
+p0 #0 at 0
+p0 #1 at 1
+end
+",
+    },
+    // A write that is answered at once, and a swap that is not.
+    Row {
+        schedule: "processes 2
+registers x
+front local-write
+call 0 write x 5
+call 0 swap x 6
+take 0 1 0
+take 1 0 1
+",
+        report: "awreg report 1
+front local-write
+processes 2
+registers x
+history 4
+       0  p0    #0       call    write x 5
+       0  p0    #0       answer  done
+       1  p0    #1       call    swap x 6
+       3  p0    #1       answer  value 5
+order 2
+p0 #0
+p0 #1
+end
+",
+    },
+    // A read that saw an unfinished swap.
+    Row {
+        schedule: "processes 2
+registers x
+front local-read
+call 0 swap x 5
+take 0 1 0
+call 1 read x
+",
+        report: "awreg report 1
+front local-read
+processes 2
+registers x
+history 3
+       0  p0    #0       call    swap x 5
+       2  p1    #0       call    read x
+       2  p1    #0       answer  value 5
+order 2
+p0 #0
 p1 #0
 end
 ",

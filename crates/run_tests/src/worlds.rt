@@ -17,6 +17,15 @@ fn read(process: u8) -> Event {
     Event::Call { process, op: READ }
 }
 
+fn swap_of(value: u64) -> Op {
+    Op::Swap { register: 0, value }
+}
+
+fn swap(process: u8, value: u64) -> Event {
+    let op = swap_of(value);
+    Event::Call { process, op }
+}
+
 fn take(from: u8, to: u8, number: u32) -> Event {
     Event::Take { from, to, number }
 }
@@ -81,6 +90,48 @@ fn one_process_answers_at_once(rt: HostRuntime) {
     assert!(rt; world.accepted() == [write(0, 5), read(0)].as_slice());
     assert!(rt; world.reads().is_empty());
     assert!(rt; world.shape() == shape_of(&rt, 1));
+}
+
+#[test]
+fn a_swap_answers_the_old_value(rt: HostRuntime) {
+    let world = run::<Linear>(&rt, rt.alloc(), 1, &[swap(0, 5), swap(0, 6)]);
+    let history = [
+        called(0, id(0, 0), swap_of(5)),
+        answered(0, id(0, 0), Answer::Value(0)),
+        called(1, id(0, 1), swap_of(6)),
+        answered(1, id(0, 1), Answer::Value(5)),
+    ];
+    assert!(rt; world.history().entries() == history.as_slice());
+    assert!(rt; are_points(&rt, &world, &[point(0, 0, 0), point(0, 1, 1)]));
+}
+
+#[test]
+fn a_swap_waits_for_its_delivery(rt: HostRuntime) {
+    let events = [write(0, 5), swap(0, 6), take(0, 1, 0), take(1, 0, 1)];
+    let world = run::<LocalWrite>(&rt, rt.alloc(), 2, &events);
+    let history = [
+        called(0, id(0, 0), write_of(5)),
+        answered(0, id(0, 0), Answer::Done),
+        called(1, id(0, 1), swap_of(6)),
+        answered(3, id(0, 1), Answer::Value(5)),
+    ];
+    assert!(rt; world.history().entries() == history.as_slice());
+    assert!(rt; copy_of(&rt, &world, 0) == Some(6));
+    assert!(rt; copy_of(&rt, &world, 1) == Some(5));
+    assert!(rt; is_witness(&rt, &world, &[id(0, 0), id(0, 1)]));
+}
+
+#[test]
+fn an_unfinished_swap_that_a_read_saw_stands_in_the_order(rt: HostRuntime) {
+    let events = [swap(0, 5), take(0, 1, 0), read(1)];
+    let world = run::<LocalRead>(&rt, rt.alloc(), 2, &events);
+    let history = [
+        called(0, id(0, 0), swap_of(5)),
+        called(2, id(1, 0), READ),
+        answered(2, id(1, 0), Answer::Value(5)),
+    ];
+    assert!(rt; world.history().entries() == history.as_slice());
+    assert!(rt; is_witness(&rt, &world, &[id(0, 0), id(1, 0)]));
 }
 
 #[test]

@@ -1,5 +1,5 @@
 use Rattle.std.proofs.Common.{refl}
-use Rattle.reg_base.proofs.Operations.{value_fits, done_fits}
+use Rattle.reg_base.proofs.Operations.{value_fits, done_fits, old_fits}
 use Rattle.reg_base.proofs.memory.Op.can_answer.Goals as goal
 
 pub returns-in-Value : goal.returns-in-Value
@@ -7,3 +7,7 @@ returns-in-Value c = (λ t. value_fits c.args.self.now c.args.answer.now c.in-Re
 
 pub returns-in-Done-answer : goal.returns-in-Done-answer
 returns-in-Done-answer c = (λ t. done_fits c.args.self.now c.args.answer.now c.in-Write.register c.in-Write.value c.in-Write.is c.in-Done-answer.is, λ f. refl)
+
+pub returns-in-Value-answer-2 : goal.returns-in-Value-answer-2
+returns-in-Value-answer-2 c =
+    (λ t. old_fits c.args.self.now c.args.answer.now c.in-Swap.register c.in-Swap.value c.in-Value-answer-2.field-0 c.in-Swap.is c.in-Value-answer-2.is, λ f. refl)
