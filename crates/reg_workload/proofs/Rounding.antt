@@ -13,36 +13,36 @@ module _ (start : Op → ℕ → Start) (budget : ℕ) where
   -- one call
   pub call_not : (s : Playing) (p : ℕ) → may_call start s p ≡ false → call_in_round start budget s p ≡ s
   unfolding call_in_round
-  call_not s p may = ap (λ b. cond (b && nat_lt (length s.made.accepted) budget) (calls_next s p) s) may
+  call_not s p may = ap (λ b. cond (b && nat_lt (length s.made.accepted) budget) (calls_next start s p) s) may
 
   pub call_full : (s : Playing) (p : ℕ) → length s.made.accepted ≡ budget → call_in_round start budget s p ≡ s
   unfolding call_in_round
-  call_full s p full = cond_both (may_call start s p && nat_lt (length s.made.accepted) budget) (calls_next s p) s (λ t. t ≡ s)
+  call_full s p full = cond_both (may_call start s p && nat_lt (length s.made.accepted) budget) (calls_next start s p) s (λ t. t ≡ s)
       (λ e. let l = ltb-true (length s.made.accepted) budget (and_parts (may_call start s p) _ e).1 in absurd (omega (arith, l, full)))
       (λ _. refl)
 
-  pub call_made : (s : Playing) (p : ℕ) → may_call start s p ≡ true → length s.made.accepted < budget → call_in_round start budget s p ≡ calls_next s p
+  pub call_made : (s : Playing) (p : ℕ) → may_call start s p ≡ true → length s.made.accepted < budget → call_in_round start budget s p ≡ calls_next start s p
   unfolding call_in_round
-  call_made s p may l = cond-true (may_call start s p && nat_lt (length s.made.accepted) budget) (calls_next s p) s (and_from _ _ may (lt-ltb (length s.made.accepted) budget l))
+  call_made s p may l = cond-true (may_call start s p && nat_lt (length s.made.accepted) budget) (calls_next start s p) s (and_from _ _ may (lt-ltb (length s.made.accepted) budget l))
 
   -- one take
   pub take_not : (s : Playing) (from to : ℕ) → next_frame start s from to ≡ None → take_in_round start budget s from to ≡ s
   unfolding take_in_round
-  take_not s from to none = ap (take_if_room budget s from to) none
+  take_not s from to none = ap (take_if_room start budget s from to) none
 
   pub take_full : (s : Playing) (from to : ℕ) → length s.made.accepted ≡ budget → take_in_round start budget s from to ≡ s
   unfolding take_in_round
   take_full s from to full = go (next_frame start s from to)
     where
-      go : (o : Option ℕ) → take_if_room budget s from to o ≡ s
+      go : (o : Option ℕ) → take_if_room start budget s from to o ≡ s
       go None = refl
-      go (Some number) = cond_both (nat_lt (length s.made.accepted) budget) (passes (makes s (Take from to number)) from to) s (λ t. t ≡ s)
+      go (Some number) = cond_both (nat_lt (length s.made.accepted) budget) (passes (makes start s (Take from to number)) from to) s (λ t. t ≡ s)
           (λ e. let l = ltb-true (length s.made.accepted) budget e in absurd (omega (arith, l, full)))
           (λ _. refl)
 
-  pub take_made : (s : Playing) (from to number : ℕ) → next_frame start s from to ≡ Some number → length s.made.accepted < budget → take_in_round start budget s from to ≡ passes (makes s (Take from to number)) from to
+  pub take_made : (s : Playing) (from to number : ℕ) → next_frame start s from to ≡ Some number → length s.made.accepted < budget → take_in_round start budget s from to ≡ passes (makes start s (Take from to number)) from to
   unfolding take_in_round
-  take_made s from to number next l = ap (take_if_room budget s from to) next ∙ cond-true (nat_lt (length s.made.accepted) budget) (passes (makes s (Take from to number)) from to) s (lt-ltb (length s.made.accepted) budget l)
+  take_made s from to number next l = ap (take_if_room start budget s from to) next ∙ cond-true (nat_lt (length s.made.accepted) budget) (passes (makes start s (Take from to number)) from to) s (lt-ltb (length s.made.accepted) budget l)
 
   -- once the budget is used up nothing changes any more
   pub takes_from_full : (from n : ℕ) (s : Playing) → length s.made.accepted ≡ budget → takes_from_in_round start budget from n s ≡ s

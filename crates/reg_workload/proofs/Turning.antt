@@ -39,15 +39,15 @@ goes_more loss n old mid new g t = record {
 }
 
 module _ {W : Type 0} (start : Op → ℕ → Start) (next_word : W → ℕ × W) (loss repeat : ℕ) where
-  pub turn_picks : (s : Playing) (w w1 : W) (c : Choice) (cs : List Choice) (word : ℕ) → cs ≡ choices_of start s → picked cs word ≡ Some c → (word, w1) ≡ next_word w → turn start next_word loss repeat (s, w) ≡ chooses next_word loss repeat s c w1
+  pub turn_picks : (s : Playing) (w w1 : W) (c : Choice) (cs : List Choice) (word : ℕ) → cs ≡ choices_of start s → picked cs word ≡ Some c → (word, w1) ≡ next_word w → turn start next_word loss repeat (s, w) ≡ chooses start next_word loss repeat s c w1
   unfolding turn
   turn_picks s w w1 c cs word all is drawn =
       let p : picked (choices_of start s) (next_word w).0 ≡ Some c = ap (λ (y : ℕ × W). picked (choices_of start s) y.0) (sym drawn) ∙ (ap (λ l. picked l word) (sym all) ∙ is) in
-      ap (λ o. turns_by next_word loss repeat s o w) p ∙ ap (λ (y : ℕ × W). chooses next_word loss repeat s c y.1) (sym drawn)
+      ap (λ o. turns_by start next_word loss repeat s o w) p ∙ ap (λ (y : ℕ × W). chooses start next_word loss repeat s c y.1) (sym drawn)
 
   pub turn_none : (s : Playing) (w : W) → choices_of start s ≡ [] → turn start next_word loss repeat (s, w) ≡ (s, w)
   unfolding turn
-  turn_none s w none = ap (λ l. turns_by next_word loss repeat s (picked l (next_word w).0) w) none
+  turn_none s w none = ap (λ l. turns_by start next_word loss repeat s (picked l (next_word w).0) w) none
 
   -- one more turn
   pub turns_more : (n : ℕ) (x : Playing × W) (s s1 : Playing) (w w1 : W) → (s, w) ≡ turns start next_word loss repeat n x → (s1, w1) ≡ turn start next_word loss repeat (s, w) → (s1, w1) ≡ turns start next_word loss repeat (n + 1) x
@@ -77,15 +77,15 @@ module _ {W : Type 0} (start : Op → ℕ → Start) (next_word : W → ℕ × W
       set_cases P (x ∷ xs) (suc i) zero v d h p = p
       set_cases P (x ∷ xs) (suc i) (suc j) v d h p = set_cases P xs i j v d (λ e. h (ap suc e)) p
 
-  takes_one : (s : Playing) (from to number : ℕ) (w : W) (a b : ℕ) → OneMore s a b (takes_next next_word repeat s from to number w)
-  takes_one s from to number w a b = cond_both (says repeat (next_word w).0) (makes s (Take from to number)) (passes (makes s (Take from to number)) from to) (λ (t : Playing). cursor_at t a b ≤ cursor_at s a b + 1)
+  takes_one : (s : Playing) (from to number : ℕ) (w : W) (a b : ℕ) → OneMore s a b (takes_next start next_word repeat s from to number w)
+  takes_one s from to number w a b = cond_both (says repeat (next_word w).0) (makes start s (Take from to number)) (passes (makes start s (Take from to number)) from to) (λ (t : Playing). cursor_at t a b ≤ cursor_at s a b + 1)
       (λ _. omega arith)
-      (λ _. passes_one (makes s (Take from to number)) from to a b)
+      (λ _. passes_one (makes start s (Take from to number)) from to a b)
 
-  chooses_one : (s : Playing) (c : Choice) (w : W) (a b : ℕ) → OneMore s a b (chooses next_word loss repeat s c w)
+  chooses_one : (s : Playing) (c : Choice) (w : W) (a b : ℕ) → OneMore s a b (chooses start next_word loss repeat s c w)
   unfolding chooses
   chooses_one s (CallNext p) w a b = omega arith
-  chooses_one s (TakeNext from to number) w a b = cond_both (says loss (next_word w).0) (passes s from to, (next_word w).1) (takes_next next_word repeat s from to number (next_word w).1) (OneMore s a b)
+  chooses_one s (TakeNext from to number) w a b = cond_both (says loss (next_word w).0) (passes s from to, (next_word w).1) (takes_next start next_word repeat s from to number (next_word w).1) (OneMore s a b)
       (λ _. passes_one s from to a b)
       (λ _. takes_one s from to number (next_word w).1 a b)
   chooses_one s (PutAgain p) w a b = omega arith
@@ -94,7 +94,7 @@ module _ {W : Type 0} (start : Op → ℕ → Start) (next_word : W → ℕ × W
   unfolding turn
   turn_one s w a b = by_choice (picked (choices_of start s) (next_word w).0)
     where
-      by_choice : (o : Option Choice) → OneMore s a b (turns_by next_word loss repeat s o w)
+      by_choice : (o : Option Choice) → OneMore s a b (turns_by start next_word loss repeat s o w)
       by_choice None = omega arith
       by_choice (Some c) = chooses_one s c (next_word w).1 a b
 

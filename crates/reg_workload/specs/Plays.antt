@@ -114,16 +114,16 @@ abbrev pub pending_at : (Op → ℕ → Start) → Playing → ℕ → ℕ
 pending_at start s p = pending_of ((run_in start s.made).nodes p).state.peers
 
 -- the play after one more event
-abbrev pub makes : Playing → Event → Playing
-makes s e = record s { made = with_event s.made e }
+abbrev pub makes : (Op → ℕ → Start) → Playing → Event → Playing
+makes start s e = record s { made = with_event start s.made e }
 
 -- the next operation of a script
 abbrev pub next_op : Playing → ℕ → Op
 next_op s p = slice_index_or (script_of s.scripts p) (next_at s p) (Read 0)
 
 -- the process called its next operation
-abbrev pub calls_next : Playing → ℕ → Playing
-calls_next s p = record s { made = with_event s.made (Call p (next_op s p)); next = slice_set s.next p (next_at s p + 1) }
+abbrev pub calls_next : (Op → ℕ → Start) → Playing → ℕ → Playing
+calls_next start s p = record s { made = with_event start s.made (Call p (next_op s p)); next = slice_set s.next p (next_at s p + 1) }
 
 -- one more frame of the wire is behind
 abbrev pub passes : Playing → ℕ → ℕ → Playing

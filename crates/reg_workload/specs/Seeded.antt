@@ -45,20 +45,20 @@ abbrev pub says : ℕ → ℕ → Bool
 says odds word = nat_lt (word % 100) odds
 
 -- A frame is taken. It is behind then, unless the next word says that it can be taken again.
-abbrev pub takes_next : {W : Type 0} → (W → ℕ × W) → ℕ → Playing → ℕ → ℕ → ℕ → W → Playing × W
-takes_next next_word repeat s from to number w =
-    (cond (says repeat (next_word w).0) (makes s (Take from to number)) (passes (makes s (Take from to number)) from to), (next_word w).1)
+abbrev pub takes_next : {W : Type 0} → (Op → ℕ → Start) → (W → ℕ × W) → ℕ → Playing → ℕ → ℕ → ℕ → W → Playing × W
+takes_next start next_word repeat s from to number w =
+    (cond (says repeat (next_word w).0) (makes start s (Take from to number)) (passes (makes start s (Take from to number)) from to), (next_word w).1)
 
 -- the same, where the next word doesn't say that the frame is lost
-abbrev pub takes_or_loses : {W : Type 0} → (W → ℕ × W) → ℕ → ℕ → Playing → ℕ → ℕ → ℕ → W → Playing × W
-takes_or_loses next_word loss repeat s from to number w =
-    cond (says loss (next_word w).0) (passes s from to, (next_word w).1) (takes_next next_word repeat s from to number (next_word w).1)
+abbrev pub takes_or_loses : {W : Type 0} → (Op → ℕ → Start) → (W → ℕ × W) → ℕ → ℕ → Playing → ℕ → ℕ → ℕ → W → Playing × W
+takes_or_loses start next_word loss repeat s from to number w =
+    cond (says loss (next_word w).0) (passes s from to, (next_word w).1) (takes_next start next_word repeat s from to number (next_word w).1)
 
 -- a choice is made
-unfoldable pub chooses : {W : Type 0} → (W → ℕ × W) → ℕ → ℕ → Playing → Choice → W → Playing × W
-chooses next_word loss repeat s (CallNext p) w = (calls_next s p, w)
-chooses next_word loss repeat s (TakeNext from to number) w = takes_or_loses next_word loss repeat s from to number w
-chooses next_word loss repeat s (PutAgain p) w = (makes s (Tick p), w)
+unfoldable pub chooses : {W : Type 0} → (Op → ℕ → Start) → (W → ℕ × W) → ℕ → ℕ → Playing → Choice → W → Playing × W
+chooses start next_word loss repeat s (CallNext p) w = (calls_next start s p, w)
+chooses start next_word loss repeat s (TakeNext from to number) w = takes_or_loses start next_word loss repeat s from to number w
+chooses start next_word loss repeat s (PutAgain p) w = (makes start s (Tick p), w)
 
 -- the choice of a word, modulo the number of choices
 abbrev pub picked : List Choice → ℕ → Option Choice
@@ -66,13 +66,13 @@ picked [] word = None
 picked (c ∷ cs) word = Some (slice_index_or (c ∷ cs) (word % length (c ∷ cs)) c)
 
 -- The choice of the next word is made. Where there is none, no word is drawn and nothing changes.
-abbrev pub turns_by : {W : Type 0} → (W → ℕ × W) → ℕ → ℕ → Playing → Option Choice → W → Playing × W
-turns_by next_word loss repeat s None w = (s, w)
-turns_by next_word loss repeat s (Some choice) w = chooses next_word loss repeat s choice (next_word w).1
+abbrev pub turns_by : {W : Type 0} → (Op → ℕ → Start) → (W → ℕ × W) → ℕ → ℕ → Playing → Option Choice → W → Playing × W
+turns_by start next_word loss repeat s None w = (s, w)
+turns_by start next_word loss repeat s (Some choice) w = chooses start next_word loss repeat s choice (next_word w).1
 
 -- A turn of a play, with the source of its words.
 unfoldable pub turn : {W : Type 0} → (Op → ℕ → Start) → (W → ℕ × W) → ℕ → ℕ → Playing × W → Playing × W
-turn start next_word loss repeat x = turns_by next_word loss repeat x.0 (picked (choices_of start x.0) (next_word x.1).0) x.1
+turn start next_word loss repeat x = turns_by start next_word loss repeat x.0 (picked (choices_of start x.0) (next_word x.1).0) x.1
 
 -- So many turns. After one with no choice nothing changes any more: the play has ended.
 abbrev pub turns : {W : Type 0} → (Op → ℕ → Start) → (W → ℕ × W) → ℕ → ℕ → ℕ → Playing × W → Playing × W

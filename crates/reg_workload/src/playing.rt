@@ -153,7 +153,7 @@ impl<'w, F: FrontEnd, A: Allocator + Copy> Player<'w, F, A> {
         requires process { process < self.old.made.processes }
         requires going { self.old.made.failed ≡ false }
         requires room { length self.old.made.accepted < MOST_EVENTS }
-        ensures value { OnOk result (self.new ≡ calls_next self.old process) }
+        ensures value { OnOk result (self.new ≡ calls_next F.start self.old process) }
         ensures same { self.new.scripts ≡ self.old.scripts }
         ensures processes { self.new.made.processes ≡ self.old.made.processes }
         ensures registers { self.new.made.registers ≡ self.old.made.registers }
@@ -175,7 +175,7 @@ impl<'w, F: FrontEnd, A: Allocator + Copy> Player<'w, F, A> {
         requires no_call { (p : ℕ) → call_at p event ≡ [] }
         requires going { self.old.made.failed ≡ false }
         requires allowed { refusal F.start self.old.made event ≡ None }
-        ensures value { OnOk result (self.new ≡ makes self.old event) }
+        ensures value { OnOk result (self.new ≡ makes F.start self.old event) }
         ensures same { self.new.scripts ≡ self.old.scripts }
         ensures processes { self.new.made.processes ≡ self.old.made.processes }
         ensures registers { self.new.made.registers ≡ self.old.made.registers }
@@ -192,7 +192,7 @@ impl<'w, F: FrontEnd, A: Allocator + Copy> Player<'w, F, A> {
         requires process { process < self.old.made.processes }
         requires going { self.old.made.failed ≡ false }
         requires room { length self.old.made.accepted < MOST_EVENTS }
-        ensures value { OnOk result (self.new ≡ makes self.old (Tick process)) }
+        ensures value { OnOk result (self.new ≡ makes F.start self.old (Tick process)) }
         ensures same { self.new.scripts ≡ self.old.scripts }
         ensures processes { self.new.made.processes ≡ self.old.made.processes }
         ensures registers { self.new.made.registers ≡ self.old.made.registers }
@@ -226,7 +226,7 @@ impl<'w, F: FrontEnd, A: Allocator + Copy> Player<'w, F, A> {
         requires next { next_frame F.start self.old from to ≡ Some number }
         requires going { self.old.made.failed ≡ false }
         requires room { length self.old.made.accepted < MOST_EVENTS }
-        ensures value { OnOk result (self.new ≡ makes self.old (Take from to number)) }
+        ensures value { OnOk result (self.new ≡ makes F.start self.old (Take from to number)) }
         ensures same { self.new.scripts ≡ self.old.scripts }
         ensures processes { self.new.made.processes ≡ self.old.made.processes }
         ensures registers { self.new.made.registers ≡ self.old.made.registers }

@@ -44,7 +44,7 @@ fn take_or_lose<F: FrontEnd, R: Words, A: Allocator + Copy>(
     requires next { next_frame F.start player.old from to ≡ Some number }
     requires room { length player.old.made.accepted < MOST_EVENTS }
     requires behind { cursor_at player.old from to < MOST_EVENTS }
-    ensures value { OnOk result ((player.new, words.new) ≡ takes_or_loses R.next_word odds.loss odds.repeat player.old from to number words.old) }
+    ensures value { OnOk result ((player.new, words.new) ≡ takes_or_loses F.start R.next_word odds.loss odds.repeat player.old from to number words.old) }
     ensures turns { OnOk result (Turns odds.loss player.old player.new) }
 {
     if happens(words, odds.loss) {
@@ -69,7 +69,7 @@ fn choose<F: FrontEnd, R: Words, A: Allocator + Copy>(
     requires choice { IsChoice F.start player.old choice }
     requires room { length player.old.made.accepted < MOST_EVENTS }
     requires behind { (from to : ℕ) → cursor_at player.old from to < MOST_EVENTS }
-    ensures value { OnOk result ((player.new, words.new) ≡ chooses R.next_word odds.loss odds.repeat player.old choice words.old) }
+    ensures value { OnOk result ((player.new, words.new) ≡ chooses F.start R.next_word odds.loss odds.repeat player.old choice words.old) }
     ensures turns { OnOk result (Turns odds.loss player.old player.new) }
 {
     match choice {
