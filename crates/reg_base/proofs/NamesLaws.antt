@@ -109,14 +109,14 @@ number_exact ns s i h = (
   λ e. let z : 0 + i ≡ i = omega arith in place_of_exact ns 0 i s (distinct_after [] ns none_alike (parts ns h).1) e ∙ ap Some z,
 )
 
-pub number_fits : (ns : List (List ℕ)) (s : List ℕ) (i : ℕ) → names_fault ns ≡ None → position_from (λ n. bytes_eq n s) 0 ns ≡ Some i → i < 256
+pub number_fits : (ns : List (List ℕ)) (s : List ℕ) (i : ℕ) → names_fault ns ≡ None → position_from (λ n. bytes_eq n s) 0 ns ≡ Some i → i < MOST_REGISTERS
 number_fits ns s i h e =
     let l = slice_get_within ns i s ((number_exact ns s i h).0 e) in
     let m = (parts ns h).0 in
     grind (arith, nat_tests)
 
 -- the fault by the two searches
-pub fault_is : {A : Type 0} (names : List (String A)) (p q : Option ℕ) → 0 < length names → length names ≤ 256 → p ≡ position_from (λ n. not (is_name (string_bytes n))) 0 names → q ≡ first_repeat (texts names) → names_fault (texts names) ≡ worst_place p q
+pub fault_is : {A : Type 0} (names : List (String A)) (p q : Option ℕ) → 0 < length names → length names ≤ MOST_REGISTERS → p ≡ position_from (λ n. not (is_name (string_bytes n))) 0 names → q ≡ first_repeat (texts names) → names_fault (texts names) ≡ worst_place p q
 fault_is names p q some few e f =
     let n = length-map names string_bytes in
     let a : nat_eq (length (texts names)) 0 ≡ false = grind (arith, nat_tests) in
@@ -137,7 +137,7 @@ number_is names ns s r v h e i =
       λ k. sym (searched names s r e) ∙ f.1 (ap (λ t. slice_get t i) v ∙ k),
     )
 
-pub place_fits : {A : Type 0} (names : List (String A)) (s : List ℕ) (i : ℕ) → names_fault (texts names) ≡ None → Some i ≡ position_from (λ n. bytes_eq (string_bytes n) s) 0 names → i < 256
+pub place_fits : {A : Type 0} (names : List (String A)) (s : List ℕ) (i : ℕ) → names_fault (texts names) ≡ None → Some i ≡ position_from (λ n. bytes_eq (string_bytes n) s) 0 names → i < MOST_REGISTERS
 place_fits names s i h e = number_fits (texts names) s i h (searched names s (Some i) e)
 
 -- a name that stands at a place stands at no other

@@ -1,9 +1,9 @@
 //! The limits that all crates share. Each has its one place here.
 
 /// The most processes of a shape.
-pub const MOST_PROCESSES: u32 = 16;
+pub const MOST_PROCESSES: u32 = 64;
 /// The most registers of a shape, and the most names.
-pub const MOST_REGISTERS: u32 = 256;
+pub const MOST_REGISTERS: u32 = 4_096;
 /// The most letters of a register's name.
 pub const LONGEST_NAME: usize = 16;
 /// The last time that a clock can show. A clock starts at 0, and a cast or an acknowledgement has a time from 1 on.
