@@ -1,5 +1,5 @@
 //! The names of a line.
-ghost use Rattle.std.specs.Prelude.{◌≡◌, ◌<◌, ◌≤◌, ℕ, List, [], ◌∷◌, ◌⊎◌, ◌++◌, Ok, Err, None, Some, IfOk, IfErr, IfSome, IsSomeAnd, OnOk, MatchResult, codes};
+ghost use Rattle.std.specs.Prelude.{◌≡◌, ◌<◌, ◌≤◌, ℕ, List, [], ◌∷◌, ◌⊎◌, ◌++◌, Ok, Err, None, Some, IfOk, IfErr, IfSome, IsSomeAnd, OnOk, MatchResult, codes, length};
 ghost use Rattle.reg_base.specs.Names.{names_fault, texts};
 ghost use Rattle.reg_text.specs.declared.faults.Why.{Why};
 ghost use Rattle.reg_text.specs.Lines.{IsAsked};
@@ -12,7 +12,6 @@ use crate::fields::{cut_at, skip};
 use crate::forms::is_word;
 use crate::heads::owned;
 use reg_base::Names;
-use reg_base::limits::MOST_REGISTERS;
 use std::alloc::Allocator;
 
 /// Why words are refused.
@@ -34,18 +33,19 @@ pub fn next_word(text: &[u8]) -> Option<(&[u8], &[u8])>
     }
 }
 
-/// The words, each behind a space, and no more than names may be. Where there are more, the first that is wrong in the
+/// The words, each behind a space, and no more than the limit. Where there are more, the first that is wrong in the
 /// order from left to right decides: Name for one of those that may be, and else Range.
 pub fn read_words<A: Allocator + Copy>(
     alloc: A,
     text: &[u8],
+    limit: u32,
 ) -> Result<Vec<String<A>, A>, WordsFault>
-    ensures read { IfOk result (λ v. text.now ≡ names_text (texts v.items)) }
-    ensures whole { (ns : List (List ℕ)) → names_fault ns ≡ None → text.now ≡ names_text ns → MatchResult result (λ v. texts v.items ≡ ns) (λ f. f ≡ WordsFault.OutOfMemory) }
+    ensures read { IfOk result (λ v. (text.now ≡ names_text (texts v.items)) × (length (texts v.items) ≤ limit)) }
+    ensures whole { (ns : List (List ℕ)) → names_fault ns ≡ None → length ns ≤ limit → text.now ≡ names_text ns → MatchResult result (λ v. texts v.items ≡ ns) (λ f. f ≡ WordsFault.OutOfMemory) }
 {
     let mut words = Vec::new(alloc);
     let mut rest = text;
-    for _turn in 0..MOST_REGISTERS {
+    for _turn in 0..limit {
         if rest.is_empty() {
             return Ok(words);
         }
@@ -97,13 +97,15 @@ fn why_names(text: &[u8], why: Why) -> Why
     why
 }
 
-/// The names of their line.
+/// The names of their line, no more than the limit.
 pub fn read_names<A: Allocator + Copy>(
     alloc: A,
     lines: &mut Lines<'_>,
+    limit: u32,
 ) -> Result<Names<A>, TextFault>
     ensures read { IfOk result (λ n. (lines.old.left ≡ (codes "registers" ++ names_text n) ∷ lines.new.left) × (names_fault n ≡ None)) }
-    ensures whole { (ns : List (List ℕ)) (rest : List (List ℕ)) → names_fault ns ≡ None → lines.old.left ≡ (codes "registers" ++ names_text ns) ∷ rest
+    ensures few { IfOk result (λ n. length n ≤ limit) }
+    ensures whole { (ns : List (List ℕ)) (rest : List (List ℕ)) → names_fault ns ≡ None → length ns ≤ limit → lines.old.left ≡ (codes "registers" ++ names_text ns) ∷ rest
         → MatchResult result (λ n. (n ≡ ns) × (lines.new.left ≡ rest)) (λ f. f ≡ TextFault.OutOfMemory) }
     ensures end { lines.old.left ≡ [] → result ≡ Err (TextFault.Line lines.new.number Why.End) }
     ensures fault { IfErr result (λ f. (f ≡ TextFault.OutOfMemory) ⊎ ((why : Why) × (f ≡ TextFault.Line lines.new.number why))) }
@@ -115,7 +117,7 @@ pub fn read_names<A: Allocator + Copy>(
     let Some(text) = skip(line, b"registers") else {
         return Err(lines.fault(Why::Form));
     };
-    match read_words(alloc, text) {
+    match read_words(alloc, text, limit) {
         Ok(words) => match Names::new(words) {
             Ok(names) => Ok(names),
             Err(_) => Err(lines.fault(why_names(text, Why::Name))),

@@ -1,4 +1,4 @@
-use Rattle.std.proofs.Common.{ℕ, ◌≡◌, ◌+◌, List, [], ◌∷◌, ◌++◌, sym, ap, ◌∙◌, subst, rules, string_bytes}
+use Rattle.std.proofs.Common.{arith, ℕ, ◌≡◌, ◌+◌, List, [], ◌∷◌, ◌++◌, sym, ap, ◌∙◌, subst, rules, string_bytes}
 use Rattle.std.proofs.lemmas.List.{map-append}
 use Rattle.reg_base.specs.Names.{texts}
 use Rattle.reg_text.proofs.Split.{empty_is}
@@ -13,18 +13,19 @@ loop-turn-init g c =
 
 pub returns-then-is_empty-clause-read : goal.returns-then-is_empty-clause-read
 returns-then-is_empty-clause-read g c =
-    (finished c.args.text.now c.loop-turn.rest.now (texts c.loop-turn.words.items) c.loop-turn._turn c.loop-turn.invariant (empty_is c.loop-turn.rest.now (sym c.is_empty.ensures ∙ c.if-is_empty.true))).0
+    let all = finished c.args.text.now c.loop-turn.rest.now (texts c.loop-turn.words.items) c.loop-turn._turn c.loop-turn.invariant (empty_is c.loop-turn.rest.now (sym c.is_empty.ensures ∙ c.if-is_empty.true)) in
+    (all.0, omega (arith, c.loop-turn.invariant.count))
 
 pub returns-then-is_empty-clause-whole : goal.returns-then-is_empty-clause-whole
 returns-then-is_empty-clause-whole g c =
-    (finished c.args.text.now c.loop-turn.rest.now (texts c.loop-turn.words.items) c.loop-turn._turn c.loop-turn.invariant (empty_is c.loop-turn.rest.now (sym c.is_empty.ensures ∙ c.if-is_empty.true))).1
+    λ ns ok few e. (finished c.args.text.now c.loop-turn.rest.now (texts c.loop-turn.words.items) c.loop-turn._turn c.loop-turn.invariant (empty_is c.loop-turn.rest.now (sym c.is_empty.ensures ∙ c.if-is_empty.true))).1 ns ok e
 
 pub returns-in_default-clause-whole : goal.returns-in_default-clause-whole
-returns-in_default-clause-whole g c = λ ns ok e.
+returns-in_default-clause-whole g c = λ ns ok few e.
     absurd (no_word c.args.text.now c.loop-turn.rest.now (texts c.loop-turn.words.items) c.loop-turn._turn c.loop-turn.invariant (sym c.is_empty.ensures ∙ c.if-is_empty.false) c.in_default.ensures.whole ns ok e)
 
 pub returns-in-Ok-None-clause-whole : goal.returns-in-Ok-None-clause-whole
-returns-in-Ok-None-clause-whole g c = λ ns ok e.
+returns-in-Ok-None-clause-whole g c = λ ns ok few e.
     let bad = (rw c.in-Ok-None.field-0-is at c.in-Ok-None.ensures) in
     absurd (no_text c.args.text.now c.loop-turn.rest.now (texts c.loop-turn.words.items) c.loop-turn._turn c.in-Some.word.now c.in-Some.after.now c.loop-turn.invariant (sym c.is_empty.ensures ∙ c.if-is_empty.false) c.in-Some.ensures.whole bad ns ok e)
 
@@ -38,8 +39,9 @@ loop-turn-preserved g c =
 
 pub returns-then-is_empty-2-clause-read : goal.returns-then-is_empty-2-clause-read
 returns-then-is_empty-2-clause-read g c =
-    (finished c.args.text.now c.loop-turn.rest.now (texts c.loop-turn.words.items) c.loop-turn._turn c.loop-turn.invariant (empty_is c.loop-turn.rest.now (sym c.is_empty-2.ensures ∙ c.if-is_empty-2.true))).0
+    let all = finished c.args.text.now c.loop-turn.rest.now (texts c.loop-turn.words.items) c.loop-turn._turn c.loop-turn.invariant (empty_is c.loop-turn.rest.now (sym c.is_empty-2.ensures ∙ c.if-is_empty-2.true)) in
+    (all.0, omega (arith, c.loop-turn.invariant.count))
 
 pub returns-then-is_empty-2-clause-whole : goal.returns-then-is_empty-2-clause-whole
 returns-then-is_empty-2-clause-whole g c =
-    (finished c.args.text.now c.loop-turn.rest.now (texts c.loop-turn.words.items) c.loop-turn._turn c.loop-turn.invariant (empty_is c.loop-turn.rest.now (sym c.is_empty-2.ensures ∙ c.if-is_empty-2.true))).1
+    λ ns ok few e. (finished c.args.text.now c.loop-turn.rest.now (texts c.loop-turn.words.items) c.loop-turn._turn c.loop-turn.invariant (empty_is c.loop-turn.rest.now (sym c.is_empty-2.ensures ∙ c.if-is_empty-2.true))).1 ns ok e
