@@ -14,6 +14,8 @@ pub mod Marking
 pub mod OwnOrder
 pub mod Bridges
 pub mod PointFacts
+pub mod Older
+pub mod Listed
 pub mod Lacking
 pub mod Whole
 pub mod Writing

@@ -1,7 +1,7 @@
 -- The lines of a history in a report, and what their fields may be.
 use Rattle.std.specs.Prelude.{ℕ, ◌^◌, ◌≡◌, ◌<◌, ◌≤◌, ◌⊎◌, ⊤, true, List, ◌++◌, codes}
 use Rattle.std.specs.Fmt.{decimal}
-use Rattle.reg_base.specs.declared.limits.TheConstants.{MOST_PROCESSES, MOST_OPERATIONS, LAST_EVENT}
+use Rattle.reg_base.specs.declared.limits.TheConstants.{MOST_OPERATIONS, LAST_EVENT}
 use Rattle.reg_base.specs.Shape.{Extent}
 use Rattle.reg_base.specs.declared.memory.Answer.{Answer}
 use Rattle.reg_base.specs.declared.memory.Answer.TheVariants.{Done, Value}
@@ -10,6 +10,8 @@ use Rattle.reg_text.specs.Ops.{op_text, OpFits, HasValue}
 use Rattle.reg_text.specs.Forms.{is_numeral, HasOpForm}
 use Rattle.reg_history.specs.declared.entries.Entry.{Entry}
 use Rattle.reg_history.specs.declared.entries.Entry.TheVariants.{Called, Answered}
+use Rattle.reg_history.specs.declared.versions.Version.{Version}
+use Rattle.reg_history.specs.Versions.{most_processes}
 use Rattle.reg_history.specs.History.{IsInPlace}
 
 abbrev pub answer_text : Answer → List ℕ
@@ -36,19 +38,19 @@ abbrev pub EntryHasValue : Entry → Type 0
 EntryHasValue (Called at id op) = HasValue op
 EntryHasValue (Answered at id answer) = AnswerFits answer
 
-pub record ColumnsFit (at process number : ℕ) : Type 0 where
+pub record ColumnsFit (version : Version) (at process number : ℕ) : Type 0 where
   pub at_fits : at ≤ LAST_EVENT
-  pub process_fits : process < MOST_PROCESSES
+  pub process_fits : process < most_processes version
   pub number_fits : number < MOST_OPERATIONS
 
--- the parts of an entry are within the limits of a report
-abbrev pub EntryFits : List (List ℕ) → Entry → Type 0
-EntryFits names (Called at id op) = ColumnsFit at id.process id.number × OpFits names op
-EntryFits names (Answered at id answer) = ColumnsFit at id.process id.number × AnswerFits answer
+-- the parts of an entry are within the limits of a report of this version
+abbrev pub EntryFits : Version → List (List ℕ) → Entry → Type 0
+EntryFits version names (Called at id op) = ColumnsFit version at id.process id.number × OpFits names op
+EntryFits version names (Answered at id answer) = ColumnsFit version at id.process id.number × AnswerFits answer
 
 -- the entry is within the limits, and in place after those before it
-abbrev pub Follows : List (List ℕ) → Extent → List Entry → Entry → Type 0
-Follows names shape before e = EntryFits names e × IsInPlace shape.processes shape.registers before e
+abbrev pub Follows : Version → List (List ℕ) → Extent → List Entry → Entry → Type 0
+Follows version names shape before e = EntryFits version names e × IsInPlace shape.processes shape.registers before e
 
 -- the form of an answer, whatever its value
 abbrev pub HasAnswerForm : List ℕ → Type 0

@@ -1,10 +1,12 @@
 -- The lines of an order and of points.
 use Rattle.std.specs.Prelude.{ℕ, ◌≡◌, ◌<◌, ◌≤◌, true, List, ◌∷◌, ◌++◌, codes}
 use Rattle.std.specs.Fmt.{decimal}
-use Rattle.reg_base.specs.declared.limits.TheConstants.{MOST_PROCESSES, MOST_OPERATIONS, LAST_EVENT}
+use Rattle.reg_base.specs.declared.limits.TheConstants.{MOST_OPERATIONS, LAST_EVENT}
 use Rattle.reg_base.specs.declared.memory.OpId.{OpId}
 use Rattle.reg_text.specs.Forms.{is_numeral}
 use Rattle.reg_history.specs.declared.entries.Point.{Point}
+use Rattle.reg_history.specs.declared.versions.Version.{Version}
+use Rattle.reg_history.specs.Versions.{most_processes}
 
 abbrev pub id_text : OpId → List ℕ
 id_text id = codes "p" ++ (decimal id.process ++ 32 ∷ (codes "#" ++ decimal id.number))
@@ -12,12 +14,12 @@ id_text id = codes "p" ++ (decimal id.process ++ 32 ∷ (codes "#" ++ decimal id
 abbrev pub point_text : Point → List ℕ
 point_text p = codes "p" ++ (decimal p.id.process ++ 32 ∷ (codes "#" ++ (decimal p.id.number ++ 32 ∷ (codes "at " ++ decimal p.at))))
 
--- within the limits of a report
-abbrev pub IdFits : OpId → Type 0
-IdFits id = (id.process < MOST_PROCESSES) × (id.number < MOST_OPERATIONS)
+-- within the limits of a report of this version
+abbrev pub IdFits : Version → OpId → Type 0
+IdFits version id = (id.process < most_processes version) × (id.number < MOST_OPERATIONS)
 
-abbrev pub PointFits : Point → Type 0
-PointFits p = IdFits p.id × (p.at ≤ LAST_EVENT)
+abbrev pub PointFits : Version → Point → Type 0
+PointFits version p = IdFits version p.id × (p.at ≤ LAST_EVENT)
 
 -- the line has the form of an operation's, whatever the limits: these numerals in their places
 abbrev pub IsIdForm : List ℕ → List ℕ → List ℕ → Type 0

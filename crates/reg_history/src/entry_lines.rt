@@ -8,7 +8,8 @@ ghost use Rattle.reg_text.specs.Forms.{is_numeral as is_numeral_of};
 
 use crate::entries::Entry;
 use crate::report_faults::ReadWhy;
-use reg_base::limits::{LAST_EVENT, MOST_OPERATIONS, MOST_PROCESSES};
+use crate::versions::Version;
+use reg_base::limits::{LAST_EVENT, MOST_OPERATIONS};
 use reg_base::{Answer, Names, OpId};
 use reg_text::{
     Why, cut, form, in_front, is_numeral, left_field, numeral, op_form, read_op, right_field, skip,
@@ -29,33 +30,39 @@ fn read_answer(bytes: &[u8]) -> Option<Answer>
     Some(Answer::Value(number))
 }
 
-fn are_within(at: u64, process: u64, number: u64) -> bool
-    ensures { IsTrue result ↔ ColumnsFit at process number }
+fn are_within(version: Version, at: u64, process: u64, number: u64) -> bool
+    ensures { IsTrue result ↔ ColumnsFit version at process number }
 {
-    at <= LAST_EVENT as u64 && process < MOST_PROCESSES as u64 && number < MOST_OPERATIONS as u64
+    at <= LAST_EVENT as u64
+        && process <= version.last_process() as u64
+        && number < MOST_OPERATIONS as u64
 }
 
 /// The columns of a line, and the rest.
-fn read_columns(line: &[u8]) -> Option<(u32, u8, u32, &[u8])>
-    ensures read { IfSome result (λ p. (line.now ≡ columns_text p.0 p.1 p.2 p.3.now) × ColumnsFit p.0 p.1 p.2) }
-    ensures whole { (at process number : ℕ) (rest : List ℕ) → ColumnsFit at process number → line.now ≡ columns_text at process number rest → IsSomeAnd result (λ p. (p.0 ≡ at) × (p.1 ≡ process) × (p.2 ≡ number) × (p.3.now ≡ rest)) }
+fn read_columns(line: &[u8], version: Version) -> Option<(u32, u8, u32, &[u8])>
+    ensures read { IfSome result (λ p. (line.now ≡ columns_text p.0 p.1 p.2 p.3.now) × ColumnsFit version p.0 p.1 p.2) }
+    ensures whole { (at process number : ℕ) (rest : List ℕ) → ColumnsFit version at process number → line.now ≡ columns_text at process number rest → IsSomeAnd result (λ p. (p.0 ≡ at) × (p.1 ≡ process) × (p.2 ≡ number) × (p.3.now ≡ rest)) }
 {
     let (at, after) = right_field(line, 8, b"  p")?;
     let (process, others) = left_field(after, 3, b"  #")?;
     let (number, rest) = left_field(others, 6, b"  ")?;
-    if !are_within(at, process, number) {
+    if !are_within(version, at, process, number) {
         return None;
     }
     Some((at as u32, process as u8, number as u32, rest))
 }
 
 /// The entry of a line. None where the line is none, and then `why_entry` says why.
-pub fn read_entry<A: Allocator + Copy>(line: &[u8], names: &Names<A>) -> Option<Entry>
+pub fn read_entry<A: Allocator + Copy>(
+    line: &[u8],
+    names: &Names<A>,
+    version: Version,
+) -> Option<Entry>
     requires { names_fault names.now ≡ None }
-    ensures read { IfSome result (λ e. (line.now ≡ entry_text names.now e) × EntryFits names.now e) }
-    ensures whole { (e : Entry) → EntryFits names.now e → line.now ≡ entry_text names.now e → result ≡ Some e }
+    ensures read { IfSome result (λ e. (line.now ≡ entry_text names.now e) × EntryFits version names.now e) }
+    ensures whole { (e : Entry) → EntryFits version names.now e → line.now ≡ entry_text names.now e → result ≡ Some e }
 {
-    let (at, process, number, rest) = read_columns(line)?;
+    let (at, process, number, rest) = read_columns(line, version)?;
     let id = OpId { process, number };
     if let Some(text) = skip(rest, b"call    ") {
         let op = read_op(text, names)?;
@@ -99,7 +106,7 @@ fn tail_form<A: Allocator + Copy>(rest: &[u8], names: &Names<A>) -> Option<Why>
     }
 }
 
-fn entry_form<A: Allocator + Copy>(line: &[u8], names: &Names<A>) -> Option<Why>
+fn entry_form<A: Allocator + Copy>(line: &[u8], names: &Names<A>, version: Version) -> Option<Why>
     ensures { IfSome result (λ why. (why ≡ Why.Range) ⊎ (why ≡ Why.Name)) }
 {
     let (at, rest) = cut(line, 8)?;
@@ -114,7 +121,7 @@ fn entry_form<A: Allocator + Copy>(line: &[u8], names: &Names<A>) -> Option<Why>
     form(is_numeral(at) && is_numeral(process) && is_numeral(number))?;
     let why = tail_form(rest, names)?;
     let columns_fit = within(at, LAST_EVENT as u64)
-        && within(process, MOST_PROCESSES as u64 - 1)
+        && within(process, version.last_process() as u64)
         && within(number, MOST_OPERATIONS as u64 - 1);
     if columns_fit {
         Some(why)
@@ -124,10 +131,10 @@ fn entry_form<A: Allocator + Copy>(line: &[u8], names: &Names<A>) -> Option<Why>
 }
 
 /// Why a line is no entry.
-pub fn why_entry<A: Allocator + Copy>(line: &[u8], names: &Names<A>) -> ReadWhy
+pub fn why_entry<A: Allocator + Copy>(line: &[u8], names: &Names<A>, version: Version) -> ReadWhy
     ensures { (result ≡ ReadWhy.Form) ⊎ ((result ≡ ReadWhy.Range) ⊎ (result ≡ ReadWhy.Name)) }
 {
-    match entry_form(line, names) {
+    match entry_form(line, names, version) {
         Some(why) => ReadWhy::from(why),
         None => ReadWhy::Form,
     }

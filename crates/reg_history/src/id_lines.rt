@@ -6,17 +6,18 @@ ghost use Rattle.reg_history.specs.IdLines.{id_text, IdFits, point_text, PointFi
 
 use crate::entries::Point;
 use crate::report_faults::ReadWhy;
+use crate::versions::Version;
 use reg_base::OpId;
-use reg_base::limits::{LAST_EVENT, MOST_OPERATIONS, MOST_PROCESSES};
+use reg_base::limits::{LAST_EVENT, MOST_OPERATIONS};
 use reg_text::{cut_at, field_within, form, is_numeral, numeral_within, skip};
 
-/// The operation of a line.
-pub fn read_id(line: &[u8]) -> Option<OpId>
-    ensures read { IfSome result (λ id. (line.now ≡ id_text id) × IdFits id) }
-    ensures whole { (id : OpId) → IdFits id → line.now ≡ id_text id → result ≡ Some id }
+/// The operation of a line of a report.
+pub fn read_id(line: &[u8], version: Version) -> Option<OpId>
+    ensures read { IfSome result (λ id. (line.now ≡ id_text id) × IdFits version id) }
+    ensures whole { (id : OpId) → IdFits version id → line.now ≡ id_text id → result ≡ Some id }
 {
     let text = skip(line, b"p")?;
-    let (process, after) = field_within(text, MOST_PROCESSES as u64 - 1, b' ')?;
+    let (process, after) = field_within(text, version.last_process() as u64, b' ')?;
     let digits = skip(after, b"#")?;
     let number = numeral_within(digits, MOST_OPERATIONS as u64 - 1)?;
     Some(OpId {
@@ -25,13 +26,13 @@ pub fn read_id(line: &[u8]) -> Option<OpId>
     })
 }
 
-/// The point of a line.
-pub fn read_point(line: &[u8]) -> Option<Point>
-    ensures read { IfSome result (λ p. (line.now ≡ point_text p) × PointFits p) }
-    ensures whole { (p : Point) → PointFits p → line.now ≡ point_text p → result ≡ Some p }
+/// The point of a line of a report.
+pub fn read_point(line: &[u8], version: Version) -> Option<Point>
+    ensures read { IfSome result (λ p. (line.now ≡ point_text p) × PointFits version p) }
+    ensures whole { (p : Point) → PointFits version p → line.now ≡ point_text p → result ≡ Some p }
 {
     let text = skip(line, b"p")?;
-    let (process, after) = field_within(text, MOST_PROCESSES as u64 - 1, b' ')?;
+    let (process, after) = field_within(text, version.last_process() as u64, b' ')?;
     let digits = skip(after, b"#")?;
     let (number, last) = field_within(digits, MOST_OPERATIONS as u64 - 1, b' ')?;
     let event = skip(last, b"at ")?;

@@ -10,6 +10,8 @@ ghost use Rattle.reg_history.specs.declared.faults.CheckFault.TheVariants.{OutOf
 ghost use Rattle.reg_history.specs.History.{IsAt, IsCalled, IsAnswered, IsHistory};
 ghost use Rattle.reg_history.specs.Orders.{IsSerial, IsPointOrder};
 ghost use Rattle.reg_history.specs.Checks.{IsSerialFault, IsPointFault};
+ghost use Rattle.reg_history.specs.Reports.{Contents, IsTextOf, text_in};
+ghost use Rattle.reg_history.specs.declared.versions.Version.TheVariants.{One, Two};
 
 /// In a point order an operation that was answered before another's call stands before it.
 pub fn point_order_respects_time()
@@ -26,4 +28,9 @@ pub fn point_order_is_serial()
 pub fn fault_is_no_order()
     ensures serial { (n registers : ℕ) (h : List Entry) → IsHistory n registers h → (ids : List OpId) (f : CheckFault) → f ≢ OutOfMemory → IsSerialFault registers h ids f → ¬ IsSerial registers h ids }
     ensures points { (n registers : ℕ) (h : List Entry) → IsHistory n registers h → (ps : List Point) (f : CheckFault) → f ≢ OutOfMemory → IsPointFault registers h ps f → ¬ IsPointOrder registers h ps }
+{}
+
+/// No text spells a report in version 1 and a report in version 2.
+pub fn no_text_has_both_versions()
+    ensures { (text : List ℕ) (r s : Contents) → IsTextOf text (text_in One r) → IsTextOf text (text_in Two s) → ⊥ }
 {}

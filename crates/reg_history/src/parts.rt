@@ -1,5 +1,6 @@
 //! The counted parts of a report.
-ghost use Rattle.std.specs.Prelude.{◌≡◌, ◌<◌, ◌≤◌, ℕ, List, [], ◌∷◌, ◌++◌, None, Some, IfOk, MatchResult, codes, Option, option_map, string_bytes, true};
+ghost use Rattle.std.specs.Prelude.{◌≡◌, ◌<◌, ◌≤◌, length, ℕ, List, [], ◌∷◌, ◌++◌, None, Some, IfOk, MatchResult, codes, Option, option_map, string_bytes, true};
+ghost use Rattle.std.specs.Fmt.{decimal};
 ghost use Rattle.reg_base.specs.Names.{names_fault};
 ghost use Rattle.reg_base.specs.declared.memory.OpId.{OpId};
 ghost use Rattle.reg_history.specs.declared.entries.Entry.{Entry};
@@ -9,17 +10,19 @@ ghost use Rattle.reg_history.specs.Reports.{is_front as is_front_of};
 ghost use Rattle.reg_history.specs.IdLines.{id_text, IdFits, point_text, PointFits};
 ghost use Rattle.reg_history.specs.EntryLines.{Follows};
 ghost use Rattle.reg_history.specs.Reports.{IsCounted, tail_lines, PointsFit, head_lines};
+ghost use Rattle.reg_history.specs.declared.versions.Version.{Version};
+ghost use Rattle.reg_history.specs.Versions.{most_processes, most_registers, version_line};
 
 use crate::blocks::{read_entries, read_ids, read_points};
 use crate::entries::Point;
 use crate::log::History;
+use crate::name_lines::read_registers;
 use crate::report_faults::{ReadFault, ReadWhy, at_line};
 use crate::report_limits::{LONGEST_FRONT, MOST_ENTRIES, MOST_IDS};
-use reg_base::limits::MOST_PROCESSES;
+use crate::versions::Version;
 use reg_base::{Names, OpId, Shape};
 use reg_text::{
-    Lines, are_front_letters, expect_line, numeral_within, owned, read_count, read_names, skip,
-    why_number,
+    Lines, are_front_letters, expect_line, numeral_within, owned, read_count, skip, why_number,
 };
 use std::alloc::Allocator;
 
@@ -52,24 +55,50 @@ fn read_front<A: Allocator + Copy>(alloc: A, lines: &mut Lines<'_>) -> Result<St
     }
 }
 
+/// The version that the first line names.
+fn read_version(lines: &mut Lines<'_>) -> Result<Version, ReadFault>
+    ensures read { IfOk result (λ version. lines.old.left ≡ version_line version ∷ lines.new.left) }
+    ensures whole { (version : Version) (rest : List (List ℕ)) → lines.old.left ≡ version_line version ∷ rest
+        → MatchResult result (λ v. (v ≡ version) × (lines.new.left ≡ rest)) (λ _. ⊥) }
+{
+    let Some(line) = lines.next() else {
+        return Err(at_line(lines, ReadWhy::End));
+    };
+    match Version::of_line(line) {
+        Some(version) => Ok(version),
+        None => Err(at_line(lines, ReadWhy::Form)),
+    }
+}
+
+/// The number of processes.
+fn read_processes(lines: &mut Lines<'_>, version: Version) -> Result<u32, ReadFault>
+    ensures read { IfOk result (λ n. (lines.old.left ≡ (codes "processes " ++ decimal n) ∷ lines.new.left) × (0 < n) × (n ≤ most_processes version)) }
+    ensures whole { (n : ℕ) (rest : List (List ℕ)) → 0 < n → n ≤ most_processes version → lines.old.left ≡ (codes "processes " ++ decimal n) ∷ rest
+        → MatchResult result (λ m. (m ≡ n) × (lines.new.left ≡ rest)) (λ _. ⊥) }
+{
+    let processes = read_count(lines, b"processes ", version.most_processes() as u64)?;
+    if processes == 0 {
+        return Err(at_line(lines, ReadWhy::Range));
+    }
+    Ok(processes as u32)
+}
+
 /// The first lines of a report.
 pub fn read_head<A: Allocator + Copy>(
     alloc: A,
     lines: &mut Lines<'_>,
-) -> Result<(String<A>, u32, Names<A>), ReadFault>
-    ensures read { IfOk result (λ h. (lines.old.left ≡ head_lines (string_bytes h.0) h.1 h.2 lines.new.left) × (is_front_of (string_bytes h.0) ≡ true) × (0 < h.1) × (h.1 ≤ MOST_PROCESSES) × (names_fault h.2 ≡ None)) }
-    ensures whole { (front : List ℕ) (processes : ℕ) (names : List (List ℕ)) (rest : List (List ℕ))
-        → is_front_of front ≡ true → 0 < processes → processes ≤ MOST_PROCESSES → names_fault names ≡ None → lines.old.left ≡ head_lines front processes names rest
-        → MatchResult result (λ h. (string_bytes h.0 ≡ front) × (h.1 ≡ processes) × (h.2 ≡ names) × (lines.new.left ≡ rest)) (λ f. f ≡ ReadFault.OutOfMemory) }
+) -> Result<(Version, String<A>, u32, Names<A>), ReadFault>
+    ensures read { IfOk result (λ h. (lines.old.left ≡ head_lines h.0 (string_bytes h.1) h.2 h.3 lines.new.left) × (is_front_of (string_bytes h.1) ≡ true) × (0 < h.2) × (h.2 ≤ most_processes h.0) × (names_fault h.3 ≡ None) × (length h.3 ≤ most_registers h.0)) }
+    ensures whole { (version : Version) (front : List ℕ) (processes : ℕ) (names : List (List ℕ)) (rest : List (List ℕ))
+        → is_front_of front ≡ true → 0 < processes → processes ≤ most_processes version → names_fault names ≡ None → length names ≤ most_registers version
+        → lines.old.left ≡ head_lines version front processes names rest
+        → MatchResult result (λ h. (h.0 ≡ version) × (string_bytes h.1 ≡ front) × (h.2 ≡ processes) × (h.3 ≡ names) × (lines.new.left ≡ rest)) (λ f. f ≡ ReadFault.OutOfMemory) }
 {
-    expect_line(lines, b"awreg report 1")?;
+    let version = read_version(lines)?;
     let front = read_front(alloc, lines)?;
-    let processes = read_count(lines, b"processes ", MOST_PROCESSES as u64)?;
-    if processes == 0 {
-        return Err(at_line(lines, ReadWhy::Range));
-    }
-    let names = read_names(alloc, lines)?;
-    Ok((front, processes as u32, names))
+    let processes = read_processes(lines, version)?;
+    let names = read_registers(alloc, lines, version)?;
+    Ok((version, front, processes, names))
 }
 
 /// The history of a report.
@@ -78,18 +107,19 @@ pub fn read_history<A: Allocator + Copy>(
     lines: &mut Lines<'_>,
     shape: Shape,
     names: &Names<A>,
+    version: Version,
 ) -> Result<History<A>, ReadFault>
     requires { names_fault names.now ≡ None }
     ensures shape { IfOk result (λ h. h.shape ≡ shape) }
-    ensures read { IfOk result (λ h. IsCounted (codes "history ") (entry_text names.now) (Follows names.now shape) MOST_ENTRIES lines.old.left lines.new.left h.entries) }
-    ensures whole { (ys : List Entry) (rest : List (List ℕ)) → IsCounted (codes "history ") (entry_text names.now) (Follows names.now shape) MOST_ENTRIES lines.old.left rest ys
+    ensures read { IfOk result (λ h. IsCounted (codes "history ") (entry_text names.now) (Follows version names.now shape) MOST_ENTRIES lines.old.left lines.new.left h.entries) }
+    ensures whole { (ys : List Entry) (rest : List (List ℕ)) → IsCounted (codes "history ") (entry_text names.now) (Follows version names.now shape) MOST_ENTRIES lines.old.left rest ys
         → MatchResult result (λ h. (h.entries ≡ ys) × (lines.new.left ≡ rest)) (λ f. f ≡ ReadFault.OutOfMemory) }
 {
     let count = read_count(lines, b"history ", MOST_ENTRIES as u64)?;
     let Ok(mut history) = History::new(alloc, shape) else {
         return Err(ReadFault::OutOfMemory);
     };
-    read_entries(lines, names, &mut history, count as u32)?;
+    read_entries(lines, names, &mut history, count as u32, version)?;
     Ok(history)
 }
 
@@ -97,22 +127,24 @@ pub fn read_history<A: Allocator + Copy>(
 pub fn read_order<A: Allocator + Copy>(
     alloc: A,
     lines: &mut Lines<'_>,
+    version: Version,
 ) -> Result<Vec<OpId, A>, ReadFault>
-    ensures read { IfOk result (λ v. IsCounted (codes "order ") id_text (λ _ x. IdFits x) MOST_IDS lines.old.left lines.new.left v.items) }
-    ensures whole { (ys : List OpId) (rest : List (List ℕ)) → IsCounted (codes "order ") id_text (λ _ x. IdFits x) MOST_IDS lines.old.left rest ys
+    ensures read { IfOk result (λ v. IsCounted (codes "order ") id_text (λ _ x. IdFits version x) MOST_IDS lines.old.left lines.new.left v.items) }
+    ensures whole { (ys : List OpId) (rest : List (List ℕ)) → IsCounted (codes "order ") id_text (λ _ x. IdFits version x) MOST_IDS lines.old.left rest ys
         → MatchResult result (λ v. (v.items ≡ ys) × (lines.new.left ≡ rest)) (λ f. f ≡ ReadFault.OutOfMemory) }
 {
     let count = read_count(lines, b"order ", MOST_IDS as u64)?;
-    read_ids(alloc, lines, count as u32)
+    read_ids(alloc, lines, count as u32, version)
 }
 
 /// The points of a report, if it has any, and its last line.
 pub fn read_tail<A: Allocator + Copy>(
     alloc: A,
     lines: &mut Lines<'_>,
+    version: Version,
 ) -> Result<Option<Vec<Point, A>>, ReadFault>
-    ensures read { IfOk result (λ o. let points = option_map (λ v. v.items) o in (lines.old.left ≡ tail_lines points) × PointsFit points) }
-    ensures whole { (points : Option (List Point)) → PointsFit points → lines.old.left ≡ tail_lines points
+    ensures read { IfOk result (λ o. let points = option_map (λ v. v.items) o in (lines.old.left ≡ tail_lines points) × PointsFit version points) }
+    ensures whole { (points : Option (List Point)) → PointsFit version points → lines.old.left ≡ tail_lines points
         → MatchResult result (λ o. option_map (λ v. v.items) o ≡ points) (λ f. f ≡ ReadFault.OutOfMemory) }
 {
     let Some(line) = lines.next() else {
@@ -130,7 +162,7 @@ pub fn read_tail<A: Allocator + Copy>(
     let Some(count) = numeral_within(digits, MOST_IDS as u64) else {
         return Err(at_line(lines, ReadWhy::from(why_number(digits))));
     };
-    let points = read_points(alloc, lines, count as u32)?;
+    let points = read_points(alloc, lines, count as u32, version)?;
     expect_line(lines, b"end")?;
     if lines.next().is_some() {
         return Err(at_line(lines, ReadWhy::End));

@@ -6,14 +6,17 @@ ghost use Rattle.reg_text.specs.Lines.{AllFit};
 ghost use Rattle.reg_history.specs.declared.entries.Entry.{Entry};
 ghost use Rattle.reg_history.specs.declared.entries.Point.{Point};
 ghost use Rattle.reg_history.specs.EntryLines.{EntryHasValue};
+ghost use Rattle.reg_history.specs.declared.versions.Version.{Version};
+ghost use Rattle.reg_history.specs.declared.versions.Version.TheVariants.{Two};
 ghost use Rattle.reg_history.specs.IdLines.{IdFits, PointFits};
-ghost use Rattle.reg_history.specs.Reports.{report_lines, report_text, IsReport, IsReportFault, InRange, PointsFit, IsTextOf, Contents};
+ghost use Rattle.reg_history.specs.Reports.{lines_in, report_text, IsReport, IsReportIn, IsReportFault, InRange, PointsFit, SpellsReport, Contents};
 
 use crate::entries::{Entry, Point};
 use crate::log::History;
 use crate::parts::{is_front, read_head, read_history, read_order, read_tail};
 use crate::report_faults::{ReadFault, ReadWhy, ReportFault, WriteFault, at_line};
 use crate::report_limits::{MOST_ENTRIES, MOST_IDS};
+use crate::versions::Version;
 use crate::write::{write_count, write_entries, write_head, write_ids, write_tail};
 use reg_base::limits::{LAST_EVENT, MOST_OPERATIONS, MOST_PROCESSES};
 use reg_base::{Names, OpId, Shape};
@@ -44,19 +47,19 @@ impl<A: Allocator + Copy> Model for Report<A> {
 }
 
 fn id_fits(id: OpId) -> bool
-    ensures { IsTrue result ↔ IdFits id }
+    ensures { IsTrue result ↔ IdFits Two id }
 {
     (id.process as u32) < MOST_PROCESSES && id.number < MOST_OPERATIONS
 }
 
 fn point_fits(point: Point) -> bool
-    ensures { IsTrue result ↔ PointFits point }
+    ensures { IsTrue result ↔ PointFits Two point }
 {
     id_fits(point.id) && point.at <= LAST_EVENT
 }
 
 fn ids_fit(ids: &[OpId]) -> bool
-    ensures { IsTrue result ↔ AllFit (λ _ id. IdFits id) ids.now }
+    ensures { IsTrue result ↔ AllFit (λ _ id. IdFits Two id) ids.now }
 {
     for id in ids {
         if !id_fits(*id) {
@@ -67,7 +70,7 @@ fn ids_fit(ids: &[OpId]) -> bool
 }
 
 fn all_points_fit(points: &[Point]) -> bool
-    ensures { IsTrue result ↔ AllFit (λ _ p. PointFits p) points.now }
+    ensures { IsTrue result ↔ AllFit (λ _ p. PointFits Two p) points.now }
 {
     for point in points {
         if !point_fits(*point) {
@@ -78,7 +81,7 @@ fn all_points_fit(points: &[Point]) -> bool
 }
 
 fn points_fit<A: Allocator + Copy>(points: &Option<Vec<Point, A>>) -> bool
-    ensures { IsTrue result ↔ PointsFit (option_map (λ v. v.items) points.now) }
+    ensures { IsTrue result ↔ PointsFit Two (option_map (λ v. v.items) points.now) }
 {
     match points {
         Some(points) => points.len() <= MOST_IDS as usize && all_points_fit(points.as_slice()),
@@ -91,7 +94,7 @@ fn is_in_range<A: Allocator + Copy>(
     order: &[OpId],
     points: &Option<Vec<Point, A>>,
 ) -> bool
-    ensures { IsTrue result ↔ InRange entries.now order.now (option_map (λ v. v.items) points.now) }
+    ensures { IsTrue result ↔ InRange Two entries.now order.now (option_map (λ v. v.items) points.now) }
 {
     entries.len() <= MOST_ENTRIES as usize
         && order.len() <= MOST_IDS as usize
@@ -200,16 +203,16 @@ impl<A: Allocator + Copy> Report<A> {
 
 /// The report of these lines.
 fn read_lines<A: Allocator + Copy>(alloc: A, lines: &mut Lines<'_>) -> Result<Report<A>, ReadFault>
-    ensures read { IfOk result (λ r. (lines.old.left ≡ report_lines r) × IsReport r) }
-    ensures whole { (r : Contents) → IsReport r → lines.old.left ≡ report_lines r → MatchResult result (λ w. w ≡ r) (λ f. f ≡ ReadFault.OutOfMemory) }
+    ensures read { IfOk result (λ r. (version : Version) × IsReportIn version r × (lines.old.left ≡ lines_in version r)) }
+    ensures whole { (version : Version) (r : Contents) → IsReportIn version r → lines.old.left ≡ lines_in version r → MatchResult result (λ w. w ≡ r) (λ f. f ≡ ReadFault.OutOfMemory) }
 {
-    let (front, processes, names) = read_head(alloc, lines)?;
+    let (version, front, processes, names) = read_head(alloc, lines)?;
     let Ok(shape) = Shape::new(processes, names.count() as u32) else {
         return Err(at_line(lines, ReadWhy::Range));
     };
-    let history = read_history(alloc, lines, shape, &names)?;
-    let order = read_order(alloc, lines)?;
-    let points = read_tail(alloc, lines)?;
+    let history = read_history(alloc, lines, shape, &names, version)?;
+    let order = read_order(alloc, lines, version)?;
+    let points = read_tail(alloc, lines, version)?;
     Ok(Report {
         front,
         names,
@@ -219,21 +222,22 @@ fn read_lines<A: Allocator + Copy>(alloc: A, lines: &mut Lines<'_>) -> Result<Re
     })
 }
 
-/// The report that the text spells, with or without its last line feed.
+/// The report that the text spells in version 1 or 2, with or without its last line feed.
 ///
 /// # Errors
 ///
 /// `Line` names the first line that is wrong, and what is wrong with it; `OutOfMemory` says that what was read could
 /// not be kept.
 pub fn read_report<A: Allocator + Copy>(alloc: A, text: &str) -> Result<Report<A>, ReadFault>
-    ensures read { IfOk result (λ r. IsTextOf text.now (report_text r) × IsReport r) }
-    ensures whole { (r : Contents) → IsReport r → IsTextOf text.now (report_text r) → MatchResult result (λ w. w ≡ r) (λ f. f ≡ ReadFault.OutOfMemory) }
+    ensures read { IfOk result (λ r. SpellsReport text.now r) }
+    ensures good { IfOk result (λ r. IsReport r) }
+    ensures whole { (r : Contents) → SpellsReport text.now r → MatchResult result (λ w. w ≡ r) (λ f. f ≡ ReadFault.OutOfMemory) }
 {
     let mut lines = Lines::new(text.as_bytes());
     read_lines(alloc, &mut lines)
 }
 
-/// Writes the text of a report.
+/// Writes the text of a report, in version 2.
 ///
 /// # Errors
 ///

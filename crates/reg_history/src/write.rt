@@ -7,8 +7,8 @@ ghost use Rattle.reg_history.specs.IdLines.{id_text, point_text};
 ghost use Rattle.reg_history.specs.Written.{lines_by};
 ghost use Rattle.reg_text.specs.Columns.{to_left, to_right};
 ghost use Rattle.reg_text.specs.Ops.{op_text};
-ghost use Rattle.reg_text.specs.Words.{names_text};
 ghost use Rattle.reg_text.specs.Lines.{text_of};
+ghost use Rattle.reg_history.specs.declared.versions.Version.TheVariants.{Two};
 ghost use Rattle.reg_history.specs.Reports.{head_lines, tail_lines};
 
 use crate::entries::{Entry, Point};
@@ -184,18 +184,16 @@ pub fn write_points<W: Write>(writer: &mut W, points: &[Point]) -> Result<(), Wr
     Ok(())
 }
 
-/// Writes each name behind a space.
+/// Writes a line for each name.
 pub fn write_names<A: Allocator + Copy, W: Write>(
     writer: &mut W,
     names: &Names<A>,
 ) -> Result<(), WriteFault>
-    ensures { OnOk result (Appends (W.contents writer.old) (W.contents writer.new) (names_text names.now)) }
+    ensures { OnOk result (Appends (W.contents writer.old) (W.contents writer.new) (lines_by (λ name. name) names.now)) }
 {
     for place in 0..names.count() {
         let name = name_at(names, place as u16);
-        if write!(writer, " {name}").is_err() {
-            return Err(WriteFault::Write);
-        }
+        write_line(writer, "", name)?;
     }
     Ok(())
 }
@@ -220,16 +218,6 @@ pub fn write_count<W: Write>(writer: &mut W, mark: &str, count: usize) -> Result
     Ok(())
 }
 
-/// Writes a text.
-pub fn write_text<W: Write>(writer: &mut W, text: &str) -> Result<(), WriteFault>
-    ensures { OnOk result (Appends (W.contents writer.old) (W.contents writer.new) text.now) }
-{
-    if write!(writer, "{text}").is_err() {
-        return Err(WriteFault::Write);
-    }
-    Ok(())
-}
-
 /// Writes the first lines.
 pub fn write_head<A: Allocator + Copy, W: Write>(
     writer: &mut W,
@@ -237,14 +225,13 @@ pub fn write_head<A: Allocator + Copy, W: Write>(
     processes: u32,
     names: &Names<A>,
 ) -> Result<(), WriteFault>
-    ensures { OnOk result (Appends (W.contents writer.old) (W.contents writer.new) (text_of (head_lines front.now processes names.now []))) }
+    ensures { OnOk result (Appends (W.contents writer.old) (W.contents writer.new) (text_of (head_lines Two front.now processes names.now []))) }
 {
-    write_line(writer, "awreg report 1", "")?;
+    write_line(writer, "awreg report 2", "")?;
     write_line(writer, "front ", front)?;
     write_count(writer, "processes ", processes as usize)?;
-    write_text(writer, "registers")?;
+    write_count(writer, "registers ", names.count())?;
     write_names(writer, names)?;
-    write_text(writer, "\n")?;
     Ok(())
 }
 

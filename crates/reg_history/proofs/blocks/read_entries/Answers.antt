@@ -1,6 +1,7 @@
 use Rattle.std.proofs.Common.{sym, ◌∙◌, subst, arith, ◌≡◌, ℕ, ◌+◌, List}
 use Rattle.reg_base.specs.Shape.{Extent}
 use Rattle.reg_history.specs.declared.entries.Entry.{Entry}
+use Rattle.reg_history.specs.declared.versions.Version.{Version}
 use Rattle.reg_history.specs.History.{IsInPlace}
 use Rattle.reg_history.specs.Log.{Log, IsNextOf}
 use Rattle.reg_text.proofs.Turns.{Taken, steps, ended, refused, only_read}
@@ -11,37 +12,37 @@ use Rattle.reg_history.proofs.blocks.read_entries.Goals as goal
 at_shape : (h : Log) (shape : Extent) (e : Entry) → h.shape ≡ shape → IsNextOf h e → IsInPlace shape.processes shape.registers h.entries e
 at_shape h shape e same next = let P : Extent → Type 0 = λ s. IsInPlace s.processes s.registers h.entries e in subst P same next
 
-not_both : (names : List (List ℕ)) (h : Log) (shape : Extent) (e y : Entry) → h.shape ≡ shape → (¬ IsNextOf h e) → e ≡ y → Follows names shape h.entries y → ⊥
-not_both names h shape e y same none alike follows =
+not_both : (version : Version) (names : List (List ℕ)) (h : Log) (shape : Extent) (e y : Entry) → h.shape ≡ shape → (¬ IsNextOf h e) → e ≡ y → Follows version names shape h.entries y → ⊥
+not_both version names h shape e y same none alike follows =
     let P : Entry → Type 0 = λ x. IsInPlace shape.processes shape.registers h.entries x in
     let Q : Extent → Type 0 = λ s. IsInPlace s.processes s.registers h.entries e in
     none (subst Q (sym same) (subst P (sym alike) follows.1))
 
 pub returns-in_default-clause-whole : goal.returns-in_default-clause-whole
 returns-in_default-clause-whole g c = λ ys rest b.
-    absurd (ended (entry_text c.args.names.now) (Follows c.args.names.now c.args.history.now.shape) c.args.count c.args.lines.now.left c.loop-place.lines.left c.loop-place.history.entries c.loop-place._place c.loop-place-test.true c.loop-place.invariant.1 c.in_default.ensures.line ys rest b)
+    absurd (ended (entry_text c.args.names.now) (Follows c.args.version c.args.names.now c.args.history.now.shape) c.args.count c.args.lines.now.left c.loop-place.lines.left c.loop-place.history.entries c.loop-place._place c.loop-place-test.true c.loop-place.invariant.1 c.in_default.ensures.line ys rest b)
 
 pub returns-in_default-read_entry-clause-whole : goal.returns-in_default-read_entry-clause-whole
 returns-in_default-read_entry-clause-whole g c = λ ys rest b.
-    absurd (refused (entry_text c.args.names.now) (Follows c.args.names.now c.args.history.now.shape) c.args.count c.args.lines.now.left c.loop-place.lines.left c.loop-place.history.entries c.loop-place._place c.loop-place-test.true c.loop-place.invariant.1
+    absurd (refused (entry_text c.args.names.now) (Follows c.args.version c.args.names.now c.args.history.now.shape) c.args.count c.args.lines.now.left c.loop-place.lines.left c.loop-place.history.entries c.loop-place._place c.loop-place-test.true c.loop-place.invariant.1
     c.in-Some.line.now c.next.new.self.left c.in-Some.ensures.line (λ y follows e. let none = c.in_default-read_entry.ensures.whole y follows.0 e in absurd (cc)) ys rest b)
 
 pub returns-in-Err-OutOfPlace-clause-whole : goal.returns-in-Err-OutOfPlace-clause-whole
 returns-in-Err-OutOfPlace-clause-whole g c = λ ys rest b.
     let bad = (rw c.in-Err-OutOfPlace.field-0-is at c.in-Err-OutOfPlace.ensures) in
-    absurd (refused (entry_text c.args.names.now) (Follows c.args.names.now c.args.history.now.shape) c.args.count c.args.lines.now.left c.loop-place.lines.left c.loop-place.history.entries c.loop-place._place c.loop-place-test.true c.loop-place.invariant.1
+    absurd (refused (entry_text c.args.names.now) (Follows c.args.version c.args.names.now c.args.history.now.shape) c.args.count c.args.lines.now.left c.loop-place.lines.left c.loop-place.history.entries c.loop-place._place c.loop-place-test.true c.loop-place.invariant.1
     c.in-Some.line.now c.next.new.self.left c.in-Some.ensures.line
     (λ y follows e.
     let one = c.in-Some-read_entry.ensures.whole y follows.0 e in
     let alike : c.in-Some-read_entry.entry ≡ y = cc in
-    not_both c.args.names.now c.loop-place.history c.args.history.now.shape c.in-Some-read_entry.entry y c.loop-place.invariant.0 bad.0 alike follows) ys rest b)
+    not_both c.args.version c.args.names.now c.loop-place.history c.args.history.now.shape c.in-Some-read_entry.entry y c.loop-place.invariant.0 bad.0 alike follows) ys rest b)
 
 pub loop-place-preserved : goal.loop-place-preserved
 loop-place-preserved g c =
     let grows = c.in-Ok.ensures in
-    let P : List Entry → Type 0 = λ l. Taken (entry_text c.args.names.now) (Follows c.args.names.now c.args.history.now.shape) c.args.count c.args.lines.now.left c.next.new.self.left l (c.loop-place._place + 1) in (
+    let P : List Entry → Type 0 = λ l. Taken (entry_text c.args.names.now) (Follows c.args.version c.args.names.now c.args.history.now.shape) c.args.count c.args.lines.now.left c.next.new.self.left l (c.loop-place._place + 1) in (
       grows.shape ∙ c.loop-place.invariant.0,
-      subst P (sym grows.entries) (steps (entry_text c.args.names.now) (Follows c.args.names.now c.args.history.now.shape) c.args.count c.args.lines.now.left c.loop-place.lines.left c.loop-place.history.entries c.loop-place._place c.loop-place-test.true c.loop-place.invariant.1
+      subst P (sym grows.entries) (steps (entry_text c.args.names.now) (Follows c.args.version c.args.names.now c.args.history.now.shape) c.args.count c.args.lines.now.left c.loop-place.lines.left c.loop-place.history.entries c.loop-place._place c.loop-place-test.true c.loop-place.invariant.1
           c.in-Some.line.now c.next.new.self.left c.in-Some-read_entry.entry c.in-Some.ensures.line c.in-Some-read_entry.ensures.read.0
           (c.in-Some-read_entry.ensures.read.1, at_shape c.loop-place.history c.args.history.now.shape c.in-Some-read_entry.entry c.loop-place.invariant.0 grows.in_place)
           (λ y follows e. let one = c.in-Some-read_entry.ensures.whole y follows.0 e in cc)),
@@ -50,5 +51,5 @@ loop-place-preserved g c =
 pub returns-clause-whole : goal.returns-clause-whole
 returns-clause-whole g c = λ ys rest b.
     let n : c.loop-place._place ≡ c.args.count = omega arith in
-    let P : ℕ → Type 0 = λ i. Taken (entry_text c.args.names.now) (Follows c.args.names.now c.args.history.now.shape) c.args.count c.args.lines.now.left c.loop-place.lines.left c.loop-place.history.entries i in
-    only_read (entry_text c.args.names.now) (Follows c.args.names.now c.args.history.now.shape) c.args.count c.args.lines.now.left c.loop-place.lines.left c.loop-place.history.entries (subst P n c.loop-place.invariant.1) ys rest b
+    let P : ℕ → Type 0 = λ i. Taken (entry_text c.args.names.now) (Follows c.args.version c.args.names.now c.args.history.now.shape) c.args.count c.args.lines.now.left c.loop-place.lines.left c.loop-place.history.entries i in
+    only_read (entry_text c.args.names.now) (Follows c.args.version c.args.names.now c.args.history.now.shape) c.args.count c.args.lines.now.left c.loop-place.lines.left c.loop-place.history.entries (subst P n c.loop-place.invariant.1) ys rest b

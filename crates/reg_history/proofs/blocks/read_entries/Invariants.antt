@@ -5,4 +5,4 @@ use Rattle.reg_history.proofs.blocks.read_entries.Given as goal
 
 -- as many were read as there were turns
 abbrev pub invariant-loop-place : goal.invariant-loop-place
-invariant-loop-place g l = (l.history.shape ≡ l.initial.history.shape) × Taken (entry_text l.names) (Follows l.names l.initial.history.shape) l.count l.initial.lines.left l.lines.left l.history.entries l._place
+invariant-loop-place g l = (l.history.shape ≡ l.initial.history.shape) × Taken (entry_text l.names) (Follows l.version l.names l.initial.history.shape) l.count l.initial.lines.left l.lines.left l.history.entries l._place

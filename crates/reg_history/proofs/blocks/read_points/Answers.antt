@@ -6,23 +6,23 @@ use Rattle.reg_history.proofs.blocks.read_points.Goals as goal
 
 pub returns-in_default-clause-whole : goal.returns-in_default-clause-whole
 returns-in_default-clause-whole g c = λ ys rest b.
-    absurd (ended point_text (λ _ x. PointFits x) c.args.count c.args.lines.now.left c.loop-place.lines.left c.loop-place.points.items c.loop-place._place c.loop-place-test.true c.loop-place.invariant c.in_default.ensures.line ys rest b)
+    absurd (ended point_text (λ _ x. PointFits c.args.version x) c.args.count c.args.lines.now.left c.loop-place.lines.left c.loop-place.points.items c.loop-place._place c.loop-place-test.true c.loop-place.invariant c.in_default.ensures.line ys rest b)
 
 pub returns-in_default-read_point-clause-whole : goal.returns-in_default-read_point-clause-whole
 returns-in_default-read_point-clause-whole g c = λ ys rest b.
-    absurd (refused point_text (λ _ x. PointFits x) c.args.count c.args.lines.now.left c.loop-place.lines.left c.loop-place.points.items c.loop-place._place c.loop-place-test.true c.loop-place.invariant
+    absurd (refused point_text (λ _ x. PointFits c.args.version x) c.args.count c.args.lines.now.left c.loop-place.lines.left c.loop-place.points.items c.loop-place._place c.loop-place-test.true c.loop-place.invariant
     c.in-Some.line.now c.next.new.self.left c.in-Some.ensures.line (λ y fits e. let none = c.in_default-read_point.ensures.whole y fits e in absurd (cc)) ys rest b)
 
 pub loop-place-preserved : goal.loop-place-preserved
 loop-place-preserved g c =
     let grown : c.push.new.self.items ≡ c.loop-place.points.items ++ c.in-Some-read_point.point ∷ [] = search rules in
-    let P : List Point → Type 0 = λ l. Taken point_text (λ _ x. PointFits x) c.args.count c.args.lines.now.left c.next.new.self.left l (c.loop-place._place + 1) in
-    subst P (sym grown) (steps point_text (λ _ x. PointFits x) c.args.count c.args.lines.now.left c.loop-place.lines.left c.loop-place.points.items c.loop-place._place c.loop-place-test.true c.loop-place.invariant
+    let P : List Point → Type 0 = λ l. Taken point_text (λ _ x. PointFits c.args.version x) c.args.count c.args.lines.now.left c.next.new.self.left l (c.loop-place._place + 1) in
+    subst P (sym grown) (steps point_text (λ _ x. PointFits c.args.version x) c.args.count c.args.lines.now.left c.loop-place.lines.left c.loop-place.points.items c.loop-place._place c.loop-place-test.true c.loop-place.invariant
     c.in-Some.line.now c.next.new.self.left c.in-Some-read_point.point c.in-Some.ensures.line c.in-Some-read_point.ensures.read.0 c.in-Some-read_point.ensures.read.1
     (λ y fits e. let one = c.in-Some-read_point.ensures.whole y fits e in cc))
 
 pub returns-clause-whole : goal.returns-clause-whole
 returns-clause-whole g c = λ ys rest b.
     let n : c.loop-place._place ≡ c.args.count = omega arith in
-    let P : ℕ → Type 0 = λ i. Taken point_text (λ _ x. PointFits x) c.args.count c.args.lines.now.left c.loop-place.lines.left c.loop-place.points.items i in
-    only_read point_text (λ _ x. PointFits x) c.args.count c.args.lines.now.left c.loop-place.lines.left c.loop-place.points.items (subst P n c.loop-place.invariant) ys rest b
+    let P : ℕ → Type 0 = λ i. Taken point_text (λ _ x. PointFits c.args.version x) c.args.count c.args.lines.now.left c.loop-place.lines.left c.loop-place.points.items i in
+    only_read point_text (λ _ x. PointFits c.args.version x) c.args.count c.args.lines.now.left c.loop-place.lines.left c.loop-place.points.items (subst P n c.loop-place.invariant) ys rest b

@@ -5,35 +5,36 @@ use Rattle.reg_history.specs.declared.entries.Entry.{Entry}
 use Rattle.reg_text.specs.Lines.{IsBlock}
 use Rattle.reg_history.specs.Reports.{IsCounted}
 use Rattle.reg_history.specs.EntryLines.{entry_text, Follows}
+use Rattle.reg_history.specs.declared.versions.Version.{Version}
 use Rattle.reg_history.specs.declared.report_limits.TheConstants.{MOST_ENTRIES}
 use Rattle.reg_history.proofs.parts.read_history.Goals as goal
 
 -- the block behind a count
-block : (names : List (List ℕ)) (shape s : Extent) (old mid rest : List (List ℕ)) (n : ℕ) (ys : List Entry) → s ≡ shape
+block : (version : Version) (names : List (List ℕ)) (shape s : Extent) (old mid rest : List (List ℕ)) (n : ℕ) (ys : List Entry) → s ≡ shape
     → ((k : ℕ) (r : List (List ℕ)) → k ≤ MOST_ENTRIES → old ≡ (codes "history " ++ decimal k) ∷ r → (n ≡ k) × (mid ≡ r))
-    → IsCounted (codes "history ") (entry_text names) (Follows names shape) MOST_ENTRIES old rest ys → IsBlock (entry_text names) (Follows names s) n mid rest ys
-block names shape s old mid rest n ys same count b =
+    → IsCounted (codes "history ") (entry_text names) (Follows version names shape) MOST_ENTRIES old rest ys → IsBlock (entry_text names) (Follows version names s) n mid rest ys
+block version names shape s old mid rest n ys same count b =
     let both = count (length ys) (map (entry_text names) ys ++ rest) b.few b.lines in
-    let P : Extent → Type 0 = λ x. IsBlock (entry_text names) (Follows names x) n mid rest ys in
+    let P : Extent → Type 0 = λ x. IsBlock (entry_text names) (Follows version names x) n mid rest ys in
     subst P (sym same) (record { lines = both.1; fit = b.fit; count = sym both.0 })
 
-counted : (names : List (List ℕ)) (shape s : Extent) (old mid rest : List (List ℕ)) (n : ℕ) (ys : List Entry) → s ≡ shape → n ≤ MOST_ENTRIES → old ≡ (codes "history " ++ decimal n) ∷ mid
-    → IsBlock (entry_text names) (Follows names s) n mid rest ys → IsCounted (codes "history ") (entry_text names) (Follows names shape) MOST_ENTRIES old rest ys
-counted names shape s old mid rest n ys same few e b =
-    let P : Extent → Type 0 = λ x. IsCounted (codes "history ") (entry_text names) (Follows names x) MOST_ENTRIES old rest ys in
+counted : (version : Version) (names : List (List ℕ)) (shape s : Extent) (old mid rest : List (List ℕ)) (n : ℕ) (ys : List Entry) → s ≡ shape → n ≤ MOST_ENTRIES → old ≡ (codes "history " ++ decimal n) ∷ mid
+    → IsBlock (entry_text names) (Follows version names s) n mid rest ys → IsCounted (codes "history ") (entry_text names) (Follows version names shape) MOST_ENTRIES old rest ys
+counted version names shape s old mid rest n ys same few e b =
+    let P : Extent → Type 0 = λ x. IsCounted (codes "history ") (entry_text names) (Follows version names x) MOST_ENTRIES old rest ys in
     subst P same (record { lines = e ∙ ap (λ l. (codes "history " ++ decimal n) ∷ l) b.lines ∙ ap (λ k. (codes "history " ++ decimal k) ∷ (map (entry_text names) ys ++ rest)) (sym b.count); fit = b.fit; few = omega (arith, b.count, few) })
 
 pub returns-in_err-read_entries-clause-whole : goal.returns-in_err-read_entries-clause-whole
 returns-in_err-read_entries-clause-whole g c = λ ys rest b.
-    let k = block c.args.names.now c.args.shape c.in-Ok.history.shape c.args.lines.now.left c.read_count.new.lines.left rest c.in_ok-count.count ys c.in-Ok.ensures.0 c.in_ok-count.ensures.whole b in
+    let k = block c.args.version c.args.names.now c.args.shape c.in-Ok.history.shape c.args.lines.now.left c.read_count.new.lines.left rest c.in_ok-count.count ys c.in-Ok.ensures.0 c.in_ok-count.ensures.whole b in
     let none = c.in_err-read_entries.ensures.whole ys rest k in
     search rules
 
 pub returns-clause-read : goal.returns-clause-read
 returns-clause-read g c =
-    counted c.args.names.now c.args.shape c.in-Ok.history.shape c.args.lines.now.left c.read_count.new.lines.left c.read_entries.new.lines.left c.in_ok-count.count c.read_entries.new.history.entries c.in-Ok.ensures.0 c.in_ok-count.ensures.read.1 c.in_ok-count.ensures.read.0 c.in_ok-read_entries.ensures.read
+    counted c.args.version c.args.names.now c.args.shape c.in-Ok.history.shape c.args.lines.now.left c.read_count.new.lines.left c.read_entries.new.lines.left c.in_ok-count.count c.read_entries.new.history.entries c.in-Ok.ensures.0 c.in_ok-count.ensures.read.1 c.in_ok-count.ensures.read.0 c.in_ok-read_entries.ensures.read
 
 pub returns-clause-whole : goal.returns-clause-whole
 returns-clause-whole g c = λ ys rest b.
-    let k = block c.args.names.now c.args.shape c.in-Ok.history.shape c.args.lines.now.left c.read_count.new.lines.left rest c.in_ok-count.count ys c.in-Ok.ensures.0 c.in_ok-count.ensures.whole b in
+    let k = block c.args.version c.args.names.now c.args.shape c.in-Ok.history.shape c.args.lines.now.left c.read_count.new.lines.left rest c.in_ok-count.count ys c.in-Ok.ensures.0 c.in_ok-count.ensures.whole b in
     c.in_ok-read_entries.ensures.whole ys rest k
