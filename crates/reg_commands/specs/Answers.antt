@@ -3,7 +3,7 @@ use Rattle.std.specs.Prelude.{ℕ, ◌≡◌, ◌<◌, ⊤, Bool, true, List, le
 use Rattle.std.specs.Str.{IsUtf8}
 use Rattle.std.specs.Io.KnownBytes.{Appends}
 use Rattle.reg_base.specs.declared.limits.TheConstants.{LONGEST_INPUT}
-use Rattle.reg_history.specs.Reports.{Contents, IsReport, IsTextOf, report_text}
+use Rattle.reg_history.specs.Reports.{Contents, IsReport, SpellsReport}
 use Rattle.reg_commands.specs.declared.command.Command.{Command}
 use Rattle.reg_commands.specs.declared.command.Command.TheVariants.{Replay, Check, Play}
 use Rattle.reg_commands.specs.declared.faults.Fault.{Fault}
@@ -21,7 +21,7 @@ use Rattle.reg_commands.specs.Verdicts.{Judges, all_yes, verdicts_text}
 pub record Checks (agrees : Bool) (old new : Option (List ℕ)) (text : List ℕ) : Type 0 where
   pub report : Contents
   pub good : IsReport report
-  pub read : IsTextOf text (report_text report)
+  pub read : SpellsReport text report
   pub verdicts : Verdicts
   pub judged : Judges report verdicts
   pub says : agrees ≡ all_yes verdicts
@@ -36,7 +36,7 @@ Answers (Play fair) agrees old new text = (agrees ≡ true) × Plays fair old ne
 -- the text is none of those that the command reads, as a line shows; no line of a document is named
 abbrev pub IsRefused : Command → List ℕ → Type 0
 IsRefused Replay text = (p : Plan) → IsPlan p → ¬ Spells text p
-IsRefused Check text = (r : Contents) → IsReport r → ¬ IsTextOf text (report_text r)
+IsRefused Check text = (r : Contents) → ¬ SpellsReport text r
 IsRefused (Play fair) text = ⊥
 
 -- the text's events are refused at this one, for this cause
@@ -54,7 +54,7 @@ IsRefusedFor (Play fair) fault text = RefusesDocument text fault
 -- The text is one that the command accepts: that of a report, of a plan all of whose events are accepted, or of a workload.
 abbrev pub IsAccepted : Command → List ℕ → Type 0
 IsAccepted Replay text = (p : Plan) × IsPlan p × Spells text p × ((run_by (start_of p.front) p).accepted ≡ p.events)
-IsAccepted Check text = (r : Contents) × IsReport r × IsTextOf text (report_text r)
+IsAccepted Check text = (r : Contents) × SpellsReport text r
 IsAccepted (Play fair) text = (work : Load) × Holds text work
 
 -- what a fault says of the input; that the output failed is told only of what is accepted

@@ -1,6 +1,6 @@
 //! The command that judges a report from its text alone.
 ghost use Rattle.std.specs.Prelude.{◌≡◌, ◌≢◌, IfOk, IfErr};
-ghost use Rattle.reg_history.specs.Reports.{IsReport, IsTextOf, report_text};
+ghost use Rattle.reg_history.specs.Reports.{IsReport, SpellsReport};
 ghost use Rattle.reg_commands.specs.Answers.{Checks, Blames};
 
 use crate::command::Command;
@@ -11,7 +11,7 @@ use std::alloc::Allocator;
 use std::io::Write;
 
 fn read<A: Allocator + Copy>(alloc: A, text: &str) -> Result<Report<A>, Fault>
-    ensures read { IfOk result (λ r. IsTextOf text.now (report_text r) × IsReport r) }
+    ensures read { IfOk result (λ r. SpellsReport text.now r × IsReport r) }
     ensures why { IfErr result (λ f. Blames Command.Check f text.now) }
     ensures kind { IfErr result (λ f. (f ≢ Fault.Output) × (f ≢ Fault.Unread)) }
 {

@@ -9,6 +9,7 @@ use Rattle.toml.specs.Data.{Data, string, integer, float, boolean, datetime, arr
 use Rattle.toml.specs.View.{view, items_of, items_view}
 use Rattle.toml.specs.declared.value.Value.{Value}
 use Rattle.reg_base.specs.Names.{names_fault}
+use Rattle.reg_base.specs.declared.limits.TheConstants.{MOST_PROCESSES}
 use Rattle.reg_toml.specs.declared.keys.Key.{Key}
 use Rattle.reg_toml.specs.declared.keys.Key.TheVariants as key
 use Rattle.reg_toml.specs.declared.faults.WorkloadFault.{WorkloadFault}
@@ -82,10 +83,10 @@ no_scripts vs e = rw (list_all-map is_script view vs, e)
 pub some_scripts : (vs : List Value) (b : Bool) → list_all (λ v. is_script (view v)) vs ≡ true → b ≡ are_few (map view vs) → scripts_fault (map view vs) ≡ unless b (Range key.Scripts)
 some_scripts vs b e f = rw (list_all-map is_script view vs, e, f)
 
-pub few_scripts : (vs : List Value) (b c : Bool) → c ≡ (ltb 0 (length vs) && leb (length vs) 16) → c ≡ true → b ≡ list_all (λ v. is_short (view v)) vs → b ≡ are_few (map view vs)
+pub few_scripts : (vs : List Value) (b c : Bool) → c ≡ (ltb 0 (length vs) && leb (length vs) MOST_PROCESSES) → c ≡ true → b ≡ list_all (λ v. is_short (view v)) vs → b ≡ are_few (map view vs)
 few_scripts vs b c t good f = rw (list_all-map is_short view vs, length-view vs, ← t, good) f
 
-pub not_few_scripts : (vs : List Value) (c : Bool) → c ≡ (ltb 0 (length vs) && leb (length vs) 16) → c ≡ false → false ≡ are_few (map view vs)
+pub not_few_scripts : (vs : List Value) (c : Bool) → c ≡ (ltb 0 (length vs) && leb (length vs) MOST_PROCESSES) → c ≡ false → false ≡ are_few (map view vs)
 not_few_scripts vs c t bad = rw (length-view vs, ← t, bad)
 
 within : (n : ℕ) → leb n 65535 ≡ true → n ≤ 65535

@@ -93,7 +93,7 @@ scripts_short names (ops ∷ scripts) h =
     let here : length ops ≤ MOST_OPERATIONS = (h 0 ops refl).few in
     rw (script_short names ops here) (scripts_short names scripts (λ k x e. h (suc k) x e))
 
-count_fine : (n : ℕ) → 0 < n → n ≤ 16 → (ltb 0 n && leb n 16) ≡ true
+count_fine : (n : ℕ) → 0 < n → n ≤ MOST_PROCESSES → (ltb 0 n && leb n MOST_PROCESSES) ≡ true
 count_fine n a b = grind (arith, nat_tests)
 
 few_fine : (names : List (List ℕ)) (scripts : List (List Op)) → 0 < length scripts → length scripts ≤ MOST_PROCESSES → AllFit (λ _ ops. IsScript names ops) scripts → scripts_fault (map (script_data names) scripts) ≡ None

@@ -8,7 +8,7 @@ ghost use Rattle.reg_text.specs.Lines.{AllFit};
 ghost use Rattle.reg_workload.specs.Schedules.{event_text, EventFits, Plan, IsPlan, Spells, plan_head, plan_lines};
 
 use crate::event_lines::{read_event, why_event, why_further};
-use reg_base::limits::{MOST_EVENTS, MOST_PROCESSES};
+use reg_base::limits::{MOST_EVENTS, MOST_PROCESSES, MOST_REGISTERS};
 use reg_base::{Names, Shape};
 use reg_front::Front;
 use reg_text::{Lines, TextFault, Why, are_front_letters, read_count, read_names, skip};
@@ -80,7 +80,7 @@ fn read_head<A: Allocator + Copy>(
     if processes == 0 {
         return Err(lines.fault(Why::Range));
     }
-    let names = read_names(alloc, lines)?;
+    let names = read_names(alloc, lines, MOST_REGISTERS)?;
     let front = read_front(lines)?;
     Ok((processes as u32, names, front))
 }

@@ -10,7 +10,7 @@ use Rattle.reg_workload.proofs.Scripts.{begins}
 use Rattle.reg_workload.proofs.Fairness.{none_behind}
 use Rattle.reg_workload.proofs.playing.Player.new.Goals as goal
 
-new_is : (shape : Extent) (scripts : List (List Op)) (n : ℕ) (m : Made) (next : List ℕ) (cursors : List (List ℕ)) → n ≡ shape.processes → m ≡ new_world shape → next ≡ replicate n 0 → cursors ≡ replicate n (replicate 16 0)
+new_is : (shape : Extent) (scripts : List (List Op)) (n : ℕ) (m : Made) (next : List ℕ) (cursors : List (List ℕ)) → n ≡ shape.processes → m ≡ new_world shape → next ≡ replicate n 0 → cursors ≡ replicate n (replicate MOST_PROCESSES 0)
     → record { made = m; scripts = scripts; next = next; cursors = cursors } ≡ new_play shape scripts
 new_is shape scripts n m next cursors e w a b = rw (w, a, b, e) refl
 
@@ -24,13 +24,13 @@ invariant_of-result g c =
 
 pub returns-clause-cursors : goal.returns-clause-cursors
 returns-clause-cursors g c =
-    let rows : c.in_ok-cursors.cursors.items ≡ replicate c.processes-count.result (replicate 16 0) = c.in_ok-cursors.ensures.items_if_clones_equal (λ y h. each_same (replicate 16 0) y h.whole) in
-    λ a b. ap (λ (z : List (List ℕ)). slice_index_or (slice_index_or z a []) b 0) rows ∙ none_behind c.processes-count.result 16 a b
+    let rows : c.in_ok-cursors.cursors.items ≡ replicate c.processes-count.result (replicate MOST_PROCESSES 0) = c.in_ok-cursors.ensures.items_if_clones_equal (λ y h. each_same (replicate MOST_PROCESSES 0) y h.whole) in
+    λ a b. ap (λ (z : List (List ℕ)). slice_index_or (slice_index_or z a []) b 0) rows ∙ none_behind c.processes-count.result MOST_PROCESSES a b
 
 pub returns-clause-value : goal.returns-clause-value
 returns-clause-value g c =
     let count = c.processes-count.ensures.value in
-    let rows : c.in_ok-cursors.cursors.items ≡ replicate c.processes-count.result (replicate 16 0) = c.in_ok-cursors.ensures.items_if_clones_equal (λ y h. each_same (replicate 16 0) y h.whole) in
+    let rows : c.in_ok-cursors.cursors.items ≡ replicate c.processes-count.result (replicate MOST_PROCESSES 0) = c.in_ok-cursors.ensures.items_if_clones_equal (λ y h. each_same (replicate MOST_PROCESSES 0) y h.whole) in
     let next : c.in_ok-next.next.items ≡ replicate c.processes-count.result 0 = search rules in
     let scripts = map (λ v. v.items) c.args.scripts.now in
     new_is c.args.shape scripts c.processes-count.result c.in_ok-world.world c.in_ok-next.next.items c.in_ok-cursors.cursors.items count c.in_ok-world.ensures next rows
