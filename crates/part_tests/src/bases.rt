@@ -5,12 +5,12 @@ use reg_base::{
 use std::alloc::Global;
 use std::process::Abort;
 
-/// So many names of three letters, all different.
+/// So many names of four letters, all different.
 fn many_names(rt: &impl Abort, alloc: Global, count: u32) -> Vec<String> {
     let mut names = Vec::new(alloc);
     for number in 0..count {
         let mut name = String::from_str(alloc, "n").expect(rt, "memory");
-        for place in [number / 26 % 26, number % 26] {
+        for place in [number / 676 % 26, number / 26 % 26, number % 26] {
             let letter = char::from_u32(97 + place).expect(rt, "a letter");
             name.push(letter).expect(rt, "memory");
         }
@@ -31,11 +31,11 @@ fn names_of(rt: &impl Abort, alloc: Global, words: &[&str]) -> Result<Names, Nam
 #[test]
 fn shapes_within_the_limits(rt: HostRuntime) {
     assert_eq!(rt; Shape::new(0, 0), Err(ShapeFault::NoProcess));
-    assert_eq!(rt; Shape::new(17, 0), Err(ShapeFault::TooManyProcesses));
-    assert_eq!(rt; Shape::new(16, 0), Err(ShapeFault::NoRegister));
-    assert_eq!(rt; Shape::new(1, 257), Err(ShapeFault::TooManyRegisters));
-    let shape = Shape::new(16, 256).expect(&rt, "within the limits");
-    assert_eq!(rt; (shape.processes(), shape.registers()), (16, 256));
+    assert_eq!(rt; Shape::new(65, 0), Err(ShapeFault::TooManyProcesses));
+    assert_eq!(rt; Shape::new(64, 0), Err(ShapeFault::NoRegister));
+    assert_eq!(rt; Shape::new(1, 4097), Err(ShapeFault::TooManyRegisters));
+    let shape = Shape::new(64, 4096).expect(&rt, "within the limits");
+    assert_eq!(rt; (shape.processes(), shape.registers()), (64, 4096));
 }
 
 #[test]
@@ -94,9 +94,9 @@ fn names_and_their_faults(rt: HostRuntime) {
     assert_eq!(rt; (names.number("y"), names.number("z")), (Some(1), None));
     assert!(rt; names.name(0) == Some("x") && names.name(2) == None);
     assert!(rt; matches!(names_of(&rt, alloc, &[]), Err(NamesFault::NoName)));
-    let many = many_names(&rt, alloc, 257);
+    let many = many_names(&rt, alloc, 4097);
     assert!(rt; matches!(Names::new(many), Err(NamesFault::TooManyNames)));
-    assert!(rt; Names::new(many_names(&rt, alloc, 256)).is_ok());
+    assert!(rt; Names::new(many_names(&rt, alloc, 4096)).is_ok());
     let bad = names_of(&rt, alloc, &["x", "a1", "x"]);
     assert!(rt; matches!(bad, Err(NamesFault::BadName { place: 1 })));
     let same = names_of(&rt, alloc, &["x", "y", "x", "y"]);

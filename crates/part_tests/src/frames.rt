@@ -78,7 +78,7 @@ fn each_fault(rt: HostRuntime) {
         (12, 3, FrameFault::Body),
         (21, 3, FrameFault::Op),
         (20, 0, FrameFault::Range),
-        (22, 1, FrameFault::Range),
+        (22, 0x10, FrameFault::Range),
         (5, 1, FrameFault::Range),
     ];
     for (place, byte, fault) in one_byte {

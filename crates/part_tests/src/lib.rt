@@ -15,6 +15,8 @@ mod fronts;
 #[cfg(test)]
 mod holdbacks;
 #[cfg(test)]
+mod large_shapes;
+#[cfg(test)]
 mod links;
 #[cfg(test)]
 mod orders;

@@ -11,6 +11,13 @@ const ONE_PROCESS: &str =
 const NO_POINTS: &str =
     "awreg report 1\nfront local-read\nprocesses 3\nregisters x\nhistory 4\n       0  p0    #0       call    write x 5\n       4  p0    #0       answer  done\n       5  p1    #0       call    read x\n       5  p1    #0       answer  value 0\norder 2\np1 #0\np0 #0\nend\n";
 
+// The same in version 2.
+const ONE_PROCESS_NOW: &str =
+    "awreg report 2\nfront linear\nprocesses 1\nregisters 1\nx\nhistory 4\n       0  p0    #0       call    write x 5\n       0  p0    #0       answer  done\n       1  p0    #1       call    read x\n       1  p0    #1       answer  value 5\norder 2\np0 #0\np0 #1\npoints 2\np0 #0 at 0\np0 #1 at 1\nend\n";
+
+const NO_POINTS_NOW: &str =
+    "awreg report 2\nfront local-read\nprocesses 3\nregisters 1\nx\nhistory 4\n       0  p0    #0       call    write x 5\n       4  p0    #0       answer  done\n       5  p1    #0       call    read x\n       5  p1    #0       answer  value 0\norder 2\np1 #0\np0 #0\nend\n";
+
 fn fault(line: u64, why: ReadWhy) -> Option<ReadFault> {
     Some(ReadFault::Line { line, why })
 }
@@ -90,14 +97,14 @@ fn a_report_is_written(rt: HostRuntime) -> Result<(), Fail> {
     assert_eq!(rt; report.points(), Some(points().as_slice()));
     let mut out = Vec::new(rt.alloc());
     write_report(&mut out, &report)?;
-    assert_eq!(rt; out.as_slice(), ONE_PROCESS.as_bytes());
+    assert_eq!(rt; out.as_slice(), ONE_PROCESS_NOW.as_bytes());
     Ok(())
 }
 
 #[test]
 fn parts_that_are_no_report_are_refused(rt: HostRuntime) -> Result<(), Fail> {
     let far = [OpId {
-        process: 16,
+        process: 64,
         number: 0,
     }];
     let late = [Point {
@@ -134,12 +141,17 @@ fn parts_that_are_no_report_are_refused(rt: HostRuntime) -> Result<(), Fail> {
 }
 
 #[test]
-fn reports_are_written_as_read(rt: HostRuntime) -> Result<(), Fail> {
-    for text in [ONE_PROCESS, NO_POINTS] {
-        let report = read_report(rt.alloc(), text)?;
+fn reports_are_written_in_version_2(rt: HostRuntime) -> Result<(), Fail> {
+    for (read, written) in [
+        (ONE_PROCESS, ONE_PROCESS_NOW),
+        (ONE_PROCESS_NOW, ONE_PROCESS_NOW),
+        (NO_POINTS, NO_POINTS_NOW),
+        (NO_POINTS_NOW, NO_POINTS_NOW),
+    ] {
+        let report = read_report(rt.alloc(), read)?;
         let mut out = Vec::new(rt.alloc());
         write_report(&mut out, &report)?;
-        assert_eq!(rt; out.as_slice(), text.as_bytes());
+        assert_eq!(rt; out.as_slice(), written.as_bytes());
     }
     Ok(())
 }
@@ -154,7 +166,7 @@ fn is_refused_at_a_line(rt: &HostRuntime, bytes: &[u8]) -> Result<bool, Fail> {
 
 #[test]
 fn every_shorter_text_is_refused(rt: HostRuntime) -> Result<(), Fail> {
-    let bytes = ONE_PROCESS.as_bytes();
+    let bytes = ONE_PROCESS_NOW.as_bytes();
     for length in 0..bytes.len() {
         let whole = length + 1 == bytes.len();
         assert_eq!(rt;
@@ -224,7 +236,7 @@ fn a_report_is_refused_at_its_line(rt: HostRuntime) -> Result<(), Fail> {
         ("registers x", "registers x ", 4, ReadWhy::Form),
         ("processes 1", "processes 0", 3, ReadWhy::Range),
         ("processes 1", "processes 17", 3, ReadWhy::Range),
-        ("report 1", "report 2", 1, ReadWhy::Form),
+        ("report 1", "report 3", 1, ReadWhy::Form),
         ("p0 #1\npoints", "p0 #65535\npoints", 12, ReadWhy::Range),
         ("order 2", "order 1048577", 10, ReadWhy::Range),
         ("p0 #1 at 1", "p0 #1 at 1048576", 15, ReadWhy::Range),

@@ -15,7 +15,7 @@ fn fault(line: u64, why: Why) -> Option<TextFault> {
 
 fn two_names(rt: &HostRuntime) -> Result<Names, Fail> {
     let mut lines = Lines::new(b"registers x y".as_slice());
-    Ok(read_names(rt.alloc(), &mut lines)?)
+    Ok(read_names(rt.alloc(), &mut lines, 256)?)
 }
 
 #[test]
@@ -143,7 +143,7 @@ fn names_of_their_line(rt: HostRuntime) -> Result<(), Fail> {
     ];
     for (text, why) in cases {
         let mut lines = Lines::new(text.as_bytes());
-        let found = read_names(rt.alloc(), &mut lines).err();
+        let found = read_names(rt.alloc(), &mut lines, 256).err();
         assert_eq!(rt; found, fault(1, why), "{text}");
     }
     Ok(())
@@ -175,7 +175,7 @@ fn the_first_name_over_is_beyond_the_limit(rt: HostRuntime) -> Result<(), Fail> 
     for (last, found) in cases {
         let line = many_names(&rt, last)?;
         let mut lines = Lines::new(line.as_bytes());
-        assert_eq!(rt; read_names(rt.alloc(), &mut lines).err(), found, "{last}");
+        assert_eq!(rt; read_names(rt.alloc(), &mut lines, 256).err(), found, "{last}");
     }
     Ok(())
 }

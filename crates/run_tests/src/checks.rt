@@ -7,10 +7,11 @@ use std::io::{ErrorKind, Read, Write};
 use std::process::Abort;
 
 /// One process writes 5 and reads it.
-pub(crate) const ONE_PROCESS: &str = "awreg report 1
+pub(crate) const ONE_PROCESS: &str = "awreg report 2
 front linear
 processes 1
-registers x
+registers 1
+x
 history 4
        0  p0    #0       call    write x 5
        0  p0    #0       answer  done
@@ -178,7 +179,7 @@ fn reports_are_read_as_they_were_written(rt: HostRuntime) {
         &bytes[..size - 4],
         1,
         "",
-        "line 16: end\n",
+        "line 17: end\n",
     );
     let longer = joined(&rt, alloc, [ONE_PROCESS, "end\n"]);
     demand(
@@ -188,7 +189,7 @@ fn reports_are_read_as_they_were_written(rt: HostRuntime) {
         longer.as_bytes(),
         1,
         "",
-        "line 17: end\n",
+        "line 18: end\n",
     );
     demand(
         &rt,

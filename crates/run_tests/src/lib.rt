@@ -5,6 +5,8 @@
 #[cfg(test)]
 mod checks;
 #[cfg(test)]
+mod large_shapes;
+#[cfg(test)]
 mod limits;
 pub mod mixed;
 #[cfg(test)]

@@ -10,10 +10,11 @@ const SMALL: &str =
     "front = \"local-write\"\nregisters = [\"x\"]\nscripts = [[\"write x 5\", \"read x\"], [\"read x\"]]\n";
 
 /// How the report of its plays begins.
-const SMALL_HEAD: &str = "awreg report 1
+const SMALL_HEAD: &str = "awreg report 2
 front local-write
 processes 2
-registers x
+registers 1
+x
 ";
 
 /// The rest of the report of its fair play.
@@ -190,10 +191,12 @@ budget = 400
 const BY_FRONT: [(&str, &str); 3] = [
     (
         "front = \"linear\"\n",
-        "awreg report 1
+        "awreg report 2
 front linear
 processes 3
-registers x y
+registers 2
+x
+y
 history 10
        0  p2    #0       call    read x
        1  p1    #0       call    write y 2
@@ -222,10 +225,12 @@ end
     ),
     (
         "front = \"local-read\"\n",
-        "awreg report 1
+        "awreg report 2
 front local-read
 processes 3
-registers x y
+registers 2
+x
+y
 history 12
        0  p2    #0       call    read x
        0  p2    #0       answer  value 0
@@ -251,10 +256,12 @@ end
     ),
     (
         "front = \"local-write\"\n",
-        "awreg report 1
+        "awreg report 2
 front local-write
 processes 3
-registers x y
+registers 2
+x
+y
 history 12
        0  p2    #0       call    read x
        0  p2    #0       answer  value 0

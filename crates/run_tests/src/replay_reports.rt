@@ -19,10 +19,11 @@ call 0 write x 5
 take 0 1 0
 take 1 0 1
 ",
-        report: "awreg report 1
+        report: "awreg report 2
 front linear
 processes 2
-registers x
+registers 1
+x
 history 2
        0  p0    #0       call    write x 5
        2  p0    #0       answer  done
@@ -42,10 +43,11 @@ call 0 write x 5
 take 0 1 0
 take 1 0 0
 ",
-        report: "awreg report 1
+        report: "awreg report 2
 front linear
 processes 2
-registers x
+registers 1
+x
 history 1
        0  p0    #0       call    write x 5
 order 1
@@ -66,10 +68,11 @@ take 0 1 0
 take 1 0 0
 take 0 1 2
 ",
-        report: "awreg report 1
+        report: "awreg report 2
 front linear
 processes 2
-registers x
+registers 1
+x
 history 4
        0  p0    #0       call    write x 1
        1  p1    #0       call    write x 2
@@ -96,10 +99,11 @@ take 1 0 1
 take 2 0 1
 call 1 read x
 ",
-        report: "awreg report 1
+        report: "awreg report 2
 front local-read
 processes 3
-registers x
+registers 1
+x
 history 4
        0  p0    #0       call    write x 5
        4  p0    #0       answer  done
@@ -121,10 +125,11 @@ call 0 read x
 take 0 1 0
 take 1 0 1
 ",
-        report: "awreg report 1
+        report: "awreg report 2
 front local-write
 processes 2
-registers x
+registers 1
+x
 history 4
        0  p0    #0       call    write x 5
        0  p0    #0       answer  done
@@ -143,10 +148,11 @@ registers x
 front local-write
 call 0 write x 5
 ",
-        report: "awreg report 1
+        report: "awreg report 2
 front local-write
 processes 2
-registers x
+registers 1
+x
 history 2
        0  p0    #0       call    write x 5
        0  p0    #0       answer  done
@@ -165,10 +171,11 @@ take 0 1 0
 take 0 1 0
 take 1 0 1
 ",
-        report: "awreg report 1
+        report: "awreg report 2
 front linear
 processes 2
-registers x
+registers 1
+x
 history 2
        0  p0    #0       call    write x 5
        3  p0    #0       answer  done
@@ -190,10 +197,11 @@ take 0 1 0
 take 1 0 2
 take 1 0 0
 ",
-        report: "awreg report 1
+        report: "awreg report 2
 front linear
 processes 2
-registers x
+registers 1
+x
 history 3
        0  p0    #0       call    write x 1
        1  p1    #0       call    write x 2
@@ -217,10 +225,11 @@ tick 0
 take 0 1 1
 take 1 0 1
 ",
-        report: "awreg report 1
+        report: "awreg report 2
 front linear
 processes 2
-registers x
+registers 1
+x
 history 2
        0  p0    #0       call    write x 5
        3  p0    #0       answer  done
@@ -245,10 +254,11 @@ take 1 0 0
 take 0 1 2
 take 2 0 1
 ",
-        report: "awreg report 1
+        report: "awreg report 2
 front linear
 processes 3
-registers x
+registers 1
+x
 history 4
        0  p0    #0       call    write x 1
        1  p1    #0       call    write x 2
@@ -273,10 +283,11 @@ call 1 write x 2
 call 0 read x
 take 1 0 0
 ",
-        report: "awreg report 1
+        report: "awreg report 2
 front local-write
 processes 2
-registers x
+registers 1
+x
 history 6
        0  p0    #0       call    write x 1
        0  p0    #0       answer  done
@@ -299,10 +310,11 @@ front linear
 call 0 swap x 5
 call 0 swap x 6
 ",
-        report: "awreg report 1
+        report: "awreg report 2
 front linear
 processes 1
-registers x
+registers 1
+x
 history 4
        0  p0    #0       call    swap x 5
        0  p0    #0       answer  value 0
@@ -327,10 +339,11 @@ call 0 swap x 6
 take 0 1 0
 take 1 0 1
 ",
-        report: "awreg report 1
+        report: "awreg report 2
 front local-write
 processes 2
-registers x
+registers 1
+x
 history 4
        0  p0    #0       call    write x 5
        0  p0    #0       answer  done
@@ -351,10 +364,11 @@ call 0 swap x 5
 take 0 1 0
 call 1 read x
 ",
-        report: "awreg report 1
+        report: "awreg report 2
 front local-read
 processes 2
-registers x
+registers 1
+x
 history 3
        0  p0    #0       call    swap x 5
        2  p1    #0       call    read x
@@ -369,7 +383,7 @@ end
 
 /// The verdict on a report, by the front end that it names.
 pub(crate) fn verdict_on(report: &str) -> &'static str {
-    if report.starts_with("awreg report 1\nfront linear\n") {
+    if report.starts_with("awreg report 2\nfront linear\n") {
         "serial yes\npoints yes\n"
     } else {
         "serial yes\n"

@@ -36,7 +36,7 @@ fn events_are_refused(rt: HostRuntime) {
         (two, "take 0 1 1\n", "event 1: no frame\n"),
         (two, "tick 2\n", "event 1: no process\n"),
         ("", "", "line 1: end\n"),
-        ("processes 17\n", "", "line 1: range\n"),
+        ("processes 65\n", "", "line 1: range\n"),
     ];
     for (head, event, line) in table {
         let mut schedule = String::from_str(alloc, head).expect(&rt, "memory");

@@ -49,7 +49,7 @@ fn a_header_is_refused_at_its_line(rt: HostRuntime) {
         ("#\n# é", 3, Why::End),
         (" # x\n", 1, Why::Form),
         ("\r\n", 1, Why::Form),
-        ("processes 17\n", 1, Why::Range),
+        ("processes 65\n", 1, Why::Range),
         ("processes 0\n", 1, Why::Range),
         ("processes 2\r\n", 1, Why::Form),
         ("processes 18446744073709551616\n", 1, Why::Range),
@@ -132,7 +132,7 @@ fn a_schedule_has_not_too_many_events(rt: HostRuntime) -> Result<(), Fail> {
     Ok(())
 }
 
-/// A name of two letters, another for each number below 676.
+/// A name of three letters behind a space, another for each number below 4,096.
 fn push_name(text: &mut String, number: u32) -> Result<(), Fail> {
     let letters = [
         'a', 'b', 'c', 'd', 'e', 'f', 'g', 'h', 'i', 'j', 'k', 'l', 'm', 'n', 'o', 'p',
@@ -147,10 +147,10 @@ fn push_name(text: &mut String, number: u32) -> Result<(), Fail> {
 #[test]
 fn a_schedule_has_not_too_many_names(rt: HostRuntime) -> Result<(), Fail> {
     let cases = [
-        (256, "", None),
-        (256, " aaa", fault(2, Why::Range)),
-        (256, " a1", fault(2, Why::Range)),
-        (255, " aaa b", fault(2, Why::Name)),
+        (4096, "", None),
+        (4096, " aaa", fault(2, Why::Range)),
+        (4096, " a1", fault(2, Why::Range)),
+        (4095, " aaa b", fault(2, Why::Name)),
     ];
     for (count, rest, refusal) in cases {
         let mut text = String::from_str(rt.alloc(), "processes 1\nregisters")?;

@@ -1,0 +1,158 @@
+//! The largest shapes, and reports of version 2.
+use crate::values::{cast, id};
+use reg_base::{Names, Op, Shape};
+use reg_frames::{FrameFault, decode, encode};
+use reg_history::{History, ReadFault, ReadWhy, Report, read_report, write_report};
+use std::test::Fail;
+
+/// A report of version 1, whose lines 3, 4 and 5 are to be put in.
+const OLDER: &str = "awreg report 1\nfront linear\nPROCESSES\nREGISTERS\nhistory 0\norder 0\nend\n";
+
+/// The same of version 2.
+const NEWER: &str = "awreg report 2\nfront linear\nPROCESSES\nREGISTERS\nhistory 0\norder 0\nend\n";
+
+/// What a report with these lines is refused for: the line and the cause.
+fn refusal(
+    rt: &HostRuntime,
+    text: &str,
+    processes: &str,
+    registers: &str,
+) -> Result<Option<ReadFault>, Fail> {
+    let text = text.replacen(rt.alloc(), "PROCESSES", processes, 1)?;
+    let text = text.replacen(rt.alloc(), "REGISTERS", registers, 1)?;
+    Ok(read_report(rt.alloc(), text.as_str()).err())
+}
+
+fn at(line: u64, why: ReadWhy) -> Option<ReadFault> {
+    Some(ReadFault::Line { line, why })
+}
+
+#[test]
+fn each_version_has_its_own_header(rt: HostRuntime) -> Result<(), Fail> {
+    let cases = [
+        (OLDER, "processes 16", "registers x y", None),
+        (OLDER, "processes 17", "registers x", at(3, ReadWhy::Range)),
+        (OLDER, "processes 1", "registers 1\nx", at(4, ReadWhy::Name)),
+        (NEWER, "processes 17", "registers 1\nx", None),
+        (NEWER, "processes 64", "registers 2\ny\nx", None),
+        (NEWER, "processes 65", "registers 1\nx", at(3, ReadWhy::Range)),
+        (NEWER, "processes 0", "registers 1\nx", at(3, ReadWhy::Range)),
+        (NEWER, "processes 1", "registers x", at(4, ReadWhy::Form)),
+        (NEWER, "processes 1", "registers 01\nx", at(4, ReadWhy::Form)),
+        (NEWER, "processes 1", "registers 0", at(4, ReadWhy::Range)),
+        (NEWER, "processes 1", "registers 4097", at(4, ReadWhy::Range)),
+        (NEWER, "processes 1", "registers 2\nx\nx", at(6, ReadWhy::Name)),
+        (NEWER, "processes 1", "registers 2\nx\nx1", at(6, ReadWhy::Name)),
+        (NEWER, "processes 1", "registers 2\nx\n", at(6, ReadWhy::Form)),
+        (NEWER, "processes 1", "registers 2\nx\ny z", at(6, ReadWhy::Form)),
+        (NEWER, "processes 1", "registers 2\nx\ny ", at(6, ReadWhy::Form)),
+        (NEWER, "processes 1", "registers 2\nx\né", at(6, ReadWhy::Form)),
+        (NEWER, "processes 1", "registers 3\nx\nx\ny z", at(6, ReadWhy::Name)),
+        (NEWER, "processes 1", "registers 9\nx\nx", at(6, ReadWhy::Name)),
+        (NEWER, "processes 1", "registers 9\nx\ny", at(7, ReadWhy::Form)),
+        (NEWER, "processes 1", "registers 1\nx\ny", at(6, ReadWhy::Form)),
+    ];
+    for (text, processes, registers, found) in cases {
+        assert_eq!(rt;
+            refusal(&rt, text, processes, registers)?,
+            found,
+            "{processes} {registers}"
+        );
+    }
+    let ended = "awreg report 2\nfront linear\nprocesses 1\nregisters 3\nx\ny\n";
+    assert_eq!(rt; read_report(rt.alloc(), ended).err(), at(7, ReadWhy::End));
+    let ended = "awreg report 2\nfront linear\nprocesses 1\nregisters 3\nx\nx\n";
+    assert_eq!(rt; read_report(rt.alloc(), ended).err(), at(6, ReadWhy::Name));
+    Ok(())
+}
+
+#[test]
+fn each_version_has_its_own_processes(rt: HostRuntime) -> Result<(), Fail> {
+    let cases = [
+        (OLDER, "registers x", "p15 #0", None),
+        (OLDER, "registers x", "p16 #0", at(7, ReadWhy::Range)),
+        (NEWER, "registers 1\nx", "p63 #0", None),
+        (NEWER, "registers 1\nx", "p64 #0", at(8, ReadWhy::Range)),
+    ];
+    for (text, registers, line, found) in cases {
+        let text = text.replacen(rt.alloc(), "order 0", "order 1\nLINE", 1)?;
+        let text = text.replacen(rt.alloc(), "LINE", line, 1)?;
+        assert_eq!(rt;
+            refusal(&rt, text.as_str(), "processes 2", registers)?,
+            found,
+            "{line}"
+        );
+    }
+    Ok(())
+}
+
+/// So many names of four letters, each behind this mark.
+fn many_names(rt: &HostRuntime, count: u32, mark: char) -> Result<String, Fail> {
+    let mut text = String::new(rt.alloc());
+    for number in 0..count {
+        text.push(mark)?;
+        text.push('n')?;
+        for place in [number / 676 % 26, number / 26 % 26, number % 26] {
+            text.push(char::from(b'a' + place as u8))?;
+        }
+    }
+    Ok(text)
+}
+
+#[test]
+fn each_version_has_as_many_names_as_it_may(rt: HostRuntime) -> Result<(), Fail> {
+    let cases = [
+        (OLDER, "registers", ' ', 256, None),
+        (OLDER, "registers", ' ', 257, at(4, ReadWhy::Range)),
+        (NEWER, "registers 4096", '\n', 4096, None),
+    ];
+    for (text, head, mark, count, found) in cases {
+        let mut registers = String::from_str(rt.alloc(), head)?;
+        registers.push_str(many_names(&rt, count, mark)?.as_str())?;
+        assert_eq!(rt;
+            refusal(&rt, text, "processes 1", registers.as_str())?,
+            found,
+            "{head} {count}"
+        );
+    }
+    Ok(())
+}
+
+#[test]
+fn the_largest_report_is_read_as_it_was_written(rt: HostRuntime) -> Result<(), Fail> {
+    let mut names = Vec::new(rt.alloc());
+    for name in many_names(&rt, 4096, ' ')?.split(' ').skip(1) {
+        names.push(String::from_str(rt.alloc(), name)?)?;
+    }
+    let names = Names::new(names)?;
+    assert_eq!(rt; (names.number("naaa"), names.number("ngbn")), (Some(0), Some(4095)));
+    assert_eq!(rt; names.number("ngbo"), None);
+    for number in 0..4096u16 {
+        let name = names.name(number).unwrap_or("");
+        assert_eq!(rt; names.number(name), Some(number));
+    }
+    let history = History::new(rt.alloc(), Shape::new(64, 4096)?)?;
+    let front = String::from_str(rt.alloc(), "linear")?;
+    let mut order = Vec::new(rt.alloc());
+    order.push(id(63, 0))?;
+    let report = Report::new(front, names, history, order, None)?;
+    let mut out = Vec::new(rt.alloc());
+    write_report(&mut out, &report)?;
+    let again = read_report(rt.alloc(), std::str::from_utf8(out.as_slice())?)?;
+    assert_eq!(rt; again.names().name(4095), Some("ngbn"));
+    assert_eq!(rt; again.history().shape(), Shape::new(64, 4096)?);
+    assert_eq!(rt; again.order(), [id(63, 0)].as_slice());
+    Ok(())
+}
+
+#[test]
+fn the_last_register_in_a_frame(rt: HostRuntime) -> Result<(), Fail> {
+    let write = |register: u16| cast(1, 3, Op::Write { register, value: 5 });
+    let mut bytes = encode(rt.alloc(), &write(4095))?;
+    assert_eq!(rt; &bytes[22..24], [0x0f, 0xff].as_slice());
+    assert_eq!(rt; decode(bytes.as_slice()), Ok(write(4095)));
+    assert!(rt; matches!(encode(rt.alloc(), &write(4096)), Err(FrameFault::Range)));
+    bytes[22..24].copy_from_slice(&[0x10, 0]);
+    assert_eq!(rt; decode(bytes.as_slice()), Err(FrameFault::Range));
+    Ok(())
+}

@@ -1,0 +1,66 @@
+//! The largest shapes, and the reports of both versions, as a user meets them.
+use crate::checks::{ONE_PROCESS, demand};
+use crate::replays::ONE_PROCESS_SCHEDULE;
+use reg_commands::Command;
+
+/// The report of version 1 of one process that writes 5 and reads it.
+const OLDER_ONE_PROCESS: &str = "awreg report 1
+front linear
+processes 1
+registers x
+history 4
+       0  p0    #0       call    write x 5
+       0  p0    #0       answer  done
+       1  p0    #1       call    read x
+       1  p0    #1       answer  value 5
+order 2
+p0 #0
+p0 #1
+points 2
+p0 #0 at 0
+p0 #1 at 1
+end
+";
+
+/// The last of 64 processes reads.
+const LAST_PROCESS: &str = "processes 64
+registers x
+front local-read
+call 63 read x
+";
+
+/// Its report.
+const LAST_PROCESS_REPORT: &str = "awreg report 2
+front local-read
+processes 64
+registers 1
+x
+history 2
+       0  p63   #0       call    read x
+       0  p63   #0       answer  value 0
+order 1
+p63 #0
+end
+";
+
+#[test]
+fn the_largest_shapes_and_both_versions(rt: HostRuntime) {
+    let alloc = rt.alloc();
+    let both = "serial yes\npoints yes\n";
+    let (replay, check) = (Command::Replay, Command::Check);
+    let table = [
+        (replay, ONE_PROCESS_SCHEDULE, "", 0, ONE_PROCESS, ""),
+        (check, OLDER_ONE_PROCESS, "", 0, both, ""),
+        (check, ONE_PROCESS, "", 0, both, ""),
+        (replay, LAST_PROCESS, "", 0, LAST_PROCESS_REPORT, ""),
+        (check, LAST_PROCESS_REPORT, "", 0, "serial yes\n", ""),
+        (replay, LAST_PROCESS, "take 0 63 0\n", 1, "", "event 1: no frame\n"),
+        (replay, LAST_PROCESS, "call 64 read x\n", 1, "", "event 1: no process\n"),
+        (replay, "processes 65\n", "", 1, "", "line 1: range\n"),
+    ];
+    for (command, head, tail, status, written, told) in table {
+        let mut text = String::from_str(alloc, head).expect(&rt, "memory");
+        text.push_str(tail).expect(&rt, "memory");
+        demand(&rt, alloc, command, text.as_bytes(), status, written, told);
+    }
+}
