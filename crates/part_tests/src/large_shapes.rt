@@ -35,22 +35,92 @@ fn each_version_has_its_own_header(rt: HostRuntime) -> Result<(), Fail> {
         (OLDER, "processes 1", "registers 1\nx", at(4, ReadWhy::Name)),
         (NEWER, "processes 17", "registers 1\nx", None),
         (NEWER, "processes 64", "registers 2\ny\nx", None),
-        (NEWER, "processes 65", "registers 1\nx", at(3, ReadWhy::Range)),
-        (NEWER, "processes 0", "registers 1\nx", at(3, ReadWhy::Range)),
+        (
+            NEWER,
+            "processes 65",
+            "registers 1\nx",
+            at(3, ReadWhy::Range),
+        ),
+        (
+            NEWER,
+            "processes 0",
+            "registers 1\nx",
+            at(3, ReadWhy::Range),
+        ),
         (NEWER, "processes 1", "registers x", at(4, ReadWhy::Form)),
-        (NEWER, "processes 1", "registers 01\nx", at(4, ReadWhy::Form)),
+        (
+            NEWER,
+            "processes 1",
+            "registers 01\nx",
+            at(4, ReadWhy::Form),
+        ),
         (NEWER, "processes 1", "registers 0", at(4, ReadWhy::Range)),
-        (NEWER, "processes 1", "registers 4097", at(4, ReadWhy::Range)),
-        (NEWER, "processes 1", "registers 2\nx\nx", at(6, ReadWhy::Name)),
-        (NEWER, "processes 1", "registers 2\nx\nx1", at(6, ReadWhy::Name)),
-        (NEWER, "processes 1", "registers 2\nx\n", at(6, ReadWhy::Form)),
-        (NEWER, "processes 1", "registers 2\nx\ny z", at(6, ReadWhy::Form)),
-        (NEWER, "processes 1", "registers 2\nx\ny ", at(6, ReadWhy::Form)),
-        (NEWER, "processes 1", "registers 2\nx\né", at(6, ReadWhy::Form)),
-        (NEWER, "processes 1", "registers 3\nx\nx\ny z", at(6, ReadWhy::Name)),
-        (NEWER, "processes 1", "registers 9\nx\nx", at(6, ReadWhy::Name)),
-        (NEWER, "processes 1", "registers 9\nx\ny", at(7, ReadWhy::Form)),
-        (NEWER, "processes 1", "registers 1\nx\ny", at(6, ReadWhy::Form)),
+        (
+            NEWER,
+            "processes 1",
+            "registers 4097",
+            at(4, ReadWhy::Range),
+        ),
+        (
+            NEWER,
+            "processes 1",
+            "registers 2\nx\nx",
+            at(6, ReadWhy::Name),
+        ),
+        (
+            NEWER,
+            "processes 1",
+            "registers 2\nx\nx1",
+            at(6, ReadWhy::Name),
+        ),
+        (
+            NEWER,
+            "processes 1",
+            "registers 2\nx\n",
+            at(6, ReadWhy::Form),
+        ),
+        (
+            NEWER,
+            "processes 1",
+            "registers 2\nx\ny z",
+            at(6, ReadWhy::Form),
+        ),
+        (
+            NEWER,
+            "processes 1",
+            "registers 2\nx\ny ",
+            at(6, ReadWhy::Form),
+        ),
+        (
+            NEWER,
+            "processes 1",
+            "registers 2\nx\né",
+            at(6, ReadWhy::Form),
+        ),
+        (
+            NEWER,
+            "processes 1",
+            "registers 3\nx\nx\ny z",
+            at(6, ReadWhy::Name),
+        ),
+        (
+            NEWER,
+            "processes 1",
+            "registers 9\nx\nx",
+            at(6, ReadWhy::Name),
+        ),
+        (
+            NEWER,
+            "processes 1",
+            "registers 9\nx\ny",
+            at(7, ReadWhy::Form),
+        ),
+        (
+            NEWER,
+            "processes 1",
+            "registers 1\nx\ny",
+            at(6, ReadWhy::Form),
+        ),
     ];
     for (text, processes, registers, found) in cases {
         assert_eq!(rt;
@@ -125,7 +195,10 @@ fn the_largest_report_is_read_as_it_was_written(rt: HostRuntime) -> Result<(), F
         names.push(String::from_str(rt.alloc(), name)?)?;
     }
     let names = Names::new(names)?;
-    assert_eq!(rt; (names.number("naaa"), names.number("ngbn")), (Some(0), Some(4095)));
+    assert_eq!(rt;
+        (names.number("naaa"), names.number("ngbn")),
+        (Some(0), Some(4095))
+    );
     assert_eq!(rt; names.number("ngbo"), None);
     for number in 0..4096u16 {
         let name = names.name(number).unwrap_or("");

@@ -175,7 +175,11 @@ fn the_first_name_over_is_beyond_the_limit(rt: HostRuntime) -> Result<(), Fail> 
     for (last, found) in cases {
         let line = many_names(&rt, last)?;
         let mut lines = Lines::new(line.as_bytes());
-        assert_eq!(rt; read_names(rt.alloc(), &mut lines, 256).err(), found, "{last}");
+        assert_eq!(rt;
+            read_names(rt.alloc(), &mut lines, 256).err(),
+            found,
+            "{last}"
+        );
     }
     Ok(())
 }
@@ -297,7 +301,7 @@ fn each_growth_is_refused(rt: HostRuntime) {
     for before in 0..50u64 {
         let heap = Refusing::new(rt.alloc(), before);
         let mut lines = Lines::new(b"registers x y\nfront linear".as_slice());
-        match read_names(&heap, &mut lines) {
+        match read_names(&heap, &mut lines, 256) {
             Ok(names) => {
                 assert!(rt; heap.is_waiting());
                 assert!(rt; before > 2 && names.count() == 2);
