@@ -1,5 +1,9 @@
 //! When a cast was made, and by which process.
+ghost use Rattle.std.specs.Prelude.{◌≡◌};
+ghost use Rattle.reg_base.specs.Stamp.{stamp_cmp};
+
 use crate::memory::Op;
+use std::cmp::Ordering;
 
 /// The time of a cast at the clock of the process that made it. Stamps are ordered by time, and equal times by process
 /// (Lamport 1978, the total order of events).
@@ -9,6 +13,15 @@ pub struct Stamp {
     pub time: u64,
     /// The caster.
     pub process: u8,
+}
+
+impl Stamp {
+    /// How it stands to another one: by time, and equal times by process. The operators answer the same.
+    pub fn order(&self, other: &Stamp) -> Ordering
+        ensures { result ≡ stamp_cmp self.now other.now }
+    {
+        self.cmp(other)
+    }
 }
 
 /// A cast that a process delivers: its stamp and its operation.

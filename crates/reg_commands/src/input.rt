@@ -60,6 +60,7 @@ pub fn read_text<A: Allocator, R: Read>(
     limit: usize,
 ) -> Result<String<A>, InputFault>
     ensures ok { IfOk result (λ s. IfSome (R.remaining reader.old) (λ xs. string_bytes s ≡ xs)) }
+    ensures within { IfOk result (λ s. length (string_bytes s) ≤ limit) }
     ensures why { IfErr result (λ f. IfSome (R.remaining reader.old) (BlamesInput limit f)) }
 {
     let bytes = match read_all(alloc, reader, limit) {

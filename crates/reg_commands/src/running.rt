@@ -1,5 +1,6 @@
 //! Running a command over any reader and writer.
-ghost use Rattle.std.specs.Prelude.{◌≡◌, ◌≢◌, ◌≤◌, ◌⊎◌, IfOk, IfErr, IfSome, true, false, string_bytes};
+ghost use Rattle.std.specs.Prelude.{◌≡◌, ◌≢◌, ◌≤◌, ◌⊎◌, IfOk, IfErr, OnOk, IfSome, true, false, length, string_bytes};
+ghost use Rattle.reg_base.specs.declared.limits.TheConstants.{LONGEST_INPUT};
 ghost use Rattle.reg_commands.specs.Answers.{Answers, Blames};
 ghost use Rattle.reg_commands.specs.declared.faults.Fault.{Fault};
 
@@ -19,6 +20,7 @@ fn read<A: Allocator, R: Read>(
     reader: &mut R,
 ) -> Result<String<A>, Fault>
     ensures ok { IfOk result (λ s. IfSome (R.remaining reader.old) (λ xs. string_bytes s ≡ xs)) }
+    ensures within { OnOk result (IfSome (R.remaining reader.old) (λ xs. length xs ≤ LONGEST_INPUT)) }
     ensures why { IfErr result (λ f. IfSome (R.remaining reader.old) (Blames command f)) }
     ensures kind { IfErr result (λ f. f ≢ Fault.Output) }
 {
@@ -63,6 +65,7 @@ fn obey<A: Allocator + Copy, R: Read, W: Write>(
     writer: &mut W,
 ) -> Result<bool, Fault>
     ensures ok { IfOk result (λ agrees. IfSome (R.remaining reader.old) (Answers command agrees (W.contents writer.old) (W.contents writer.new))) }
+    ensures within { OnOk result (IfSome (R.remaining reader.old) (λ xs. length xs ≤ LONGEST_INPUT)) }
     ensures why { IfErr result (λ f. IfSome (R.remaining reader.old) (Blames command f)) }
     ensures silent { IfErr result (λ f. f ≢ Fault.Output → writer.new ≡ writer.old) }
 {
@@ -82,6 +85,7 @@ pub fn run_text<A: Allocator + Copy, R: Read, W: Write, E: Write>(
     errors: &mut E,
 ) -> u8
     ensures range { result ≤ 1 }
+    ensures within { result ≡ 0 → IfSome (R.remaining reader.old) (λ xs. length xs ≤ LONGEST_INPUT) }
     ensures answered { result ≡ 0 → IfSome (R.remaining reader.old) (Answers command true (W.contents writer.old) (W.contents writer.new)) }
     ensures refused { result ≡ 1 → (IfSome (R.remaining reader.old) (Answers command false (W.contents writer.old) (W.contents writer.new)) × (errors.new ≡ errors.old))
         ⊎ ((f : Fault) × IfSome (R.remaining reader.old) (Blames command f) × (f ≢ Fault.Output → writer.new ≡ writer.old)) }

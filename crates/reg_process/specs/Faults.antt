@@ -68,6 +68,11 @@ abbrev pub frame_fault : State → ℕ → Frame → Option ProcessFault
 frame_fault s from (Numbered number body) = if number == (peer_at s from).expected then body_fault s from body else None
 frame_fault s from (Got count) = if nat_lt (next_of (peer_at s from)) count then Some Ahead else None
 
+-- whether a frame carries a body: a count doesn't
+abbrev pub is_numbered : Frame → Bool
+is_numbered (Numbered number body) = true
+is_numbered (Got count) = false
+
 abbrev pub take_fault : State → ℕ → Frame → Option ProcessFault
 take_fault s from frame = if nat_le (length s.peers) from || from == s.me then Some NoProcess else frame_fault s from frame
 

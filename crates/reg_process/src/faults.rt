@@ -2,7 +2,7 @@
 ghost use Rattle.std.specs.Prelude.{◌≡◌};
 ghost use Rattle.reg_process.specs.Faults.{is_stop as is_stop_of};
 
-/// Why an event is refused: of those that apply, the first in this order. Want of memory may stand in place of any other.
+/// Why an event is refused: of those that apply, the first in this order.
 #[derive(Clone, Copy, Debug, PartialEq, Eq)]
 pub enum ProcessFault {
     /// The process has stopped for good.

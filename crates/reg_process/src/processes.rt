@@ -1,9 +1,9 @@
 //! One process, with its stop.
-ghost use Rattle.std.specs.Prelude.{◌≡◌, ℕ, ◌<◌, ◌≤◌, MatchResult, IfOk, IfErr, is_some, false};
+ghost use Rattle.std.specs.Prelude.{◌≡◌, ℕ, ◌<◌, ◌≤◌, MatchResult, IfOk, IfErr, is_some, false, true, IsErrOf};
 ghost use Rattle.reg_process.specs.Process.{next_of, peer_at, pending_of, unsettled};
 ghost use Rattle.reg_process.specs.Parts.{state_of, first_parts};
 ghost use Rattle.reg_process.specs.declared.steps.Step.TheVariants.{Call, Take, Tick};
-ghost use Rattle.reg_process.specs.Faults.{NewRefused};
+ghost use Rattle.reg_process.specs.Faults.{NewRefused, is_cast, is_numbered};
 ghost use Rattle.reg_process.specs.Events.{Steps, Refused};
 
 use crate::faults::{ProcessFault, is_stop};
@@ -104,7 +104,7 @@ impl<F: FrontEnd, A: Allocator + Copy> Process<F, A> {
 
     /// Puts the first unacknowledged data frames of every link again. The clock stays as it is.
     pub fn tick(&mut self) -> Result<Outcome<A>, ProcessFault>
-        ensures { MatchResult result (λ o. Steps F.start self.old Tick o.frames.items o.cast o.delivered.items o.reply self.new) (λ fault. Refused F.start self.old Tick fault self.new) }
+        ensures ticked { MatchResult result (λ o. Steps F.start self.old Tick o.frames.items o.cast o.delivered.items o.reply self.new) (λ fault. Refused F.start self.old Tick fault self.new) }
     {
         if self.failed {
             return Err(ProcessFault::Failed);
@@ -123,10 +123,11 @@ impl<F: FrontEnd, A: Allocator + Copy> Process<F, A> {
     }
 
     /// Takes a frame that another process put for it. A data frame out of turn is dropped and answered by the count of those
-    /// accepted; an expected one is accepted, and what is clear then is delivered.
+    /// accepted; an expected one is accepted, and what is clear then is delivered. A count takes no memory.
     #[inline(always)]
     pub fn take(&mut self, from: u8, frame: &Frame) -> Result<Outcome<A>, ProcessFault>
-        ensures { MatchResult result (λ o. Steps F.start self.old (Take from frame.now) o.frames.items o.cast o.delivered.items o.reply self.new) (λ fault. Refused F.start self.old (Take from frame.now) fault self.new) }
+        ensures taken { MatchResult result (λ o. Steps F.start self.old (Take from frame.now) o.frames.items o.cast o.delivered.items o.reply self.new) (λ fault. Refused F.start self.old (Take from frame.now) fault self.new) }
+        ensures memory { IsErrOf result ProcessFault.OutOfMemory → is_numbered frame.now ≡ true }
     {
         if self.failed {
             return Err(ProcessFault::Failed);
@@ -143,9 +144,11 @@ impl<F: FrontEnd, A: Allocator + Copy> Process<F, A> {
         }
     }
 
-    /// Calls its next operation, which starts as the front end says, and delivers what is clear.
+    /// Calls its next operation, which starts as the front end says, and delivers what is clear. One that isn't cast takes no
+    /// memory.
     pub fn call(&mut self, op: Op) -> Result<Outcome<A>, ProcessFault>
-        ensures { MatchResult result (λ o. Steps F.start self.old (Call op) o.frames.items o.cast o.delivered.items o.reply self.new) (λ fault. Refused F.start self.old (Call op) fault self.new) }
+        ensures called { MatchResult result (λ o. Steps F.start self.old (Call op) o.frames.items o.cast o.delivered.items o.reply self.new) (λ fault. Refused F.start self.old (Call op) fault self.new) }
+        ensures memory { IsErrOf result ProcessFault.OutOfMemory → is_cast (F.start op (unsettled self.old.state)) ≡ true }
     {
         if self.failed {
             return Err(ProcessFault::Failed);

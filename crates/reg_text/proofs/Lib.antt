@@ -18,3 +18,4 @@ pub mod Found
 pub mod Formed
 pub mod Counting
 pub mod Seen
+pub mod Sent

@@ -5,3 +5,4 @@ pub mod Lines
 pub mod Words
 pub mod Ops
 pub mod Forms
+pub mod Writing

@@ -12,6 +12,7 @@ mod heads;
 mod numbers;
 mod ops;
 mod words;
+mod writing;
 
 pub use cursor::Lines;
 pub use faults::{TextFault, Why};
@@ -21,3 +22,4 @@ pub use heads::{are_front_letters, expect_line, owned, read_count};
 pub use numbers::{field_within, numeral_within};
 pub use ops::{OpLine, name_at, name_of_op, read_op};
 pub use words::read_names;
+pub use writing::{Unwritten, write_bytes, write_three};

@@ -19,6 +19,7 @@ use Rattle.reg_world.specs.Laws.{IsQuiescent}
 use Rattle.reg_world.specs.Worlds.{run_in}
 use Rattle.reg_process.proofs.Again.{replicate_at}
 use Rattle.reg_world.proofs.Promised.{settled}
+use Rattle.reg_world.proofs.Settled.{none_on_link}
 use Rattle.reg_workload.specs.Plays.{call_at, calls_of, script_of, Playing, next_at, next_op, Follows, IsPlayable, ArePlayable, IsPlaying, IsFinished, IsPlay, FollowsScript, AllStill}
 use Rattle.reg_workload.specs.Fair.{AtRest}
 
@@ -175,16 +176,6 @@ none_left s p f e l =
     let b = length-take-le (next_at s p) (script_of s.scripts p) f.within in
     absurd (omega (arith, a, b, l))
 
--- no pending frames over all links, so none on one
-no_pending : (peers : List Peer) (q : ℕ) → pending_of peers ≡ 0 → (slice_index_or peers q no_peer).pending ≡ []
-no_pending [] q e = refl
-no_pending (x ∷ xs) zero e = nothing_in x.pending (omega (arith, e))
-  where
-    nothing_in : {X : Type 0} (ys : List X) → length ys ≡ 0 → ys ≡ []
-    nothing_in [] l = refl
-    nothing_in (y ∷ ys) l = absurd (omega (arith, l))
-no_pending (x ∷ xs) (suc q) e = no_pending xs q (omega (arith, e))
-
 -- where no process may call and nothing is pending, all is done
 pub rest_done : (start : Op → ℕ → Start) → KeepsLaws start → (s : Playing) → IsPlaying s → AtRest start s → IsFinished start s.scripts s.made
 rest_done start laws s good rest = λ p l.
@@ -199,7 +190,7 @@ rest_done start laws s good rest = λ p l.
 pub still_rests : (start : Op → ℕ → Start) (s : Playing) → AllStill start s → AtRest start s
 still_rests start s still = record {
   no_call = λ p l. (still p l).no_call;
-  nothing_pending = λ p q l _ _. no_pending ((run_in start s.made).nodes p).state.peers q (still p l).nothing_pending;
+  nothing_pending = λ p q l _ _. none_on_link ((run_in start s.made).nodes p).state.peers q (still p l).nothing_pending;
 }
 
 pub follows_script : (s : Playing) (p : ℕ) → Follows s p → FollowsScript s.scripts s.made.accepted p

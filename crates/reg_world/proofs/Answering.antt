@@ -89,7 +89,7 @@ refused_by start shape events at e Busy new here l h = (e, here, h.0)
 refused_by start shape events at e NoRegister new here l h = (e, here, h.0)
 refused_by start shape events at e TooManyOperations new here l h = (e, here, h.0)
 refused_by start shape events at e NoFrame new here l h = (e, here, h.0)
-refused_by start shape events at e OutOfMemory new here l h = inr l
+refused_by start shape events at e OutOfMemory new here l h = inr (e, here, h.0)
 
 pub run_refuses : (start : Op → ℕ → Start) (shape : Extent) (events : List Event) (at : ℕ) (d : Event) (fault : WorldFault) (old new : Made) → at < length events → old ≡ after_events start shape (take at events) → Refuses start old (get_or events at d) fault new → RunRefuses start shape events at fault
 run_refuses start shape events at d fault old new l is h =

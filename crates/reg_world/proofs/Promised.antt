@@ -7,7 +7,7 @@ use Rattle.std.proofs.lemmas.Option.{same_Some}
 use Rattle.reg_base.specs.declared.memory.Op.{Op}
 use Rattle.reg_base.specs.declared.stamps.Delivered.{Delivered}
 use Rattle.reg_base.specs.declared.memory.OpId.{OpId}
-use Rattle.reg_base.specs.Memory.{answer_of, IsBlind}
+use Rattle.reg_base.specs.Memory.{answer_of}
 use Rattle.reg_base.specs.Order.{In, IsPrefixOf}
 use Rattle.reg_front.specs.declared.starts.Start.{Start}
 use Rattle.reg_front.specs.Fronts.{KeepsLaws}
@@ -18,15 +18,15 @@ use Rattle.reg_history.specs.History.{IsAt, IsIn, IsHistory}
 use Rattle.reg_world.specs.declared.events.Event.{Event}
 use Rattle.reg_world.specs.declared.order.First.{First}
 use Rattle.reg_world.specs.Nodes.{Nodes}
-use Rattle.reg_world.specs.Laws.{FrontsAgree, FrontsRise, IsMade, FrontsMade, UndeliveredAbove, NoRefusal, NothingPending, IsQuiescent}
+use Rattle.reg_world.specs.Laws.{FrontsAgree, FrontsRise, IsMade, FrontsMade, UndeliveredAbove, NoRefusal, AllAcknowledged, NothingPending, IsQuiescent}
 use Rattle.reg_world.specs.Runs.{Cast, memory_of}
-use Rattle.reg_world.specs.Promises.{OrderIsLongest, OrderIsRight, CastsRight, RepliesRight}
+use Rattle.reg_world.specs.Promises.{OrderIsLongest, OrderIsRight, CastsRight, RepliesRight, AnswersFirst}
 use Rattle.reg_world.specs.World.{World, Replied, delivered_of, run_of, move_of, moved, happens, run, empty_world, whole}
 use Rattle.reg_world.proofs.Traced.{Called as PastCall, World as Trace, casts_of, cast_of, whole as traced}
 use Rattle.reg_world.proofs.Theorems.{agree, rise, made, refused, above}
 use Rattle.reg_world.proofs.Wholes.{whole_inv, order_is_longest}
 use Rattle.reg_world.proofs.Placed.{all_seated}
-use Rattle.reg_world.proofs.Settled.{quiescent}
+use Rattle.reg_world.proofs.Settled.{quiescent, none_on_link}
 use Rattle.reg_world.proofs.Bodies.{place_in, place_front}
 use Rattle.reg_base.proofs.Lists.{in_cases}
 use Rattle.reg_world.proofs.Worlds.{front_made, held_made}
@@ -77,6 +77,9 @@ module _ (start : Op → ℕ → Start) (n registers : ℕ) (laws : KeepsLaws st
 
   pub settled : NothingPending n w.nodes → IsQuiescent n w.nodes
   settled none = subst (IsQuiescent n) same (quiescent start n registers w.accepted laws (subst (NothingPending n) (sym same) none))
+
+  pub rests : AllAcknowledged n w.nodes → IsQuiescent n w.nodes
+  rests all = settled (λ p q a b ne. none_on_link (w.nodes p).state.peers q (all p a))
 
   pub in_place : IsHistory n registers w.history
   in_place = (K start n registers laws events).history
@@ -145,7 +148,7 @@ module _ (start : Op → ℕ → Start) (n registers : ℕ) (laws : KeepsLaws st
         once = (ordered start n registers laws events).one_cast;
       }
 
-  pub replies_right : RepliesRight registers w
+  pub replies_right : RepliesRight start registers w
   replies_right = record {
     answered = λ y i.
         let r = j.replied y (at_in y w.replies i) in
@@ -168,15 +171,14 @@ module _ (start : Op → ℕ → Start) (n registers : ℕ) (laws : KeepsLaws st
         let r = j.replied y (at_in y w.replies i) in
         let x = j.cast c (at_in c w.casts k) in
         let asked : IsPastCall n v.pasts y.id x.0 = subst (λ z. IsPastCall n v.pasts z x.0) e x.1 in
-        let f = told_reply start n registers laws events y.id r.0 x.0 r.1 asked in
         let u = j.called at y.id op (at_in (Called at y.id op) w.history call) in
         let one : u.0 ≡ x.0 = same_Some u.0 x.0 (sym u.1.1 ∙ asked.1) in
         let when : x.0.at ≡ at = sym (ap (λ (z : PastCall). z.at) one) ∙ u.3 in
         let slot : slice_get (v.pasts y.id.process).calls r.0.number ≡ Some x.0 = subst (λ m. slice_get (v.pasts y.id.process).calls m ≡ Some x.0) (sym r.1.2) asked.1 in
         let s = all_seated start n registers w.accepted laws y.id.process r.1.0 r.0 x.0 c.stamp r.1.1 slot x.2 in
-        subst (λ (z : Reply). ((y.at ≡ at) × IsBlind c.op) ⊎ ((f : First) × IsAt w.order z.place f × (f.id ≡ y.id))) r.3
+        subst (λ (z : Reply). ((y.at ≡ at) × AnswersFirst start c.op) ⊎ ((f : First) × IsAt w.order z.place f × (f.id ≡ y.id))) r.3
         (elim s [
-          | inl here ↦ elim (its y.id r.0.reply.place x.0.op c k e x.3 f.1) [ inl blind ↦ inl (sym r.2 ∙ (here ∙ when), blind) | inr placed ↦ inr placed ]
+          | inl here ↦ inl (sym r.2 ∙ (here.0 ∙ when), subst (AnswersFirst start) x.3 here.1)
           | inr there ↦
               let L = (order_is_longest start n registers w.accepted).each y.id.process r.1.0 in
               let whole_at : slice_get (casts_of v.order) r.0.reply.place ≡ Some (cast_of c.stamp x.0.op) =
@@ -188,11 +190,6 @@ module _ (start : Op → ℕ → Start) (n registers : ℕ) (laws : KeepsLaws st
     where
       j : Joined n w v.pasts v.order
       j = J start n registers laws events
-
-      its : (id : OpId) (place : ℕ) (op : Op) (c : Cast) → IsIn w.casts c → c.id ≡ id → op ≡ c.op → Came (run_of registers w) id op place → IsBlind c.op ⊎ ((f : First) × IsAt w.order place f × (f.id ≡ id))
-      its id place op c i e o (AtDelivery f at is) = inr (f, at, is)
-      its id place op c i e o (AtOnce d k is blind) = inl (subst IsBlind o blind)
-      its id place op c i e o (FromCopy k never) = absurd (((ordered start n registers laws events).copies (record { id = id; place = place }) k).no_cast c i e)
 
 module _ (start : Op → ℕ → Start) (n registers : ℕ) (laws : KeepsLaws start) (events more : List Event) where
   pub undelivered_above : UndeliveredAbove n (whole start n registers events).nodes (whole start n registers (events ++ more)).nodes

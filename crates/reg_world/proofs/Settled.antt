@@ -1,6 +1,6 @@
 -- Where nothing is pending, no process is busy and all copies are equal.
-use Rattle.std.proofs.Common.{◌≡◌, ℕ, ◌+◌, ◌<◌, max, Bool, true, false, not, List, [], ◌∷◌, ◌++◌, length, replicate, Option, Some, None, refl, sym, ap, ◌∙◌, subst, inl, inr, arith}
-use Rattle.std.specs.Prelude.{cond, ◌==◌, ◌&&◌, count_by}
+use Rattle.std.proofs.Common.{◌≡◌, ℕ, zero, suc, ◌+◌, ◌<◌, max, Bool, true, false, not, List, [], ◌∷◌, ◌++◌, length, replicate, Option, Some, None, refl, sym, ap, ◌∙◌, subst, inl, inr, arith}
+use Rattle.std.specs.Prelude.{cond, ◌==◌, ◌&&◌, count_by, slice_index_or}
 use Rattle.std.specs.List.{filter, list_any}
 use Rattle.std.proofs.lemmas.Bool.{cond_both, cases_Bool, eqb-false, eq-eqb, and_from, false≢true}
 use Rattle.std.proofs.lemmas.List.{append-nil}
@@ -18,7 +18,7 @@ use Rattle.reg_process.specs.declared.steps.Step.TheVariants.{Call, Take, Tick}
 use Rattle.reg_world.specs.declared.events.Event.{Event}
 use Rattle.reg_base.specs.Order.{below, In, Rising, insert}
 use Rattle.reg_base.specs.Memory.{memory_after}
-use Rattle.reg_process.specs.Process.{State, Running, Own, Held, is_clear, is_own, peer_at, stamp_at, cast_at, clear_casts, casts_before, up_to_own, reply_after, reply_of, still, delivered_state, called, taken, accepted, accepts, queues, cast_made, quiet, got_frames, unsettled, ops_of}
+use Rattle.reg_process.specs.Process.{Peer, no_peer, pending_of, State, Running, Own, Held, is_clear, is_own, peer_at, stamp_at, cast_at, clear_casts, casts_before, up_to_own, reply_after, reply_of, still, delivered_state, called, taken, accepted, accepts, queues, cast_made, quiet, got_frames, unsettled, ops_of}
 use Rattle.reg_front.specs.Fronts.{MayStart, KeepsLaws}
 use Rattle.reg_world.specs.Nodes.{Node, Nodes, after_step, step_of, nodes_after}
 use Rattle.reg_world.proofs.Traced.{World, world_after, run_world, empty_world, whole}
@@ -167,3 +167,13 @@ quiescent start n registers events laws none = record {
   idle = settled start n registers events laws none;
   equal = copies_equal start n registers events laws none;
 }
+
+-- no pending frames over all links, so none on one
+pub none_on_link : (peers : List Peer) (q : ℕ) → pending_of peers ≡ 0 → (slice_index_or peers q no_peer).pending ≡ []
+none_on_link [] q e = refl
+none_on_link (x ∷ xs) zero e = nothing_in x.pending (omega (arith, e))
+  where
+    nothing_in : {X : Type 0} (ys : List X) → length ys ≡ 0 → ys ≡ []
+    nothing_in [] l = refl
+    nothing_in (y ∷ ys) l = absurd (omega (arith, l))
+none_on_link (x ∷ xs) (suc q) e = none_on_link xs q (omega (arith, e))

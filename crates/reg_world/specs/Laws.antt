@@ -8,7 +8,7 @@ use Rattle.reg_frames.specs.declared.bodies.Frame.{Frame}
 use Rattle.reg_frames.specs.declared.bodies.Frame.TheVariants.{Numbered, Got}
 use Rattle.reg_base.specs.Order.{Below, In, Rising, IsPrefixOf}
 use Rattle.reg_base.specs.Memory.{register_of}
-use Rattle.reg_process.specs.Process.{State, peer_at, time_of, next_of}
+use Rattle.reg_process.specs.Process.{State, peer_at, time_of, next_of, pending_of}
 use Rattle.reg_world.specs.Nodes.{Nodes}
 
 -- The fronts of any two processes are one a prefix of the other.
@@ -59,7 +59,11 @@ pub record NoRefusal (n registers : ℕ) (w : Nodes) : Type 0 where
   pub number_left : (a b : ℕ) → a < n → b < n → (a ≡ b → ⊥) → next_of (peer_at (w a).state b) < FRAME_NUMBERS
   pub in_range : (a b i : ℕ) (body : Body) → a < n → b < n → (a ≡ b → ⊥) → In (Numbered i body) ((w a).wire b) → names_register registers body
 
--- nothing waits for an acknowledgement
+-- at every process no data frame, over all its links, waits for an acknowledgement
+abbrev pub AllAcknowledged : ℕ → Nodes → Type 0
+AllAcknowledged n w = (p : ℕ) → p < n → pending_of (w p).state.peers ≡ 0
+
+-- the same, link by link
 abbrev pub NothingPending : ℕ → Nodes → Type 0
 NothingPending n w = (p q : ℕ) → p < n → q < n → (p ≡ q → ⊥) → (peer_at (w p).state q).pending ≡ []
 

@@ -4,9 +4,10 @@ use Rattle.reg_base.specs.declared.memory.Op.{Op}
 use Rattle.reg_base.specs.declared.memory.OpId.{OpId}
 use Rattle.reg_base.specs.declared.memory.Answer.{Answer}
 use Rattle.reg_base.specs.declared.stamps.Delivered.{Delivered}
-use Rattle.reg_base.specs.Memory.{answer_of, IsBlind}
+use Rattle.reg_base.specs.Memory.{answer_of}
 use Rattle.reg_base.specs.Order.{Below, In, IsPrefixOf}
 use Rattle.reg_front.specs.declared.starts.Start.{Start}
+use Rattle.reg_front.specs.declared.starts.Start.TheVariants.{CastAndAnswer as CastsAndAnswers}
 use Rattle.reg_history.specs.History.{IsAt, IsIn, IsCalled, IsAnswered}
 use Rattle.reg_world.specs.declared.order.First.{First}
 use Rattle.reg_world.specs.declared.order.CopyRead.{CopyRead}
@@ -40,15 +41,19 @@ pub record CastsRight (n : ℕ) (w : World) : Type 0 where
   pub called : (c : Cast) → IsIn w.casts c → (at : ℕ) × IsCalled w.history c.id at c.op
   pub once : (c d : Cast) → IsIn w.casts c → IsIn w.casts d → c.id ≡ d.id → c ≡ d
 
+-- the front end may answer the operation before its cast is delivered
+abbrev pub AnswersFirst : (Op → ℕ → Start) → Op → Type 0
+AnswersFirst start op = (unsettled : ℕ) × (start op unsettled ≡ CastsAndAnswers)
+
 -- The replies are the answers of the history, each that of the memory after the first casts of the order, as many as
--- its place says. Where the operation made a cast, that stands at the place; but for a reply that was given in the call's
--- own event and is the same on every memory.
-pub record RepliesRight (registers : ℕ) (w : World) : Type 0 where
+-- its place says. Where the operation made a cast, that stands at the place; but for an operation that the front end answers
+-- before its delivery, in the call's own event.
+pub record RepliesRight (start : Op → ℕ → Start) (registers : ℕ) (w : World) : Type 0 where
   pub answered : (y : Replied) → IsIn w.replies y → IsAnswered w.history y.id y.at y.reply.answer
   pub all : (id : OpId) (at : ℕ) (x : Answer) → IsAnswered w.history id at x → (y : Replied) × IsIn w.replies y × (y.id ≡ id) × (y.at ≡ at) × (y.reply.answer ≡ x)
   pub within : (y : Replied) → IsIn w.replies y → y.reply.place ≤ length w.order
   pub right : (y : Replied) (at : ℕ) (op : Op) → IsIn w.replies y → IsCalled w.history y.id at op → y.reply.answer ≡ answer_of op (memory_of (run_of registers w) y.reply.place)
-  pub own : (y : Replied) (c : Cast) (at : ℕ) (op : Op) → IsIn w.replies y → IsIn w.casts c → c.id ≡ y.id → IsCalled w.history y.id at op → ((y.at ≡ at) × IsBlind c.op) ⊎ ((f : First) × IsAt w.order y.reply.place f × (f.id ≡ y.id))
+  pub own : (y : Replied) (c : Cast) (at : ℕ) (op : Op) → IsIn w.replies y → IsIn w.casts c → c.id ≡ y.id → IsCalled w.history y.id at op → ((y.at ≡ at) × AnswersFirst start c.op) ⊎ ((f : First) × IsAt w.order y.reply.place f × (f.id ≡ y.id))
 
 -- The reads are exactly the finished operations that made no cast, with the places of their replies, in order of their answers.
 pub record ReadsRight (w : World) : Type 0 where

@@ -11,7 +11,7 @@ ghost use Rattle.reg_history.specs.History.{IsHistory};
 ghost use Rattle.reg_history.specs.Orders.{IsSerial, IsPointOrder};
 ghost use Rattle.reg_world.specs.declared.events.Event.{Event};
 ghost use Rattle.reg_world.specs.Keys.{IsWitness, ArePoints};
-ghost use Rattle.reg_world.specs.Laws.{FrontsAgree, FrontsRise, FrontsMade, UndeliveredAbove, NoRefusal, NothingPending, IsQuiescent};
+ghost use Rattle.reg_world.specs.Laws.{FrontsAgree, FrontsRise, FrontsMade, UndeliveredAbove, NoRefusal, AllAcknowledged, IsQuiescent};
 ghost use Rattle.reg_world.specs.Promises.{OrderIsLongest, OrderIsRight, FirstsRight, CastsRight, RepliesRight, ReadsRight};
 ghost use Rattle.reg_world.specs.World.{World, run_of, move_of, moved, fault_of, whole};
 
@@ -49,9 +49,9 @@ pub fn one_order()
 /// the finished operations that made no cast. Where nothing is pending, all is delivered, no process is busy and all
 /// copies are equal.
 pub fn one_memory()
-    ensures replies { (start : Op → ℕ → Start) (n registers : ℕ) (events : List Event) → KeepsLaws start → RepliesRight registers (whole start n registers events) }
+    ensures replies { (start : Op → ℕ → Start) (n registers : ℕ) (events : List Event) → KeepsLaws start → RepliesRight start registers (whole start n registers events) }
     ensures reads { (start : Op → ℕ → Start) (n registers : ℕ) (events : List Event) → KeepsLaws start → ReadsRight (whole start n registers events) }
-    ensures quiescent { (start : Op → ℕ → Start) (n registers : ℕ) (events : List Event) → KeepsLaws start → NothingPending n (whole start n registers events).nodes → IsQuiescent n (whole start n registers events).nodes }
+    ensures quiescent { (start : Op → ℕ → Start) (n registers : ℕ) (events : List Event) → KeepsLaws start → AllAcknowledged n (whole start n registers events).nodes → IsQuiescent n (whole start n registers events).nodes }
 {}
 
 /// No frame on a wire is refused by its receiver, and no clock is full.

@@ -7,7 +7,7 @@ ghost use Rattle.reg_process.specs.declared.steps.Reply.{Reply};
 ghost use Rattle.reg_world.specs.declared.events.Event.{Event};
 ghost use Rattle.reg_world.specs.Histories.{Grows, Makes};
 ghost use Rattle.reg_world.specs.Keys.{IsWitness, ArePoints};
-ghost use Rattle.reg_world.specs.Laws.{FrontsAgree, FrontsRise, FrontsMade, UndeliveredAbove, NothingPending, IsQuiescent};
+ghost use Rattle.reg_world.specs.Laws.{FrontsAgree, FrontsRise, FrontsMade, UndeliveredAbove, AllAcknowledged, IsQuiescent};
 ghost use Rattle.reg_world.specs.Promises.{OrderIsLongest, OrderIsRight, FirstsRight, RepliesRight, ReadsRight};
 ghost use Rattle.reg_world.specs.World.{run_of, whole};
 ghost use Rattle.reg_world.specs.Stations.{listed};
@@ -262,7 +262,7 @@ impl<F: FrontEnd, A: Allocator + Copy> World<F, A> {
         ensures value { result.now.entries ≡ self.now.history }
         ensures made { Makes self.now.accepted self.now.history }
         ensures entries { result.now.entries ≡ (run_in F.start self.now).history }
-        ensures replies { RepliesRight self.now.registers (run_in F.start self.now) }
+        ensures replies { RepliesRight F.start self.now.registers (run_in F.start self.now) }
     {
         self.book.history()
     }
@@ -301,7 +301,7 @@ impl<F: FrontEnd, A: Allocator + Copy> World<F, A> {
     /// A process, None where there is no such one. Nothing is claimed of it once the world has stopped.
     pub fn process(&self, process: u8) -> Option<&Process<F, A>>
         ensures process { MatchOption result (self.now.processes ≤ process) (λ p. IsProcess F.start self.now process p.now) }
-        ensures quiescent { NothingPending self.now.processes (run_in F.start self.now).nodes → IsQuiescent self.now.processes (run_in F.start self.now).nodes }
+        ensures quiescent { AllAcknowledged self.now.processes (run_in F.start self.now).nodes → IsQuiescent self.now.processes (run_in F.start self.now).nodes }
     {
         match self.stations.get(usize::from(process)) {
             Some(station) => Some(station.process()),

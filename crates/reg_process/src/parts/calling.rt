@@ -1,9 +1,9 @@
 //! The calls of a process: how operations start.
-ghost use Rattle.std.specs.Prelude.{◌≡◌, ◌<◌, ◌+◌, length, MatchResult, IfOk, OnOk, IfErr, cond, nat_le, Some, None, if◌then◌else◌};
+ghost use Rattle.std.specs.Prelude.{◌≡◌, ◌<◌, ◌+◌, length, MatchResult, IfOk, OnOk, IfErr, cond, nat_le, Some, None, true, if◌then◌else◌};
 ghost use Rattle.reg_base.specs.Memory.{after, register_of};
 ghost use Rattle.reg_process.specs.Process.{unsettled, look as look_of, called};
 ghost use Rattle.reg_process.specs.Process.{Held};
-ghost use Rattle.reg_process.specs.Faults.{Stops, StopsAt, early_fault, full_at};
+ghost use Rattle.reg_process.specs.Faults.{Stops, StopsAt, early_fault, full_at, is_cast};
 ghost use Rattle.reg_front.specs.Fronts.{MayStart};
 ghost use Rattle.reg_frames.specs.declared.bodies.Body.TheVariants.{Cast};
 ghost use Rattle.reg_base.specs.declared.limits.TheConstants.{LAST_TIME, MOST_OPERATIONS};
@@ -73,6 +73,7 @@ impl<A: Allocator + Copy> Core<A> {
         ensures goes { IfOk result (λ o. Goes (length self.old.peers) (called self.old op start) o.frames.items o.cast o.delivered.items o.reply self.new) }
         ensures room { OnOk result (full_at self.old.clock start ≡ None) }
         ensures fault { IfErr result (λ fault. StopsAt (full_at self.old.clock start) fault) }
+        ensures memory { IfErr result (λ _. is_cast start ≡ true) }
     {
         match start {
             Start::Cast => self.broadcast(op, true),

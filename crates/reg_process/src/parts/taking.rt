@@ -1,8 +1,8 @@
 //! The frames that a process takes.
-ghost use Rattle.std.specs.Prelude.{◌≡◌, ◌<◌, ◌+◌, ◌∷◌, [], length, MatchResult, IfOk, OnOk, OnErr, IfErr, max, not, nat_le, nat_lt, slice_index, slice_set, Some, None, if◌then◌else◌};
+ghost use Rattle.std.specs.Prelude.{◌≡◌, ◌<◌, ◌+◌, ◌∷◌, [], length, MatchResult, IfOk, OnOk, OnErr, IfErr, max, not, nat_le, nat_lt, slice_index, slice_set, Some, None, true, IsErrOf, if◌then◌else◌};
 ghost use Rattle.reg_base.specs.Memory.{after, register_of};
 ghost use Rattle.reg_process.specs.Process.{peer_at, seen_at, next_of, acknowledged, accepted, taken, time_of};
-ghost use Rattle.reg_process.specs.Faults.{Stops, StopsAt, early_body, full_by, is_out as is_out_of, is_peer as is_peer_of, frame_fault, FrameRefused};
+ghost use Rattle.reg_process.specs.Faults.{Stops, StopsAt, early_body, full_by, is_out as is_out_of, is_peer as is_peer_of, frame_fault, FrameRefused, is_numbered};
 ghost use Rattle.reg_frames.specs.declared.bodies.Body.TheVariants.{Cast, Ack};
 ghost use Rattle.reg_frames.specs.declared.bodies.Frame.TheVariants.{Numbered, Got};
 ghost use Rattle.reg_base.specs.declared.limits.TheConstants.{LAST_TIME, FRAME_NUMBERS};
@@ -95,6 +95,7 @@ impl<A: Allocator + Copy> Core<A> {
         ensures goes { IfOk result (λ o. Goes (length self.old.peers) (taken self.old from frame.now) o.frames.items o.cast o.delivered.items o.reply self.new) }
         ensures room { OnOk result (frame_fault self.old from frame.now ≡ None) }
         ensures fault { IfErr result (λ fault. FrameRefused (frame_fault self.old from frame.now) self.old fault self.new) }
+        ensures memory { IsErrOf result ProcessFault.OutOfMemory → is_numbered frame.now ≡ true }
     {
         match *frame {
             Frame::Numbered { number, body } => self.take_body(from, number, body),
@@ -109,6 +110,7 @@ impl<A: Allocator + Copy> Core<A> {
         ensures goes { IfOk result (λ o. Goes (length self.old.peers) (taken self.old from (Got count)) o.frames.items o.cast o.delivered.items o.reply self.new) }
         ensures room { OnOk result (frame_fault self.old from (Got count) ≡ None) }
         ensures fault { IfErr result (λ fault. FrameRefused (frame_fault self.old from (Got count)) self.old fault self.new) }
+        ensures ahead { IfErr result (λ fault. fault ≡ ProcessFault.Ahead) }
     {
         if !self.acknowledge(from, count) {
             return Err(ProcessFault::Ahead);

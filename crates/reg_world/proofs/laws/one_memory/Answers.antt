@@ -1,4 +1,4 @@
-use Rattle.reg_world.proofs.Promised.{replies_right, settled}
+use Rattle.reg_world.proofs.Promised.{replies_right, rests}
 use Rattle.reg_world.proofs.Arrivals.{reads_right}
 use Rattle.reg_world.proofs.laws.one_memory.Goals as goal
 
@@ -9,4 +9,4 @@ pub returns-clause-reads : goal.returns-clause-reads
 returns-clause-reads c = λ start n registers events laws. reads_right start n registers laws events
 
 pub returns-clause-quiescent : goal.returns-clause-quiescent
-returns-clause-quiescent c = λ start n registers events laws. settled start n registers laws events
+returns-clause-quiescent c = λ start n registers events laws. rests start n registers laws events
