@@ -39,28 +39,34 @@ pub alike_same : (start : Op → ℕ → Start) (u v : Made) → u ≡ v → Are
 alike_same start u v e = record {
   processes = ap (λ (w : Made). w.processes) e;
   registers = ap (λ (w : Made). w.registers) e;
+  history = ap (λ (w : Made). w.history) e;
   count = ap (λ (w : Made). length (run_in start w).accepted) e;
   run = ap (λ (w : Made). unlisted (run_in start w)) e;
 }
 
 pub alike_back : (start : Op → ℕ → Start) (u v : Made) → AreAlike start u v → AreAlike start v u
-alike_back start u v a = record { processes = sym a.processes; registers = sym a.registers; count = sym a.count; run = sym a.run }
+alike_back start u v a = record { processes = sym a.processes; registers = sym a.registers; history = sym a.history; count = sym a.count; run = sym a.run }
 
 -- the run with one more event
 next_run : (start : Op → ℕ → Start) (w : Made) (e : Event) (m : ℕ × Step) → move_of w.processes w.registers (run_in start w) e ≡ Some m → run_in start (with_event start w e) ≡ moved start (run_in start w) e (Some m)
 next_run start w e m h = one_more start w.processes w.registers w.accepted e ∙ ap (moved start (run_in start w) e) h
+
+next_alike : (start : Op → ℕ → Start) (u v : Made) (e f : Event) (m : ℕ × Step) → AreAlike start u v
+    → move_of u.processes u.registers (run_in start u) e ≡ Some m → move_of v.processes v.registers (run_in start v) f ≡ Some m → unlisted (run_in start (with_event start u e)) ≡ unlisted (run_in start (with_event start v f))
+next_alike start u v e f m a g h =
+    ap unlisted (next_run start u e m g) ∙ (unlisted_moved start (run_in start u) e m ∙ (ap₂ (λ (k : ℕ) (w : World). after_move start k m w) a.count a.run
+    ∙ (sym (unlisted_moved start (run_in start v) f m) ∙ sym (ap unlisted (next_run start v f m h)))))
 
 pub alike_next : (start : Op → ℕ → Start) (u v : Made) (e f : Event) (m : ℕ × Step) → AreAlike start u v
     → move_of u.processes u.registers (run_in start u) e ≡ Some m → move_of v.processes v.registers (run_in start v) f ≡ Some m → AreAlike start (with_event start u e) (with_event start v f)
 alike_next start u v e f m a g h = record {
   processes = a.processes;
   registers = a.registers;
+  history = ap (λ (w : World). w.history) (next_alike start u v e f m a g h);
   count =
       ap (λ (w : World). length w.accepted) (next_run start u e m g) ∙ (count_moved start (run_in start u) e m ∙ (ap (λ (k : ℕ). k + 1) a.count
       ∙ (sym (count_moved start (run_in start v) f m) ∙ sym (ap (λ (w : World). length w.accepted) (next_run start v f m h)))));
-  run =
-      ap unlisted (next_run start u e m g) ∙ (unlisted_moved start (run_in start u) e m ∙ (ap₂ (λ (k : ℕ) (w : World). after_move start k m w) a.count a.run
-      ∙ (sym (unlisted_moved start (run_in start v) f m) ∙ sym (ap unlisted (next_run start v f m h)))));
+  run = next_alike start u v e f m a g h;
 }
 
 -- alike runs accept the same events

@@ -60,5 +60,6 @@ unlisted w = record w { accepted = [] }
 pub record AreAlike (start : Op → ℕ → Start) (u v : Made) : Type 0 where
   pub processes : u.processes ≡ v.processes
   pub registers : u.registers ≡ v.registers
+  pub history : u.history ≡ v.history
   pub count : length (run_in start u).accepted ≡ length (run_in start v).accepted
   pub run : unlisted (run_in start u) ≡ unlisted (run_in start v)

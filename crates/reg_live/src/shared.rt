@@ -1,0 +1,106 @@
+//! What all threads of a cluster share.
+ghost use Rattle.std.specs.Prelude.{◌≡◌, ◌≤◌, vec_len, IfOk, IfErr};
+ghost use Rattle.reg_live.specs.Stations.{IsRefusal};
+
+use crate::faults::LiveFault;
+use crate::gates::Gate;
+use crate::journals::Journal;
+use crate::stations::{Section, Station};
+use reg_base::Shape;
+use reg_front::FrontEnd;
+use reg_process::Step;
+use std::alloc::{AllocError, Global};
+use std::sync::{Condvar, Mutex, MutexGuard, Wait};
+
+/// A station under its lock, and what wakes the caller that waits for its answer.
+#[derive(Drop)]
+pub(crate) struct Desk<F: FrontEnd> {
+    pub(crate) station: Mutex<Station<F>>,
+    pub(crate) changed: Condvar,
+}
+
+/// What all threads of a cluster share.
+#[derive(Drop)]
+pub(crate) struct Shared<F: FrontEnd, G> {
+    pub(crate) desks: Vec<Desk<F>>,
+    pub(crate) journal: Mutex<Journal>,
+    gate: G,
+    pub(crate) shape: Shape,
+    ghost one_each: { vec_len desks ≡ shape.processes },
+}
+
+/// A desk for each process.
+fn new_desks<F: FrontEnd>(alloc: Global, shape: Shape) -> Result<Vec<Desk<F>>, AllocError>
+    ensures { IfOk result (λ v. vec_len v ≡ shape.processes) }
+{
+    let mut desks = Vec::new(alloc);
+    for me in 0..shape.processes() {
+        desks.push(Desk {
+            station: Mutex::new(Station::new(alloc, shape, me as u8)?),
+            changed: Condvar::new(),
+        })?;
+    }
+    Ok(desks)
+}
+
+/// Stations that did nothing yet.
+pub(crate) fn new_shared<F: FrontEnd, G: Drop>(
+    alloc: Global,
+    shape: Shape,
+    gate: G,
+) -> Result<Shared<F, G>, AllocError>
+    ensures { IfOk result (λ s. s.shape ≡ shape) }
+{
+    let desks = new_desks(alloc, shape)?;
+    Ok(Shared {
+        desks,
+        journal: Mutex::new(Journal::new(alloc)),
+        gate,
+        shape,
+    })
+}
+
+/// Whether a section gave an answer.
+fn is_answered(made: &Result<Section, LiveFault>) -> bool {
+    match made {
+        Ok(section) => section.reply.is_some(),
+        Err(_) => false,
+    }
+}
+
+impl<F: FrontEnd, G: Gate> Shared<F, G> {
+    /// One section of the station that is lent, whose lock is then let go. The caller that waits there is woken by an answer.
+    /// Where the station has stopped, or the journal has no place left, all callers that wait are.
+    pub(crate) fn section<R: Wait>(
+        &self,
+        rt: &R,
+        desk: &Desk<F>,
+        station: MutexGuard<'_, Station<F>>,
+        front: u64,
+        step: &Step,
+    ) -> Result<Section, LiveFault>
+        ensures front { IfOk result (λ section. front ≤ section.place) }
+        ensures refusal { IfErr result (λ fault. IsRefusal self.now.shape.registers front step.now fault) }
+    {
+        let mut station = station;
+        let registers = self.shape.registers();
+        let made = station.section(rt, &self.journal, &self.gate, registers, front, step);
+        let ends = station.ends_waiting();
+        drop(station);
+        if is_answered(&made) {
+            desk.changed.notify_all();
+        }
+        if ends {
+            self.end_waiting(rt);
+        }
+        made
+    }
+
+    /// Lets no caller wait any more: one that waits at a station, or comes to wait there later, is told that it failed.
+    fn end_waiting<R: Wait>(&self, rt: &R) {
+        for desk in &self.desks {
+            desk.station.lock(rt).end_waiting();
+            desk.changed.notify_all();
+        }
+    }
+}
