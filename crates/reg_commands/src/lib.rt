@@ -13,4 +13,6 @@ mod verdicts;
 
 pub use command::Command;
 pub use faults::Fault;
-pub use running::run_text;
+pub use playing::read_workload;
+pub use reporting::{report_run, report_run_with_points};
+pub use running::{read_input, run_text};

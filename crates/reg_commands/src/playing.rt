@@ -30,7 +30,16 @@ fn workload_in<A: Allocator + Copy>(
     }
 }
 
-fn read<A: Allocator + Copy>(alloc: A, global: Global, text: &str) -> Result<Workload<A>, Fault>
+/// The workload that a document says.
+///
+/// # Errors
+///
+/// `Workload` with the first fault of the document, and `OutOfMemory`.
+pub fn read_workload<A: Allocator + Copy>(
+    alloc: A,
+    global: Global,
+    text: &str,
+) -> Result<Workload<A>, Fault>
     ensures read { IfOk result (λ w. Holds text.now w) }
     ensures why { IfErr result (λ f. (fair : Bool) → Blames (Command.Play fair) f text.now) }
     ensures kind { IfErr result (λ f. (f ≢ Fault.Output) × (f ≢ Fault.Unread)) }
@@ -113,7 +122,7 @@ fn played<A: Allocator + Copy>(
     ensures why { IfErr result (λ f. Blames (Command.Play fair) f text.now) }
     ensures kind { IfErr result (λ f. (f ≢ Fault.Output) × (f ≢ Fault.Unread)) }
 {
-    let work = read(alloc, global, text)?;
+    let work = read_workload(alloc, global, text)?;
     play_workload(alloc, work, fair)
 }
 

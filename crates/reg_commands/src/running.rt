@@ -2,6 +2,7 @@
 ghost use Rattle.std.specs.Prelude.{◌≡◌, ◌≢◌, ◌≤◌, ◌⊎◌, IfOk, IfErr, OnOk, IfSome, true, false, length, string_bytes};
 ghost use Rattle.reg_base.specs.declared.limits.TheConstants.{LONGEST_INPUT};
 ghost use Rattle.reg_commands.specs.Answers.{Answers, Blames};
+ghost use Rattle.reg_commands.specs.declared.command.Command.{Command as AnyCommand};
 ghost use Rattle.reg_commands.specs.declared.faults.Fault.{Fault};
 
 use crate::checking::check;
@@ -14,14 +15,15 @@ use reg_base::limits::LONGEST_INPUT;
 use std::alloc::{Allocator, Global};
 use std::io::{Read, Write};
 
-fn read<A: Allocator, R: Read>(
-    alloc: A,
-    command: Command,
-    reader: &mut R,
-) -> Result<String<A>, Fault>
+/// The whole input as text.
+///
+/// # Errors
+///
+/// `Unread` where a read failed, and then no further one is made; `TooLong`, `NotText` and `OutOfMemory`.
+pub fn read_input<A: Allocator, R: Read>(alloc: A, reader: &mut R) -> Result<String<A>, Fault>
     ensures ok { IfOk result (λ s. IfSome (R.remaining reader.old) (λ xs. string_bytes s ≡ xs)) }
     ensures within { OnOk result (IfSome (R.remaining reader.old) (λ xs. length xs ≤ LONGEST_INPUT)) }
-    ensures why { IfErr result (λ f. IfSome (R.remaining reader.old) (Blames command f)) }
+    ensures why { IfErr result (λ f. IfSome (R.remaining reader.old) (λ xs. (command : AnyCommand) → Blames command f xs)) }
     ensures kind { IfErr result (λ f. f ≢ Fault.Output) }
 {
     match read_text(alloc, reader, LONGEST_INPUT) {
@@ -69,7 +71,7 @@ fn obey<A: Allocator + Copy, R: Read, W: Write>(
     ensures why { IfErr result (λ f. IfSome (R.remaining reader.old) (Blames command f)) }
     ensures silent { IfErr result (λ f. f ≢ Fault.Output → writer.new ≡ writer.old) }
 {
-    let text = read(alloc, command, reader)?;
+    let text = read_input(alloc, reader)?;
     answer(alloc, global, command, text.as_str(), writer)
 }
 

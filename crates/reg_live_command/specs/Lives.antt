@@ -1,0 +1,35 @@
+-- What is written once threads have performed the scripts of a workload.
+use Rattle.std.specs.Prelude.{ℕ, List, Option}
+use Rattle.std.specs.Io.KnownBytes.{Appends}
+use Rattle.reg_base.specs.declared.memory.Op.{Op}
+use Rattle.reg_front.specs.declared.starts.Start.{Start}
+use Rattle.reg_history.specs.declared.entries.Point.{Point}
+use Rattle.reg_history.specs.Reports.{Contents, report_text}
+use Rattle.reg_world.specs.Worlds.{Made}
+use Rattle.reg_toml.specs.Loads.{Load}
+use Rattle.reg_workload.specs.Schedules.{Plan}
+use Rattle.reg_live.specs.declared.entries.Receipt.{Receipt}
+use Rattle.reg_live.specs.Passes.{IsLived}
+use Rattle.reg_commands.specs.Replays.{start_of, Shows, PointsOf}
+use Rattle.reg_commands.specs.Plays.{Holds, plan_of}
+
+-- Threads made a run of the workload's shape, of which each process's finished operations are just those that its thread
+-- was answered, and this is its report: its history and its witness, and points that are so.
+pub record ShowsLive (start : Op → ℕ → Start) (work : Load) (AreSo : Plan → Option (List Point) → Type 0) (r : Contents) : Type 0 where
+  pub made : Made
+  pub answered : List (List Receipt)
+  pub lived : IsLived start work.shape answered made
+  pub shows : Shows start (plan_of work made) r
+  pub points : AreSo (plan_of work made) r.points
+
+-- with points where the workload's front end has some
+abbrev pub IsReportOfLive : Load → Contents → Type 0
+IsReportOfLive work r = ShowsLive (start_of work.front) work (PointsOf work.front) r
+
+-- The text is a document that says a workload, and the report of what threads made of it was written.
+pub record Lives (old new : Option (List ℕ)) (text : List ℕ) : Type 0 where
+  pub work : Load
+  pub holds : Holds text work
+  pub report : Contents
+  pub shown : IsReportOfLive work report
+  pub written : Appends old new (report_text report)

@@ -1,0 +1,65 @@
+//! Why the threads' scripts give no report.
+use reg_commands::Fault;
+use reg_live::{CloseFault, LiveFault, RunStop};
+use thiserror::Error;
+
+/// Why the threads' scripts give no report. As text, the line of it on standard error.
+#[derive(Clone, Copy, Debug, PartialEq, Eq, Error)]
+pub enum Stop {
+    /// The input is refused, the output failed, or there was no memory.
+    #[error("{fault}")]
+    Command { fault: Fault },
+    /// The station of a process has stopped, or no answer can come any more.
+    #[error("process {process}: failed")]
+    Failed { process: u8 },
+    /// A process calls an operation on a register that the cluster doesn't have.
+    #[error("process {process}: no register")]
+    NoRegister { process: u8 },
+    /// The journal hasn't come as far as a process asked.
+    #[error("process {process}: behind {length}")]
+    Behind { process: u8, length: u64 },
+    /// The journal or a process has all that it may have.
+    #[error("process {process}: full")]
+    Full { process: u8 },
+    /// From this place on, what the stations wrote down is no run.
+    #[error("close: unfaithful {place}")]
+    Unfaithful { place: u64 },
+    /// The answers that a process was given aren't those of the run.
+    #[error("close: mismatch {process}")]
+    Mismatch { process: u8 },
+}
+
+/// The refusal of a process's pass.
+fn refused(process: u8, fault: LiveFault) -> Stop {
+    match fault {
+        LiveFault::Failed => Stop::Failed { process },
+        LiveFault::NoRegister => Stop::NoRegister { process },
+        LiveFault::Behind { length } => Stop::Behind { process, length },
+        LiveFault::Full => Stop::Full { process },
+        LiveFault::OutOfMemory => Stop::Command {
+            fault: Fault::OutOfMemory,
+        },
+    }
+}
+
+/// The refusal of what the stations wrote down.
+fn unclosed(fault: CloseFault) -> Stop {
+    match fault {
+        CloseFault::Unfaithful { place } => Stop::Unfaithful { place },
+        CloseFault::Mismatch { process } => Stop::Mismatch { process },
+        CloseFault::OutOfMemory => Stop::Command {
+            fault: Fault::OutOfMemory,
+        },
+    }
+}
+
+/// Why the threads gave no run.
+pub(crate) fn stopped(stop: RunStop) -> Stop {
+    match stop {
+        RunStop::Pass { process, fault } => refused(process, fault),
+        RunStop::Close { fault } => unclosed(fault),
+        RunStop::OutOfMemory => Stop::Command {
+            fault: Fault::OutOfMemory,
+        },
+    }
+}

@@ -1,0 +1,8 @@
+//! The command that has threads perform the scripts of a workload, over any reader and writer.
+#![tactic(auto)]
+
+mod faults;
+mod performing;
+
+pub use faults::Stop;
+pub use performing::run_live;

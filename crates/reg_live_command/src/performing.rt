@@ -1,0 +1,148 @@
+//! Scripts performed by threads, and the report of what they made.
+ghost use Rattle.std.specs.Prelude.{◌≡◌, ◌≢◌, ◌≤◌, IfOk, IfErr, OnOk, IfSome};
+ghost use Rattle.std.specs.Io.KnownBytes.{Appends};
+ghost use Rattle.reg_history.specs.Reports.{report_text};
+ghost use Rattle.reg_toml.specs.Loads.{Load};
+ghost use Rattle.reg_commands.specs.Plays.{Holds, HasNoPoints};
+ghost use Rattle.reg_commands.specs.Replays.{ShowsPoints};
+ghost use Rattle.reg_live_command.specs.declared.faults.Stop.{Stop};
+ghost use Rattle.reg_live_command.specs.declared.faults.Stop.TheVariants.{Command};
+ghost use Rattle.reg_live_command.specs.Lives.{ShowsLive, IsReportOfLive, Lives};
+ghost use Rattle.reg_commands.specs.declared.faults.Fault.TheVariants.{Output};
+
+use crate::faults::{Stop, stopped};
+use reg_commands::{Fault, read_input, read_workload, report_run, report_run_with_points};
+use reg_front::{Front, FrontEnd, Linear, LocalRead, LocalWrite, RealTime};
+use reg_history::{Report, write_report};
+use reg_live::run_scripts;
+use reg_workload::Workload;
+use std::alloc::Global;
+use std::io::{Read, Write};
+use std::sync::Wait;
+use std::thread::Threads;
+use std::time::Clock;
+
+/// What the commands tell, told of threads.
+fn told(fault: Fault) -> Stop
+    ensures { result ≡ Command fault }
+{
+    Stop::Command { fault }
+}
+
+/// The report of what threads made of a workload, with no points.
+fn report_of<
+    F: FrontEnd + Send + Sync + 'static,
+    R: Threads + Wait + Clock + Copy + Send + Sync + 'static,
+>(rt: R, alloc: Global, work: Workload) -> Result<Report, Stop>
+    ensures shows { IfOk result (λ r. ShowsLive F.start work HasNoPoints r) }
+{
+    match run_scripts::<F, R>(rt, alloc, work.shape, work.scripts) {
+        Ok(closed) => report_run(alloc, work.front, work.names, closed.world).map_err(told),
+        Err(stop) => Err(stopped(stop)),
+    }
+}
+
+/// The report of what threads made of a workload, with its points.
+fn report_with_points<
+    F: RealTime + Send + Sync + 'static,
+    R: Threads + Wait + Clock + Copy + Send + Sync + 'static,
+>(rt: R, alloc: Global, work: Workload) -> Result<Report, Stop>
+    ensures shows { IfOk result (λ r. ShowsLive F.start work (ShowsPoints F.start) r) }
+{
+    match run_scripts::<F, R>(rt, alloc, work.shape, work.scripts) {
+        Ok(closed) => {
+            report_run_with_points(alloc, work.front, work.names, closed.world).map_err(told)
+        }
+        Err(stop) => Err(stopped(stop)),
+    }
+}
+
+/// The report of what threads made of a workload, by its front end.
+fn perform<R: Threads + Wait + Clock + Copy + Send + Sync + 'static>(
+    rt: R,
+    alloc: Global,
+    work: Workload,
+) -> Result<Report, Stop>
+    ensures { IfOk result (λ r. IsReportOfLive work r) }
+{
+    match work.front {
+        Front::Linear => report_with_points::<Linear, R>(rt, alloc, work),
+        Front::LocalRead => report_of::<LocalRead, R>(rt, alloc, work),
+        Front::LocalWrite => report_of::<LocalWrite, R>(rt, alloc, work),
+    }
+}
+
+/// The report of what threads made of the workload that a document says.
+fn performed<R: Threads + Wait + Clock + Copy + Send + Sync + 'static>(
+    rt: R,
+    alloc: Global,
+    text: &str,
+) -> Result<Report, Stop>
+    ensures { IfOk result (λ r. (work : Load) × Holds text.now work × IsReportOfLive work r) }
+{
+    let work = read_workload(alloc, alloc, text).map_err(told)?;
+    perform(rt, alloc, work)
+}
+
+/// Writes a report.
+fn show<W: Write>(report: &Report, writer: &mut W) -> Result<(), Stop>
+    ensures written { OnOk result (Appends (W.contents writer.old) (W.contents writer.new) (report_text report.now)) }
+    ensures output { IfErr result (λ stop. stop ≡ Command Output) }
+{
+    if write_report(writer, report).is_err() || writer.flush().is_err() {
+        return Err(told(Fault::Output));
+    }
+    Ok(())
+}
+
+/// Has threads perform the workload that a document says, and writes the report.
+fn perform_text<R: Threads + Wait + Clock + Copy + Send + Sync + 'static, W: Write>(
+    rt: R,
+    alloc: Global,
+    text: &str,
+    writer: &mut W,
+) -> Result<(), Stop>
+    ensures lives { IfOk result (λ _. Lives (W.contents writer.old) (W.contents writer.new) text.now) }
+    ensures silent { IfErr result (λ stop. stop ≢ Command Output → writer.new ≡ writer.old) }
+{
+    let report = performed(rt, alloc, text)?;
+    show(&report, writer)
+}
+
+/// Reads a workload, has threads perform it, and writes the report.
+fn obey<R: Threads + Wait + Clock + Copy + Send + Sync + 'static, I: Read, W: Write>(
+    rt: R,
+    alloc: Global,
+    reader: &mut I,
+    writer: &mut W,
+) -> Result<(), Stop>
+    ensures lives { IfOk result (λ _. IfSome (I.remaining reader.old) (Lives (W.contents writer.old) (W.contents writer.new))) }
+    ensures silent { IfErr result (λ stop. stop ≢ Command Output → writer.new ≡ writer.old) }
+{
+    let text = read_input(alloc, reader).map_err(told)?;
+    perform_text(rt, alloc, text.as_str(), writer)
+}
+
+/// Reads a workload, has its scripts performed by threads, and writes the report of the run that they made: one thread for
+/// each script, one for the mail of each process, and one for ticks, over an honest road. Its seed, odds and budget have no
+/// part. The answer is the status: 0, or 1 where something was refused, with one line on `errors`. That `errors` fails
+/// changes no status. All threads have ended by then.
+pub fn run_live<
+    R: Threads + Wait + Clock + Copy + Send + Sync + 'static,
+    I: Read,
+    W: Write,
+    E: Write,
+>(rt: R, alloc: Global, reader: &mut I, writer: &mut W, errors: &mut E) -> u8
+    ensures range { result ≤ 1 }
+    ensures lives { result ≡ 0 → IfSome (I.remaining reader.old) (Lives (W.contents writer.old) (W.contents writer.new)) }
+    ensures silent { result ≡ 1 → (stop : Stop) × (stop ≢ Command Output → writer.new ≡ writer.old) }
+    ensures quiet { result ≡ 0 → errors.new ≡ errors.old }
+{
+    match obey(rt, alloc, reader, writer) {
+        Ok(()) => 0,
+        Err(stop) => {
+            let _ = writeln!(errors, "{stop}");
+            1
+        }
+    }
+}
