@@ -1,10 +1,14 @@
 //! The program: the words of its command line, and then the command over the standard streams.
 ghost use Rattle.std.specs.Prelude.{◌≡◌, ◌≤◌, IfOk, MatchResult};
 
-use crate::words::{WordsFault, choose};
+use crate::words::{Asked, WordsFault, choose};
 use reg_commands::run_text;
+use reg_live_command::run_live;
 use std::io::{BufWriter, ErrorKind, Write};
 use std::rt::Env;
+use std::sync::Wait;
+use std::thread::Threads;
+use std::time::Clock;
 use std::{env, io};
 
 /// The words of the command line.
@@ -22,26 +26,36 @@ fn words<R: AllocGlobal + Env>(rt: &R) -> Result<Vec<String>, WordsFault> {
 /// Runs the command that the words ask for, and gives its status.
 fn obey_words<R, E>(rt: &R, errors: &mut E) -> Result<u8, WordsFault>
 where
-    R: AllocGlobal + Env + Input + Print,
+    R: AllocGlobal + Env + Input + Print + Threads + Wait + Clock + Copy + Send + Sync + 'static,
     E: Write,
     ensures range { IfOk result (λ status. status ≤ 1) }
     ensures quiet { MatchResult result (λ status. status ≡ 0 → errors.new ≡ errors.old) (λ _. errors.new ≡ errors.old) }
 {
     let words = words(rt)?;
-    let command = choose(rt.alloc(), words.as_slice())?;
+    let asked = choose(rt.alloc(), words.as_slice())?;
     let mut reader = rt.reader();
     let Ok(mut writer) = BufWriter::new(rt.alloc(), io::writer(rt)) else {
         return Err(WordsFault::OutOfMemory);
     };
     let (alloc, global) = (rt.alloc(), rt.alloc());
-    Ok(run_text(alloc, global, command, &mut reader, &mut writer, errors))
+    match asked {
+        Asked::Live => Ok(run_live(*rt, global, &mut reader, &mut writer, errors)),
+        Asked::Text { command } => Ok(run_text(
+            alloc,
+            global,
+            command,
+            &mut reader,
+            &mut writer,
+            errors,
+        )),
+    }
 }
 
 /// Does what the words of the command line ask for, and gives the exit status: 0, or 1 where something was refused or
 /// a check said no, or 2 for the command line. Every line of a fault goes to `errors`.
 pub fn run_program<R, E>(rt: &R, errors: &mut E) -> u8
 where
-    R: AllocGlobal + Env + Input + Print,
+    R: AllocGlobal + Env + Input + Print + Threads + Wait + Clock + Copy + Send + Sync + 'static,
     E: Write,
     ensures range { result ≤ 2 }
     ensures quiet { result ≡ 0 → errors.new ≡ errors.old }

@@ -9,6 +9,15 @@ use clap::{Arg, ArgAction};
 use reg_commands::Command;
 use std::alloc::{AllocError, Global};
 
+/// What the words ask for.
+#[derive(Clone, Copy, Debug, PartialEq, Eq)]
+pub enum Asked {
+    /// A command over the text on the input.
+    Text { command: Command },
+    /// The scripts of the workload on the input, performed by threads.
+    Live,
+}
+
 /// Why the words ask for nothing.
 #[derive(Clone, Copy, Debug, PartialEq, Eq)]
 pub enum WordsFault {
@@ -45,24 +54,27 @@ fn command_line<'a>(alloc: Global) -> Result<clap::Command<'a>, AllocError> {
     clap::Command::new(alloc, "awreg")
         .subcommand(clap::Command::new(alloc, "replay"))?
         .subcommand(clap::Command::new(alloc, "check"))?
+        .subcommand(clap::Command::new(alloc, "live"))?
         .subcommand(clap::Command::new(alloc, "play").arg(fair)?)
 }
 
 /// What the words ask for. The first word is the program's name. Help, version texts, a line without a command and
 /// every other refusal are `CommandLine`, and so is a word `--`.
-pub fn choose<'a>(alloc: Global, words: &'a [String]) -> Result<Command, WordsFault> {
+pub fn choose<'a>(alloc: Global, words: &'a [String]) -> Result<Asked, WordsFault> {
     for word in words {
         if word.as_str() == "--" {
             return Err(WordsFault::CommandLine);
         }
     }
     let matches = command_line::<'a>(alloc)?.try_get_matches_from(words)?;
-    match matches.subcommand() {
-        Some(("replay", _)) => Ok(Command::Replay),
-        Some(("check", _)) => Ok(Command::Check),
-        Some(("play", play)) => Ok(Command::Play {
+    let command = match matches.subcommand() {
+        Some(("live", _)) => return Ok(Asked::Live),
+        Some(("replay", _)) => Command::Replay,
+        Some(("check", _)) => Command::Check,
+        Some(("play", play)) => Command::Play {
             fair: play.get_flag("fair"),
-        }),
-        _ => Err(WordsFault::CommandLine),
-    }
+        },
+        _ => return Err(WordsFault::CommandLine),
+    };
+    Ok(Asked::Text { command })
 }

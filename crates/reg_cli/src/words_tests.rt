@@ -1,5 +1,5 @@
 //! Which command lines are taken.
-use crate::{Command, WordsFault, choose};
+use crate::{Asked, Command, WordsFault, choose};
 use std::alloc::Global;
 use std::process::Abort;
 
@@ -23,8 +23,11 @@ fn exactly_the_command_lines_are_taken(rt: HostRuntime) {
     ];
     for (line, command) in taken {
         let words = words_of(&rt, alloc, line);
-        assert_eq!(rt; choose(alloc, words.as_slice()), Ok(command), "{line}");
+        let asked = Ok(Asked::Text { command });
+        assert_eq!(rt; choose(alloc, words.as_slice()), asked, "{line}");
     }
+    let words = words_of(&rt, alloc, "live");
+    assert_eq!(rt; choose(alloc, words.as_slice()), Ok(Asked::Live));
     let refused = [
         "",
         "help",
@@ -57,7 +60,9 @@ fn exactly_the_command_lines_are_taken(rt: HostRuntime) {
         "play -f",
         "play --",
         "play --help",
-        "live",
+        "live x",
+        "live --fair",
+        "live --",
     ];
     for line in refused {
         let words = words_of(&rt, alloc, line);
