@@ -1,4 +1,6 @@
 //! Why the threads' scripts give no report.
+ghost use Rattle.reg_live_command.specs.Lives.{IsOfThreads};
+
 use reg_commands::Fault;
 use reg_live::{CloseFault, LiveFault, RunStop};
 use thiserror::Error;
@@ -30,7 +32,9 @@ pub enum Stop {
 }
 
 /// The refusal of a process's pass.
-fn refused(process: u8, fault: LiveFault) -> Stop {
+fn refused(process: u8, fault: LiveFault) -> Stop
+    ensures { IsOfThreads result }
+{
     match fault {
         LiveFault::Failed => Stop::Failed { process },
         LiveFault::NoRegister => Stop::NoRegister { process },
@@ -43,7 +47,9 @@ fn refused(process: u8, fault: LiveFault) -> Stop {
 }
 
 /// The refusal of what the stations wrote down.
-fn unclosed(fault: CloseFault) -> Stop {
+fn unclosed(fault: CloseFault) -> Stop
+    ensures { IsOfThreads result }
+{
     match fault {
         CloseFault::Unfaithful { place } => Stop::Unfaithful { place },
         CloseFault::Mismatch { process } => Stop::Mismatch { process },
@@ -54,7 +60,9 @@ fn unclosed(fault: CloseFault) -> Stop {
 }
 
 /// Why the threads gave no run.
-pub(crate) fn stopped(stop: RunStop) -> Stop {
+pub(crate) fn stopped(stop: RunStop) -> Stop
+    ensures { IsOfThreads result }
+{
     match stop {
         RunStop::Pass { process, fault } => refused(process, fault),
         RunStop::Close { fault } => unclosed(fault),

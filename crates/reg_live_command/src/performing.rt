@@ -7,7 +7,7 @@ ghost use Rattle.reg_commands.specs.Plays.{Holds, HasNoPoints};
 ghost use Rattle.reg_commands.specs.Replays.{ShowsPoints};
 ghost use Rattle.reg_live_command.specs.declared.faults.Stop.{Stop};
 ghost use Rattle.reg_live_command.specs.declared.faults.Stop.TheVariants.{Command};
-ghost use Rattle.reg_live_command.specs.Lives.{ShowsLive, IsReportOfLive, Lives};
+ghost use Rattle.reg_live_command.specs.Lives.{ShowsLive, IsReportOfLive, Lives, IsOfThreads, BlamesStop};
 ghost use Rattle.reg_commands.specs.declared.faults.Fault.TheVariants.{Output};
 
 use crate::faults::{Stop, stopped};
@@ -35,6 +35,7 @@ fn report_of<
     R: Threads + Wait + Clock + Copy + Send + Sync + 'static,
 >(rt: R, alloc: Global, work: Workload) -> Result<Report, Stop>
     ensures shows { IfOk result (λ r. ShowsLive F.start work HasNoPoints r) }
+    ensures why { IfErr result (λ stop. IsOfThreads stop) }
 {
     match run_scripts::<F, R>(rt, alloc, work.shape, work.scripts) {
         Ok(closed) => report_run(alloc, work.front, work.names, closed.world).map_err(told),
@@ -48,6 +49,7 @@ fn report_with_points<
     R: Threads + Wait + Clock + Copy + Send + Sync + 'static,
 >(rt: R, alloc: Global, work: Workload) -> Result<Report, Stop>
     ensures shows { IfOk result (λ r. ShowsLive F.start work (ShowsPoints F.start) r) }
+    ensures why { IfErr result (λ stop. IsOfThreads stop) }
 {
     match run_scripts::<F, R>(rt, alloc, work.shape, work.scripts) {
         Ok(closed) => {
@@ -63,7 +65,8 @@ fn perform<R: Threads + Wait + Clock + Copy + Send + Sync + 'static>(
     alloc: Global,
     work: Workload,
 ) -> Result<Report, Stop>
-    ensures { IfOk result (λ r. IsReportOfLive work r) }
+    ensures shows { IfOk result (λ r. IsReportOfLive work r) }
+    ensures why { IfErr result (λ stop. IsOfThreads stop) }
 {
     match work.front {
         Front::Linear => report_with_points::<Linear, R>(rt, alloc, work),
@@ -78,7 +81,8 @@ fn performed<R: Threads + Wait + Clock + Copy + Send + Sync + 'static>(
     alloc: Global,
     text: &str,
 ) -> Result<Report, Stop>
-    ensures { IfOk result (λ r. (work : Load) × Holds text.now work × IsReportOfLive work r) }
+    ensures shows { IfOk result (λ r. (work : Load) × Holds text.now work × IsReportOfLive work r) }
+    ensures why { IfErr result (λ stop. BlamesStop stop text.now) }
 {
     let work = read_workload(alloc, alloc, text).map_err(told)?;
     perform(rt, alloc, work)
@@ -103,6 +107,7 @@ fn perform_text<R: Threads + Wait + Clock + Copy + Send + Sync + 'static, W: Wri
     writer: &mut W,
 ) -> Result<(), Stop>
     ensures lives { IfOk result (λ _. Lives (W.contents writer.old) (W.contents writer.new) text.now) }
+    ensures why { IfErr result (λ stop. BlamesStop stop text.now) }
     ensures silent { IfErr result (λ stop. stop ≢ Command Output → writer.new ≡ writer.old) }
 {
     let report = performed(rt, alloc, text)?;
@@ -117,6 +122,7 @@ fn obey<R: Threads + Wait + Clock + Copy + Send + Sync + 'static, I: Read, W: Wr
     writer: &mut W,
 ) -> Result<(), Stop>
     ensures lives { IfOk result (λ _. IfSome (I.remaining reader.old) (Lives (W.contents writer.old) (W.contents writer.new))) }
+    ensures why { IfErr result (λ stop. IfSome (I.remaining reader.old) (BlamesStop stop)) }
     ensures silent { IfErr result (λ stop. stop ≢ Command Output → writer.new ≡ writer.old) }
 {
     let text = read_input(alloc, reader).map_err(told)?;
@@ -135,7 +141,7 @@ pub fn run_live<
 >(rt: R, alloc: Global, reader: &mut I, writer: &mut W, errors: &mut E) -> u8
     ensures range { result ≤ 1 }
     ensures lives { result ≡ 0 → IfSome (I.remaining reader.old) (Lives (W.contents writer.old) (W.contents writer.new)) }
-    ensures silent { result ≡ 1 → (stop : Stop) × (stop ≢ Command Output → writer.new ≡ writer.old) }
+    ensures refused { result ≡ 1 → (stop : Stop) × IfSome (I.remaining reader.old) (BlamesStop stop) × (stop ≢ Command Output → writer.new ≡ writer.old) }
     ensures quiet { result ≡ 0 → errors.new ≡ errors.old }
 {
     match obey(rt, alloc, reader, writer) {
