@@ -1,5 +1,5 @@
 //! The hold-back queue: an ordered map from stamp to operation.
-ghost use Rattle.std.specs.Prelude.{◌≡◌, ◌<◌, ◌≤◌, [], length, replicate, IfOk, IfSome, IfNone, MatchResult, MatchOption, if◌then◌else◌, is_ok, option_map, Some, None, IfErr};
+ghost use Rattle.std.specs.Prelude.{◌≡◌, ◌<◌, ◌≤◌, [], length, replicate, IfOk, IfSome, IfNone, MatchResult, MatchOption, if◌then◌else◌, is_ok, option_map, Some, None, IfErr, IsTrue, false};
 ghost use Rattle.reg_base.specs.declared.limits.TheConstants.{MOST_PROCESSES};
 ghost use Rattle.reg_base.specs.Order.{Rising};
 ghost use Rattle.reg_holdback.specs.Waiting.{is_clear as is_clear_by, cast_of, ready_of, without_first, with_cast, received, receive_fault, refusal_of, IsLatestOwn, seen_of, IsReady, NoneClear};
@@ -27,6 +27,8 @@ pub struct Holdback<A: Allocator + Copy = Global> {
     me: u8,
     seen: Vec<u64, A>,
     held: BTreeMap<Stamp, Op, A>,
+    /// A process that was last found not to have passed a stamp. It is looked at first, and relied on for nothing.
+    behind: u8,
 }
 
 impl<A: Allocator + Copy> Model for Holdback<A> {
@@ -40,15 +42,31 @@ impl<A: Allocator + Copy> Model for Holdback<A> {
     ghost invariant = { λ h. InRange (record { me = h.me; seen = h.seen.items; held = casts_of h.held.entries }) };
 }
 
-/// Whether every other process is known to have passed a stamp.
-fn is_clear(seen: &[u64], me: u8, stamp: Stamp) -> bool
+/// Whether one of the other processes is not known to have passed a stamp.
+fn is_behind(seen: &[u64], me: u8, stamp: Stamp, process: u8) -> bool
+    ensures { IsTrue result → is_clear_by me seen.now stamp ≡ false }
+{
+    if process == me || process as usize >= seen.len() {
+        return false;
+    }
+    let time = seen[process as usize];
+    let known = Stamp { time, process };
+    known < stamp
+}
+
+/// Whether every other process is known to have passed a stamp. The one that was behind last is looked at first.
+fn is_clear(seen: &[u64], me: u8, stamp: Stamp, behind: &mut u8) -> bool
     requires { length seen.now ≤ MOST_PROCESSES }
     ensures { result ≡ is_clear_by me seen.now stamp }
 {
+    if is_behind(seen, me, stamp, *behind) {
+        return false;
+    }
     for (r, &time) in seen.iter().enumerate() {
         let process = r as u8;
         let known = Stamp { time, process };
         if process != me && known < stamp {
+            *behind = process;
             return false;
         }
     }
@@ -66,6 +84,7 @@ impl<A: Allocator + Copy> Holdback<A> {
             me,
             seen,
             held: BTreeMap::new(alloc),
+            behind: 0,
         })
     }
 
@@ -126,7 +145,7 @@ impl<A: Allocator + Copy> Holdback<A> {
             return None;
         }
         let (&stamp, _) = self.held.first_key_value()?;
-        if !is_clear(&self.seen, self.me, stamp) {
+        if !is_clear(&self.seen, self.me, stamp, &mut self.behind) {
             return None;
         }
         self.held.pop_first()

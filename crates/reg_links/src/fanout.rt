@@ -19,6 +19,8 @@ pub struct Outboxes<A: Allocator + Copy = Global> {
     first: u64,
     bodies: VecDeque<Body, A>,
     counts: Vec<u64, A>,
+    /// A process that was last found to have the least count. It is looked at first, and relied on for nothing.
+    slowest: usize,
 }
 
 impl<A: Allocator + Copy> Model for Outboxes<A> {
@@ -41,6 +43,20 @@ fn least(next: u64, counts: &[u64]) -> u64
             least = *count;
         }
     }
+    least
+}
+
+/// The same of counts that are all at least the bound. Where the slowest process still has this bound, nothing is searched.
+fn least_again(next: u64, counts: &[u64], bound: u64, slowest: &mut usize) -> u64
+    requires { bound ≤ least_from next counts.now }
+    ensures { result ≡ least_from next counts.now }
+{
+    if *slowest < counts.len() && counts[*slowest] == bound {
+        return bound;
+    }
+    let least = least(next, counts);
+    let place = counts.iter().position(|count| *count == least);
+    *slowest = place.unwrap_or(0);
     least
 }
 
@@ -74,6 +90,7 @@ impl<A: Allocator + Copy> Outboxes<A> {
             first: 0,
             bodies: VecDeque::new(alloc),
             counts,
+            slowest: 0,
         })
     }
 
@@ -127,7 +144,8 @@ impl<A: Allocator + Copy> Outboxes<A> {
         Ok(())
     }
 
-    /// The same of a count that is not ahead. The counts are searched for the least only where the least one rises.
+    /// The same of a count that is not ahead. The counts are searched for the least only where the least one
+    /// rises, and no other has it.
     fn count(&mut self, from: u8, count: u64)
         requires within { from < length self.old.counts }
         requires queued { count ≤ next_all self.old }
@@ -141,7 +159,8 @@ impl<A: Allocator + Copy> Outboxes<A> {
         self.counts[from as usize] = count;
         if before == self.first {
             let next = self.first + self.bodies.len() as u64;
-            let first = least(next, self.counts.as_slice());
+            let counts = self.counts.as_slice();
+            let first = least_again(next, counts, self.first, &mut self.slowest);
             forget(&mut self.bodies, first - self.first);
             self.first = first;
         }
