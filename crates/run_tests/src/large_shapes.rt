@@ -54,8 +54,22 @@ fn the_largest_shapes_and_both_versions(rt: HostRuntime) {
         (check, ONE_PROCESS, "", 0, both, ""),
         (replay, LAST_PROCESS, "", 0, LAST_PROCESS_REPORT, ""),
         (check, LAST_PROCESS_REPORT, "", 0, "serial yes\n", ""),
-        (replay, LAST_PROCESS, "take 0 63 0\n", 1, "", "event 1: no frame\n"),
-        (replay, LAST_PROCESS, "call 64 read x\n", 1, "", "event 1: no process\n"),
+        (
+            replay,
+            LAST_PROCESS,
+            "take 0 63 0\n",
+            1,
+            "",
+            "event 1: no frame\n",
+        ),
+        (
+            replay,
+            LAST_PROCESS,
+            "call 64 read x\n",
+            1,
+            "",
+            "event 1: no process\n",
+        ),
         (replay, "processes 65\n", "", 1, "", "line 1: range\n"),
     ];
     for (command, head, tail, status, written, told) in table {
