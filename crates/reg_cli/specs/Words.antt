@@ -1,4 +1,5 @@
--- What a refusal of the command line is told as.
+-- What a refusal of the command line is told as, and the exit status then.
+use Rattle.std.specs.Prelude.{ℕ}
 use Rattle.clap.specs.declared.error.ErrorKind.{ErrorKind}
 use Rattle.clap.specs.declared.error.ErrorKind.TheVariants.{OutOfMemory as NoMemory}
 use Rattle.reg_cli.specs.declared.words.WordsFault.{WordsFault}
@@ -8,3 +9,7 @@ use Rattle.reg_cli.specs.declared.words.WordsFault.TheVariants.{CommandLine, Out
 abbrev pub words_fault : ErrorKind → WordsFault
 words_fault NoMemory = OutOfMemory
 words_fault _ = CommandLine
+
+abbrev pub status_of : WordsFault → ℕ
+status_of CommandLine = 2
+status_of OutOfMemory = 1

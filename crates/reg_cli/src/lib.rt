@@ -8,6 +8,3 @@ pub use program::run_program;
 pub use reg_commands::{Command, Fault, run_text};
 pub use reg_live_command::run_live;
 pub use words::{Asked, WordsFault, choose};
-
-#[cfg(test)]
-mod words_tests;

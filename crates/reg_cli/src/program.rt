@@ -62,13 +62,9 @@ where
 {
     match obey_words(rt, errors) {
         Ok(status) => status,
-        Err(WordsFault::CommandLine) => {
-            let _ = writeln!(errors, "command line");
-            2
-        }
-        Err(WordsFault::OutOfMemory) => {
-            let _ = writeln!(errors, "out of memory");
-            1
+        Err(fault) => {
+            let _ = writeln!(errors, "{fault}");
+            fault.status()
         }
     }
 }

@@ -2,12 +2,13 @@
 ghost use Rattle.std.specs.Prelude.{◌≡◌};
 ghost use Rattle.clap.specs.Words.{kind_of};
 ghost use Rattle.reg_cli.specs.declared.words.WordsFault.TheVariants.{OutOfMemory};
-ghost use Rattle.reg_cli.specs.Words.{words_fault};
+ghost use Rattle.reg_cli.specs.Words.{status_of, words_fault};
 
 use clap::error::ErrorKind;
 use clap::{Arg, ArgAction};
 use reg_commands::Command;
 use std::alloc::{AllocError, Global};
+use std::fmt;
 
 /// What the words ask for.
 #[derive(Clone, Copy, Debug, PartialEq, Eq)]
@@ -25,6 +26,27 @@ pub enum WordsFault {
     CommandLine,
     /// There was no memory to read them.
     OutOfMemory,
+}
+
+impl WordsFault {
+    /// The exit status of a program that is told so.
+    pub fn status(self) -> u8
+        ensures { result ≡ status_of self }
+    {
+        match self {
+            WordsFault::CommandLine => 2,
+            WordsFault::OutOfMemory => 1,
+        }
+    }
+}
+
+impl fmt::Display for WordsFault {
+    fn fmt<W: fmt::Write>(&self, f: &mut fmt::Formatter<W>) -> fmt::Result {
+        match self {
+            WordsFault::CommandLine => f.write_str("command line"),
+            WordsFault::OutOfMemory => f.write_str("out of memory"),
+        }
+    }
 }
 
 impl From<AllocError> for WordsFault {

@@ -1,7 +1,8 @@
-//! Which command lines are taken.
-use crate::{Asked, Command, WordsFault, choose};
+//! Which command lines are taken, and how a refused one is told.
+use reg_cli::{Asked, Command, WordsFault, choose};
 use std::alloc::Global;
 use std::process::Abort;
+use std::test::Fail;
 
 fn words_of(rt: &impl Abort, alloc: Global, line: &str) -> Vec<String> {
     let mut words = Vec::new(alloc);
@@ -69,4 +70,17 @@ fn exactly_the_command_lines_are_taken(rt: HostRuntime) {
         let answer = choose(alloc, words.as_slice());
         assert_eq!(rt; answer, Err(WordsFault::CommandLine), "{line}");
     }
+}
+
+#[test]
+fn refusals_are_told(rt: HostRuntime) -> Result<(), Fail> {
+    let table = [
+        (WordsFault::CommandLine, "command line", 2),
+        (WordsFault::OutOfMemory, "out of memory", 1),
+    ];
+    for (fault, line, status) in table {
+        assert_eq!(rt; format!(in rt.alloc(); "{fault}")?.as_str(), line);
+        assert_eq!(rt; fault.status(), status);
+    }
+    Ok(())
 }

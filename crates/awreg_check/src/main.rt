@@ -1,9 +1,0 @@
-//! The program over the standard streams.
-#![tactic(auto)]
-
-use std::process::ExitCode;
-
-fn main(rt: HostRuntime) -> ExitCode {
-    let status = reg_cli::run_program(&rt, &mut rt.stderr());
-    ExitCode::from(status)
-}
