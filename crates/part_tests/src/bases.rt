@@ -1,4 +1,5 @@
 //! Shapes, clocks, registers and names, as worked by hand.
+use reg_base::limits::{LAST_TIME, MOST_PROCESSES, MOST_REGISTERS};
 use reg_base::{
     Answer, Clock, ClockFull, Names, NamesFault, Op, Registers, Shape, ShapeFault, Stamp, is_name,
 };
@@ -30,76 +31,173 @@ fn names_of(rt: &impl Abort, alloc: Global, words: &[&str]) -> Result<Names, Nam
 
 #[test]
 fn shapes_within_the_limits(rt: HostRuntime) {
-    assert_eq!(rt; Shape::new(0, 0), Err(ShapeFault::NoProcess));
-    assert_eq!(rt; Shape::new(65, 0), Err(ShapeFault::TooManyProcesses));
-    assert_eq!(rt; Shape::new(64, 0), Err(ShapeFault::NoRegister));
-    assert_eq!(rt; Shape::new(1, 4097), Err(ShapeFault::TooManyRegisters));
-    let shape = Shape::new(64, 4096).expect(&rt, "within the limits");
-    assert_eq!(rt; (shape.processes(), shape.registers()), (64, 4096));
+    assert_eq!(rt; (MOST_PROCESSES, MOST_REGISTERS), (64, 4096));
+    let cases = [
+        (0, 0, Some(ShapeFault::NoProcess)),
+        (MOST_PROCESSES + 1, 0, Some(ShapeFault::TooManyProcesses)),
+        (MOST_PROCESSES, 0, Some(ShapeFault::NoRegister)),
+        (1, MOST_REGISTERS + 1, Some(ShapeFault::TooManyRegisters)),
+        (MOST_PROCESSES, MOST_REGISTERS, None),
+        (1, 1, None),
+    ];
+    for (processes, registers, fault) in cases {
+        match Shape::new(processes, registers) {
+            Ok(shape) => {
+                assert!(rt; fault.is_none());
+                assert_eq!(rt;
+                    (shape.processes(), shape.registers()),
+                    (processes, registers)
+                );
+            }
+            Err(found) => assert_eq!(rt; Some(found), fault),
+        }
+    }
 }
 
 #[test]
 fn a_clock_at_its_end(rt: HostRuntime) {
-    let last = 0x1_0000_0000_0000u64;
+    let last = 281_474_976_710_656;
     let mut clock = Clock::new();
-    assert_eq!(rt; clock.now(), 0);
-    assert_eq!(rt; clock.receive(last - 2), Ok(last - 1));
-    assert_eq!(rt; clock.tick(), Ok(last));
-    assert_eq!(rt; clock.tick(), Err(ClockFull));
-    assert_eq!(rt; clock.receive(0), Err(ClockFull));
-    assert_eq!(rt; clock.now(), last);
+    assert_eq!(rt; (clock.now(), LAST_TIME), (0, last));
+    // A time that is received, or none at a tick.
+    let cases = [
+        (None, Ok(1)),
+        (Some(0), Ok(2)),
+        (Some(last - 2), Ok(last - 1)),
+        (None, Ok(last)),
+        (None, Err(ClockFull)),
+        (Some(0), Err(ClockFull)),
+        (Some(last), Err(ClockFull)),
+    ];
+    for (time, answer) in cases {
+        let found = match time {
+            Some(time) => clock.receive(time),
+            None => clock.tick(),
+        };
+        assert_eq!(rt; found, answer);
+        assert_eq!(rt; clock.now(), answer.unwrap_or(last));
+    }
+    let mut fresh = Clock::new();
+    assert_eq!(rt; fresh.receive(last), Err(ClockFull));
+    assert_eq!(rt; fresh.now(), 0);
 }
 
 #[test]
 fn stamps_by_time_and_then_by_process(rt: HostRuntime) {
-    let stamp = |time: u64, process: u8| Stamp { time, process };
-    assert!(rt; stamp(1, 9) < stamp(2, 0));
-    assert!(rt; stamp(2, 0) < stamp(2, 1));
-    assert!(rt; !(stamp(2, 1) < stamp(2, 1)));
+    let cases = [((1, 9), (2, 0)), ((2, 0), (2, 1)), ((2, 1), (3, 0))];
+    for ((time, process), (later, other)) in cases {
+        let first = Stamp { time, process };
+        let second = Stamp {
+            time: later,
+            process: other,
+        };
+        assert!(rt; first < second && !(second < first) && !(first < first));
+    }
 }
+
+const READ: Op = Op::Read { register: 0 };
+
+const WRITE: Op = Op::Write {
+    register: 0,
+    value: 5,
+};
+
+const SWAP: Op = Op::Swap {
+    register: 0,
+    value: 6,
+};
+
+const OUTSIDE: Op = Op::Write {
+    register: 1,
+    value: 7,
+};
 
 #[test]
 fn one_memory(rt: HostRuntime) {
     let mut registers = Registers::new(rt.alloc(), 1).expect(&rt, "memory");
-    let (register, value) = (0, 5);
-    let write = Op::Write { register, value };
-    let read = Op::Read { register };
-    assert_eq!(rt; registers.apply(&read), Some(Answer::Value(0)));
-    assert_eq!(rt; registers.apply(&write), Some(Answer::Done));
-    assert_eq!(rt; registers.apply(&read), Some(Answer::Value(5)));
-    let swap = Op::Swap { register, value: 6 };
-    assert_eq!(rt; registers.answer(&swap), Answer::Value(5));
-    assert_eq!(rt; registers.apply(&swap), Some(Answer::Value(5)));
-    assert_eq!(rt; registers.apply(&swap), Some(Answer::Value(6)));
-    assert_eq!(rt; registers.apply(&write), Some(Answer::Done));
-    assert!(rt; swap.updates() && swap.register() == 0);
-    assert!(rt; swap.can_answer(&Answer::Value(9)) && !swap.can_answer(&Answer::Done));
-    let outside = Op::Write {
-        register: 1,
-        value: 7,
-    };
-    assert_eq!(rt; registers.apply(&outside), None);
-    assert_eq!(rt; registers.apply(&Op::Read { register: 1 }), None);
-    assert_eq!(rt; (registers.get(0), registers.get(1)), (Some(5), None));
+    let cases = [
+        (READ, Some(Answer::Value(0)), 0),
+        (WRITE, Some(Answer::Done), 5),
+        (READ, Some(Answer::Value(5)), 5),
+        (SWAP, Some(Answer::Value(5)), 6),
+        (SWAP, Some(Answer::Value(6)), 6),
+        (WRITE, Some(Answer::Done), 5),
+        (OUTSIDE, None, 5),
+        (Op::Read { register: 1 }, None, 5),
+    ];
+    for (op, answer, value) in cases {
+        assert_eq!(rt; registers.apply(&op), answer);
+        assert_eq!(rt; (registers.get(0), registers.get(1)), (Some(value), None));
+    }
     assert_eq!(rt; registers.count(), 1);
-    assert!(rt; write.updates() && !read.updates());
-    assert!(rt; read.can_answer(&Answer::Value(9)) && !read.can_answer(&Answer::Done));
+}
+
+#[test]
+fn operations_and_their_answers(rt: HostRuntime) {
+    let cases = [
+        (READ, false, false),
+        (WRITE, true, true),
+        (SWAP, true, false),
+    ];
+    for (op, updates, is_done) in cases {
+        assert_eq!(rt; (op.updates(), op.register()), (updates, 0));
+        assert_eq!(rt; op.can_answer(&Answer::Done), is_done);
+        assert_eq!(rt; op.can_answer(&Answer::Value(9)), !is_done);
+    }
+}
+
+#[test]
+fn an_answer_before_the_operation_is_applied(rt: HostRuntime) {
+    let registers = Registers::new(rt.alloc(), 1).expect(&rt, "memory");
+    assert!(rt; registers.count() == 1);
+    assert_eq!(rt; registers.answer(&SWAP), Answer::Value(0));
+    assert_eq!(rt; registers.get(0), Some(0));
 }
 
 #[test]
 fn names_and_their_faults(rt: HostRuntime) {
-    let alloc = rt.alloc();
-    let names = names_of(&rt, alloc, &["x", "y"]).expect(&rt, "names");
-    assert_eq!(rt; names.count(), 2);
-    assert_eq!(rt; (names.number("y"), names.number("z")), (Some(1), None));
-    assert!(rt; names.name(0) == Some("x") && names.name(2) == None);
-    assert!(rt; matches!(names_of(&rt, alloc, &[]), Err(NamesFault::NoName)));
-    let many = many_names(&rt, alloc, 4097);
-    assert!(rt; matches!(Names::new(many), Err(NamesFault::TooManyNames)));
-    assert!(rt; Names::new(many_names(&rt, alloc, 4096)).is_ok());
-    let bad = names_of(&rt, alloc, &["x", "a1", "x"]);
-    assert!(rt; matches!(bad, Err(NamesFault::BadName { place: 1 })));
-    let same = names_of(&rt, alloc, &["x", "y", "x", "y"]);
-    assert!(rt; matches!(same, Err(NamesFault::SameName { place: 2 })));
-    assert!(rt; is_name("abcdefghijklmnop") && !is_name("abcdefghijklmnopq") && !is_name(""));
+    let cases = [
+        (&[].as_slice(), Some(NamesFault::NoName)),
+        (
+            &["x", "a1", "x"].as_slice(),
+            Some(NamesFault::BadName { place: 1 }),
+        ),
+        (
+            &["x", "y", "x", "y"].as_slice(),
+            Some(NamesFault::SameName { place: 2 }),
+        ),
+        (&["x", "y"].as_slice(), None),
+    ];
+    for (words, fault) in cases {
+        assert_eq!(rt; names_of(&rt, rt.alloc(), words).err(), fault);
+    }
+    let names = names_of(&rt, rt.alloc(), &["x", "y"]).expect(&rt, "names");
+    assert_eq!(rt;
+        (names.count(), names.number("y"), names.number("z")),
+        (2, Some(1), None)
+    );
+    assert_eq!(rt; (names.name(0), names.name(2)), (Some("x"), None));
+}
+
+#[test]
+fn names_within_the_limits(rt: HostRuntime) {
+    let cases = [
+        (MOST_REGISTERS, None),
+        (MOST_REGISTERS + 1, Some(NamesFault::TooManyNames)),
+    ];
+    for (count, fault) in cases {
+        let names = many_names(&rt, rt.alloc(), count);
+        assert_eq!(rt; Names::new(names).err(), fault);
+    }
+    let words = [
+        ("abcdefghijklmnop", true),
+        ("abcdefghijklmnopq", false),
+        ("", false),
+        ("a1", false),
+        ("A", false),
+        ("z", true),
+    ];
+    for (word, is_one) in words {
+        assert_eq!(rt; is_name(word), is_one, "{word}");
+    }
 }

@@ -1,62 +1,79 @@
 //! Workloads that are read, and that are refused.
-use refusing::Refusing;
-use reg_base::Op;
 use reg_front::Front;
-use reg_toml::{Key, Workload, WorkloadFault, read_table};
-use std::alloc::AllocError;
+use reg_toml::{Key, Workload, WorkloadFault};
+use std::alloc::{AllocError, Global};
 use std::process::Abort;
+use std::test::Fail;
 
-const READ: Op = Op::Read { register: 0 };
-
-const WRITE: Op = Op::Write {
-    register: 0,
-    value: 5,
-};
-
-const SMALL: &str =
+pub(crate) const SMALL: &str =
     "front = \"local-write\"\nregisters = [\"x\"]\nscripts = [[\"write x 5\", \"read x\"], [\"read x\"]]\n";
 
-#[test]
-fn a_document_is_read(rt: HostRuntime) {
-    let work = Workload::from_toml(rt.alloc(), SMALL).expect(&rt, "a workload");
-    assert_eq!(rt; work.shape.processes(), 2);
-    assert_eq!(rt; work.shape.registers(), 1);
-    assert_eq!(rt; work.names.count(), 1);
-    assert_eq!(rt; work.names.name(0), Some("x"));
-    assert_eq!(rt; work.front, Front::LocalWrite);
-    assert_eq!(rt; work.scripts.len(), 2);
-    assert_eq!(rt; work.scripts[0].as_slice(), [WRITE, READ].as_slice());
-    assert_eq!(rt; work.scripts[1].as_slice(), [READ].as_slice());
-    assert_eq!(rt; work.seed, 0);
-    assert_eq!(rt; work.loss, 0);
-    assert_eq!(rt; work.repeat, 0);
-    assert_eq!(rt; work.budget, 100_000);
+const MOST: &str =
+    "front = \"linear\"\nregisters = [\"x\", \"yy\"]\nscripts = [[], []]\nseed = 9223372036854775807\nloss = 100\nrepeat = 99\nbudget = 1048576\n";
+
+const LEAST: &str =
+    "budget = 1\nscripts = [[\"write b 18446744073709551615\"]]\nregisters = [\"a\", \"b\"]\nfront = \"local-read\"\nrepeat = 100\nloss = 0x0a\n";
+
+/// Documents, and what they say: the front end, the names, the numbers, and the script of each process.
+const READ: [(&str, &str); 3] = [
+    (
+        SMALL,
+        "LocalWrite, Some(\"x\") None of 1, seed 0, loss 0, repeat 0, budget 100000
+[Write { register: 0, value: 5 }, Read { register: 0 }]
+[Read { register: 0 }]
+2 processes, 1 registers
+",
+    ),
+    (
+        MOST,
+        "Linear, Some(\"x\") Some(\"yy\") of 2, seed 9223372036854775807, loss 100, repeat 99, budget 1048576
+[]
+[]
+2 processes, 2 registers
+",
+    ),
+    (
+        LEAST,
+        "LocalRead, Some(\"a\") Some(\"b\") of 2, seed 0, loss 10, repeat 100, budget 1
+[Write { register: 1, value: 18446744073709551615 }]
+1 processes, 2 registers
+",
+    ),
+];
+
+fn told(alloc: Global, work: &Workload) -> Result<String, Fail> {
+    let mut text = format!(in alloc;
+        "{:?}, {:?} {:?} of {}, seed {}, loss {}, repeat {}, budget {}\n",
+        work.front,
+        work.names.name(0),
+        work.names.name(1),
+        work.names.count(),
+        work.seed,
+        work.loss,
+        work.repeat,
+        work.budget
+    )?;
+    for script in &work.scripts {
+        text.push_str(format!(in alloc; "{:?}\n", script.as_slice())?.as_str())?;
+    }
+    let shape = work.shape;
+    let last = format!(in alloc;
+        "{} processes, {} registers\n",
+        shape.processes(),
+        shape.registers()
+    )?;
+    text.push_str(last.as_str())?;
+    Ok(text)
 }
 
 #[test]
-fn numbers_are_read(rt: HostRuntime) {
-    let most =
-        "front = \"linear\"\nregisters = [\"x\", \"yy\"]\nscripts = [[], []]\nseed = 9223372036854775807\nloss = 100\nrepeat = 99\nbudget = 1048576\n";
-    let work = Workload::from_toml(rt.alloc(), most).expect(&rt, "a workload");
-    assert_eq!(rt; work.shape.registers(), 2);
-    assert_eq!(rt; work.scripts.len(), 2);
-    assert_eq!(rt; work.scripts[1].len(), 0);
-    assert_eq!(rt; work.seed, 9_223_372_036_854_775_807);
-    assert_eq!(rt; work.loss, 100);
-    assert_eq!(rt; work.repeat, 99);
-    assert_eq!(rt; work.budget, 1_048_576);
-    let least =
-        "budget = 1\nscripts = [[\"write b 18446744073709551615\"]]\nregisters = [\"a\", \"b\"]\nfront = \"local-read\"\nrepeat = 100\nloss = 0x0a\n";
-    let work = Workload::from_toml(rt.alloc(), least).expect(&rt, "a workload");
-    assert_eq!(rt; work.front, Front::LocalRead);
-    let write = Op::Write {
-        register: 1,
-        value: 18_446_744_073_709_551_615,
-    };
-    assert_eq!(rt; work.scripts[0].as_slice(), [write].as_slice());
-    assert_eq!(rt; work.loss, 10);
-    assert_eq!(rt; work.repeat, 100);
-    assert_eq!(rt; work.budget, 1);
+fn documents_are_read(rt: HostRuntime) -> Result<(), Fail> {
+    for (document, says) in READ {
+        let work = Workload::from_toml(rt.alloc(), document)?;
+        let text = told(rt.alloc(), &work)?;
+        assert_eq!(rt; text.as_str(), says);
+    }
+    Ok(())
 }
 
 fn refused(rt: &(impl AllocGlobal + Abort), text: &str, fault: WorkloadFault) {
@@ -81,28 +98,24 @@ fn range(key: Key) -> WorkloadFault {
 
 #[test]
 fn documents_are_refused(rt: HostRuntime) {
-    refused(&rt, "", missing(Key::Front));
-    refused(&rt, "front = \"linear", WorkloadFault::Toml);
-    refused(
-        &rt,
-        "front = \"linear\"\nfront = \"linear\"",
-        WorkloadFault::Toml,
-    );
-    refused(
-        &rt,
-        "front = \"linear\"\nspeed = 1",
-        WorkloadFault::UnknownKey,
-    );
-    refused(&rt, "front = 3\n[more]", WorkloadFault::UnknownKey);
-    refused(&rt, "front = 3", kind(Key::Front));
-    refused(&rt, "[front]", kind(Key::Front));
-    refused(&rt, "front = \"other\"", range(Key::Front));
-    refused(&rt, "front = \"Linear\"", range(Key::Front));
-    refused(
-        &rt,
-        "front = \"linear\"\nloss = 101",
-        missing(Key::Registers),
-    );
+    let cases = [
+        ("", missing(Key::Front)),
+        ("front = \"linear", WorkloadFault::Toml),
+        (
+            "front = \"linear\"\nfront = \"linear\"",
+            WorkloadFault::Toml,
+        ),
+        ("front = \"linear\"\nspeed = 1", WorkloadFault::UnknownKey),
+        ("front = 3\n[more]", WorkloadFault::UnknownKey),
+        ("front = 3", kind(Key::Front)),
+        ("[front]", kind(Key::Front)),
+        ("front = \"other\"", range(Key::Front)),
+        ("front = \"Linear\"", range(Key::Front)),
+        ("front = \"linear\"\nloss = 101", missing(Key::Registers)),
+    ];
+    for (text, fault) in cases {
+        refused(&rt, text, fault);
+    }
 }
 
 #[test]
@@ -253,28 +266,4 @@ fn keys_are_spelled(rt: HostRuntime) {
     for (key, name) in cases {
         assert_eq!(rt; key.name(), name);
     }
-}
-
-#[test]
-fn each_growth_is_refused(rt: HostRuntime) {
-    let table = read_table(rt.alloc(), SMALL).expect(&rt, "a document");
-    let mut through = false;
-    for before in 0..50u64 {
-        let heap = Refusing::new(rt.alloc(), before);
-        match Workload::from_table(&heap, &table) {
-            Ok(work) => {
-                assert!(rt; heap.is_waiting());
-                assert_eq!(rt; work.scripts[0].as_slice(), [WRITE, READ].as_slice());
-                assert_eq!(rt; work.names.name(0), Some("x"));
-                assert!(rt; before > 4);
-                through = true;
-                break;
-            }
-            Err(fault) => {
-                assert!(rt; !heap.is_waiting());
-                assert_eq!(rt; fault, WorkloadFault::OutOfMemory);
-            }
-        }
-    }
-    assert!(rt; through);
 }

@@ -13,6 +13,8 @@ mod frames;
 #[cfg(test)]
 mod fronts;
 #[cfg(test)]
+mod growths;
+#[cfg(test)]
 mod holdbacks;
 #[cfg(test)]
 mod large_shapes;
@@ -21,11 +23,11 @@ mod links;
 #[cfg(test)]
 mod orders;
 #[cfg(test)]
-mod process_refusals;
-#[cfg(test)]
 mod processes;
 #[cfg(test)]
 mod reports;
 #[cfg(test)]
 mod texts;
+#[cfg(test)]
+mod traces;
 pub mod values;

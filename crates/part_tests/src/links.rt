@@ -1,107 +1,225 @@
-//! A worked example of both ends, and of the links of one process together.
+//! Worked examples of both ends of a link, and of the links of one process together.
 use refusing::Refusing;
 use reg_base::limits::FRAME_NUMBERS;
 use reg_frames::{Body, Frame};
 use reg_links::{Ahead, Inbox, LinkFault, Outbox, Outboxes};
+use std::alloc::Global;
+use std::process::Abort;
+use std::test::Fail;
 
 const TWO: Body = Body::Ack { time: 2 };
 
 const THREE: Body = Body::Ack { time: 3 };
 
-fn numbered(number: u64, body: Body) -> Frame {
-    Frame::Numbered { number, body }
+/// What is done with the links to other processes.
+enum Use {
+    /// A body is queued for all others.
+    Queue { body: Body },
+    /// A count comes from a process.
+    Got { from: u8, count: u64 },
+    /// The frame at this place of those that a process hasn't acknowledged is asked for.
+    Resend { to: u8, place: u64 },
+}
+
+/// A use of the links from process 1 of 3, what it answers, and what is then pending to process 0 and to process 2.
+type Row = (Use, &'static str, u64, u64);
+
+const OF_THREE: [Row; 16] = [
+    (Use::Queue { body: TWO }, "Ok(0)", 1, 1),
+    (Use::Queue { body: THREE }, "Ok(1)", 2, 2),
+    (Use::Got { from: 0, count: 3 }, "Err(Ahead)", 2, 2),
+    (Use::Got { from: 0, count: 2 }, "Ok(())", 0, 2),
+    (Use::Resend { to: 0, place: 0 }, "None", 0, 2),
+    (
+        Use::Resend { to: 2, place: 0 },
+        "Some(Numbered { number: 0, body: Ack { time: 2 } })",
+        0,
+        2,
+    ),
+    (
+        Use::Resend { to: 2, place: 1 },
+        "Some(Numbered { number: 1, body: Ack { time: 3 } })",
+        0,
+        2,
+    ),
+    (Use::Resend { to: 2, place: 2 }, "None", 0, 2),
+    (
+        Use::Resend {
+            to: 2,
+            place: 18_446_744_073_709_551_615,
+        },
+        "None",
+        0,
+        2,
+    ),
+    (Use::Got { from: 2, count: 1 }, "Ok(())", 0, 1),
+    (Use::Got { from: 2, count: 0 }, "Ok(())", 0, 1),
+    (
+        Use::Resend { to: 2, place: 0 },
+        "Some(Numbered { number: 1, body: Ack { time: 3 } })",
+        0,
+        1,
+    ),
+    (Use::Queue { body: TWO }, "Ok(2)", 1, 2),
+    (
+        Use::Resend { to: 0, place: 0 },
+        "Some(Numbered { number: 2, body: Ack { time: 2 } })",
+        1,
+        2,
+    ),
+    (Use::Resend { to: 1, place: 0 }, "None", 1, 2),
+    (Use::Got { from: 1, count: 3 }, "Ok(())", 1, 2),
+];
+
+/// The same with one link alone, and what is then pending.
+const OF_TWO: [(Use, &str, u64); 9] = [
+    (
+        Use::Queue { body: TWO },
+        "Ok(Numbered { number: 0, body: Ack { time: 2 } })",
+        1,
+    ),
+    (
+        Use::Queue { body: THREE },
+        "Ok(Numbered { number: 1, body: Ack { time: 3 } })",
+        2,
+    ),
+    (
+        Use::Resend { to: 1, place: 1 },
+        "Some(Numbered { number: 1, body: Ack { time: 3 } })",
+        2,
+    ),
+    (Use::Resend { to: 1, place: 2 }, "None", 2),
+    (Use::Got { from: 1, count: 3 }, "Err(Ahead)", 2),
+    (Use::Got { from: 1, count: 1 }, "Ok(())", 1),
+    (
+        Use::Resend { to: 1, place: 0 },
+        "Some(Numbered { number: 1, body: Ack { time: 3 } })",
+        1,
+    ),
+    (Use::Got { from: 1, count: 0 }, "Ok(())", 1),
+    (
+        Use::Resend { to: 1, place: 0 },
+        "Some(Numbered { number: 1, body: Ack { time: 3 } })",
+        1,
+    ),
+];
+
+#[test]
+fn outbox_keeps_what_is_not_acknowledged(rt: HostRuntime) -> Result<(), Fail> {
+    let alloc = rt.alloc();
+    let mut out = Outbox::new(alloc);
+    for (row, (step, told, pending)) in OF_TWO.iter().enumerate() {
+        let answer = match *step {
+            Use::Queue { body } => format!(in alloc; "{:?}", out.queue(body))?,
+            Use::Got { from: _, count } => format!(in alloc; "{:?}", out.got(count))?,
+            Use::Resend { to: _, place } => format!(in alloc; "{:?}", out.resend(place))?,
+        };
+        assert_eq!(rt;
+            (answer.as_str(), out.pending()),
+            (*told, *pending),
+            "{row}"
+        );
+    }
+    Ok(())
+}
+
+fn used(rt: &impl Abort, alloc: Global, out: &mut Outboxes, step: &Use) -> Result<String, Fail> {
+    assert!(rt; out.processes() == 3);
+    Ok(match *step {
+        Use::Queue { body } => format!(in alloc; "{:?}", out.queue(1, body))?,
+        Use::Got { from, count } => {
+            assert!(rt; from < 3);
+            format!(in alloc; "{:?}", out.got(from, count))?
+        }
+        Use::Resend { to, place } => {
+            assert!(rt; to < 3);
+            format!(in alloc; "{:?}", out.resend(to, place))?
+        }
+    })
+}
+
+/// What is pending to each of three processes.
+fn pending(rt: &impl Abort, out: &Outboxes) -> [u64; 3] {
+    assert!(rt; out.processes() == 3);
+    [out.pending(0), out.pending(1), out.pending(2)]
 }
 
 #[test]
-fn outbox_keeps_what_is_not_acknowledged(rt: HostRuntime) {
-    let mut out = Outbox::new(rt.alloc());
-    assert!(rt; out.queue(TWO) == Ok(numbered(0, TWO)));
-    assert!(rt; out.queue(THREE) == Ok(numbered(1, THREE)));
-    assert_eq!(rt; out.pending(), 2);
-    assert!(rt; out.resend(1) == Some(numbered(1, THREE)));
-    assert!(rt; out.resend(2) == None);
-    assert!(rt; out.got(3) == Err(Ahead));
-    assert!(rt; out.got(1) == Ok(()));
-    assert!(rt; out.resend(0) == Some(numbered(1, THREE)));
-    assert!(rt; out.got(0) == Ok(()));
-    assert!(rt; out.resend(0) == Some(numbered(1, THREE)));
-    assert_eq!(rt; out.pending(), 1);
+fn links_keep_what_is_not_acknowledged_by_all(rt: HostRuntime) -> Result<(), Fail> {
+    let mut out = Outboxes::new(rt.alloc(), 3)?;
+    for (row, (step, told, first, last)) in OF_THREE.iter().enumerate() {
+        let answer = used(&rt, rt.alloc(), &mut out, step)?;
+        assert_eq!(rt; answer.as_str(), *told, "{row}");
+        assert_eq!(rt; pending(&rt, &out), [*first, 0, *last], "{row}");
+    }
+    assert_eq!(rt; (out.processes(), out.next()), (3, 3));
+    Ok(())
+}
+
+#[test]
+fn one_process_has_all_that_it_queues(rt: HostRuntime) {
+    let mut out = Outboxes::new(rt.alloc(), 1).expect(&rt, "one process");
+    for number in 0..2 {
+        assert!(rt; out.processes() == 1);
+        assert_eq!(rt; out.queue(0, TWO), Ok(number));
+        assert_eq!(rt; out.pending(0), 0);
+    }
+    assert!(rt; out.processes() == 1);
+    assert_eq!(rt; out.got(0, 3), Err(Ahead));
 }
 
 #[test]
 fn numbers_end(rt: HostRuntime) {
+    assert_eq!(rt; FRAME_NUMBERS, 1 << 48);
     let mut out = Outbox::starting(rt.alloc(), FRAME_NUMBERS - 1).expect(&rt, "the last number");
-    assert!(rt; out.queue(TWO) == Ok(numbered(FRAME_NUMBERS - 1, TWO)));
-    assert!(rt; out.queue(TWO) == Err(LinkFault::NumberFull));
-    assert_eq!(rt; out.pending(), 1);
+    let last = Frame::Numbered {
+        number: FRAME_NUMBERS - 1,
+        body: TWO,
+    };
+    for (answer, pending) in [(Ok(last), 1), (Err(LinkFault::NumberFull), 1)] {
+        assert_eq!(rt; out.queue(TWO), answer);
+        assert_eq!(rt; out.pending(), pending);
+    }
+    assert!(rt; Outbox::starting(rt.alloc(), FRAME_NUMBERS).is_some());
     assert!(rt; Outbox::starting(rt.alloc(), FRAME_NUMBERS + 1).is_none());
 }
 
 #[test]
 fn inbox_accepts_in_order(rt: HostRuntime) {
     let mut inbox = Inbox::new();
-    assert!(rt; inbox.take(1, TWO) == None);
-    assert!(rt; inbox.take(0, TWO) == Some(TWO));
-    assert!(rt; inbox.take(0, TWO) == None);
-    assert_eq!(rt; inbox.expected(), 1);
+    let cases = [
+        (1, None, 0),
+        (0, Some(TWO), 1),
+        (0, None, 1),
+        (2, None, 1),
+        (1, Some(TWO), 2),
+    ];
+    for (number, accepted, expected) in cases {
+        assert_eq!(rt; inbox.take(number, TWO), accepted);
+        assert_eq!(rt; inbox.expected(), expected);
+    }
     let mut last = Inbox::starting(FRAME_NUMBERS).expect(&rt, "the last count");
-    assert!(rt; last.take(FRAME_NUMBERS, TWO) == None);
+    assert_eq!(rt; last.take(FRAME_NUMBERS, TWO), None);
     assert!(rt; Inbox::starting(FRAME_NUMBERS + 1).is_none());
 }
 
 #[test]
-fn refused_memory_changes_nothing(rt: HostRuntime) {
+fn each_refusal_changes_no_link(rt: HostRuntime) {
     let heap = Refusing::new(rt.alloc(), 0);
     let mut out = Outbox::new(&heap);
-    assert!(rt; out.queue(TWO) == Err(LinkFault::OutOfMemory));
+    assert_eq!(rt; out.queue(TWO), Err(LinkFault::OutOfMemory));
     assert_eq!(rt; out.pending(), 0);
-    assert!(rt; out.queue(TWO) == Ok(numbered(0, TWO)));
-}
-
-#[test]
-fn links_keep_what_is_not_acknowledged_by_all(rt: HostRuntime) {
-    let mut out = Outboxes::new(rt.alloc(), 3).expect(&rt, "three processes");
-    assert_eq!(rt; out.processes(), 3);
-    assert!(rt; out.queue(1, TWO) == Ok(0));
-    assert!(rt; out.queue(1, THREE) == Ok(1));
-    assert_eq!(rt; out.next(), 2);
-    assert_eq!(rt; out.pending(0), 2);
-    assert_eq!(rt; out.pending(1), 0);
-    assert!(rt; out.got(0, 3) == Err(Ahead));
-    assert!(rt; out.got(0, 2) == Ok(()));
-    assert!(rt; out.resend(0, 0) == None);
-    assert!(rt; out.resend(2, 0) == Some(numbered(0, TWO)));
-    assert!(rt; out.resend(2, 1) == Some(numbered(1, THREE)));
-    assert!(rt; out.resend(2, 2) == None);
-    assert!(rt; out.resend(2, 18_446_744_073_709_551_615) == None);
-    assert!(rt; out.got(2, 1) == Ok(()));
-    assert!(rt; out.got(2, 0) == Ok(()));
-    assert_eq!(rt; out.pending(2), 1);
-    assert!(rt; out.resend(2, 0) == Some(numbered(1, THREE)));
-    assert!(rt; out.queue(1, TWO) == Ok(2));
-    assert!(rt; out.resend(0, 0) == Some(numbered(2, TWO)));
-    assert!(rt; out.resend(1, 0) == None);
-    assert_eq!(rt; out.pending(2), 2);
-}
-
-#[test]
-fn one_process_has_all_that_it_queues(rt: HostRuntime) {
-    let mut out = Outboxes::new(rt.alloc(), 1).expect(&rt, "one process");
-    assert!(rt; out.queue(0, TWO) == Ok(0));
-    assert_eq!(rt; out.pending(0), 0);
-    assert!(rt; out.queue(0, THREE) == Ok(1));
-    assert!(rt; out.got(0, 3) == Err(Ahead));
-}
-
-#[test]
-fn each_refusal_changes_no_link(rt: HostRuntime) {
+    assert!(rt; out.queue(TWO).is_ok());
     let none = Refusing::new(rt.alloc(), 0);
     assert!(rt; Outboxes::new(&none, 3).is_err());
     let heap = Refusing::new(rt.alloc(), 1);
     let mut out = Outboxes::new(&heap, 3).expect(&rt, "the counts");
-    assert!(rt; out.queue(1, TWO) == Err(LinkFault::OutOfMemory));
-    assert_eq!(rt; out.next(), 0);
-    assert_eq!(rt; out.pending(0), 0);
-    assert!(rt; out.queue(1, TWO) == Ok(0));
-    assert!(rt; out.resend(0, 0) == Some(numbered(0, TWO)));
+    for answer in [Err(LinkFault::OutOfMemory), Ok(0), Ok(1)] {
+        assert!(rt; out.processes() == 3);
+        let next = out.next();
+        assert_eq!(rt; out.queue(1, TWO), answer);
+        assert!(rt; answer.is_ok() || out.next() == next);
+    }
+    assert!(rt; out.processes() == 3);
+    assert_eq!(rt; (out.next(), out.pending(0)), (2, 2));
 }

@@ -1,50 +1,356 @@
-//! Worked examples of one process and of two side by side.
-use crate::values::{READ, WRITE_FIVE, ack, cast, write_of};
-use reg_base::limits::{LAST_TIME, MOST_OPERATIONS};
-use reg_base::{Answer, Op, Shape, Stamp};
-use reg_frames::Frame;
+//! Worked examples of one process and of several side by side, as tables of steps and what each gives.
+use crate::traces::{Row, follow};
+use crate::values::{READ, WRITE_FIVE};
+use reg_base::limits::{MOST_OPERATIONS, MOST_RESENT};
+use reg_base::{Op, Shape};
+use reg_frames::{Body, Frame};
 use reg_front::{FrontEnd, Linear, LocalRead, LocalWrite};
-use reg_process::{Delivered, Outcome, Process, ProcessFault, Put, Reply};
+use reg_process::{Process, ProcessFault, Step};
 use std::alloc::Global;
 use std::process::Abort;
+use std::test::Fail;
 
-const OUT_OF_RANGE: Op = Op::Read { register: 1 };
+const BEYOND: Op = Op::Read { register: 1 };
 
-fn started<F: FrontEnd>(rt: &impl Abort, alloc: Global, processes: u32, me: u8) -> Process<F> {
+const SWAP_SIX: Op = Op::Swap {
+    register: 0,
+    value: 6,
+};
+
+/// A call of a write.
+macro_rules! call_write {
+    ($value:expr) => {
+        Step::Call {
+            op: Op::Write {
+                register: 0,
+                value: $value,
+            },
+        }
+    };
+}
+
+/// A call of another operation.
+macro_rules! call {
+    ($op:expr) => {
+        Step::Call { op: $op }
+    };
+}
+
+/// The take of a frame with this number and body.
+macro_rules! take {
+    ($from:expr, $number:expr, $body:expr) => {
+        Step::Take {
+            from: $from,
+            frame: Frame::Numbered {
+                number: $number,
+                body: $body,
+            },
+        }
+    };
+}
+
+/// The take of a count.
+macro_rules! got {
+    ($from:expr, $count:expr) => {
+        Step::Take {
+            from: $from,
+            frame: Frame::Got { count: $count },
+        }
+    };
+}
+
+macro_rules! ack {
+    ($time:expr) => {
+        Body::Ack { time: $time }
+    };
+}
+
+macro_rules! cast {
+    ($time:expr, $op:expr) => {
+        Body::Cast {
+            time: $time,
+            op: $op,
+        }
+    };
+}
+
+const AT_ONCE: [Row; 7] = [
+    (
+        0,
+        call_write!(5),
+        "casts at 1 of p0, puts #0 cast 1 write x 5 to p1, done at place 0, clock 1, pending 1, unsettled 1, delivered 0, free, x 0",
+    ),
+    (
+        0,
+        Step::Tick,
+        "puts #0 cast 1 write x 5 to p1, clock 1, pending 1, unsettled 1, delivered 0, free, x 0",
+    ),
+    (
+        0,
+        call!(READ),
+        "clock 1, pending 1, unsettled 1, delivered 0, busy, x 0",
+    ),
+    (
+        0,
+        call_write!(5),
+        "Busy, clock 1, pending 1, unsettled 1, delivered 0, busy, x 0",
+    ),
+    (
+        0,
+        call!(BEYOND),
+        "Busy, clock 1, pending 1, unsettled 1, delivered 0, busy, x 0",
+    ),
+    (
+        0,
+        take!(1, 0, ack!(2)),
+        "puts got 1 to p1, delivers write x 5 at 1 of p0, value 5 at place 1, clock 3, pending 1, unsettled 0, delivered 1, free, x 5",
+    ),
+    (
+        0,
+        got!(1, 1),
+        "clock 3, pending 0, unsettled 0, delivered 1, free, x 5",
+    ),
+];
+
+const WAITING: [Row; 4] = [
+    (
+        0,
+        call_write!(5),
+        "casts at 1 of p0, puts #0 cast 1 write x 5 to p1, clock 1, pending 1, unsettled 1, delivered 0, busy, x 0",
+    ),
+    (
+        1,
+        take!(0, 0, cast!(1, WRITE_FIVE)),
+        "puts got 1 to p0, puts #0 ack 2 to p0, delivers write x 5 at 1 of p0, clock 2, pending 1, unsettled 0, delivered 1, free, x 5",
+    ),
+    (
+        0,
+        take!(1, 0, ack!(2)),
+        "puts got 1 to p1, delivers write x 5 at 1 of p0, done at place 0, clock 3, pending 1, unsettled 0, delivered 1, free, x 5",
+    ),
+    // The same frame again is dropped, and changes nothing.
+    (
+        1,
+        take!(0, 0, cast!(1, WRITE_FIVE)),
+        "puts got 1 to p0, clock 2, pending 1, unsettled 0, delivered 1, free, x 5",
+    ),
+];
+
+const TO_ALL: [Row; 1] = [(
+    1,
+    take!(2, 0, cast!(1, WRITE_FIVE)),
+    "puts #0 ack 2 to p0, puts got 1 to p2, puts #0 ack 2 to p2, clock 2, pending 2, unsettled 0, delivered 0, free, x 0",
+)];
+
+const HELD_READ: [Row; 3] = [
+    (
+        0,
+        call_write!(1),
+        "casts at 1 of p0, puts #0 cast 1 write x 1 to p1, done at place 0, clock 1, pending 1, unsettled 1, delivered 0, free, x 0",
+    ),
+    (
+        0,
+        call!(READ),
+        "clock 1, pending 1, unsettled 1, delivered 0, busy, x 0",
+    ),
+    (
+        0,
+        take!(
+            1,
+            0,
+            cast!(
+                1,
+                Op::Write {
+                    register: 0,
+                    value: 2
+                }
+            )
+        ),
+        "puts got 1 to p1, puts #1 ack 2 to p1, delivers write x 1 at 1 of p0, delivers write x 2 at 1 of p1, value 1 at place 1, clock 2, pending 2, unsettled 0, delivered 2, free, x 2",
+    ),
+];
+
+const SWAP: [Row; 3] = [
+    (
+        0,
+        call_write!(5),
+        "casts at 1 of p0, puts #0 cast 1 write x 5 to p1, done at place 0, clock 1, pending 1, unsettled 1, delivered 0, free, x 0",
+    ),
+    (
+        0,
+        call!(SWAP_SIX),
+        "casts at 2 of p0, puts #1 cast 2 swap x 6 to p1, clock 2, pending 2, unsettled 2, delivered 0, busy, x 0",
+    ),
+    // It acknowledged the swap too, so both are delivered.
+    (
+        0,
+        take!(1, 0, ack!(3)),
+        "puts got 1 to p1, delivers write x 5 at 1 of p0, delivers swap x 6 at 2 of p0, value 5 at place 1, clock 4, pending 2, unsettled 0, delivered 2, free, x 6",
+    ),
+];
+
+const REFUSED: [Row; 8] = [
+    (
+        1,
+        got!(0, 1),
+        "Ahead, clock 0, pending 0, unsettled 0, delivered 0, free, x 0",
+    ),
+    (
+        1,
+        take!(0, 0, cast!(5, BEYOND)),
+        "NoRegister, clock 0, pending 0, unsettled 0, delivered 0, free, x 0",
+    ),
+    (
+        1,
+        take!(1, 0, ack!(5)),
+        "NoProcess, clock 0, pending 0, unsettled 0, delivered 0, free, x 0",
+    ),
+    (
+        1,
+        take!(2, 0, ack!(5)),
+        "NoProcess, clock 0, pending 0, unsettled 0, delivered 0, free, x 0",
+    ),
+    (
+        1,
+        call!(BEYOND),
+        "NoRegister, clock 0, pending 0, unsettled 0, delivered 0, free, x 0",
+    ),
+    (
+        1,
+        take!(0, 0, ack!(5)),
+        "puts got 1 to p0, clock 6, pending 0, unsettled 0, delivered 0, free, x 0",
+    ),
+    (
+        1,
+        take!(0, 1, ack!(5)),
+        "Stale, clock 6, pending 0, unsettled 0, delivered 0, free, x 0",
+    ),
+    (
+        1,
+        take!(0, 1, ack!(6)),
+        "puts got 2 to p0, clock 7, pending 0, unsettled 0, delivered 0, free, x 0",
+    ),
+];
+
+const OUT_OF_TURN: [Row; 1] = [(
+    1,
+    take!(0, 1, cast!(1, BEYOND)),
+    "puts got 0 to p0, clock 0, pending 0, unsettled 0, delivered 0, free, x 0",
+)];
+
+const LAST_TIME: [Row; 4] = [
+    (
+        1,
+        take!(0, 0, cast!(281_474_976_710_655, WRITE_FIVE)),
+        "puts got 1 to p0, puts #0 ack 281474976710656 to p0, delivers write x 5 at 281474976710655 of p0, clock 281474976710656, pending 1, unsettled 0, delivered 1, free, x 5",
+    ),
+    (
+        1,
+        call!(READ),
+        "value 5 at place 1, clock 281474976710656, pending 1, unsettled 0, delivered 1, free, x 5",
+    ),
+    (1, call_write!(5), "ClockFull"),
+    (1, call!(READ), "Failed"),
+];
+
+const PAST_LAST_TIME: [Row; 2] = [
+    (
+        1,
+        take!(0, 0, cast!(281_474_976_710_656, WRITE_FIVE)),
+        "ClockFull",
+    ),
+    (1, Step::Tick, "Failed"),
+];
+
+/// A process that has stopped, beside one that runs.
+const STOPPED: [Row; 9] = [
+    (1, take!(0, 0, ack!(281_474_976_710_656)), "ClockFull"),
+    (1, call!(READ), "Failed"),
+    (1, take!(0, 0, ack!(1)), "Failed"),
+    (1, take!(2, 0, ack!(1)), "Failed"),
+    (1, Step::Tick, "Failed"),
+    (
+        0,
+        call!(READ),
+        "value 0 at place 0, clock 0, pending 0, unsettled 0, delivered 0, free, x 0",
+    ),
+    (
+        0,
+        call_write!(5),
+        "casts at 1 of p0, puts #0 cast 1 write x 5 to p1, clock 1, pending 1, unsettled 1, delivered 0, busy, x 0",
+    ),
+    (
+        0,
+        Step::Tick,
+        "puts #0 cast 1 write x 5 to p1, clock 1, pending 1, unsettled 1, delivered 0, busy, x 0",
+    ),
+    (1, take!(0, 0, cast!(1, WRITE_FIVE)), "Failed"),
+];
+
+const EACH_LACKS: [Row; 7] = [
+    (
+        1,
+        call_write!(5),
+        "casts at 1 of p1, puts #0 cast 1 write x 5 to p0, puts #0 cast 1 write x 5 to p2, done at place 0, clock 1, pending 2, unsettled 1, delivered 0, free, x 0",
+    ),
+    (
+        1,
+        call_write!(6),
+        "casts at 2 of p1, puts #1 cast 2 write x 6 to p0, puts #1 cast 2 write x 6 to p2, done at place 0, clock 2, pending 4, unsettled 2, delivered 0, free, x 0",
+    ),
+    (
+        1,
+        got!(0, 2),
+        "clock 2, pending 2, unsettled 2, delivered 0, free, x 0",
+    ),
+    (
+        1,
+        got!(2, 1),
+        "clock 2, pending 1, unsettled 2, delivered 0, free, x 0",
+    ),
+    (
+        1,
+        Step::Tick,
+        "puts #1 cast 2 write x 6 to p2, clock 2, pending 1, unsettled 2, delivered 0, free, x 0",
+    ),
+    (
+        1,
+        call!(READ),
+        "clock 2, pending 1, unsettled 2, delivered 0, busy, x 0",
+    ),
+    (
+        1,
+        got!(0, 3),
+        "Ahead, clock 2, pending 1, unsettled 2, delivered 0, busy, x 0",
+    ),
+];
+
+#[test]
+fn two_processes_step_by_step(rt: HostRuntime) -> Result<(), Fail> {
+    for rows in [AT_ONCE.as_slice(), HELD_READ.as_slice(), SWAP.as_slice()] {
+        follow::<LocalWrite>(&rt, 2, rows)?;
+    }
+    for rows in [
+        REFUSED.as_slice(),
+        OUT_OF_TURN.as_slice(),
+        LAST_TIME.as_slice(),
+        PAST_LAST_TIME.as_slice(),
+        STOPPED.as_slice(),
+    ] {
+        follow::<LocalRead>(&rt, 2, rows)?;
+    }
+    follow::<Linear>(&rt, 2, WAITING.as_slice())
+}
+
+#[test]
+fn three_processes_step_by_step(rt: HostRuntime) -> Result<(), Fail> {
+    follow::<Linear>(&rt, 3, TO_ALL.as_slice())?;
+    follow::<LocalWrite>(&rt, 3, EACH_LACKS.as_slice())
+}
+
+fn started<F: FrontEnd>(rt: &impl Abort, alloc: Global, processes: u32) -> Process<F> {
     let shape = Shape::new(processes, 1).expect(rt, "a shape");
-    Process::new(alloc, shape, me).expect(rt, "a process of the shape")
-}
-
-fn put(to: u8, frame: Frame) -> Put {
-    Put { to, frame }
-}
-
-fn delivered(time: u64, process: u8, op: Op) -> Delivered {
-    Delivered {
-        stamp: Stamp { time, process },
-        op,
-    }
-}
-
-fn done(place: u64) -> Option<Reply> {
-    Some(Reply {
-        answer: Answer::Done,
-        place,
-    })
-}
-
-fn value(value: u64, place: u64) -> Option<Reply> {
-    Some(Reply {
-        answer: Answer::Value(value),
-        place,
-    })
-}
-
-fn is_refused(outcome: Result<Outcome, ProcessFault>, fault: ProcessFault) -> bool {
-    match outcome {
-        Ok(_) => false,
-        Err(found) => found == fault,
-    }
+    Process::new(alloc, shape, 0).expect(rt, "a process of the shape")
 }
 
 #[test]
@@ -55,241 +361,40 @@ fn no_process_past_the_last(rt: HostRuntime) {
 }
 
 #[test]
-fn local_write_answers_at_once(rt: HostRuntime) {
-    let mut process = started::<LocalWrite>(&rt, rt.alloc(), 2, 0);
-    let out = process.call(WRITE_FIVE).expect(&rt, "a write");
-    assert!(rt;
-        out.cast
-            == Some(Stamp {
-                time: 1,
-                process: 0
-            })
-    );
-    assert!(rt; out.reply == done(0));
-    assert!(rt; out.frames.as_slice() == [put(1, cast(0, 1, WRITE_FIVE))].as_slice());
-    assert_eq!(rt; process.pending(), 1);
-    assert_eq!(rt; process.unsettled(), 1);
-    let again = process.tick().expect(&rt, "a tick");
-    assert!(rt; again.frames.as_slice() == out.frames.as_slice());
-    assert_eq!(rt; process.clock(), 1);
-    let held = process.call(READ).expect(&rt, "a held read");
-    assert!(rt; held.reply == None);
-    assert!(rt; held.cast == None);
-    assert_eq!(rt; held.frames.len(), 0);
-    assert!(rt; process.busy());
-    assert!(rt; is_refused(process.call(WRITE_FIVE), ProcessFault::Busy));
-    assert!(rt; is_refused(process.call(OUT_OF_RANGE), ProcessFault::Busy));
-    let last = process
-        .take(1, &ack(0, 2))
-        .expect(&rt, "an acknowledgement");
-    assert!(rt; last.reply == value(5, 1));
-    assert!(rt; last.frames.as_slice() == [put(1, Frame::Got { count: 1 })].as_slice());
-    assert!(rt; last.delivered.as_slice() == [delivered(1, 0, WRITE_FIVE)].as_slice());
-    assert!(rt; !process.busy());
-    assert_eq!(rt; process.delivered_count(), 1);
-    let nothing = process
-        .take(1, &Frame::Got { count: 1 })
-        .expect(&rt, "a count");
-    assert_eq!(rt; nothing.frames.len(), 0);
-    assert_eq!(rt; process.pending(), 0);
-}
-
-#[test]
-fn linear_waits_for_its_own_cast(rt: HostRuntime) {
-    let mut caster = started::<Linear>(&rt, rt.alloc(), 2, 0);
-    let mut other = started::<Linear>(&rt, rt.alloc(), 2, 1);
-    let out = caster.call(WRITE_FIVE).expect(&rt, "a write");
-    assert!(rt; out.reply == None);
-    assert!(rt; caster.busy());
-    let heard = other.take(0, &cast(0, 1, WRITE_FIVE)).expect(&rt, "a cast");
-    assert!(rt;
-        heard.frames.as_slice() == [put(0, Frame::Got { count: 1 }), put(0, ack(0, 2))].as_slice()
-    );
-    assert!(rt; heard.delivered.as_slice() == [delivered(1, 0, WRITE_FIVE)].as_slice());
-    assert_eq!(rt; other.clock(), 2);
-    let settled = caster.take(1, &ack(0, 2)).expect(&rt, "an acknowledgement");
-    assert!(rt; settled.reply == done(0));
-    assert_eq!(rt; caster.clock(), 3);
-    assert!(rt; caster.registers().get(0) == Some(5));
-    assert!(rt; other.registers().get(0) == Some(5));
-    // The same frame again is dropped, and changes nothing.
-    let again = other
-        .take(0, &cast(0, 1, WRITE_FIVE))
-        .expect(&rt, "a repeated cast");
-    assert!(rt; again.frames.as_slice() == [put(0, Frame::Got { count: 1 })].as_slice());
-    assert_eq!(rt; again.delivered.len(), 0);
-    assert_eq!(rt; other.delivered_count(), 1);
-}
-
-#[test]
-fn acknowledges_to_all(rt: HostRuntime) {
-    let mut process = started::<Linear>(&rt, rt.alloc(), 3, 1);
-    let out = process
-        .take(2, &cast(0, 1, WRITE_FIVE))
-        .expect(&rt, "a cast");
-    assert!(rt;
-        out.frames.as_slice()
-            == [
-                put(0, ack(0, 2)),
-                put(2, Frame::Got { count: 1 }),
-                put(2, ack(0, 2))
-            ]
-            .as_slice()
-    );
-    assert_eq!(rt; out.delivered.len(), 0);
-    assert_eq!(rt; process.pending(), 2);
-}
-
-#[test]
-fn held_read_sees_no_later_cast(rt: HostRuntime) {
-    let mut process = started::<LocalWrite>(&rt, rt.alloc(), 2, 0);
-    let first = process.call(write_of(1)).expect(&rt, "a write");
-    assert!(rt; first.reply == done(0));
-    let held = process.call(READ).expect(&rt, "a held read");
-    assert!(rt; held.reply == None);
-    let out = process
-        .take(1, &cast(0, 1, write_of(2)))
-        .expect(&rt, "a cast");
-    assert!(rt;
-        out.delivered.as_slice()
-            == [delivered(1, 0, write_of(1)), delivered(1, 1, write_of(2))].as_slice()
-    );
-    assert!(rt; out.reply == value(1, 1));
-    assert!(rt; process.registers().get(0) == Some(2));
-}
-
-#[test]
-fn refusals_leave_a_process_as_it_was(rt: HostRuntime) {
-    let mut process = started::<LocalRead>(&rt, rt.alloc(), 2, 1);
-    assert!(rt;
-        is_refused(
-            process.take(0, &Frame::Got { count: 1 }),
-            ProcessFault::Ahead
-        )
-    );
-    assert!(rt;
-        is_refused(
-            process.take(0, &cast(0, 5, OUT_OF_RANGE)),
-            ProcessFault::NoRegister
-        )
-    );
-    assert!(rt; is_refused(process.take(1, &ack(0, 5)), ProcessFault::NoProcess));
-    assert!(rt; is_refused(process.take(2, &ack(0, 5)), ProcessFault::NoProcess));
-    assert!(rt; is_refused(process.call(OUT_OF_RANGE), ProcessFault::NoRegister));
-    assert_eq!(rt; process.clock(), 0);
-    let heard = process
-        .take(0, &ack(0, 5))
-        .expect(&rt, "an acknowledgement");
-    assert!(rt; heard.frames.as_slice() == [put(0, Frame::Got { count: 1 })].as_slice());
-    assert!(rt; is_refused(process.take(0, &ack(1, 5)), ProcessFault::Stale));
-    assert_eq!(rt; process.clock(), 6);
-    let next = process
-        .take(0, &ack(1, 6))
-        .expect(&rt, "a later acknowledgement");
-    assert!(rt; next.frames.as_slice() == [put(0, Frame::Got { count: 2 })].as_slice());
-}
-
-#[test]
-fn frame_out_of_turn_is_not_looked_at(rt: HostRuntime) {
-    let mut process = started::<LocalRead>(&rt, rt.alloc(), 2, 1);
-    let out = process
-        .take(0, &cast(1, 1, OUT_OF_RANGE))
-        .expect(&rt, "a frame out of turn");
-    assert!(rt; out.frames.as_slice() == [put(0, Frame::Got { count: 0 })].as_slice());
-    assert_eq!(rt; process.clock(), 0);
-}
-
-#[test]
-fn last_time_is_used(rt: HostRuntime) {
-    let mut process = started::<LocalRead>(&rt, rt.alloc(), 2, 1);
-    let out = process
-        .take(0, &cast(0, LAST_TIME - 1, WRITE_FIVE))
-        .expect(&rt, "the last time but one");
-    assert!(rt;
-        out.frames.as_slice()
-            == [put(0, Frame::Got { count: 1 }), put(0, ack(0, LAST_TIME))].as_slice()
-    );
-    let read = process.call(READ).expect(&rt, "a read");
-    assert!(rt; read.reply == value(5, 1));
-    assert!(rt; is_refused(process.call(WRITE_FIVE), ProcessFault::ClockFull));
-    assert!(rt; is_refused(process.call(READ), ProcessFault::Failed));
-}
-
-#[test]
-fn stopped_process_beside_a_running_one(rt: HostRuntime) {
-    let mut stopped = started::<LocalRead>(&rt, rt.alloc(), 2, 1);
-    assert!(rt; is_refused(stopped.take(0, &ack(0, LAST_TIME)), ProcessFault::ClockFull));
-    assert!(rt; is_refused(stopped.call(READ), ProcessFault::Failed));
-    assert!(rt; is_refused(stopped.take(0, &ack(0, 1)), ProcessFault::Failed));
-    assert!(rt; is_refused(stopped.take(2, &ack(0, 1)), ProcessFault::Failed));
-    assert!(rt; is_refused(stopped.tick(), ProcessFault::Failed));
-    let mut running = started::<LocalRead>(&rt, rt.alloc(), 2, 0);
-    let read = running.call(READ).expect(&rt, "a read");
-    assert!(rt; read.reply == value(0, 0));
-    let out = running.call(WRITE_FIVE).expect(&rt, "a write");
-    assert!(rt; out.frames.as_slice() == [put(1, cast(0, 1, WRITE_FIVE))].as_slice());
-    let again = running.tick().expect(&rt, "a tick");
-    assert!(rt; again.frames.as_slice() == [put(1, cast(0, 1, WRITE_FIVE))].as_slice());
-    assert!(rt;
-        is_refused(
-            stopped.take(0, &cast(0, 1, WRITE_FIVE)),
-            ProcessFault::Failed
-        )
-    );
-    assert!(rt; running.busy());
-}
-
-#[test]
 fn operations_end(rt: HostRuntime) {
-    let mut process = started::<LocalRead>(&rt, rt.alloc(), 1, 0);
+    let mut process = started::<LocalRead>(&rt, rt.alloc(), 1);
     for _number in 0..MOST_OPERATIONS {
         assert!(rt; process.call(READ).is_ok());
     }
-    assert!(rt; is_refused(process.call(READ), ProcessFault::TooManyOperations));
+    assert!(rt; matches!(process.call(READ), Err(ProcessFault::TooManyOperations)));
     assert!(rt; process.tick().is_ok());
 }
 
 #[test]
 fn tick_puts_the_first_sixteen(rt: HostRuntime) {
-    let mut process = started::<LocalWrite>(&rt, rt.alloc(), 2, 0);
-    for _number in 0..17 {
+    assert_eq!(rt; MOST_RESENT, 16);
+    let mut process = started::<LocalWrite>(&rt, rt.alloc(), 2);
+    for count in 1..=17 {
         assert!(rt; process.call(WRITE_FIVE).is_ok());
+        let again = process.tick().expect(&rt, "a tick");
+        assert_eq!(rt; again.frames.len(), if count < 16 { count } else { 16 });
+        for (place, put) in again.frames.iter().enumerate() {
+            let number = place as u64;
+            let time = number.saturating_add(1);
+            let body = cast!(time, WRITE_FIVE);
+            assert!(rt; put.to == 1 && put.frame == Frame::Numbered { number, body });
+        }
     }
     assert_eq!(rt; process.pending(), 17);
-    let again = process.tick().expect(&rt, "a tick");
-    assert_eq!(rt; again.frames.len(), 16);
-    assert!(rt; again.frames.first() == Some(&put(1, cast(0, 1, WRITE_FIVE))));
-    assert!(rt; again.frames.last() == Some(&put(1, cast(15, 16, WRITE_FIVE))));
 }
 
 #[test]
 fn process_alone_puts_nothing(rt: HostRuntime) {
-    let mut process = started::<LocalWrite>(&rt, rt.alloc(), 1, 0);
+    let mut process = started::<LocalWrite>(&rt, rt.alloc(), 1);
     for _number in 0..17 {
         let out = process.call(WRITE_FIVE).expect(&rt, "a write");
-        assert_eq!(rt; out.frames.len(), 0);
-        assert_eq!(rt; out.delivered.len(), 1);
+        assert_eq!(rt; (out.frames.len(), out.delivered.len()), (0, 1));
     }
-    assert_eq!(rt; process.pending(), 0);
     let again = process.tick().expect(&rt, "a tick");
-    assert_eq!(rt; again.frames.len(), 0);
-}
-
-#[test]
-fn tick_puts_what_each_has_not(rt: HostRuntime) {
-    let mut process = started::<LocalWrite>(&rt, rt.alloc(), 3, 1);
-    assert!(rt; process.call(WRITE_FIVE).is_ok());
-    assert!(rt; process.call(write_of(6)).is_ok());
-    assert!(rt; process.take(0, &Frame::Got { count: 2 }).is_ok());
-    assert!(rt; process.take(2, &Frame::Got { count: 1 }).is_ok());
-    assert_eq!(rt; process.pending(), 1);
-    let again = process.tick().expect(&rt, "a tick");
-    assert!(rt; again.frames.as_slice() == [put(2, cast(1, 2, write_of(6)))].as_slice());
-    assert!(rt; process.call(READ).is_ok());
-    assert!(rt;
-        is_refused(
-            process.take(0, &Frame::Got { count: 3 }),
-            ProcessFault::Ahead
-        )
-    );
+    assert_eq!(rt; (process.pending(), again.frames.len()), (0, 0));
 }

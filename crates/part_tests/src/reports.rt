@@ -1,14 +1,16 @@
 use crate::values::id;
+use reg_base::limits::MOST_PROCESSES;
 use reg_base::{Answer, Names, Op, OpId, Shape};
 use reg_history::{
     Entry, History, Point, ReadFault, ReadWhy, Report, ReportFault, read_report, write_report,
 };
+use std::alloc::Global;
 use std::test::Fail;
 
-const ONE_PROCESS: &str =
+pub(crate) const ONE_PROCESS: &str =
     "awreg report 1\nfront linear\nprocesses 1\nregisters x\nhistory 4\n       0  p0    #0       call    write x 5\n       0  p0    #0       answer  done\n       1  p0    #1       call    read x\n       1  p0    #1       answer  value 5\norder 2\np0 #0\np0 #1\npoints 2\np0 #0 at 0\np0 #1 at 1\nend\n";
 
-const NO_POINTS: &str =
+pub(crate) const NO_POINTS: &str =
     "awreg report 1\nfront local-read\nprocesses 3\nregisters x\nhistory 4\n       0  p0    #0       call    write x 5\n       4  p0    #0       answer  done\n       5  p1    #0       call    read x\n       5  p1    #0       answer  value 0\norder 2\np1 #0\np0 #0\nend\n";
 
 // The same in version 2.
@@ -87,71 +89,124 @@ fn made(
     ))
 }
 
-#[test]
-fn a_report_is_written(rt: HostRuntime) -> Result<(), Fail> {
-    let report = made(&rt, "linear", &["x"], &[id(0, 0), id(0, 1)], &points())??;
-    assert_eq!(rt; report.front(), "linear");
-    assert_eq!(rt; report.names().count(), 1);
-    assert_eq!(rt; report.history().entries(), entries().as_slice());
-    assert_eq!(rt; report.order(), [id(0, 0), id(0, 1)].as_slice());
-    assert_eq!(rt; report.points(), Some(points().as_slice()));
-    let mut out = Vec::new(rt.alloc());
-    write_report(&mut out, &report)?;
-    assert_eq!(rt; out.as_slice(), ONE_PROCESS_NOW.as_bytes());
-    Ok(())
+/// What the getters of a report give.
+fn told(alloc: Global, report: &Report) -> Result<String, Fail> {
+    Ok(format!(in alloc;
+        "{}, {} names\n{:?}\n{:?}\n{:?}\n",
+        report.front(),
+        report.names().count(),
+        report.history().entries(),
+        report.order(),
+        report.points()
+    )?)
+}
+
+fn written(alloc: Global, report: &Report) -> Result<String, Fail> {
+    let mut out = Vec::new(alloc);
+    write_report(&mut out, report)?;
+    Ok(String::from_utf8(out)?)
 }
 
 #[test]
-fn parts_that_are_no_report_are_refused(rt: HostRuntime) -> Result<(), Fail> {
-    let far = [OpId {
-        process: 64,
+fn a_report_is_written(rt: HostRuntime) -> Result<(), Fail> {
+    let report = made(&rt, "linear", &["x"], &[id(0, 0), id(0, 1)], &points())??;
+    let parts = told(rt.alloc(), &report)?;
+    assert_eq!(rt;
+        parts.as_str(),
+        "linear, 1 names
+[Called { at: 0, id: OpId { process: 0, number: 0 }, op: Write { register: 0, value: 5 } }, Answered { at: 0, id: OpId { process: 0, number: 0 }, answer: Done }, Called { at: 1, id: OpId { process: 0, number: 1 }, op: Read { register: 0 } }, Answered { at: 1, id: OpId { process: 0, number: 1 }, answer: Value(5) }]
+[OpId { process: 0, number: 0 }, OpId { process: 0, number: 1 }]
+Some([Point { id: OpId { process: 0, number: 0 }, at: 0 }, Point { id: OpId { process: 0, number: 1 }, at: 1 }])
+"
+    );
+    assert_eq!(rt; written(rt.alloc(), &report)?.as_str(), ONE_PROCESS_NOW);
+    Ok(())
+}
+
+const FAR: [OpId; 1] = [OpId {
+    process: MOST_PROCESSES as u8,
+    number: 0,
+}];
+
+const NUMBER_TOO_FAR: [OpId; 1] = [OpId {
+    process: 0,
+    number: 65_535,
+}];
+
+const LAST_NUMBER: [OpId; 1] = [OpId {
+    process: 0,
+    number: 65_534,
+}];
+
+const LATE: [Point; 1] = [Point {
+    id: OpId {
+        process: 0,
         number: 0,
-    }];
-    let late = [Point {
-        id: id(0, 0),
-        at: 1_048_576,
-    }];
-    assert_eq!(rt;
-        made(&rt, "", &["x", "y"], &far, &late)?.err(),
-        Some(ReportFault::Front)
-    );
-    assert_eq!(rt;
-        made(&rt, "abcdefghijklmnopq", &["x"], &[], &[])?.err(),
-        Some(ReportFault::Front)
-    );
-    assert_eq!(rt;
-        made(&rt, "linear", &["x", "y"], &far, &[])?.err(),
-        Some(ReportFault::Names)
-    );
-    assert_eq!(rt;
-        made(&rt, "linear", &["x"], &far, &[])?.err(),
-        Some(ReportFault::Range)
-    );
-    assert_eq!(rt;
-        made(&rt, "linear", &["x"], &[id(0, 65_535)], &[])?.err(),
-        Some(ReportFault::Range)
-    );
-    assert_eq!(rt;
-        made(&rt, "linear", &["x"], &[], &late)?.err(),
-        Some(ReportFault::Range)
-    );
-    assert!(rt; made(&rt, "a-word-of-sixteen", &["x"], &[], &[])?.is_err());
-    assert!(rt; made(&rt, "another-word-too", &["x"], &[id(0, 65_534)], &[])?.is_ok());
+    },
+    at: 1_048_576,
+}];
+
+/// The word of the front end, the names, the order, the points, and why they are no report of the history above.
+type Parts = (
+    &'static str,
+    &'static [&'static str],
+    &'static [OpId],
+    &'static [Point],
+    Option<ReportFault>,
+);
+
+const CASES: [Parts; 9] = [
+    ("", &["x", "y"], &FAR, &LATE, Some(ReportFault::Front)),
+    (
+        "abcdefghijklmnopq",
+        &["x"],
+        &[],
+        &[],
+        Some(ReportFault::Front),
+    ),
+    ("a word", &["x"], &[], &[], Some(ReportFault::Front)),
+    (
+        "a-word-of-sixteen",
+        &["x"],
+        &[],
+        &[],
+        Some(ReportFault::Front),
+    ),
+    ("linear", &["x", "y"], &FAR, &[], Some(ReportFault::Names)),
+    ("linear", &["x"], &FAR, &[], Some(ReportFault::Range)),
+    (
+        "linear",
+        &["x"],
+        &NUMBER_TOO_FAR,
+        &[],
+        Some(ReportFault::Range),
+    ),
+    ("linear", &["x"], &[], &LATE, Some(ReportFault::Range)),
+    ("another-word-too", &["x"], &LAST_NUMBER, &[], None),
+];
+
+#[test]
+fn parts_that_are_no_report_are_refused(rt: HostRuntime) -> Result<(), Fail> {
+    for (front, names, ids, points, fault) in &CASES {
+        assert_eq!(rt;
+            made(&rt, front, names, ids, points)?.err(),
+            *fault,
+            "{front}"
+        );
+    }
     Ok(())
 }
 
 #[test]
 fn reports_are_written_in_version_2(rt: HostRuntime) -> Result<(), Fail> {
-    for (read, written) in [
+    for (read, now) in [
         (ONE_PROCESS, ONE_PROCESS_NOW),
         (ONE_PROCESS_NOW, ONE_PROCESS_NOW),
         (NO_POINTS, NO_POINTS_NOW),
         (NO_POINTS_NOW, NO_POINTS_NOW),
     ] {
         let report = read_report(rt.alloc(), read)?;
-        let mut out = Vec::new(rt.alloc());
-        write_report(&mut out, &report)?;
-        assert_eq!(rt; out.as_slice(), written.as_bytes());
+        assert_eq!(rt; written(rt.alloc(), &report)?.as_str(), now);
     }
     Ok(())
 }

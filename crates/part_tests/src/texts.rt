@@ -1,5 +1,4 @@
 //! Lines, parts of lines and operations as text, as the formats have them.
-use refusing::Refusing;
 use reg_base::{Names, Op};
 use reg_text::{
     Lines, OpLine, TextFault, Why, expect_line, field_within, in_front, is_numeral, left_field,
@@ -293,27 +292,4 @@ fn heads(rt: HostRuntime) {
         fault(5, Why::Form)
     );
     assert_eq!(rt; read_count(&mut others, b"p", 16).err(), fault(6, Why::End));
-}
-
-#[test]
-fn each_growth_is_refused(rt: HostRuntime) {
-    let mut through = false;
-    for before in 0..50u64 {
-        let heap = Refusing::new(rt.alloc(), before);
-        let mut lines = Lines::new(b"registers x y\nfront linear".as_slice());
-        match read_names(&heap, &mut lines, 256) {
-            Ok(names) => {
-                assert!(rt; heap.is_waiting());
-                assert!(rt; before > 2 && names.count() == 2);
-                assert_eq!(rt; lines.next(), Some(b"front linear".as_slice()));
-                through = true;
-                break;
-            }
-            Err(found) => {
-                assert!(rt; !heap.is_waiting());
-                assert_eq!(rt; found, TextFault::OutOfMemory);
-            }
-        }
-    }
-    assert!(rt; through);
 }

@@ -1,8 +1,11 @@
 //! An allocator for tests: it refuses one allocation, and hands every other call on.
 #![tactic(auto)]
 
+mod trials;
+
 use std::alloc::{AllocError, Allocator};
 use std::cell::Cell;
+pub use trials::{Trial, Wrong, refusals};
 
 /// Refuses the allocation after the first `before`, and no other.
 pub struct Refusing<B: Allocator> {

@@ -1,0 +1,112 @@
+//! What steps of processes give, a line for each.
+use reg_base::{Answer, Op, Shape};
+use reg_frames::{Body, Frame};
+use reg_front::FrontEnd;
+use reg_process::{Outcome, Process, ProcessFault, Step};
+use reg_text::OpLine;
+use std::alloc::Global;
+use std::process::Abort;
+use std::test::Fail;
+
+/// The process that makes the step, the step, and the line of what it gives.
+pub(crate) type Row = (u8, Step, &'static str);
+
+/// An operation by the names x and y of the first two registers.
+fn op_line(op: Op) -> OpLine<'static> {
+    let name = if op.register() == 0 { "x" } else { "y" };
+    OpLine { name, op }
+}
+
+fn frame_text(alloc: Global, frame: &Frame) -> Result<String, Fail> {
+    Ok(match *frame {
+        Frame::Got { count } => format!(in alloc; "got {count}")?,
+        Frame::Numbered { number, body } => match body {
+            Body::Ack { time } => format!(in alloc; "#{number} ack {time}")?,
+            Body::Cast { time, op } => {
+                let op = op_line(op);
+                format!(in alloc; "#{number} cast {time} {op}")?
+            }
+        },
+    })
+}
+
+fn push_told(alloc: Global, text: &mut String, out: &Outcome) -> Result<(), Fail> {
+    if let Some(stamp) = out.cast {
+        let part = format!(in alloc; "casts at {} of p{}, ", stamp.time, stamp.process)?;
+        text.push_str(part.as_str())?;
+    }
+    for put in &out.frames {
+        let frame = frame_text(alloc, &put.frame)?;
+        let part = format!(in alloc; "puts {frame} to p{}, ", put.to)?;
+        text.push_str(part.as_str())?;
+    }
+    for cast in &out.delivered {
+        let op = op_line(cast.op);
+        let stamp = cast.stamp;
+        let part = format!(in alloc; "delivers {op} at {} of p{}, ", stamp.time, stamp.process)?;
+        text.push_str(part.as_str())?;
+    }
+    if let Some(reply) = out.reply {
+        let part = match reply.answer {
+            Answer::Done => format!(in alloc; "done at place {}, ", reply.place)?,
+            Answer::Value(value) => format!(in alloc; "value {value} at place {}, ", reply.place)?,
+        };
+        text.push_str(part.as_str())?;
+    }
+    Ok(())
+}
+
+fn step_of<F: FrontEnd>(process: &mut Process<F>, step: &Step) -> Result<Outcome, ProcessFault> {
+    match step {
+        Step::Call { op } => process.call(*op),
+        Step::Take { from, frame } => process.take(*from, frame),
+        Step::Tick => process.tick(),
+    }
+}
+
+/// What the step gives, or why it is refused, and then what the process answers where it hasn't stopped.
+fn line_of<F: FrontEnd>(
+    alloc: Global,
+    process: &mut Process<F>,
+    step: &Step,
+) -> Result<String, Fail> {
+    let mut text = String::new(alloc);
+    match step_of(process, step) {
+        Ok(out) => push_told(alloc, &mut text, &out)?,
+        Err(ProcessFault::ClockFull) => return Ok(format!(in alloc; "ClockFull")?),
+        Err(ProcessFault::Failed) => return Ok(format!(in alloc; "Failed")?),
+        Err(fault) => text.push_str(format!(in alloc; "{fault:?}, ")?.as_str())?,
+    }
+    let state = format!(in alloc;
+        "clock {}, pending {}, unsettled {}, delivered {}, {}, x {}",
+        process.clock(),
+        process.pending(),
+        process.unsettled(),
+        process.delivered_count(),
+        if process.busy() { "busy" } else { "free" },
+        process.registers().get(0).unwrap_or(0)
+    )?;
+    text.push_str(state.as_str())?;
+    Ok(text)
+}
+
+/// Has processes of one shape make the steps, and demands the line of each.
+pub(crate) fn follow<F: FrontEnd>(
+    rt: &(impl Abort + AllocGlobal),
+    processes: u8,
+    rows: &[Row],
+) -> Result<(), Fail> {
+    let shape = Shape::new(u32::from(processes), 1)?;
+    let mut all = Vec::new(rt.alloc());
+    for me in 0..processes {
+        all.push(Process::<F>::new(rt.alloc(), shape, me)?)?;
+    }
+    for (at, step, told) in rows {
+        let process = all
+            .get_mut(*at as usize)
+            .expect(rt, "a process of the shape");
+        let line = line_of(rt.alloc(), process, step)?;
+        assert_eq!(rt; line.as_str(), *told, "p{at} {step:?}");
+    }
+    Ok(())
+}
