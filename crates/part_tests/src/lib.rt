@@ -7,6 +7,8 @@
 #[cfg(test)]
 mod bases;
 #[cfg(test)]
+mod changed_reports;
+#[cfg(test)]
 mod documents;
 #[cfg(test)]
 mod frames;
