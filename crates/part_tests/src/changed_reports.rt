@@ -1,5 +1,5 @@
 //! A report with each of its bytes changed to every other one.
-use crate::reports::ONE_PROCESS;
+use crate::reports::ONE_PROCESS_NOW;
 use reg_history::{ReadFault, read_report, write_report};
 use std::alloc::Global;
 use std::test::Fail;
@@ -18,7 +18,7 @@ fn is_refused_or_written_again(alloc: Global, text: &str) -> Result<bool, Fail> 
 
 #[test]
 fn every_changed_byte(rt: HostRuntime) -> Result<(), Fail> {
-    let mut bytes = ONE_PROCESS.as_bytes().to_vec(rt.alloc())?;
+    let mut bytes = ONE_PROCESS_NOW.as_bytes().to_vec(rt.alloc())?;
     for place in 0..bytes.len() {
         for change in 1..=255u8 {
             assert!(rt; place < bytes.len());

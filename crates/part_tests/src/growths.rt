@@ -1,6 +1,6 @@
 //! Each growth of the parts refused in turn: the answer is want of memory, or the one with ample memory.
 use crate::documents::SMALL;
-use crate::reports::{NO_POINTS, ONE_PROCESS};
+use crate::reports::{NO_POINTS, NO_POINTS_NOW, ONE_PROCESS};
 use crate::values::{READ, WRITE_FIVE, point};
 use refusing::{Trial, refusals};
 use reg_base::Shape;
@@ -137,7 +137,7 @@ struct Read;
 
 fn read_both<A: Allocator + Copy>(alloc: A, ample: Global) -> Result<Option<String>, Fail> {
     let mut lines = Lines::new(b"registers x y\nfront linear".as_slice());
-    let names = match read_names(alloc, &mut lines) {
+    let names = match read_names(alloc, &mut lines, 256) {
         Err(TextFault::OutOfMemory) => return Ok(None),
         read => read?,
     };
@@ -187,7 +187,7 @@ fn the_answers_with_ample_memory(rt: HostRuntime) -> Result<(), Fail> {
     let judged = Judged { text }
         .answer(alloc, alloc)?
         .expect(&rt, "ample memory");
-    let verdicts = judged.as_str().strip_suffix(NO_POINTS);
+    let verdicts = judged.as_str().strip_suffix(NO_POINTS_NOW);
     assert_eq!(rt; verdicts, Some("Ok(()) Err(Answer { place: 1 })\n"));
     Ok(())
 }

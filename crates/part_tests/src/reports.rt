@@ -14,10 +14,10 @@ pub(crate) const NO_POINTS: &str =
     "awreg report 1\nfront local-read\nprocesses 3\nregisters x\nhistory 4\n       0  p0    #0       call    write x 5\n       4  p0    #0       answer  done\n       5  p1    #0       call    read x\n       5  p1    #0       answer  value 0\norder 2\np1 #0\np0 #0\nend\n";
 
 // The same in version 2.
-const ONE_PROCESS_NOW: &str =
+pub(crate) const ONE_PROCESS_NOW: &str =
     "awreg report 2\nfront linear\nprocesses 1\nregisters 1\nx\nhistory 4\n       0  p0    #0       call    write x 5\n       0  p0    #0       answer  done\n       1  p0    #1       call    read x\n       1  p0    #1       answer  value 5\norder 2\np0 #0\np0 #1\npoints 2\np0 #0 at 0\np0 #1 at 1\nend\n";
 
-const NO_POINTS_NOW: &str =
+pub(crate) const NO_POINTS_NOW: &str =
     "awreg report 2\nfront local-read\nprocesses 3\nregisters 1\nx\nhistory 4\n       0  p0    #0       call    write x 5\n       4  p0    #0       answer  done\n       5  p1    #0       call    read x\n       5  p1    #0       answer  value 0\norder 2\np1 #0\np0 #0\nend\n";
 
 fn fault(line: u64, why: ReadWhy) -> Option<ReadFault> {
