@@ -1,6 +1,5 @@
-use Rattle.std.proofs.Common.{rules, arith, ◌≡◌, ◌++◌, ◌∷◌, [], List, ℕ, length, sym, subst, vec_len}
+use Rattle.std.proofs.Common.{rules, arith, ◌≡◌, ◌++◌, ◌∷◌, [], List, ℕ, length, sym, subst}
 use Rattle.std.proofs.lemmas.Grind.{common_steps}
-use Rattle.std.specs.Arc.{arc_value}
 use Rattle.reg_history.specs.History.{IsAt}
 use Rattle.reg_live.specs.Passes.{Held, new_pass}
 use Rattle.reg_live.proofs.Owning.{new_push}
