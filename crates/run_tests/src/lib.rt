@@ -5,6 +5,10 @@
 #[cfg(test)]
 mod checks;
 #[cfg(test)]
+mod growths;
+#[cfg(test)]
+mod inputs;
+#[cfg(test)]
 mod large_shapes;
 #[cfg(test)]
 mod limits;
@@ -18,8 +22,6 @@ mod play_reports;
 #[cfg(test)]
 mod plays;
 #[cfg(test)]
-mod refusals;
-#[cfg(test)]
 mod replay_reports;
 #[cfg(test)]
 mod replays;
@@ -27,5 +29,9 @@ mod replays;
 mod schedules;
 #[cfg(test)]
 mod seeded;
+#[cfg(test)]
+mod telling;
+#[cfg(test)]
+mod world_rows;
 #[cfg(test)]
 mod worlds;

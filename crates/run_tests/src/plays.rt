@@ -1,17 +1,13 @@
 //! Plays of small scripts.
 use part_tests::values::{READ, WRITE_FIVE, answered, called, id};
-use refusing::Refusing;
 use reg_base::Answer;
 use reg_front::{FrontEnd, Linear, LocalWrite};
 use reg_history::{Entry, check_points, check_serial};
-use reg_workload::{
-    Play, SeedWords, Words, Workload, WorkloadFault, play_fair, play_seeded, read_table,
-};
-use std::alloc::{AllocError, Allocator};
+use reg_workload::{Play, SeedWords, Words, Workload, play_fair, play_seeded};
 use std::process::Abort;
 
 /// A write and a read at process 0, and a read at process 1.
-const SMALL: &str =
+pub(crate) const SMALL: &str =
     "front = \"local-write\"\nregisters = [\"x\"]\nscripts = [[\"write x 5\", \"read x\"], [\"read x\"]]\n";
 
 /// How a fifth of the frames is lost, and a fifth can be taken again.
@@ -117,40 +113,4 @@ fn seeds_differ(rt: HostRuntime) {
     assert_eq!(rt; word, same.word());
     assert_ne!(rt; word, other.word());
     assert_eq!(rt; one.word(), same.word());
-}
-
-/// Reads the small workload and plays it by turns.
-fn read_and_play<A: Allocator + Copy>(
-    rt: &(impl AllocGlobal + Abort),
-    alloc: A,
-) -> Result<Play<LocalWrite, A>, AllocError> {
-    let table = read_table(rt.alloc(), SMALL).expect(rt, "a document");
-    let work = match Workload::from_table(alloc, &table) {
-        Ok(work) => work,
-        Err(fault) => {
-            assert_eq!(rt; fault, WorkloadFault::OutOfMemory);
-            return Err(AllocError);
-        }
-    };
-    let _fair = play_fair::<LocalWrite, _>(alloc, &work)?;
-    play_seeded(alloc, &work, SeedWords::new(0))
-}
-
-#[test]
-fn each_growth_is_refused(rt: HostRuntime) {
-    let mut through = false;
-    for before in 0..500u64 {
-        let heap = Refusing::new(rt.alloc(), before);
-        match read_and_play(&rt, &heap) {
-            Ok(play) => {
-                assert!(rt; heap.is_waiting());
-                assert!(rt; play.finished);
-                assert!(rt; before > 20);
-                through = true;
-                break;
-            }
-            Err(_) => assert!(rt; !heap.is_waiting()),
-        }
-    }
-    assert!(rt; through);
 }

@@ -1,11 +1,14 @@
 //! A plain list of the witness, by a scan of all reads for each place, beside the merged one on pseudo-random runs.
+use crate::plays::SMALL;
 use reg_base::{Op, OpId, Shape};
 use reg_frames::{Body, Frame};
 use reg_front::{FrontEnd, Linear, LocalRead, LocalWrite};
 use reg_history::{Entry, check_points, check_serial};
+use reg_workload::{SeedWords, Workload, play_seeded};
 use reg_world::{Event, World};
 use std::alloc::{AllocError, Global};
 use std::process::Abort;
+use std::test::Fail;
 
 const PROCESSES: u8 = 3;
 
@@ -183,4 +186,54 @@ fn some_casts_are_lost_and_some_reads_share_a_place(rt: HostRuntime) {
     }
     assert!(rt; lost);
     assert!(rt; reads > 3);
+}
+
+/// The small workload, where a fifth of the frames is lost, and a fifth can be taken again.
+fn lossy(alloc: Global, budget: u32) -> Result<Workload, Fail> {
+    let text = format!(in alloc; "{SMALL}loss = 20\nrepeat = 20\nbudget = {budget}\n")?;
+    Ok(Workload::from_toml(alloc, text.as_str())?)
+}
+
+/// How a play with the words of this seed ends, once its witness is seen to be the plain list and a serial order.
+fn ends<F: FrontEnd>(
+    rt: &impl Abort,
+    alloc: Global,
+    work: &Workload,
+    seed: u64,
+) -> Result<(bool, u32), Fail> {
+    let play = play_seeded::<F, _, _>(alloc, work, SeedWords::new(seed))?;
+    let ids = play.world.witness()?;
+    let plain = plain_witness(alloc, &play.world)?;
+    assert_eq!(rt; ids.as_slice(), plain.as_slice(), "seed {seed}");
+    assert_eq!(rt; check_serial(alloc, play.world.history(), &ids), Ok(()));
+    Ok((play.finished, play.world.events()))
+}
+
+#[test]
+fn the_witness_of_each_play_is_the_plain_list(rt: HostRuntime) -> Result<(), Fail> {
+    let work = lossy(rt.alloc(), 100_000)?;
+    let mut finished = 0u32;
+    for seed in 0..200 {
+        let (one, _) = ends::<Linear>(&rt, rt.alloc(), &work, seed)?;
+        let (two, _) = ends::<LocalRead>(&rt, rt.alloc(), &work, seed)?;
+        let (three, _) = ends::<LocalWrite>(&rt, rt.alloc(), &work, seed)?;
+        finished = finished.saturating_add(u32::from(one || two || three));
+    }
+    assert!(rt; finished > 0);
+    Ok(())
+}
+
+#[test]
+fn a_lossy_play_keeps_a_tight_budget(rt: HostRuntime) -> Result<(), Fail> {
+    let mut cut = 0u32;
+    for budget in 1..40 {
+        let work = lossy(rt.alloc(), budget)?;
+        for seed in 0..10 {
+            let (finished, events) = ends::<LocalWrite>(&rt, rt.alloc(), &work, seed)?;
+            assert!(rt; events <= budget);
+            cut = cut.saturating_add(u32::from(!finished));
+        }
+    }
+    assert!(rt; cut > 0);
+    Ok(())
 }
