@@ -27,113 +27,147 @@ fn at(line: u64, why: ReadWhy) -> Option<ReadFault> {
     Some(ReadFault::Line { line, why })
 }
 
+/// A text, its line of processes, those of its registers, and the line that is refused with its cause.
+type Header = (
+    &'static str,
+    &'static str,
+    &'static str,
+    Option<(u64, ReadWhy)>,
+);
+
+const HEADERS: [Header; 21] = [
+    (OLDER, "processes 16", "registers x y", None),
+    (
+        OLDER,
+        "processes 17",
+        "registers x",
+        Some((3, ReadWhy::Range)),
+    ),
+    (
+        OLDER,
+        "processes 1",
+        "registers 1\nx",
+        Some((4, ReadWhy::Name)),
+    ),
+    (NEWER, "processes 17", "registers 1\nx", None),
+    (NEWER, "processes 64", "registers 2\ny\nx", None),
+    (
+        NEWER,
+        "processes 65",
+        "registers 1\nx",
+        Some((3, ReadWhy::Range)),
+    ),
+    (
+        NEWER,
+        "processes 0",
+        "registers 1\nx",
+        Some((3, ReadWhy::Range)),
+    ),
+    (
+        NEWER,
+        "processes 1",
+        "registers x",
+        Some((4, ReadWhy::Form)),
+    ),
+    (
+        NEWER,
+        "processes 1",
+        "registers 01\nx",
+        Some((4, ReadWhy::Form)),
+    ),
+    (
+        NEWER,
+        "processes 1",
+        "registers 0",
+        Some((4, ReadWhy::Range)),
+    ),
+    (
+        NEWER,
+        "processes 1",
+        "registers 4097",
+        Some((4, ReadWhy::Range)),
+    ),
+    (
+        NEWER,
+        "processes 1",
+        "registers 2\nx\nx",
+        Some((6, ReadWhy::Name)),
+    ),
+    (
+        NEWER,
+        "processes 1",
+        "registers 2\nx\nx1",
+        Some((6, ReadWhy::Name)),
+    ),
+    (
+        NEWER,
+        "processes 1",
+        "registers 2\nx\n",
+        Some((6, ReadWhy::Form)),
+    ),
+    (
+        NEWER,
+        "processes 1",
+        "registers 2\nx\ny z",
+        Some((6, ReadWhy::Form)),
+    ),
+    (
+        NEWER,
+        "processes 1",
+        "registers 2\nx\ny ",
+        Some((6, ReadWhy::Form)),
+    ),
+    (
+        NEWER,
+        "processes 1",
+        "registers 2\nx\né",
+        Some((6, ReadWhy::Form)),
+    ),
+    (
+        NEWER,
+        "processes 1",
+        "registers 3\nx\nx\ny z",
+        Some((6, ReadWhy::Name)),
+    ),
+    (
+        NEWER,
+        "processes 1",
+        "registers 9\nx\nx",
+        Some((6, ReadWhy::Name)),
+    ),
+    (
+        NEWER,
+        "processes 1",
+        "registers 9\nx\ny",
+        Some((7, ReadWhy::Form)),
+    ),
+    (
+        NEWER,
+        "processes 1",
+        "registers 1\nx\ny",
+        Some((6, ReadWhy::Form)),
+    ),
+];
+
 #[test]
 fn each_version_has_its_own_header(rt: HostRuntime) -> Result<(), Fail> {
-    let cases = [
-        (OLDER, "processes 16", "registers x y", None),
-        (OLDER, "processes 17", "registers x", at(3, ReadWhy::Range)),
-        (OLDER, "processes 1", "registers 1\nx", at(4, ReadWhy::Name)),
-        (NEWER, "processes 17", "registers 1\nx", None),
-        (NEWER, "processes 64", "registers 2\ny\nx", None),
-        (
-            NEWER,
-            "processes 65",
-            "registers 1\nx",
-            at(3, ReadWhy::Range),
-        ),
-        (
-            NEWER,
-            "processes 0",
-            "registers 1\nx",
-            at(3, ReadWhy::Range),
-        ),
-        (NEWER, "processes 1", "registers x", at(4, ReadWhy::Form)),
-        (
-            NEWER,
-            "processes 1",
-            "registers 01\nx",
-            at(4, ReadWhy::Form),
-        ),
-        (NEWER, "processes 1", "registers 0", at(4, ReadWhy::Range)),
-        (
-            NEWER,
-            "processes 1",
-            "registers 4097",
-            at(4, ReadWhy::Range),
-        ),
-        (
-            NEWER,
-            "processes 1",
-            "registers 2\nx\nx",
-            at(6, ReadWhy::Name),
-        ),
-        (
-            NEWER,
-            "processes 1",
-            "registers 2\nx\nx1",
-            at(6, ReadWhy::Name),
-        ),
-        (
-            NEWER,
-            "processes 1",
-            "registers 2\nx\n",
-            at(6, ReadWhy::Form),
-        ),
-        (
-            NEWER,
-            "processes 1",
-            "registers 2\nx\ny z",
-            at(6, ReadWhy::Form),
-        ),
-        (
-            NEWER,
-            "processes 1",
-            "registers 2\nx\ny ",
-            at(6, ReadWhy::Form),
-        ),
-        (
-            NEWER,
-            "processes 1",
-            "registers 2\nx\né",
-            at(6, ReadWhy::Form),
-        ),
-        (
-            NEWER,
-            "processes 1",
-            "registers 3\nx\nx\ny z",
-            at(6, ReadWhy::Name),
-        ),
-        (
-            NEWER,
-            "processes 1",
-            "registers 9\nx\nx",
-            at(6, ReadWhy::Name),
-        ),
-        (
-            NEWER,
-            "processes 1",
-            "registers 9\nx\ny",
-            at(7, ReadWhy::Form),
-        ),
-        (
-            NEWER,
-            "processes 1",
-            "registers 1\nx\ny",
-            at(6, ReadWhy::Form),
-        ),
-    ];
-    for (text, processes, registers, found) in cases {
+    for (text, processes, registers, found) in &HEADERS {
+        let found = found.map(|(line, why)| ReadFault::Line { line, why });
         assert_eq!(rt;
             refusal(&rt, text, processes, registers)?,
             found,
             "{processes} {registers}"
         );
     }
+    Ok(())
+}
+
+#[test]
+fn too_few_names_are_told_last(rt: HostRuntime) {
     let ended = "awreg report 2\nfront linear\nprocesses 1\nregisters 3\nx\ny\n";
     assert_eq!(rt; read_report(rt.alloc(), ended).err(), at(7, ReadWhy::End));
     let ended = "awreg report 2\nfront linear\nprocesses 1\nregisters 3\nx\nx\n";
     assert_eq!(rt; read_report(rt.alloc(), ended).err(), at(6, ReadWhy::Name));
-    Ok(())
 }
 
 #[test]
