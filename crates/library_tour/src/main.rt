@@ -5,11 +5,10 @@ ghost use Rattle.std.specs.Prelude.{◌≡◌, [], length, IfOk};
 ghost use Rattle.library_tour.specs.Firsts.{first_entries};
 
 use anyhow::anyhow;
-use reg_base::{Op, OpId, Shape};
-use reg_front::Linear;
-use reg_history::{Entry, History, Point, check_points, check_serial};
-use reg_process::Reply;
-use reg_world::{Event, World, WorldFault};
+use tellwydar::{
+    Entry, Event, History, Linear, Op, OpId, Point, Reply, Shape, World, WorldFault, check_points,
+    check_serial,
+};
 
 const WRITE: Op = Op::Write {
     register: 0,

@@ -1,5 +1,6 @@
 //! Clusters closed with passes that aren't theirs, one for each process.
-use crate::crews::{last_of, parts_of, write};
+use crate::crews::{last_of, parts_of};
+use crate::values::write;
 use reg_front::LocalWrite;
 use reg_live::{CloseFault, NoGate, Parts, Pass, close};
 use std::alloc::Global;

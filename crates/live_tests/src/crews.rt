@@ -1,32 +1,13 @@
 //! Clusters whose couriers and pacer run in threads of their own.
-use reg_base::{Answer, Op, OpId, Shape};
+use reg_base::Shape;
 use reg_front::FrontEnd;
-use reg_live::{Closed, Cluster, Courier, Gate, Pacer, Parts, Pass, Receipt, Road, close, set_up};
+use reg_live::{Closed, Cluster, Courier, Gate, Pacer, Parts, Pass, Road, close, set_up};
 use std::alloc::Global;
 use std::process::Abort;
 use std::sync::{Arc, Wait};
 use std::thread;
 use std::thread::{JoinHandle, Threads};
 use std::time::Clock;
-
-pub fn write(register: u16, value: u64) -> Op {
-    Op::Write { register, value }
-}
-
-pub fn read(register: u16) -> Op {
-    Op::Read { register }
-}
-
-pub fn receipt(id: (u8, u32), op: Op, answer: Answer, called: u64, answered: u64) -> Receipt {
-    let (process, number) = id;
-    Receipt {
-        id: OpId { process, number },
-        op,
-        answer,
-        called,
-        answered,
-    }
-}
 
 pub fn shape_of(rt: &impl Abort, processes: u32, registers: u32) -> Shape {
     Shape::new(processes, registers).expect(rt, "a shape")

@@ -1,5 +1,6 @@
 //! Stations that are held in a section while others go on.
-use crate::crews::{end, last_of, parts_of, read, start, write};
+use crate::crews::{end, last_of, parts_of, start};
+use crate::values::{read, write};
 use reg_base::Op;
 use reg_front::LocalWrite;
 use reg_live::{Gate, Honest, Parts, Pass, close};

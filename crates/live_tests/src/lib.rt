@@ -20,3 +20,4 @@ mod roads;
 mod scripts;
 #[cfg(test)]
 mod stops;
+pub mod values;

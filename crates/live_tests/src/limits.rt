@@ -1,5 +1,6 @@
 //! The limits of a process and of the journal.
-use crate::crews::{last_of, parts_of, read, write};
+use crate::crews::{last_of, parts_of};
+use crate::values::{read, write};
 use reg_base::limits::{MOST_EVENTS, MOST_OPERATIONS};
 use reg_front::{Linear, LocalRead};
 use reg_live::{LiveFault, NoGate, Parts, Pass, close};

@@ -1,5 +1,6 @@
 //! Passes of clusters whose threads were not started, so that each place in the journal is known.
-use crate::crews::{last_of, parts_of, read, receipt, write};
+use crate::crews::{last_of, parts_of};
+use crate::values::{read, receipt, write};
 use reg_base::Answer;
 use reg_front::{Linear, LocalWrite};
 use reg_live::{LiveFault, NoGate, Parts, close};

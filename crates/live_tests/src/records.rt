@@ -1,5 +1,6 @@
 //! Records worked by hand, with each kind of damage.
-use crate::crews::{receipt, shape_of, write};
+use crate::crews::shape_of;
+use crate::values::{receipt, write};
 use refusing::Refusing;
 use reg_base::{Answer, Op};
 use reg_frames::Frame;

@@ -1,5 +1,6 @@
 //! Roads that lose, repeat and reorder parcels.
-use crate::crews::{end, last_of, parts_of, read, start, write};
+use crate::crews::{end, last_of, parts_of, start};
+use crate::values::{read, write};
 use reg_base::Answer;
 use reg_front::{FrontEnd, Linear, LocalRead, LocalWrite};
 use reg_history::{check_points, check_serial};

@@ -1,5 +1,6 @@
 //! Scripts in threads of their own.
-use crate::crews::{end, last_of, parts_of, read, shape_of, start, told, write};
+use crate::crews::{end, last_of, parts_of, shape_of, start, told};
+use crate::values::{read, write};
 use reg_base::{Answer, Op};
 use reg_front::{Linear, LocalWrite};
 use reg_live::{Honest, LiveFault, NoGate, Parts, Pass, RunStop, run_scripts};

@@ -1,5 +1,6 @@
 //! Stations that stop, and frames that were changed on their way.
-use crate::crews::{carry, end, last_of, parts_of, read, start, told, write};
+use crate::crews::{carry, end, last_of, parts_of, start, told};
+use crate::values::{read, write};
 use reg_base::limits::LAST_TIME;
 use reg_base::{Op, OpId};
 use reg_frames::{Body, Frame, decode, encode};

@@ -1,4 +1,5 @@
 //! Workloads that are read, and that are refused.
+use reg_base::Shape;
 use reg_front::Front;
 use reg_toml::{Key, Workload, WorkloadFault};
 use std::alloc::{AllocError, Global};
@@ -41,37 +42,39 @@ const READ: [(&str, &str); 3] = [
     ),
 ];
 
+fn names_told(alloc: Global, work: &Workload) -> Result<String, Fail> {
+    let (first, second) = (work.names.name(0), work.names.name(1));
+    let count = work.names.count();
+    Ok(format!(in alloc; "{:?}, {first:?} {second:?} of {count}, ", work.front)?)
+}
+
+fn numbers_told(alloc: Global, work: &Workload) -> Result<String, Fail> {
+    Ok(format!(in alloc;
+        "seed {}, loss {}, repeat {}, budget {}\n",
+        work.seed, work.loss, work.repeat, work.budget
+    )?)
+}
+
+fn shape_told(alloc: Global, shape: Shape) -> Result<String, Fail> {
+    let (processes, registers) = (shape.processes(), shape.registers());
+    Ok(format!(in alloc; "{processes} processes, {registers} registers\n")?)
+}
+
 fn told(alloc: Global, work: &Workload) -> Result<String, Fail> {
-    let mut text = format!(in alloc;
-        "{:?}, {:?} {:?} of {}, seed {}, loss {}, repeat {}, budget {}\n",
-        work.front,
-        work.names.name(0),
-        work.names.name(1),
-        work.names.count(),
-        work.seed,
-        work.loss,
-        work.repeat,
-        work.budget
-    )?;
+    let mut text = names_told(alloc, work)?;
+    text.push_str(numbers_told(alloc, work)?.as_str())?;
     for script in &work.scripts {
         text.push_str(format!(in alloc; "{:?}\n", script.as_slice())?.as_str())?;
     }
-    let shape = work.shape;
-    let last = format!(in alloc;
-        "{} processes, {} registers\n",
-        shape.processes(),
-        shape.registers()
-    )?;
-    text.push_str(last.as_str())?;
+    text.push_str(shape_told(alloc, work.shape)?.as_str())?;
     Ok(text)
 }
 
 #[test]
 fn documents_are_read(rt: HostRuntime) -> Result<(), Fail> {
-    for (document, says) in READ {
+    for (document, says) in &READ {
         let work = Workload::from_toml(rt.alloc(), document)?;
-        let text = told(rt.alloc(), &work)?;
-        assert_eq!(rt; text.as_str(), says);
+        assert!(rt; told(rt.alloc(), &work)?.as_str() == *says, "{document}");
     }
     Ok(())
 }
@@ -130,6 +133,7 @@ fn registers_are_refused(rt: HostRuntime) {
         ("[\"x\", \"Y\"]", range(Key::Registers)),
         ("[\"x\", \"x\"]", range(Key::Registers)),
         ("[\"abcdefghijklmnopq\"]", range(Key::Registers)),
+        ("[\"abcdefghijklmnop\"]", missing(Key::Scripts)),
         ("[\"x\"]", missing(Key::Scripts)),
     ];
     for (registers, fault) in cases {
@@ -250,6 +254,50 @@ fn a_script_is_not_too_long(rt: HostRuntime) {
     assert_eq!(rt; work.scripts[0].len(), 65_535);
     let more = long(&rt, 65_536).expect(&rt, "memory");
     refused(&rt, more.as_str(), range(Key::Scripts));
+}
+
+/// A name of four letters in quotes, another for each number up to 17,575.
+fn push_name(text: &mut String, number: u32) -> Result<(), AllocError> {
+    text.push_str("\"n")?;
+    for place in [number / 676 % 26, number / 26 % 26, number % 26] {
+        text.push(char::from(b'a' + place as u8))?;
+    }
+    text.push_str("\",")
+}
+
+/// A document with so many names and so many empty scripts.
+fn wide(alloc: Global, names: u32, scripts: u32) -> Result<String, AllocError> {
+    let mut text = String::from_str(alloc, "front = \"linear\"\nregisters = [")?;
+    for number in 0..names {
+        push_name(&mut text, number)?;
+    }
+    text.push_str("]\nscripts = [")?;
+    for _ in 0..scripts {
+        text.push_str("[],")?;
+    }
+    text.push_str("]\n")?;
+    Ok(text)
+}
+
+/// How many names and scripts a document has, and the key that is out of range.
+const WIDE: [(u32, u32, Option<Key>); 4] = [
+    (4_096, 1, None),
+    (4_097, 1, Some(Key::Registers)),
+    (1, 64, None),
+    (1, 65, Some(Key::Scripts)),
+];
+
+#[test]
+fn a_document_has_as_many_names_and_scripts_as_it_may(rt: HostRuntime) -> Result<(), Fail> {
+    for (names, scripts, key) in &WIDE {
+        let text = wide(rt.alloc(), *names, *scripts)?;
+        let found = Workload::from_toml(rt.alloc(), text.as_str()).err();
+        assert!(rt;
+            found == key.map(|key| WorkloadFault::Range { key }),
+            "{names} {scripts}"
+        );
+    }
+    Ok(())
 }
 
 #[test]

@@ -1,5 +1,5 @@
 //! Frames and their bytes, as worked by hand.
-use crate::values::cast;
+use crate::values::{READ as READ_FIRST, WRITE_FIVE, cast};
 use reg_base::Op;
 use reg_frames::{Body, Frame, FrameFault, decode, encode};
 use std::process::Abort;
@@ -24,17 +24,100 @@ const READ: [u8; 24] = [
     0, 0x16, 1, 1, 0, 0, 0, 0, 0, 0, 0, 0, 1, 0, 0, 0, 0, 0, 0, 0, 1, 1, 0, 0,
 ];
 
-fn write_of_five() -> Frame {
-    let (register, value) = (0, 5);
-    cast(0, 1, Op::Write { register, value })
+/// Frames, and the bytes of each.
+const FRAMES: [(Frame, &[u8]); 5] = [
+    (
+        Frame::Numbered {
+            number: 0,
+            body: Body::Cast {
+                time: 1,
+                op: WRITE_FIVE,
+            },
+        },
+        &WRITE,
+    ),
+    (
+        Frame::Numbered {
+            number: 1,
+            body: Body::Cast {
+                time: 3,
+                op: Op::Swap {
+                    register: 0,
+                    value: 7,
+                },
+            },
+        },
+        &SWAP,
+    ),
+    (Frame::Got { count: 1 }, &GOT),
+    (
+        Frame::Numbered {
+            number: 0,
+            body: Body::Ack { time: 2 },
+        },
+        &ACK,
+    ),
+    (
+        Frame::Numbered {
+            number: 0,
+            body: Body::Cast {
+                time: 1,
+                op: READ_FIRST,
+            },
+        },
+        &READ,
+    ),
+];
+
+#[test]
+fn each_form_there_and_back(rt: HostRuntime) {
+    for (frame, bytes) in &FRAMES {
+        assert!(rt; decode(bytes) == Ok(*frame));
+        let spelled = encode(rt.alloc(), frame).expect(&rt, "in range");
+        assert!(rt; spelled.as_slice() == *bytes);
+    }
+    let early = cast(0, 0, READ_FIRST);
+    assert!(rt; matches!(encode(rt.alloc(), &early), Err(FrameFault::Range)));
 }
 
-fn swap_of_seven() -> Frame {
-    let (register, value) = (0, 7);
-    cast(1, 3, Op::Swap { register, value })
-}
+/// The bytes of a frame, of which the one at a place is changed, and the fault.
+const CHANGED: [(&[u8], usize, u8, FrameFault); 13] = [
+    (&WRITE, 1, 0x1d, FrameFault::Length),
+    (&WRITE, 2, 2, FrameFault::Op),
+    (&WRITE, 2, 3, FrameFault::Version),
+    (&WRITE, 3, 3, FrameFault::Kind),
+    (&WRITE, 12, 3, FrameFault::Body),
+    (&WRITE, 21, 3, FrameFault::Op),
+    (&WRITE, 20, 0, FrameFault::Range),
+    (&WRITE, 22, 0x10, FrameFault::Range),
+    (&WRITE, 5, 1, FrameFault::Range),
+    (&SWAP, 2, 1, FrameFault::Op),
+    (&SWAP, 2, 3, FrameFault::Version),
+    (&GOT, 2, 2, FrameFault::Kind),
+    (&ACK, 2, 2, FrameFault::Body),
+];
 
-/// The fault of the bytes with one of them changed.
+/// The first byte too few, the swap without its last byte, data without a body, the read with a byte more.
+const OF_OTHER_SIZES: [(&[u8], FrameFault); 5] = [
+    (&[], FrameFault::Short),
+    (&[0, 0x0a, 1, 2, 0, 0, 0, 0, 0, 0, 0], FrameFault::Short),
+    (
+        &[
+            0, 0x1d, 2, 1, 0, 0, 0, 0, 0, 0, 0, 1, 1, 0, 0, 0, 0, 0, 0, 0, 3, 3, 0, 0, 0, 0, 0, 0,
+            0, 0, 0,
+        ],
+        FrameFault::Size,
+    ),
+    (&[0, 0x0a, 1, 1, 0, 0, 0, 0, 0, 0, 0, 0], FrameFault::Size),
+    (
+        &[
+            0, 0x17, 1, 1, 0, 0, 0, 0, 0, 0, 0, 0, 1, 0, 0, 0, 0, 0, 0, 0, 1, 1, 0, 0, 0,
+        ],
+        FrameFault::Size,
+    ),
+];
+
+/// What is read of the bytes with one of them changed.
 fn changed(rt: &impl Abort, bytes: &[u8], place: usize, byte: u8) -> Result<Frame, FrameFault> {
     let mut copy = [0u8; 32];
     let size = bytes.len();
@@ -45,88 +128,113 @@ fn changed(rt: &impl Abort, bytes: &[u8], place: usize, byte: u8) -> Result<Fram
 }
 
 #[test]
-fn each_form_there_and_back(rt: HostRuntime) {
-    let ack = Frame::Numbered {
-        number: 0,
-        body: Body::Ack { time: 2 },
-    };
-    let table = [
-        (write_of_five(), WRITE.as_slice()),
-        (swap_of_seven(), SWAP.as_slice()),
-        (Frame::Got { count: 1 }, GOT.as_slice()),
-        (ack, ACK.as_slice()),
-        (cast(0, 1, Op::Read { register: 0 }), READ.as_slice()),
-    ];
-    for (frame, bytes) in table {
-        assert_eq!(rt; decode(bytes), Ok(frame));
-        let spelled = encode(rt.alloc(), &frame).expect(&rt, "in range");
-        assert_eq!(rt; spelled.as_slice(), bytes);
+fn each_fault(rt: HostRuntime) {
+    for (bytes, place, byte, fault) in &CHANGED {
+        assert!(rt;
+            changed(&rt, bytes, *place, *byte) == Err(*fault),
+            "{fault:?} at {place}"
+        );
     }
-    let early = cast(0, 0, Op::Read { register: 0 });
-    assert!(rt; matches!(encode(rt.alloc(), &early), Err(FrameFault::Range)));
+    for (bytes, fault) in &OF_OTHER_SIZES {
+        assert!(rt; decode(bytes) == Err(*fault), "{bytes:?}");
+    }
 }
 
+/// The last number, time and count, and the first ones past them.
+const LAST: [(&[u8], Result<Frame, FrameFault>); 6] = [
+    (
+        &[
+            0, 0x13, 1, 1, 0, 0, 0xff, 0xff, 0xff, 0xff, 0xff, 0xff, 2, 0, 0, 0, 0, 0, 0, 0, 2,
+        ],
+        Ok(Frame::Numbered {
+            number: 0xffff_ffff_ffff,
+            body: Body::Ack { time: 2 },
+        }),
+    ),
+    (
+        &[
+            0, 0x13, 1, 1, 0, 1, 0, 0, 0, 0, 0, 0, 2, 0, 0, 0, 0, 0, 0, 0, 2,
+        ],
+        Err(FrameFault::Range),
+    ),
+    (
+        &[
+            0, 0x13, 1, 1, 0, 0, 0, 0, 0, 0, 0, 0, 2, 0, 1, 0, 0, 0, 0, 0, 0,
+        ],
+        Ok(Frame::Numbered {
+            number: 0,
+            body: Body::Ack {
+                time: 0x1_0000_0000_0000,
+            },
+        }),
+    ),
+    (
+        &[
+            0, 0x13, 1, 1, 0, 0, 0, 0, 0, 0, 0, 0, 2, 0, 1, 0, 0, 0, 0, 0, 1,
+        ],
+        Err(FrameFault::Range),
+    ),
+    (
+        &[0, 0x0a, 1, 2, 0, 1, 0, 0, 0, 0, 0, 0],
+        Ok(Frame::Got {
+            count: 0x1_0000_0000_0000,
+        }),
+    ),
+    (
+        &[0, 0x0a, 1, 2, 0, 1, 0, 0, 0, 0, 0, 1],
+        Err(FrameFault::Range),
+    ),
+];
+
 #[test]
-fn each_fault(rt: HostRuntime) {
-    assert_eq!(rt; decode(b""), Err(FrameFault::Short));
-    assert_eq!(rt; decode(&GOT[..11]), Err(FrameFault::Short));
-    let one_byte = [
-        (1, 0x1d, FrameFault::Length),
-        (2, 2, FrameFault::Op),
-        (2, 3, FrameFault::Version),
-        (3, 3, FrameFault::Kind),
-        (12, 3, FrameFault::Body),
-        (21, 3, FrameFault::Op),
-        (20, 0, FrameFault::Range),
-        (22, 0x10, FrameFault::Range),
-        (5, 1, FrameFault::Range),
-    ];
-    for (place, byte, fault) in one_byte {
-        assert_eq!(rt; changed(&rt, &WRITE, place, byte), Err(fault), "at {place}");
+fn the_last_numbers_times_and_counts(rt: HostRuntime) {
+    for (bytes, read) in &LAST {
+        assert!(rt; decode(bytes) == *read, "{bytes:?}");
     }
-    assert_eq!(rt; changed(&rt, &SWAP, 2, 1), Err(FrameFault::Op));
-    assert_eq!(rt; changed(&rt, &SWAP, 2, 3), Err(FrameFault::Version));
-    assert_eq!(rt; changed(&rt, &SWAP[..31], 1, 0x1d), Err(FrameFault::Size));
-    assert_eq!(rt; changed(&rt, &GOT, 2, 2), Err(FrameFault::Kind));
-    assert_eq!(rt; changed(&rt, &ACK, 2, 2), Err(FrameFault::Body));
-    let data_without_body = [0, 0x0a, 1, 1, 0, 0, 0, 0, 0, 0, 0, 0];
-    assert_eq!(rt; decode(&data_without_body), Err(FrameFault::Size));
-    let mut longer = [0u8; 25];
-    longer[..24].copy_from_slice(&READ);
-    longer[1] = 0x17;
-    assert_eq!(rt; decode(&longer), Err(FrameFault::Size));
-    let last = [0, 0x0a, 1, 2, 0, 1, 0, 0, 0, 0, 0, 0];
-    let count = 0x1_0000_0000_0000;
-    assert_eq!(rt; decode(&last), Ok(Frame::Got { count }));
+}
+
+/// Whether no other bytes are read as the frame of these, where they are read.
+fn is_only_spelling(rt: &(impl Abort + AllocGlobal), bytes: &[u8]) -> bool {
+    match decode(bytes) {
+        Ok(frame) => encode(rt.alloc(), &frame).expect(rt, "in range").as_slice() == bytes,
+        Err(_) => true,
+    }
+}
+
+/// What every prefix is refused for.
+fn demand_prefixes(rt: &impl Abort, bytes: &[u8]) {
+    for size in 0..bytes.len() {
+        let fault = if size < 12 {
+            FrameFault::Short
+        } else {
+            FrameFault::Length
+        };
+        assert!(rt; decode(&bytes[..size]) == Err(fault), "of {size}");
+    }
+}
+
+/// Each byte changed to every other one.
+fn demand_changed_bytes(rt: &(impl Abort + AllocGlobal), bytes: &[u8]) {
+    let mut copy = bytes.to_vec(rt.alloc()).expect(rt, "memory");
+    for place in 0..copy.len() {
+        for change in 0..=255u8 {
+            assert!(rt; place < copy.len());
+            let before = copy[place];
+            copy[place] = before ^ change;
+            assert!(rt;
+                is_only_spelling(rt, copy.as_slice()),
+                "{change} at {place}"
+            );
+            assert!(rt; place < copy.len());
+            copy[place] = before;
+        }
+    }
 }
 
 #[test]
 fn prefixes_and_changed_bytes(rt: HostRuntime) {
-    for bytes in [
-        WRITE.as_slice(),
-        SWAP.as_slice(),
-        GOT.as_slice(),
-        ACK.as_slice(),
-        READ.as_slice(),
-    ] {
-        for size in 0..bytes.len() {
-            let fault = if size < 12 {
-                FrameFault::Short
-            } else {
-                FrameFault::Length
-            };
-            assert_eq!(rt; decode(&bytes[..size]), Err(fault), "of {size}");
-        }
-        for place in 0..bytes.len() {
-            for byte in 0..=255u8 {
-                let mut copy = bytes.to_vec(rt.alloc()).expect(&rt, "memory");
-                assert!(rt; place < copy.len());
-                copy[place] = byte;
-                if let Ok(frame) = decode(&copy) {
-                    let spelled = encode(rt.alloc(), &frame).expect(&rt, "in range");
-                    assert_eq!(rt; spelled.as_slice(), copy.as_slice(), "at {place}");
-                }
-            }
-        }
+    for (_, bytes) in &FRAMES {
+        demand_prefixes(&rt, bytes);
+        demand_changed_bytes(&rt, bytes);
     }
 }

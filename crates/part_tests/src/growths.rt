@@ -1,16 +1,19 @@
 //! Each growth of the parts refused in turn: the answer is want of memory, or the one with ample memory.
 use crate::documents::SMALL;
 use crate::reports::{NO_POINTS, NO_POINTS_NOW, ONE_PROCESS};
-use crate::values::{READ, WRITE_FIVE, point};
+use crate::values::{READ, WRITE_FIVE};
 use refusing::{Trial, refusals};
-use reg_base::Shape;
+use reg_base::{OpId, Shape};
 use reg_frames::{Body, Frame};
 use reg_front::LocalWrite;
-use reg_history::{CheckFault, ReadFault, check_points, check_serial, read_report, write_report};
+use reg_history::{
+    CheckFault, Point, ReadFault, Report, check_points, check_serial, read_report, write_report,
+};
 use reg_process::{Outcome, Process, ProcessFault, Step};
 use reg_text::{Lines, TextFault, read_names};
 use reg_toml::{Workload, WorkloadFault, read_table};
 use std::alloc::{Allocator, Global};
+use std::str::from_utf8;
 use std::test::Fail;
 
 /// Events of one process of two, as it answers each.
@@ -73,34 +76,66 @@ fn line_of<A: Allocator + Copy>(ample: Global, out: &Outcome<A>) -> Result<Strin
     Ok(format!(in ample; "{frames:?} {delivered:?} {:?}\n", out.reply)?)
 }
 
-/// What each event gives, up to want of memory; the process has stopped then.
-fn told<A: Allocator + Copy>(alloc: A, ample: Global) -> Result<Option<String>, Fail> {
-    let mut process = match Process::<LocalWrite, A>::new(alloc, Shape::new(2, 1)?, 0) {
-        Err(ProcessFault::OutOfMemory) => return Ok(None),
-        made => made?,
-    };
+/// What an event gives. None where memory is wanted; the process has stopped then.
+fn told<A: Allocator + Copy>(
+    ample: Global,
+    process: &mut Process<LocalWrite, A>,
+    step: &Step,
+) -> Result<Option<String>, Fail> {
+    Ok(match event(process, step) {
+        Ok(out) => Some(line_of(ample, &out)?),
+        Err(ProcessFault::OutOfMemory) if has_stopped(process) => None,
+        Err(ProcessFault::OutOfMemory) => Some(String::from_str(ample, "goes on\n")?),
+        Err(fault) => Some(format!(in ample; "{fault:?}\n")?),
+    })
+}
+
+/// What each event gives. None where one of them wants memory.
+fn all_told<A: Allocator + Copy>(
+    ample: Global,
+    process: &mut Process<LocalWrite, A>,
+) -> Result<Option<String>, Fail> {
     let mut text = String::new(ample);
     for step in &STEPS {
-        let line = match event(&mut process, step) {
-            Ok(out) => line_of(ample, &out)?,
-            Err(ProcessFault::OutOfMemory) => {
-                if has_stopped(&mut process) {
-                    return Ok(None);
-                }
-                String::from_str(ample, "goes on\n")?
-            }
-            Err(fault) => format!(in ample; "{fault:?}\n")?,
+        let Some(line) = told(ample, process, step)? else {
+            return Ok(None);
         };
         text.push_str(line.as_str())?;
     }
     Ok(Some(text))
 }
 
-impl Trial for Events {
-    fn answer<A: Allocator + Copy>(&self, alloc: A, ample: Global) -> Result<Option<String>, Fail> {
-        told(alloc, ample)
+fn followed<A: Allocator + Copy>(alloc: A, ample: Global) -> Result<Option<String>, Fail> {
+    match Process::<LocalWrite, A>::new(alloc, Shape::new(2, 1)?, 0) {
+        Ok(mut process) => all_told(ample, &mut process),
+        Err(ProcessFault::OutOfMemory) => Ok(None),
+        Err(fault) => Err(fault)?,
     }
 }
+
+impl Trial for Events {
+    fn answer<A: Allocator + Copy>(&self, alloc: A, ample: Global) -> Result<Option<String>, Fail> {
+        followed(alloc, ample)
+    }
+}
+
+/// Points in the real-time order of a stale read.
+const STALE: [Point; 2] = [
+    Point {
+        id: OpId {
+            process: 0,
+            number: 0,
+        },
+        at: 4,
+    },
+    Point {
+        id: OpId {
+            process: 1,
+            number: 0,
+        },
+        at: 5,
+    },
+];
 
 /// A report that is read, judged and written again.
 #[derive(Clone, Copy)]
@@ -108,21 +143,59 @@ struct Judged {
     text: &'static str,
 }
 
-fn judge<A: Allocator + Copy>(alloc: A, ample: Global, text: &str) -> Result<Option<String>, Fail> {
-    let report = match read_report(alloc, text) {
-        Err(ReadFault::OutOfMemory) => return Ok(None),
-        read => read?,
-    };
+/// What both checks say of a report, which has the points of a stale read. None where one of them wants memory.
+fn verdicts<A: Allocator + Copy>(
+    alloc: A,
+    ample: Global,
+    report: &Report<A>,
+) -> Result<Option<String>, Fail> {
     let history = report.history();
     let serial = check_serial(alloc, history, report.order());
-    let points = check_points(alloc, history, &[point(0, 0, 4), point(1, 0, 5)]);
-    let wanted = Err(CheckFault::OutOfMemory);
-    let mut out = Vec::new(alloc);
-    if serial == wanted || points == wanted || write_report(&mut out, &report).is_err() {
+    let points = check_points(alloc, history, STALE.as_slice());
+    if [serial, points].contains(&Err(CheckFault::OutOfMemory)) {
         return Ok(None);
     }
-    let written = std::str::from_utf8(out.as_slice())?;
-    Ok(Some(format!(in ample; "{serial:?} {points:?}\n{written}")?))
+    Ok(Some(format!(in ample; "{serial:?} {points:?}\n")?))
+}
+
+/// The report as it is written. None where memory is wanted.
+fn written<A: Allocator + Copy>(
+    alloc: A,
+    ample: Global,
+    report: &Report<A>,
+) -> Result<Option<String>, Fail> {
+    let mut out = Vec::new(alloc);
+    if write_report(&mut out, report).is_err() {
+        return Ok(None);
+    }
+    Ok(Some(String::from_str(ample, from_utf8(out.as_slice())?)?))
+}
+
+/// Both texts, where both are there.
+fn joined(first: Option<String>, second: Option<String>) -> Result<Option<String>, Fail> {
+    let (Some(mut text), Some(rest)) = (first, second) else {
+        return Ok(None);
+    };
+    text.push_str(rest.as_str())?;
+    Ok(Some(text))
+}
+
+/// The verdicts on a report, and the report. None where memory is wanted.
+fn verdicts_and_text<A: Allocator + Copy>(
+    alloc: A,
+    ample: Global,
+    report: &Report<A>,
+) -> Result<Option<String>, Fail> {
+    let said = verdicts(alloc, ample, report)?;
+    joined(said, written(alloc, ample, report)?)
+}
+
+fn judge<A: Allocator + Copy>(alloc: A, ample: Global, text: &str) -> Result<Option<String>, Fail> {
+    match read_report(alloc, text) {
+        Ok(report) => verdicts_and_text(alloc, ample, &report),
+        Err(ReadFault::OutOfMemory) => Ok(None),
+        Err(fault) => Err(fault)?,
+    }
 }
 
 impl Trial for Judged {
@@ -135,32 +208,36 @@ impl Trial for Judged {
 #[derive(Clone, Copy)]
 struct Read;
 
-fn read_both<A: Allocator + Copy>(alloc: A, ample: Global) -> Result<Option<String>, Fail> {
+/// The number of the second name of a line. None where memory is wanted.
+fn second_number<A: Allocator + Copy>(alloc: A, ample: Global) -> Result<Option<String>, Fail> {
     let mut lines = Lines::new(b"registers x y\nfront linear".as_slice());
-    let names = match read_names(alloc, &mut lines, 256) {
-        Err(TextFault::OutOfMemory) => return Ok(None),
-        read => read?,
-    };
-    let table = read_table(ample, SMALL)?;
-    let work = match Workload::from_table(alloc, &table) {
-        Err(WorkloadFault::OutOfMemory) => return Ok(None),
-        read => read?,
-    };
-    let mut text = format!(in ample;
-        "{:?} {:?} {:?}",
-        names.number("y"),
-        work.names.name(0),
-        work.front
-    )?;
+    match read_names(alloc, &mut lines, 256) {
+        Err(TextFault::OutOfMemory) => Ok(None),
+        read => Ok(Some(format!(in ample; "{:?}", read?.number("y"))?)),
+    }
+}
+
+/// The first name, the front end and the scripts of a workload.
+fn work_told<A: Allocator + Copy>(ample: Global, work: &Workload<A>) -> Result<String, Fail> {
+    let mut text = format!(in ample; " {:?} {:?}", work.names.name(0), work.front)?;
     for script in &work.scripts {
         text.push_str(format!(in ample; " {:?}", script.as_slice())?.as_str())?;
     }
-    Ok(Some(text))
+    Ok(text)
+}
+
+/// What a document says. None where memory is wanted.
+fn small_work<A: Allocator + Copy>(alloc: A, ample: Global) -> Result<Option<String>, Fail> {
+    let table = read_table(ample, SMALL)?;
+    match Workload::from_table(alloc, &table) {
+        Err(WorkloadFault::OutOfMemory) => Ok(None),
+        read => Ok(Some(work_told(ample, &read?)?)),
+    }
 }
 
 impl Trial for Read {
     fn answer<A: Allocator + Copy>(&self, alloc: A, ample: Global) -> Result<Option<String>, Fail> {
-        read_both(alloc, ample)
+        joined(second_number(alloc, ample)?, small_work(alloc, ample)?)
     }
 }
 

@@ -17,22 +17,111 @@ fn stamp(time: u64, process: u8) -> Stamp
     Stamp { time, process }
 }
 
+/// What is done with the queue of a process, and what it answers.
+enum Use {
+    /// A stamp comes, with a write of 5 or alone.
+    Receive {
+        stamp: Stamp,
+        held: bool,
+        answer: Result<(), HoldFault>,
+    },
+    /// The first cast is asked for: a write of 5.
+    Pop {
+        first: Option<Stamp>,
+    },
+}
+
+const FIRST: Stamp = Stamp {
+    time: 1,
+    process: 0,
+};
+
+const SECOND: Stamp = Stamp {
+    time: 2,
+    process: 2,
+};
+
+/// What is done with the queue of process 1 of 3, and how many casts it then holds.
+const OF_THREE: [(Use, usize); 8] = [
+    (
+        Use::Receive {
+            stamp: FIRST,
+            held: true,
+            answer: Ok(()),
+        },
+        1,
+    ),
+    (Use::Pop { first: None }, 1),
+    (
+        Use::Receive {
+            stamp: SECOND,
+            held: false,
+            answer: Ok(()),
+        },
+        1,
+    ),
+    (Use::Pop { first: Some(FIRST) }, 0),
+    (Use::Pop { first: None }, 0),
+    (
+        Use::Receive {
+            stamp: SECOND,
+            held: false,
+            answer: Err(HoldFault::Stale),
+        },
+        0,
+    ),
+    (
+        Use::Receive {
+            stamp: Stamp {
+                time: 9,
+                process: 1,
+            },
+            held: false,
+            answer: Err(HoldFault::NoProcess),
+        },
+        0,
+    ),
+    (
+        Use::Receive {
+            stamp: Stamp {
+                time: 9,
+                process: 3,
+            },
+            held: false,
+            answer: Err(HoldFault::NoProcess),
+        },
+        0,
+    ),
+];
+
+/// Whether the queue answers so.
+fn answers_so(queue: &mut Holdback, step: &Use) -> bool {
+    match *step {
+        Use::Receive {
+            stamp,
+            held,
+            answer,
+        } => {
+            let op = if held { Some(WRITE) } else { None };
+            queue.receive(stamp, op) == answer
+        }
+        Use::Pop { first } => queue.pop() == first.map(|stamp| (stamp, WRITE)),
+    }
+}
+
 #[test]
 fn delivers_what_is_clear(rt: HostRuntime) {
     let shape = Shape::new(3, 1).expect(&rt, "a shape of three");
-    let mut held = Holdback::new(rt.alloc(), 1, shape).expect(&rt, "memory");
-    assert!(rt; held.receive(stamp(1, 0), Some(WRITE)) == Ok(()));
-    assert!(rt; held.pop() == None);
-    assert!(rt; held.receive(stamp(2, 2), None) == Ok(()));
-    assert_eq!(rt; held.len(), 1);
-    assert!(rt; held.pop() == Some((stamp(1, 0), WRITE)));
-    assert!(rt; held.pop() == None);
-    assert!(rt; held.receive(stamp(2, 2), None) == Err(HoldFault::Stale));
-    assert!(rt; held.receive(stamp(9, 1), None) == Err(HoldFault::NoProcess));
-    assert!(rt; held.receive(stamp(9, 3), None) == Err(HoldFault::NoProcess));
-    assert!(rt; held.seen(2) == Some(2));
-    assert!(rt; held.seen(1) == None);
-    assert!(rt; held.seen(3) == None);
+    let mut queue = Holdback::new(rt.alloc(), 1, shape).expect(&rt, "memory");
+    for (row, (step, held)) in OF_THREE.iter().enumerate() {
+        assert!(rt;
+            answers_so(&mut queue, step) && queue.len() == *held,
+            "{row}"
+        );
+    }
+    for (process, seen) in [(2, Some(2)), (1, None), (3, None)] {
+        assert!(rt; queue.seen(process) == seen, "{process}");
+    }
 }
 
 #[test]
@@ -142,16 +231,20 @@ fn agrees_with_a_plain_list(rt: HostRuntime) {
 }
 
 #[test]
-fn refused_memory_changes_nothing(rt: HostRuntime) {
+fn a_refused_growth_holds_no_cast(rt: HostRuntime) {
     let shape = Shape::new(2, 1).expect(&rt, "a shape of two");
     let heap = Refusing::new(rt.alloc(), 1);
     let mut held = Holdback::new(&heap, 1, shape).expect(&rt, "memory for the times");
     assert!(rt; held.receive(stamp(1, 0), Some(WRITE)) == Err(HoldFault::OutOfMemory));
-    assert_eq!(rt; held.len(), 0);
-    assert!(rt; held.seen(0) == Some(0));
+    assert!(rt; held.len() == 0 && held.seen(0) == Some(0));
     assert!(rt; held.receive(stamp(1, 0), Some(WRITE)) == Ok(()));
-    let other = Refusing::new(rt.alloc(), 1);
-    let mut own = Holdback::new(&other, 1, shape).expect(&rt, "memory for the times");
+}
+
+#[test]
+fn a_refused_growth_holds_no_own_cast(rt: HostRuntime) {
+    let shape = Shape::new(2, 1).expect(&rt, "a shape of two");
+    let heap = Refusing::new(rt.alloc(), 1);
+    let mut own = Holdback::new(&heap, 1, shape).expect(&rt, "memory for the times");
     assert!(rt; own.cast(stamp(1, 1), WRITE).is_err());
-    assert_eq!(rt; own.len(), 0);
+    assert!(rt; own.len() == 0);
 }

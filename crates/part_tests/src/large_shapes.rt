@@ -222,33 +222,53 @@ fn each_version_has_as_many_names_as_it_may(rt: HostRuntime) -> Result<(), Fail>
     Ok(())
 }
 
-#[test]
-fn the_largest_report_is_read_as_it_was_written(rt: HostRuntime) -> Result<(), Fail> {
+/// As many names as there may be.
+fn most_names(rt: &HostRuntime) -> Result<Names, Fail> {
+    let text = many_names(rt, 4096, ' ')?;
     let mut names = Vec::new(rt.alloc());
-    for name in many_names(&rt, 4096, ' ')?.split(' ').skip(1) {
+    for name in text.as_str().split(' ').skip(1) {
         names.push(String::from_str(rt.alloc(), name)?)?;
     }
-    let names = Names::new(names)?;
-    assert_eq!(rt;
-        (names.number("naaa"), names.number("ngbn")),
-        (Some(0), Some(4095))
-    );
-    assert_eq!(rt; names.number("ngbo"), None);
+    Ok(Names::new(names)?)
+}
+
+#[test]
+fn each_of_the_most_names_has_its_number(rt: HostRuntime) -> Result<(), Fail> {
+    let names = most_names(&rt)?;
+    for (name, number) in [("naaa", Some(0)), ("ngbn", Some(4095)), ("ngbo", None)] {
+        assert!(rt; names.number(name) == number, "{name}");
+    }
     for number in 0..4096u16 {
         let name = names.name(number).unwrap_or("");
-        assert_eq!(rt; names.number(name), Some(number));
+        assert!(rt; names.number(name) == Some(number), "{number}");
     }
+    Ok(())
+}
+
+/// A report of the largest shape, with the last process in its order.
+fn largest(rt: &HostRuntime) -> Result<Report, Fail> {
+    let names = most_names(rt)?;
     let history = History::new(rt.alloc(), Shape::new(64, 4096)?)?;
     let front = String::from_str(rt.alloc(), "linear")?;
-    let mut order = Vec::new(rt.alloc());
-    order.push(id(63, 0))?;
-    let report = Report::new(front, names, history, order, None)?;
+    let order = [id(63, 0)].to_vec(rt.alloc())?;
+    Ok(Report::new(front, names, history, order, None)?)
+}
+
+/// The report that is read where this one was written.
+fn read_again(rt: &HostRuntime, report: &Report) -> Result<Report, Fail> {
     let mut out = Vec::new(rt.alloc());
-    write_report(&mut out, &report)?;
-    let again = read_report(rt.alloc(), std::str::from_utf8(out.as_slice())?)?;
-    assert_eq!(rt; again.names().name(4095), Some("ngbn"));
-    assert_eq!(rt; again.history().shape(), Shape::new(64, 4096)?);
-    assert_eq!(rt; again.order(), [id(63, 0)].as_slice());
+    write_report(&mut out, report)?;
+    Ok(read_report(rt.alloc(), std::str::from_utf8(out.as_slice())?)?)
+}
+
+#[test]
+fn the_largest_report_is_read_as_it_was_written(rt: HostRuntime) -> Result<(), Fail> {
+    let report = largest(&rt)?;
+    let again = read_again(&rt, &report)?;
+    assert!(rt; again.names().name(4095) == Some("ngbn"));
+    let shape = again.history().shape();
+    assert!(rt; shape.processes() == 64 && shape.registers() == 4096);
+    assert!(rt; again.order() == [id(63, 0)].as_slice());
     Ok(())
 }
 

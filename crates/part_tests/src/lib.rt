@@ -23,11 +23,15 @@ mod large_shapes;
 #[cfg(test)]
 mod links;
 #[cfg(test)]
+mod operations;
+#[cfg(test)]
 mod orders;
 #[cfg(test)]
 mod processes;
 #[cfg(test)]
 mod reports;
+#[cfg(test)]
+mod resends;
 #[cfg(test)]
 mod texts;
 #[cfg(test)]

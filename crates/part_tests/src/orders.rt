@@ -1,6 +1,6 @@
 //! Histories and their orders, as worked by hand.
-use crate::values::{READ, WRITE_FIVE, answered, called, id, point};
-use reg_base::{Answer, Shape};
+use crate::values::{READ, WRITE_FIVE, answered, called, id};
+use reg_base::{Answer, OpId, Shape};
 use reg_history::{CheckFault, Entry, History, HistoryFault, Point, check_points, check_serial};
 use std::alloc::Global;
 use std::process::Abort;
@@ -29,67 +29,111 @@ fn stale_read(rt: &impl Abort, alloc: Global) -> History {
     )
 }
 
+/// The operation of the writer, and that of the reader.
+const P: OpId = OpId {
+    process: 0,
+    number: 0,
+};
+
+const Q: OpId = OpId {
+    process: 1,
+    number: 0,
+};
+
+/// Orders of the stale read, and what is said of each.
+const ORDERS: [(&[OpId], Result<(), CheckFault>); 4] = [
+    (&[Q, P], Ok(())),
+    (&[P, Q], Err(CheckFault::Answer { place: 1 })),
+    (&[Q], Err(CheckFault::Missing)),
+    (&[Q, P, P], Err(CheckFault::Twice)),
+];
+
+/// Its points, and what is said of each.
+const POINTS: [(&[Point], Result<(), CheckFault>); 3] = [
+    (
+        &[Point { id: Q, at: 5 }, Point { id: P, at: 4 }],
+        Err(CheckFault::Falling { place: 1 }),
+    ),
+    (
+        &[Point { id: Q, at: 4 }, Point { id: P, at: 4 }],
+        Err(CheckFault::Outside { place: 0 }),
+    ),
+    (
+        &[Point { id: P, at: 4 }, Point { id: Q, at: 5 }],
+        Err(CheckFault::Answer { place: 1 }),
+    ),
+];
+
 #[test]
-fn a_stale_read_is_serial_and_has_no_points(rt: HostRuntime) {
-    let alloc = rt.alloc();
-    let history = stale_read(&rt, alloc);
-    let (p, q) = (id(0, 0), id(1, 0));
-    assert_eq!(rt; check_serial(alloc, &history, &[q, p]), Ok(()));
-    assert_eq!(rt;
-        check_serial(alloc, &history, &[p, q]),
-        Err(CheckFault::Answer { place: 1 })
-    );
-    assert_eq!(rt;
-        check_serial(alloc, &history, &[q]),
-        Err(CheckFault::Missing)
-    );
-    assert_eq!(rt;
-        check_serial(alloc, &history, &[q, p, p]),
-        Err(CheckFault::Twice)
-    );
-    let falls = check_points(alloc, &history, &[point(1, 0, 5), point(0, 0, 4)]);
-    assert_eq!(rt; falls, Err(CheckFault::Falling { place: 1 }));
-    let outside = check_points(alloc, &history, &[point(1, 0, 4), point(0, 0, 4)]);
-    assert_eq!(rt; outside, Err(CheckFault::Outside { place: 0 }));
-    let answer = check_points(alloc, &history, &[point(0, 0, 4), point(1, 0, 5)]);
-    assert_eq!(rt; answer, Err(CheckFault::Answer { place: 1 }));
+fn a_stale_read_is_serial(rt: HostRuntime) {
+    let history = stale_read(&rt, rt.alloc());
+    for (order, said) in &ORDERS {
+        assert!(rt;
+            check_serial(rt.alloc(), &history, order) == *said,
+            "{order:?}"
+        );
+    }
 }
 
 #[test]
-fn own_order_and_unfinished_reads(rt: HostRuntime) {
-    let alloc = rt.alloc();
-    let write = [
-        called(0, id(0, 0), WRITE_FIVE),
-        answered(0, id(0, 0), Answer::Done),
-        called(1, id(0, 1), READ),
-    ];
-    let mut history = history_of(&rt, alloc, 2, &write);
-    let order = [id(0, 0), id(0, 1)];
-    assert_eq!(rt;
-        check_serial(alloc, &history, &order),
-        Err(CheckFault::Unknown)
-    );
-    assert_eq!(rt; check_serial(alloc, &history, &[id(0, 0)]), Ok(()));
+fn a_stale_read_has_no_points(rt: HostRuntime) {
+    let history = stale_read(&rt, rt.alloc());
+    for (points, said) in &POINTS {
+        assert!(rt;
+            check_points(rt.alloc(), &history, points) == *said,
+            "{points:?}"
+        );
+    }
+}
+
+/// A write at a process, and then a read of it, which isn't answered yet.
+const UNFINISHED: [Entry; 3] = [
+    Entry::Called {
+        at: 0,
+        id: P,
+        op: WRITE_FIVE,
+    },
+    Entry::Answered {
+        at: 0,
+        id: P,
+        answer: Answer::Done,
+    },
+    Entry::Called {
+        at: 1,
+        id: NEXT,
+        op: READ,
+    },
+];
+
+const NEXT: OpId = OpId {
+    process: 0,
+    number: 1,
+};
+
+#[test]
+fn an_unfinished_read_is_unknown(rt: HostRuntime) {
+    let history = history_of(&rt, rt.alloc(), 2, &UNFINISHED);
+    let whole = check_serial(rt.alloc(), &history, &[P, NEXT]);
+    assert!(rt; whole == Err(CheckFault::Unknown));
+    assert!(rt; check_serial(rt.alloc(), &history, &[P]) == Ok(()));
+}
+
+/// The same with the read answered.
+fn finished(rt: &impl Abort, alloc: Global) -> History {
+    let mut history = history_of(rt, alloc, 2, &UNFINISHED);
+    let answer = answered(3, NEXT, Answer::Value(5));
+    history.push(answer).expect(rt, "in place");
     history
-        .push(answered(3, id(0, 1), Answer::Value(5)))
-        .expect(&rt, "in place");
-    assert_eq!(rt; check_serial(alloc, &history, &order), Ok(()));
-    let turned = [id(0, 1), id(0, 0)];
-    assert_eq!(rt;
-        check_serial(alloc, &history, &turned),
-        Err(CheckFault::OwnOrder)
-    );
-    let points = [
-        Point {
-            id: id(0, 0),
-            at: 0,
-        },
-        Point {
-            id: id(0, 1),
-            at: 2,
-        },
-    ];
-    assert_eq!(rt; check_points(alloc, &history, &points), Ok(()));
+}
+
+#[test]
+fn own_order_is_kept(rt: HostRuntime) {
+    let history = finished(&rt, rt.alloc());
+    assert!(rt; check_serial(rt.alloc(), &history, &[P, NEXT]) == Ok(()));
+    let turned = check_serial(rt.alloc(), &history, &[NEXT, P]);
+    assert!(rt; turned == Err(CheckFault::OwnOrder));
+    let points = [Point { id: P, at: 0 }, Point { id: NEXT, at: 2 }];
+    assert!(rt; check_points(rt.alloc(), &history, &points) == Ok(()));
 }
 
 #[test]

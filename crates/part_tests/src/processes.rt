@@ -1,7 +1,7 @@
 //! Worked examples of one process and of several side by side, as tables of steps and what each gives.
 use crate::traces::{Row, follow};
 use crate::values::{READ, WRITE_FIVE};
-use reg_base::limits::{MOST_OPERATIONS, MOST_RESENT};
+use reg_base::limits::MOST_OPERATIONS;
 use reg_base::{Op, Shape};
 use reg_frames::{Body, Frame};
 use reg_front::{FrontEnd, Linear, LocalRead, LocalWrite};
@@ -348,7 +348,7 @@ fn three_processes_step_by_step(rt: HostRuntime) -> Result<(), Fail> {
     follow::<LocalWrite>(&rt, 3, EACH_LACKS.as_slice())
 }
 
-fn started<F: FrontEnd>(rt: &impl Abort, alloc: Global, processes: u32) -> Process<F> {
+pub(crate) fn started<F: FrontEnd>(rt: &impl Abort, alloc: Global, processes: u32) -> Process<F> {
     let shape = Shape::new(processes, 1).expect(rt, "a shape");
     Process::new(alloc, shape, 0).expect(rt, "a process of the shape")
 }
@@ -368,33 +368,4 @@ fn operations_end(rt: HostRuntime) {
     }
     assert!(rt; matches!(process.call(READ), Err(ProcessFault::TooManyOperations)));
     assert!(rt; process.tick().is_ok());
-}
-
-#[test]
-fn tick_puts_the_first_sixteen(rt: HostRuntime) {
-    assert_eq!(rt; MOST_RESENT, 16);
-    let mut process = started::<LocalWrite>(&rt, rt.alloc(), 2);
-    for count in 1..=17 {
-        assert!(rt; process.call(WRITE_FIVE).is_ok());
-        let again = process.tick().expect(&rt, "a tick");
-        assert_eq!(rt; again.frames.len(), if count < 16 { count } else { 16 });
-        for (place, put) in again.frames.iter().enumerate() {
-            let number = place as u64;
-            let time = number.saturating_add(1);
-            let body = cast!(time, WRITE_FIVE);
-            assert!(rt; put.to == 1 && put.frame == Frame::Numbered { number, body });
-        }
-    }
-    assert_eq!(rt; process.pending(), 17);
-}
-
-#[test]
-fn process_alone_puts_nothing(rt: HostRuntime) {
-    let mut process = started::<LocalWrite>(&rt, rt.alloc(), 1);
-    for _number in 0..17 {
-        let out = process.call(WRITE_FIVE).expect(&rt, "a write");
-        assert_eq!(rt; (out.frames.len(), out.delivered.len()), (0, 1));
-    }
-    let again = process.tick().expect(&rt, "a tick");
-    assert_eq!(rt; (process.pending(), again.frames.len()), (0, 0));
 }

@@ -5,6 +5,7 @@ use reg_history::{
     Entry, History, Point, ReadFault, ReadWhy, Report, ReportFault, read_report, write_report,
 };
 use std::alloc::Global;
+use std::process::Abort;
 use std::test::Fail;
 
 pub(crate) const ONE_PROCESS: &str =
@@ -65,6 +66,22 @@ fn points() -> [Point; 2] {
     ]
 }
 
+fn history(alloc: Global) -> Result<History, Fail> {
+    let mut history = History::new(alloc, Shape::new(1, 1)?)?;
+    for entry in entries() {
+        history.push(entry)?;
+    }
+    Ok(history)
+}
+
+fn names_of(alloc: Global, words: &[&str]) -> Result<Names, Fail> {
+    let mut names = Vec::new(alloc);
+    for word in words {
+        names.push(String::from_str(alloc, *word)?)?;
+    }
+    Ok(Names::new(names)?)
+}
+
 fn made(
     rt: &HostRuntime,
     front: &str,
@@ -72,21 +89,13 @@ fn made(
     ids: &[OpId],
     points: &[Point],
 ) -> Result<Result<Report, ReportFault>, Fail> {
-    let mut history = History::new(rt.alloc(), Shape::new(1, 1)?)?;
-    for entry in entries() {
-        history.push(entry)?;
-    }
-    let mut words = Vec::new(rt.alloc());
-    for name in names {
-        words.push(String::from_str(rt.alloc(), *name)?)?;
-    }
-    Ok(Report::new(
-        String::from_str(rt.alloc(), front)?,
-        Names::new(words)?,
-        history,
-        ids.to_vec(rt.alloc())?,
-        Some(points.to_vec(rt.alloc())?),
-    ))
+    let alloc = rt.alloc();
+    let front = String::from_str(alloc, front)?;
+    let names = names_of(alloc, names)?;
+    let history = history(alloc)?;
+    let order = ids.to_vec(alloc)?;
+    let points = points.to_vec(alloc)?;
+    Ok(Report::new(front, names, history, order, Some(points)))
 }
 
 /// What the getters of a report give.
@@ -107,19 +116,28 @@ fn written(alloc: Global, report: &Report) -> Result<String, Fail> {
     Ok(String::from_utf8(out)?)
 }
 
-#[test]
-fn a_report_is_written(rt: HostRuntime) -> Result<(), Fail> {
-    let report = made(&rt, "linear", &["x"], &[id(0, 0), id(0, 1)], &points())??;
-    let parts = told(rt.alloc(), &report)?;
-    assert_eq!(rt;
-        parts.as_str(),
-        "linear, 1 names
+/// The report of one process, of its parts.
+fn one_process(rt: &HostRuntime) -> Result<Report, Fail> {
+    Ok(made(rt, "linear", &["x"], &[id(0, 0), id(0, 1)], &points())??)
+}
+
+const PARTS: &str = "linear, 1 names
 [Called { at: 0, id: OpId { process: 0, number: 0 }, op: Write { register: 0, value: 5 } }, Answered { at: 0, id: OpId { process: 0, number: 0 }, answer: Done }, Called { at: 1, id: OpId { process: 0, number: 1 }, op: Read { register: 0 } }, Answered { at: 1, id: OpId { process: 0, number: 1 }, answer: Value(5) }]
 [OpId { process: 0, number: 0 }, OpId { process: 0, number: 1 }]
 Some([Point { id: OpId { process: 0, number: 0 }, at: 0 }, Point { id: OpId { process: 0, number: 1 }, at: 1 }])
-"
-    );
-    assert_eq!(rt; written(rt.alloc(), &report)?.as_str(), ONE_PROCESS_NOW);
+";
+
+#[test]
+fn a_report_tells_its_parts(rt: HostRuntime) -> Result<(), Fail> {
+    let report = one_process(&rt)?;
+    assert!(rt; told(rt.alloc(), &report)?.as_str() == PARTS);
+    Ok(())
+}
+
+#[test]
+fn a_report_is_written(rt: HostRuntime) -> Result<(), Fail> {
+    let report = one_process(&rt)?;
+    assert!(rt; written(rt.alloc(), &report)?.as_str() == ONE_PROCESS_NOW);
     Ok(())
 }
 
@@ -197,18 +215,19 @@ fn parts_that_are_no_report_are_refused(rt: HostRuntime) -> Result<(), Fail> {
     Ok(())
 }
 
-#[test]
-fn reports_are_written_in_version_2(rt: HostRuntime) -> Result<(), Fail> {
-    for (read, now) in [
-        (ONE_PROCESS, ONE_PROCESS_NOW),
-        (ONE_PROCESS_NOW, ONE_PROCESS_NOW),
-        (NO_POINTS, NO_POINTS_NOW),
-        (NO_POINTS_NOW, NO_POINTS_NOW),
-    ] {
-        let report = read_report(rt.alloc(), read)?;
-        assert_eq!(rt; written(rt.alloc(), &report)?.as_str(), now);
+/// Both texts are read, and written as the second.
+fn demand_written(rt: &(impl Abort + AllocGlobal), older: &str, now: &str) -> Result<(), Fail> {
+    for text in [older, now] {
+        let report = read_report(rt.alloc(), text)?;
+        assert!(rt; written(rt.alloc(), &report)?.as_str() == now);
     }
     Ok(())
+}
+
+#[test]
+fn reports_are_written_in_version_2(rt: HostRuntime) -> Result<(), Fail> {
+    demand_written(&rt, ONE_PROCESS, ONE_PROCESS_NOW)?;
+    demand_written(&rt, NO_POINTS, NO_POINTS_NOW)
 }
 
 fn is_refused_at_a_line(rt: &HostRuntime, bytes: &[u8]) -> Result<bool, Fail> {
@@ -238,78 +257,111 @@ fn refusal(rt: &HostRuntime, text: &str, old: &str, new: &str) -> Result<Option<
     Ok(read_report(rt.alloc(), changed.as_str()).err())
 }
 
+/// What is put in the place of a part of the first report, and the line and cause of the refusal.
+const CHANGED: [(&str, &str, u64, ReadWhy); 35] = [
+    ("end\n", "", 16, ReadWhy::End),
+    ("end\n", "end\n\n", 17, ReadWhy::End),
+    ("end\n", "end\nend\n", 17, ReadWhy::End),
+    ("answer  done", "answer done", 7, ReadWhy::Form),
+    (
+        "p0    #0       call    write x 5\n       0  p0    #0       answer  done",
+        "p0    #0       answer  done\n       0  p0    #0       call    write x 5",
+        6,
+        ReadWhy::Place,
+    ),
+    ("write x 5", "write y 5", 6, ReadWhy::Name),
+    (
+        "write x 5",
+        "write x 18446744073709551616",
+        6,
+        ReadWhy::Range,
+    ),
+    ("write x 5", "write x 05", 6, ReadWhy::Form),
+    ("write x 5", "write x 5 ", 6, ReadWhy::Form),
+    ("write x 5", "write  x 5", 6, ReadWhy::Form),
+    ("write x 5", "write x 5\r", 6, ReadWhy::Form),
+    (
+        "       0  p0    #0       call",
+        " 1048576  p0    #0       call",
+        6,
+        ReadWhy::Range,
+    ),
+    (
+        "       0  p0    #0       call",
+        "       0  p16   #0       call",
+        6,
+        ReadWhy::Range,
+    ),
+    (
+        "       0  p0    #0       call",
+        "       0  p0    #65535   call",
+        6,
+        ReadWhy::Range,
+    ),
+    ("history 4", "history 2097153", 5, ReadWhy::Range),
+    ("history 4", "history 2097152", 10, ReadWhy::Form),
+    ("history 4", "history 04", 5, ReadWhy::Form),
+    ("history 4", "history 5", 10, ReadWhy::Form),
+    ("front linear", "front local read", 2, ReadWhy::Form),
+    ("front linear", "front abcdefghijklmnopq", 2, ReadWhy::Form),
+    ("registers x", "registers x x", 4, ReadWhy::Name),
+    ("registers x", "registers x1", 4, ReadWhy::Name),
+    ("registers x", "registers", 4, ReadWhy::Form),
+    ("registers x", "registers x ", 4, ReadWhy::Form),
+    ("processes 1", "processes 0", 3, ReadWhy::Range),
+    ("processes 1", "processes 17", 3, ReadWhy::Range),
+    ("report 1", "report 3", 1, ReadWhy::Form),
+    ("p0 #1\npoints", "p0 #65535\npoints", 12, ReadWhy::Range),
+    ("order 2", "order 1048577", 10, ReadWhy::Range),
+    ("order 2", "order 1048576", 13, ReadWhy::Form),
+    ("points 2", "points 1048577", 13, ReadWhy::Range),
+    ("points 2", "points 1048576", 16, ReadWhy::Form),
+    ("p0 #1 at 1", "p0 #1 at 1048576", 15, ReadWhy::Range),
+    ("p0 #1 at 1", "p0 #1 at1", 15, ReadWhy::Form),
+    ("p0 #1 at 1", "p16 #1 at 1", 15, ReadWhy::Range),
+];
+
 #[test]
 fn a_report_is_refused_at_its_line(rt: HostRuntime) -> Result<(), Fail> {
-    let cases = [
-        ("end\n", "", 16, ReadWhy::End),
-        ("end\n", "end\n\n", 17, ReadWhy::End),
-        ("end\n", "end\nend\n", 17, ReadWhy::End),
-        ("answer  done", "answer done", 7, ReadWhy::Form),
-        (
-            "p0    #0       call    write x 5\n       0  p0    #0       answer  done",
-            "p0    #0       answer  done\n       0  p0    #0       call    write x 5",
-            6,
-            ReadWhy::Place,
-        ),
-        ("write x 5", "write y 5", 6, ReadWhy::Name),
-        (
-            "write x 5",
-            "write x 18446744073709551616",
-            6,
-            ReadWhy::Range,
-        ),
-        ("write x 5", "write x 05", 6, ReadWhy::Form),
-        ("write x 5", "write x 5 ", 6, ReadWhy::Form),
-        ("write x 5", "write  x 5", 6, ReadWhy::Form),
-        ("write x 5", "write x 5\r", 6, ReadWhy::Form),
-        (
-            "       0  p0    #0       call",
-            " 1048576  p0    #0       call",
-            6,
-            ReadWhy::Range,
-        ),
-        (
-            "       0  p0    #0       call",
-            "       0  p16   #0       call",
-            6,
-            ReadWhy::Range,
-        ),
-        (
-            "       0  p0    #0       call",
-            "       0  p0    #65535   call",
-            6,
-            ReadWhy::Range,
-        ),
-        ("history 4", "history 2097153", 5, ReadWhy::Range),
-        ("history 4", "history 04", 5, ReadWhy::Form),
-        ("history 4", "history 5", 10, ReadWhy::Form),
-        ("front linear", "front local read", 2, ReadWhy::Form),
-        ("front linear", "front abcdefghijklmnopq", 2, ReadWhy::Form),
-        ("registers x", "registers x x", 4, ReadWhy::Name),
-        ("registers x", "registers x1", 4, ReadWhy::Name),
-        ("registers x", "registers", 4, ReadWhy::Form),
-        ("registers x", "registers x ", 4, ReadWhy::Form),
-        ("processes 1", "processes 0", 3, ReadWhy::Range),
-        ("processes 1", "processes 17", 3, ReadWhy::Range),
-        ("report 1", "report 3", 1, ReadWhy::Form),
-        ("p0 #1\npoints", "p0 #65535\npoints", 12, ReadWhy::Range),
-        ("order 2", "order 1048577", 10, ReadWhy::Range),
-        ("p0 #1 at 1", "p0 #1 at 1048576", 15, ReadWhy::Range),
-        ("p0 #1 at 1", "p0 #1 at1", 15, ReadWhy::Form),
-        ("p0 #1 at 1", "p16 #1 at 1", 15, ReadWhy::Range),
-    ];
-    for (old, new, line, why) in cases {
-        assert_eq!(rt;
-            refusal(&rt, ONE_PROCESS, old, new)?,
-            fault(line, why),
-            "{new}"
-        );
+    for (old, new, line, why) in &CHANGED {
+        let found = refusal(&rt, ONE_PROCESS, old, new)?;
+        assert!(rt; found == fault(*line, *why), "{new}");
     }
-    assert_eq!(rt; read_report(rt.alloc(), "").err(), fault(1, ReadWhy::End));
-    assert_eq!(rt; refusal(&rt, NO_POINTS, "p1 #0\n", "p15 #0\n")?, None);
-    assert_eq!(rt;
-        refusal(&rt, NO_POINTS, "p1    #0       call", "p3    #0       call")?,
-        fault(8, ReadWhy::Place)
-    );
     Ok(())
+}
+
+/// The same at the limits, where the report is still read.
+const AT_LIMITS: [(&str, &str); 8] = [
+    ("front linear", "front abcdefghijklmnop"),
+    ("processes 1", "processes 16"),
+    ("registers x", "registers x abcdefghijklmnop"),
+    ("write x 5", "write x 18446744073709551615"),
+    (
+        "       1  p0    #1       answer",
+        " 1048575  p0    #1       answer",
+    ),
+    ("p0 #1\npoints", "p0 #65534\npoints"),
+    ("p0 #1 at 1", "p0 #1 at 1048575"),
+    ("p0 #1 at 1", "p15 #1 at 1"),
+];
+
+#[test]
+fn a_report_is_read_at_its_limits(rt: HostRuntime) -> Result<(), Fail> {
+    for (old, new) in &AT_LIMITS {
+        assert!(rt; refusal(&rt, ONE_PROCESS, old, new)?.is_none(), "{new}");
+    }
+    Ok(())
+}
+
+#[test]
+fn processes_in_the_order_and_in_the_history(rt: HostRuntime) -> Result<(), Fail> {
+    assert!(rt; refusal(&rt, NO_POINTS, "p1 #0\n", "p15 #0\n")?.is_none());
+    let called = refusal(&rt, NO_POINTS, "p1    #0       call", "p3    #0       call")?;
+    assert!(rt; called == fault(8, ReadWhy::Place));
+    Ok(())
+}
+
+#[test]
+fn an_empty_text_is_no_report(rt: HostRuntime) {
+    assert!(rt; read_report(rt.alloc(), "").err() == fault(1, ReadWhy::End));
 }

@@ -1,9 +1,12 @@
-//! Lines, parts of lines and operations as text, as the formats have them.
-use reg_base::{Names, Op};
+//! Lines and parts of lines, as the formats have them.
+use crate::operations::two_names;
 use reg_text::{
-    Lines, OpLine, TextFault, Why, expect_line, field_within, in_front, is_numeral, left_field,
-    name_of_op, numeral, op_form, read_count, read_names, read_op, right_field, why_number, within,
+    Lines, TextFault, Why, expect_line, field_within, in_front, is_numeral, left_field, numeral,
+    read_count, read_names, right_field, why_number, within,
 };
+use std::alloc::Global;
+use std::process::Abort;
+use std::str::from_utf8;
 use std::test::Fail;
 
 const MOST: u64 = 18_446_744_073_709_551_615;
@@ -12,145 +15,211 @@ fn fault(line: u64, why: Why) -> Option<TextFault> {
     Some(TextFault::Line { line, why })
 }
 
-fn two_names(rt: &HostRuntime) -> Result<Names, Fail> {
-    let mut lines = Lines::new(b"registers x y".as_slice());
-    Ok(read_names(rt.alloc(), &mut lines, 256)?)
+/// A text, whether lines are skipped, why a fault is told, and what the cursor then tells.
+type Walk = (&'static str, bool, Why, &'static str);
+
+const LAST_LINE_FEED: [Walk; 3] = [
+    ("a\n\n#b\n", false, Why::Form, ALL_LINES),
+    ("a\n\n#b", false, Why::Form, ALL_LINES),
+    (
+        "",
+        false,
+        Why::Form,
+        "0\nends at 1, Line { line: 1, why: End }\n",
+    ),
+];
+
+const ALL_LINES: &str = "0
+1, Line { line: 1, why: Form } [a]
+2, Line { line: 2, why: Form } []
+3, Line { line: 3, why: Form } [#b]
+ends at 4, Line { line: 4, why: End }
+";
+
+const SKIPPED: [Walk; 2] = [
+    ("# a\n\nb\n#\n #\n\n# c", true, Why::Name, KEPT_LINES),
+    ("# a\n\nb\n#\n #\n\n# c\n", true, Why::Name, KEPT_LINES),
+];
+
+const KEPT_LINES: &str = "0
+3, Line { line: 3, why: Name } [b]
+5, Line { line: 5, why: Name } [ #]
+ends at 8, Line { line: 8, why: End }
+";
+
+/// The number of the next line, a fault of it, and the line itself.
+fn next_told(alloc: Global, lines: &mut Lines<'_>, why: Why) -> Result<String, Fail> {
+    let Some(line) = lines.next() else {
+        let fault = lines.fault(Why::End);
+        return Ok(format!(in alloc; "ends at {}, {fault:?}\n", lines.number())?);
+    };
+    let fault = lines.fault(why);
+    Ok(format!(in alloc; "{}, {fault:?} [{}]\n", lines.number(), from_utf8(line)?)?)
+}
+
+/// What the cursor tells of each line up to the end.
+fn walked(alloc: Global, lines: Lines<'_>, why: Why) -> Result<String, Fail> {
+    let mut lines = lines;
+    let mut text = format!(in alloc; "{}\n", lines.number())?;
+    for _ in 0..9u32 {
+        let told = next_told(alloc, &mut lines, why)?;
+        text.push_str(told.as_str())?;
+        if told.as_str().starts_with("ends") {
+            break;
+        }
+    }
+    Ok(text)
+}
+
+fn demand_lines(rt: &(impl Abort + AllocGlobal), walks: &[Walk]) -> Result<(), Fail> {
+    for (text, skips, why, told) in walks {
+        let lines = if *skips {
+            Lines::skipping(text.as_bytes())
+        } else {
+            Lines::new(text.as_bytes())
+        };
+        assert_eq!(rt; walked(rt.alloc(), lines, *why)?.as_str(), *told);
+    }
+    Ok(())
 }
 
 #[test]
-fn the_last_line_feed_may_be_missing(rt: HostRuntime) {
-    for text in ["a\n\n#b\n", "a\n\n#b"] {
-        let mut lines = Lines::new(text.as_bytes());
-        assert_eq!(rt; lines.number(), 0);
-        assert_eq!(rt; lines.next(), Some(b"a".as_slice()));
-        assert_eq!(rt;
-            lines.fault(Why::Form),
-            TextFault::Line {
-                line: 1,
-                why: Why::Form
-            }
-        );
-        assert_eq!(rt; lines.next(), Some(b"".as_slice()));
-        assert_eq!(rt; lines.next(), Some(b"#b".as_slice()));
-        assert_eq!(rt; lines.number(), 3);
-        assert_eq!(rt; lines.next(), None);
-        assert_eq!(rt; lines.number(), 4);
-    }
-    assert_eq!(rt; Lines::new(b"".as_slice()).next(), None);
+fn the_last_line_feed_may_be_missing(rt: HostRuntime) -> Result<(), Fail> {
+    demand_lines(&rt, LAST_LINE_FEED.as_slice())
 }
 
 #[test]
-fn skipped_lines_are_counted(rt: HostRuntime) {
-    for text in ["# a\n\nb\n#\n #\n\n# c", "# a\n\nb\n#\n #\n\n# c\n"] {
-        let mut lines = Lines::skipping(text.as_bytes());
-        assert_eq!(rt; lines.next(), Some(b"b".as_slice()));
-        assert_eq!(rt; lines.number(), 3);
-        assert_eq!(rt; lines.next(), Some(b" #".as_slice()));
-        assert_eq!(rt;
-            lines.fault(Why::Name),
-            TextFault::Line {
-                line: 5,
-                why: Why::Name
-            }
-        );
-        assert_eq!(rt; lines.next(), None);
-        assert_eq!(rt;
-            lines.fault(Why::End),
-            TextFault::Line {
-                line: 8,
-                why: Why::End
-            }
-        );
-    }
+fn skipped_lines_are_counted(rt: HostRuntime) -> Result<(), Fail> {
+    demand_lines(&rt, SKIPPED.as_slice())
 }
+
+/// A text, the number that it spells, and whether it has a numeral's form.
+const NUMERALS: [(&str, Option<u64>, bool); 17] = [
+    ("0", Some(0), true),
+    ("7", Some(7), true),
+    ("10", Some(10), true),
+    ("9999999999999999999", Some(9_999_999_999_999_999_999), true),
+    ("18446744073709551615", Some(MOST), true),
+    ("18446744073709551616", None, true),
+    ("100000000000000000000", None, true),
+    ("", None, false),
+    ("00", None, false),
+    ("01", None, false),
+    ("+1", None, false),
+    ("-1", None, false),
+    (" 1", None, false),
+    ("1 ", None, false),
+    ("1a", None, false),
+    ("/", None, false),
+    (":", None, false),
+];
 
 #[test]
 fn numerals(rt: HostRuntime) {
-    let cases = [
-        ("0", Some(0), true),
-        ("7", Some(7), true),
-        ("10", Some(10), true),
-        ("9999999999999999999", Some(9_999_999_999_999_999_999), true),
-        ("18446744073709551615", Some(MOST), true),
-        ("18446744073709551616", None, true),
-        ("100000000000000000000", None, true),
-        ("", None, false),
-        ("00", None, false),
-        ("01", None, false),
-        ("+1", None, false),
-        ("-1", None, false),
-        (" 1", None, false),
-        ("1 ", None, false),
-        ("1a", None, false),
-        ("/", None, false),
-        (":", None, false),
-    ];
-    for (text, number, has_form) in cases {
+    for (text, number, has_form) in &NUMERALS {
         let bytes = text.as_bytes();
-        assert_eq!(rt; numeral(bytes), number, "{text}");
-        assert_eq!(rt; is_numeral(bytes), has_form, "{text}");
-        let why = if has_form { Why::Range } else { Why::Form };
-        assert_eq!(rt; why_number(bytes), why, "{text}");
+        let why = if *has_form { Why::Range } else { Why::Form };
+        assert!(rt; numeral(bytes) == *number, "{text}");
+        assert!(rt;
+            is_numeral(bytes) == *has_form && why_number(bytes) == why,
+            "{text}"
+        );
     }
-    assert!(rt; within(b"16".as_slice(), 16) && !within(b"17".as_slice(), 16));
-    let field = field_within(b"16 x".as_slice(), 16, b' ');
-    assert_eq!(rt; field, Some((16, b"x".as_slice())));
-    assert_eq!(rt; field_within(b"17 x".as_slice(), 16, b' '), None);
-    assert_eq!(rt; field_within(b"16".as_slice(), 16, b' '), None);
 }
+
+/// A text, and the number up to 16 that stands in front of its first space, with what comes behind it.
+const FIELDS: [(&str, Option<(u64, &str)>); 3] = [
+    ("16 x", Some((16, "x"))),
+    ("17 x", None),
+    ("16", None),
+];
+
+#[test]
+fn numbers_up_to_a_limit(rt: HostRuntime) {
+    for (text, is_one) in [("16", true), ("17", false)] {
+        assert!(rt; within(text.as_bytes(), 16) == is_one, "{text}");
+    }
+    for (text, wanted) in &FIELDS {
+        let field = field_within(text.as_bytes(), 16, b' ');
+        let wanted = wanted.map(|(number, rest)| (number, rest.as_bytes()));
+        assert!(rt; field == wanted, "{text}");
+    }
+}
+
+/// A text, and the number at the right of its first 8 places in front of a mark.
+const RIGHT: [(&str, Option<u64>); 7] = [
+    ("      12  p", Some(12)),
+    ("12345678  p", Some(12_345_678)),
+    ("12        p", None),
+    ("     012  p", None),
+    ("          p", None),
+    ("      12  q", None),
+    ("      12  ", None),
+];
+
+/// A text, and the number at the left of its first 3 places in front of a mark, with what comes behind it.
+const LEFT: [(&str, Option<(u64, &str)>); 6] = [
+    ("1    #0", Some((1, "0"))),
+    ("123  #0", Some((123, "0"))),
+    (" 1   #0", None),
+    ("1 2  #0", None),
+    ("1   #0", None),
+    ("1    #27", Some((1, "27"))),
+];
+
+/// A text, and what stands in front of its spaces, where they stand at its end alone.
+const FRONTS: [(&str, &str); 4] = [("1  ", "1"), ("123", "123"), (" 1 ", " 1 "), ("1 2", "1 2")];
 
 #[test]
 fn columns(rt: HostRuntime) {
-    let right = |text: &str| right_field(text.as_bytes(), 8, b"  p").map(|p| p.0);
-    assert_eq!(rt; right("      12  p"), Some(12));
-    assert_eq!(rt; right("12345678  p"), Some(12_345_678));
-    assert_eq!(rt; right("12        p"), None);
-    assert_eq!(rt; right("     012  p"), None);
-    assert_eq!(rt; right("          p"), None);
-    assert_eq!(rt; right("      12  q"), None);
-    assert_eq!(rt; right("      12  "), None);
-    let left = |text: &str| left_field(text.as_bytes(), 3, b"  #").map(|p| p.0);
-    assert_eq!(rt; left("1    #0"), Some(1));
-    assert_eq!(rt; left("123  #0"), Some(123));
-    assert_eq!(rt; left(" 1   #0"), None);
-    assert_eq!(rt; left("1 2  #0"), None);
-    assert_eq!(rt; left("1   #0"), None);
-    let cut = left_field(b"1    #27".as_slice(), 3, b"  #");
-    assert_eq!(rt; cut, Some((1, b"27".as_slice())));
-    assert_eq!(rt; in_front(b"1  ".as_slice()), b"1".as_slice());
-    assert_eq!(rt; in_front(b"123".as_slice()), b"123".as_slice());
-    assert_eq!(rt; in_front(b" 1 ".as_slice()), b" 1 ".as_slice());
-    assert_eq!(rt; in_front(b"1 2".as_slice()), b"1 2".as_slice());
+    for (text, number) in &RIGHT {
+        let field = right_field(text.as_bytes(), 8, b"  p");
+        assert!(rt; field.map(|(found, _)| found) == *number, "{text}");
+    }
+    for (text, wanted) in &LEFT {
+        let field = left_field(text.as_bytes(), 3, b"  #");
+        let wanted = wanted.map(|(number, rest)| (number, rest.as_bytes()));
+        assert!(rt; field == wanted, "{text}");
+    }
+    for (text, front) in &FRONTS {
+        assert!(rt; in_front(text.as_bytes()) == front.as_bytes(), "{text}");
+    }
+}
+
+/// A first line that isn't one of names, and why.
+const NO_NAMES: [(&str, Why); 11] = [
+    ("", Why::End),
+    ("register x", Why::Form),
+    ("registers", Why::Form),
+    ("registers ", Why::Form),
+    ("registers x ", Why::Form),
+    ("registers  x", Why::Form),
+    ("registers x1 x ", Why::Form),
+    ("registers x é", Why::Form),
+    ("registers x x", Why::Name),
+    ("registers x X", Why::Name),
+    ("registers x abcdefghijklmnopq", Why::Name),
+];
+
+/// Why the first line has no names, of which there may be 256.
+fn names_fault(alloc: Global, text: &str) -> Option<TextFault> {
+    let mut lines = Lines::new(text.as_bytes());
+    read_names(alloc, &mut lines, 256).err()
 }
 
 #[test]
 fn names_of_their_line(rt: HostRuntime) -> Result<(), Fail> {
-    let names = two_names(&rt)?;
-    assert_eq!(rt; (names.number("x"), names.number("y")), (Some(0), Some(1)));
-    let cases = [
-        ("", Why::End),
-        ("register x", Why::Form),
-        ("registers", Why::Form),
-        ("registers ", Why::Form),
-        ("registers x ", Why::Form),
-        ("registers  x", Why::Form),
-        ("registers x1 x ", Why::Form),
-        ("registers x é", Why::Form),
-        ("registers x x", Why::Name),
-        ("registers x X", Why::Name),
-        ("registers x abcdefghijklmnopq", Why::Name),
-    ];
-    for (text, why) in cases {
-        let mut lines = Lines::new(text.as_bytes());
-        let found = read_names(rt.alloc(), &mut lines, 256).err();
-        assert_eq!(rt; found, fault(1, why), "{text}");
+    let names = two_names(rt.alloc())?;
+    assert!(rt; names.number("x") == Some(0) && names.number("y") == Some(1));
+    for (text, why) in &NO_NAMES {
+        assert!(rt; names_fault(rt.alloc(), text) == fault(1, *why), "{text}");
     }
     Ok(())
 }
 
 /// A line of 256 different names, and a word behind them.
-fn many_names(rt: &HostRuntime, last: &str) -> Result<String, Fail> {
-    let mut line = String::from_str(rt.alloc(), "registers")?;
+fn many_names(alloc: Global, last: &str) -> Result<String, Fail> {
+    let mut line = String::from_str(alloc, "registers")?;
     for number in 0..256u32 {
         line.push_str(" n")?;
         for place in [number / 26 % 26, number % 26] {
@@ -161,135 +230,85 @@ fn many_names(rt: &HostRuntime, last: &str) -> Result<String, Fail> {
     Ok(line)
 }
 
+/// What stands behind 256 names, and why there are no names.
+const BEHIND_NAMES: [(&str, Option<Why>); 6] = [
+    ("", None),
+    (" x", Some(Why::Range)),
+    (" naa", Some(Why::Range)),
+    (" x1", Some(Why::Range)),
+    (" ", Some(Why::Form)),
+    (" x  y", Some(Why::Form)),
+];
+
 #[test]
 fn the_first_name_over_is_beyond_the_limit(rt: HostRuntime) -> Result<(), Fail> {
-    let cases = [
-        ("", None),
-        (" x", fault(1, Why::Range)),
-        (" naa", fault(1, Why::Range)),
-        (" x1", fault(1, Why::Range)),
-        (" ", fault(1, Why::Form)),
-        (" x  y", fault(1, Why::Form)),
-    ];
-    for (last, found) in cases {
-        let line = many_names(&rt, last)?;
-        let mut lines = Lines::new(line.as_bytes());
-        assert_eq!(rt;
-            read_names(rt.alloc(), &mut lines, 256).err(),
-            found,
+    for (last, why) in &BEHIND_NAMES {
+        let line = many_names(rt.alloc(), last)?;
+        let found = names_fault(rt.alloc(), line.as_str());
+        assert!(rt;
+            found == why.map(|why| TextFault::Line { line: 1, why }),
             "{last}"
         );
     }
     Ok(())
 }
 
-fn op_of(text: &[u8], names: &Names) -> Option<Op> {
-    let _count = names.count();
-    read_op(text, names)
+/// What is asked of the next line of a head.
+enum Head {
+    /// It is a number up to 16 behind the mark.
+    Count { mark: &'static str },
+    /// It is this line.
+    Line { text: &'static str },
 }
 
-#[test]
-fn operations(rt: HostRuntime) -> Result<(), Fail> {
-    let names = two_names(&rt)?;
-    let read = Op::Read { register: 0 };
-    let most = Op::Write {
-        register: 1,
-        value: MOST,
-    };
-    let written = "write y 18446744073709551615";
-    assert_eq!(rt; op_of(b"read x".as_slice(), &names), Some(read));
-    assert_eq!(rt; op_of(written.as_bytes(), &names), Some(most));
-    let name = name_of_op(&names, read);
-    let line = OpLine { name, op: read };
-    assert_eq!(rt; format!(in rt.alloc(); "{line}")?.as_str(), "read x");
-    let swap = Op::Swap {
-        register: 1,
-        value: 5,
-    };
-    assert_eq!(rt; op_of(b"swap y 5".as_slice(), &names), Some(swap));
-    let name = name_of_op(&names, swap);
-    let line = OpLine { name, op: swap };
-    assert_eq!(rt; format!(in rt.alloc(); "{line}")?.as_str(), "swap y 5");
-    let name = name_of_op(&names, most);
-    let line = OpLine { name, op: most };
-    assert_eq!(rt; format!(in rt.alloc(); "{line}")?.as_str(), written);
-    Ok(())
-}
+const HEAD: &str = "processes 16\nfront linear";
 
-#[test]
-fn texts_that_are_no_operation(rt: HostRuntime) -> Result<(), Fail> {
-    let names = two_names(&rt)?;
-    for text in [
-        "",
-        "read",
-        "read  x",
-        "read x ",
-        "Read x",
-        "read z",
-        "write z 5",
-        "write x",
-        "write x  5",
-        "write x 5 ",
-        "write x 05",
-        "write x 18446744073709551616",
-        "swap z 5",
-        "swap x",
-        "swap  x 5",
-        "swapx 5",
-    ] {
-        assert_eq!(rt; op_of(text.as_bytes(), &names), None, "{text}");
+/// What is asked of its lines, and the number or the fault.
+const OF_HEAD: [(Head, Result<u64, Why>); 3] = [
+    (Head::Count { mark: "processes " }, Ok(16)),
+    (
+        Head::Line {
+            text: "front linear",
+        },
+        Ok(0),
+    ),
+    (Head::Line { text: "end" }, Err(Why::End)),
+];
+
+const OTHER_HEAD: &str = "end \n17\n01\n x\n9\n";
+
+const OF_OTHER_HEAD: [(Head, Result<u64, Why>); 6] = [
+    (Head::Line { text: "end" }, Err(Why::Form)),
+    (Head::Count { mark: "" }, Err(Why::Range)),
+    (Head::Count { mark: "" }, Err(Why::Form)),
+    (Head::Count { mark: "" }, Err(Why::Form)),
+    (Head::Count { mark: "p" }, Err(Why::Form)),
+    (Head::Count { mark: "p" }, Err(Why::End)),
+];
+
+/// The number that is asked for, and 0 for a line.
+fn asked(lines: &mut Lines<'_>, head: &Head) -> Result<u64, TextFault> {
+    match head {
+        Head::Count { mark } => read_count(lines, mark.as_bytes(), 16),
+        Head::Line { text } => {
+            expect_line(lines, text.as_bytes())?;
+            Ok(0)
+        }
     }
-    Ok(())
 }
 
-#[test]
-fn why_a_text_is_no_operation(rt: HostRuntime) -> Result<(), Fail> {
-    let names = two_names(&rt)?;
-    let cases = [
-        ("read z", Some(Why::Name)),
-        ("read A1!", Some(Why::Name)),
-        ("write z 5", Some(Why::Name)),
-        ("write z 18446744073709551616", Some(Why::Name)),
-        ("write x 18446744073709551616", Some(Why::Range)),
-        ("", None),
-        ("read ", None),
-        ("read x ", None),
-        ("read é", None),
-        ("write z", None),
-        ("write z ", None),
-        ("write  5", None),
-        ("write x 05", None),
-        ("write é 5", None),
-        ("swap z 5", Some(Why::Name)),
-        ("swap x 18446744073709551616", Some(Why::Range)),
-        ("swap x", None),
-        ("swap x 05", None),
-        ("erase x", None),
-    ];
-    for (text, why) in cases {
-        assert_eq!(rt; op_form(text.as_bytes(), &names), why, "{text}");
+fn demand_head(rt: &impl Abort, text: &str, rows: &[(Head, Result<u64, Why>)]) {
+    let mut lines = Lines::new(text.as_bytes());
+    let mut line = 0u64;
+    for (head, wanted) in rows {
+        line = line.saturating_add(1);
+        let wanted = wanted.map_err(|why| TextFault::Line { line, why });
+        assert!(rt; asked(&mut lines, head) == wanted, "line {line}");
     }
-    Ok(())
 }
 
 #[test]
 fn heads(rt: HostRuntime) {
-    let mut lines = Lines::new(b"processes 16\nfront linear".as_slice());
-    assert_eq!(rt; read_count(&mut lines, b"processes ", 16), Ok(16));
-    assert_eq!(rt; expect_line(&mut lines, b"front linear"), Ok(()));
-    let end = expect_line(&mut lines, b"end").err();
-    assert_eq!(rt; end, fault(3, Why::End));
-    let mut others = Lines::new(b"end \n17\n01\n x\n9\n".as_slice());
-    assert_eq!(rt; expect_line(&mut others, b"end").err(), fault(1, Why::Form));
-    assert_eq!(rt;
-        read_count(&mut others, b"", 16).err(),
-        fault(2, Why::Range)
-    );
-    assert_eq!(rt; read_count(&mut others, b"", 16).err(), fault(3, Why::Form));
-    assert_eq!(rt; read_count(&mut others, b"", 16).err(), fault(4, Why::Form));
-    assert_eq!(rt;
-        read_count(&mut others, b"p", 16).err(),
-        fault(5, Why::Form)
-    );
-    assert_eq!(rt; read_count(&mut others, b"p", 16).err(), fault(6, Why::End));
+    demand_head(&rt, HEAD, OF_HEAD.as_slice());
+    demand_head(&rt, OTHER_HEAD, OF_OTHER_HEAD.as_slice());
 }

@@ -1,8 +1,8 @@
 //! What steps of processes give, a line for each.
-use reg_base::{Answer, Op, Shape};
+use reg_base::{Answer, Delivered, Op, Shape};
 use reg_frames::{Body, Frame};
 use reg_front::FrontEnd;
-use reg_process::{Outcome, Process, ProcessFault, Step};
+use reg_process::{Outcome, Process, ProcessFault, Put, Reply, Step};
 use reg_text::OpLine;
 use std::alloc::Global;
 use std::process::Abort;
@@ -30,28 +30,44 @@ fn frame_text(alloc: Global, frame: &Frame) -> Result<String, Fail> {
     })
 }
 
+fn push_puts(alloc: Global, text: &mut String, puts: &[Put]) -> Result<(), Fail> {
+    for put in puts {
+        let frame = frame_text(alloc, &put.frame)?;
+        text.push_str(format!(in alloc; "puts {frame} to p{}, ", put.to)?.as_str())?;
+    }
+    Ok(())
+}
+
+fn cast_text(alloc: Global, cast: &Delivered) -> Result<String, Fail> {
+    let op = op_line(cast.op);
+    let stamp = cast.stamp;
+    Ok(format!(in alloc; "delivers {op} at {} of p{}, ", stamp.time, stamp.process)?)
+}
+
+fn push_casts(alloc: Global, text: &mut String, casts: &[Delivered]) -> Result<(), Fail> {
+    for cast in casts {
+        text.push_str(cast_text(alloc, cast)?.as_str())?;
+    }
+    Ok(())
+}
+
+fn reply_text(alloc: Global, reply: Reply) -> Result<String, Fail> {
+    let place = reply.place;
+    Ok(match reply.answer {
+        Answer::Done => format!(in alloc; "done at place {place}, ")?,
+        Answer::Value(value) => format!(in alloc; "value {value} at place {place}, ")?,
+    })
+}
+
 fn push_told(alloc: Global, text: &mut String, out: &Outcome) -> Result<(), Fail> {
     if let Some(stamp) = out.cast {
         let part = format!(in alloc; "casts at {} of p{}, ", stamp.time, stamp.process)?;
         text.push_str(part.as_str())?;
     }
-    for put in &out.frames {
-        let frame = frame_text(alloc, &put.frame)?;
-        let part = format!(in alloc; "puts {frame} to p{}, ", put.to)?;
-        text.push_str(part.as_str())?;
-    }
-    for cast in &out.delivered {
-        let op = op_line(cast.op);
-        let stamp = cast.stamp;
-        let part = format!(in alloc; "delivers {op} at {} of p{}, ", stamp.time, stamp.process)?;
-        text.push_str(part.as_str())?;
-    }
+    push_puts(alloc, text, out.frames.as_slice())?;
+    push_casts(alloc, text, out.delivered.as_slice())?;
     if let Some(reply) = out.reply {
-        let part = match reply.answer {
-            Answer::Done => format!(in alloc; "done at place {}, ", reply.place)?,
-            Answer::Value(value) => format!(in alloc; "value {value} at place {}, ", reply.place)?,
-        };
-        text.push_str(part.as_str())?;
+        text.push_str(reply_text(alloc, reply)?.as_str())?;
     }
     Ok(())
 }
@@ -64,6 +80,26 @@ fn step_of<F: FrontEnd>(process: &mut Process<F>, step: &Step) -> Result<Outcome
     }
 }
 
+/// What the process answers.
+fn push_state<F: FrontEnd>(
+    alloc: Global,
+    text: &mut String,
+    process: &Process<F>,
+) -> Result<(), Fail> {
+    let counts = format!(in alloc;
+        "clock {}, pending {}, unsettled {}, delivered {}, ",
+        process.clock(),
+        process.pending(),
+        process.unsettled(),
+        process.delivered_count()
+    )?;
+    text.push_str(counts.as_str())?;
+    text.push_str(if process.busy() { "busy" } else { "free" })?;
+    let x = process.registers().get(0).unwrap_or(0);
+    text.push_str(format!(in alloc; ", x {x}")?.as_str())?;
+    Ok(())
+}
+
 /// What the step gives, or why it is refused, and then what the process answers where it hasn't stopped.
 fn line_of<F: FrontEnd>(
     alloc: Global,
@@ -73,20 +109,15 @@ fn line_of<F: FrontEnd>(
     let mut text = String::new(alloc);
     match step_of(process, step) {
         Ok(out) => push_told(alloc, &mut text, &out)?,
-        Err(ProcessFault::ClockFull) => return Ok(format!(in alloc; "ClockFull")?),
-        Err(ProcessFault::Failed) => return Ok(format!(in alloc; "Failed")?),
-        Err(fault) => text.push_str(format!(in alloc; "{fault:?}, ")?.as_str())?,
+        Err(fault) => {
+            text.push_str(format!(in alloc; "{fault:?}")?.as_str())?;
+            if matches!(fault, ProcessFault::ClockFull | ProcessFault::Failed) {
+                return Ok(text);
+            }
+            text.push_str(", ")?;
+        }
     }
-    let state = format!(in alloc;
-        "clock {}, pending {}, unsettled {}, delivered {}, {}, x {}",
-        process.clock(),
-        process.pending(),
-        process.unsettled(),
-        process.delivered_count(),
-        if process.busy() { "busy" } else { "free" },
-        process.registers().get(0).unwrap_or(0)
-    )?;
-    text.push_str(state.as_str())?;
+    push_state(alloc, &mut text, process)?;
     Ok(text)
 }
 

@@ -1,5 +1,5 @@
 -- Lemmas on the places of names.
-use Rattle.std.proofs.Common.{◌≡◌, ◌↔◌, ℕ, ◌+◌, ◌<◌, ◌≤◌, not, nat_eq, nat_lt, suc, zero, Bool, true, false, ◌||◌, cond, List, [], ◌∷◌, ◌++◌, length, take, drop, get_or, map, Option, Some, None, slice_get, String, string_bytes, refl, ap, sym, ◌∙◌, subst, arith, append_assoc, add-one}
+use Rattle.std.proofs.Common.{◌≡◌, ◌≢◌, ◌↔◌, ℕ, ◌+◌, ◌<◌, ◌≤◌, not, nat_eq, nat_lt, suc, zero, Bool, true, false, ◌||◌, cond, List, [], ◌∷◌, ◌++◌, length, take, drop, get_or, map, Option, Some, None, slice_get, String, string_bytes, refl, ap, sym, ◌∙◌, subst, arith, append_assoc, add-one}
 use Rattle.std.specs.List.{position_from, list_any, IsDistinct, AllByRecursion}
 use Rattle.std.specs.Str.{bytes_eq}
 use Rattle.std.proofs.lemmas.Cmp.{nat_list_eq_equiv}
@@ -7,7 +7,7 @@ use Rattle.std.proofs.lemmas.Map.Keys.{IsDistinct-push, IsDistinct-head, IsDisti
 use Rattle.std.proofs.lemmas.Slice.Eq.{bytes_eq-Decides}
 use Rattle.std.proofs.lemmas.List.{take_more, length-take-le, get_or-map, take-map, length-map}
 use Rattle.std.proofs.Math.Seq.{drop-cons}
-use Rattle.std.specs.Prelude.{IsTrue, option_map}
+use Rattle.std.specs.Prelude.{IsTrue, IfSome, IfNone, option_map}
 use Rattle.std.proofs.lemmas.Option.{same_Some, slice_get-map, slice_get-get_or}
 use Rattle.reg_base.specs.Names.{repeat_after, texts, names_fault, first_repeat, first_bad, worst_place, is_name}
 use Rattle.reg_base.specs.declared.limits.TheConstants.{MOST_REGISTERS}
@@ -109,12 +109,6 @@ number_exact ns s i h = (
   λ e. let z : 0 + i ≡ i = omega arith in place_of_exact ns 0 i s (distinct_after [] ns none_alike (parts ns h).1) e ∙ ap Some z,
 )
 
-pub number_fits : (ns : List (List ℕ)) (s : List ℕ) (i : ℕ) → names_fault ns ≡ None → position_from (λ n. bytes_eq n s) 0 ns ≡ Some i → i < MOST_REGISTERS
-number_fits ns s i h e =
-    let l = slice_get_within ns i s ((number_exact ns s i h).0 e) in
-    let m = (parts ns h).0 in
-    grind (arith, nat_tests)
-
 -- the fault by the two searches
 pub fault_is : {A : Type 0} (names : List (String A)) (p q : Option ℕ) → 0 < length names → length names ≤ MOST_REGISTERS → p ≡ position_from (λ n. not (is_name (string_bytes n))) 0 names → q ≡ first_repeat (texts names) → names_fault (texts names) ≡ worst_place p q
 fault_is names p q some few e f =
@@ -127,19 +121,6 @@ fault_is names p q some few e f =
     ∙ ap (λ x. worst_place x (first_repeat (texts names))) g
     ∙ ap (worst_place p) (sym f)
 
-searched : {A : Type 0} (names : List (String A)) (s : List ℕ) (r : Option ℕ) → r ≡ position_from (λ n. bytes_eq (string_bytes n) s) 0 names → position_from (λ n. bytes_eq n s) 0 (texts names) ≡ r
-searched names s r e = position_from_map string_bytes (λ t. bytes_eq t s) 0 names ∙ sym e
-
-pub number_is : {A : Type 0} (names : List (String A)) (ns : List (List ℕ)) (s : List ℕ) (r : Option ℕ) → texts names ≡ ns → names_fault (texts names) ≡ None → r ≡ position_from (λ n. bytes_eq (string_bytes n) s) 0 names → (i : ℕ) → (r ≡ Some i) ↔ (slice_get ns i ≡ Some s)
-number_is names ns s r v h e i =
-    let f = number_exact (texts names) s i h in (
-      λ k. ap (λ t. slice_get t i) (sym v) ∙ f.0 (searched names s r e ∙ k),
-      λ k. sym (searched names s r e) ∙ f.1 (ap (λ t. slice_get t i) v ∙ k),
-    )
-
-pub place_fits : {A : Type 0} (names : List (String A)) (s : List ℕ) (i : ℕ) → names_fault (texts names) ≡ None → Some i ≡ position_from (λ n. bytes_eq (string_bytes n) s) 0 names → i < MOST_REGISTERS
-place_fits names s i h e = number_fits (texts names) s i h (searched names s (Some i) e)
-
 -- a name that stands at a place stands at no other
 pub hinted_is : {A : Type 0} (names : List (String A)) (ns : List (List ℕ)) (s : List ℕ) (h : ℕ) → texts names ≡ ns → names_fault (texts names) ≡ None → slice_get (texts names) h ≡ Some s → (i : ℕ) → (Some h ≡ Some i) ↔ (slice_get ns i ≡ Some s)
 hinted_is names ns s h v good here i = (forth, back)
@@ -150,7 +131,30 @@ hinted_is names ns s h v good here i = (forth, back)
     back : slice_get ns i ≡ Some s → Some h ≡ Some i
     back there = sym ((number_exact (texts names) s h good).1 here) ∙ (number_exact (texts names) s i good).1 (ap (λ (t : List (List ℕ)). slice_get t i) v ∙ there)
 
+text_at : {A : Type 0} (names : List (String A)) (place : ℕ) (found : String A) → place < length names → found ≡ get_or names place found → slice_get (texts names) place ≡ Some (string_bytes found)
+text_at names place found lt is =
+    slice_get-map string_bytes names place ∙ (ap (option_map string_bytes) (slice_get-get_or names place found lt) ∙ ap (λ f. Some (string_bytes f)) (sym is))
+
 pub stood_at : {A : Type 0} (names : List (String A)) (place : ℕ) (found : String A) (bytes name : List ℕ) → place < length names → found ≡ get_or names place found → bytes ≡ string_bytes found → IsTrue (bytes_eq bytes name) → slice_get (texts names) place ≡ Some name
 stood_at names place found bytes name lt is same equal =
-    let e : string_bytes found ≡ name = sym same ∙ (bytes_eq-Decides bytes name).0 equal in
-    slice_get-map string_bytes names place ∙ (ap (option_map string_bytes) (slice_get-get_or names place found lt) ∙ (ap (λ f. Some (string_bytes f)) (sym is) ∙ ap Some e))
+    text_at names place found lt is ∙ ap Some (sym same ∙ (bytes_eq-Decides bytes name).0 equal)
+
+pub equal_at : {A : Type 0} (names : List (String A)) (place : ℕ) (found : String A) (bytes name : List ℕ) → place < length names → found ≡ get_or names place found → bytes ≡ string_bytes found → slice_get (texts names) place ≡ Some name → IsTrue (bytes_eq bytes name)
+equal_at names place found bytes name lt is same there =
+    (bytes_eq-Decides bytes name).1 (same ∙ same_Some (string_bytes found) name (sym (text_at names place found lt is) ∙ there))
+
+pub none_at : {A : Type 0} (names : List (String A)) (place : ℕ) (name : List ℕ) → length names ≤ place → slice_get (texts names) place ≢ Some name
+none_at names place name ge there =
+    let lt = slice_get_within (texts names) place name there in omega (arith, lt, ge, length-map names string_bytes)
+
+-- what a search says of each place
+pub found_is : {A : Type 0} (names : List (String A)) (ns : List (List ℕ)) (s : List ℕ) (r : Option ℕ) → texts names ≡ ns → names_fault (texts names) ≡ None → IfSome r (λ p. slice_get (texts names) p ≡ Some s) → IfNone r ((p : ℕ) → slice_get (texts names) p ≢ Some s) → (i : ℕ) → (r ≡ Some i) ↔ (slice_get ns i ≡ Some s)
+found_is names ns s (Some h) v good some none i = hinted_is names ns s h v good some i
+found_is names ns s None v good some none i = (
+  λ e. absurd (cc),
+  λ e. absurd (none i (ap (λ (t : List (List ℕ)). slice_get t i) v ∙ e)),
+)
+
+-- names with no fault are not too many
+pub few_names : {A : Type 0} (names : List (String A)) → names_fault (texts names) ≡ None → length names ≤ MOST_REGISTERS
+few_names names h = let m = (parts (texts names) h).0 in let n = length-map names string_bytes in grind (arith, nat_tests)

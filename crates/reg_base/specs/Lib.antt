@@ -1,3 +1,4 @@
+pub mod Chains
 pub mod Shape
 pub mod Stamp
 pub mod Order

@@ -2,6 +2,7 @@
 //! of its registers.
 #![tactic(auto)]
 
+mod chains;
 mod clocks;
 pub mod limits;
 mod memory;

@@ -1,7 +1,7 @@
 -- What a command answers to a text, and what a fault says of the text.
 use Rattle.std.specs.Prelude.{ℕ, ◌≡◌, ◌<◌, ⊤, Bool, true, List, length, Option}
 use Rattle.std.specs.Str.{IsUtf8}
-use Rattle.std.specs.Io.KnownBytes.{Appends}
+use Rattle.reg_text.specs.Writing.{AppendsPart}
 use Rattle.reg_base.specs.declared.limits.TheConstants.{LONGEST_INPUT}
 use Rattle.reg_history.specs.Reports.{Contents, IsReport, SpellsReport}
 use Rattle.reg_commands.specs.declared.command.Command.{Command}
@@ -17,21 +17,25 @@ use Rattle.reg_commands.specs.Replays.{start_of, run_by, Replays, RefusesAt}
 use Rattle.reg_commands.specs.Plays.{Holds, RefusesDocument, Plays}
 use Rattle.reg_commands.specs.Verdicts.{Judges, all_yes, verdicts_text}
 
--- The text is that of a report, these are its verdicts, and they were written.
-pub record Checks (agrees : Bool) (old new : Option (List ℕ)) (text : List ℕ) : Type 0 where
+-- The text is that of a report, and the verdicts on it were written: `Wrote` says how a text was.
+pub record Checks (agrees : Bool) (Wrote : List ℕ → Type 0) (text : List ℕ) : Type 0 where
   pub report : Contents
   pub good : IsReport report
   pub read : SpellsReport text report
   pub verdicts : Verdicts
   pub judged : Judges report verdicts
   pub says : agrees ≡ all_yes verdicts
-  pub written : Appends old new (verdicts_text verdicts)
+  pub written : Wrote (verdicts_text verdicts)
 
 -- what was read, whether every line agrees, and what was written
-abbrev pub Answers : Command → Bool → Option (List ℕ) → Option (List ℕ) → List ℕ → Type 0
-Answers Replay agrees old new text = (agrees ≡ true) × Replays old new text
-Answers Check agrees old new text = Checks agrees old new text
-Answers (Play fair) agrees old new text = (agrees ≡ true) × Plays fair old new text
+abbrev pub Answers : Command → Bool → (List ℕ → Type 0) → List ℕ → Type 0
+Answers Replay agrees Wrote text = (agrees ≡ true) × Replays Wrote text
+Answers Check agrees Wrote text = Checks agrees Wrote text
+Answers (Play fair) agrees Wrote text = (agrees ≡ true) × Plays fair Wrote text
+
+-- the same where the writer failed: a first part of an answer went out
+abbrev pub AnswersInPart : Command → Option (List ℕ) → Option (List ℕ) → List ℕ → Type 0
+AnswersInPart command old new text = (agrees : Bool) × Answers command agrees (AppendsPart old new) text
 
 -- the text is none of those that the command reads, as a line shows; no line of a document is named
 abbrev pub IsRefused : Command → List ℕ → Type 0

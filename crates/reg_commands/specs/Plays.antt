@@ -1,6 +1,5 @@
 -- What the play of a workload writes.
 use Rattle.std.specs.Prelude.{ℕ, ◌≡◌, ◌<◌, ◌⊎◌, Bool, true, false, List, length, Option, Some, None}
-use Rattle.std.specs.Io.KnownBytes.{Appends}
 use Rattle.toml.specs.Data.{Members}
 use Rattle.toml.specs.Parse.{parse_document}
 use Rattle.reg_base.specs.declared.memory.Op.{Op}
@@ -59,10 +58,10 @@ HasNoPoints p points = points ≡ None
 abbrev pub IsReportOfPlay : Bool → Load → Contents → Type 0
 IsReportOfPlay fair work r = ShowsPlay fair (start_of work.front) work (PointsOf work.front) r
 
--- The text is a document that says a workload, and the report of a play of it was written.
-pub record Plays (fair : Bool) (old new : Option (List ℕ)) (text : List ℕ) : Type 0 where
+-- The text is a document that says a workload, and the report of a play of it was written: `Wrote` says how a text was.
+pub record Plays (fair : Bool) (Wrote : List ℕ → Type 0) (text : List ℕ) : Type 0 where
   pub work : Load
   pub holds : Holds text work
   pub report : Contents
   pub shown : IsReportOfPlay fair work report
-  pub written : Appends old new (report_text report)
+  pub written : Wrote (report_text report)

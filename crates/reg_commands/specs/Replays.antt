@@ -1,6 +1,5 @@
 -- What the replay of a schedule writes.
 use Rattle.std.specs.Prelude.{ℕ, ◌≡◌, ◌≤◌, List, take, Option, Some, None}
-use Rattle.std.specs.Io.KnownBytes.{Appends}
 use Rattle.reg_base.specs.declared.limits.TheConstants.{LAST_EVENT}
 use Rattle.reg_base.specs.declared.memory.Op.{Op}
 use Rattle.reg_front.specs.declared.starts.Start.{Start}
@@ -77,14 +76,14 @@ pub record IsReportOf (p : Plan) (r : Contents) : Type 0 where
   pub shows : Shows (start_of p.front) p r
   pub points : PointsOf p.front p r.points
 
--- The text is that of a plan, and the report of its run was written.
-pub record Replays (old new : Option (List ℕ)) (text : List ℕ) : Type 0 where
+-- The text is that of a plan, and the report of its run was written: `Wrote` says how a text was.
+pub record Replays (Wrote : List ℕ → Type 0) (text : List ℕ) : Type 0 where
   pub plan : Plan
   pub good : IsPlan plan
   pub read : Spells text plan
   pub report : Contents
   pub shown : IsReportOf plan report
-  pub written : Appends old new (report_text report)
+  pub written : Wrote (report_text report)
 
 -- the run of a plan's events before this one
 abbrev pub run_before : (Op → ℕ → Start) → Plan → ℕ → World

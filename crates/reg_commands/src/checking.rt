@@ -1,11 +1,13 @@
 //! The command that judges a report from its text alone.
-ghost use Rattle.std.specs.Prelude.{◌≡◌, ◌≢◌, IfOk, IfErr};
-ghost use Rattle.reg_history.specs.Reports.{IsReport, SpellsReport};
-ghost use Rattle.reg_commands.specs.Answers.{Checks, Blames};
+ghost use Rattle.std.specs.Prelude.{◌≡◌, ◌≢◌, IfOk, IfErr, IsErrOf};
+ghost use Rattle.std.specs.Io.KnownBytes.{Appends};
+ghost use Rattle.reg_history.specs.Reports.{Contents, IsReport, SpellsReport};
+ghost use Rattle.reg_commands.specs.Verdicts.{Judges};
+ghost use Rattle.reg_commands.specs.Answers.{AnswersInPart, Checks, Blames};
 
 use crate::command::Command;
 use crate::faults::Fault;
-use crate::verdicts::{all_yes, judge, write_verdicts};
+use crate::verdicts::{Verdicts, all_yes, judge, write_verdicts};
 use reg_history::{ReadFault, Report, read_report};
 use std::alloc::Allocator;
 use std::io::Write;
@@ -22,23 +24,31 @@ fn read<A: Allocator + Copy>(alloc: A, text: &str) -> Result<Report<A>, Fault>
     }
 }
 
+fn checked<A: Allocator + Copy>(alloc: A, text: &str) -> Result<Verdicts, Fault>
+    ensures ok { IfOk result (λ v. (r : Contents) × IsReport r × SpellsReport text.now r × Judges r v) }
+    ensures why { IfErr result (λ f. Blames Command.Check f text.now) }
+    ensures kind { IfErr result (λ f. (f ≢ Fault.Output) × (f ≢ Fault.Unread)) }
+{
+    let report = read(alloc, text)?;
+    match judge(alloc, &report) {
+        Ok(verdicts) => Ok(verdicts),
+        Err(_) => Err(Fault::OutOfMemory),
+    }
+}
+
 /// Reads a report, and writes what the checkers say of it. The answer is whether every line says yes.
 pub fn check<A: Allocator + Copy, W: Write>(
     alloc: A,
     text: &str,
     writer: &mut W,
 ) -> Result<bool, Fault>
-    ensures ok { IfOk result (λ agrees. Checks agrees (W.contents writer.old) (W.contents writer.new) text.now) }
+    ensures ok { IfOk result (λ agrees. Checks agrees (Appends (W.contents writer.old) (W.contents writer.new)) text.now) }
     ensures why { IfErr result (λ f. Blames Command.Check f text.now) }
     ensures silent { IfErr result (λ f. f ≢ Fault.Output → writer.new ≡ writer.old) }
+    ensures part { IsErrOf result Fault.Output → AnswersInPart Command.Check (W.contents writer.old) (W.contents writer.new) text.now }
     ensures kind { IfErr result (λ f. f ≢ Fault.Unread) }
 {
-    let report = read(alloc, text)?;
-    let Ok(verdicts) = judge(alloc, &report) else {
-        return Err(Fault::OutOfMemory);
-    };
-    if write_verdicts(writer, verdicts).is_err() || writer.flush().is_err() {
-        return Err(Fault::Output);
-    }
+    let verdicts = checked(alloc, text)?;
+    write_verdicts(writer, verdicts)?;
     Ok(all_yes(verdicts))
 }

@@ -16,37 +16,12 @@ pub enum Fault {
     NotText,
     #[error("output: write")]
     Output,
-    #[error("line {line}: {}", word(.why))]
+    #[error("line {line}: {why}")]
     Line { line: u64, why: ReadWhy },
-    #[error("event {at}: {}", cause(.fault))]
+    #[error("event {at}: {fault}")]
     Event { at: usize, fault: WorldFault },
     #[error("{fault}")]
     Workload { fault: WorkloadFault },
     #[error("out of memory")]
     OutOfMemory,
-}
-
-/// What is wrong with a line, in a word.
-fn word(why: &ReadWhy) -> &'static str {
-    match *why {
-        ReadWhy::Form => "form",
-        ReadWhy::Range => "range",
-        ReadWhy::Name => "name",
-        ReadWhy::Place => "place",
-        ReadWhy::End => "end",
-    }
-}
-
-/// Why an event is refused, in words.
-fn cause(fault: &WorldFault) -> &'static str {
-    match *fault {
-        WorldFault::Failed => "failed",
-        WorldFault::TooManyEvents => "too many events",
-        WorldFault::NoProcess => "no process",
-        WorldFault::Busy => "busy",
-        WorldFault::NoRegister => "no register",
-        WorldFault::TooManyOperations => "too many operations",
-        WorldFault::NoFrame => "no frame",
-        WorldFault::OutOfMemory => "out of memory",
-    }
 }

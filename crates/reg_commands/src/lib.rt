@@ -13,6 +13,7 @@ mod verdicts;
 
 pub use command::Command;
 pub use faults::Fault;
-pub use playing::read_workload;
-pub use reporting::{report_run, report_run_with_points};
+pub use playing::{play_by, read_workload};
+pub use replaying::{Ran, read_schedule, run_events};
+pub use reporting::{report_run, report_run_with_points, write_out};
 pub use running::{read_input, run_text};

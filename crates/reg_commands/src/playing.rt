@@ -1,16 +1,17 @@
 //! The command that plays a workload and prints the report of what happened.
-ghost use Rattle.std.specs.Prelude.{◌≡◌, ◌≢◌, ◌⊎◌, Bool, IfOk, IfErr};
+ghost use Rattle.std.specs.Prelude.{◌≡◌, ◌≢◌, ◌⊎◌, Bool, IfOk, IfErr, IsErrOf};
+ghost use Rattle.std.specs.Io.KnownBytes.{Appends};
 ghost use Rattle.reg_toml.specs.declared.faults.WorkloadFault.TheVariants.{OutOfMemory};
 ghost use Rattle.reg_toml.specs.Loads.{Load};
-ghost use Rattle.reg_commands.specs.Answers.{Blames};
+ghost use Rattle.reg_commands.specs.Answers.{AnswersInPart, Blames};
 ghost use Rattle.reg_commands.specs.Replays.{ShowsPoints};
 ghost use Rattle.reg_commands.specs.Plays.{Holds, RefusesDocument, IsPlayBy, ShowsPlay, HasNoPoints, IsReportOfPlay, Plays};
 
 use crate::command::Command;
 use crate::faults::Fault;
-use crate::reporting::{report_run, report_run_with_points};
+use crate::reporting::{report_run, report_run_with_points, write_out};
 use reg_front::{Front, FrontEnd, Linear, LocalRead, LocalWrite, RealTime};
-use reg_history::{Report, write_report};
+use reg_history::Report;
 use reg_workload::{Play, SeedWords, Workload, WorkloadFault, play_fair, play_seeded, read_table};
 use std::alloc::{AllocError, Allocator, Global};
 use std::io::Write;
@@ -52,7 +53,7 @@ pub fn read_workload<A: Allocator + Copy>(
 }
 
 /// Plays a workload, fairly or as the words of its seed say.
-fn play_by<F: FrontEnd, A: Allocator + Copy>(
+pub fn play_by<F: FrontEnd, A: Allocator + Copy>(
     alloc: A,
     work: &Workload<A>,
     fair: bool,
@@ -134,14 +135,12 @@ pub fn play<A: Allocator + Copy, W: Write>(
     fair: bool,
     writer: &mut W,
 ) -> Result<(), Fault>
-    ensures ok { IfOk result (λ _. Plays fair (W.contents writer.old) (W.contents writer.new) text.now) }
+    ensures ok { IfOk result (λ _. Plays fair (Appends (W.contents writer.old) (W.contents writer.new)) text.now) }
     ensures why { IfErr result (λ f. Blames (Command.Play fair) f text.now) }
     ensures silent { IfErr result (λ f. f ≢ Fault.Output → writer.new ≡ writer.old) }
+    ensures part { IsErrOf result Fault.Output → AnswersInPart (Command.Play fair) (W.contents writer.old) (W.contents writer.new) text.now }
     ensures kind { IfErr result (λ f. f ≢ Fault.Unread) }
 {
     let report = played(alloc, global, text, fair)?;
-    if write_report(writer, &report).is_err() || writer.flush().is_err() {
-        return Err(Fault::Output);
-    }
-    Ok(())
+    write_out(writer, &report)
 }

@@ -1,22 +1,28 @@
 //! The command that runs a schedule and prints the report of the run.
-ghost use Rattle.std.specs.Prelude.{◌≡◌, ◌≢◌, None, IfOk, IfErr};
+ghost use Rattle.std.specs.Prelude.{◌≡◌, ◌≢◌, None, IfOk, IfErr, IsErrOf};
+ghost use Rattle.std.specs.Io.KnownBytes.{Appends};
 ghost use Rattle.reg_world.specs.Worlds.{after_events};
 ghost use Rattle.reg_workload.specs.Schedules.{Plan, IsPlan, Spells};
-ghost use Rattle.reg_commands.specs.Answers.{Blames};
+ghost use Rattle.reg_commands.specs.Answers.{AnswersInPart, Blames};
 ghost use Rattle.reg_commands.specs.Replays.{start_of, Shows, ShowsPoints, IsReportOf, Replays, BlamesRun};
 
 use crate::command::Command;
 use crate::faults::Fault;
-use crate::reporting::{report_run, report_run_with_points};
+use crate::reporting::{report_run, report_run_with_points, write_out};
 use reg_base::Names;
 use reg_front::{Front, FrontEnd, Linear, LocalRead, LocalWrite, RealTime};
-use reg_history::{ReadWhy, Report, write_report};
+use reg_history::{ReadWhy, Report};
 use reg_workload::{Schedule, ScheduleFault, parse_schedule};
 use reg_world::{RunFault, World, WorldFault};
 use std::alloc::Allocator;
 use std::io::Write;
 
-fn read<A: Allocator + Copy>(alloc: A, text: &str) -> Result<Schedule<A>, Fault>
+/// The schedule that a text spells.
+///
+/// # Errors
+///
+/// `Line` with the first line that is wrong, and `OutOfMemory`.
+pub fn read_schedule<A: Allocator + Copy>(alloc: A, text: &str) -> Result<Schedule<A>, Fault>
     ensures read { IfOk result (λ s. Spells text.now s × IsPlan s) }
     ensures why { IfErr result (λ f. Blames Command.Replay f text.now) }
     ensures kind { IfErr result (λ f. (f ≢ Fault.Output) × (f ≢ Fault.Unread)) }
@@ -32,14 +38,18 @@ fn read<A: Allocator + Copy>(alloc: A, text: &str) -> Result<Schedule<A>, Fault>
 }
 
 /// The run of a schedule, with the names and the front end of its report.
-struct Ran<F: FrontEnd, A: Allocator + Copy> {
-    world: World<F, A>,
-    names: Names<A>,
-    front: Front,
+pub struct Ran<F: FrontEnd, A: Allocator + Copy> {
+    pub world: World<F, A>,
+    pub names: Names<A>,
+    pub front: Front,
 }
 
 /// Runs the events of a schedule.
-fn run<F: FrontEnd, A: Allocator + Copy>(
+///
+/// # Errors
+///
+/// `Event` with the first event that is refused, and `OutOfMemory`.
+pub fn run_events<F: FrontEnd, A: Allocator + Copy>(
     alloc: A,
     schedule: Schedule<A>,
 ) -> Result<Ran<F, A>, Fault>
@@ -81,7 +91,7 @@ fn report_of<F: FrontEnd, A: Allocator + Copy>(
         world,
         names,
         front,
-    } = run::<F, A>(alloc, schedule)?;
+    } = run_events::<F, A>(alloc, schedule)?;
     report_run(alloc, front, names, world)
 }
 
@@ -99,7 +109,7 @@ fn report_with_points<F: RealTime, A: Allocator + Copy>(
         world,
         names,
         front,
-    } = run::<F, A>(alloc, schedule)?;
+    } = run_events::<F, A>(alloc, schedule)?;
     report_run_with_points(alloc, front, names, world)
 }
 
@@ -121,7 +131,7 @@ fn replayed<A: Allocator + Copy>(alloc: A, text: &str) -> Result<Report<A>, Faul
     ensures why { IfErr result (λ f. Blames Command.Replay f text.now) }
     ensures kind { IfErr result (λ f. (f ≢ Fault.Output) × (f ≢ Fault.Unread)) }
 {
-    let schedule = read(alloc, text)?;
+    let schedule = read_schedule(alloc, text)?;
     run_schedule(alloc, schedule)
 }
 
@@ -131,14 +141,12 @@ pub fn replay<A: Allocator + Copy, W: Write>(
     text: &str,
     writer: &mut W,
 ) -> Result<(), Fault>
-    ensures ok { IfOk result (λ _. Replays (W.contents writer.old) (W.contents writer.new) text.now) }
+    ensures ok { IfOk result (λ _. Replays (Appends (W.contents writer.old) (W.contents writer.new)) text.now) }
     ensures why { IfErr result (λ f. Blames Command.Replay f text.now) }
     ensures silent { IfErr result (λ f. f ≢ Fault.Output → writer.new ≡ writer.old) }
+    ensures part { IsErrOf result Fault.Output → AnswersInPart Command.Replay (W.contents writer.old) (W.contents writer.new) text.now }
     ensures kind { IfErr result (λ f. f ≢ Fault.Unread) }
 {
     let report = replayed(alloc, text)?;
-    if write_report(writer, &report).is_err() || writer.flush().is_err() {
-        return Err(Fault::Output);
-    }
-    Ok(())
+    write_out(writer, &report)
 }

@@ -1,11 +1,13 @@
 //! The report of a run.
-ghost use Rattle.std.specs.Prelude.{◌≡◌, ◌≤◌, ℕ, Some, None, IfOk, IfErr, length, option_map};
+ghost use Rattle.std.specs.Prelude.{◌≡◌, ◌≤◌, ℕ, Some, None, IfOk, IfErr, MatchResult, length, option_map};
+ghost use Rattle.std.specs.Io.KnownBytes.{Appends};
 ghost use Rattle.reg_base.specs.declared.limits.TheConstants.{LAST_EVENT, MOST_PROCESSES};
 ghost use Rattle.reg_front.specs.Table.{front_name};
 ghost use Rattle.reg_history.specs.History.{IsAt};
 ghost use Rattle.reg_history.specs.Log.{IsLog};
 ghost use Rattle.reg_history.specs.Orders.{IsSerial};
-ghost use Rattle.reg_history.specs.Reports.{Contents};
+ghost use Rattle.reg_history.specs.Reports.{Contents, report_text};
+ghost use Rattle.reg_text.specs.Writing.{AppendsPart};
 ghost use Rattle.reg_world.specs.declared.order.First.{First};
 ghost use Rattle.reg_world.specs.Keys.{ArePoints};
 ghost use Rattle.reg_world.specs.World.{run_of};
@@ -15,9 +17,10 @@ ghost use Rattle.reg_commands.specs.Replays.{plan_in, Shows, ShowsPoints, Points
 use crate::faults::Fault;
 use reg_base::{Names, OpId};
 use reg_front::{Front, FrontEnd, RealTime};
-use reg_history::{History, Point, Report};
+use reg_history::{History, Point, Report, write_report};
 use reg_world::World;
 use std::alloc::{AllocError, Allocator};
+use std::io::Write;
 
 // Each entry of a history is in place. It does nothing: its contract says so.
 fn in_place<A: Allocator + Copy>(history: &History<A>)
@@ -119,4 +122,17 @@ pub fn report_run_with_points<F: RealTime, A: Allocator + Copy>(
         order,
         Some(points),
     )
+}
+
+/// Writes the text of a report, all of it or, where the writer fails, a first part.
+pub fn write_out<A: Allocator + Copy, W: Write>(
+    writer: &mut W,
+    report: &Report<A>,
+) -> Result<(), Fault>
+    ensures { MatchResult result (λ _. Appends (W.contents writer.old) (W.contents writer.new) (report_text report.now)) (λ f. (f ≡ Fault.Output) × AppendsPart (W.contents writer.old) (W.contents writer.new) (report_text report.now)) }
+{
+    if write_report(writer, report).is_err() || writer.flush().is_err() {
+        return Err(Fault::Output);
+    }
+    Ok(())
 }

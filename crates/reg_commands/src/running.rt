@@ -1,7 +1,8 @@
 //! Running a command over any reader and writer.
-ghost use Rattle.std.specs.Prelude.{◌≡◌, ◌≢◌, ◌≤◌, ◌⊎◌, IfOk, IfErr, OnOk, IfSome, true, false, length, string_bytes};
+ghost use Rattle.std.specs.Prelude.{◌≡◌, ◌≢◌, ◌≤◌, ◌⊎◌, IfOk, IfErr, OnOk, IfSome, true, false, length, string_bytes, IsErrOf};
+ghost use Rattle.std.specs.Io.KnownBytes.{Appends};
 ghost use Rattle.reg_base.specs.declared.limits.TheConstants.{LONGEST_INPUT};
-ghost use Rattle.reg_commands.specs.Answers.{Answers, Blames};
+ghost use Rattle.reg_commands.specs.Answers.{Answers, AnswersInPart, Blames};
 ghost use Rattle.reg_commands.specs.declared.command.Command.{Command as AnyCommand};
 ghost use Rattle.reg_commands.specs.declared.faults.Fault.{Fault};
 
@@ -42,9 +43,10 @@ fn answer<A: Allocator + Copy, W: Write>(
     text: &str,
     writer: &mut W,
 ) -> Result<bool, Fault>
-    ensures ok { IfOk result (λ agrees. Answers command agrees (W.contents writer.old) (W.contents writer.new) text.now) }
+    ensures ok { IfOk result (λ agrees. Answers command agrees (Appends (W.contents writer.old) (W.contents writer.new)) text.now) }
     ensures why { IfErr result (λ f. Blames command f text.now) }
     ensures silent { IfErr result (λ f. f ≢ Fault.Output → writer.new ≡ writer.old) }
+    ensures part { IsErrOf result Fault.Output → AnswersInPart command (W.contents writer.old) (W.contents writer.new) text.now }
 {
     match command {
         Command::Replay => match replay(alloc, text, writer) {
@@ -66,10 +68,11 @@ fn obey<A: Allocator + Copy, R: Read, W: Write>(
     reader: &mut R,
     writer: &mut W,
 ) -> Result<bool, Fault>
-    ensures ok { IfOk result (λ agrees. IfSome (R.remaining reader.old) (Answers command agrees (W.contents writer.old) (W.contents writer.new))) }
+    ensures ok { IfOk result (λ agrees. IfSome (R.remaining reader.old) (Answers command agrees (Appends (W.contents writer.old) (W.contents writer.new)))) }
     ensures within { OnOk result (IfSome (R.remaining reader.old) (λ xs. length xs ≤ LONGEST_INPUT)) }
     ensures why { IfErr result (λ f. IfSome (R.remaining reader.old) (Blames command f)) }
     ensures silent { IfErr result (λ f. f ≢ Fault.Output → writer.new ≡ writer.old) }
+    ensures part { IsErrOf result Fault.Output → IfSome (R.remaining reader.old) (AnswersInPart command (W.contents writer.old) (W.contents writer.new)) }
 {
     let text = read_input(alloc, reader)?;
     answer(alloc, global, command, text.as_str(), writer)
@@ -88,9 +91,9 @@ pub fn run_text<A: Allocator + Copy, R: Read, W: Write, E: Write>(
 ) -> u8
     ensures range { result ≤ 1 }
     ensures within { result ≡ 0 → IfSome (R.remaining reader.old) (λ xs. length xs ≤ LONGEST_INPUT) }
-    ensures answered { result ≡ 0 → IfSome (R.remaining reader.old) (Answers command true (W.contents writer.old) (W.contents writer.new)) }
-    ensures refused { result ≡ 1 → (IfSome (R.remaining reader.old) (Answers command false (W.contents writer.old) (W.contents writer.new)) × (errors.new ≡ errors.old))
-        ⊎ ((f : Fault) × IfSome (R.remaining reader.old) (Blames command f) × (f ≢ Fault.Output → writer.new ≡ writer.old)) }
+    ensures answered { result ≡ 0 → IfSome (R.remaining reader.old) (Answers command true (Appends (W.contents writer.old) (W.contents writer.new))) }
+    ensures refused { result ≡ 1 → (IfSome (R.remaining reader.old) (Answers command false (Appends (W.contents writer.old) (W.contents writer.new))) × (errors.new ≡ errors.old))
+        ⊎ ((f : Fault) × IfSome (R.remaining reader.old) (Blames command f) × (f ≢ Fault.Output → writer.new ≡ writer.old) × (f ≡ Fault.Output → IfSome (R.remaining reader.old) (AnswersInPart command (W.contents writer.old) (W.contents writer.new)))) }
     ensures quiet { result ≡ 0 → errors.new ≡ errors.old }
 {
     match obey(alloc, global, command, reader, writer) {

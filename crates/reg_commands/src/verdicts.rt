@@ -1,10 +1,14 @@
 //! Judging a report from its text alone.
-ghost use Rattle.std.specs.Prelude.{◌≡◌, ◌++◌, ◌∷◌, [], IfOk, IfErr, OnOk, MatchOption};
+ghost use Rattle.std.specs.Prelude.{◌≡◌, ◌++◌, ◌∷◌, [], IfOk, IfErr, MatchOption, MatchResult};
 ghost use Rattle.std.specs.Io.KnownBytes.{Appends};
 ghost use Rattle.std.specs.Fmt.{decimal};
+ghost use Rattle.reg_text.specs.Writing.{AppendsPart, Puts};
 ghost use Rattle.reg_commands.specs.Verdicts.{fault_of, Tells, SerialSays, PointsSay, AllPointsSay, Judges, is_yes as is_yes_of, all_yes as all_yes_of, verdict_line, points_line, verdicts_text};
 
-use reg_history::{CheckFault, Point, Report, WriteFault, check_points, check_serial};
+use crate::faults::Fault;
+use itoa::Buffer;
+use reg_history::{CheckFault, Point, Report, check_points, check_serial};
+use reg_text::Sink;
 use std::alloc::{AllocError, Allocator};
 use std::io::Write;
 
@@ -133,65 +137,81 @@ pub fn judge<A: Allocator + Copy>(alloc: A, report: &Report<A>) -> Result<Verdic
     Ok(Verdicts { serial, points })
 }
 
-fn write_words<W: Write>(writer: &mut W, name: &str, words: &str) -> Result<(), WriteFault>
-    ensures { OnOk result (Appends (W.contents writer.old) (W.contents writer.new) (name.now ++ words.now ++ 10 ∷ [])) }
+fn put_words<W: Write>(sink: &mut Sink<'_, W>, name: &str, words: &str)
+    ensures { Puts W.contents sink.old sink.new (name.now ++ words.now ++ 10 ∷ []) }
 {
-    if writeln!(writer, "{name}{words}").is_err() {
-        return Err(WriteFault::Write);
-    }
-    Ok(())
+    sink.put(name.as_bytes());
+    sink.put(words.as_bytes());
+    sink.put(b"\n");
 }
 
-fn write_place<W: Write>(
-    writer: &mut W,
-    name: &str,
-    words: &str,
-    place: usize,
-) -> Result<(), WriteFault>
-    ensures { OnOk result (Appends (W.contents writer.old) (W.contents writer.new) (name.now ++ (words.now ++ decimal place) ++ 10 ∷ [])) }
+fn put_place<W: Write>(sink: &mut Sink<'_, W>, name: &str, words: &str, place: usize)
+    ensures { Puts W.contents sink.old sink.new (name.now ++ (words.now ++ decimal place) ++ 10 ∷ []) }
 {
-    if writeln!(writer, "{name}{words}{place}").is_err() {
-        return Err(WriteFault::Write);
-    }
-    Ok(())
+    let mut digits = Buffer::new();
+    sink.put(name.as_bytes());
+    sink.put(words.as_bytes());
+    sink.put(digits.format(place).as_bytes());
+    sink.put(b"\n");
 }
 
-fn write_finding<W: Write>(writer: &mut W, name: &str, finding: Finding) -> Result<(), WriteFault>
-    ensures { OnOk result (Appends (W.contents writer.old) (W.contents writer.new) (verdict_line name.now (Verdict.No finding))) }
+fn put_finding<W: Write>(sink: &mut Sink<'_, W>, name: &str, finding: Finding)
+    ensures { Puts W.contents sink.old sink.new (verdict_line name.now (Verdict.No finding)) }
 {
     match finding {
-        Finding::Unknown => write_words(writer, name, " no: unknown"),
-        Finding::Twice => write_words(writer, name, " no: twice"),
-        Finding::Missing => write_words(writer, name, " no: missing"),
-        Finding::OwnOrder => write_words(writer, name, " no: own order"),
-        Finding::Answer { place } => write_place(writer, name, " no: answer at ", place),
-        Finding::Outside { place } => write_place(writer, name, " no: outside at ", place),
-        Finding::Falling { place } => write_place(writer, name, " no: falling at ", place),
+        Finding::Unknown => put_words(sink, name, " no: unknown"),
+        Finding::Twice => put_words(sink, name, " no: twice"),
+        Finding::Missing => put_words(sink, name, " no: missing"),
+        Finding::OwnOrder => put_words(sink, name, " no: own order"),
+        Finding::Answer { place } => put_place(sink, name, " no: answer at ", place),
+        Finding::Outside { place } => put_place(sink, name, " no: outside at ", place),
+        Finding::Falling { place } => put_place(sink, name, " no: falling at ", place),
     }
 }
 
-fn write_verdict<W: Write>(writer: &mut W, name: &str, verdict: Verdict) -> Result<(), WriteFault>
-    ensures { OnOk result (Appends (W.contents writer.old) (W.contents writer.new) (verdict_line name.now verdict)) }
+fn put_verdict<W: Write>(sink: &mut Sink<'_, W>, name: &str, verdict: Verdict)
+    ensures { Puts W.contents sink.old sink.new (verdict_line name.now verdict) }
 {
     match verdict {
-        Verdict::Yes => write_words(writer, name, " yes"),
-        Verdict::No(finding) => write_finding(writer, name, finding),
+        Verdict::Yes => put_words(sink, name, " yes"),
+        Verdict::No(finding) => put_finding(sink, name, finding),
     }
 }
 
-fn write_points<W: Write>(writer: &mut W, points: Option<Verdict>) -> Result<(), WriteFault>
-    ensures { OnOk result (Appends (W.contents writer.old) (W.contents writer.new) (points_line points)) }
+fn put_points<W: Write>(sink: &mut Sink<'_, W>, points: Option<Verdict>)
+    ensures { Puts W.contents sink.old sink.new (points_line points) }
 {
     match points {
-        Some(verdict) => write_verdict(writer, "points", verdict),
-        None => Ok(()),
+        Some(verdict) => put_verdict(sink, "points", verdict),
+        None => {}
     }
+}
+
+fn put_verdicts<W: Write>(sink: &mut Sink<'_, W>, verdicts: Verdicts)
+    ensures { Puts W.contents sink.old sink.new (verdicts_text verdicts) }
+{
+    put_verdict(sink, "serial", verdicts.serial);
+    put_points(sink, verdicts.points);
+}
+
+/// Writes the lines of a report's verdicts.
+fn write_lines<W: Write>(writer: &mut W, verdicts: Verdicts) -> Result<(), Fault>
+    ensures { MatchResult result (λ _. Appends (W.contents writer.old) (W.contents writer.new) (verdicts_text verdicts)) (λ _. AppendsPart (W.contents writer.old) (W.contents writer.new) (verdicts_text verdicts)) }
+{
+    let mut sink = Sink::new(writer);
+    put_verdicts(&mut sink, verdicts);
+    if sink.failed {
+        return Err(Fault::Output);
+    }
+    Ok(())
 }
 
 /// Writes a line for the order, and one for the points where there are any.
-pub fn write_verdicts<W: Write>(writer: &mut W, verdicts: Verdicts) -> Result<(), WriteFault>
-    ensures { OnOk result (Appends (W.contents writer.old) (W.contents writer.new) (verdicts_text verdicts)) }
+pub fn write_verdicts<W: Write>(writer: &mut W, verdicts: Verdicts) -> Result<(), Fault>
+    ensures { MatchResult result (λ _. Appends (W.contents writer.old) (W.contents writer.new) (verdicts_text verdicts)) (λ f. (f ≡ Fault.Output) × AppendsPart (W.contents writer.old) (W.contents writer.new) (verdicts_text verdicts)) }
 {
-    write_verdict(writer, "serial", verdicts.serial)?;
-    write_points(writer, verdicts.points)
+    if write_lines(writer, verdicts).is_err() || writer.flush().is_err() {
+        return Err(Fault::Output);
+    }
+    Ok(())
 }

@@ -1,7 +1,5 @@
 -- A number in front of a mark, with the spaces that fill its column.
 use Rattle.std.proofs.Common.{ℕ, zero, suc, ◌≡◌, ◌+◌, ◌-◌, ◌≤◌, List, ◌∷◌, ◌++◌, length, take, drop, min, replicate, Result, Ok, Err, Option, OnOk, refl, sym, ap, subst, ◌∙◌, append_assoc, arith}
-use Rattle.std.specs.Io.KnownBytes.{Appends}
-use Rattle.reg_history.proofs.Writing.{appends_two}
 use Rattle.reg_text.specs.Columns.{to_right, to_left}
 use Rattle.std.proofs.lemmas.List.{take-append-drop, length-append, length-replicate, length-drop, take_all}
 
@@ -41,22 +39,6 @@ right_built width places start ds old new e room count digits front =
     let parts : start ≡ k + (places - length ds) = omega arith in
     ap (λ x. drop k x) (whole ∙ ap (λ j. replicate j 32 ++ (ds ++ drop width old)) parts) ∙ drop_spaces k (places - length ds) (ds ++ drop width old)
     ∙ sym (append_assoc (replicate (places - length ds) 32) ds (drop width old))
-
-on_ok : {T E : Type 0} (r : Result T E) (P Q : Type 0) → (P → Q) → OnOk r P → OnOk r Q
-on_ok (Ok x) P Q f p = f p
-on_ok (Err e) P Q f p = tt
-
--- what is written last, in other words
-pub wrote_as : {E : Type 0} (r : Result Unit E) (a b : Option (List ℕ)) (xs ys : List ℕ) → xs ≡ ys → OnOk r (Appends a b xs) → OnOk r (Appends a b ys)
-wrote_as r a b xs ys e h =
-    let P : List ℕ → Type 0 = λ l. Appends a b l in
-    on_ok r (Appends a b xs) (Appends a b ys) (subst P e) h
-
--- and what was written before it
-pub wrote_behind : {E : Type 0} (r : Result Unit E) (a b d : Option (List ℕ)) (front xs ys : List ℕ) → Appends a b front → front ++ xs ≡ ys → OnOk r (Appends b d xs) → OnOk r (Appends a d ys)
-wrote_behind r a b d front xs ys f e h =
-    let P : List ℕ → Type 0 = λ l. Appends a d l in
-    on_ok r (Appends b d xs) (Appends a d ys) (λ w. subst P e (appends_two a b d front xs f w)) h
 
 pub reaches : (places : ℕ) (marked : List ℕ) → marked ≡ replicate places 32 ++ drop places marked → places ≤ length marked
 reaches places marked e =

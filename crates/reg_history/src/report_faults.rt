@@ -2,48 +2,61 @@
 ghost use Rattle.std.specs.Prelude.{◌≡◌};
 
 use reg_text::{Lines, TextFault, Why};
+use thiserror::Error;
 
 /// Why parts are no report: the first of these that applies.
-#[derive(Clone, Copy, Debug, PartialEq, Eq)]
+#[derive(Clone, Copy, Debug, PartialEq, Eq, Error)]
 pub enum ReportFault {
     /// The front end's name isn't one word of 1 to 16 letters a to z or hyphens.
+    #[error("front")]
     Front,
     /// There are not as many names as the history has registers.
+    #[error("names")]
     Names,
     /// An id, a point or the length of a list is beyond the limits of a report.
+    #[error("range")]
     Range,
 }
 
 /// What is wrong with a line of a report: the first of these that applies.
-#[derive(Clone, Copy, Debug, PartialEq, Eq)]
+#[derive(Clone, Copy, Debug, PartialEq, Eq, Error)]
 pub enum ReadWhy {
     /// The line is spelled otherwise than such lines are.
+    #[error("form")]
     Form,
     /// A number, or how many names there are, is beyond its limit.
+    #[error("range")]
     Range,
     /// A name is misspelt, repeated or not known.
+    #[error("name")]
     Name,
     /// The entry may not come after those before it.
+    #[error("place")]
     Place,
     /// The text ends before this line, or goes on behind its last one.
+    #[error("end")]
     End,
 }
 
 /// Why a text is no report.
-#[derive(Clone, Copy, Debug, PartialEq, Eq)]
+#[derive(Clone, Copy, Debug, PartialEq, Eq, Error)]
 pub enum ReadFault {
     /// This line is the first that is wrong. Lines are counted from 1.
+    #[error("line {line}: {why}")]
     Line { line: u64, why: ReadWhy },
     /// There was no memory to keep what was read.
+    #[error("out of memory")]
     OutOfMemory,
 }
 
 /// Why a report was not written.
-#[derive(Clone, Copy, Debug, PartialEq, Eq)]
+#[derive(Clone, Copy, Debug, PartialEq, Eq, Error)]
 pub enum WriteFault {
     /// The writer failed. How much it took before is not known.
+    #[error("write")]
     Write,
     /// There was no memory.
+    #[error("out of memory")]
     OutOfMemory,
 }
 

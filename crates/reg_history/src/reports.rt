@@ -3,6 +3,7 @@ ghost use Rattle.std.specs.Prelude.{◌≡◌, ◌↔◌, ◌<◌, ◌≤◌, �
 ghost use Rattle.std.specs.Io.KnownBytes.{Appends};
 ghost use Rattle.reg_base.specs.declared.memory.OpId.{OpId};
 ghost use Rattle.reg_text.specs.Lines.{AllFit};
+ghost use Rattle.reg_text.specs.Writing.{AppendsPart, Puts};
 ghost use Rattle.reg_history.specs.declared.entries.Entry.{Entry};
 ghost use Rattle.reg_history.specs.declared.entries.Point.{Point};
 ghost use Rattle.reg_history.specs.EntryLines.{EntryHasValue};
@@ -17,10 +18,10 @@ use crate::parts::{is_front, read_head, read_history, read_order, read_tail};
 use crate::report_faults::{ReadFault, ReadWhy, ReportFault, WriteFault, at_line};
 use crate::report_limits::{MOST_ENTRIES, MOST_IDS};
 use crate::versions::Version;
-use crate::write::{write_count, write_entries, write_head, write_ids, write_tail};
+use crate::write::{put_count, put_entries, put_head, put_ids, put_tail};
 use reg_base::limits::{LAST_EVENT, MOST_OPERATIONS, MOST_PROCESSES};
 use reg_base::{Names, OpId, Shape};
-use reg_text::Lines;
+use reg_text::{Lines, Sink};
 use std::alloc::{Allocator, Global};
 use std::io::Write;
 use std::marker::Model;
@@ -237,25 +238,35 @@ pub fn read_report<A: Allocator + Copy>(alloc: A, text: &str) -> Result<Report<A
     read_lines(alloc, &mut lines)
 }
 
-/// Writes the text of a report, in version 2.
-///
-/// # Errors
-///
-/// `Write` where the writer failed: how much it took before is not known.
-pub fn write_report<A: Allocator + Copy, W: Write>(
-    writer: &mut W,
-    report: &Report<A>,
-) -> Result<(), WriteFault>
-    ensures { OnOk result (Appends (W.contents writer.old) (W.contents writer.new) (report_text report.now)) }
+fn put_report<A: Allocator + Copy, W: Write>(sink: &mut Sink<'_, W>, report: &Report<A>)
+    ensures { Puts W.contents sink.old sink.new (report_text report.now) }
 {
     let processes = report.history.shape().processes();
     let entries = report.history.entries();
     let order = report.order.as_slice();
-    write_head(writer, report.front.as_str(), processes, &report.names)?;
-    write_count(writer, "history ", entries.len())?;
-    write_entries(writer, &report.names, entries)?;
-    write_count(writer, "order ", order.len())?;
-    write_ids(writer, order)?;
-    write_tail(writer, &report.points)?;
+    put_head(sink, report.front.as_str(), processes, &report.names);
+    put_count(sink, "history ", entries.len());
+    put_entries(sink, &report.names, entries);
+    put_count(sink, "order ", order.len());
+    put_ids(sink, order);
+    put_tail(sink, &report.points);
+}
+
+/// Writes the text of a report, in version 2.
+///
+/// # Errors
+///
+/// `Write` where the writer failed: what went out before is a first part of the text.
+pub fn write_report<A: Allocator + Copy, W: Write>(
+    writer: &mut W,
+    report: &Report<A>,
+) -> Result<(), WriteFault>
+    ensures { MatchResult result (λ _. Appends (W.contents writer.old) (W.contents writer.new) (report_text report.now)) (λ f. (f ≡ WriteFault.Write) × AppendsPart (W.contents writer.old) (W.contents writer.new) (report_text report.now)) }
+{
+    let mut sink = Sink::new(writer);
+    put_report(&mut sink, report);
+    if sink.failed {
+        return Err(WriteFault::Write);
+    }
     Ok(())
 }

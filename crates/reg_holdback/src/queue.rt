@@ -8,15 +8,19 @@ use reg_base::{Op, Shape, Stamp};
 use std::alloc::{AllocError, Allocator, Global};
 use std::collections::BTreeMap;
 use std::marker::Model;
+use thiserror::Error;
 
 /// Why a body is refused.
-#[derive(Clone, Copy, Debug, PartialEq, Eq)]
+#[derive(Clone, Copy, Debug, PartialEq, Eq, Error)]
 pub enum HoldFault {
     /// Its sender is the process itself, or out of range.
+    #[error("no process")]
     NoProcess,
     /// Its time is not above that of the last body from its sender.
+    #[error("stale")]
     Stale,
     /// Memory was refused.
+    #[error("out of memory")]
     OutOfMemory,
 }
 

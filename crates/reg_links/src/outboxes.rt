@@ -8,18 +8,22 @@ use reg_frames::{Body, Frame};
 use std::alloc::{Allocator, Global};
 use std::collections::VecDeque;
 use std::marker::Model;
+use thiserror::Error;
 
 /// Why a body is not queued.
-#[derive(Clone, Copy, Debug, PartialEq, Eq)]
+#[derive(Clone, Copy, Debug, PartialEq, Eq, Error)]
 pub enum LinkFault {
     /// All numbers are used up.
+    #[error("number full")]
     NumberFull,
     /// Memory was refused.
+    #[error("out of memory")]
     OutOfMemory,
 }
 
 /// A count above the number of the next body: more was acknowledged than was queued.
-#[derive(Clone, Copy, Debug, PartialEq, Eq)]
+#[derive(Clone, Copy, Debug, PartialEq, Eq, Error)]
+#[error("ahead")]
 pub struct Ahead;
 
 /// The bodies queued for another process that it has not yet acknowledged, with their numbers.

@@ -1,6 +1,5 @@
 -- What is written once threads have performed the scripts of a workload.
 use Rattle.std.specs.Prelude.{ℕ, ⊤, Bool, List, Option}
-use Rattle.std.specs.Io.KnownBytes.{Appends}
 use Rattle.reg_base.specs.declared.memory.Op.{Op}
 use Rattle.reg_front.specs.declared.starts.Start.{Start}
 use Rattle.reg_history.specs.declared.entries.Point.{Point}
@@ -32,13 +31,14 @@ pub record ShowsLive (start : Op → ℕ → Start) (work : Load) (AreSo : Plan 
 abbrev pub IsReportOfLive : Load → Contents → Type 0
 IsReportOfLive work r = ShowsLive (start_of work.front) work (PointsOf work.front) r
 
--- The text is a document that says a workload, and the report of what threads made of it was written.
-pub record Lives (old new : Option (List ℕ)) (text : List ℕ) : Type 0 where
+-- The text is a document that says a workload, and the report of what threads made of it was written: `Wrote` says how a text
+-- was.
+pub record Lives (Wrote : List ℕ → Type 0) (text : List ℕ) : Type 0 where
   pub work : Load
   pub holds : Holds text work
   pub report : Contents
   pub shown : IsReportOfLive work report
-  pub written : Appends old new (report_text report)
+  pub written : Wrote (report_text report)
 
 -- what is told of threads: a pass that was refused, a record that was, or want of memory
 abbrev pub IsOfThreads : Stop → Type 0

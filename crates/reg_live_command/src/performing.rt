@@ -1,7 +1,7 @@
 //! Scripts performed by threads, and the report of what they made.
-ghost use Rattle.std.specs.Prelude.{◌≡◌, ◌≢◌, ◌≤◌, IfOk, IfErr, OnOk, IfSome};
+ghost use Rattle.std.specs.Prelude.{◌≡◌, ◌≢◌, ◌≤◌, IfOk, IfErr, IsErrOf, IfSome};
 ghost use Rattle.std.specs.Io.KnownBytes.{Appends};
-ghost use Rattle.reg_history.specs.Reports.{report_text};
+ghost use Rattle.reg_text.specs.Writing.{AppendsPart};
 ghost use Rattle.reg_toml.specs.Loads.{Load};
 ghost use Rattle.reg_commands.specs.Plays.{Holds, HasNoPoints};
 ghost use Rattle.reg_commands.specs.Replays.{ShowsPoints};
@@ -11,9 +11,11 @@ ghost use Rattle.reg_live_command.specs.Lives.{ShowsLive, IsReportOfLive, Lives,
 ghost use Rattle.reg_commands.specs.declared.faults.Fault.TheVariants.{Output};
 
 use crate::faults::{Stop, stopped};
-use reg_commands::{Fault, read_input, read_workload, report_run, report_run_with_points};
+use reg_commands::{
+    Fault, read_input, read_workload, report_run, report_run_with_points, write_out,
+};
 use reg_front::{Front, FrontEnd, Linear, LocalRead, LocalWrite, RealTime};
-use reg_history::{Report, write_report};
+use reg_history::Report;
 use reg_live::run_scripts;
 use reg_workload::Workload;
 use std::alloc::Global;
@@ -88,17 +90,6 @@ fn performed<R: Threads + Wait + Clock + Copy + Send + Sync + 'static>(
     perform(rt, alloc, work)
 }
 
-/// Writes a report.
-fn show<W: Write>(report: &Report, writer: &mut W) -> Result<(), Stop>
-    ensures written { OnOk result (Appends (W.contents writer.old) (W.contents writer.new) (report_text report.now)) }
-    ensures output { IfErr result (λ stop. stop ≡ Command Output) }
-{
-    if write_report(writer, report).is_err() || writer.flush().is_err() {
-        return Err(told(Fault::Output));
-    }
-    Ok(())
-}
-
 /// Has threads perform the workload that a document says, and writes the report.
 fn perform_text<R: Threads + Wait + Clock + Copy + Send + Sync + 'static, W: Write>(
     rt: R,
@@ -106,12 +97,13 @@ fn perform_text<R: Threads + Wait + Clock + Copy + Send + Sync + 'static, W: Wri
     text: &str,
     writer: &mut W,
 ) -> Result<(), Stop>
-    ensures lives { IfOk result (λ _. Lives (W.contents writer.old) (W.contents writer.new) text.now) }
+    ensures lives { IfOk result (λ _. Lives (Appends (W.contents writer.old) (W.contents writer.new)) text.now) }
     ensures why { IfErr result (λ stop. BlamesStop stop text.now) }
     ensures silent { IfErr result (λ stop. stop ≢ Command Output → writer.new ≡ writer.old) }
+    ensures part { IsErrOf result (Command Output) → Lives (AppendsPart (W.contents writer.old) (W.contents writer.new)) text.now }
 {
     let report = performed(rt, alloc, text)?;
-    show(&report, writer)
+    write_out(writer, &report).map_err(told)
 }
 
 /// Reads a workload, has threads perform it, and writes the report.
@@ -121,9 +113,10 @@ fn obey<R: Threads + Wait + Clock + Copy + Send + Sync + 'static, I: Read, W: Wr
     reader: &mut I,
     writer: &mut W,
 ) -> Result<(), Stop>
-    ensures lives { IfOk result (λ _. IfSome (I.remaining reader.old) (Lives (W.contents writer.old) (W.contents writer.new))) }
+    ensures lives { IfOk result (λ _. IfSome (I.remaining reader.old) (Lives (Appends (W.contents writer.old) (W.contents writer.new)))) }
     ensures why { IfErr result (λ stop. IfSome (I.remaining reader.old) (BlamesStop stop)) }
     ensures silent { IfErr result (λ stop. stop ≢ Command Output → writer.new ≡ writer.old) }
+    ensures part { IsErrOf result (Command Output) → IfSome (I.remaining reader.old) (Lives (AppendsPart (W.contents writer.old) (W.contents writer.new))) }
 {
     let text = read_input(alloc, reader).map_err(told)?;
     perform_text(rt, alloc, text.as_str(), writer)
@@ -140,8 +133,8 @@ pub fn run_live<
     E: Write,
 >(rt: R, alloc: Global, reader: &mut I, writer: &mut W, errors: &mut E) -> u8
     ensures range { result ≤ 1 }
-    ensures lives { result ≡ 0 → IfSome (I.remaining reader.old) (Lives (W.contents writer.old) (W.contents writer.new)) }
-    ensures refused { result ≡ 1 → (stop : Stop) × IfSome (I.remaining reader.old) (BlamesStop stop) × (stop ≢ Command Output → writer.new ≡ writer.old) }
+    ensures lives { result ≡ 0 → IfSome (I.remaining reader.old) (Lives (Appends (W.contents writer.old) (W.contents writer.new))) }
+    ensures refused { result ≡ 1 → (stop : Stop) × IfSome (I.remaining reader.old) (BlamesStop stop) × (stop ≢ Command Output → writer.new ≡ writer.old) × (stop ≡ Command Output → IfSome (I.remaining reader.old) (Lives (AppendsPart (W.contents writer.old) (W.contents writer.new)))) }
     ensures quiet { result ≡ 0 → errors.new ≡ errors.old }
 {
     match obey(rt, alloc, reader, writer) {

@@ -1,8 +1,9 @@
 -- Bytes that go out one part after another.
-use Rattle.std.proofs.Common.{ℕ, ◌≡◌, List, [], ◌∷◌, ◌++◌, Option, Some, None, refl, sym, ap, ◌∙◌, append_assoc, take, drop}
+use Rattle.std.proofs.Common.{ℕ, Bool, true, false, ◌≡◌, List, [], ◌∷◌, ◌++◌, Option, Some, None, refl, sym, ap, ◌∙◌, append_assoc, append-nil, subst, take, drop}
 use Rattle.std.specs.Io.KnownBytes.{Appends, Keeps}
 use Rattle.std.proofs.lemmas.List.{take-append-drop}
-use Rattle.reg_text.specs.Writing.{AppendsPart}
+use Rattle.reg_text.specs.declared.writing.Sink.{Sink}
+use Rattle.reg_text.specs.Writing.{AppendsPart, Sends, Puts}
 
 pub appends_two : (a b c : Option (List ℕ)) (xs ys : List ℕ) → Appends a b xs → Appends b c ys → Appends a c (xs ++ ys)
 appends_two None b c xs ys h k = tt
@@ -34,3 +35,45 @@ part_of_first a b xs ys p = (p.0, p.1 ++ ys, sym (append_assoc p.0 p.1 ys) ∙ a
 -- behind the first of two, a first part of the second
 pub part_behind : (a b c : Option (List ℕ)) (xs ys : List ℕ) → Appends a b xs → AppendsPart b c ys → AppendsPart a c (xs ++ ys)
 part_behind a b c xs ys h p = (xs ++ p.0, p.1, append_assoc xs p.0 p.1 ∙ ap (λ l. xs ++ l) p.2, appends_two a b c xs p.0 h p.3)
+
+keeps_two : (a b c : Option (List ℕ)) → Keeps a b → Keeps b c → Keeps a c
+keeps_two None b c h k = tt
+keeps_two (Some x) None c h k = absurd h
+keeps_two (Some x) (Some y) None h k = absurd k
+keeps_two (Some x) (Some y) (Some z) h k = k ∙ h
+
+keeps_none : (a : Option (List ℕ)) → Keeps a a
+keeps_none None = tt
+keeps_none (Some x) = refl
+
+appends_none : (a : Option (List ℕ)) → Appends a a []
+appends_none None = tt
+appends_none (Some x) = sym (append-nil x)
+
+sends_two : (f g h : Bool) (a b c : Option (List ℕ)) (xs ys : List ℕ) → Sends f g a b xs → Sends g h b c ys → Sends f h a c (xs ++ ys)
+sends_two false false false a b c xs ys s t = appends_two a b c xs ys s t
+sends_two false false true a b c xs ys s t = part_behind a b c xs ys s t
+sends_two false true false a b c xs ys s t = absurd t
+sends_two false true true a b c xs ys s t = let p = part_of_first a b xs ys s in (p.0, p.1, p.2, appends_kept a b c p.0 p.3 t)
+sends_two true false h a b c xs ys s t = absurd s
+sends_two true true false a b c xs ys s t = absurd t
+sends_two true true true a b c xs ys s t = keeps_two a b c s t
+
+sends_none : (f : Bool) (a : Option (List ℕ)) → Sends f f a a []
+sends_none false a = appends_none a
+sends_none true a = keeps_none a
+
+-- nothing was put
+pub puts_none : {X : Type 0} (contents : X → Option (List ℕ)) (a : Sink X) → Puts contents a a []
+puts_none contents a = record { same = refl; sent = sends_none a.failed (contents a.writer.now) }
+
+-- one thing was put behind another
+pub puts_two : {X : Type 0} (contents : X → Option (List ℕ)) (a b c : Sink X) (xs ys : List ℕ) → Puts contents a b xs → Puts contents b c ys → Puts contents a c (xs ++ ys)
+puts_two contents a b c xs ys p q = record {
+  same = q.same ∙ p.same;
+  sent = sends_two a.failed b.failed c.failed (contents a.writer.now) (contents b.writer.now) (contents c.writer.now) xs ys p.sent q.sent;
+}
+
+-- the same, in other words
+pub puts_as : {X : Type 0} (contents : X → Option (List ℕ)) (a b : Sink X) (xs ys : List ℕ) → xs ≡ ys → Puts contents a b xs → Puts contents a b ys
+puts_as contents a b xs ys e p = subst (λ bs. Puts contents a b bs) e p

@@ -1,14 +1,18 @@
 //! Operations as text. A further kind of operation adds its case to each function here, and to `op_form`.
-ghost use Rattle.std.specs.Prelude.{◌≡◌, ◌<◌, ◌^◌, ℕ, ◌++◌, None, Some, IfSome, codes, length};
+ghost use Rattle.std.specs.Prelude.{◌≡◌, ◌<◌, ◌^◌, ℕ, ◌∷◌, ◌++◌, None, Some, IfSome, codes, length};
 ghost use Rattle.std.specs.Fmt.{decimal};
 ghost use Rattle.reg_base.specs.Names.{names_fault};
 ghost use Rattle.reg_base.specs.declared.memory.Op.{Op};
 ghost use Rattle.reg_text.specs.Ops.{op_text, valued, OpFits, op_line, name_of as name_of_register};
+ghost use Rattle.reg_text.specs.Writing.{Puts};
 
 use crate::fields::{cut_at, numeral, skip};
+use crate::writing::Sink;
+use itoa::Buffer;
 use reg_base::{Names, Op};
 use std::alloc::Allocator;
 use std::fmt;
+use std::io::Write;
 
 /// The register and the value that are the whole of the text. None where the text is none with a register of these
 /// names and a value of 64 bits.
@@ -61,6 +65,36 @@ pub fn name_of_op<A: Allocator + Copy>(names: &Names<A>, op: Op) -> &str
         Op::Read { register } => name_at(names, register),
         Op::Write { register, .. } => name_at(names, register),
         Op::Swap { register, .. } => name_at(names, register),
+    }
+}
+
+fn put_valued<W: Write>(sink: &mut Sink<'_, W>, name: &str, value: u64)
+    ensures { Puts W.contents sink.old sink.new (name.now ++ 32 ∷ decimal value) }
+{
+    let mut digits = Buffer::new();
+    sink.put(name.as_bytes());
+    sink.put(b" ");
+    sink.put(digits.format(value).as_bytes());
+}
+
+/// Puts the text of an operation.
+pub fn put_op<A: Allocator + Copy, W: Write>(sink: &mut Sink<'_, W>, names: &Names<A>, op: Op)
+    ensures { Puts W.contents sink.old sink.new (op_text names.now op) }
+{
+    let name = name_of_op(names, op);
+    match op {
+        Op::Read { .. } => {
+            sink.put(b"read ");
+            sink.put(name.as_bytes());
+        }
+        Op::Write { value, .. } => {
+            sink.put(b"write ");
+            put_valued(sink, name, value);
+        }
+        Op::Swap { value, .. } => {
+            sink.put(b"swap ");
+            put_valued(sink, name, value);
+        }
     }
 }
 

@@ -1,7 +1,7 @@
 //! Writing of which all or a first part went out.
-ghost use Rattle.std.specs.Prelude.{◌≡◌, ◌++◌, MatchResult};
+ghost use Rattle.std.specs.Prelude.{◌≡◌, ◌++◌, false, MatchResult};
 ghost use Rattle.std.specs.Io.KnownBytes.{Appends};
-ghost use Rattle.reg_text.specs.Writing.{AppendsPart};
+ghost use Rattle.reg_text.specs.Writing.{AppendsPart, Puts};
 
 use std::io::{ErrorKind, Write};
 
@@ -32,24 +32,32 @@ pub fn write_bytes<W: Write>(writer: &mut W, bytes: &[u8]) -> Result<(), Unwritt
     Err(Unwritten)
 }
 
-#[tactic(auto, using(crate::proofs::Sent::part_of_first, crate::proofs::Sent::part_behind, crate::proofs::Sent::appends_two))]
-/// Writes three parts, one after another. Where the writer fails, what went out is a first part of all three.
-pub fn write_three<W: Write>(
-    writer: &mut W,
-    first: &[u8],
-    second: &[u8],
-    third: &[u8],
-) -> Result<(), Unwritten>
-    ensures { MatchResult result (λ _. Appends (W.contents writer.old) (W.contents writer.new) (first.now ++ (second.now ++ third.now))) (λ _. AppendsPart (W.contents writer.old) (W.contents writer.new) (first.now ++ (second.now ++ third.now))) }
-{
-    if write_bytes(writer, first).is_err() {
-        return Err(Unwritten);
+/// A writer, and whether it has failed. What is put behind a failure goes nowhere.
+#[derive(Drop)]
+pub struct Sink<'a, W> {
+    pub writer: &'a mut W,
+    pub failed: bool,
+}
+
+impl<'a, W: Write> Sink<'a, W> {
+    /// A writer that has not failed.
+    pub fn new(writer: &'a mut W) -> Sink<'a, W>
+        ensures same { result.writer.ghost_name ≡ writer.entry.ghost_name }
+        ensures now { result.writer.now ≡ writer.old }
+        ensures failed { result.failed ≡ false }
+    {
+        Sink {
+            writer,
+            failed: false,
+        }
     }
-    if write_bytes(writer, second).is_err() {
-        return Err(Unwritten);
-    }
-    match write_bytes(writer, third) {
-        Ok(()) => Ok(()),
-        Err(Unwritten) => Err(Unwritten),
+
+    /// Writes bytes, unless the writer has failed. Where it fails here, what went out is a first part of them.
+    pub fn put(&mut self, bytes: &[u8])
+        ensures { Puts W.contents self.old self.new bytes.now }
+    {
+        if !self.failed && write_bytes(self.writer, bytes).is_err() {
+            self.failed = true;
+        }
     }
 }

@@ -7,7 +7,7 @@ use reg_base::Shape;
 use reg_front::{Front, FrontEnd, Linear, LocalRead, LocalWrite};
 use reg_history::{check_points, check_serial};
 use reg_toml::{Workload, WorkloadFault, read_table};
-use reg_workload::{ScheduleFault, SeedWords, parse_schedule, play_fair, play_seeded};
+use reg_workload::{Play, ScheduleFault, SeedWords, parse_schedule, play_fair, play_seeded};
 use reg_world::{Event, RunFault, World, WorldFault};
 use std::alloc::{Allocator, Global};
 use std::test::Fail;
@@ -20,30 +20,59 @@ struct Steps {
     events: &'static [Event],
 }
 
+/// Whether the world tells just what a run of ample memory tells, and has stopped.
+fn tells_the_same<F: FrontEnd, A: Allocator + Copy>(
+    ample: Global,
+    world: &mut World<F, A>,
+    other: &World<F>,
+) -> Result<bool, Fail> {
+    if kept(ample, world)?.as_str() != kept(ample, other)?.as_str() {
+        return Ok(false);
+    }
+    Ok(
+        world.events() == other.events()
+            && world.step(&Event::Tick { process: 0 }) == Err(WorldFault::Failed),
+    )
+}
+
+/// Whether its witness is that of the other one, and a serial order of that one's history.
+fn has_the_same_witness<F: FrontEnd, A: Allocator + Copy>(
+    ample: Global,
+    world: &World<F, A>,
+    other: &World<F>,
+) -> Result<bool, Fail> {
+    let order = other.witness()?;
+    Ok(
+        world.witness()?.as_slice() == order.as_slice()
+            && check_serial(ample, other.history(), order.as_slice()) == Ok(()),
+    )
+}
+
 /// What a world tells after the first events. Where memory is refused at one of them it tells that still, and its witness
-/// is a serial order of the history so far; otherwise this says what is wrong.
+/// is a serial order of the history so far; otherwise this says where it doesn't.
 fn refused<F: FrontEnd, A: Allocator + Copy>(
     ample: Global,
     world: &mut World<F, A>,
-    events: &[Event],
-    at: usize,
+    first: &[Event],
 ) -> Result<Option<String>, Fail> {
-    let Some(first) = events.get(..at) else {
-        return Ok(Some(String::from_str(ample, "past the events")?));
-    };
     let other = World::<F>::run(ample, world.shape(), first)?;
-    let before = kept(ample, &other)?;
-    let text = kept(ample, world)?;
-    let order = other.witness()?;
-    if text.as_str() != before.as_str()
-        || world.events() as usize != at
-        || world.step(&Event::Tick { process: 0 }) != Err(WorldFault::Failed)
-        || check_serial(ample, other.history(), order.as_slice()) != Ok(())
-        || world.witness()?.as_slice() != order.as_slice()
-    {
-        return Ok(Some(format!(in ample; "otherwise at {at}: {text}")?));
+    if tells_the_same(ample, world, &other)? && has_the_same_witness(ample, world, &other)? {
+        return Ok(None);
     }
-    Ok(None)
+    Ok(Some(format!(in ample; "otherwise at {}", first.len())?))
+}
+
+/// What a world tells, and its witness. None where memory is wanted.
+fn kept_with_witness<F: FrontEnd, A: Allocator + Copy>(
+    ample: Global,
+    world: &World<F, A>,
+) -> Result<Option<String>, Fail> {
+    let Ok(order) = world.witness() else {
+        return Ok(None);
+    };
+    let mut text = kept(ample, world)?;
+    text.push_str(format!(in ample; "{:?}", order.as_slice())?.as_str())?;
+    Ok(Some(text))
 }
 
 fn step_by_step<F: FrontEnd, A: Allocator + Copy>(
@@ -57,15 +86,14 @@ fn step_by_step<F: FrontEnd, A: Allocator + Copy>(
     for (at, event) in steps.events.iter().enumerate() {
         match world.step(event) {
             Ok(()) => {}
-            Err(WorldFault::OutOfMemory) => return refused(ample, &mut world, steps.events, at),
+            Err(WorldFault::OutOfMemory) => {
+                let first = steps.events.get(..at).unwrap_or(&[]);
+                return refused(ample, &mut world, first);
+            }
             Err(fault) => return Ok(Some(format!(in ample; "{fault:?}")?)),
         }
     }
-    let Ok(order) = world.witness() else {
-        return Ok(None);
-    };
-    let text = kept(ample, &world)?;
-    Ok(Some(format!(in ample; "{text}{:?}", order.as_slice())?))
+    kept_with_witness(ample, &world)
 }
 
 impl Trial for Steps {
@@ -85,30 +113,37 @@ struct Run {
     events: &'static [Event],
 }
 
+/// The witness and the points of a run, where both checks say yes. None where memory is wanted.
+fn judged<A: Allocator + Copy>(
+    alloc: A,
+    ample: Global,
+    world: &World<Linear, A>,
+) -> Result<Option<String>, Fail> {
+    let (Ok(order), Ok(points)) = (world.witness(), world.points()) else {
+        return Ok(None);
+    };
+    let (order, points) = (order.as_slice(), points.as_slice());
+    if check_serial(alloc, world.history(), order).is_err()
+        || check_points(alloc, world.history(), points).is_err()
+    {
+        return Ok(None);
+    }
+    Ok(Some(format!(in ample; "{order:?} {points:?}")?))
+}
+
 impl Trial for Run {
     fn answer<A: Allocator + Copy>(&self, alloc: A, ample: Global) -> Result<Option<String>, Fail> {
         let shape = Shape::new(self.processes, 1)?;
-        let world = match World::<Linear, A>::run(alloc, shape, self.events) {
-            Ok(world) => world,
+        match World::<Linear, A>::run(alloc, shape, self.events) {
+            Ok(world) => judged(alloc, ample, &world),
             Err(
                 RunFault {
                     at: _,
                     fault: WorldFault::OutOfMemory,
                 },
-            ) => return Ok(None),
-            Err(fault) => return Ok(Some(format!(in ample; "{fault:?}")?)),
-        };
-        let (Ok(order), Ok(points)) = (world.witness(), world.points()) else {
-            return Ok(None);
-        };
-        let (order, points) = (order.as_slice(), points.as_slice());
-        let history = world.history();
-        if check_serial(alloc, history, order).is_err()
-            || check_points(alloc, history, points).is_err()
-        {
-            return Ok(None);
+            ) => Ok(None),
+            Err(fault) => Ok(Some(format!(in ample; "{fault:?}")?)),
         }
-        Ok(Some(format!(in ample; "{order:?} {points:?}")?))
     }
 }
 
@@ -133,21 +168,38 @@ fn schedule<A: Allocator + Copy>(alloc: A, ample: Global) -> Result<Option<Strin
     }
 }
 
+fn play_told<A: Allocator + Copy>(
+    ample: Global,
+    play: &Play<LocalWrite, A>,
+) -> Result<String, Fail> {
+    let mut text = kept(ample, &play.world)?;
+    text.push_str(if play.finished { "true\n" } else { "false\n" })?;
+    Ok(text)
+}
+
+/// What both players make of a workload. None where memory is wanted.
+fn played<A: Allocator + Copy>(
+    alloc: A,
+    ample: Global,
+    work: &Workload<A>,
+) -> Result<Option<String>, Fail> {
+    let Ok(fair) = play_fair::<LocalWrite, A>(alloc, work) else {
+        return Ok(None);
+    };
+    let mut text = play_told(ample, &fair)?;
+    let Ok(seeded) = play_seeded::<LocalWrite, _, A>(alloc, work, SeedWords::new(0)) else {
+        return Ok(None);
+    };
+    text.push_str(play_told(ample, &seeded)?.as_str())?;
+    Ok(Some(text))
+}
+
 fn both_plays<A: Allocator + Copy>(alloc: A, ample: Global) -> Result<Option<String>, Fail> {
     let table = read_table(ample, SMALL)?;
-    let work = match Workload::from_table(alloc, &table) {
-        Err(WorkloadFault::OutOfMemory) => return Ok(None),
-        read => read?,
-    };
-    let Ok(fair) = play_fair::<LocalWrite, A>(alloc, &work) else {
-        return Ok(None);
-    };
-    let Ok(seeded) = play_seeded::<LocalWrite, _, A>(alloc, &work, SeedWords::new(0)) else {
-        return Ok(None);
-    };
-    let first = kept(ample, &fair.world)?;
-    let second = kept(ample, &seeded.world)?;
-    Ok(Some(format!(in ample; "{first}{}\n{second}{}", fair.finished, seeded.finished)?))
+    match Workload::from_table(alloc, &table) {
+        Err(WorkloadFault::OutOfMemory) => Ok(None),
+        read => played(alloc, ample, &read?),
+    }
 }
 
 impl Trial for Read {

@@ -1,12 +1,10 @@
 //! Readers that hand out one byte at a time, and inputs up to the limit and past it.
-use crate::checks::ONE_PROCESS;
+use crate::checks::{ONE_PROCESS, demand_read};
 use crate::replays::ONE_PROCESS_SCHEDULE;
 use reg_base::limits::LONGEST_INPUT;
-use reg_commands::{Command, run_text};
-use std::alloc::Global;
+use reg_commands::Command;
 use std::io;
 use std::io::Read;
-use std::process::Abort;
 
 /// Gives one byte a read.
 #[derive(Drop)]
@@ -42,23 +40,6 @@ impl Read for Spaces {
     }
 }
 
-/// Demands the status, the output and the faults of a command over any reader.
-fn demand<R: Read>(
-    rt: &impl Abort,
-    alloc: Global,
-    command: Command,
-    reader: &mut R,
-    output: &str,
-    faults: &str,
-) {
-    let mut written = Vec::new(alloc);
-    let mut errors = Vec::new(alloc);
-    let status = run_text(alloc, alloc, command, reader, &mut written, &mut errors);
-    assert_eq!(rt; errors.as_slice(), faults.as_bytes());
-    assert_eq!(rt; written.as_slice(), output.as_bytes());
-    assert_eq!(rt; status, u8::from(!faults.is_empty()));
-}
-
 #[test]
 fn one_byte_at_a_time(rt: HostRuntime) {
     let cases = [
@@ -67,7 +48,7 @@ fn one_byte_at_a_time(rt: HostRuntime) {
     ];
     for (command, input, output) in cases {
         let bytes = input.as_bytes();
-        demand(&rt, rt.alloc(), command, &mut Slow { bytes }, output, "");
+        demand_read(&rt, rt.alloc(), command, &mut Slow { bytes }, 0, output, "");
     }
 }
 
@@ -79,11 +60,12 @@ fn an_input_up_to_the_limit(rt: HostRuntime) {
         (LONGEST_INPUT + 1, "input: too long\n"),
     ];
     for (left, faults) in cases {
-        demand(
+        demand_read(
             &rt,
             rt.alloc(),
             Command::Check,
             &mut Spaces { left },
+            1,
             "",
             faults,
         );

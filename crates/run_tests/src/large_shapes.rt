@@ -1,5 +1,5 @@
 //! The largest shapes, and the reports of both versions, as a user meets them.
-use crate::checks::{ONE_PROCESS, demand};
+use crate::checks::{ONE_PROCESS, demand, joined};
 use crate::replays::ONE_PROCESS_SCHEDULE;
 use reg_commands::Command;
 
@@ -43,38 +43,67 @@ p63 #0
 end
 ";
 
+const BOTH: &str = "serial yes\npoints yes\n";
+
+/// A command, the two parts of its input, its status, what it writes, and what it tells.
+const LARGEST: [(Command, &str, &str, u8, &str, &str); 8] = [
+    (
+        Command::Replay,
+        ONE_PROCESS_SCHEDULE,
+        "",
+        0,
+        ONE_PROCESS,
+        "",
+    ),
+    (Command::Check, OLDER_ONE_PROCESS, "", 0, BOTH, ""),
+    (Command::Check, ONE_PROCESS, "", 0, BOTH, ""),
+    (
+        Command::Replay,
+        LAST_PROCESS,
+        "",
+        0,
+        LAST_PROCESS_REPORT,
+        "",
+    ),
+    (
+        Command::Check,
+        LAST_PROCESS_REPORT,
+        "",
+        0,
+        "serial yes\n",
+        "",
+    ),
+    (
+        Command::Replay,
+        LAST_PROCESS,
+        "take 0 63 0\n",
+        1,
+        "",
+        "event 1: no frame\n",
+    ),
+    (
+        Command::Replay,
+        LAST_PROCESS,
+        "call 64 read x\n",
+        1,
+        "",
+        "event 1: no process\n",
+    ),
+    (
+        Command::Replay,
+        "processes 65\n",
+        "",
+        1,
+        "",
+        "line 1: range\n",
+    ),
+];
+
 #[test]
 fn the_largest_shapes_and_both_versions(rt: HostRuntime) {
-    let alloc = rt.alloc();
-    let both = "serial yes\npoints yes\n";
-    let (replay, check) = (Command::Replay, Command::Check);
-    let table = [
-        (replay, ONE_PROCESS_SCHEDULE, "", 0, ONE_PROCESS, ""),
-        (check, OLDER_ONE_PROCESS, "", 0, both, ""),
-        (check, ONE_PROCESS, "", 0, both, ""),
-        (replay, LAST_PROCESS, "", 0, LAST_PROCESS_REPORT, ""),
-        (check, LAST_PROCESS_REPORT, "", 0, "serial yes\n", ""),
-        (
-            replay,
-            LAST_PROCESS,
-            "take 0 63 0\n",
-            1,
-            "",
-            "event 1: no frame\n",
-        ),
-        (
-            replay,
-            LAST_PROCESS,
-            "call 64 read x\n",
-            1,
-            "",
-            "event 1: no process\n",
-        ),
-        (replay, "processes 65\n", "", 1, "", "line 1: range\n"),
-    ];
-    for (command, head, tail, status, written, told) in table {
-        let mut text = String::from_str(alloc, head).expect(&rt, "memory");
-        text.push_str(tail).expect(&rt, "memory");
-        demand(&rt, alloc, command, text.as_bytes(), status, written, told);
+    for (command, head, tail, status, written, told) in &LARGEST {
+        let text = joined(&rt, rt.alloc(), head, tail);
+        let bytes = text.as_bytes();
+        demand(&rt, rt.alloc(), *command, bytes, *status, written, told);
     }
 }

@@ -24,11 +24,15 @@ mod plays;
 #[cfg(test)]
 mod replay_reports;
 #[cfg(test)]
+mod replay_rows;
+#[cfg(test)]
 mod replays;
 #[cfg(test)]
 mod schedules;
 #[cfg(test)]
 mod seeded;
+#[cfg(test)]
+mod streams;
 #[cfg(test)]
 mod telling;
 #[cfg(test)]

@@ -1,9 +1,11 @@
 //! Plays of workloads, with reports worked out apart from this code, and documents that are refused.
-use crate::checks::{demand, demand_each_growth, demand_failing_streams, joined};
+use crate::checks::{demand, joined};
 use crate::replay_reports::verdict_on;
+use crate::streams::{demand_each_growth, demand_failing_streams};
 use reg_commands::Command;
 use std::alloc::Global;
 use std::process::Abort;
+use std::test::Fail;
 
 /// A write and a read at process 0, and a read at process 1.
 const SMALL: &str =
@@ -295,70 +297,94 @@ fn demand_play(rt: &impl Abort, alloc: Global, fair: bool, document: &str, repor
     demand(rt, alloc, Command::Check, report.as_bytes(), 0, verdict, "");
 }
 
+/// The same of the small workload, with a line more and the rest of its report.
+fn demand_small(rt: &impl Abort, alloc: Global, fair: bool, line: &str, tail: &str) {
+    let document = joined(rt, alloc, SMALL, line);
+    let report = joined(rt, alloc, SMALL_HEAD, tail);
+    demand_play(rt, alloc, fair, document.as_str(), report.as_str());
+}
+
 #[test]
-fn each_play_has_its_report(rt: HostRuntime) {
-    let alloc = rt.alloc();
-    for (line, tail) in [("", FAIR), ("budget = 3\n", FAIR_THREE)] {
-        let document = joined(&rt, alloc, [SMALL, line]);
-        let report = joined(&rt, alloc, [SMALL_HEAD, tail]);
-        demand_play(&rt, alloc, true, document.as_str(), report.as_str());
-    }
+fn each_fair_play_has_its_report(rt: HostRuntime) {
+    demand_small(&rt, rt.alloc(), true, "", FAIR);
+    demand_small(&rt, rt.alloc(), true, "budget = 3\n", FAIR_THREE);
+}
+
+#[test]
+fn each_seeded_play_has_its_report(rt: HostRuntime) -> Result<(), Fail> {
     for (seed, tail) in SEEDED.iter().enumerate() {
-        let document = format!(in alloc; "{SMALL}loss = 20\nrepeat = 20\nseed = {seed}\n").expect(
-            &rt, "memory",
-        );
-        let report = joined(&rt, alloc, [SMALL_HEAD, tail]);
-        demand_play(&rt, alloc, false, document.as_str(), report.as_str());
+        let lines = format!(in rt.alloc(); "loss = 20\nrepeat = 20\nseed = {seed}\n")?;
+        demand_small(&rt, rt.alloc(), false, lines.as_str(), tail);
     }
+    Ok(())
+}
+
+#[test]
+fn each_front_end_has_its_report(rt: HostRuntime) {
     for (front, report) in &BY_FRONT {
-        let document = joined(&rt, alloc, [front, THREE]);
-        demand_play(&rt, alloc, false, document.as_str(), report);
+        let document = joined(&rt, rt.alloc(), front, THREE);
+        demand_play(&rt, rt.alloc(), false, document.as_str(), report);
+    }
+}
+
+const FRONT: &str = "front = \"linear\"\n";
+
+const SHORT: &str = "front = \"linear\"\nregisters = [\"x\"]\n";
+
+/// The two parts of a document, and the line that it is refused with.
+const REFUSED: [(&str, &str, &str); 11] = [
+    ("", "", "missing front\n"),
+    (FRONT, "", "missing registers\n"),
+    (FRONT, "registers = [\"x", "toml\n"),
+    (SMALL, "speed = 1\n", "unknown key\n"),
+    ("front = 3\n", THREE, "kind front\n"),
+    ("front = \"other\"\n", THREE, "range front\n"),
+    (SHORT, "scripts = []\n", "range scripts\n"),
+    (SMALL, "seed = -1\n", "range seed\n"),
+    (SMALL, "loss = 101\n", "range loss\n"),
+    (SMALL, "budget = 0\n", "range budget\n"),
+    (
+        SHORT,
+        "scripts = [[\"read x\", \"write y 5\"]]\n",
+        "script 0 1\n",
+    ),
+];
+
+#[test]
+fn documents_are_refused(rt: HostRuntime) {
+    for (head, tail, line) in &REFUSED {
+        let document = joined(&rt, rt.alloc(), head, tail);
+        for fair in [true, false] {
+            let command = Command::Play { fair };
+            demand(&rt, rt.alloc(), command, document.as_bytes(), 1, "", line);
+        }
     }
 }
 
 #[test]
-fn documents_are_refused(rt: HostRuntime) {
-    let alloc = rt.alloc();
-    let front = "front = \"linear\"\n";
-    let short = "front = \"linear\"\nregisters = [\"x\"]\n";
-    let table = [
-        ("", "", "missing front\n"),
-        (front, "", "missing registers\n"),
-        (front, "registers = [\"x", "toml\n"),
-        (SMALL, "speed = 1\n", "unknown key\n"),
-        ("front = 3\n", THREE, "kind front\n"),
-        ("front = \"other\"\n", THREE, "range front\n"),
-        (short, "scripts = []\n", "range scripts\n"),
-        (SMALL, "seed = -1\n", "range seed\n"),
-        (SMALL, "loss = 101\n", "range loss\n"),
-        (SMALL, "budget = 0\n", "range budget\n"),
-        (
-            short,
-            "scripts = [[\"read x\", \"write y 5\"]]\n",
-            "script 0 1\n",
-        ),
-    ];
-    for (head, tail, line) in table {
-        let document = joined(&rt, alloc, [head, tail]);
-        let document = document.as_bytes();
-        for fair in [true, false] {
-            demand(&rt, alloc, Command::Play { fair }, document, 1, "", line);
-        }
-    }
+fn a_document_is_text(rt: HostRuntime) {
     let command = Command::Play { fair: true };
-    demand(&rt, alloc, command, b"\xff", 1, "", "input: not text\n");
+    demand(
+        &rt,
+        rt.alloc(),
+        command,
+        b"\xff",
+        1,
+        "",
+        "input: not text\n",
+    );
 }
 
 #[test]
 fn a_play_with_failing_streams(rt: HostRuntime) {
-    let report = joined(&rt, rt.alloc(), [SMALL_HEAD, FAIR]);
+    let report = joined(&rt, rt.alloc(), SMALL_HEAD, FAIR);
     let command = Command::Play { fair: true };
     demand_failing_streams(&rt, rt.alloc(), command, SMALL, report.as_str());
 }
 
 #[test]
 fn a_play_with_each_growth_refused(rt: HostRuntime) {
-    let report = joined(&rt, rt.alloc(), [SMALL_HEAD, FAIR]);
+    let report = joined(&rt, rt.alloc(), SMALL_HEAD, FAIR);
     let command = Command::Play { fair: true };
     demand_each_growth(&rt, rt.alloc(), command, SMALL, report.as_str());
 }

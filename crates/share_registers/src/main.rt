@@ -5,28 +5,18 @@
 ghost use Rattle.std.specs.Prelude.{◌≤◌, IfOk};
 
 use anyhow::anyhow;
-use reg_base::{Op, Shape};
-use reg_front::Linear;
-use reg_history::check_points;
-use reg_live::{
-    Closed, Courier, LiveFault, NoGate, Pacer, Parts, Pass, Receipt, Rough, close, set_up,
-};
-use reg_workload::SeedWords;
 use std::alloc::Global;
 use std::sync::{Arc, Wait};
 use std::thread;
 use std::thread::{JoinHandle, Threads};
 use std::time::Clock;
+use tellwydar::{
+    Closed, Courier, Linear, LiveFault, NoGate, Pacer, Parts, Pass, Receipt, Rough, SeedWords,
+    Shape, check_points, close, read, set_up, write,
+};
 
 /// One parcel of five is lost, and one of five is put twice.
 type Lossy = Arc<Rough<SeedWords>>;
-
-const WRITE: Op = Op::Write {
-    register: 0,
-    value: 5,
-};
-
-const READ: Op = Op::Read { register: 0 };
 
 /// Reads at a place of the journal that is not below the front.
 fn read_from<R: Wait>(
@@ -36,7 +26,7 @@ fn read_from<R: Wait>(
 ) -> Result<Receipt, LiveFault>
     ensures { IfOk result (λ receipt. front ≤ receipt.called) }
 {
-    match pass.perform_after(rt, READ, front) {
+    match pass.perform_after(rt, read(0), front) {
         Ok(receipt) => Ok(receipt),
         Err(fault) => Err(fault),
     }
@@ -95,7 +85,7 @@ fn share<R: Threads + Wait + Clock + Copy + Send + Sync + 'static>(
     let (Some(mut reader), Some(mut writer)) = (passes.pop(), passes.pop()) else {
         return Err(anyhow!("no passes"));
     };
-    let written = writer.perform(&rt, WRITE);
+    let written = writer.perform(&rt, write(0, 5));
     let front = match written {
         Ok(receipt) => receipt.answered.saturating_add(1),
         Err(_) => 0,

@@ -1,9 +1,11 @@
 //! Which command lines are taken, and how a refused one is told.
+use crate::values::over_text;
 use reg_cli::{Asked, Command, WordsFault, choose};
 use std::alloc::Global;
 use std::process::Abort;
 use std::test::Fail;
 
+/// The words of a line behind the program's name.
 fn words_of(rt: &impl Abort, alloc: Global, line: &str) -> Vec<String> {
     let mut words = Vec::new(alloc);
     for word in "awreg".split_whitespace().chain(line.split_whitespace()) {
@@ -13,62 +15,63 @@ fn words_of(rt: &impl Abort, alloc: Global, line: &str) -> Vec<String> {
     words
 }
 
+fn demand(rt: &impl Abort, alloc: Global, line: &str, asked: Result<Asked, WordsFault>) {
+    let words = words_of(rt, alloc, line);
+    assert_eq!(rt; choose(alloc, words.as_slice()), asked, "{line}");
+}
+
+const OVER_TEXTS: [(&str, Command); 4] = [
+    ("replay", Command::Replay),
+    ("check", Command::Check),
+    ("play", Command::Play { fair: false }),
+    ("play --fair", Command::Play { fair: true }),
+];
+
+const REFUSED: [&str; 34] = [
+    "",
+    "help",
+    "help replay",
+    "-h",
+    "--help",
+    "-V",
+    "--version",
+    "--",
+    "replay --",
+    "-- replay",
+    "replay check",
+    "replay replay",
+    "rep",
+    "Replay",
+    "replay -V",
+    "replay --help",
+    "replay help",
+    "replay -",
+    "-",
+    "check x",
+    "--fair",
+    "--fair play",
+    "replay --fair",
+    "play fair",
+    "play --fai",
+    "play --fair --fair",
+    "play --fair=true",
+    "play --fair true",
+    "play -f",
+    "play --",
+    "play --help",
+    "live x",
+    "live --fair",
+    "live --",
+];
+
 #[test]
 fn exactly_the_command_lines_are_taken(rt: HostRuntime) {
-    let alloc = rt.alloc();
-    let taken = [
-        ("replay", Command::Replay),
-        ("check", Command::Check),
-        ("play", Command::Play { fair: false }),
-        ("play --fair", Command::Play { fair: true }),
-    ];
-    for (line, command) in taken {
-        let words = words_of(&rt, alloc, line);
-        let asked = Ok(Asked::Text { command });
-        assert_eq!(rt; choose(alloc, words.as_slice()), asked, "{line}");
+    for (line, command) in &OVER_TEXTS {
+        demand(&rt, rt.alloc(), line, Ok(over_text(*command)));
     }
-    let words = words_of(&rt, alloc, "live");
-    assert_eq!(rt; choose(alloc, words.as_slice()), Ok(Asked::Live));
-    let refused = [
-        "",
-        "help",
-        "help replay",
-        "-h",
-        "--help",
-        "-V",
-        "--version",
-        "--",
-        "replay --",
-        "-- replay",
-        "replay check",
-        "replay replay",
-        "rep",
-        "Replay",
-        "replay -V",
-        "replay --help",
-        "replay help",
-        "replay -",
-        "-",
-        "check x",
-        "--fair",
-        "--fair play",
-        "replay --fair",
-        "play fair",
-        "play --fai",
-        "play --fair --fair",
-        "play --fair=true",
-        "play --fair true",
-        "play -f",
-        "play --",
-        "play --help",
-        "live x",
-        "live --fair",
-        "live --",
-    ];
-    for line in refused {
-        let words = words_of(&rt, alloc, line);
-        let answer = choose(alloc, words.as_slice());
-        assert_eq!(rt; answer, Err(WordsFault::CommandLine), "{line}");
+    demand(&rt, rt.alloc(), "live", Ok(Asked::Live));
+    for line in &REFUSED {
+        demand(&rt, rt.alloc(), line, Err(WordsFault::CommandLine));
     }
 }
 

@@ -1,19 +1,17 @@
-use Rattle.std.proofs.Common.{Some, None, arith, ◌<◌}
+use Rattle.std.proofs.Common.{◌≤◌, length, sym, subst}
+use Rattle.reg_base.specs.Names.{texts}
+use Rattle.reg_base.specs.Chains.{AreChains}
 use Rattle.reg_base.specs.declared.limits.TheConstants.{MOST_REGISTERS}
-use Rattle.reg_base.proofs.NamesLaws.{number_is, place_fits, hinted_is}
+use Rattle.reg_base.proofs.NamesLaws.{found_is, few_names}
 use Rattle.reg_base.proofs.naming.Names.find.Goals as goal
 
-pub overflow_cast-result : goal.overflow_cast-result
-overflow_cast-result g c =
-    let l : c.in-Some-place_of.place < MOST_REGISTERS = place_fits c.self.inside.names.items c.args.name.now c.in-Some-place_of.place c.self.invariant (cc) in omega arith
+pub find-requires : goal.find-requires
+find-requires g c = record {
+  chains = subst (λ names. AreChains (texts names) c.self.inside.chains.heads c.self.inside.chains.earlier) (sym c.deref.ensures.value) c.self.invariant.1;
+  few = subst (λ names. length names ≤ MOST_REGISTERS) (sym c.deref.ensures.value) (few_names c.self.inside.names.items c.self.invariant.0);
+}
 
-pub returns-in-Some : goal.returns-in-Some
-returns-in-Some g c =
-    hinted_is c.self.inside.names.items c.args.self.now c.args.name.now c.in-Some.place c.self.view_is c.self.invariant
-    (rw (← c.deref.ensures.value) c.in-Some.ensures)
-
-pub returns-in-Some-place_of : goal.returns-in-Some-place_of
-returns-in-Some-place_of g c = number_is c.self.inside.names.items c.args.self.now c.args.name.now (Some c.in-Some-place_of.place) c.self.view_is c.self.invariant (cc)
-
-pub returns-in-None : goal.returns-in-None
-returns-in-None g c = number_is c.self.inside.names.items c.args.self.now c.args.name.now None c.self.view_is c.self.invariant (cc)
+pub returns : goal.returns
+returns g c =
+    found_is c.self.inside.names.items c.args.self.now c.args.name.now c.find.result c.self.view_is c.self.invariant.0
+    (rw (← c.deref.ensures.value) c.find.ensures.some) (rw (← c.deref.ensures.value) c.find.ensures.none)

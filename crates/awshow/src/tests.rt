@@ -1,0 +1,53 @@
+//! Which command lines are taken, and how a refused one is told.
+use crate::words::{Asked, USAGE, WordsFault, choose};
+use reg_show::Showing;
+use std::alloc::Global;
+use std::process::Abort;
+use std::test::Fail;
+
+fn words_of(rt: &impl Abort, alloc: Global, line: &str) -> Vec<String> {
+    let mut words = Vec::new(alloc);
+    for word in "awshow".split_whitespace().chain(line.split_whitespace()) {
+        let word = String::from_str(alloc, word).expect(rt, "memory");
+        words.push(word).expect(rt, "memory");
+    }
+    words
+}
+
+fn show(showing: Showing) -> Result<Asked, WordsFault> {
+    Ok(Asked::Show { showing })
+}
+
+#[test]
+fn each_command_line_asks_for_what_it_says(rt: HostRuntime) {
+    let alloc = rt.alloc();
+    let rows = [
+        ("schedule", show(Showing::Schedule { fair: false })),
+        ("schedule --fair", show(Showing::Schedule { fair: true })),
+        ("trace", show(Showing::Trace)),
+        ("draw", show(Showing::Draw)),
+        ("help", Ok(Asked::Help)),
+        ("-h", Ok(Asked::Help)),
+        ("--help", Ok(Asked::Help)),
+        ("draw --help", Ok(Asked::Help)),
+        ("help trace", Ok(Asked::Help)),
+        ("", Err(WordsFault::CommandLine)),
+        ("play", Err(WordsFault::CommandLine)),
+        ("trace --fair", Err(WordsFault::CommandLine)),
+        ("draw draw", Err(WordsFault::CommandLine)),
+        ("schedule schedule", Err(WordsFault::CommandLine)),
+        ("schedule --fair --fair", Err(WordsFault::CommandLine)),
+    ];
+    for (line, asked) in rows {
+        let words = words_of(&rt, alloc, line);
+        assert_eq!(rt; choose(alloc, words.as_slice()), asked, "{line}");
+    }
+}
+
+#[test]
+fn a_refused_command_line_is_told_by_a_usage_line(rt: HostRuntime) -> Result<(), Fail> {
+    let told = format!(in rt.alloc(); "{}", WordsFault::CommandLine)?;
+    assert_eq!(rt; told.as_str(), USAGE);
+    assert_eq!(rt; WordsFault::CommandLine.status(), 2);
+    Ok(())
+}

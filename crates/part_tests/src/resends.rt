@@ -1,0 +1,57 @@
+//! Frames that a process puts again, and one that has nobody to put them for.
+use crate::processes::started;
+use crate::values::WRITE_FIVE;
+use reg_base::limits::MOST_RESENT;
+use reg_frames::{Body, Frame};
+use reg_front::LocalWrite;
+use reg_process::{Process, Put};
+use std::process::Abort;
+
+/// The frame at this place of those that were put for process 1, each with the write of 5.
+fn nth_put(place: usize) -> Put {
+    let number = place as u64;
+    let time = number.saturating_add(1);
+    let op = WRITE_FIVE;
+    let body = Body::Cast { time, op };
+    Put {
+        to: 1,
+        frame: Frame::Numbered { number, body },
+    }
+}
+
+fn are_first(puts: &[Put]) -> bool {
+    puts.iter()
+        .enumerate()
+        .all(|(place, put)| *put == nth_put(place))
+}
+
+/// One write more, and then a tick, which puts so many frames again.
+fn demand_again(rt: &impl Abort, process: &mut Process<LocalWrite>, count: usize) {
+    assert!(rt; process.call(WRITE_FIVE).is_ok());
+    let again = process.tick().expect(rt, "a tick");
+    assert!(rt;
+        again.frames.len() == count && are_first(again.frames.as_slice()),
+        "{count}"
+    );
+}
+
+#[test]
+fn tick_puts_the_first_sixteen(rt: HostRuntime) {
+    let mut process = started::<LocalWrite>(&rt, rt.alloc(), 2);
+    for count in 1..=16 {
+        demand_again(&rt, &mut process, count);
+    }
+    demand_again(&rt, &mut process, 16);
+    assert!(rt; MOST_RESENT == 16 && process.pending() == 17);
+}
+
+#[test]
+fn process_alone_puts_nothing(rt: HostRuntime) {
+    let mut process = started::<LocalWrite>(&rt, rt.alloc(), 1);
+    for _number in 0..17 {
+        let out = process.call(WRITE_FIVE).expect(&rt, "a write");
+        assert_eq!(rt; (out.frames.len(), out.delivered.len()), (0, 1));
+    }
+    let again = process.tick().expect(&rt, "a tick");
+    assert_eq!(rt; (process.pending(), again.frames.len()), (0, 0));
+}

@@ -1,0 +1,123 @@
+-- The events that a world accepted: each call names a register that there is.
+use Rattle.std.proofs.Common.{ℕ, zero, suc, ◌≡◌, ◌+◌, ◌<◌, ◌≤◌, ◌^◌, Bool, List, [], ◌∷◌, ◌++◌, length, Option, None, Some, refl, sym, ap, ◌∙◌, subst, arith, append_assoc, length-append}
+use Rattle.std.specs.Prelude.{slice_get, nat_lt, not, ◌&&◌, cond}
+use Rattle.std.proofs.lemmas.Bool.{cond_both, ltb-true, and_parts}
+use Rattle.std.proofs.lemmas.Option.{same_Some}
+use Rattle.reg_base.specs.declared.limits.TheConstants.{MOST_OPERATIONS, MOST_EVENTS, MOST_PROCESSES}
+use Rattle.reg_process.specs.declared.steps.Step.TheVariants.{Call as CallStep}
+use Rattle.reg_world.specs.Nodes.{Nodes, step_of}
+use Rattle.std.specs.Option.{is_some}
+use Rattle.reg_base.specs.declared.memory.Op.{Op}
+use Rattle.reg_base.specs.declared.memory.Op.TheVariants.{Read, Write, Swap}
+use Rattle.reg_base.specs.Memory.{register_of}
+use Rattle.reg_front.specs.declared.starts.Start.{Start}
+use Rattle.reg_process.specs.declared.steps.Step.{Step}
+use Rattle.reg_text.specs.Ops.{OpFits, HasValue}
+use Rattle.reg_toml.specs.Loads.{Load, IsLoad}
+use Rattle.reg_world.specs.declared.events.Event.{Event}
+use Rattle.reg_world.specs.declared.events.Event.TheVariants.{Call, Take, Tick}
+use Rattle.reg_world.specs.World.{World, empty_world, move_of, moved, happens, run, whole}
+use Rattle.reg_world.specs.Worlds.{Made, run_in}
+use Rattle.reg_world.proofs.Kept.{move_is}
+use Rattle.reg_workload.specs.Plays.{IsPlay}
+use Rattle.reg_workload.specs.Schedules.{EventFits, IsPlan, Plan}
+use Rattle.reg_commands.specs.Plays.{IsPlayBy, plan_of}
+use Rattle.std.specs.Io.KnownBytes.{Appends}
+use Rattle.reg_base.specs.Shape.{Extent}
+use Rattle.reg_front.specs.declared.named.Front.{Front}
+use Rattle.reg_world.proofs.Ahead.{same_extent}
+use Rattle.reg_show.specs.Schedules.{IsScheduleText, EventHasBits, ShowsSchedule, schedule_text}
+use Rattle.reg_show.proofs.Spelled.{schedule_spelled}
+
+step_grows : (start : Op → ℕ → Start) (w : World) (e : Event) (m : Option (ℕ × Step)) → length (moved start w e m).accepted ≤ length w.accepted + 1
+step_grows start w e None = omega arith
+step_grows start w e (Some m) = let l : length (w.accepted ++ e ∷ []) ≡ length w.accepted + 1 = length-append w.accepted (e ∷ []) in omega (arith, l)
+
+run_grows : (start : Op → ℕ → Start) (n registers : ℕ) (es : List Event) (w : World) → length (run start n registers es w).accepted ≤ length w.accepted + length es
+run_grows start n registers [] w = omega arith
+run_grows start n registers (e ∷ es) w =
+    let a = step_grows start w e (move_of n registers w e) in
+    let b = run_grows start n registers es (happens start n registers w e) in
+    omega (arith, a, b)
+
+call_known : (n registers : ℕ) (w : Nodes) (p : ℕ) (op : Op) (m : ℕ × Step) → step_of n registers w (Call p op) ≡ Some m → register_of op < registers
+call_known n registers w p op m =
+    cond_both (nat_lt p n && (not (is_some (w p).state.running) && (nat_lt (register_of op) registers && nat_lt (w p).state.calls MOST_OPERATIONS))) (Some (p, CallStep op)) None (λ (o : Option (ℕ × Step)). o ≡ Some m → register_of op < registers)
+    (λ e _.
+    let a = and_parts _ _ e in
+    let b = and_parts _ _ a.1 in
+    let c = and_parts _ _ b.1 in
+    ltb-true (register_of op) registers c.0)
+    (λ e h. absurd (cc))
+
+-- a call names a register that there is
+abbrev IsKnown : ℕ → Event → Type 0
+IsKnown registers (Call p op) = register_of op < registers
+IsKnown registers (Take from to i) = Unit {0}
+IsKnown registers (Tick p) = Unit {0}
+
+moved_known : (n registers : ℕ) (w : World) (e : Event) (m : ℕ × Step) → move_of n registers w e ≡ Some m → IsKnown registers e
+moved_known n registers w (Call p op) m is = call_known n registers w.nodes p op m (move_is n registers w (Call p op) m is).1
+moved_known n registers w (Take from to i) m is = tt
+moved_known n registers w (Tick p) m is = tt
+
+abbrev AllKnown : ℕ → List Event → Type 0
+AllKnown registers es = (k : ℕ) (e : Event) → slice_get es k ≡ Some e → IsKnown registers e
+
+-- where a run accepts its first event, it is known
+first_known : (start : Op → ℕ → Start) (n registers : ℕ) (x : Event) (es : List Event) (w : World) (m : Option (ℕ × Step)) → move_of n registers w x ≡ m
+    → (run start n registers es (moved start w x m)).accepted ≡ w.accepted ++ x ∷ es → IsKnown registers x × ((run start n registers es (moved start w x m)).accepted ≡ (moved start w x m).accepted ++ es)
+first_known start n registers x es w None is all =
+    let a : length (run start n registers es w).accepted ≡ length w.accepted + length (x ∷ es) = ap length all ∙ length-append w.accepted (x ∷ es) in
+    let b = run_grows start n registers es w in
+    absurd (omega (arith, a, b))
+first_known start n registers x es w (Some m) is all = (moved_known n registers w x m is, all ∙ sym (append_assoc w.accepted (x ∷ []) es))
+
+all_known : (start : Op → ℕ → Start) (n registers : ℕ) (es : List Event) (w : World) → (run start n registers es w).accepted ≡ w.accepted ++ es → (k : ℕ) (e : Event) → slice_get es k ≡ Some e → IsKnown registers e
+all_known start n registers [] w all k e h = absurd (cc)
+all_known start n registers (x ∷ es) w all zero e h = subst (IsKnown registers) (same_Some x e h) (first_known start n registers x es w (move_of n registers w x) refl all).0
+all_known start n registers (x ∷ es) w all (suc k) e h = all_known start n registers es (happens start n registers w x) (first_known start n registers x es w (move_of n registers w x) refl all).1 k e h
+
+op_fits : (names : List (List ℕ)) (op : Op) → register_of op < length names → HasValue op → OpFits names op
+op_fits names (Read r) known value = known
+op_fits names (Write r v) known value = (known, value)
+op_fits names (Swap r v) known value = (known, value)
+
+event_fits : (names : List (List ℕ)) (registers : ℕ) (e : Event) → registers ≡ length names → IsKnown registers e → EventHasBits e → EventFits names e
+event_fits names registers (Call p op) same known bits = (bits.0, op_fits names op (omega (arith, known, same)) bits.1)
+event_fits names registers (Take from to i) same known bits = bits
+event_fits names registers (Tick p) same known bits = bits
+
+-- what a play accepted is a schedule under the workload's front end and names
+pub play_schedule : (fair : Bool) (start : Op → ℕ → Start) (work : Load) (made : Made) (is_finished : Bool) → IsLoad work → IsPlayBy fair start work made is_finished → (run_in start made).accepted ≡ made.accepted
+    → ((k : ℕ) (e : Event) → slice_get made.accepted k ≡ Some e → EventHasBits e) → IsScheduleText (plan_of work made)
+play_schedule fair start work made is_finished load played all bits =
+    let play = played.play in
+    let processes : made.processes ≡ length work.scripts = play.processes ∙ load.processes in
+    let registers : made.registers ≡ length work.names = play.registers ∙ load.registers in
+    let known : AllKnown made.registers made.accepted = all_known start made.processes made.registers made.accepted (empty_world made.processes made.registers) all in
+    schedule_spelled (plan_of work made) (record {
+      names = load.names;
+      some_process = (let l = load.some_process in omega (arith, l, processes));
+      processes = (let l = load.few_processes in omega (arith, l, processes));
+      registers = registers;
+      events = λ k e h. event_fits work.names made.registers e registers (known k e h) (bits k e h);
+      few = (let a = play.few in let b = load.budget in omega (arith, a, b));
+    })
+
+-- the schedule that was written is that of the play
+pub shows_schedule : (fair : Bool) (start : Op → ℕ → Start) (work : Load) (made : Made) (is_finished : Bool) (old new : Option (List ℕ)) (shape : Extent) (names : List (List ℕ)) (front : Front) (events : List Event)
+    → shape ≡ work.shape → names ≡ work.names → front ≡ work.front → events ≡ made.accepted → IsLoad work → IsPlayBy fair start work made is_finished → (run_in start made).accepted ≡ made.accepted
+    → ((k : ℕ) (e : Event) → slice_get events k ≡ Some e → EventHasBits e)
+    → Appends old new (schedule_text (record { shape = shape; names = names; front = front; events = events })) → ShowsSchedule fair start old new work
+shows_schedule fair start work made is_finished old new shape names front events same_shape same_names same_front same_events load played all bits written =
+    let play = played.play in
+    let extent : shape ≡ record { processes = made.processes; registers = made.registers } = same_shape ∙ same_extent work.shape (record { processes = made.processes; registers = made.registers }) (sym play.processes) (sym play.registers) in
+    let same : record { shape = shape; names = names; front = front; events = events } ≡ plan_of work made = λ i. record { shape = extent i; names = same_names i; front = same_front i; events = same_events i } in
+    record {
+      made = made;
+      is_finished = is_finished;
+      played = played;
+      schedule = play_schedule fair start work made is_finished load played all (λ k e h. bits k e (ap (λ (l : List Event). slice_get l k) same_events ∙ h));
+      written = (let P : Plan → Type 0 = λ p. Appends old new (schedule_text p) in subst P same written);
+    }

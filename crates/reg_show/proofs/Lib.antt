@@ -1,0 +1,4 @@
+pub mod Spelled
+pub mod Accepted
+pub mod Written
+pub mod Behind

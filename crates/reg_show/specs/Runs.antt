@@ -1,0 +1,48 @@
+-- What is told of the run of a schedule.
+use Rattle.std.specs.Prelude.{ℕ, ◌≡◌, ◌≤◌, ◌<◌, List, length}
+use Rattle.reg_base.specs.declared.memory.Op.{Op}
+use Rattle.reg_front.specs.declared.starts.Start.{Start}
+use Rattle.reg_history.specs.declared.entries.Entry.{Entry}
+use Rattle.reg_history.specs.declared.entries.Point.{Point}
+use Rattle.reg_workload.specs.Schedules.{Plan, IsPlan, Spells}
+use Rattle.reg_commands.specs.Replays.{start_of, run_by, PointsOf}
+use Rattle.reg_commands.specs.Answers.{Blames}
+use Rattle.reg_commands.specs.declared.command.Command.TheVariants.{Replay}
+use Rattle.reg_show.specs.declared.commands.TheConstants.{MOST_DRAWN}
+use Rattle.reg_show.specs.declared.faults.ShowFault.{ShowFault}
+use Rattle.reg_show.specs.declared.faults.ShowFault.TheVariants.{Command, TooManyToDraw}
+use Rattle.reg_show.specs.Moments.{Fact, moments_of}
+
+-- All events of a plan are accepted, and these are its names, what its events did, and the history of its run.
+pub record IsTold (start : Op → ℕ → Start) (p : Plan) (names : List (List ℕ)) (facts : List Fact) (entries : List Entry) : Type 0 where
+  pub accepted : (run_by start p).accepted ≡ p.events
+  pub named : names ≡ p.names
+  pub did : facts ≡ moments_of start p.shape p.events
+  pub history : entries ≡ (run_by start p).history
+
+-- The text is that of a plan, all of whose events are accepted.
+pub record TellsRun (text : List ℕ) : Type 0 where
+  pub plan : Plan
+  pub good : IsPlan plan
+  pub read : Spells text plan
+  pub accepted : (run_by (start_of plan.front) plan).accepted ≡ plan.events
+
+-- The text is that of a plan with no more events than can be drawn, all of them accepted.
+pub record DrawsRun (text : List ℕ) : Type 0 where
+  pub plan : Plan
+  pub good : IsPlan plan
+  pub read : Spells text plan
+  pub accepted : (run_by (start_of plan.front) plan).accepted ≡ plan.events
+  pub few : length plan.events ≤ MOST_DRAWN
+
+-- The text is that of a plan with more events than can be drawn.
+pub record IsTooLong (text : List ℕ) : Type 0 where
+  pub plan : Plan
+  pub good : IsPlan plan
+  pub read : Spells text plan
+  pub many : MOST_DRAWN < length plan.events
+
+-- what a fault says of the schedule that is to be drawn
+abbrev pub BlamesDrawn : ShowFault → List ℕ → Type 0
+BlamesDrawn (Command fault) text = Blames Replay fault text
+BlamesDrawn TooManyToDraw text = IsTooLong text

@@ -1,0 +1,24 @@
+-- What is shown of a text, and what a fault says of it.
+use Rattle.std.specs.Prelude.{ℕ, List, Option}
+use Rattle.reg_commands.specs.declared.command.Command.TheVariants.{Play, Replay}
+use Rattle.reg_commands.specs.Answers.{Blames as BlamesCommand}
+use Rattle.reg_show.specs.declared.faults.ShowFault.{ShowFault}
+use Rattle.reg_show.specs.declared.faults.ShowFault.TheVariants.{Command, TooManyToDraw}
+use Rattle.reg_show.specs.declared.showing.Showing.{Showing}
+use Rattle.reg_show.specs.declared.showing.Showing.TheVariants.{Schedule, Trace, Draw}
+use Rattle.reg_show.specs.Runs.{TellsRun, DrawsRun, BlamesDrawn}
+use Rattle.reg_show.specs.Schedules.{WritesSchedule}
+
+-- what was read, and for a schedule what was written
+abbrev pub Shows : Showing → Option (List ℕ) → Option (List ℕ) → List ℕ → Type 0
+Shows (Schedule fair) old new text = WritesSchedule fair old new text
+Shows Trace old new text = TellsRun text
+Shows Draw old new text = DrawsRun text
+
+-- what a fault says of the input: what the command that reads the same says by it
+abbrev pub Blames : Showing → ShowFault → List ℕ → Type 0
+Blames (Schedule fair) (Command fault) text = BlamesCommand (Play fair) fault text
+Blames (Schedule fair) TooManyToDraw text = ⊥
+Blames Trace (Command fault) text = BlamesCommand Replay fault text
+Blames Trace TooManyToDraw text = ⊥
+Blames Draw fault text = BlamesDrawn fault text

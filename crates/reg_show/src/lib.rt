@@ -1,0 +1,22 @@
+//! What a run did, shown: the schedule of a play, what happened event by event, and a drawing.
+#![tactic(auto)]
+
+mod commands;
+mod drawing;
+mod faults;
+mod figures;
+mod layout;
+mod moments;
+mod running;
+mod schedule_text;
+mod scheduling;
+mod showing;
+mod telling;
+mod trace_text;
+
+pub use faults::ShowFault;
+pub use figures::{Arrow, Bar, End, arrows, bars};
+pub use moments::{Moment, Sent, tell_events};
+pub use running::show_text;
+pub use schedule_text::{EventLine, line_of, write_schedule};
+pub use showing::Showing;

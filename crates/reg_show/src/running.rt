@@ -1,0 +1,79 @@
+//! Showing a text over any reader and writer.
+ghost use Rattle.std.specs.Prelude.{◌≡◌, ◌≢◌, ◌≤◌, IfOk, IfErr, OnOk, IfSome, length};
+ghost use Rattle.reg_base.specs.declared.limits.TheConstants.{LONGEST_INPUT};
+ghost use Rattle.reg_show.specs.declared.faults.ShowFault.{ShowFault as AnyFault};
+ghost use Rattle.reg_show.specs.Showings.{Blames, Shows};
+
+use crate::commands::{draw, trace};
+use crate::faults::ShowFault;
+use crate::scheduling::schedule;
+use crate::showing::Showing;
+use reg_commands::{Fault, read_input};
+use std::alloc::{Allocator, Global};
+use std::io::{Read, Write};
+
+fn show<A: Allocator + Copy, W: Write>(
+    alloc: A,
+    global: Global,
+    showing: Showing,
+    text: &str,
+    writer: &mut W,
+) -> Result<(), ShowFault>
+    ensures ok { IfOk result (λ _. Shows showing (W.contents writer.old) (W.contents writer.new) text.now) }
+    ensures why { IfErr result (λ f. Blames showing f text.now) }
+    ensures silent { IfErr result (λ f. f ≢ ShowFault.Command Fault.Output → writer.new ≡ writer.old) }
+{
+    let shown = match showing {
+        Showing::Schedule { fair } => schedule(alloc, global, text, fair, writer),
+        Showing::Trace => trace(alloc, text, writer),
+        Showing::Draw => return draw(alloc, text, writer),
+    };
+    match shown {
+        Ok(()) => Ok(()),
+        Err(fault) => Err(ShowFault::Command { fault }),
+    }
+}
+
+fn obey<A: Allocator + Copy, R: Read, W: Write>(
+    alloc: A,
+    global: Global,
+    showing: Showing,
+    reader: &mut R,
+    writer: &mut W,
+) -> Result<(), ShowFault>
+    ensures ok { IfOk result (λ _. IfSome (R.remaining reader.old) (Shows showing (W.contents writer.old) (W.contents writer.new))) }
+    ensures within { OnOk result (IfSome (R.remaining reader.old) (λ xs. length xs ≤ LONGEST_INPUT)) }
+    ensures why { IfErr result (λ f. IfSome (R.remaining reader.old) (Blames showing f)) }
+    ensures silent { IfErr result (λ f. f ≢ ShowFault.Command Fault.Output → writer.new ≡ writer.old) }
+{
+    match read_input(alloc, reader) {
+        Ok(text) => show(alloc, global, showing, text.as_str(), writer),
+        Err(fault) => Err(ShowFault::Command { fault }),
+    }
+}
+
+/// Shows what the text on the reader says: it reads the whole input, and writes once all of it is accepted. The answer is
+/// the status: 0, or 1 where something was refused, with one line on `errors`. That `errors` fails changes no status. The
+/// table of a workload is kept in the global heap, all else in the other one.
+pub fn show_text<A: Allocator + Copy, R: Read, W: Write, E: Write>(
+    alloc: A,
+    global: Global,
+    showing: Showing,
+    reader: &mut R,
+    writer: &mut W,
+    errors: &mut E,
+) -> u8
+    ensures range { result ≤ 1 }
+    ensures within { result ≡ 0 → IfSome (R.remaining reader.old) (λ xs. length xs ≤ LONGEST_INPUT) }
+    ensures shown { result ≡ 0 → IfSome (R.remaining reader.old) (Shows showing (W.contents writer.old) (W.contents writer.new)) }
+    ensures refused { result ≡ 1 → (f : AnyFault) × IfSome (R.remaining reader.old) (Blames showing f) × (f ≢ ShowFault.Command Fault.Output → writer.new ≡ writer.old) }
+    ensures quiet { result ≡ 0 → errors.new ≡ errors.old }
+{
+    match obey(alloc, global, showing, reader, writer) {
+        Ok(()) => 0,
+        Err(fault) => {
+            let _ = writeln!(errors, "{fault}");
+            1
+        }
+    }
+}

@@ -1,0 +1,107 @@
+//! The command that prints the schedule of a play.
+ghost use Rattle.std.specs.Prelude.{◌≡◌, ◌≢◌, ◌⊎◌, ℕ, Bool, IfOk, IfErr, OnOk, Some, slice_get};
+ghost use Rattle.std.specs.Io.KnownBytes.{Appends};
+ghost use Rattle.reg_world.specs.declared.events.Event.{Event};
+ghost use Rattle.reg_world.specs.Worlds.{Made};
+ghost use Rattle.reg_commands.specs.Answers.{Blames};
+ghost use Rattle.reg_commands.specs.Plays.{IsPlayBy, plan_of};
+ghost use Rattle.reg_commands.specs.Replays.{start_of};
+ghost use Rattle.reg_commands.specs.declared.command.Command.TheVariants.{Play};
+ghost use Rattle.reg_workload.specs.Schedules.{Plan};
+ghost use Rattle.reg_show.specs.Schedules.{EventHasBits, IsScheduleText, ShowsSchedule, WritesSchedule, schedule_text};
+
+use crate::schedule_text::write_schedule;
+use reg_base::{Names, Shape};
+use reg_commands::{Fault, play_by, read_workload};
+use reg_front::{Front, FrontEnd, Linear, LocalRead, LocalWrite};
+use reg_workload::Workload;
+use reg_world::Event as AnyEvent;
+use std::alloc::{Allocator, Global};
+use std::io::Write;
+
+// The numbers of an event are within their types. It does nothing: its contract says so.
+fn event_has_bits(event: AnyEvent)
+    ensures { EventHasBits event }
+{}
+
+// So are those of all events. It does nothing: its contract says so.
+fn events_have_bits(events: &[AnyEvent])
+    ensures { (k : ℕ) (e : Event) → slice_get events.now k ≡ Some e → EventHasBits e }
+{
+    for event in events {
+        event_has_bits(*event);
+    }
+}
+
+/// Writes the text of a schedule, to the last byte.
+fn send<A: Allocator + Copy, W: Write>(
+    writer: &mut W,
+    shape: Shape,
+    names: &Names<A>,
+    front: Front,
+    events: &[AnyEvent],
+) -> Result<(), Fault>
+    ensures ok { let plan : Plan = record { shape = shape; names = names.now; front = front; events = events.now } in
+        OnOk result (Appends (W.contents writer.old) (W.contents writer.new) (schedule_text plan)) }
+    ensures why { IfErr result (λ f. f ≡ Fault.Output) }
+{
+    if write_schedule(writer, shape, names, front, events).is_err() || writer.flush().is_err() {
+        return Err(Fault::Output);
+    }
+    Ok(())
+}
+
+/// Plays a workload, and writes the schedule of the play.
+fn write_play<F: FrontEnd, A: Allocator + Copy, W: Write>(
+    alloc: A,
+    work: &Workload<A>,
+    fair: bool,
+    writer: &mut W,
+) -> Result<(), Fault>
+    ensures ok { IfOk result (λ _. ShowsSchedule fair F.start (W.contents writer.old) (W.contents writer.new) work.now) }
+    ensures why { IfErr result (λ f. (f ≡ Fault.Output) ⊎ (f ≡ Fault.OutOfMemory)) }
+    ensures silent { IfErr result (λ f. f ≢ Fault.Output → writer.new ≡ writer.old) }
+{
+    let Ok(play) = play_by::<F, A>(alloc, work, fair) else {
+        return Err(Fault::OutOfMemory);
+    };
+    let events = play.world.accepted();
+    events_have_bits(events);
+    send(writer, work.shape, &work.names, work.front, events)?;
+    Ok(())
+}
+
+/// The same, by the front end of the workload.
+fn write_workload<A: Allocator + Copy, W: Write>(
+    alloc: A,
+    work: &Workload<A>,
+    fair: bool,
+    writer: &mut W,
+) -> Result<(), Fault>
+    ensures ok { IfOk result (λ _. ShowsSchedule fair (start_of work.now.front) (W.contents writer.old) (W.contents writer.new) work.now) }
+    ensures why { IfErr result (λ f. (f ≡ Fault.Output) ⊎ (f ≡ Fault.OutOfMemory)) }
+    ensures silent { IfErr result (λ f. f ≢ Fault.Output → writer.new ≡ writer.old) }
+{
+    match work.front {
+        Front::Linear => write_play::<Linear, A, W>(alloc, work, fair, writer),
+        Front::LocalRead => write_play::<LocalRead, A, W>(alloc, work, fair, writer),
+        Front::LocalWrite => write_play::<LocalWrite, A, W>(alloc, work, fair, writer),
+    }
+}
+
+/// Reads a workload, plays it, and writes the schedule of the play: `awreg replay` makes of it the report that `awreg play`
+/// makes of the workload.
+pub(crate) fn schedule<A: Allocator + Copy, W: Write>(
+    alloc: A,
+    global: Global,
+    text: &str,
+    fair: bool,
+    writer: &mut W,
+) -> Result<(), Fault>
+    ensures ok { IfOk result (λ _. WritesSchedule fair (W.contents writer.old) (W.contents writer.new) text.now) }
+    ensures why { IfErr result (λ f. Blames (Play fair) f text.now) }
+    ensures silent { IfErr result (λ f. f ≢ Fault.Output → writer.new ≡ writer.old) }
+{
+    let work = read_workload(alloc, global, text)?;
+    write_workload(alloc, &work, fair, writer)
+}

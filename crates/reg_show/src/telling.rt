@@ -1,0 +1,99 @@
+//! What is told of a schedule's run.
+ghost use Rattle.std.specs.Prelude.{◌≡◌, None, IfOk, IfErr, option_map};
+ghost use Rattle.reg_commands.specs.Replays.{start_of, BlamesRun, PointsOf, ShowsPoints};
+ghost use Rattle.reg_show.specs.Moments.{moments_of};
+ghost use Rattle.reg_show.specs.Runs.{IsTold};
+
+use crate::moments::{Moment, tell_events};
+use reg_base::Names;
+use reg_commands::{Fault, Ran, read_schedule, run_events};
+use reg_front::{Front, FrontEnd, Linear, LocalRead, LocalWrite, RealTime};
+use reg_history::{History, Point};
+use reg_workload::Schedule;
+use reg_world::World;
+use std::alloc::Allocator;
+
+/// What is told of a schedule's run: its names, what each event did, the history, and the points where there are any.
+#[derive(Drop)]
+pub struct Told<A: Allocator + Copy> {
+    pub names: Names<A>,
+    pub moments: Vec<Moment<A>, A>,
+    pub history: History<A>,
+    pub points: Option<Vec<Point, A>>,
+}
+
+/// What each event of a world did.
+fn moments_in<F: FrontEnd, A: Allocator + Copy>(
+    alloc: A,
+    world: &World<F, A>,
+) -> Result<Vec<Moment<A>, A>, Fault>
+    ensures told { IfOk result (λ v. v.items ≡ moments_of F.start (record { processes = world.now.processes; registers = world.now.registers }) world.now.accepted) }
+    ensures why { IfErr result (λ f. f ≡ Fault.OutOfMemory) }
+{
+    match tell_events::<F, A>(alloc, world.shape(), world.accepted()) {
+        Ok(moments) => Ok(moments),
+        Err(_) => Err(Fault::OutOfMemory),
+    }
+}
+
+/// Runs a schedule whose front end has no points, and tells what happened.
+fn tell_run<F: FrontEnd, A: Allocator + Copy>(
+    alloc: A,
+    schedule: Schedule<A>,
+) -> Result<Told<A>, Fault>
+    ensures told { IfOk result (λ t. IsTold F.start schedule t.names t.moments.items t.history.entries) }
+    ensures points { IfOk result (λ t. t.points ≡ None) }
+    ensures why { IfErr result (λ f. BlamesRun F.start schedule f) }
+{
+    let Ran {
+        world,
+        names,
+        front: _front,
+    } = run_events::<F, A>(alloc, schedule)?;
+    let moments = moments_in(alloc, &world)?;
+    Ok(Told {
+        names,
+        moments,
+        history: world.into_history(),
+        points: None,
+    })
+}
+
+/// Runs a schedule whose front end has points, and tells what happened.
+fn tell_run_with_points<F: RealTime, A: Allocator + Copy>(
+    alloc: A,
+    schedule: Schedule<A>,
+) -> Result<Told<A>, Fault>
+    ensures told { IfOk result (λ t. IsTold F.start schedule t.names t.moments.items t.history.entries) }
+    ensures points { IfOk result (λ t. ShowsPoints F.start schedule (option_map (λ v. v.items) t.points)) }
+    ensures why { IfErr result (λ f. BlamesRun F.start schedule f) }
+{
+    let Ran {
+        world,
+        names,
+        front: _front,
+    } = run_events::<F, A>(alloc, schedule)?;
+    let moments = moments_in(alloc, &world)?;
+    let Ok(points) = world.points() else {
+        return Err(Fault::OutOfMemory);
+    };
+    Ok(Told {
+        names,
+        moments,
+        history: world.into_history(),
+        points: Some(points),
+    })
+}
+
+/// Runs a schedule, and tells what happened.
+pub fn tell_schedule<A: Allocator + Copy>(alloc: A, schedule: Schedule<A>) -> Result<Told<A>, Fault>
+    ensures told { IfOk result (λ t. IsTold (start_of schedule.front) schedule t.names t.moments.items t.history.entries) }
+    ensures points { IfOk result (λ t. PointsOf schedule.front schedule (option_map (λ v. v.items) t.points)) }
+    ensures why { IfErr result (λ f. BlamesRun (start_of schedule.front) schedule f) }
+{
+    match schedule.front {
+        Front::Linear => tell_run_with_points::<Linear, A>(alloc, schedule),
+        Front::LocalRead => tell_run::<LocalRead, A>(alloc, schedule),
+        Front::LocalWrite => tell_run::<LocalWrite, A>(alloc, schedule),
+    }
+}

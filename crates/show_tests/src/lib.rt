@@ -1,0 +1,6 @@
+//! Tests of what is shown of a text, over the public calls.
+#![tactic(auto)]
+
+#[cfg(test)]
+mod shown;
+pub mod values;

@@ -1,0 +1,177 @@
+//! Schedules, traces and drawings of texts, with what was worked out by hand from the rules.
+use crate::values::shown;
+use reg_commands::{Command, run_text};
+use reg_show::Showing;
+use std::alloc::Global;
+use std::process::Abort;
+use std::test::Fail;
+
+/// A write that is done once the other process has acknowledged its cast.
+const WRITE: &str = "processes 2
+registers x
+front linear
+call 0 write x 5
+take 0 1 0
+take 1 0 1
+";
+
+const WRITE_TRACE: &str = "0 call 0 write x 5
+    clock 1
+    puts data 0: cast (1, 0) write x 5 (take 0 1 0)
+1 take 0 1 0
+    takes data 0: cast (1, 0) write x 5
+    clock 2
+    delivers (1, 0) write x 5
+    puts count 1 (take 1 0 0)
+    puts data 0: acknowledgement (2, 1) (take 1 0 1)
+2 take 1 0 1
+    takes data 0: acknowledgement (2, 1)
+    clock 3
+    delivers (1, 0) write x 5
+    answers done, place 0
+    puts count 1 (take 0 1 1)
+";
+
+/// A read that is held between two deliveries of one event.
+const HELD: &str = "processes 2
+registers x
+front local-write
+call 0 write x 1
+call 1 write x 2
+call 0 read x
+take 1 0 0
+";
+
+const HELD_TRACE: &str = "0 call 0 write x 1
+    clock 1
+    answers done, place 0
+    puts data 0: cast (1, 0) write x 1 (take 0 1 0)
+1 call 1 write x 2
+    clock 1
+    answers done, place 0
+    puts data 0: cast (1, 1) write x 2 (take 1 0 0)
+2 call 0 read x
+    clock 1
+3 take 1 0 0
+    takes data 0: cast (1, 1) write x 2
+    clock 2
+    delivers (1, 0) write x 1
+    delivers (1, 1) write x 2
+    answers value 1, place 1
+    puts count 1 (take 0 1 1)
+    puts data 1: acknowledgement (2, 0) (take 0 1 2)
+";
+
+/// A frame that is put again, and one that is taken twice.
+const AGAIN: &str = "processes 2
+registers x
+front local-read
+call 0 swap x 7
+tick 0
+take 0 1 1
+take 0 1 0
+";
+
+const AGAIN_TRACE: &str = "0 call 0 swap x 7
+    clock 1
+    puts data 0: cast (1, 0) swap x 7 (take 0 1 0)
+1 tick 0
+    clock 1
+    puts data 0: cast (1, 0) swap x 7 (take 0 1 1)
+2 take 0 1 1
+    takes data 0: cast (1, 0) swap x 7
+    clock 2
+    delivers (1, 0) swap x 7
+    puts count 1 (take 1 0 0)
+    puts data 0: acknowledgement (2, 1) (take 1 0 1)
+3 take 0 1 0
+    takes data 0: cast (1, 0) swap x 7
+    clock 2
+    puts count 1 (take 1 0 2)
+";
+
+const WORK: &str = "front = \"local-write\"
+registers = [\"x\", \"yz\"]
+scripts = [[\"write x 5\", \"swap yz 6\", \"read x\"], [\"read yz\", \"write x 7\"], []]
+seed = 3
+loss = 20
+repeat = 20
+budget = 60
+";
+
+/// The status, the output and the faults.
+fn demand(rt: &impl Abort, alloc: Global, showing: Showing, text: &str, told: (u8, &str, &str)) {
+    let (status, output, errors) = shown(alloc, showing, text.as_bytes());
+    let (wanted, written, fault) = told;
+    assert!(rt; output.as_slice() == written.as_bytes(), "{text}");
+    assert!(rt; errors.as_slice() == fault.as_bytes(), "{text}");
+    assert_eq!(rt; status, wanted, "{text}");
+}
+
+#[test]
+fn traces_are_those_worked_by_hand(rt: HostRuntime) {
+    for (text, trace) in [
+        (WRITE, WRITE_TRACE),
+        (HELD, HELD_TRACE),
+        (AGAIN, AGAIN_TRACE),
+        ("processes 1\nregisters x\nfront linear\n", ""),
+    ] {
+        demand(&rt, rt.alloc(), Showing::Trace, text, (0, trace, ""));
+    }
+}
+
+#[test]
+fn bad_input_is_told_in_one_line(rt: HostRuntime) {
+    let head = "processes 2\nregisters x\nfront linear\n";
+    let early = "processes 2\nregisters x\nfront linear\ntake 0 1 0\n";
+    for (showing, text, fault) in [
+        (Showing::Trace, "", "line 1: end\n"),
+        (Showing::Draw, "processes 0\n", "line 1: range\n"),
+        (Showing::Trace, early, "event 0: no frame\n"),
+        (Showing::Draw, early, "event 0: no frame\n"),
+        (Showing::Schedule { fair: true }, head, "toml\n"),
+    ] {
+        demand(&rt, rt.alloc(), showing, text, (1, "", fault));
+    }
+}
+
+#[test]
+fn a_drawing_has_at_most_400_events(rt: HostRuntime) -> Result<(), Fail> {
+    let alloc = rt.alloc();
+    let mut text = String::from_str(alloc, "processes 1\nregisters x\nfront linear\n")?;
+    for _ in 0..400 {
+        text.push_str("tick 0\n")?;
+    }
+    let (status, output, errors) = shown(alloc, Showing::Draw, text.as_bytes());
+    assert!(rt; status == 0 && errors.is_empty() && output.as_slice().starts_with(b"<svg "));
+    text.push_str("tick 0\n")?;
+    let told = (1, "", "too many events to draw\n");
+    demand(&rt, alloc, Showing::Draw, text.as_str(), told);
+    Ok(())
+}
+
+#[test]
+fn the_schedule_of_a_play_replays_to_the_report_of_the_play(rt: HostRuntime) {
+    let alloc = rt.alloc();
+    for fair in [false, true] {
+        let showing = Showing::Schedule { fair };
+        let (status, text, mut errors) = shown(alloc, showing, WORK.as_bytes());
+        assert_eq!(rt; status, 0);
+        let (mut replayed, mut played) = (Vec::new(alloc), Vec::new(alloc));
+        let mut reader = text.as_slice();
+        let status = run_text(
+            alloc,
+            alloc,
+            Command::Replay,
+            &mut reader,
+            &mut replayed,
+            &mut errors,
+        );
+        assert_eq!(rt; status, 0);
+        let mut work = WORK.as_bytes();
+        let command = Command::Play { fair };
+        let status = run_text(alloc, alloc, command, &mut work, &mut played, &mut errors);
+        assert!(rt; status == 0 && errors.is_empty() && !played.is_empty());
+        assert!(rt; replayed.as_slice() == played.as_slice(), "{fair}");
+    }
+}

@@ -1,0 +1,23 @@
+//! Shared registers over totally ordered broadcast: what a program of one's own needs, in one place. `docs/LIBRARY.md` is the
+//! tour. But for three short names of operations, all of it is what the crates below offer, under their own contracts.
+#![tactic(auto)]
+
+mod operations;
+
+pub use operations::{read, swap, write};
+pub use reg_base::{Answer, Names, NamesFault, Op, OpId, Shape, ShapeFault, Stamp, limits};
+pub use reg_front::{FrontEnd, Linear, LocalRead, LocalWrite, RealTime, Start};
+pub use reg_history::{
+    CheckFault, Entry, History, HistoryFault, Point, ReadFault, ReadWhy, Report, ReportFault,
+    WriteFault, check_points, check_serial, read_report, write_report,
+};
+pub use reg_live::{
+    CloseFault, Closed, Cluster, Courier, Gate, Honest, LiveFault, LogEntry, NoGate, Pacer, Parcel,
+    Parts, Pass, Posts, Receipt, Road, Rough, RunStop, close, run_scripts, set_up, verify,
+};
+pub use reg_process::Reply;
+pub use reg_workload::{
+    Key, Play, Schedule, ScheduleFault, SeedWords, Words, Workload, WorkloadFault, parse_schedule,
+    play_fair, play_seeded,
+};
+pub use reg_world::{CopyRead, Event, First, RunFault, World, WorldFault};
