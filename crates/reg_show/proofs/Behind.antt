@@ -91,13 +91,13 @@ pub told_is : (start : Op → ℕ → Start) (w : Made) (e : Event) (new : Made)
     → record { event = e; process = p; frame = frame; clock = clock; delivered = delivered; reply = reply; sent = sent } ≡ moment_of start w e
 told_is start w e new p frame clock delivered reply sent before after lengths is_new is_p is_frame is_clock is_before is_after is_delivered is_reply are_lengths is_sent =
     let same : puts_since p lengths ((run_in start new).nodes p).wire w.processes ≡ puts_since p (λ to. length (((run_in start w).nodes p).wire to)) ((run_in start new).nodes p).wire w.processes =
-        puts_same p lengths (λ to. length (((run_in start w).nodes p).wire to)) ((run_in start new).nodes p).wire w.processes are_lengths in
+    puts_same p lengths (λ to. length (((run_in start w).nodes p).wire to)) ((run_in start new).nodes p).wire w.processes are_lengths in
     let count : new.processes ≡ w.processes = ap Made.processes is_new in
     let sent_is : sent ≡ puts_since p (λ to. length (((run_in start w).nodes p).wire to)) ((run_in start new).nodes p).wire w.processes = is_sent ∙ (ap (puts_since p lengths ((run_in start new).nodes p).wire) count ∙ same) in
     let delivered_is : delivered ≡ drop ((run_in start w).nodes p).state.delivered (take ((run_in start new).nodes p).state.delivered (map delivered_of (run_in start new).order)) =
-        is_delivered ∙ ap₂ (λ (a b : ℕ). drop a (take b (map delivered_of (run_in start new).order))) is_before is_after in
+    is_delivered ∙ ap₂ (λ (a b : ℕ). drop a (take b (map delivered_of (run_in start new).order))) is_before is_after in
     let here : record { event = e; process = p; frame = frame; clock = clock; delivered = delivered; reply = reply; sent = sent } ≡ moment_between w.processes e p (reply_in start w e) (run_in start w) (run_in start new) =
-        λ i. record { event = e; process = p; frame = is_frame i; clock = is_clock i; delivered = delivered_is i; reply = is_reply i; sent = sent_is i } in
+    λ i. record { event = e; process = p; frame = is_frame i; clock = is_clock i; delivered = delivered_is i; reply = is_reply i; sent = sent_is i } in
     here ∙ ap₂ (λ (q : ℕ) (v : Made). moment_between w.processes e q (reply_in start w e) (run_in start w) (run_in start v)) is_p is_new
 
 -- one more length

@@ -16,7 +16,7 @@ loop-to-preserved g c =
       | in-Some w ↦ (
         ap length w.lengths-is ∙ (length-set c.loop-to.lengths w.from.result (length w.in-Some.frames.now) ∙ c.loop-to.invariant.0),
         λ k lt ne. ap (λ l. slice_index l k) (w.lengths-is ∙ ap (λ j. set c.loop-to.lengths j (length w.in-Some.frames.now)) w.from.ensures)
-        ∙ length_noted c.loop-to.lengths wire c.args.process c.loop-to.to (length w.in-Some.frames.now) c.loop-to.invariant.1 room (ap length (w.in-Some.ensures.3 c.requires.going)) k lt ne,
+            ∙ length_noted c.loop-to.lengths wire c.args.process c.loop-to.to (length w.in-Some.frames.now) c.loop-to.invariant.1 room (ap length (w.in-Some.ensures.3 c.requires.going)) k lt ne,
       )
       | in_default w ↦ (
         ap length w.lengths-is ∙ c.loop-to.invariant.0,
