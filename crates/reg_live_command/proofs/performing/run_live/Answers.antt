@@ -1,4 +1,4 @@
 use Rattle.reg_live_command.proofs.performing.run_live.Goals as goal
 
 pub returns-in-Err-clause-refused : goal.returns-in-Err-clause-refused
-returns-in-Err-clause-refused g c = λ _. (c.in-Err.stop, c.in-Err.ensures.why, c.in-Err.ensures.silent)
+returns-in-Err-clause-refused g c = λ _. (c.in-Err.stop, c.in-Err.ensures.why, c.in-Err.ensures.silent, c.in-Err.ensures.part)
