@@ -39,7 +39,8 @@ behind_call names rest text (Some why) e only t = (
     known = λ other name digits i f h here. let P : List ℕ → Type 0 = λ l. IsWriteForm l name digits ⊎ IsSwapForm l name digits in known_as names text why name digits i t (subst P (sym (only other f)) h) here;
     unknown = λ other name digits f h none. let P : List ℕ → Type 0 = λ l. IsWriteForm l name digits ⊎ IsSwapForm l name digits in unknown_as names text why name digits t (subst P (sym (only other f)) h) none;
   },
-  t.form.1)
+  t.form.1,
+)
 
 pub call_whole : (rest text : List ℕ) (r : Option Why) → rest ≡ codes "call    " ++ text → ((other : List ℕ) → rest ≡ codes "call    " ++ other → text ≡ other) → (HasOpForm text → IsSome r) → HasTailForm rest → IsSome r
 call_whole rest text r e only good (inl h) = let P : List ℕ → Type 0 = λ l. HasOpForm l in good (subst P (sym (only h.0 h.1.0)) h.1.1)
