@@ -1,5 +1,5 @@
 -- A number in front of a mark, with the spaces that fill its column.
-use Rattle.std.proofs.Common.{ℕ, zero, suc, ◌≡◌, ◌+◌, ◌-◌, ◌≤◌, List, ◌∷◌, ◌++◌, length, take, drop, min, replicate, Result, Ok, Err, Option, OnOk, refl, sym, ap, subst, ◌∙◌, append_assoc, arith}
+use Rattle.std.proofs.Common.{ℕ, zero, suc, ◌≡◌, ◌+◌, ◌-◌, ◌≤◌, List, ◌∷◌, ◌++◌, length, take, drop, min, replicate, refl, sym, ap, ◌∙◌, append_assoc, arith}
 use Rattle.reg_text.specs.Columns.{to_right, to_left}
 use Rattle.std.proofs.lemmas.List.{take-append-drop, length-append, length-replicate, length-drop, take_all}
 

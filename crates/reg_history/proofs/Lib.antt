@@ -21,3 +21,5 @@ pub mod Whole
 pub mod Writing
 pub mod WithinLimits
 pub mod Columned
+mod Numerals
+mod Tails

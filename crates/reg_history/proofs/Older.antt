@@ -1,5 +1,5 @@
 -- What is within the limits of any version is within those of version 2.
-use Rattle.std.proofs.Common.{ℕ, ◌≡◌, ◌≤◌, ◌⊎◌, inl, inr, List, ◌∷◌, ◌++◌, [], Option, None, Some, arith, refl, sym, ap, get_or, ◌∙◌}
+use Rattle.std.proofs.Common.{ℕ, ◌≡◌, ◌≤◌, inl, inr, List, ◌∷◌, ◌++◌, [], Option, None, Some, arith, refl, sym, ap, get_or, ◌∙◌}
 use Rattle.reg_base.specs.declared.limits.TheConstants.{MOST_PROCESSES, MOST_REGISTERS}
 use Rattle.reg_base.specs.declared.memory.OpId.{OpId}
 use Rattle.reg_history.specs.declared.entries.Entry.{Entry}
@@ -9,7 +9,7 @@ use Rattle.reg_history.specs.declared.versions.Version.{Version}
 use Rattle.reg_history.specs.declared.versions.Version.TheVariants.{One, Two}
 use Rattle.reg_history.specs.Versions.{most_processes, most_registers}
 use Rattle.reg_history.specs.EntryLines.{EntryFits, ColumnsFit}
-use Rattle.reg_history.specs.IdLines.{IdFits, PointFits}
+use Rattle.reg_history.specs.IdLines.{IdFits}
 use Rattle.reg_history.specs.Reports.{Contents, IsReport, IsReportIn, IsTextOf, PointsFit, text_in}
 
 pub few_processes : (version : Version) → most_processes version ≤ MOST_PROCESSES

@@ -1,5 +1,5 @@
 -- The lines as they are written are those of the text.
-use Rattle.std.proofs.Common.{ℕ, ◌≡◌, ◌+◌, ◌-◌, replicate, arith, List, [], ◌∷◌, ◌++◌, length, map, codes, Option, Some, None, refl, sym, ap, subst, ◌∙◌, append_assoc, append-nil, ◌<◌, take, get_or}
+use Rattle.std.proofs.Common.{ℕ, ◌≡◌, ◌+◌, ◌-◌, replicate, arith, List, [], ◌∷◌, ◌++◌, length, map, codes, Option, Some, refl, sym, ap, subst, ◌∙◌, append_assoc, append-nil, ◌<◌, take, get_or}
 use Rattle.std.specs.Fmt.{decimal}
 use Rattle.reg_text.specs.declared.writing.Sink.{Sink}
 use Rattle.reg_text.specs.Writing.{Puts}

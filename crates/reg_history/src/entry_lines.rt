@@ -1,19 +1,21 @@
 //! Readers of the lines of a history.
-ghost use Rattle.std.specs.Prelude.{◌≡◌, ◌↔◌, ◌⊎◌, ◌++◌, ℕ, List, true, codes, None, Some, IfSome, IsSomeAnd, IsTrue};
+ghost use Rattle.std.specs.Prelude.{◌≡◌, ◌↔◌, ◌⊎◌, ◌++◌, ℕ, List, true, codes, None, Some, IfSome, IsSome, IsSomeAnd, IsTrue};
 ghost use Rattle.reg_base.specs.Names.{names_fault};
 ghost use Rattle.reg_base.specs.declared.memory.Answer.{Answer};
 ghost use Rattle.reg_history.specs.declared.entries.Entry.{Entry};
-ghost use Rattle.reg_history.specs.EntryLines.{answer_text, AnswerFits, columns_text, ColumnsFit, entry_text, EntryFits, HasAnswerForm, HasTailForm};
+ghost use Rattle.reg_text.specs.declared.faults.Why.{Why as AnyWhy};
+ghost use Rattle.reg_history.specs.EntryLines.{answer_text, AnswerFits, AreWithin, columns_text, ColumnsFit, entry_text, EntryFits, HasAnswerForm, HasColumns, HasEntryForm, HasTailForm, IsTailWhy};
+ghost use Rattle.reg_history.specs.ReadFaults.{why_of};
 ghost use Rattle.reg_text.specs.Forms.{is_numeral as is_numeral_of};
 
+use crate::column_forms::columns_form;
 use crate::entries::Entry;
 use crate::report_faults::ReadWhy;
 use crate::versions::Version;
 use reg_base::limits::{LAST_EVENT, MOST_OPERATIONS};
 use reg_base::{Answer, Names, OpId};
 use reg_text::{
-    Why, cut, form, in_front, is_numeral, left_field, numeral, op_form, read_op, right_field, skip,
-    within,
+    Why, form, is_numeral, left_field, numeral, op_form, read_op, right_field, skip, within,
 };
 use std::alloc::Allocator;
 
@@ -73,17 +75,6 @@ pub fn read_entry<A: Allocator + Copy>(
     Some(Entry::Answered { at, id, answer })
 }
 
-fn behind(bytes: &[u8]) -> &[u8] {
-    let mut rest = bytes;
-    for _ in 0..bytes.len() {
-        match skip(rest, b" ") {
-            Some(after) => rest = after,
-            None => return rest,
-        }
-    }
-    rest
-}
-
 fn answer_form(text: &[u8]) -> Option<Why>
     ensures read { IfSome result (λ why. HasAnswerForm text.now × (why ≡ Why.Range)) }
     ensures done { text.now ≡ codes "done" → result ≡ Some Why.Range }
@@ -97,8 +88,10 @@ fn answer_form(text: &[u8]) -> Option<Why>
     Some(Why::Range)
 }
 
+/// Why what stands behind the columns is not read. None where its form is not kept.
 fn tail_form<A: Allocator + Copy>(rest: &[u8], names: &Names<A>) -> Option<Why>
-    ensures { IfSome result (λ why. HasTailForm rest.now × ((why ≡ Why.Range) ⊎ (why ≡ Why.Name))) }
+    ensures read { IfSome result (λ why. HasTailForm rest.now × IsTailWhy names.now rest.now why × ((why ≡ Why.Range) ⊎ (why ≡ Why.Name))) }
+    ensures whole { HasTailForm rest.now → IsSome result }
 {
     match skip(rest, b"call    ") {
         Some(text) => op_form(text, names),
@@ -106,33 +99,37 @@ fn tail_form<A: Allocator + Copy>(rest: &[u8], names: &Names<A>) -> Option<Why>
     }
 }
 
-fn entry_form<A: Allocator + Copy>(line: &[u8], names: &Names<A>, version: Version) -> Option<Why>
-    ensures { IfSome result (λ why. (why ≡ Why.Range) ⊎ (why ≡ Why.Name)) }
+/// Whether the numerals of the columns are of numbers within the limits.
+fn columns_fit(version: Version, at: &[u8], process: &[u8], number: &[u8]) -> bool
+    ensures { IsTrue result ↔ AreWithin version at.now process.now number.now }
 {
-    let (at, rest) = cut(line, 8)?;
-    let rest = skip(rest, b"  p")?;
-    let (process, rest) = cut(rest, 3)?;
-    let rest = skip(rest, b"  #")?;
-    let (number, rest) = cut(rest, 6)?;
-    let rest = skip(rest, b"  ")?;
-    let at = behind(at);
-    let process = in_front(process);
-    let number = in_front(number);
-    form(is_numeral(at) && is_numeral(process) && is_numeral(number))?;
-    let why = tail_form(rest, names)?;
-    let columns_fit = within(at, LAST_EVENT as u64)
+    within(at, LAST_EVENT as u64)
         && within(process, version.last_process() as u64)
-        && within(number, MOST_OPERATIONS as u64 - 1);
-    if columns_fit {
+        && within(number, MOST_OPERATIONS as u64 - 1)
+}
+
+/// Why the line of an entry is not read. None where its form is not kept.
+fn entry_form<A: Allocator + Copy>(line: &[u8], names: &Names<A>, version: Version) -> Option<Why>
+    ensures read { IfSome result (λ why. HasEntryForm line.now × ((why ≡ Why.Range) ⊎ (why ≡ Why.Name))) }
+    ensures whole { HasEntryForm line.now → IsSome result }
+    ensures beyond { (at process number rest : List ℕ) → HasColumns line.now at process number rest → ¬ (AreWithin version at process number) → IfSome result (λ why. why ≡ Why.Range) }
+    ensures within { (at process number rest : List ℕ) → HasColumns line.now at process number rest → AreWithin version at process number → IfSome result (IsTailWhy names.now rest) }
+{
+    let (at, process, number, rest) = columns_form(line)?;
+    let why = tail_form(rest, names)?;
+    if columns_fit(version, at, process, number) {
         Some(why)
     } else {
         Some(Why::Range)
     }
 }
 
-/// Why a line is no entry.
+/// Why a line is no entry: its form is not kept, or a number of its columns is beyond its limit, or what stands behind them
+/// tells.
 pub fn why_entry<A: Allocator + Copy>(line: &[u8], names: &Names<A>, version: Version) -> ReadWhy
-    ensures { (result ≡ ReadWhy.Form) ⊎ ((result ≡ ReadWhy.Range) ⊎ (result ≡ ReadWhy.Name)) }
+    ensures form { (¬ (HasEntryForm line.now)) → result ≡ ReadWhy.Form }
+    ensures beyond { (at process number rest : List ℕ) → HasColumns line.now at process number rest → HasTailForm rest → ¬ (AreWithin version at process number) → result ≡ ReadWhy.Range }
+    ensures within { (at process number rest : List ℕ) → HasColumns line.now at process number rest → HasTailForm rest → AreWithin version at process number → (why : AnyWhy) × IsTailWhy names.now rest why × (result ≡ why_of why) }
 {
     match entry_form(line, names, version) {
         Some(why) => ReadWhy::from(why),

@@ -4,6 +4,7 @@
 mod answers;
 mod blocks;
 mod check;
+mod column_forms;
 mod entries;
 mod entry_lines;
 mod faults;

@@ -19,3 +19,4 @@ pub mod Formed
 pub mod Counting
 pub mod Seen
 pub mod Sent
+mod Named

@@ -7,7 +7,7 @@ use Rattle.reg_base.specs.declared.limits.TheConstants.{MOST_REGISTERS, LONGEST_
 use Rattle.reg_base.specs.declared.naming.NamesFault.TheVariants.{NoName, TooManyNames}
 use Rattle.reg_text.specs.Parts.{Lacks}
 
-parts : (a b : Bool) (p q : Option ℕ) → cond a (Some NoName) (cond b (Some TooManyNames) (worst_place p q)) ≡ None → p ≡ None
+pub parts : (a b : Bool) (p q : Option ℕ) → cond a (Some NoName) (cond b (Some TooManyNames) (worst_place p q)) ≡ None → p ≡ None
 parts true b p q h = absurd (cc)
 parts false true p q h = absurd (cc)
 parts false false (Some i) q h = absurd (cc)

@@ -1,5 +1,5 @@
 -- Whether a text is words, each behind a space.
-use Rattle.std.proofs.Common.{ℕ, zero, suc, ◌≡◌, ◌+◌, ◌<◌, ◌≤◌, ◌==◌, true, false, List, [], ◌∷◌, ◌++◌, length, drop, get_or, refl, sym, ap, subst, ◌∙◌, arith, append_assoc, append-nil, length-append}
+use Rattle.std.proofs.Common.{ℕ, suc, ◌≡◌, ◌+◌, ◌<◌, ◌≤◌, ◌==◌, true, false, List, [], ◌∷◌, ◌++◌, length, drop, refl, sym, ap, subst, ◌∙◌, arith, append_assoc, append-nil, length-append}
 use Rattle.std.specs.List.{list_all}
 use Rattle.std.proofs.lemmas.Grind.{flat_map-append}
 use Rattle.reg_text.specs.Words.{names_text, Starts, HasWords}
@@ -8,12 +8,7 @@ use Rattle.reg_text.specs.Parts.{Lacks}
 use Rattle.reg_text.proofs.NamesLack.{both_true}
 use Rattle.reg_text.proofs.Formed.{word_lacks}
 use Rattle.reg_text.proofs.Split.{empty_is}
-use Rattle.reg_text.proofs.Worded.{Cuts, name_at, starts}
-
-each_word : (ws : List (List ℕ)) (i : ℕ) → list_all is_word ws ≡ true → i < length ws → is_word (get_or ws i []) ≡ true
-each_word [] i h l = absurd (omega (arith, l))
-each_word (w ∷ ws) zero h l = (both_true (is_word w) (list_all is_word ws) h).0
-each_word (w ∷ ws) (suc i) h l = each_word ws i (both_true (is_word w) (list_all is_word ws) h).1 (omega (arith, l))
+use Rattle.reg_text.proofs.Worded.{Cuts, each_word, name_at, starts}
 
 one_more : (ws : List (List ℕ)) (w : List ℕ) → list_all is_word ws ≡ true → is_word w ≡ true → list_all is_word (ws ++ w ∷ []) ≡ true
 one_more [] w h k = rw k refl

@@ -9,7 +9,7 @@ use Rattle.reg_base.specs.declared.limits.TheConstants.{LONGEST_NAME}
 use Rattle.reg_text.specs.Words.{is_front_letter}
 use Rattle.reg_text.proofs.NamesLack.{both_true}
 
-ascii_all : (p : ℕ → Bool) → ((b : ℕ) → p b ≡ true → b < 128) → (bs : List ℕ) → list_all p bs ≡ true → IsAscii bs
+pub ascii_all : (p : ℕ → Bool) → ((b : ℕ) → p b ≡ true → b < 128) → (bs : List ℕ) → list_all p bs ≡ true → IsAscii bs
 ascii_all p low [] h i = omega arith
 ascii_all p low (b ∷ bs) h zero = low b (both_true (p b) (list_all p bs) h).0
 ascii_all p low (b ∷ bs) h (suc i) = ascii_all p low bs (both_true (p b) (list_all p bs) h).1 i

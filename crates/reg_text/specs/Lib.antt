@@ -6,3 +6,4 @@ pub mod Words
 pub mod Ops
 pub mod Forms
 pub mod Writing
+pub mod WordsFaults

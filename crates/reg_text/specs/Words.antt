@@ -1,7 +1,10 @@
 -- Words of a line.
-use Rattle.std.specs.Prelude.{ℕ, ◌≡◌, ◌==◌, ◌<◌, ◌||◌, Bool, true, List, [], ◌∷◌, ◌⊎◌, flat_map, length}
+use Rattle.std.specs.Prelude.{ℕ, ◌≡◌, ◌==◌, ◌<◌, ◌||◌, Bool, true, None, List, [], ◌∷◌, ◌⊎◌, flat_map, length, take}
 use Rattle.std.specs.Char.{is_ascii_lowercase}
 use Rattle.std.specs.List.{list_all}
+use Rattle.reg_base.specs.Names.{names_fault}
+use Rattle.reg_text.specs.declared.faults.Why.{Why}
+use Rattle.reg_text.specs.declared.faults.Why.TheVariants.{Form, Range, Name, End}
 use Rattle.reg_text.specs.Forms.{is_word}
 
 -- each name behind a space
@@ -23,3 +26,11 @@ AreWords ws = (0 < length ws) × (list_all is_word ws ≡ true)
 -- such words, each behind a space
 abbrev pub HasWords : List ℕ → Type 0
 HasWords text = (ws : List (List ℕ)) × (AreWords ws × (text ≡ names_text ws))
+
+-- Why a line with these words is refused, where at most so many names may stand on it: those that may are names that differ, and
+-- there are more; or they are not.
+abbrev pub IsNamesWhy : ℕ → List (List ℕ) → Why → Type 0
+IsNamesWhy limit ws Range = (limit < length ws) × (names_fault (take limit ws) ≡ None)
+IsNamesWhy limit ws Name = ¬ (names_fault (take limit ws) ≡ None)
+IsNamesWhy limit ws Form = ⊥
+IsNamesWhy limit ws End = ⊥

@@ -88,7 +88,8 @@ pub fn numeral(bytes: &[u8]) -> Option<u64>
     }
 }
 
-fn spaces_before(bytes: &[u8]) -> usize
+/// How many spaces stand at the start.
+pub fn spaces_before(bytes: &[u8]) -> usize
     ensures count { result ≡ prefix_len (λ b. b == 32) bytes.now }
     ensures within { result ≤ length bytes.now }
 {

@@ -89,6 +89,7 @@ pub fn within(bytes: &[u8], limit: u64) -> bool
 /// not kept.
 fn valued_form<A: Allocator + Copy>(text: &[u8], names: &Names<A>) -> Option<Why>
     ensures form { IfSome result (λ why. ((name : List ℕ) × ((digits : List ℕ) × IsValuedForm text.now name digits)) × ((why ≡ Why.Range) ⊎ (why ≡ Why.Name))) }
+    ensures whole { (name digits : List ℕ) → IsValuedForm text.now name digits → IsSome result }
     ensures known { (name digits : List ℕ) (i : ℕ) → IsValuedForm text.now name digits → slice_get names.now i ≡ Some name → result ≡ Some Why.Range }
     ensures unknown { (name digits : List ℕ) → IsValuedForm text.now name digits → ((i : ℕ) → ¬ (slice_get names.now i ≡ Some name)) → result ≡ Some Why.Name }
 {
@@ -104,6 +105,7 @@ fn valued_form<A: Allocator + Copy>(text: &[u8], names: &Names<A>) -> Option<Why
 /// Why the text is no operation: Name where the register is not known, else Range. None where its form is not kept.
 pub fn op_form<A: Allocator + Copy>(text: &[u8], names: &Names<A>) -> Option<Why>
     ensures form { IfSome result (λ why. HasOpForm text.now × ((why ≡ Why.Range) ⊎ (why ≡ Why.Name))) }
+    ensures whole { HasOpForm text.now → IsSome result }
     ensures read { (name : List ℕ) → IsReadForm text.now name → result ≡ Some Why.Name }
     ensures known { (name digits : List ℕ) (i : ℕ) → IsWriteForm text.now name digits → slice_get names.now i ≡ Some name → result ≡ Some Why.Range }
     ensures unknown { (name digits : List ℕ) → IsWriteForm text.now name digits → ((i : ℕ) → ¬ (slice_get names.now i ≡ Some name)) → result ≡ Some Why.Name }

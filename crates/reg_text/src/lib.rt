@@ -16,7 +16,7 @@ mod writing;
 
 pub use cursor::Lines;
 pub use faults::{TextFault, Why};
-pub use fields::{cut, cut_at, left_field, numeral, right_field, skip};
+pub use fields::{cut, cut_at, left_field, numeral, right_field, skip, spaces_before};
 pub use forms::{form, in_front, is_numeral, is_word, op_form, why_number, within};
 pub use heads::{are_front_letters, expect_line, owned, read_count};
 pub use numbers::{field_within, numeral_within};

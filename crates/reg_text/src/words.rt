@@ -1,10 +1,13 @@
 //! The names of a line.
-ghost use Rattle.std.specs.Prelude.{◌≡◌, ◌<◌, ◌≤◌, ℕ, List, [], ◌∷◌, ◌⊎◌, ◌++◌, Ok, Err, None, Some, IfOk, IfErr, IfSome, IsSomeAnd, OnOk, MatchResult, codes, length};
+ghost use Rattle.std.specs.Prelude.{◌≡◌, ◌<◌, ◌≤◌, ℕ, List, [], ◌∷◌, ◌⊎◌, ◌++◌, Ok, Err, None, Some, IfOk, IfErr, IfSome, IsSomeAnd, OnOk, MatchResult, codes, length, true};
 ghost use Rattle.reg_base.specs.Names.{names_fault, texts};
-ghost use Rattle.reg_text.specs.declared.faults.Why.{Why};
+ghost use Rattle.std.specs.List.{list_all};
+ghost use Rattle.reg_text.specs.declared.faults.Why.{Why as AnyWhy};
 ghost use Rattle.reg_text.specs.Lines.{IsAsked};
 ghost use Rattle.reg_text.specs.Parts.{Lacks};
-ghost use Rattle.reg_text.specs.Words.{names_text, Starts, AreWords, HasWords};
+ghost use Rattle.reg_text.specs.Forms.{is_word as is_word_of};
+ghost use Rattle.reg_text.specs.Words.{names_text, Starts, AreWords, HasWords, IsNamesWhy};
+ghost use Rattle.reg_text.specs.WordsFaults.{IsWordsWhy};
 
 use crate::cursor::Lines;
 use crate::faults::{TextFault, Why};
@@ -33,6 +36,16 @@ pub fn next_word(text: &[u8]) -> Option<(&[u8], &[u8])>
     }
 }
 
+/// Why there may be no more words behind these: Range where they are names that differ, and else Name.
+fn why_more<A: Allocator + Copy>(words: Vec<String<A>, A>) -> Why
+    ensures { ((result ≡ Why.Range) × (names_fault (texts words.items) ≡ None)) ⊎ ((result ≡ Why.Name) × ¬ (names_fault (texts words.items) ≡ None)) }
+{
+    match Names::new(words) {
+        Ok(_) => Why::Range,
+        Err(_) => Why::Name,
+    }
+}
+
 /// The words, each behind a space, and no more than the limit. Where there are more, the first that is wrong in the
 /// order from left to right decides: Name for one of those that may be, and else Range.
 pub fn read_words<A: Allocator + Copy>(
@@ -42,6 +55,7 @@ pub fn read_words<A: Allocator + Copy>(
 ) -> Result<Vec<String<A>, A>, WordsFault>
     ensures read { IfOk result (λ v. (text.now ≡ names_text (texts v.items)) × (length (texts v.items) ≤ limit)) }
     ensures whole { (ns : List (List ℕ)) → names_fault ns ≡ None → length ns ≤ limit → text.now ≡ names_text ns → MatchResult result (λ v. texts v.items ≡ ns) (λ f. f ≡ WordsFault.OutOfMemory) }
+    ensures words { (ws : List (List ℕ)) → list_all is_word_of ws ≡ true → text.now ≡ names_text ws → MatchResult result (λ v. texts v.items ≡ ws) (λ f. (f ≡ WordsFault.OutOfMemory) ⊎ IsWordsWhy limit ws f) }
 {
     let mut words = Vec::new(alloc);
     let mut rest = text;
@@ -65,10 +79,7 @@ pub fn read_words<A: Allocator + Copy>(
     if rest.is_empty() {
         return Ok(words);
     }
-    match Names::new(words) {
-        Ok(_) => Err(WordsFault::Why(Why::Range)),
-        Err(_) => Err(WordsFault::Why(Why::Name)),
-    }
+    Err(WordsFault::Why(why_more(words)))
 }
 
 /// Form where the words do not have it, and else the fault that is given.
@@ -107,8 +118,12 @@ pub fn read_names<A: Allocator + Copy>(
     ensures few { IfOk result (λ n. length n ≤ limit) }
     ensures whole { (ns : List (List ℕ)) (rest : List (List ℕ)) → names_fault ns ≡ None → length ns ≤ limit → lines.old.left ≡ (codes "registers" ++ names_text ns) ∷ rest
         → MatchResult result (λ n. (n ≡ ns) × (lines.new.left ≡ rest)) (λ f. f ≡ TextFault.OutOfMemory) }
+    ensures words { (ws : List (List ℕ)) (rest : List (List ℕ)) → AreWords ws → lines.old.left ≡ (codes "registers" ++ names_text ws) ∷ rest
+        → IfErr result (λ f. (f ≡ TextFault.OutOfMemory) ⊎ ((why : AnyWhy) × IsNamesWhy limit ws why × (f ≡ TextFault.Line lines.new.number why))) }
+    ensures form { (line : List ℕ) (rest : List (List ℕ)) → lines.old.left ≡ line ∷ rest → ((text : List ℕ) → HasWords text → ¬ (line ≡ codes "registers" ++ text))
+        → IfErr result (λ f. (f ≡ TextFault.OutOfMemory) ⊎ (f ≡ TextFault.Line lines.new.number Why.Form)) }
     ensures end { lines.old.left ≡ [] → result ≡ Err (TextFault.Line lines.new.number Why.End) }
-    ensures fault { IfErr result (λ f. (f ≡ TextFault.OutOfMemory) ⊎ ((why : Why) × (f ≡ TextFault.Line lines.new.number why))) }
+    ensures fault { IfErr result (λ f. (f ≡ TextFault.OutOfMemory) ⊎ ((why : AnyWhy) × (f ≡ TextFault.Line lines.new.number why))) }
     ensures asked { IsAsked lines.old lines.new }
 {
     let Some(line) = lines.next() else {

@@ -1,8 +1,5 @@
-use Rattle.std.proofs.Common.{ℕ, ◌≡◌, Some, None, sym, ap, ◌∙◌}
+use Rattle.std.proofs.Common.{◌≡◌, Some, None, sym, ap, ◌∙◌}
 use Rattle.reg_base.specs.Names.{names_fault}
-use Rattle.reg_history.specs.declared.report_faults.ReadWhy.{ReadWhy}
-use Rattle.reg_history.specs.declared.report_faults.ReadFault.{ReadFault}
-use Rattle.reg_history.specs.declared.report_faults.ReadFault.TheVariants.{Line, OutOfMemory}
 use Rattle.reg_history.proofs.Listed.{listed}
 use Rattle.reg_history.proofs.name_lines.read_listed.Goals as goal
 

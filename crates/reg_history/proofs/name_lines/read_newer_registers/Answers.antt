@@ -1,5 +1,4 @@
-use Rattle.std.proofs.Common.{rules, arith, ℕ, ap, ◌∙◌, sym, ◌≡◌, ◌≤◌, ◌<◌, ◌++◌, length, List}
-use Rattle.reg_base.specs.Names.{names_fault}
+use Rattle.std.proofs.Common.{rules, arith, ℕ, ap, ◌∙◌, ◌++◌, length, List}
 use Rattle.reg_history.proofs.Listed.{map_same, some_name}
 use Rattle.reg_history.proofs.name_lines.read_newer_registers.Goals as goal
 

@@ -1,7 +1,7 @@
 use Rattle.std.proofs.Common.{refl, sym, ap, ◌∙◌, subst, arith, rules, ◌≡◌, ℕ, ◌+◌, List, [], ◌∷◌, ◌++◌, true, string_bytes}
 use Rattle.std.proofs.lemmas.List.{map-append}
 use Rattle.reg_base.specs.Names.{is_name, texts}
-use Rattle.reg_text.proofs.Turns.{Taken, begins, steps, ended, refused, all_read, only_read}
+use Rattle.reg_text.proofs.Turns.{Taken, begins, steps, ended, refused, only_read}
 use Rattle.reg_history.proofs.name_lines.read_spelt.Goals as goal
 
 abbrev Spelled : List (List ℕ) → List ℕ → Type 0

@@ -1,10 +1,6 @@
-use Rattle.std.proofs.Common.{ℕ, List, [], ◌∷◌, ◌++◌, codes, subst, length, ◌≡◌}
+use Rattle.std.proofs.Common.{ℕ, List, [], ◌∷◌, ◌++◌, codes, subst, length}
 use Rattle.std.specs.Fmt.{decimal}
-use Rattle.reg_text.specs.Lines.{text_of}
 use Rattle.reg_text.specs.Writing.{Puts}
-use Rattle.reg_text.proofs.Sent.{puts_as}
-use Rattle.reg_history.specs.declared.versions.Version.TheVariants.{Two}
-use Rattle.reg_history.specs.Reports.{head_lines}
 use Rattle.reg_history.specs.Written.{lines_by}
 use Rattle.reg_history.proofs.Writing.{head_text, puts_five}
 use Rattle.reg_history.proofs.write.put_head.Goals as goal

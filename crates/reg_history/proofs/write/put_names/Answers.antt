@@ -1,4 +1,4 @@
-use Rattle.std.proofs.Common.{rules, arith, ◌<◌, ◌++◌, ◌∷◌, [], length, get_or, List, ℕ, subst}
+use Rattle.std.proofs.Common.{arith, ◌<◌, ◌++◌, ◌∷◌, [], length, List, ℕ, subst}
 use Rattle.reg_text.specs.Writing.{Puts}
 use Rattle.reg_history.proofs.Writing.{puts_line}
 use Rattle.reg_history.proofs.write.put_names.Goals as goal

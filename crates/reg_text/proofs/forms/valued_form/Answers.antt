@@ -38,3 +38,15 @@ returns-in-None-clause-known g c = λ w d i h here.
     let parts = valued_parts c.args.text.now c.in_ok-name.name.now c.in_ok-name.digits.now w d c.in_ok-name.ensures.whole h in
     let there = (c.in-None.ensures i).1 (here ∙ ap Some (sym parts.0)) in
     absurd (cc)
+
+pub returns-in_err-form-clause-whole : goal.returns-in_err-form-clause-whole
+returns-in_err-form-clause-whole g c = λ w d h.
+    let parts = valued_parts c.args.text.now c.in_ok-name.name.now c.in_ok-name.digits.now w d c.in_ok-name.ensures.whole h in
+    let good : c.is_word.result ≡ true = c.is_word.ensures ∙ ap is_word parts.0 ∙ h.0 in
+    search (rules, good)
+
+pub returns-in_err-form-2-clause-whole : goal.returns-in_err-form-2-clause-whole
+returns-in_err-form-2-clause-whole g c = λ w d h.
+    let parts = valued_parts c.args.text.now c.in_ok-name.name.now c.in_ok-name.digits.now w d c.in_ok-name.ensures.whole h in
+    let good : c.is_numeral.result ≡ true = c.is_numeral.ensures ∙ ap is_numeral parts.1 ∙ h.1 in
+    search (rules, good)

@@ -1,8 +1,9 @@
-use Rattle.std.proofs.Common.{arith, ℕ, ◌≡◌, ◌+◌, List, [], ◌∷◌, ◌++◌, sym, ap, ◌∙◌, subst, rules, string_bytes}
+use Rattle.std.proofs.Common.{arith, ℕ, ◌≡◌, ◌+◌, List, [], ◌∷◌, ◌++◌, sym, ap, ◌∙◌, subst, rules, string_bytes, inr, take}
 use Rattle.std.proofs.lemmas.List.{map-append}
 use Rattle.reg_base.specs.Names.{texts}
 use Rattle.reg_text.proofs.Split.{empty_is}
-use Rattle.reg_text.proofs.Worded.{Worded, worded, adds, no_word, no_text, finished}
+use Rattle.reg_text.proofs.Named.{names_words}
+use Rattle.reg_text.proofs.Worded.{Worded, worded, adds, no_word, no_text, finished, left_over, more_why}
 use Rattle.reg_text.proofs.words.read_words.Goals as goal
 
 pub loop-turn-init : goal.loop-turn-init
@@ -18,14 +19,27 @@ returns-then-is_empty-clause-read g c =
 
 pub returns-then-is_empty-clause-whole : goal.returns-then-is_empty-clause-whole
 returns-then-is_empty-clause-whole g c =
-    λ ns ok few e. (finished c.args.text.now c.loop-turn.rest.now (texts c.loop-turn.words.items) c.loop-turn._turn c.loop-turn.invariant (empty_is c.loop-turn.rest.now (sym c.is_empty.ensures ∙ c.if-is_empty.true))).1 ns ok e
+    λ ns ok few e. (finished c.args.text.now c.loop-turn.rest.now (texts c.loop-turn.words.items) c.loop-turn._turn c.loop-turn.invariant (empty_is c.loop-turn.rest.now (sym c.is_empty.ensures ∙ c.if-is_empty.true))).1 ns (names_words ns ok) e
+
+pub returns-then-is_empty-clause-words : goal.returns-then-is_empty-clause-words
+returns-then-is_empty-clause-words g c =
+    λ ns ok e. (finished c.args.text.now c.loop-turn.rest.now (texts c.loop-turn.words.items) c.loop-turn._turn c.loop-turn.invariant (empty_is c.loop-turn.rest.now (sym c.is_empty.ensures ∙ c.if-is_empty.true))).1 ns ok e
 
 pub returns-in_default-clause-whole : goal.returns-in_default-clause-whole
 returns-in_default-clause-whole g c = λ ns ok few e.
+    absurd (no_word c.args.text.now c.loop-turn.rest.now (texts c.loop-turn.words.items) c.loop-turn._turn c.loop-turn.invariant (sym c.is_empty.ensures ∙ c.if-is_empty.false) c.in_default.ensures.whole ns (names_words ns ok) e)
+
+pub returns-in_default-clause-words : goal.returns-in_default-clause-words
+returns-in_default-clause-words g c = λ ns ok e.
     absurd (no_word c.args.text.now c.loop-turn.rest.now (texts c.loop-turn.words.items) c.loop-turn._turn c.loop-turn.invariant (sym c.is_empty.ensures ∙ c.if-is_empty.false) c.in_default.ensures.whole ns ok e)
 
 pub returns-in-Ok-None-clause-whole : goal.returns-in-Ok-None-clause-whole
 returns-in-Ok-None-clause-whole g c = λ ns ok few e.
+    let bad = (rw c.in-Ok-None.field-0-is at c.in-Ok-None.ensures) in
+    absurd (no_text c.args.text.now c.loop-turn.rest.now (texts c.loop-turn.words.items) c.loop-turn._turn c.in-Some.word.now c.in-Some.after.now c.loop-turn.invariant (sym c.is_empty.ensures ∙ c.if-is_empty.false) c.in-Some.ensures.whole bad ns (names_words ns ok) e)
+
+pub returns-in-Ok-None-clause-words : goal.returns-in-Ok-None-clause-words
+returns-in-Ok-None-clause-words g c = λ ns ok e.
     let bad = (rw c.in-Ok-None.field-0-is at c.in-Ok-None.ensures) in
     absurd (no_text c.args.text.now c.loop-turn.rest.now (texts c.loop-turn.words.items) c.loop-turn._turn c.in-Some.word.now c.in-Some.after.now c.loop-turn.invariant (sym c.is_empty.ensures ∙ c.if-is_empty.false) c.in-Some.ensures.whole bad ns ok e)
 
@@ -44,4 +58,19 @@ returns-then-is_empty-2-clause-read g c =
 
 pub returns-then-is_empty-2-clause-whole : goal.returns-then-is_empty-2-clause-whole
 returns-then-is_empty-2-clause-whole g c =
-    λ ns ok few e. (finished c.args.text.now c.loop-turn.rest.now (texts c.loop-turn.words.items) c.loop-turn._turn c.loop-turn.invariant (empty_is c.loop-turn.rest.now (sym c.is_empty-2.ensures ∙ c.if-is_empty-2.true))).1 ns ok e
+    λ ns ok few e. (finished c.args.text.now c.loop-turn.rest.now (texts c.loop-turn.words.items) c.loop-turn._turn c.loop-turn.invariant (empty_is c.loop-turn.rest.now (sym c.is_empty-2.ensures ∙ c.if-is_empty-2.true))).1 ns (names_words ns ok) e
+
+pub returns-then-is_empty-2-clause-words : goal.returns-then-is_empty-2-clause-words
+returns-then-is_empty-2-clause-words g c =
+    λ ns ok e. (finished c.args.text.now c.loop-turn.rest.now (texts c.loop-turn.words.items) c.loop-turn._turn c.loop-turn.invariant (empty_is c.loop-turn.rest.now (sym c.is_empty-2.ensures ∙ c.if-is_empty-2.true))).1 ns ok e
+
+pub returns-clause-words : goal.returns-clause-words
+returns-clause-words g c = λ ws ok e.
+    let left = left_over c.args.text.now c.loop-turn.rest.now (texts c.loop-turn.words.items) c.loop-turn._turn c.loop-turn.invariant (sym c.is_empty-2.ensures ∙ c.if-is_empty-2.false) ws ok e in
+    let turns : c.loop-turn._turn ≡ c.args.limit = omega arith in
+    inr (more_why c.args.limit ws (texts c.loop-turn.words.items) c.why_more.result (left.0 ∙ ap (λ k. take k ws) turns, omega (arith, left.1, turns)) c.why_more.ensures)
+
+pub returns-clause-whole : goal.returns-clause-whole
+returns-clause-whole g c = λ ns ok few e.
+    let left = left_over c.args.text.now c.loop-turn.rest.now (texts c.loop-turn.words.items) c.loop-turn._turn c.loop-turn.invariant (sym c.is_empty-2.ensures ∙ c.if-is_empty-2.false) ns (names_words ns ok) e in
+    absurd (omega (arith, left.1, few))
