@@ -8,9 +8,11 @@ ghost use Rattle.reg_commands.specs.Replays.{ShowsPoints};
 ghost use Rattle.reg_live_command.specs.declared.faults.Stop.{Stop};
 ghost use Rattle.reg_live_command.specs.declared.faults.Stop.TheVariants.{Command};
 ghost use Rattle.reg_live_command.specs.Lives.{ShowsLive, IsReportOfLive, Lives, IsOfThreads, BlamesStop};
+ghost use Rattle.reg_live_command.specs.StopLines.{stop_line};
 ghost use Rattle.reg_commands.specs.declared.faults.Fault.TheVariants.{Output};
 
 use crate::faults::{Stop, stopped};
+use crate::stop_lines::write_stop;
 use reg_commands::{
     Fault, read_input, read_workload, report_run, report_run_with_points, write_out,
 };
@@ -85,6 +87,7 @@ fn performed<R: Threads + Wait + Clock + Copy + Send + Sync + 'static>(
 ) -> Result<Report, Stop>
     ensures shows { IfOk result (λ r. (work : Load) × Holds text.now work × IsReportOfLive work r) }
     ensures why { IfErr result (λ stop. BlamesStop stop text.now) }
+    ensures kind { IfErr result (λ stop. stop ≢ Command Output) }
 {
     let work = read_workload(alloc, alloc, text).map_err(told)?;
     perform(rt, alloc, work)
@@ -103,7 +106,10 @@ fn perform_text<R: Threads + Wait + Clock + Copy + Send + Sync + 'static, W: Wri
     ensures part { IsErrOf result (Command Output) → Lives (AppendsPart (W.contents writer.old) (W.contents writer.new)) text.now }
 {
     let report = performed(rt, alloc, text)?;
-    write_out(writer, &report).map_err(told)
+    match write_out(writer, &report) {
+        Ok(()) => Ok(()),
+        Err(fault) => Err(told(fault)),
+    }
 }
 
 /// Reads a workload, has threads perform it, and writes the report.
@@ -118,14 +124,16 @@ fn obey<R: Threads + Wait + Clock + Copy + Send + Sync + 'static, I: Read, W: Wr
     ensures silent { IfErr result (λ stop. stop ≢ Command Output → writer.new ≡ writer.old) }
     ensures part { IsErrOf result (Command Output) → IfSome (I.remaining reader.old) (Lives (AppendsPart (W.contents writer.old) (W.contents writer.new))) }
 {
-    let text = read_input(alloc, reader).map_err(told)?;
-    perform_text(rt, alloc, text.as_str(), writer)
+    match read_input(alloc, reader) {
+        Ok(text) => perform_text(rt, alloc, text.as_str(), writer),
+        Err(fault) => Err(told(fault)),
+    }
 }
 
 /// Reads a workload, has its scripts performed by threads, and writes the report of the run that they made: one thread for
 /// each script, one for the mail of each process, and one for ticks, over an honest road. Its seed, odds and budget have no
-/// part. The answer is the status: 0, or 1 where something was refused, with one line on `errors`. That `errors` fails
-/// changes no status. All threads have ended by then.
+/// part. The answer is the status: 0, or 1 where something was refused, with the line of the stop on `errors`. That
+/// `errors` fails changes no status. All threads have ended by then.
 pub fn run_live<
     R: Threads + Wait + Clock + Copy + Send + Sync + 'static,
     I: Read,
@@ -134,13 +142,13 @@ pub fn run_live<
 >(rt: R, alloc: Global, reader: &mut I, writer: &mut W, errors: &mut E) -> u8
     ensures range { result ≤ 1 }
     ensures lives { result ≡ 0 → IfSome (I.remaining reader.old) (Lives (Appends (W.contents writer.old) (W.contents writer.new))) }
-    ensures refused { result ≡ 1 → (stop : Stop) × IfSome (I.remaining reader.old) (BlamesStop stop) × (stop ≢ Command Output → writer.new ≡ writer.old) × (stop ≡ Command Output → IfSome (I.remaining reader.old) (Lives (AppendsPart (W.contents writer.old) (W.contents writer.new)))) }
+    ensures refused { result ≡ 1 → (stop : Stop) × IfSome (I.remaining reader.old) (BlamesStop stop) × (stop ≢ Command Output → writer.new ≡ writer.old) × (stop ≡ Command Output → IfSome (I.remaining reader.old) (Lives (AppendsPart (W.contents writer.old) (W.contents writer.new)))) × AppendsPart (E.contents errors.old) (E.contents errors.new) (stop_line stop) }
     ensures quiet { result ≡ 0 → errors.new ≡ errors.old }
 {
     match obey(rt, alloc, reader, writer) {
         Ok(()) => 0,
         Err(stop) => {
-            let _ = writeln!(errors, "{stop}");
+            let _ = write_stop(errors, stop);
             1
         }
     }
