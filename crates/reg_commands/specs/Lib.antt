@@ -3,3 +3,4 @@ pub mod Verdicts
 pub mod Replays
 pub mod Plays
 pub mod Answers
+pub mod FaultLines

@@ -3,6 +3,7 @@
 
 mod checking;
 mod command;
+mod fault_lines;
 mod faults;
 mod input;
 mod playing;
@@ -12,6 +13,7 @@ mod running;
 mod verdicts;
 
 pub use command::Command;
+pub use fault_lines::{put_fault_text, put_numbered, write_fault};
 pub use faults::Fault;
 pub use playing::{play_by, read_workload};
 pub use replaying::{Ran, read_schedule, run_events};

@@ -2,12 +2,15 @@
 ghost use Rattle.std.specs.Prelude.{◌≡◌, ◌≢◌, ◌≤◌, ◌⊎◌, IfOk, IfErr, OnOk, IfSome, true, false, length, string_bytes, IsErrOf};
 ghost use Rattle.std.specs.Io.KnownBytes.{Appends};
 ghost use Rattle.reg_base.specs.declared.limits.TheConstants.{LONGEST_INPUT};
+ghost use Rattle.reg_text.specs.Writing.{AppendsPart};
 ghost use Rattle.reg_commands.specs.Answers.{Answers, AnswersInPart, Blames};
+ghost use Rattle.reg_commands.specs.FaultLines.{fault_line};
 ghost use Rattle.reg_commands.specs.declared.command.Command.{Command as AnyCommand};
 ghost use Rattle.reg_commands.specs.declared.faults.Fault.{Fault};
 
 use crate::checking::check;
 use crate::command::Command;
+use crate::fault_lines::write_fault;
 use crate::faults::Fault;
 use crate::input::{InputFault, read_text};
 use crate::playing::play;
@@ -79,8 +82,8 @@ fn obey<A: Allocator + Copy, R: Read, W: Write>(
 }
 
 /// Runs a command: it reads the whole input, and writes once all of it is accepted. The answer is the status: 0, or 1
-/// where the answer is a no or something was refused, with one line on `errors` in the second case. That `errors`
-/// fails changes no status. The table of a workload is kept in the global heap, all else in the other one.
+/// where the answer is a no or something was refused, with the line of the fault on `errors` in the second case. That
+/// `errors` fails changes no status. The table of a workload is kept in the global heap, all else in the other one.
 pub fn run_text<A: Allocator + Copy, R: Read, W: Write, E: Write>(
     alloc: A,
     global: Global,
@@ -93,14 +96,14 @@ pub fn run_text<A: Allocator + Copy, R: Read, W: Write, E: Write>(
     ensures within { result ≡ 0 → IfSome (R.remaining reader.old) (λ xs. length xs ≤ LONGEST_INPUT) }
     ensures answered { result ≡ 0 → IfSome (R.remaining reader.old) (Answers command true (Appends (W.contents writer.old) (W.contents writer.new))) }
     ensures refused { result ≡ 1 → (IfSome (R.remaining reader.old) (Answers command false (Appends (W.contents writer.old) (W.contents writer.new))) × (errors.new ≡ errors.old))
-        ⊎ ((f : Fault) × IfSome (R.remaining reader.old) (Blames command f) × (f ≢ Fault.Output → writer.new ≡ writer.old) × (f ≡ Fault.Output → IfSome (R.remaining reader.old) (AnswersInPart command (W.contents writer.old) (W.contents writer.new)))) }
+        ⊎ ((f : Fault) × IfSome (R.remaining reader.old) (Blames command f) × (f ≢ Fault.Output → writer.new ≡ writer.old) × (f ≡ Fault.Output → IfSome (R.remaining reader.old) (AnswersInPart command (W.contents writer.old) (W.contents writer.new))) × AppendsPart (E.contents errors.old) (E.contents errors.new) (fault_line f)) }
     ensures quiet { result ≡ 0 → errors.new ≡ errors.old }
 {
     match obey(alloc, global, command, reader, writer) {
         Ok(true) => 0,
         Ok(false) => 1,
         Err(fault) => {
-            let _ = writeln!(errors, "{fault}");
+            let _ = write_fault(errors, fault);
             1
         }
     }

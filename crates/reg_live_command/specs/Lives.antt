@@ -11,7 +11,6 @@ use Rattle.reg_live.specs.declared.entries.Receipt.{Receipt}
 use Rattle.reg_live.specs.Passes.{IsLived}
 use Rattle.reg_commands.specs.Replays.{start_of, Shows, PointsOf}
 use Rattle.reg_commands.specs.declared.command.Command.TheVariants.{Play}
-use Rattle.reg_commands.specs.declared.faults.Fault.{Fault}
 use Rattle.reg_commands.specs.declared.faults.Fault.TheVariants.{OutOfMemory}
 use Rattle.reg_commands.specs.Answers.{Blames}
 use Rattle.reg_commands.specs.Plays.{Holds, plan_of}

@@ -3,6 +3,8 @@
 
 mod faults;
 mod performing;
+mod stop_lines;
 
 pub use faults::Stop;
 pub use performing::run_live;
+pub use stop_lines::write_stop;

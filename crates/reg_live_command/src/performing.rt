@@ -8,9 +8,11 @@ ghost use Rattle.reg_commands.specs.Replays.{ShowsPoints};
 ghost use Rattle.reg_live_command.specs.declared.faults.Stop.{Stop};
 ghost use Rattle.reg_live_command.specs.declared.faults.Stop.TheVariants.{Command};
 ghost use Rattle.reg_live_command.specs.Lives.{ShowsLive, IsReportOfLive, Lives, IsOfThreads, BlamesStop};
+ghost use Rattle.reg_live_command.specs.StopLines.{stop_line};
 ghost use Rattle.reg_commands.specs.declared.faults.Fault.TheVariants.{Output};
 
 use crate::faults::{Stop, stopped};
+use crate::stop_lines::write_stop;
 use reg_commands::{
     Fault, read_input, read_workload, report_run, report_run_with_points, write_out,
 };
@@ -130,8 +132,8 @@ fn obey<R: Threads + Wait + Clock + Copy + Send + Sync + 'static, I: Read, W: Wr
 
 /// Reads a workload, has its scripts performed by threads, and writes the report of the run that they made: one thread for
 /// each script, one for the mail of each process, and one for ticks, over an honest road. Its seed, odds and budget have no
-/// part. The answer is the status: 0, or 1 where something was refused, with one line on `errors`. That `errors` fails
-/// changes no status. All threads have ended by then.
+/// part. The answer is the status: 0, or 1 where something was refused, with the line of the stop on `errors`. That
+/// `errors` fails changes no status. All threads have ended by then.
 pub fn run_live<
     R: Threads + Wait + Clock + Copy + Send + Sync + 'static,
     I: Read,
@@ -140,13 +142,13 @@ pub fn run_live<
 >(rt: R, alloc: Global, reader: &mut I, writer: &mut W, errors: &mut E) -> u8
     ensures range { result ≤ 1 }
     ensures lives { result ≡ 0 → IfSome (I.remaining reader.old) (Lives (Appends (W.contents writer.old) (W.contents writer.new))) }
-    ensures refused { result ≡ 1 → (stop : Stop) × IfSome (I.remaining reader.old) (BlamesStop stop) × (stop ≢ Command Output → writer.new ≡ writer.old) × (stop ≡ Command Output → IfSome (I.remaining reader.old) (Lives (AppendsPart (W.contents writer.old) (W.contents writer.new)))) }
+    ensures refused { result ≡ 1 → (stop : Stop) × IfSome (I.remaining reader.old) (BlamesStop stop) × (stop ≢ Command Output → writer.new ≡ writer.old) × (stop ≡ Command Output → IfSome (I.remaining reader.old) (Lives (AppendsPart (W.contents writer.old) (W.contents writer.new)))) × AppendsPart (E.contents errors.old) (E.contents errors.new) (stop_line stop) }
     ensures quiet { result ≡ 0 → errors.new ≡ errors.old }
 {
     match obey(rt, alloc, reader, writer) {
         Ok(()) => 0,
         Err(stop) => {
-            let _ = writeln!(errors, "{stop}");
+            let _ = write_stop(errors, stop);
             1
         }
     }

@@ -7,6 +7,8 @@ mod checks;
 #[cfg(test)]
 mod examples;
 #[cfg(test)]
+mod fault_lines;
+#[cfg(test)]
 mod growths;
 #[cfg(test)]
 mod inputs;

@@ -1,4 +1,3 @@
-use Rattle.std.proofs.Common.{rules}
 use Rattle.reg_commands.proofs.checking.read.Goals as goal
 
 pub returns-in-Err-Line-clause-why : goal.returns-in-Err-Line-clause-why

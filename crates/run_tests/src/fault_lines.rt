@@ -1,0 +1,148 @@
+//! The line of each fault on the error stream: its text, and a line feed.
+use reg_commands::{Fault, write_fault};
+use reg_history::ReadWhy;
+use reg_workload::{Key, WorkloadFault};
+use reg_world::WorldFault;
+use std::alloc::Global;
+use std::process::Abort;
+use std::test::Fail;
+
+/// Each fault of a stream, and its line.
+const OF_STREAMS: [(Fault, &str); 5] = [
+    (Fault::Unread, "input: read\n"),
+    (Fault::TooLong, "input: too long\n"),
+    (Fault::NotText, "input: not text\n"),
+    (Fault::Output, "output: write\n"),
+    (Fault::OutOfMemory, "out of memory\n"),
+];
+
+/// A number of a line, what is wrong with it, and the line that tells it.
+const OF_LINES: [(u64, ReadWhy, &str); 5] = [
+    (1, ReadWhy::Form, "line 1: form\n"),
+    (20, ReadWhy::Range, "line 20: range\n"),
+    (305, ReadWhy::Name, "line 305: name\n"),
+    (4294967296, ReadWhy::Place, "line 4294967296: place\n"),
+    (
+        18446744073709551615,
+        ReadWhy::End,
+        "line 18446744073709551615: end\n",
+    ),
+];
+
+/// A number of an event, why it is refused, and the line that tells it.
+const OF_EVENTS: [(usize, WorldFault, &str); 8] = [
+    (0, WorldFault::Failed, "event 0: failed\n"),
+    (
+        1048576,
+        WorldFault::TooManyEvents,
+        "event 1048576: too many events\n",
+    ),
+    (2, WorldFault::NoProcess, "event 2: no process\n"),
+    (10, WorldFault::Busy, "event 10: busy\n"),
+    (99, WorldFault::NoRegister, "event 99: no register\n"),
+    (
+        100,
+        WorldFault::TooManyOperations,
+        "event 100: too many operations\n",
+    ),
+    (7, WorldFault::NoFrame, "event 7: no frame\n"),
+    (8, WorldFault::OutOfMemory, "event 8: out of memory\n"),
+];
+
+/// Each fault of a document that names no key, and its line.
+const OF_DOCUMENTS: [(WorkloadFault, &str); 5] = [
+    (WorkloadFault::Toml, "toml\n"),
+    (WorkloadFault::UnknownKey, "unknown key\n"),
+    (
+        WorkloadFault::Script {
+            process: 0,
+            place: 12,
+        },
+        "script 0 12\n",
+    ),
+    (
+        WorkloadFault::Script {
+            process: 255,
+            place: 4294967295,
+        },
+        "script 255 4294967295\n",
+    ),
+    (WorkloadFault::OutOfMemory, "out of memory\n"),
+];
+
+/// Each key, and its name.
+const KEYS: [(Key, &str); 7] = [
+    (Key::Front, "front"),
+    (Key::Registers, "registers"),
+    (Key::Scripts, "scripts"),
+    (Key::Seed, "seed"),
+    (Key::Loss, "loss"),
+    (Key::Repeat, "repeat"),
+    (Key::Budget, "budget"),
+];
+
+/// Demands the line of a fault, and that it is what the fault shows.
+fn demand_line(rt: &impl Abort, alloc: Global, fault: Fault, line: &str) -> Result<(), Fail> {
+    let mut errors = Vec::new(alloc);
+    assert!(rt; write_fault(&mut errors, fault).is_ok());
+    assert_eq!(rt; errors.as_slice(), line.as_bytes());
+    assert_eq!(rt; format!(in alloc; "{fault}\n")?.as_str(), line);
+    Ok(())
+}
+
+/// Demands the lines of the faults that name this key.
+fn demand_key(rt: &impl Abort, alloc: Global, key: Key, name: &str) -> Result<(), Fail> {
+    let table = [
+        (WorkloadFault::Missing { key }, "missing"),
+        (WorkloadFault::Kind { key }, "kind"),
+        (WorkloadFault::Range { key }, "range"),
+    ];
+    for (fault, word) in table {
+        let line = format!(in alloc; "{word} {name}\n")?;
+        demand_line(rt, alloc, Fault::Workload { fault }, line.as_str())?;
+    }
+    Ok(())
+}
+
+#[test]
+fn faults_of_streams_have_their_lines(rt: HostRuntime) -> Result<(), Fail> {
+    for (fault, line) in &OF_STREAMS {
+        demand_line(&rt, rt.alloc(), *fault, line)?;
+    }
+    Ok(())
+}
+
+#[test]
+fn faults_of_lines_have_their_lines(rt: HostRuntime) -> Result<(), Fail> {
+    for (number, why, line) in &OF_LINES {
+        let fault = Fault::Line {
+            line: *number,
+            why: *why,
+        };
+        demand_line(&rt, rt.alloc(), fault, line)?;
+    }
+    Ok(())
+}
+
+#[test]
+fn faults_of_events_have_their_lines(rt: HostRuntime) -> Result<(), Fail> {
+    for (at, fault, line) in &OF_EVENTS {
+        let fault = Fault::Event {
+            at: *at,
+            fault: *fault,
+        };
+        demand_line(&rt, rt.alloc(), fault, line)?;
+    }
+    Ok(())
+}
+
+#[test]
+fn faults_of_documents_have_their_lines(rt: HostRuntime) -> Result<(), Fail> {
+    for (fault, line) in &OF_DOCUMENTS {
+        demand_line(&rt, rt.alloc(), Fault::Workload { fault: *fault }, line)?;
+    }
+    for (key, name) in &KEYS {
+        demand_key(&rt, rt.alloc(), *key, name)?;
+    }
+    Ok(())
+}
