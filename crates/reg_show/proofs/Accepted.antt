@@ -1,9 +1,9 @@
 -- The events that a world accepted: each call names a register that there is.
-use Rattle.std.proofs.Common.{ℕ, zero, suc, ◌≡◌, ◌+◌, ◌<◌, ◌≤◌, ◌^◌, Bool, List, [], ◌∷◌, ◌++◌, length, Option, None, Some, refl, sym, ap, ◌∙◌, subst, arith, append_assoc, length-append}
-use Rattle.std.specs.Prelude.{slice_get, nat_lt, not, ◌&&◌, cond}
+use Rattle.std.proofs.Common.{ℕ, zero, suc, ◌≡◌, ◌+◌, ◌<◌, ◌≤◌, Bool, List, [], ◌∷◌, ◌++◌, length, Option, None, Some, refl, sym, ap, ◌∙◌, subst, arith, append_assoc, length-append}
+use Rattle.std.specs.Prelude.{slice_get, nat_lt, not, ◌&&◌}
 use Rattle.std.proofs.lemmas.Bool.{cond_both, ltb-true, and_parts}
 use Rattle.std.proofs.lemmas.Option.{same_Some}
-use Rattle.reg_base.specs.declared.limits.TheConstants.{MOST_OPERATIONS, MOST_EVENTS, MOST_PROCESSES}
+use Rattle.reg_base.specs.declared.limits.TheConstants.{MOST_OPERATIONS}
 use Rattle.reg_process.specs.declared.steps.Step.TheVariants.{Call as CallStep}
 use Rattle.reg_world.specs.Nodes.{Nodes, step_of}
 use Rattle.std.specs.Option.{is_some}
@@ -16,13 +16,11 @@ use Rattle.reg_text.specs.Ops.{OpFits, HasValue}
 use Rattle.reg_toml.specs.Loads.{Load, IsLoad}
 use Rattle.reg_world.specs.declared.events.Event.{Event}
 use Rattle.reg_world.specs.declared.events.Event.TheVariants.{Call, Take, Tick}
-use Rattle.reg_world.specs.World.{World, empty_world, move_of, moved, happens, run, whole}
+use Rattle.reg_world.specs.World.{World, empty_world, move_of, moved, happens, run}
 use Rattle.reg_world.specs.Worlds.{Made, run_in}
 use Rattle.reg_world.proofs.Kept.{move_is}
-use Rattle.reg_workload.specs.Plays.{IsPlay}
-use Rattle.reg_workload.specs.Schedules.{EventFits, IsPlan, Plan}
+use Rattle.reg_workload.specs.Schedules.{EventFits, Plan}
 use Rattle.reg_commands.specs.Plays.{IsPlayBy, plan_of}
-use Rattle.std.specs.Io.KnownBytes.{Appends}
 use Rattle.reg_base.specs.Shape.{Extent}
 use Rattle.reg_front.specs.declared.named.Front.{Front}
 use Rattle.reg_world.proofs.Ahead.{same_extent}
@@ -106,11 +104,11 @@ play_schedule fair start work made is_finished load played all bits =
     })
 
 -- the schedule that was written is that of the play
-pub shows_schedule : (fair : Bool) (start : Op → ℕ → Start) (work : Load) (made : Made) (is_finished : Bool) (old new : Option (List ℕ)) (shape : Extent) (names : List (List ℕ)) (front : Front) (events : List Event)
+pub shows_schedule : (fair : Bool) (start : Op → ℕ → Start) (work : Load) (made : Made) (is_finished : Bool) (Wrote : List ℕ → Type 0) (shape : Extent) (names : List (List ℕ)) (front : Front) (events : List Event)
     → shape ≡ work.shape → names ≡ work.names → front ≡ work.front → events ≡ made.accepted → IsLoad work → IsPlayBy fair start work made is_finished → (run_in start made).accepted ≡ made.accepted
     → ((k : ℕ) (e : Event) → slice_get events k ≡ Some e → EventHasBits e)
-    → Appends old new (schedule_text (record { shape = shape; names = names; front = front; events = events })) → ShowsSchedule fair start old new work
-shows_schedule fair start work made is_finished old new shape names front events same_shape same_names same_front same_events load played all bits written =
+    → Wrote (schedule_text (record { shape = shape; names = names; front = front; events = events })) → ShowsSchedule fair start Wrote work
+shows_schedule fair start work made is_finished Wrote shape names front events same_shape same_names same_front same_events load played all bits written =
     let play = played.play in
     let extent : shape ≡ record { processes = made.processes; registers = made.registers } = same_shape ∙ same_extent work.shape (record { processes = made.processes; registers = made.registers }) (sym play.processes) (sym play.registers) in
     let same : record { shape = shape; names = names; front = front; events = events } ≡ plan_of work made = λ i. record { shape = extent i; names = same_names i; front = same_front i; events = same_events i } in
@@ -119,5 +117,5 @@ shows_schedule fair start work made is_finished old new shape names front events
       is_finished = is_finished;
       played = played;
       schedule = play_schedule fair start work made is_finished load played all (λ k e h. bits k e (ap (λ (l : List Event). slice_get l k) same_events ∙ h));
-      written = (let P : Plan → Type 0 = λ p. Appends old new (schedule_text p) in subst P same written);
+      written = (let P : Plan → Type 0 = λ p. Wrote (schedule_text p) in subst P same written);
     }

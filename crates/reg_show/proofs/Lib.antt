@@ -1,4 +1,7 @@
 pub mod Spelled
 pub mod Accepted
+pub mod Putting
+pub mod Tracing
 pub mod Written
+pub mod Sending
 pub mod Behind

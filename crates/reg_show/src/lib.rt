@@ -13,10 +13,12 @@ mod scheduling;
 mod showing;
 mod telling;
 mod trace_text;
+mod words;
 
 pub use faults::ShowFault;
 pub use figures::{Arrow, Bar, End, arrows, bars};
 pub use moments::{Moment, Sent, tell_events};
 pub use running::show_text;
-pub use schedule_text::{EventLine, line_of, write_schedule};
+pub use schedule_text::write_schedule;
 pub use showing::Showing;
+pub use trace_text::write_trace;
