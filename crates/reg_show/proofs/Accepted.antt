@@ -62,19 +62,21 @@ moved_known n registers w (Tick p) m is = tt
 abbrev AllKnown : ℕ → List Event → Type 0
 AllKnown registers es = (k : ℕ) (e : Event) → slice_get es k ≡ Some e → IsKnown registers e
 
--- where a run accepts its first event, it is known
-first_known : (start : Op → ℕ → Start) (n registers : ℕ) (x : Event) (es : List Event) (w : World) (m : Option (ℕ × Step)) → move_of n registers w x ≡ m
-    → (run start n registers es (moved start w x m)).accepted ≡ w.accepted ++ x ∷ es → IsKnown registers x × ((run start n registers es (moved start w x m)).accepted ≡ (moved start w x m).accepted ++ es)
-first_known start n registers x es w None is all =
+-- where a run accepts its first event, and all others, some process makes a step in it
+pub first_moved : (start : Op → ℕ → Start) (n registers : ℕ) (x : Event) (es : List Event) (w : World) (m : Option (ℕ × Step)) → move_of n registers w x ≡ m
+    → (run start n registers es (moved start w x m)).accepted ≡ w.accepted ++ x ∷ es → (s : ℕ × Step) × (m ≡ Some s) × ((run start n registers es (moved start w x m)).accepted ≡ (moved start w x m).accepted ++ es)
+first_moved start n registers x es w None is all =
     let a : length (run start n registers es w).accepted ≡ length w.accepted + length (x ∷ es) = ap length all ∙ length-append w.accepted (x ∷ es) in
     let b = run_grows start n registers es w in
     absurd (omega (arith, a, b))
-first_known start n registers x es w (Some m) is all = (moved_known n registers w x m is, all ∙ sym (append_assoc w.accepted (x ∷ []) es))
+first_moved start n registers x es w (Some m) is all = (m, refl, all ∙ sym (append_assoc w.accepted (x ∷ []) es))
 
 all_known : (start : Op → ℕ → Start) (n registers : ℕ) (es : List Event) (w : World) → (run start n registers es w).accepted ≡ w.accepted ++ es → (k : ℕ) (e : Event) → slice_get es k ≡ Some e → IsKnown registers e
 all_known start n registers [] w all k e h = absurd (cc)
-all_known start n registers (x ∷ es) w all zero e h = subst (IsKnown registers) (same_Some x e h) (first_known start n registers x es w (move_of n registers w x) refl all).0
-all_known start n registers (x ∷ es) w all (suc k) e h = all_known start n registers es (happens start n registers w x) (first_known start n registers x es w (move_of n registers w x) refl all).1 k e h
+all_known start n registers (x ∷ es) w all zero e h =
+    let first = first_moved start n registers x es w (move_of n registers w x) refl all in
+    subst (IsKnown registers) (same_Some x e h) (moved_known n registers w x first.0 first.1)
+all_known start n registers (x ∷ es) w all (suc k) e h = all_known start n registers es (happens start n registers w x) (first_moved start n registers x es w (move_of n registers w x) refl all).2 k e h
 
 op_fits : (names : List (List ℕ)) (op : Op) → register_of op < length names → HasValue op → OpFits names op
 op_fits names (Read r) known value = known

@@ -5,3 +5,4 @@ pub mod Tracing
 pub mod Written
 pub mod Sending
 pub mod Behind
+pub mod Arrowed

@@ -5,6 +5,7 @@ mod commands;
 mod drawing;
 mod faults;
 mod figures;
+pub mod laws;
 mod layout;
 mod moments;
 mod running;
