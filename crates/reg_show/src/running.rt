@@ -57,8 +57,9 @@ fn obey<A: Allocator + Copy, R: Read, W: Write>(
 }
 
 /// Shows what the text on the reader says: it reads the whole input, and writes once all of it is accepted. The answer is
-/// the status: 0, or 1 where something was refused, with one line on `errors`. That `errors` fails changes no status. The
-/// table of a workload is kept in the global heap, all else in the other one.
+/// the status: 0, or 1 where something was refused, with one line on `errors`, or where the writer failed, and then a first
+/// part of a schedule or a trace went out. That `errors` fails changes no status. The table of a workload is kept in the
+/// global heap, all else in the other one.
 pub fn show_text<A: Allocator + Copy, R: Read, W: Write, E: Write>(
     alloc: A,
     global: Global,
