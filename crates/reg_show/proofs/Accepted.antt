@@ -1,9 +1,9 @@
 -- The events that a world accepted: each call names a register that there is.
-use Rattle.std.proofs.Common.{ℕ, zero, suc, ◌≡◌, ◌+◌, ◌<◌, ◌≤◌, ◌^◌, Bool, List, [], ◌∷◌, ◌++◌, length, Option, None, Some, refl, sym, ap, ◌∙◌, subst, arith, append_assoc, length-append}
-use Rattle.std.specs.Prelude.{slice_get, nat_lt, not, ◌&&◌, cond}
+use Rattle.std.proofs.Common.{ℕ, zero, suc, ◌≡◌, ◌+◌, ◌<◌, ◌≤◌, Bool, List, [], ◌∷◌, ◌++◌, length, Option, None, Some, refl, sym, ap, ◌∙◌, subst, arith, append_assoc, length-append}
+use Rattle.std.specs.Prelude.{slice_get, nat_lt, not, ◌&&◌}
 use Rattle.std.proofs.lemmas.Bool.{cond_both, ltb-true, and_parts}
 use Rattle.std.proofs.lemmas.Option.{same_Some}
-use Rattle.reg_base.specs.declared.limits.TheConstants.{MOST_OPERATIONS, MOST_EVENTS, MOST_PROCESSES}
+use Rattle.reg_base.specs.declared.limits.TheConstants.{MOST_OPERATIONS}
 use Rattle.reg_process.specs.declared.steps.Step.TheVariants.{Call as CallStep}
 use Rattle.reg_world.specs.Nodes.{Nodes, step_of}
 use Rattle.std.specs.Option.{is_some}
@@ -16,13 +16,11 @@ use Rattle.reg_text.specs.Ops.{OpFits, HasValue}
 use Rattle.reg_toml.specs.Loads.{Load, IsLoad}
 use Rattle.reg_world.specs.declared.events.Event.{Event}
 use Rattle.reg_world.specs.declared.events.Event.TheVariants.{Call, Take, Tick}
-use Rattle.reg_world.specs.World.{World, empty_world, move_of, moved, happens, run, whole}
+use Rattle.reg_world.specs.World.{World, empty_world, move_of, moved, happens, run}
 use Rattle.reg_world.specs.Worlds.{Made, run_in}
 use Rattle.reg_world.proofs.Kept.{move_is}
-use Rattle.reg_workload.specs.Plays.{IsPlay}
-use Rattle.reg_workload.specs.Schedules.{EventFits, IsPlan, Plan}
+use Rattle.reg_workload.specs.Schedules.{EventFits, Plan}
 use Rattle.reg_commands.specs.Plays.{IsPlayBy, plan_of}
-use Rattle.std.specs.Io.KnownBytes.{Appends}
 use Rattle.reg_base.specs.Shape.{Extent}
 use Rattle.reg_front.specs.declared.named.Front.{Front}
 use Rattle.reg_world.proofs.Ahead.{same_extent}
@@ -64,19 +62,21 @@ moved_known n registers w (Tick p) m is = tt
 abbrev AllKnown : ℕ → List Event → Type 0
 AllKnown registers es = (k : ℕ) (e : Event) → slice_get es k ≡ Some e → IsKnown registers e
 
--- where a run accepts its first event, it is known
-first_known : (start : Op → ℕ → Start) (n registers : ℕ) (x : Event) (es : List Event) (w : World) (m : Option (ℕ × Step)) → move_of n registers w x ≡ m
-    → (run start n registers es (moved start w x m)).accepted ≡ w.accepted ++ x ∷ es → IsKnown registers x × ((run start n registers es (moved start w x m)).accepted ≡ (moved start w x m).accepted ++ es)
-first_known start n registers x es w None is all =
+-- where a run accepts its first event, and all others, some process makes a step in it
+pub first_moved : (start : Op → ℕ → Start) (n registers : ℕ) (x : Event) (es : List Event) (w : World) (m : Option (ℕ × Step)) → move_of n registers w x ≡ m
+    → (run start n registers es (moved start w x m)).accepted ≡ w.accepted ++ x ∷ es → (s : ℕ × Step) × (m ≡ Some s) × ((run start n registers es (moved start w x m)).accepted ≡ (moved start w x m).accepted ++ es)
+first_moved start n registers x es w None is all =
     let a : length (run start n registers es w).accepted ≡ length w.accepted + length (x ∷ es) = ap length all ∙ length-append w.accepted (x ∷ es) in
     let b = run_grows start n registers es w in
     absurd (omega (arith, a, b))
-first_known start n registers x es w (Some m) is all = (moved_known n registers w x m is, all ∙ sym (append_assoc w.accepted (x ∷ []) es))
+first_moved start n registers x es w (Some m) is all = (m, refl, all ∙ sym (append_assoc w.accepted (x ∷ []) es))
 
 all_known : (start : Op → ℕ → Start) (n registers : ℕ) (es : List Event) (w : World) → (run start n registers es w).accepted ≡ w.accepted ++ es → (k : ℕ) (e : Event) → slice_get es k ≡ Some e → IsKnown registers e
 all_known start n registers [] w all k e h = absurd (cc)
-all_known start n registers (x ∷ es) w all zero e h = subst (IsKnown registers) (same_Some x e h) (first_known start n registers x es w (move_of n registers w x) refl all).0
-all_known start n registers (x ∷ es) w all (suc k) e h = all_known start n registers es (happens start n registers w x) (first_known start n registers x es w (move_of n registers w x) refl all).1 k e h
+all_known start n registers (x ∷ es) w all zero e h =
+    let first = first_moved start n registers x es w (move_of n registers w x) refl all in
+    subst (IsKnown registers) (same_Some x e h) (moved_known n registers w x first.0 first.1)
+all_known start n registers (x ∷ es) w all (suc k) e h = all_known start n registers es (happens start n registers w x) (first_moved start n registers x es w (move_of n registers w x) refl all).2 k e h
 
 op_fits : (names : List (List ℕ)) (op : Op) → register_of op < length names → HasValue op → OpFits names op
 op_fits names (Read r) known value = known
@@ -106,11 +106,11 @@ play_schedule fair start work made is_finished load played all bits =
     })
 
 -- the schedule that was written is that of the play
-pub shows_schedule : (fair : Bool) (start : Op → ℕ → Start) (work : Load) (made : Made) (is_finished : Bool) (old new : Option (List ℕ)) (shape : Extent) (names : List (List ℕ)) (front : Front) (events : List Event)
+pub shows_schedule : (fair : Bool) (start : Op → ℕ → Start) (work : Load) (made : Made) (is_finished : Bool) (Wrote : List ℕ → Type 0) (shape : Extent) (names : List (List ℕ)) (front : Front) (events : List Event)
     → shape ≡ work.shape → names ≡ work.names → front ≡ work.front → events ≡ made.accepted → IsLoad work → IsPlayBy fair start work made is_finished → (run_in start made).accepted ≡ made.accepted
     → ((k : ℕ) (e : Event) → slice_get events k ≡ Some e → EventHasBits e)
-    → Appends old new (schedule_text (record { shape = shape; names = names; front = front; events = events })) → ShowsSchedule fair start old new work
-shows_schedule fair start work made is_finished old new shape names front events same_shape same_names same_front same_events load played all bits written =
+    → Wrote (schedule_text (record { shape = shape; names = names; front = front; events = events })) → ShowsSchedule fair start Wrote work
+shows_schedule fair start work made is_finished Wrote shape names front events same_shape same_names same_front same_events load played all bits written =
     let play = played.play in
     let extent : shape ≡ record { processes = made.processes; registers = made.registers } = same_shape ∙ same_extent work.shape (record { processes = made.processes; registers = made.registers }) (sym play.processes) (sym play.registers) in
     let same : record { shape = shape; names = names; front = front; events = events } ≡ plan_of work made = λ i. record { shape = extent i; names = same_names i; front = same_front i; events = same_events i } in
@@ -119,5 +119,5 @@ shows_schedule fair start work made is_finished old new shape names front events
       is_finished = is_finished;
       played = played;
       schedule = play_schedule fair start work made is_finished load played all (λ k e h. bits k e (ap (λ (l : List Event). slice_get l k) same_events ∙ h));
-      written = (let P : Plan → Type 0 = λ p. Appends old new (schedule_text p) in subst P same written);
+      written = (let P : Plan → Type 0 = λ p. Wrote (schedule_text p) in subst P same written);
     }

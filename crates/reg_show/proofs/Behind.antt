@@ -1,5 +1,5 @@
 -- What an event did, by what its world answers before and after it.
-use Rattle.std.proofs.Common.{ℕ, zero, suc, ◌≡◌, ◌+◌, ◌<◌, ◌≤◌, ◌⊎◌, inl, inr, Bool, true, false, List, [], ◌∷◌, ◌++◌, length, drop, take, map, get_or, set, append_assoc, append-nil, Option, None, Some, refl, sym, ap, ap₂, ◌∙◌, subst, arith, drop-cons}
+use Rattle.std.proofs.Common.{ℕ, zero, suc, ◌≡◌, ◌+◌, ◌<◌, ◌≤◌, ◌⊎◌, inl, inr, Bool, true, false, List, [], ◌∷◌, ◌++◌, length, drop, take, map, get_or, set, append_assoc, append-nil, Option, None, refl, sym, ap, ap₂, ◌∙◌, arith, drop-cons}
 use Rattle.std.proofs.lemmas.List.{get_or-set_same, get_or-set_other, drop_all}
 use Rattle.std.specs.Prelude.{slice_index, cond, ◌==◌, ◌&&◌, not, nat_lt, slice_get}
 use Rattle.std.proofs.lemmas.Bool.{cases_eq, cases_order, ne_eqb, eq-eqb, lt-ltb, le-ltb}
@@ -9,11 +9,11 @@ use Rattle.reg_frames.specs.declared.bodies.Frame.{Frame}
 use Rattle.reg_front.specs.declared.starts.Start.{Start}
 use Rattle.reg_process.specs.declared.steps.Reply.{Reply}
 use Rattle.reg_world.specs.declared.events.Event.{Event}
-use Rattle.reg_world.specs.declared.events.Event.TheVariants.{Call, Take, Tick}
+use Rattle.reg_world.specs.declared.events.Event.TheVariants.{Take}
 use Rattle.reg_world.specs.Nodes.{Nodes}
 use Rattle.reg_world.specs.World.{delivered_of}
 use Rattle.reg_world.specs.Histories.{process_of}
-use Rattle.reg_world.specs.Worlds.{Made, run_in, with_event, reply_in, IsWire, IsNoWire}
+use Rattle.reg_world.specs.Worlds.{Made, run_in, with_event, reply_in}
 use Rattle.reg_show.specs.declared.moments.Sent.{Sent}
 use Rattle.reg_show.specs.Moments.{Fact, frame_taken, placed, puts_since, moment_between, moment_of, moments_from}
 

@@ -1,9 +1,8 @@
 -- The text of a schedule is read as that schedule.
-use Rattle.std.proofs.Common.{ℕ, suc, ◌≡◌, ◌<◌, ◌≤◌, List, [], ◌∷◌, ◌++◌, length, map, codes, None, Some, refl, ap, ◌∙◌, arith, append-nil}
+use Rattle.std.proofs.Common.{ℕ, suc, ◌≡◌, ◌<◌, List, [], ◌∷◌, ◌++◌, length, map, codes, None, Some, refl, ap, ◌∙◌, arith, append-nil}
 use Rattle.std.specs.Prelude.{slice_get, slice_index_or}
 use Rattle.std.specs.Fmt.{decimal}
 use Rattle.reg_base.specs.Names.{names_fault, is_name}
-use Rattle.reg_base.specs.declared.limits.TheConstants.{MOST_PROCESSES}
 use Rattle.std.proofs.Common.{true}
 use Rattle.reg_front.specs.declared.named.Front.{Front}
 use Rattle.reg_front.specs.declared.named.Front.TheVariants.{Linear, LocalRead, LocalWrite}
@@ -18,7 +17,7 @@ use Rattle.reg_text.proofs.Split.{AllLack, lines_text, none_left, kept_line, non
 use Rattle.reg_world.specs.declared.events.Event.{Event}
 use Rattle.reg_world.specs.declared.events.Event.TheVariants.{Call, Take, Tick}
 use Rattle.reg_workload.specs.Schedules.{Plan, IsPlan, EventFits, event_text, plan_lines}
-use Rattle.reg_show.specs.Schedules.{schedule_text, IsScheduleText}
+use Rattle.reg_show.specs.Schedules.{IsScheduleText}
 
 names_lack : (ns : List (List ℕ)) → ((r : ℕ) → r < length ns → is_name (slice_index_or ns r []) ≡ true) → Lacks 10 (names_text ns)
 names_lack [] h = refl

@@ -1,5 +1,5 @@
 -- What a drawing of a run joins.
-use Rattle.std.specs.Prelude.{ℕ, ◌+◌, ◌==◌, ◌&&◌, Bool, cond, List, [], ◌∷◌, ◌++◌, Option, None, Some, position}
+use Rattle.std.specs.Prelude.{ℕ, ◌≡◌, ◌+◌, ◌<◌, ◌==◌, ◌&&◌, Bool, cond, List, [], ◌∷◌, ◌++◌, map, All, Option, None, Some, position}
 use Rattle.std.specs.List.{list_any}
 use Rattle.reg_base.specs.declared.memory.OpId.{OpId}
 use Rattle.reg_history.specs.declared.entries.Entry.{Entry}
@@ -54,3 +54,15 @@ arrows_in facts k (f ∷ fs) = arrow_of facts k f.event ++ arrows_in facts (k + 
 -- an arrow for each take of a run
 abbrev pub arrows_of : List Fact → List Arrow
 arrows_of facts = arrows_in facts 0 facts
+
+-- the numbers of the takes among these events, the first of which has the number k
+abbrev pub takes_in : ℕ → List Event → List ℕ
+takes_in k [] = []
+takes_in k (Call p op ∷ es) = takes_in (k + 1) es
+takes_in k (Take from to place ∷ es) = k ∷ takes_in (k + 1) es
+takes_in k (Tick p ∷ es) = takes_in (k + 1) es
+
+-- Each take of these events has one arrow, in order, and its frame was put by an earlier event.
+pub record HaveArrows (events : List Event) (arrows : List Arrow) : Type 0 where
+  pub each : map (λ (a : Arrow). a.takes) arrows ≡ takes_in 0 events
+  pub earlier : All (λ (a : Arrow). a.puts < a.takes) arrows

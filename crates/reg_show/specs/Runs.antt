@@ -3,15 +3,15 @@ use Rattle.std.specs.Prelude.{ℕ, ◌≡◌, ◌≤◌, ◌<◌, List, length}
 use Rattle.reg_base.specs.declared.memory.Op.{Op}
 use Rattle.reg_front.specs.declared.starts.Start.{Start}
 use Rattle.reg_history.specs.declared.entries.Entry.{Entry}
-use Rattle.reg_history.specs.declared.entries.Point.{Point}
 use Rattle.reg_workload.specs.Schedules.{Plan, IsPlan, Spells}
-use Rattle.reg_commands.specs.Replays.{start_of, run_by, PointsOf}
+use Rattle.reg_commands.specs.Replays.{start_of, run_by}
 use Rattle.reg_commands.specs.Answers.{Blames}
 use Rattle.reg_commands.specs.declared.command.Command.TheVariants.{Replay}
 use Rattle.reg_show.specs.declared.commands.TheConstants.{MOST_DRAWN}
 use Rattle.reg_show.specs.declared.faults.ShowFault.{ShowFault}
 use Rattle.reg_show.specs.declared.faults.ShowFault.TheVariants.{Command, TooManyToDraw}
 use Rattle.reg_show.specs.Moments.{Fact, moments_of}
+use Rattle.reg_show.specs.Traces.{trace_text}
 
 -- All events of a plan are accepted, and these are its names, what its events did, and the history of its run.
 pub record IsTold (start : Op → ℕ → Start) (p : Plan) (names : List (List ℕ)) (facts : List Fact) (entries : List Entry) : Type 0 where
@@ -20,12 +20,14 @@ pub record IsTold (start : Op → ℕ → Start) (p : Plan) (names : List (List 
   pub did : facts ≡ moments_of start p.shape p.events
   pub history : entries ≡ (run_by start p).history
 
--- The text is that of a plan, all of whose events are accepted.
-pub record TellsRun (text : List ℕ) : Type 0 where
+-- The text is that of a plan, all of whose events are accepted, and the trace of its run was written: `Wrote` says how a text
+-- was.
+pub record TellsRun (Wrote : List ℕ → Type 0) (text : List ℕ) : Type 0 where
   pub plan : Plan
   pub good : IsPlan plan
   pub read : Spells text plan
   pub accepted : (run_by (start_of plan.front) plan).accepted ≡ plan.events
+  pub written : Wrote (trace_text plan.names (moments_of (start_of plan.front) plan.shape plan.events))
 
 -- The text is that of a plan with no more events than can be drawn, all of them accepted.
 pub record DrawsRun (text : List ℕ) : Type 0 where

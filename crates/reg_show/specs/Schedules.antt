@@ -1,11 +1,9 @@
 -- The text of a schedule, and the schedule of a play.
-use Rattle.std.specs.Prelude.{ℕ, ◌≤◌, Bool, List, ◌++◌, codes, Option}
-use Rattle.std.specs.Fmt.{decimal}
-use Rattle.std.specs.Io.KnownBytes.{Appends}
+use Rattle.std.specs.Prelude.{ℕ, ◌≤◌, Bool, List}
 use Rattle.reg_base.specs.declared.memory.Op.{Op}
 use Rattle.reg_front.specs.declared.starts.Start.{Start}
 use Rattle.reg_text.specs.Lines.{text_of}
-use Rattle.reg_text.specs.Ops.{op_line, HasValue}
+use Rattle.reg_text.specs.Ops.{HasValue}
 use Rattle.reg_toml.specs.Loads.{Load}
 use Rattle.reg_world.specs.declared.events.Event.{Event}
 use Rattle.reg_world.specs.declared.events.Event.TheVariants.{Call, Take, Tick}
@@ -13,12 +11,6 @@ use Rattle.reg_world.specs.Worlds.{Made}
 use Rattle.reg_workload.specs.Schedules.{Plan, IsPlan, Spells, plan_lines}
 use Rattle.reg_commands.specs.Replays.{start_of}
 use Rattle.reg_commands.specs.Plays.{Holds, IsPlayBy, plan_of}
-
--- an event in the words of a schedule, with the name of its register at hand
-abbrev pub event_words : List ℕ → Event → List ℕ
-event_words name (Call process op) = codes "call " ++ decimal process ++ codes " " ++ op_line name op
-event_words name (Take from to number) = codes "take " ++ decimal from ++ codes " " ++ decimal to ++ codes " " ++ decimal number
-event_words name (Tick process) = codes "tick " ++ decimal process
 
 -- the numbers of an event are within their types
 abbrev pub EventHasBits : Event → Type 0
@@ -36,16 +28,16 @@ pub record IsScheduleText (p : Plan) : Type 0 where
   pub spelled : Spells (schedule_text p) p
 
 -- There is a play of the workload whose schedule was written: that of the events which it accepted, under the workload's
--- front end and names.
-pub record ShowsSchedule (fair : Bool) (start : Op → ℕ → Start) (old new : Option (List ℕ)) (work : Load) : Type 0 where
+-- front end and names. `Wrote` says how a text was.
+pub record ShowsSchedule (fair : Bool) (start : Op → ℕ → Start) (Wrote : List ℕ → Type 0) (work : Load) : Type 0 where
   pub made : Made
   pub is_finished : Bool
   pub played : IsPlayBy fair start work made is_finished
   pub schedule : IsScheduleText (plan_of work made)
-  pub written : Appends old new (schedule_text (plan_of work made))
+  pub written : Wrote (schedule_text (plan_of work made))
 
 -- The text is a document that says a workload, and the schedule of a play of it was written.
-pub record WritesSchedule (fair : Bool) (old new : Option (List ℕ)) (text : List ℕ) : Type 0 where
+pub record WritesSchedule (fair : Bool) (Wrote : List ℕ → Type 0) (text : List ℕ) : Type 0 where
   pub work : Load
   pub holds : Holds text work
-  pub shown : ShowsSchedule fair (start_of work.front) old new work
+  pub shown : ShowsSchedule fair (start_of work.front) Wrote work

@@ -1,5 +1,5 @@
 -- What is shown of a text, and what a fault says of it.
-use Rattle.std.specs.Prelude.{ℕ, List, Option}
+use Rattle.std.specs.Prelude.{ℕ, List}
 use Rattle.reg_commands.specs.declared.command.Command.TheVariants.{Play, Replay}
 use Rattle.reg_commands.specs.Answers.{Blames as BlamesCommand}
 use Rattle.reg_show.specs.declared.faults.ShowFault.{ShowFault}
@@ -9,11 +9,11 @@ use Rattle.reg_show.specs.declared.showing.Showing.TheVariants.{Schedule, Trace,
 use Rattle.reg_show.specs.Runs.{TellsRun, DrawsRun, BlamesDrawn}
 use Rattle.reg_show.specs.Schedules.{WritesSchedule}
 
--- what was read, and for a schedule what was written
-abbrev pub Shows : Showing → Option (List ℕ) → Option (List ℕ) → List ℕ → Type 0
-Shows (Schedule fair) old new text = WritesSchedule fair old new text
-Shows Trace old new text = TellsRun text
-Shows Draw old new text = DrawsRun text
+-- what was read, and for a schedule and a trace what was written: `Wrote` says how a text was
+abbrev pub Shows : Showing → (List ℕ → Type 0) → List ℕ → Type 0
+Shows (Schedule fair) Wrote text = WritesSchedule fair Wrote text
+Shows Trace Wrote text = TellsRun Wrote text
+Shows Draw Wrote text = DrawsRun text
 
 -- what a fault says of the input: what the command that reads the same says by it
 abbrev pub Blames : Showing → ShowFault → List ℕ → Type 0

@@ -1,8 +1,13 @@
 //! The commands that show the run of a schedule: as text, and as a drawing.
-ghost use Rattle.std.specs.Prelude.{◌≡◌, ◌≢◌, IfOk, IfErr, IsErrOf, OnErr};
+ghost use Rattle.std.specs.Prelude.{◌≡◌, ◌≢◌, IfOk, IfErr, IsErrOf, MatchResult, OnErr};
+ghost use Rattle.std.specs.Io.KnownBytes.{Appends};
+ghost use Rattle.reg_text.specs.Writing.{AppendsPart};
+ghost use Rattle.reg_workload.specs.Schedules.{Plan, IsPlan, Spells};
 ghost use Rattle.reg_commands.specs.Answers.{Blames};
+ghost use Rattle.reg_commands.specs.Replays.{start_of};
 ghost use Rattle.reg_commands.specs.declared.command.Command.TheVariants.{Replay};
-ghost use Rattle.reg_show.specs.Runs.{BlamesDrawn, DrawsRun, TellsRun};
+ghost use Rattle.reg_show.specs.Runs.{BlamesDrawn, DrawsRun, IsTold, TellsRun};
+ghost use Rattle.reg_show.specs.Traces.{trace_text};
 
 use crate::drawing::{Drawing, write_drawing};
 use crate::faults::ShowFault;
@@ -19,21 +24,43 @@ use std::io::Write;
 /// The most events of a run that is drawn.
 pub const MOST_DRAWN: usize = 400;
 
+/// What is told of the schedule that a text spells.
+fn told<A: Allocator + Copy>(alloc: A, text: &str) -> Result<Told<A>, Fault>
+    ensures ok { IfOk result (λ t. (p : Plan) × IsPlan p × Spells text.now p × IsTold (start_of p.front) p t.names t.moments.items t.history.entries) }
+    ensures why { IfErr result (λ f. Blames Replay f text.now) }
+    ensures kind { IfErr result (λ f. f ≢ Fault.Output) }
+{
+    let schedule = read_schedule(alloc, text)?;
+    tell_schedule(alloc, schedule)
+}
+
+/// Writes what each event did, to the last byte.
+fn send<A: Allocator + Copy, W: Write>(
+    writer: &mut W,
+    names: &Names<A>,
+    moments: &[Moment<A>],
+) -> Result<(), Fault>
+    ensures { MatchResult result (λ _. Appends (W.contents writer.old) (W.contents writer.new) (trace_text names.now moments.now)) (λ f. (f ≡ Fault.Output) × AppendsPart (W.contents writer.old) (W.contents writer.new) (trace_text names.now moments.now)) }
+{
+    if write_trace(writer, names, moments).is_err() || writer.flush().is_err() {
+        return Err(Fault::Output);
+    }
+    Ok(())
+}
+
 /// Reads a schedule, and writes what happens in its run, event by event.
 pub(crate) fn trace<A: Allocator + Copy, W: Write>(
     alloc: A,
     text: &str,
     writer: &mut W,
 ) -> Result<(), Fault>
-    ensures ok { IfOk result (λ _. TellsRun text.now) }
+    ensures ok { IfOk result (λ _. TellsRun (Appends (W.contents writer.old) (W.contents writer.new)) text.now) }
     ensures why { IfErr result (λ f. Blames Replay f text.now) }
     ensures silent { IfErr result (λ f. f ≢ Fault.Output → writer.new ≡ writer.old) }
+    ensures part { IsErrOf result Fault.Output → TellsRun (AppendsPart (W.contents writer.old) (W.contents writer.new)) text.now }
 {
-    let schedule = read_schedule(alloc, text)?;
-    let told = tell_schedule(alloc, schedule)?;
-    if write_trace(writer, &told.names, &told.moments).is_err() || writer.flush().is_err() {
-        return Err(Fault::Output);
-    }
+    let told = told(alloc, text)?;
+    send(writer, &told.names, told.moments.as_slice())?;
     Ok(())
 }
 
@@ -104,6 +131,7 @@ pub(crate) fn draw<A: Allocator + Copy, W: Write>(
     ensures ok { IfOk result (λ _. DrawsRun text.now) }
     ensures why { IfErr result (λ f. BlamesDrawn f text.now) }
     ensures silent { IfErr result (λ f. f ≢ ShowFault.Command Fault.Output → writer.new ≡ writer.old) }
+    ensures part { IsErrOf result (ShowFault.Command Fault.Output) → DrawsRun text.now }
 {
     let schedule = match read_schedule(alloc, text) {
         Ok(schedule) => schedule,

@@ -2,7 +2,7 @@
 use crate::figures::{Arrow, Bar, is_taken};
 use crate::layout::{BELOW, LEADING, Label, Layout, TOP};
 use crate::moments::Moment;
-use crate::trace_text::{cast_text, frame_text};
+use crate::words::{cast_text, frame_text};
 use reg_base::Names;
 use reg_frames::{Body, Frame};
 use reg_history::Point;

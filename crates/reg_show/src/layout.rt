@@ -1,7 +1,7 @@
 //! Where the parts of a drawing stand.
 use crate::figures::Bar;
 use crate::moments::Moment;
-use crate::trace_text::{AnswerText, cast_text};
+use crate::words::{AnswerText, cast_text};
 use reg_base::Names;
 use reg_text::{OpLine, name_of_op};
 use std::alloc::{AllocError, Allocator};

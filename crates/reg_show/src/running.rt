@@ -1,6 +1,8 @@
 //! Showing a text over any reader and writer.
-ghost use Rattle.std.specs.Prelude.{◌≡◌, ◌≢◌, ◌≤◌, IfOk, IfErr, OnOk, IfSome, length};
+ghost use Rattle.std.specs.Prelude.{◌≡◌, ◌≢◌, ◌≤◌, IfOk, IfErr, IsErrOf, OnOk, IfSome, length};
+ghost use Rattle.std.specs.Io.KnownBytes.{Appends};
 ghost use Rattle.reg_base.specs.declared.limits.TheConstants.{LONGEST_INPUT};
+ghost use Rattle.reg_text.specs.Writing.{AppendsPart};
 ghost use Rattle.reg_show.specs.declared.faults.ShowFault.{ShowFault as AnyFault};
 ghost use Rattle.reg_show.specs.Showings.{Blames, Shows};
 
@@ -19,9 +21,10 @@ fn show<A: Allocator + Copy, W: Write>(
     text: &str,
     writer: &mut W,
 ) -> Result<(), ShowFault>
-    ensures ok { IfOk result (λ _. Shows showing (W.contents writer.old) (W.contents writer.new) text.now) }
+    ensures ok { IfOk result (λ _. Shows showing (Appends (W.contents writer.old) (W.contents writer.new)) text.now) }
     ensures why { IfErr result (λ f. Blames showing f text.now) }
     ensures silent { IfErr result (λ f. f ≢ ShowFault.Command Fault.Output → writer.new ≡ writer.old) }
+    ensures part { IsErrOf result (ShowFault.Command Fault.Output) → Shows showing (AppendsPart (W.contents writer.old) (W.contents writer.new)) text.now }
 {
     let shown = match showing {
         Showing::Schedule { fair } => schedule(alloc, global, text, fair, writer),
@@ -41,10 +44,11 @@ fn obey<A: Allocator + Copy, R: Read, W: Write>(
     reader: &mut R,
     writer: &mut W,
 ) -> Result<(), ShowFault>
-    ensures ok { IfOk result (λ _. IfSome (R.remaining reader.old) (Shows showing (W.contents writer.old) (W.contents writer.new))) }
+    ensures ok { IfOk result (λ _. IfSome (R.remaining reader.old) (Shows showing (Appends (W.contents writer.old) (W.contents writer.new)))) }
     ensures within { OnOk result (IfSome (R.remaining reader.old) (λ xs. length xs ≤ LONGEST_INPUT)) }
     ensures why { IfErr result (λ f. IfSome (R.remaining reader.old) (Blames showing f)) }
     ensures silent { IfErr result (λ f. f ≢ ShowFault.Command Fault.Output → writer.new ≡ writer.old) }
+    ensures part { IsErrOf result (ShowFault.Command Fault.Output) → IfSome (R.remaining reader.old) (Shows showing (AppendsPart (W.contents writer.old) (W.contents writer.new))) }
 {
     match read_input(alloc, reader) {
         Ok(text) => show(alloc, global, showing, text.as_str(), writer),
@@ -53,8 +57,9 @@ fn obey<A: Allocator + Copy, R: Read, W: Write>(
 }
 
 /// Shows what the text on the reader says: it reads the whole input, and writes once all of it is accepted. The answer is
-/// the status: 0, or 1 where something was refused, with one line on `errors`. That `errors` fails changes no status. The
-/// table of a workload is kept in the global heap, all else in the other one.
+/// the status: 0, or 1 where something was refused, with one line on `errors`, or where the writer failed, and then a first
+/// part of a schedule or a trace went out. That `errors` fails changes no status. The table of a workload is kept in the
+/// global heap, all else in the other one.
 pub fn show_text<A: Allocator + Copy, R: Read, W: Write, E: Write>(
     alloc: A,
     global: Global,
@@ -65,8 +70,9 @@ pub fn show_text<A: Allocator + Copy, R: Read, W: Write, E: Write>(
 ) -> u8
     ensures range { result ≤ 1 }
     ensures within { result ≡ 0 → IfSome (R.remaining reader.old) (λ xs. length xs ≤ LONGEST_INPUT) }
-    ensures shown { result ≡ 0 → IfSome (R.remaining reader.old) (Shows showing (W.contents writer.old) (W.contents writer.new)) }
-    ensures refused { result ≡ 1 → (f : AnyFault) × IfSome (R.remaining reader.old) (Blames showing f) × (f ≢ ShowFault.Command Fault.Output → writer.new ≡ writer.old) }
+    ensures shown { result ≡ 0 → IfSome (R.remaining reader.old) (Shows showing (Appends (W.contents writer.old) (W.contents writer.new))) }
+    ensures refused { result ≡ 1 → (f : AnyFault) × IfSome (R.remaining reader.old) (Blames showing f) × (f ≢ ShowFault.Command Fault.Output → writer.new ≡ writer.old)
+        × (f ≡ ShowFault.Command Fault.Output → IfSome (R.remaining reader.old) (Shows showing (AppendsPart (W.contents writer.old) (W.contents writer.new)))) }
     ensures quiet { result ≡ 0 → errors.new ≡ errors.old }
 {
     match obey(alloc, global, showing, reader, writer) {

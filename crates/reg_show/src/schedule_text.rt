@@ -1,145 +1,146 @@
 //! The text of a schedule.
-ghost use Rattle.std.specs.Prelude.{◌≡◌, ◌++◌, ◌∷◌, [], OnOk, Some, codes};
+ghost use Rattle.std.specs.Prelude.{◌≡◌, ◌++◌, ◌∷◌, [], MatchResult, codes};
 ghost use Rattle.std.specs.Fmt.{decimal};
 ghost use Rattle.std.specs.Io.KnownBytes.{Appends};
 ghost use Rattle.reg_front.specs.Table.{front_name};
-ghost use Rattle.reg_text.specs.Lines.{text_of};
 ghost use Rattle.reg_text.specs.Words.{names_text};
+ghost use Rattle.reg_text.specs.Writing.{AppendsPart, Puts};
 ghost use Rattle.reg_history.specs.Written.{lines_by};
 ghost use Rattle.reg_workload.specs.Schedules.{Plan, event_text};
-ghost use Rattle.reg_show.specs.Schedules.{event_words, schedule_text};
+ghost use Rattle.reg_show.specs.Schedules.{schedule_text};
 
+use itoa::Buffer;
 use reg_base::{Names, Shape};
 use reg_front::Front;
-use reg_text::{OpLine, Unwritten, name_at, name_of_op};
+use reg_text::{Sink, Unwritten, name_at, put_op};
 use reg_world::Event;
 use std::alloc::Allocator;
-use std::fmt;
 use std::io::Write;
 
-/// Shows an event in the words of a schedule.
-#[derive(Clone, Copy)]
-pub struct EventLine<'a> {
-    /// The name of the register that a call names.
-    pub name: &'a str,
-    pub event: Event,
-}
-
-impl fmt::Display for EventLine<'_> {
-    ghost output = { λ l. Some (event_words l.name.now l.event) };
-
-    fn fmt<W: fmt::Write>(&self, f: &mut fmt::Formatter<W>) -> fmt::Result {
-        match self.event {
-            Event::Call { process, op } => {
-                let op = OpLine {
-                    name: self.name,
-                    op,
-                };
-                write!(f, "call {process} {op}")
-            }
-            Event::Take { from, to, number } => write!(f, "take {from} {to} {number}"),
-            Event::Tick { process } => write!(f, "tick {process}"),
-        }
-    }
-}
-
-/// The line of an event, under these names.
-pub fn line_of<A: Allocator + Copy>(names: &Names<A>, event: Event) -> EventLine<'_>
-    ensures { event_words result.name.now result.event ≡ event_text names.now event }
+/// Puts a mark, and then a number.
+pub fn put_number<W: Write>(sink: &mut Sink<'_, W>, mark: &str, number: u64)
+    ensures { Puts W.contents sink.old sink.new (mark.now ++ decimal number) }
 {
-    match event {
-        Event::Call { op, .. } => EventLine {
-            name: name_of_op(names, op),
-            event,
-        },
-        _ => EventLine { name: "", event },
-    }
+    let mut digits = Buffer::new();
+    sink.put(mark.as_bytes());
+    sink.put(digits.format(number).as_bytes());
 }
 
-/// Writes the line of an event.
-fn write_event<A: Allocator + Copy, W: Write>(
-    writer: &mut W,
+/// Puts the event that takes the frame at this place of a wire.
+pub fn put_take<W: Write>(sink: &mut Sink<'_, W>, from: u8, to: u8, place: usize)
+    ensures { Puts W.contents sink.old sink.new (codes "take " ++ (decimal from ++ 32 ∷ (decimal to ++ 32 ∷ decimal place))) }
+{
+    put_number(sink, "take ", from as u64);
+    put_number(sink, " ", to as u64);
+    put_number(sink, " ", place as u64);
+}
+
+/// Puts an event in the words of a schedule.
+pub fn put_event<A: Allocator + Copy, W: Write>(
+    sink: &mut Sink<'_, W>,
     names: &Names<A>,
     event: Event,
-) -> Result<(), Unwritten>
-    ensures { OnOk result (Appends (W.contents writer.old) (W.contents writer.new) (event_text names.now event ++ 10 ∷ [])) }
+)
+    ensures { Puts W.contents sink.old sink.new (event_text names.now event) }
 {
-    let line = line_of(names, event);
-    if writeln!(writer, "{line}").is_err() {
-        return Err(Unwritten);
+    match event {
+        Event::Call { process, op } => {
+            put_number(sink, "call ", process as u64);
+            sink.put(b" ");
+            put_op(sink, names, op);
+        }
+        Event::Take { from, to, number } => put_take(sink, from, to, number as usize),
+        Event::Tick { process } => put_number(sink, "tick ", process as u64),
     }
-    Ok(())
 }
 
-/// Writes a line for each event.
-fn write_events<A: Allocator + Copy, W: Write>(
-    writer: &mut W,
+/// Puts the line of an event.
+fn put_event_line<A: Allocator + Copy, W: Write>(
+    sink: &mut Sink<'_, W>,
+    names: &Names<A>,
+    event: Event,
+)
+    ensures { Puts W.contents sink.old sink.new (event_text names.now event ++ 10 ∷ []) }
+{
+    put_event(sink, names, event);
+    sink.put(b"\n");
+}
+
+/// Puts a line for each event.
+fn put_events<A: Allocator + Copy, W: Write>(
+    sink: &mut Sink<'_, W>,
     names: &Names<A>,
     events: &[Event],
-) -> Result<(), Unwritten>
-    ensures { OnOk result (Appends (W.contents writer.old) (W.contents writer.new) (lines_by (event_text names.now) events.now)) }
+)
+    ensures { Puts W.contents sink.old sink.new (lines_by (event_text names.now) events.now) }
 {
     for event in events {
-        write_event(writer, names, *event)?;
+        put_event_line(sink, names, *event);
     }
-    Ok(())
 }
 
-/// Writes each name behind a space.
-fn write_names<A: Allocator + Copy, W: Write>(
-    writer: &mut W,
-    names: &Names<A>,
-) -> Result<(), Unwritten>
-    ensures { OnOk result (Appends (W.contents writer.old) (W.contents writer.new) (names_text names.now)) }
+/// Puts a name behind a space.
+fn put_name<W: Write>(sink: &mut Sink<'_, W>, name: &str)
+    ensures { Puts W.contents sink.old sink.new (32 ∷ name.now) }
+{
+    sink.put(b" ");
+    sink.put(name.as_bytes());
+}
+
+/// Puts each name behind a space.
+fn put_names<A: Allocator + Copy, W: Write>(sink: &mut Sink<'_, W>, names: &Names<A>)
+    ensures { Puts W.contents sink.old sink.new (names_text names.now) }
 {
     for place in 0..names.count() {
         let name = name_at(names, place as u16);
-        if write!(writer, " {name}").is_err() {
-            return Err(Unwritten);
-        }
+        put_name(sink, name);
     }
-    Ok(())
 }
 
-/// Writes the line of the names.
-fn write_registers<A: Allocator + Copy, W: Write>(
-    writer: &mut W,
+/// Puts the line of the number of processes.
+fn put_processes<W: Write>(sink: &mut Sink<'_, W>, processes: u32)
+    ensures { Puts W.contents sink.old sink.new (codes "processes " ++ decimal processes ++ 10 ∷ []) }
+{
+    put_number(sink, "processes ", processes as u64);
+    sink.put(b"\n");
+}
+
+/// Puts the line of the names.
+fn put_registers<A: Allocator + Copy, W: Write>(sink: &mut Sink<'_, W>, names: &Names<A>)
+    ensures { Puts W.contents sink.old sink.new (codes "registers" ++ (names_text names.now ++ 10 ∷ [])) }
+{
+    sink.put(b"registers");
+    put_names(sink, names);
+    sink.put(b"\n");
+}
+
+/// Puts the line of the front end.
+fn put_front<W: Write>(sink: &mut Sink<'_, W>, front: Front)
+    ensures { Puts W.contents sink.old sink.new (codes "front" ++ (32 ∷ front_name front ++ 10 ∷ [])) }
+{
+    sink.put(b"front");
+    put_name(sink, front.name());
+    sink.put(b"\n");
+}
+
+/// Puts the text of the schedule that has these parts.
+fn put_schedule<A: Allocator + Copy, W: Write>(
+    sink: &mut Sink<'_, W>,
+    shape: Shape,
     names: &Names<A>,
-) -> Result<(), Unwritten>
-    ensures { OnOk result (Appends (W.contents writer.old) (W.contents writer.new) (codes "registers" ++ (names_text names.now ++ 10 ∷ []))) }
+    front: Front,
+    events: &[Event],
+)
+    ensures { let plan : Plan = record { shape = shape; names = names.now; front = front; events = events.now } in
+        Puts W.contents sink.old sink.new (schedule_text plan) }
 {
-    if write!(writer, "registers").is_err() {
-        return Err(Unwritten);
-    }
-    write_names(writer, names)?;
-    if writeln!(writer).is_err() {
-        return Err(Unwritten);
-    }
-    Ok(())
+    put_processes(sink, shape.processes());
+    put_registers(sink, names);
+    put_front(sink, front);
+    put_events(sink, names, events);
 }
 
-/// Writes the line of the number of processes.
-fn write_processes<W: Write>(writer: &mut W, processes: u32) -> Result<(), Unwritten>
-    ensures { OnOk result (Appends (W.contents writer.old) (W.contents writer.new) (codes "processes " ++ decimal processes ++ 10 ∷ [])) }
-{
-    if writeln!(writer, "processes {processes}").is_err() {
-        return Err(Unwritten);
-    }
-    Ok(())
-}
-
-/// Writes the line of the front end.
-fn write_front<W: Write>(writer: &mut W, front: Front) -> Result<(), Unwritten>
-    ensures { OnOk result (Appends (W.contents writer.old) (W.contents writer.new) (codes "front " ++ front_name front ++ 10 ∷ [])) }
-{
-    let name = front.name();
-    if writeln!(writer, "front {name}").is_err() {
-        return Err(Unwritten);
-    }
-    Ok(())
-}
-
-/// Writes the text of the schedule that has these parts.
+/// Writes the text of the schedule that has these parts, all of it or, where the writer fails, a first part.
 pub fn write_schedule<A: Allocator + Copy, W: Write>(
     writer: &mut W,
     shape: Shape,
@@ -148,11 +149,12 @@ pub fn write_schedule<A: Allocator + Copy, W: Write>(
     events: &[Event],
 ) -> Result<(), Unwritten>
     ensures { let plan : Plan = record { shape = shape; names = names.now; front = front; events = events.now } in
-        OnOk result (Appends (W.contents writer.old) (W.contents writer.new) (schedule_text plan)) }
+        MatchResult result (λ _. Appends (W.contents writer.old) (W.contents writer.new) (schedule_text plan)) (λ _. AppendsPart (W.contents writer.old) (W.contents writer.new) (schedule_text plan)) }
 {
-    write_processes(writer, shape.processes())?;
-    write_registers(writer, names)?;
-    write_front(writer, front)?;
-    write_events(writer, names, events)?;
+    let mut sink = Sink::new(writer);
+    put_schedule(&mut sink, shape, names, front, events);
+    if sink.failed {
+        return Err(Unwritten);
+    }
     Ok(())
 }

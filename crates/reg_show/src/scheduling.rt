@@ -1,6 +1,7 @@
 //! The command that prints the schedule of a play.
-ghost use Rattle.std.specs.Prelude.{◌≡◌, ◌≢◌, ◌⊎◌, ℕ, Bool, IfOk, IfErr, OnOk, Some, slice_get};
+ghost use Rattle.std.specs.Prelude.{◌≡◌, ◌≢◌, ◌⊎◌, ℕ, Bool, IfOk, IfErr, IsErrOf, MatchResult, Some, slice_get};
 ghost use Rattle.std.specs.Io.KnownBytes.{Appends};
+ghost use Rattle.reg_text.specs.Writing.{AppendsPart};
 ghost use Rattle.reg_world.specs.declared.events.Event.{Event};
 ghost use Rattle.reg_world.specs.Worlds.{Made};
 ghost use Rattle.reg_commands.specs.Answers.{Blames};
@@ -41,9 +42,8 @@ fn send<A: Allocator + Copy, W: Write>(
     front: Front,
     events: &[AnyEvent],
 ) -> Result<(), Fault>
-    ensures ok { let plan : Plan = record { shape = shape; names = names.now; front = front; events = events.now } in
-        OnOk result (Appends (W.contents writer.old) (W.contents writer.new) (schedule_text plan)) }
-    ensures why { IfErr result (λ f. f ≡ Fault.Output) }
+    ensures { let plan : Plan = record { shape = shape; names = names.now; front = front; events = events.now } in
+        MatchResult result (λ _. Appends (W.contents writer.old) (W.contents writer.new) (schedule_text plan)) (λ f. (f ≡ Fault.Output) × AppendsPart (W.contents writer.old) (W.contents writer.new) (schedule_text plan)) }
 {
     if write_schedule(writer, shape, names, front, events).is_err() || writer.flush().is_err() {
         return Err(Fault::Output);
@@ -58,9 +58,10 @@ fn write_play<F: FrontEnd, A: Allocator + Copy, W: Write>(
     fair: bool,
     writer: &mut W,
 ) -> Result<(), Fault>
-    ensures ok { IfOk result (λ _. ShowsSchedule fair F.start (W.contents writer.old) (W.contents writer.new) work.now) }
+    ensures ok { IfOk result (λ _. ShowsSchedule fair F.start (Appends (W.contents writer.old) (W.contents writer.new)) work.now) }
     ensures why { IfErr result (λ f. (f ≡ Fault.Output) ⊎ (f ≡ Fault.OutOfMemory)) }
     ensures silent { IfErr result (λ f. f ≢ Fault.Output → writer.new ≡ writer.old) }
+    ensures part { IsErrOf result Fault.Output → ShowsSchedule fair F.start (AppendsPart (W.contents writer.old) (W.contents writer.new)) work.now }
 {
     let Ok(play) = play_by::<F, A>(alloc, work, fair) else {
         return Err(Fault::OutOfMemory);
@@ -78,9 +79,10 @@ fn write_workload<A: Allocator + Copy, W: Write>(
     fair: bool,
     writer: &mut W,
 ) -> Result<(), Fault>
-    ensures ok { IfOk result (λ _. ShowsSchedule fair (start_of work.now.front) (W.contents writer.old) (W.contents writer.new) work.now) }
+    ensures ok { IfOk result (λ _. ShowsSchedule fair (start_of work.now.front) (Appends (W.contents writer.old) (W.contents writer.new)) work.now) }
     ensures why { IfErr result (λ f. (f ≡ Fault.Output) ⊎ (f ≡ Fault.OutOfMemory)) }
     ensures silent { IfErr result (λ f. f ≢ Fault.Output → writer.new ≡ writer.old) }
+    ensures part { IsErrOf result Fault.Output → ShowsSchedule fair (start_of work.now.front) (AppendsPart (W.contents writer.old) (W.contents writer.new)) work.now }
 {
     match work.front {
         Front::Linear => write_play::<Linear, A, W>(alloc, work, fair, writer),
@@ -98,9 +100,10 @@ pub(crate) fn schedule<A: Allocator + Copy, W: Write>(
     fair: bool,
     writer: &mut W,
 ) -> Result<(), Fault>
-    ensures ok { IfOk result (λ _. WritesSchedule fair (W.contents writer.old) (W.contents writer.new) text.now) }
+    ensures ok { IfOk result (λ _. WritesSchedule fair (Appends (W.contents writer.old) (W.contents writer.new)) text.now) }
     ensures why { IfErr result (λ f. Blames (Play fair) f text.now) }
     ensures silent { IfErr result (λ f. f ≢ Fault.Output → writer.new ≡ writer.old) }
+    ensures part { IsErrOf result Fault.Output → WritesSchedule fair (AppendsPart (W.contents writer.old) (W.contents writer.new)) text.now }
 {
     let work = read_workload(alloc, global, text)?;
     write_workload(alloc, &work, fair, writer)

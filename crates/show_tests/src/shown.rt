@@ -1,7 +1,7 @@
 //! Schedules, traces and drawings of texts, with what was worked out by hand from the rules.
 use crate::values::shown;
 use reg_commands::{Command, run_text};
-use reg_show::Showing;
+use reg_show::{Showing, show_text};
 use std::alloc::Global;
 use std::process::Abort;
 use std::test::Fail;
@@ -117,6 +117,30 @@ fn traces_are_those_worked_by_hand(rt: HostRuntime) {
         ("processes 1\nregisters x\nfront linear\n", ""),
     ] {
         demand(&rt, rt.alloc(), Showing::Trace, text, (0, trace, ""));
+    }
+}
+
+#[test]
+fn a_trace_whose_writer_is_full_goes_out_in_part(rt: HostRuntime) {
+    let alloc = rt.alloc();
+    for room in [0usize, 1, 99, 200] {
+        let mut buffer = [0u8; 200];
+        let mut writer = &mut buffer[..room];
+        let (mut reader, mut errors) = (WRITE.as_bytes(), Vec::new(alloc));
+        let status = show_text(
+            alloc,
+            alloc,
+            Showing::Trace,
+            &mut reader,
+            &mut writer,
+            &mut errors,
+        );
+        assert_eq!(rt; status, 1, "{room}");
+        assert!(rt; errors.as_slice() == "output: write\n".as_bytes(), "{room}");
+        assert!(rt;
+            WRITE_TRACE.as_bytes().starts_with(&buffer[..room]),
+            "{room}"
+        );
     }
 }
 

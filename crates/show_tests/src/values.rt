@@ -1,5 +1,6 @@
 //! What a text is shown as, for several tests.
 ghost use Rattle.std.specs.Prelude.{◌≡◌, ◌≤◌, [], Some};
+ghost use Rattle.std.specs.Io.KnownBytes.{Appends};
 ghost use Rattle.reg_show.specs.Showings.{Shows};
 
 use reg_show::{Showing, show_text};
@@ -8,7 +9,7 @@ use std::alloc::Global;
 /// The status, the output and the faults.
 pub fn shown(alloc: Global, showing: Showing, text: &[u8]) -> (u8, Vec<u8>, Vec<u8>)
     ensures range { result.0 ≤ 1 }
-    ensures shown { result.0 ≡ 0 → Shows showing (Some []) (Some result.1.items) text.now }
+    ensures shown { result.0 ≡ 0 → Shows showing (Appends (Some []) (Some result.1.items)) text.now }
     ensures quiet { result.0 ≡ 0 → result.2.items ≡ [] }
 {
     let mut reader = text;

@@ -1,4 +1,4 @@
-use Rattle.std.proofs.Common.{◌≡◌, ◌<◌, ◌∙◌, ap, set, arith, length}
+use Rattle.std.proofs.Common.{◌<◌, ◌∙◌, ap, set, arith, length}
 use Rattle.std.specs.Prelude.{slice_index}
 use Rattle.std.proofs.lemmas.List.{length-set}
 use Rattle.reg_base.specs.Shape.{Extent}
