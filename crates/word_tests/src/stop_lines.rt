@@ -1,5 +1,5 @@
 //! The line of each stop on the error stream: its text, and a line feed.
-use reg_cli::Fault;
+use reg_cli::{Fault, run_live};
 use reg_live_command::{Stop, write_stop};
 use std::alloc::Global;
 use std::process::Abort;
@@ -48,4 +48,24 @@ fn stops_have_their_lines(rt: HostRuntime) -> Result<(), Fail> {
         demand_line(&rt, rt.alloc(), *stop, line)?;
     }
     Ok(())
+}
+
+/// Each input is refused before a thread starts, and this line tells why.
+const REFUSED: [(&[u8], &str); 3] = [
+    (b"\xff", "input: not text\n"),
+    (b"front", "toml\n"),
+    (b"", "missing front\n"),
+];
+
+#[test]
+fn refused_workloads_are_told(rt: HostRuntime) {
+    let alloc = rt.alloc();
+    for (input, line) in &REFUSED {
+        let mut reader = *input;
+        let mut written = Vec::new(alloc);
+        let mut errors = Vec::new(alloc);
+        let status = run_live(rt, alloc, &mut reader, &mut written, &mut errors);
+        assert_eq!(rt; errors.as_slice(), line.as_bytes());
+        assert!(rt; written.is_empty() && status == 1);
+    }
 }
