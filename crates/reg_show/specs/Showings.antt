@@ -1,7 +1,8 @@
 -- What is shown of a text, and what a fault says of it.
-use Rattle.std.specs.Prelude.{ℕ, List}
+use Rattle.std.specs.Prelude.{ℕ, List, [], ◌∷◌, ◌++◌, codes}
 use Rattle.reg_commands.specs.declared.command.Command.TheVariants.{Play, Replay}
 use Rattle.reg_commands.specs.Answers.{Blames as BlamesCommand}
+use Rattle.reg_commands.specs.FaultLines.{fault_line}
 use Rattle.reg_show.specs.declared.faults.ShowFault.{ShowFault}
 use Rattle.reg_show.specs.declared.faults.ShowFault.TheVariants.{Command, TooManyToDraw}
 use Rattle.reg_show.specs.declared.showing.Showing.{Showing}
@@ -22,3 +23,8 @@ Blames (Schedule fair) TooManyToDraw text = ⊥
 Blames Trace (Command fault) text = BlamesCommand Replay fault text
 Blames Trace TooManyToDraw text = ⊥
 Blames Draw fault text = BlamesDrawn fault text
+
+-- the line of a fault on the error stream, with its line feed
+abbrev pub show_line : ShowFault → List ℕ
+show_line (Command fault) = fault_line fault
+show_line TooManyToDraw = codes "too many events to draw" ++ 10 ∷ []

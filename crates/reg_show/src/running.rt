@@ -1,16 +1,17 @@
 //! Showing a text over any reader and writer.
-ghost use Rattle.std.specs.Prelude.{◌≡◌, ◌≢◌, ◌≤◌, IfOk, IfErr, IsErrOf, OnOk, IfSome, length};
+ghost use Rattle.std.specs.Prelude.{◌≡◌, ◌≢◌, ◌≤◌, IfOk, IfErr, IsErrOf, MatchResult, OnOk, IfSome, length};
 ghost use Rattle.std.specs.Io.KnownBytes.{Appends};
 ghost use Rattle.reg_base.specs.declared.limits.TheConstants.{LONGEST_INPUT};
 ghost use Rattle.reg_text.specs.Writing.{AppendsPart};
 ghost use Rattle.reg_show.specs.declared.faults.ShowFault.{ShowFault as AnyFault};
-ghost use Rattle.reg_show.specs.Showings.{Blames, Shows};
+ghost use Rattle.reg_show.specs.Showings.{Blames, show_line, Shows};
 
 use crate::commands::{draw, trace};
 use crate::faults::ShowFault;
 use crate::scheduling::schedule;
 use crate::showing::Showing;
-use reg_commands::{Fault, read_input};
+use reg_commands::{Fault, read_input, write_fault};
+use reg_text::{Unwritten, write_bytes};
 use std::alloc::{Allocator, Global};
 use std::io::{Read, Write};
 
@@ -56,8 +57,18 @@ fn obey<A: Allocator + Copy, R: Read, W: Write>(
     }
 }
 
+/// Writes the line of a fault, all of it or, where the writer fails, a first part.
+fn write_show_fault<W: Write>(errors: &mut W, fault: ShowFault) -> Result<(), Unwritten>
+    ensures { MatchResult result (λ _. Appends (W.contents errors.old) (W.contents errors.new) (show_line fault)) (λ _. AppendsPart (W.contents errors.old) (W.contents errors.new) (show_line fault)) }
+{
+    match fault {
+        ShowFault::Command { fault } => write_fault(errors, fault),
+        ShowFault::TooManyToDraw => write_bytes(errors, b"too many events to draw\n"),
+    }
+}
+
 /// Shows what the text on the reader says: it reads the whole input, and writes once all of it is accepted. The answer is
-/// the status: 0, or 1 where something was refused, with one line on `errors`, or where the writer failed, and then a first
+/// the status: 0, or 1 where something was refused, with the line of the fault on `errors`, or where the writer failed, and then a first
 /// part of a schedule or a trace went out. That `errors` fails changes no status. The table of a workload is kept in the
 /// global heap, all else in the other one.
 pub fn show_text<A: Allocator + Copy, R: Read, W: Write, E: Write>(
@@ -72,13 +83,14 @@ pub fn show_text<A: Allocator + Copy, R: Read, W: Write, E: Write>(
     ensures within { result ≡ 0 → IfSome (R.remaining reader.old) (λ xs. length xs ≤ LONGEST_INPUT) }
     ensures shown { result ≡ 0 → IfSome (R.remaining reader.old) (Shows showing (Appends (W.contents writer.old) (W.contents writer.new))) }
     ensures refused { result ≡ 1 → (f : AnyFault) × IfSome (R.remaining reader.old) (Blames showing f) × (f ≢ ShowFault.Command Fault.Output → writer.new ≡ writer.old)
-        × (f ≡ ShowFault.Command Fault.Output → IfSome (R.remaining reader.old) (Shows showing (AppendsPart (W.contents writer.old) (W.contents writer.new)))) }
+        × (f ≡ ShowFault.Command Fault.Output → IfSome (R.remaining reader.old) (Shows showing (AppendsPart (W.contents writer.old) (W.contents writer.new))))
+        × AppendsPart (E.contents errors.old) (E.contents errors.new) (show_line f) }
     ensures quiet { result ≡ 0 → errors.new ≡ errors.old }
 {
     match obey(alloc, global, showing, reader, writer) {
         Ok(()) => 0,
         Err(fault) => {
-            let _ = writeln!(errors, "{fault}");
+            let _ = write_show_fault(errors, fault);
             1
         }
     }
