@@ -1,0 +1,4 @@
+pub mod Strays
+pub mod Leaves
+pub mod Programs
+pub mod Getters
