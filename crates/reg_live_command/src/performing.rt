@@ -85,6 +85,7 @@ fn performed<R: Threads + Wait + Clock + Copy + Send + Sync + 'static>(
 ) -> Result<Report, Stop>
     ensures shows { IfOk result (λ r. (work : Load) × Holds text.now work × IsReportOfLive work r) }
     ensures why { IfErr result (λ stop. BlamesStop stop text.now) }
+    ensures kind { IfErr result (λ stop. stop ≢ Command Output) }
 {
     let work = read_workload(alloc, alloc, text).map_err(told)?;
     perform(rt, alloc, work)
@@ -103,7 +104,10 @@ fn perform_text<R: Threads + Wait + Clock + Copy + Send + Sync + 'static, W: Wri
     ensures part { IsErrOf result (Command Output) → Lives (AppendsPart (W.contents writer.old) (W.contents writer.new)) text.now }
 {
     let report = performed(rt, alloc, text)?;
-    write_out(writer, &report).map_err(told)
+    match write_out(writer, &report) {
+        Ok(()) => Ok(()),
+        Err(fault) => Err(told(fault)),
+    }
 }
 
 /// Reads a workload, has threads perform it, and writes the report.
@@ -118,8 +122,10 @@ fn obey<R: Threads + Wait + Clock + Copy + Send + Sync + 'static, I: Read, W: Wr
     ensures silent { IfErr result (λ stop. stop ≢ Command Output → writer.new ≡ writer.old) }
     ensures part { IsErrOf result (Command Output) → IfSome (I.remaining reader.old) (Lives (AppendsPart (W.contents writer.old) (W.contents writer.new))) }
 {
-    let text = read_input(alloc, reader).map_err(told)?;
-    perform_text(rt, alloc, text.as_str(), writer)
+    match read_input(alloc, reader) {
+        Ok(text) => perform_text(rt, alloc, text.as_str(), writer),
+        Err(fault) => Err(told(fault)),
+    }
 }
 
 /// Reads a workload, has its scripts performed by threads, and writes the report of the run that they made: one thread for
