@@ -1,6 +1,6 @@
 -- Which words ask for what.
-use Rattle.std.specs.Prelude.{◌≡◌, ⊤, ℕ, Bool, true, false, List, [], ◌∷◌, codes, Result, Ok, Err, if◌then◌else◌}
-use Rattle.clap.specs.Words.{App, Shape, Text, new_app, with_subcommand}
+use Rattle.std.specs.Prelude.{◌≡◌, ⊤, Bool, false, List, [], ◌∷◌, codes, Result, Ok, Err, if◌then◌else◌}
+use Rattle.clap.specs.Words.{App, Text, new_app, with_subcommand}
 use Rattle.reg_commands.specs.declared.Command.TheVariants.{Check, Play, Replay}
 use Rattle.reg_words.specs.Lines.{fair_app}
 use Rattle.reg_cli.specs.declared.words.Asked.{Asked}

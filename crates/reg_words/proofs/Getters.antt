@@ -49,9 +49,9 @@ flag_is (Some text) r fair none on off e = go (bytes_eq text (codes "true")) (by
         cc
     go false false a b e = cc
 
-parts : (n name : Text) (t : Option Bool) (fair : Bool) → ◌≡◌ {A = Option (Text × Option Bool)} (Some (n, t)) (Some (name, Some fair)) → (n ≡ name) × (t ≡ Some fair)
-parts n name t fair e =
-    let same : ◌≡◌ {A = Text × Option Bool} (n, t) (name, Some fair) = cc in
+pub some_parts : {X Y : Type 0} (a b : X) (c d : Y) → ◌≡◌ {A = Option (X × Y)} (Some (a, c)) (Some (b, d)) → (a ≡ b) × (c ≡ d)
+some_parts {X} {Y} a b c d e =
+    let same : ◌≡◌ {A = X × Y} (a, c) (b, d) = cc in
     (ap (λ p. p.0) same, ap (λ p. p.1) same)
 
 -- the name and the flag, as the getters read them
@@ -61,7 +61,7 @@ pub seen_is : (m : ArgMatches) (inner : Found) (n : Text) (r : Bool) → Some n 
     → ◌≡◌ {A = Option (Text × Bool)} (Some (n, r)) (Some (name, fair))
 seen_is m inner n r named rows none on off name fair e =
     let is = rows_are (subcommand_rows_of m) n (rows_of inner) (named ∙ name_rows m) rows in
-    let met = parts n name (flag_of (one_of (codes "fair") (rows_of inner))) fair (sym (ap met_of is) ∙ e) in
+    let met = some_parts n name (flag_of (one_of (codes "fair") (rows_of inner))) (Some fair) (sym (ap met_of is) ∙ e) in
     let read = one_text-rows inner (codes "fair") in
     let flag = flag_is (one_of (codes "fair") (rows_of inner)) r fair (λ h. none (read ∙ h)) (λ h. on (read ∙ h)) (λ h. off (read ∙ h)) met.1 in
     λ i. Some (met.0 i, flag i)

@@ -1,0 +1,31 @@
+use Rattle.std.proofs.Common.{◌∙◌, Some, None, map, string_bytes, refl, sym, ap}
+use Rattle.std.proofs.lemmas.Result.{err_from_is_err_and}
+use Rattle.clap.specs.Words.{app_of, kind_of, subcommand_rows_of, takes}
+use Rattle.reg_words.specs.Lines.{seen}
+use Rattle.reg_cli.proofs.Choices.{chosen, found_is, no_fault, nothing_met, refused}
+use Rattle.reg_cli.proofs.words.choose.Goals as goal
+
+pub returns-in_err-matches : goal.returns-in_err-matches
+returns-in_err-matches c =
+    let words = map string_bytes c.args.words.now in
+    let p = err_from_is_err_and c.from_residual-in_err-matches.result c.from_residual-in_err-matches.ensures.1 in
+    rw (p.1, p.2) (refused words (kind_of c.in_err-matches.field-0.0)
+    (λ t. c.in_err-matches.ensures.passes (ap (λ a. takes a words) c.in_ok-command_line.ensures ∙ t)))
+
+pub returns-in-Some : goal.returns-in-Some
+returns-in-Some c =
+    let words = map string_bytes c.args.words.now in
+    let command = app_of c.in_ok-command_line.field-0 in
+    let matches = c.in_ok-matches.matches in
+    rw c.ok_or.ensures.value (chosen words (subcommand_rows_of matches) (found_is command words matches c.in_ok-command_line.ensures c.in_ok-matches.ensures.matches)
+    (Some (c.in-Some.name.now, c.in-Some.fair)) c.in-Some.ensures.some c.in-Some.name.now c.in-Some.fair c.named.result
+    (no_fault command words c.in_ok-command_line.ensures c.in_ok-matches.ensures.kinds) (sym c.if-has_dashes.ensures)
+    (λ h. ap seen (c.in-Some.ensures.none h)) refl c.named.ensures)
+
+pub returns : goal.returns
+returns c =
+    let words = map string_bytes c.args.words.now in
+    let command = app_of c.in_ok-command_line.field-0 in
+    let matches = c.in_ok-matches.matches in
+    nothing_met words (subcommand_rows_of matches) (found_is command words matches c.in_ok-command_line.ensures c.in_ok-matches.ensures.matches)
+    None c.in-None.ensures.some refl
