@@ -1,16 +1,17 @@
 -- Which words clap's parse takes, and what it meets there.
-use Rattle.std.proofs.Common.{◌≡◌, ◌∙◌, ◌&&◌, ◌⊎◌, inl, inr, true, false, List, [], ◌∷◌, drop, Option, Some, None, refl, ap, codes}
+use Rattle.std.proofs.Common.{◌≡◌, ◌⊎◌, inl, inr, true, false, List, [], ◌∷◌, Some, None, refl, ap, codes}
 use Rattle.std.specs.List.{list_any}
 use Rattle.std.specs.Str.{bytes_eq}
 use Rattle.std.proofs.lemmas.Bool.{cases_Bool, or_parts}
-use Rattle.clap.specs.Words.{Shape, Text, fault_of, is_simple, is_simple_and_free, subcommand_of, takes}
-use Rattle.clap.specs.Simple.{built, entered, names_of}
+use Rattle.clap.specs.Words.{Shape, Text}
+use Rattle.clap.specs.Simple.{built, names_of}
 use Rattle.clap.specs.Takes.{built_takes}
-use Rattle.clap.specs.Walk.{idle, nothing_held, stop_after, subcommand_met, walked}
+use Rattle.clap.specs.Walk.{idle, nothing_held, subcommand_met, walked}
 use Rattle.clap.specs.Faults.{built_fault, entered_fault}
 use Rattle.clap.proofs.OnLiterals.{clap_on_literals}
 use Rattle.reg_commands.specs.declared.Command.TheVariants.{Check, Play, Replay}
-use Rattle.reg_words.specs.Lines.{is_dashes, met_of}
+use Rattle.reg_words.specs.Lines.{is_dashes}
+use Rattle.reg_words.proofs.Chosen.{TakesLines, met_at}
 use Rattle.reg_words.proofs.Strays.{some_kind}
 use Rattle.reg_words.proofs.Leaves.{fair_words, has_none, plain_words}
 use Rattle.reg_words.proofs.Programs.{at_name, below, first_turn, no_subcommand, start}
@@ -18,47 +19,21 @@ use Rattle.reg_cli.specs.Lines.{IsCommandLine, awreg, is_fair, line_of, name_of}
 use Rattle.reg_cli.specs.declared.words.Asked.{Asked}
 use Rattle.reg_cli.specs.declared.words.Asked.TheVariants.{Live, Text as OverText}
 
--- ---- the lines are taken
-
-taken_at : (asked : Asked) → (is_simple awreg && built_takes (built awreg) nothing_held (line_of asked)) ≡ true
+taken : (asked : Asked) → built_takes (built awreg) nothing_held (line_of asked) ≡ true
 unfolding clap_on_literals
-taken_at Live = refl
-taken_at (OverText Replay) = refl
-taken_at (OverText Check) = refl
-taken_at (OverText (Play true)) = refl
-taken_at (OverText (Play false)) = refl
+taken Live = refl
+taken (OverText Replay) = refl
+taken (OverText Check) = refl
+taken (OverText (Play true)) = refl
+taken (OverText (Play false)) = refl
 
-pub taken : (words : List Text) (asked : Asked) → drop 1 words ≡ line_of asked → takes awreg words ≡ true
-taken words asked e = ap (λ line. is_simple awreg && built_takes (built awreg) nothing_held line) e ∙ taken_at asked
-
-pub is_free : is_simple_and_free awreg ≡ true
-is_free = refl
-
--- ---- what is met at a line
-
-abbrev stop_at : List Text → Option (Text × List Text)
-stop_at line = stop_after (built awreg).top.rules (names_of (built awreg)) line
-
-met_at_line : (asked : Asked) → met_of (entered (built awreg) (stop_at (line_of asked))) ≡ Some (name_of asked, Some (is_fair asked))
+met : (asked : Asked) → met_at awreg (line_of asked) ≡ Some (name_of asked, Some (is_fair asked))
 unfolding clap_on_literals
-met_at_line Live = refl
-met_at_line (OverText Replay) = refl
-met_at_line (OverText Check) = refl
-met_at_line (OverText (Play true)) = refl
-met_at_line (OverText (Play false)) = refl
-
-pub met_at : (words : List Text) (asked : Asked) → drop 1 words ≡ line_of asked → met_of (subcommand_of awreg words) ≡ Some (name_of asked, Some (is_fair asked))
-met_at words asked e = ap (λ line. met_of (entered (built awreg) (stop_at line))) e ∙ met_at_line asked
-
-pub met_nowhere : (words : List Text) → drop 1 words ≡ [] → met_of (subcommand_of awreg words) ≡ None
-met_nowhere words e = ap (λ line. met_of (entered (built awreg) (stop_at line))) e
-
-pub no_dashes : (asked : Asked) → list_any is_dashes (line_of asked) ≡ false
-no_dashes Live = refl
-no_dashes (OverText Replay) = refl
-no_dashes (OverText Check) = refl
-no_dashes (OverText (Play true)) = refl
-no_dashes (OverText (Play false)) = refl
+met Live = refl
+met (OverText Replay) = refl
+met (OverText Check) = refl
+met (OverText (Play true)) = refl
+met (OverText (Play false)) = refl
 
 -- ---- no other line passes
 
@@ -127,6 +102,13 @@ passed_line : (line : List Text) → passes line → has_none line → (line ≡
 passed_line [] e dashes = inl refl
 passed_line (word ∷ rest) e dashes = inr (named_line word rest e dashes)
 
--- what passes is no word, or the line of what is asked for
-pub lines : (words : List Text) → fault_of awreg words ≡ [] → has_none (drop 1 words) → (drop 1 words ≡ []) ⊎ IsCommandLine (drop 1 words)
-lines words e dashes = passed_line (drop 1 words) e dashes
+-- the program takes just the lines of what can be asked for
+pub awreg_lines : TakesLines name_of is_fair awreg
+awreg_lines = record {
+  simple = refl;
+  named = λ words. refl;
+  taken = taken;
+  met = met;
+  nowhere = refl;
+  only = passed_line;
+}

@@ -1,8 +1,8 @@
 -- Which words ask for what.
-use Rattle.std.specs.Prelude.{◌≡◌, ⊤, Bool, false, List, [], ◌∷◌, codes, Result, Ok, Err, if◌then◌else◌}
+use Rattle.std.specs.Prelude.{◌≡◌, ⊤, Bool, false, List, codes, Result, Ok, Err}
 use Rattle.clap.specs.Words.{App, Text, new_app, with_subcommand}
 use Rattle.reg_commands.specs.declared.Command.TheVariants.{Check, Play, Replay}
-use Rattle.reg_words.specs.Lines.{fair_app}
+use Rattle.reg_words.specs.Lines.{fair_app, named_line}
 use Rattle.reg_cli.specs.declared.words.Asked.{Asked}
 use Rattle.reg_cli.specs.declared.words.Asked.TheVariants.{Live, Text as OverText}
 use Rattle.reg_cli.specs.declared.words.WordsFault.{WordsFault}
@@ -22,7 +22,7 @@ is_fair _ = false
 
 -- the words behind the program's name that ask for it
 abbrev pub line_of : Asked → List Text
-line_of asked = name_of asked ∷ (if is_fair asked then codes "--fair" ∷ [] else [])
+line_of asked = named_line (name_of asked) (is_fair asked)
 
 -- the words ask for something
 abbrev pub IsCommandLine : List Text → Type 0

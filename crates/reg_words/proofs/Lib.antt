@@ -2,3 +2,4 @@ pub mod Strays
 pub mod Leaves
 pub mod Programs
 pub mod Getters
+pub mod Chosen

@@ -1,5 +1,5 @@
 -- Command lines with subcommands that take no word, or the flag `--fair`, and what clap's parse reads of them.
-use Rattle.std.specs.Prelude.{Bool, true, false, List, drop, map, codes, Option, Some, None, option_map, String, string_bytes, if◌then◌else◌}
+use Rattle.std.specs.Prelude.{Bool, true, false, List, [], ◌∷◌, drop, map, codes, Option, Some, None, option_map, String, string_bytes, if◌then◌else◌}
 use Rattle.std.specs.Borrow.{Bor}
 use Rattle.std.specs.Str.{bytes_eq}
 use Rattle.clap.specs.Words.{App, Row, Rule, Text, new_app, new_rule, one_of, with_rule}
@@ -8,6 +8,10 @@ use Rattle.clap.specs.declared.builder.ArgAction.TheVariants.{SetTrue}
 -- the words behind the program's name
 abbrev pub behind_name : {A : Type 0} → List (String A) → List Text
 behind_name words = drop 1 (map string_bytes words)
+
+-- the words of a subcommand, and of the flag where it is passed
+abbrev pub named_line : Text → Bool → List Text
+named_line name fair = name ∷ (if fair then codes "--fair" ∷ [] else [])
 
 abbrev pub is_dashes : Text → Bool
 is_dashes word = bytes_eq word (codes "--")
