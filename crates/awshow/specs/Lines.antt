@@ -1,9 +1,9 @@
 -- Which words ask for what.
-use Rattle.std.specs.Prelude.{◌≡◌, ⊤, Bool, true, false, List, [], ◌∷◌, codes, Result, Ok, Err, if◌then◌else◌}
+use Rattle.std.specs.Prelude.{◌≡◌, ◌⊎◌, ⊤, Bool, false, List, [], ◌∷◌, codes, Result, Ok, Err}
 use Rattle.clap.specs.Words.{App, Text, new_app, with_subcommand}
 use Rattle.reg_show.specs.declared.Showing.{Showing}
 use Rattle.reg_show.specs.declared.Showing.TheVariants.{Draw, Schedule, Trace}
-use Rattle.reg_words.specs.Lines.{fair_app}
+use Rattle.reg_words.specs.Lines.{fair_app, named_line}
 use Rattle.awshow.specs.declared.words.Asked.{Asked}
 use Rattle.awshow.specs.declared.words.Asked.TheVariants.{Help, Show}
 use Rattle.awshow.specs.declared.words.WordsFault.{WordsFault}
@@ -22,17 +22,21 @@ is_fair _ = false
 
 -- the words behind the program's name that ask for it
 abbrev pub line_of : Showing → List Text
-line_of showing = name_of showing ∷ (if is_fair showing then codes "--fair" ∷ [] else [])
+line_of showing = named_line (name_of showing) (is_fair showing)
 
 -- the words ask to show something
 abbrev pub IsCommandLine : List Text → Type 0
 IsCommandLine line = (showing : Showing) × (line ≡ line_of showing)
 
--- an answer of the words: just what they ask to show, or help or CommandLine where they ask to show nothing
+-- the words ask for help by a flag alone
+abbrev pub IsHelpLine : List Text → Type 0
+IsHelpLine line = (line ≡ codes "-h" ∷ []) ⊎ (line ≡ codes "--help" ∷ [])
+
+-- an answer of the words: just what they ask to show; else help, or CommandLine where no flag alone asks for help
 abbrev pub IsAnswer : List Text → Result Asked WordsFault → Type 0
 IsAnswer line (Ok (Show showing)) = line ≡ line_of showing
 IsAnswer line (Ok Help) = ¬ IsCommandLine line
-IsAnswer line (Err CommandLine) = ¬ IsCommandLine line
+IsAnswer line (Err CommandLine) = ¬ IsCommandLine line × ¬ IsHelpLine line
 IsAnswer line (Err OutOfMemory) = ⊤
 
 -- the program with its subcommands, as clap's parse reads it
