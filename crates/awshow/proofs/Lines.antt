@@ -34,7 +34,7 @@ met Draw = refl
 
 -- ---- no other line passes
 
-abbrev subs : List Shape
+abbrev pub subs : List Shape
 subs = (built awshow).subs
 
 abbrev passes : List Text → Type 0
@@ -62,7 +62,7 @@ schedule_line rest none e = elim (fair_words (codes "schedule") rest (rest_of (c
 help_line : (rest : List Text) → passes (codes "help" ∷ rest) → ⊥
 help_line rest e = some_kind _ _ (first_turn (codes "awshow") subs (codes "help") rest e)
 
-no_name : (word : Text) → bytes_eq (codes "trace") word ≡ false → bytes_eq (codes "draw") word ≡ false → bytes_eq (codes "schedule") word ≡ false → bytes_eq (codes "help") word ≡ false → subcommand_met (names_of (built awshow)) idle word ≡ None
+pub no_name : (word : Text) → bytes_eq (codes "trace") word ≡ false → bytes_eq (codes "draw") word ≡ false → bytes_eq (codes "schedule") word ≡ false → bytes_eq (codes "help") word ≡ false → subcommand_met (names_of (built awshow)) idle word ≡ None
 no_name word trace draw schedule help = rw (trace, draw, schedule, help) refl
 
 module _ (word : Text) (rest : List Text) (e : passes (word ∷ rest)) (dashes : has_none (word ∷ rest)) where

@@ -1,9 +1,10 @@
 -- Which words ask for what.
-use Rattle.std.specs.Prelude.{◌≡◌, ◌⊎◌, ⊤, Bool, false, List, [], ◌∷◌, codes, Result, Ok, Err}
+use Rattle.std.specs.Prelude.{◌≡◌, ◌⊎◌, ⊤, Bool, true, false, List, [], ◌∷◌, codes, Result, Ok, Err}
+use Rattle.std.specs.List.{list_any}
 use Rattle.clap.specs.Words.{App, Text, new_app, with_subcommand}
 use Rattle.reg_show.specs.declared.Showing.{Showing}
 use Rattle.reg_show.specs.declared.Showing.TheVariants.{Draw, Schedule, Trace}
-use Rattle.reg_words.specs.Lines.{fair_app, named_line}
+use Rattle.reg_words.specs.Lines.{fair_app, may_ask_help, named_line}
 use Rattle.awshow.specs.declared.words.Asked.{Asked}
 use Rattle.awshow.specs.declared.words.Asked.TheVariants.{Help, Show}
 use Rattle.awshow.specs.declared.words.WordsFault.{WordsFault}
@@ -32,10 +33,11 @@ IsCommandLine line = (showing : Showing) × (line ≡ line_of showing)
 abbrev pub IsHelpLine : List Text → Type 0
 IsHelpLine line = (line ≡ codes "-h" ∷ []) ⊎ (line ≡ codes "--help" ∷ [])
 
--- an answer of the words: just what they ask to show; else help, or CommandLine where no flag alone asks for help
+-- an answer of the words: just what they ask to show; else help, only where a word may ask for it, or CommandLine where
+-- no flag alone asks for help
 abbrev pub IsAnswer : List Text → Result Asked WordsFault → Type 0
 IsAnswer line (Ok (Show showing)) = line ≡ line_of showing
-IsAnswer line (Ok Help) = ¬ IsCommandLine line
+IsAnswer line (Ok Help) = ¬ IsCommandLine line × (list_any may_ask_help line ≡ true)
 IsAnswer line (Err CommandLine) = ¬ IsCommandLine line × ¬ IsHelpLine line
 IsAnswer line (Err OutOfMemory) = ⊤
 

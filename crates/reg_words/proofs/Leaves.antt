@@ -1,17 +1,19 @@
 -- The words that a subcommand passes: none, or the flag `--fair` where it has it.
-use Rattle.std.proofs.Common.{◌≡◌, ◌∙◌, ◌==◌, ◌||◌, ◌⊎◌, inl, inr, Bool, true, false, cond, List, [], ◌∷◌, Option, Some, None, refl, sym, ap, ap₂, subst, codes, eqb-true, one-add}
+use Rattle.std.proofs.Common.{◌≡◌, ◌∙◌, ◌==◌, ◌||◌, ◌⊎◌, inl, inr, ℕ, Bool, true, false, cond, List, [], ◌∷◌, Option, Some, None, refl, sym, ap, ap₂, subst, codes, eqb-true, one-add}
 use Rattle.std.specs.List.{after_first, before_first, list_any}
 use Rattle.std.specs.Option.{option_and_then}
 use Rattle.std.specs.Str.{bytes_eq}
 use Rattle.std.proofs.lemmas.Bool.{or_parts}
 use Rattle.std.proofs.lemmas.Slice.Eq.{bytes_eq-Decides}
-use Rattle.clap.specs.Lexer.{has_byte, long_of, long_of_rest, name_and_value, strip_byte}
-use Rattle.clap.specs.Kinds.{Kinds}
-use Rattle.clap.specs.Walk.{Held, Row, Rule, Text, nothing_held, reacted, walk_from, walked}
+use Rattle.clap.specs.Lexer.{has_byte, long_of, long_of_rest, name_and_value, short_of, strip_byte}
+use Rattle.clap.specs.Kinds.{Kinds, or_else}
+use Rattle.clap.specs.Walk.{Held, Names, Row, Rule, Text, arg_by_index, arg_by_short, idle, nothing_held, reacted, subcommand_met, walk_from, walked}
 use Rattle.clap.specs.Simple.{Shape, built_leaf, filled, help_rule, new_shape}
-use Rattle.clap.specs.Faults.{level_fault, long_fault, react_fault, short_fault, turn_fault, walk_fault}
-use Rattle.reg_words.specs.Lines.{fair_app, fair_rule, is_dashes}
-use Rattle.reg_words.proofs.Strays.{both_none, held, long_word, some_kind}
+use Rattle.clap.specs.Faults.{level_fault, long_fault, react_fault, short_fault, stray_fault, turn_fault, walk_fault}
+use Rattle.clap.specs.declared.error.ErrorKind.{ErrorKind}
+use Rattle.clap.specs.declared.error.ErrorKind.TheVariants.{UnknownArgument}
+use Rattle.reg_words.specs.Lines.{fair_app, fair_rule, is_dashes, is_flag}
+use Rattle.reg_words.proofs.Strays.{both_none, held, long_word, some_kind, stray_word}
 
 -- ---- what a long flag's word is
 
@@ -147,3 +149,38 @@ fair_words name (word ∷ words) e none =
     let is : word ≡ codes "--fair" = fair_first name word dashes.0 turns.0 in
     let rest = subst (λ w. walk_fault (fair_leaf name) [] (walked (fair_leaf name).rules [] (walk_from nothing_held) w) words ≡ []) is turns.1 in
     inr (ap₂ (λ w ws. w ∷ ws) is (after_fair name words rest dashes.1))
+
+-- ---- words that are no flags
+
+no_long : (word : Text) → is_flag word ≡ false → long_of word ≡ None
+no_long [] e = refl
+no_long (x ∷ xs) e = rw e refl
+
+no_short : (word : Text) → is_flag word ≡ false → short_of word ≡ None
+no_short [] e = refl
+no_short (x ∷ xs) e = rw e refl
+
+no_dashes : (word : Text) → is_flag word ≡ false → bytes_eq word (45 ∷ 45 ∷ []) ≡ false
+no_dashes [] e = refl
+no_dashes (x ∷ xs) e = rw e refl
+
+-- a word that is no flag and names nothing is a stray one
+pub stray_turn : (s : Shape) (unplaced : arg_by_index s.rules 1 ≡ None)
+    → ((x : ℕ) (rest : Text) (next : Held → Kinds) → short_fault s.rules s.args_override_self (arg_by_short s.rules x) rest nothing_held next ≡ [] → ⊥)
+    → (word : Text) (names : Names) → subcommand_met names idle word ≡ None → is_flag word ≡ false → turn_fault s names (walk_from nothing_held) word ≡ stray_fault s
+stray_turn s unplaced shorts word names none flag =
+    stray_word s [] unplaced shorts word names none (no_dashes word flag) (no_long word flag) (no_short word flag)
+
+pub first_fails : (a b c : Kinds) (k : ErrorKind) (ks : Kinds) → a ≡ k ∷ ks → or_else (or_else a b) c ≡ k ∷ ks
+first_fails a b c k ks e = rw e refl
+
+-- a stray word of a subcommand is an unknown argument
+pub plain_stray : (name word : Text) (words : List Text) → is_flag word ≡ false → level_fault (plain_leaf name) [] nothing_held (word ∷ words) false [] ≡ UnknownArgument ∷ []
+unfolding walk_fault
+plain_stray name word words flag = first_fails _ _ _ _ _
+    (stray_turn (plain_leaf name) refl (λ x rest next h. help_short (104 == x) (plain_leaf name).rules rest [] next h) word [] refl flag)
+
+pub fair_stray : (name word : Text) (words : List Text) → is_flag word ≡ false → level_fault (fair_leaf name) [] nothing_held (word ∷ words) false [] ≡ UnknownArgument ∷ []
+unfolding walk_fault
+fair_stray name word words flag = first_fails _ _ _ _ _
+    (stray_turn (fair_leaf name) refl (λ x rest next h. help_short (104 == x) (fair_leaf name).rules rest [] next h) word [] refl flag)

@@ -83,3 +83,20 @@ module _ (s : Shape) (rows : List Row) (unplaced : arg_by_index s.rules 1 ≡ No
           → turn_fault s names (walk_from (held rows)) word ≡ [] → P
       long_word names none differs e = dashed (bytes_eq word (45 ∷ 45 ∷ [])) differs (subst (λ o. or_else (other_fault s o word (held rows))
           (step_fault s 1 (subcommand_or_other args o idle 1 word (held rows)).0 (subcommand_or_other args o idle 1 word (held rows)).1) ≡ []) none e)
+
+    module _ (names : Names) (none : subcommand_met names idle word ≡ None) (differs : bytes_eq word (45 ∷ 45 ∷ []) ≡ false) (long : long_of word ≡ None)
+        (short : short_of word ≡ None) where
+      abbrev here : Held
+      here = held rows
+
+      -- a word that is no flag and names nothing is told as a stray one
+      pub stray_word : turn_fault s names (walk_from here) word ≡ stray_fault s
+      stray_word =
+          ap (λ o. or_else (other_fault s o word here) (step_fault s 1 (subcommand_or_other args o idle 1 word here).0 (subcommand_or_other args o idle 1 word here).1)) none
+          ∙ ap (λ b. or_else (cond b [] (flag_word_fault args again (long_of word) word here))
+          (step_fault s 1 (cond b (here, trailing 1) (long_or_other args idle word (long_of word) here)).0
+          (cond b (here, trailing 1) (long_or_other args idle word (long_of word) here)).1)) differs
+          ∙ ap (λ o. or_else (flag_word_fault args again o word here) (step_fault s 1 (long_or_other args idle word o here).0 (long_or_other args idle word o here).1)) long
+          ∙ ap (λ o. or_else (option_map_or (λ flags. bundle_fault args again flags here) o [])
+          (step_fault s 1 (short_or_plain args idle word o here).0 (short_or_plain args idle word o here).1)) short
+          ∙ ap (λ o. option_map_or (λ a. positional_fault args again a here) o (stray_fault s)) unplaced

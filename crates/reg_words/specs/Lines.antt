@@ -1,5 +1,5 @@
 -- Command lines with subcommands that take no word, or the flag `--fair`, and what clap's parse reads of them.
-use Rattle.std.specs.Prelude.{Bool, true, false, List, [], ◌∷◌, drop, map, codes, Option, Some, None, option_map, String, string_bytes, if◌then◌else◌}
+use Rattle.std.specs.Prelude.{◌==◌, ◌||◌, Bool, true, false, List, [], ◌∷◌, drop, map, codes, Option, Some, None, option_map, String, string_bytes, if◌then◌else◌}
 use Rattle.std.specs.Borrow.{Bor}
 use Rattle.std.specs.Str.{bytes_eq}
 use Rattle.clap.specs.Words.{App, Row, Rule, Text, new_app, new_rule, one_of, with_rule}
@@ -15,6 +15,15 @@ named_line name fair = name ∷ (if fair then codes "--fair" ∷ [] else [])
 
 abbrev pub is_dashes : Text → Bool
 is_dashes word = bytes_eq word (codes "--")
+
+-- the word begins with a hyphen
+abbrev pub is_flag : Text → Bool
+is_flag [] = false
+is_flag (x ∷ xs) = x == 45
+
+-- the word is `help`, or begins with a hyphen
+abbrev pub may_ask_help : Text → Bool
+may_ask_help word = bytes_eq (codes "help") word || is_flag word
 
 -- the flag `--fair`
 abbrev pub fair_rule : Rule
