@@ -32,6 +32,8 @@ fn each_command_line_asks_for_what_it_says(rt: HostRuntime) {
         ("draw --help", Ok(Asked::Help)),
         ("help trace", Ok(Asked::Help)),
         ("", Err(WordsFault::CommandLine)),
+        ("trace --", Err(WordsFault::CommandLine)),
+        ("-- trace", Err(WordsFault::CommandLine)),
         ("play", Err(WordsFault::CommandLine)),
         ("trace --fair", Err(WordsFault::CommandLine)),
         ("draw draw", Err(WordsFault::CommandLine)),

@@ -1,12 +1,16 @@
 //! The words of the command line.
-ghost use Rattle.std.specs.Prelude.{◌≡◌};
-ghost use Rattle.clap.specs.Words.{kind_of};
+ghost use Rattle.std.specs.Prelude.{◌≡◌, IfOk, Some};
+ghost use Rattle.clap.specs.Words.{app_of, kind_of};
+ghost use Rattle.reg_show.specs.declared.Showing.{Showing};
+ghost use Rattle.reg_words.specs.Lines.{behind_name};
+ghost use Rattle.awshow.specs.declared.words.Asked.TheVariants.{Show};
 ghost use Rattle.awshow.specs.declared.words.WordsFault.TheVariants.{OutOfMemory};
 ghost use Rattle.awshow.specs.Words.{status_of, told_of};
+ghost use Rattle.awshow.specs.Lines.{IsAnswer, awshow, is_fair, name_of};
 
 use clap::error::ErrorKind;
-use clap::{Arg, ArgAction};
 use reg_show::Showing;
+use reg_words::{has_dashes, met, with_fair};
 use std::alloc::{AllocError, Global};
 use std::fmt;
 
@@ -71,12 +75,11 @@ impl From<AllocError> for WordsFault {
 }
 
 /// The program's command line, with a subcommand for each command.
-fn command_line<'a>(alloc: Global) -> Result<clap::Command<'a>, AllocError> {
-    let fair = Arg::new(alloc, "fair")
-        .long("fair")
-        .action(ArgAction::SetTrue);
+fn command_line<'a>(alloc: Global) -> Result<clap::Command<'a>, AllocError>
+    ensures { IfOk result (λ c. app_of c ≡ awshow) }
+{
     clap::Command::new(alloc, "awshow")
-        .subcommand(clap::Command::new(alloc, "schedule").arg(fair)?)?
+        .subcommand(with_fair(alloc, "schedule")?)?
         .subcommand(clap::Command::new(alloc, "trace"))?
         .subcommand(clap::Command::new(alloc, "draw"))
 }
@@ -92,19 +95,32 @@ fn told(error: clap::Error) -> Result<Asked, WordsFault>
     }
 }
 
-/// What the words ask for. The first word is the program's name.
-pub fn choose<'a>(alloc: Global, words: &'a [String]) -> Result<Asked, WordsFault> {
+/// What the subcommand of this name asks for.
+fn named(name: &str, fair: bool) -> Option<Asked>
+    ensures { (showing : Showing) → name_of showing ≡ name.now → is_fair showing ≡ fair → result ≡ Some (Show showing) }
+{
+    let showing = match name {
+        "schedule" => Showing::Schedule { fair },
+        "trace" => Showing::Trace,
+        "draw" => Showing::Draw,
+        _ => return None,
+    };
+    Some(Asked::Show { showing })
+}
+
+/// What the words ask for. The first word is the program's name. A word `--` is refused.
+pub fn choose<'a>(alloc: Global, words: &'a [String]) -> Result<Asked, WordsFault>
+    ensures { IsAnswer (behind_name words.entry.now) result }
+{
+    if has_dashes(words) {
+        return Err(WordsFault::CommandLine);
+    }
     let matches = match command_line::<'a>(alloc)?.try_get_matches_from(words) {
         Ok(matches) => matches,
         Err(error) => return told(error),
     };
-    let showing = match matches.subcommand() {
-        Some(("schedule", words)) => Showing::Schedule {
-            fair: words.get_flag("fair"),
-        },
-        Some(("trace", _)) => Showing::Trace,
-        Some(("draw", _)) => Showing::Draw,
-        _ => return Err(WordsFault::CommandLine),
-    };
-    Ok(Asked::Show { showing })
+    match met(&matches) {
+        Some((name, fair)) => named(name, fair).ok_or(WordsFault::CommandLine),
+        None => Err(WordsFault::CommandLine),
+    }
 }

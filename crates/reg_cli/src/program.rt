@@ -1,5 +1,8 @@
 //! The program: the words of its command line, and then the command over the standard streams.
-ghost use Rattle.std.specs.Prelude.{◌≡◌, ◌≤◌, IfOk, MatchResult};
+ghost use Rattle.std.specs.Prelude.{◌≡◌, ◌≤◌, IfOk, MatchResult, Err};
+ghost use Rattle.reg_words.specs.Lines.{behind_name};
+ghost use Rattle.reg_cli.specs.Lines.{IsAnswer, IsCommandLine};
+ghost use Rattle.reg_cli.specs.Words.{status_of};
 
 use crate::words::{Asked, WordsFault, choose};
 use reg_commands::run_text;
@@ -12,7 +15,7 @@ use std::time::Clock;
 use std::{env, io};
 
 /// The words of the command line.
-fn words<R: AllocGlobal + Env>(rt: &R) -> Result<Vec<String>, WordsFault> {
+fn words_of<R: AllocGlobal + Env>(rt: &R) -> Result<Vec<String>, WordsFault> {
     match env::args(rt) {
         Ok(args) => match args.collect(rt.alloc()) {
             Ok(words) => Ok(words),
@@ -24,15 +27,15 @@ fn words<R: AllocGlobal + Env>(rt: &R) -> Result<Vec<String>, WordsFault> {
 }
 
 /// Runs the command that the words ask for, and gives its status.
-fn obey_words<R, E>(rt: &R, errors: &mut E) -> Result<u8, WordsFault>
+fn obey_words<R, E>(rt: &R, words: &[String], errors: &mut E) -> Result<u8, WordsFault>
 where
-    R: AllocGlobal + Env + Input + Print + Threads + Wait + Clock + Copy + Send + Sync + 'static,
+    R: AllocGlobal + Input + Print + Threads + Wait + Clock + Copy + Send + Sync + 'static,
     E: Write,
     ensures range { IfOk result (λ status. status ≤ 1) }
+    ensures answered { MatchResult result (λ _. IsCommandLine (behind_name words.now)) (λ fault. IsAnswer (behind_name words.now) (Err fault)) }
     ensures quiet { MatchResult result (λ status. status ≡ 0 → errors.new ≡ errors.old) (λ _. errors.new ≡ errors.old) }
 {
-    let words = words(rt)?;
-    let asked = choose(rt.alloc(), words.as_slice())?;
+    let asked = choose(rt.alloc(), words)?;
     let mut reader = rt.reader();
     let Ok(mut writer) = BufWriter::new(rt.alloc(), io::writer(rt)) else {
         return Err(WordsFault::OutOfMemory);
@@ -51,8 +54,32 @@ where
     }
 }
 
-/// Does what the words of the command line ask for, and gives the exit status: 0, or 1 where something was refused or
-/// a check said no, or 2 for the command line. Every line of a fault goes to `errors`.
+/// Tells why the words ask for nothing, and gives the status.
+fn tell<E: Write>(fault: WordsFault, errors: &mut E) -> u8
+    ensures { result ≡ status_of fault }
+{
+    let _ = writeln!(errors, "{fault}");
+    fault.status()
+}
+
+/// Does what the words of a command line ask for, and gives the exit status: 0, or 1 where something was refused or a
+/// check said no, or 2 for the command line. Every line of a fault goes to `errors`.
+pub fn run_words<R, E>(rt: &R, words: &[String], errors: &mut E) -> u8
+where
+    R: AllocGlobal + Input + Print + Threads + Wait + Clock + Copy + Send + Sync + 'static,
+    E: Write,
+    ensures range { result ≤ 2 }
+    ensures obeyed { result ≡ 0 → IsCommandLine (behind_name words.now) }
+    ensures refused { result ≡ 2 → ¬ IsCommandLine (behind_name words.now) }
+    ensures quiet { result ≡ 0 → errors.new ≡ errors.old }
+{
+    match obey_words(rt, words, errors) {
+        Ok(status) => status,
+        Err(fault) => tell(fault, errors),
+    }
+}
+
+/// `run_words` of the words that the program was started with.
 pub fn run_program<R, E>(rt: &R, errors: &mut E) -> u8
 where
     R: AllocGlobal + Env + Input + Print + Threads + Wait + Clock + Copy + Send + Sync + 'static,
@@ -60,11 +87,8 @@ where
     ensures range { result ≤ 2 }
     ensures quiet { result ≡ 0 → errors.new ≡ errors.old }
 {
-    match obey_words(rt, errors) {
-        Ok(status) => status,
-        Err(fault) => {
-            let _ = writeln!(errors, "{fault}");
-            fault.status()
-        }
+    match words_of(rt) {
+        Ok(words) => run_words(rt, words.as_slice(), errors),
+        Err(fault) => tell(fault, errors),
     }
 }

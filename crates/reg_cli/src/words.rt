@@ -1,12 +1,15 @@
 //! The words of the command line.
-ghost use Rattle.std.specs.Prelude.{◌≡◌};
-ghost use Rattle.clap.specs.Words.{kind_of};
+ghost use Rattle.std.specs.Prelude.{◌≡◌, IfOk};
+ghost use Rattle.clap.specs.Words.{app_of, kind_of};
+ghost use Rattle.reg_words.specs.Lines.{behind_name};
+ghost use Rattle.reg_cli.specs.declared.words.Asked.{Asked};
 ghost use Rattle.reg_cli.specs.declared.words.WordsFault.TheVariants.{OutOfMemory};
 ghost use Rattle.reg_cli.specs.Words.{status_of, words_fault};
+ghost use Rattle.reg_cli.specs.Lines.{IsAnswer, awreg, is_fair, name_of};
 
 use clap::error::ErrorKind;
-use clap::{Arg, ArgAction};
 use reg_commands::Command;
+use reg_words::{has_dashes, met, with_fair};
 use std::alloc::{AllocError, Global};
 use std::fmt;
 
@@ -69,34 +72,41 @@ impl From<clap::Error> for WordsFault {
 }
 
 /// The program's command line, with a subcommand for each command.
-fn command_line<'a>(alloc: Global) -> Result<clap::Command<'a>, AllocError> {
-    let fair = Arg::new(alloc, "fair")
-        .long("fair")
-        .action(ArgAction::SetTrue);
+fn command_line<'a>(alloc: Global) -> Result<clap::Command<'a>, AllocError>
+    ensures { IfOk result (λ c. app_of c ≡ awreg) }
+{
     clap::Command::new(alloc, "awreg")
         .subcommand(clap::Command::new(alloc, "replay"))?
         .subcommand(clap::Command::new(alloc, "check"))?
         .subcommand(clap::Command::new(alloc, "live"))?
-        .subcommand(clap::Command::new(alloc, "play").arg(fair)?)
+        .subcommand(with_fair(alloc, "play")?)
+}
+
+/// What the subcommand of this name asks for.
+fn named(name: &str, fair: bool) -> Option<Asked>
+    ensures { (asked : Asked) → name_of asked ≡ name.now → is_fair asked ≡ fair → result ≡ Some asked }
+{
+    let command = match name {
+        "live" => return Some(Asked::Live),
+        "replay" => Command::Replay,
+        "check" => Command::Check,
+        "play" => Command::Play { fair },
+        _ => return None,
+    };
+    Some(Asked::Text { command })
 }
 
 /// What the words ask for. The first word is the program's name. Help, version texts, a line without a command and
 /// every other refusal are `CommandLine`, and so is a word `--`.
-pub fn choose<'a>(alloc: Global, words: &'a [String]) -> Result<Asked, WordsFault> {
-    for word in words {
-        if word.as_str() == "--" {
-            return Err(WordsFault::CommandLine);
-        }
+pub fn choose<'a>(alloc: Global, words: &'a [String]) -> Result<Asked, WordsFault>
+    ensures { IsAnswer (behind_name words.entry.now) result }
+{
+    if has_dashes(words) {
+        return Err(WordsFault::CommandLine);
     }
     let matches = command_line::<'a>(alloc)?.try_get_matches_from(words)?;
-    let command = match matches.subcommand() {
-        Some(("live", _)) => return Ok(Asked::Live),
-        Some(("replay", _)) => Command::Replay,
-        Some(("check", _)) => Command::Check,
-        Some(("play", play)) => Command::Play {
-            fair: play.get_flag("fair"),
-        },
-        _ => return Err(WordsFault::CommandLine),
-    };
-    Ok(Asked::Text { command })
+    match met(&matches) {
+        Some((name, fair)) => named(name, fair).ok_or(WordsFault::CommandLine),
+        None => Err(WordsFault::CommandLine),
+    }
 }

@@ -1,0 +1,103 @@
+-- Which words clap's parse takes, and what it meets there.
+use Rattle.std.proofs.Common.{◌≡◌, ◌⊎◌, inl, inr, true, false, List, [], ◌∷◌, Some, None, refl, ap, codes}
+use Rattle.std.specs.List.{list_any}
+use Rattle.std.specs.Str.{bytes_eq}
+use Rattle.std.proofs.lemmas.Bool.{cases_Bool, or_parts}
+use Rattle.clap.specs.Words.{Shape, Text}
+use Rattle.clap.specs.Simple.{built, names_of}
+use Rattle.clap.specs.Takes.{built_takes}
+use Rattle.clap.specs.Walk.{idle, nothing_held, subcommand_met, walked}
+use Rattle.clap.specs.Faults.{built_fault, entered_fault}
+use Rattle.clap.proofs.OnLiterals.{clap_on_literals}
+use Rattle.reg_show.specs.declared.Showing.{Showing}
+use Rattle.reg_show.specs.declared.Showing.TheVariants.{Draw, Schedule, Trace}
+use Rattle.reg_words.specs.Lines.{is_dashes}
+use Rattle.reg_words.proofs.Chosen.{TakesLines, met_at}
+use Rattle.reg_words.proofs.Strays.{some_kind}
+use Rattle.reg_words.proofs.Leaves.{fair_words, has_none, plain_words}
+use Rattle.reg_words.proofs.Programs.{at_name, below, first_turn, no_subcommand, start}
+use Rattle.awshow.specs.Lines.{IsCommandLine, awshow, is_fair, line_of, name_of}
+
+taken : (showing : Showing) → built_takes (built awshow) nothing_held (line_of showing) ≡ true
+unfolding clap_on_literals
+taken (Schedule true) = refl
+taken (Schedule false) = refl
+taken Trace = refl
+taken Draw = refl
+
+met : (showing : Showing) → met_at awshow (line_of showing) ≡ Some (name_of showing, Some (is_fair showing))
+unfolding clap_on_literals
+met (Schedule true) = refl
+met (Schedule false) = refl
+met Trace = refl
+met Draw = refl
+
+-- ---- no other line passes
+
+abbrev pub subs : List Shape
+subs = (built awshow).subs
+
+abbrev passes : List Text → Type 0
+passes line = built_fault (built awshow) nothing_held line ≡ []
+
+rest_of : (name : Text) (rest : List Text) → walked (built awshow).top.rules (names_of (built awshow)) start name ≡ record start { stopped = Some (name, []) }
+    → passes (name ∷ rest) → entered_fault (built awshow) (Some (name, rest)) ≡ []
+rest_of = below (codes "awshow") subs
+
+trace_line : (rest : List Text) → has_none rest → passes (codes "trace" ∷ rest) → IsCommandLine (codes "trace" ∷ rest)
+unfolding walked
+trace_line rest none e = (Trace, ap (λ ws. codes "trace" ∷ ws) (plain_words (codes "trace") rest (rest_of (codes "trace") rest refl e) none))
+
+draw_line : (rest : List Text) → has_none rest → passes (codes "draw" ∷ rest) → IsCommandLine (codes "draw" ∷ rest)
+unfolding walked
+draw_line rest none e = (Draw, ap (λ ws. codes "draw" ∷ ws) (plain_words (codes "draw") rest (rest_of (codes "draw") rest refl e) none))
+
+schedule_line : (rest : List Text) → has_none rest → passes (codes "schedule" ∷ rest) → IsCommandLine (codes "schedule" ∷ rest)
+unfolding walked
+schedule_line rest none e = elim (fair_words (codes "schedule") rest (rest_of (codes "schedule") rest refl e) none) [
+  | inl is ↦ (Schedule false, ap (λ ws. codes "schedule" ∷ ws) is)
+  | inr is ↦ (Schedule true, ap (λ ws. codes "schedule" ∷ ws) is)
+]
+
+help_line : (rest : List Text) → passes (codes "help" ∷ rest) → ⊥
+help_line rest e = some_kind _ _ (first_turn (codes "awshow") subs (codes "help") rest e)
+
+pub no_name : (word : Text) → bytes_eq (codes "trace") word ≡ false → bytes_eq (codes "draw") word ≡ false → bytes_eq (codes "schedule") word ≡ false → bytes_eq (codes "help") word ≡ false → subcommand_met (names_of (built awshow)) idle word ≡ None
+no_name word trace draw schedule help = rw (trace, draw, schedule, help) refl
+
+module _ (word : Text) (rest : List Text) (e : passes (word ∷ rest)) (dashes : has_none (word ∷ rest)) where
+  none : (is_dashes word ≡ false) × has_none rest
+  none = or_parts (is_dashes word) (list_any is_dashes rest) dashes
+
+  at : (name : Text) → bytes_eq name word ≡ true → (passes (name ∷ rest) → IsCommandLine (name ∷ rest)) → IsCommandLine (word ∷ rest)
+  at name is line = at_name (codes "awshow") subs IsCommandLine word rest name is line e
+
+  named_line : IsCommandLine (word ∷ rest)
+  named_line = elim (cases_Bool (bytes_eq (codes "trace") word)) [
+    | inl is ↦ at (codes "trace") is (trace_line rest none.1)
+    | inr trace ↦ elim (cases_Bool (bytes_eq (codes "draw") word)) [
+      | inl is ↦ at (codes "draw") is (draw_line rest none.1)
+      | inr draw ↦ elim (cases_Bool (bytes_eq (codes "schedule") word)) [
+        | inl is ↦ at (codes "schedule") is (schedule_line rest none.1)
+        | inr schedule ↦ elim (cases_Bool (bytes_eq (codes "help") word)) [
+          | inl is ↦ at (codes "help") is (λ h. absurd (help_line rest h))
+          | inr help ↦ absurd (no_subcommand (codes "awshow") subs word rest (no_name word trace draw schedule help) none.0 e)
+        ]
+      ]
+    ]
+  ]
+
+passed_line : (line : List Text) → passes line → has_none line → (line ≡ []) ⊎ IsCommandLine line
+passed_line [] e dashes = inl refl
+passed_line (word ∷ rest) e dashes = inr (named_line word rest e dashes)
+
+-- the program takes just the lines of what can be shown
+pub awshow_lines : TakesLines name_of is_fair awshow
+awshow_lines = record {
+  simple = refl;
+  named = λ words. refl;
+  taken = taken;
+  met = met;
+  nowhere = refl;
+  only = passed_line;
+}

@@ -1,0 +1,47 @@
+-- Which words ask for what.
+use Rattle.std.specs.Prelude.{◌≡◌, ◌⊎◌, ⊤, Bool, true, false, List, [], ◌∷◌, codes, Result, Ok, Err}
+use Rattle.std.specs.List.{list_any}
+use Rattle.clap.specs.Words.{App, Text, new_app, with_subcommand}
+use Rattle.reg_show.specs.declared.Showing.{Showing}
+use Rattle.reg_show.specs.declared.Showing.TheVariants.{Draw, Schedule, Trace}
+use Rattle.reg_words.specs.Lines.{fair_app, may_ask_help, named_line}
+use Rattle.awshow.specs.declared.words.Asked.{Asked}
+use Rattle.awshow.specs.declared.words.Asked.TheVariants.{Help, Show}
+use Rattle.awshow.specs.declared.words.WordsFault.{WordsFault}
+use Rattle.awshow.specs.declared.words.WordsFault.TheVariants.{CommandLine, OutOfMemory}
+
+-- the name of what is shown
+abbrev pub name_of : Showing → Text
+name_of (Schedule fair) = codes "schedule"
+name_of Trace = codes "trace"
+name_of Draw = codes "draw"
+
+-- whether it is the schedule of a fair play
+abbrev pub is_fair : Showing → Bool
+is_fair (Schedule fair) = fair
+is_fair _ = false
+
+-- the words behind the program's name that ask for it
+abbrev pub line_of : Showing → List Text
+line_of showing = named_line (name_of showing) (is_fair showing)
+
+-- the words ask to show something
+abbrev pub IsCommandLine : List Text → Type 0
+IsCommandLine line = (showing : Showing) × (line ≡ line_of showing)
+
+-- the words ask for help by a flag alone
+abbrev pub IsHelpLine : List Text → Type 0
+IsHelpLine line = (line ≡ codes "-h" ∷ []) ⊎ (line ≡ codes "--help" ∷ [])
+
+-- an answer of the words: just what they ask to show; else help, only where a word may ask for it, or CommandLine where
+-- no flag alone asks for help
+abbrev pub IsAnswer : List Text → Result Asked WordsFault → Type 0
+IsAnswer line (Ok (Show showing)) = line ≡ line_of showing
+IsAnswer line (Ok Help) = ¬ IsCommandLine line × (list_any may_ask_help line ≡ true)
+IsAnswer line (Err CommandLine) = ¬ IsCommandLine line × ¬ IsHelpLine line
+IsAnswer line (Err OutOfMemory) = ⊤
+
+-- the program with its subcommands, as clap's parse reads it
+abbrev pub awshow : App
+awshow = with_subcommand (with_subcommand (with_subcommand (new_app (codes "awshow")) (fair_app (codes "schedule")).top)
+    (new_app (codes "trace")).top) (new_app (codes "draw")).top

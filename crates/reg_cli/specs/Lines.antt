@@ -1,0 +1,40 @@
+-- Which words ask for what.
+use Rattle.std.specs.Prelude.{◌≡◌, ⊤, Bool, false, List, codes, Result, Ok, Err}
+use Rattle.clap.specs.Words.{App, Text, new_app, with_subcommand}
+use Rattle.reg_commands.specs.declared.Command.TheVariants.{Check, Play, Replay}
+use Rattle.reg_words.specs.Lines.{fair_app, named_line}
+use Rattle.reg_cli.specs.declared.words.Asked.{Asked}
+use Rattle.reg_cli.specs.declared.words.Asked.TheVariants.{Live, Text as OverText}
+use Rattle.reg_cli.specs.declared.words.WordsFault.{WordsFault}
+use Rattle.reg_cli.specs.declared.words.WordsFault.TheVariants.{CommandLine, OutOfMemory}
+
+-- the name of what is asked for
+abbrev pub name_of : Asked → Text
+name_of Live = codes "live"
+name_of (OverText Replay) = codes "replay"
+name_of (OverText Check) = codes "check"
+name_of (OverText (Play fair)) = codes "play"
+
+-- whether it is a fair play
+abbrev pub is_fair : Asked → Bool
+is_fair (OverText (Play fair)) = fair
+is_fair _ = false
+
+-- the words behind the program's name that ask for it
+abbrev pub line_of : Asked → List Text
+line_of asked = named_line (name_of asked) (is_fair asked)
+
+-- the words ask for something
+abbrev pub IsCommandLine : List Text → Type 0
+IsCommandLine line = (asked : Asked) × (line ≡ line_of asked)
+
+-- an answer of the words: just what they ask for, or CommandLine where they ask for nothing
+abbrev pub IsAnswer : List Text → Result Asked WordsFault → Type 0
+IsAnswer line (Ok asked) = line ≡ line_of asked
+IsAnswer line (Err CommandLine) = ¬ IsCommandLine line
+IsAnswer line (Err OutOfMemory) = ⊤
+
+-- the program with its subcommands, as clap's parse reads it
+abbrev pub awreg : App
+awreg = with_subcommand (with_subcommand (with_subcommand (with_subcommand (new_app (codes "awreg"))
+    (new_app (codes "replay")).top) (new_app (codes "check")).top) (new_app (codes "live")).top) (fair_app (codes "play")).top

@@ -1,0 +1,5 @@
+pub mod Strays
+pub mod Leaves
+pub mod Programs
+pub mod Getters
+pub mod Chosen
