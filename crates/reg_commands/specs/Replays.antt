@@ -11,7 +11,7 @@ use Rattle.reg_history.specs.declared.entries.Point.{Point}
 use Rattle.reg_history.specs.History.{IsAt}
 use Rattle.reg_history.specs.Orders.{IsSerial, IsPointOrder}
 use Rattle.reg_history.specs.Reports.{Contents, report_text}
-use Rattle.reg_world.specs.World.{World, run_of, whole, fault_of}
+use Rattle.reg_world.specs.World.{World, run_of, whole, world_fault}
 use Rattle.reg_world.specs.declared.events.Event.{Event}
 use Rattle.reg_world.specs.declared.faults.WorldFault.{WorldFault}
 use Rattle.reg_world.specs.Keys.{IsWitness, ArePoints}
@@ -94,7 +94,7 @@ pub record IsFirstRefused (start : Op → ℕ → Start) (p : Plan) (at : ℕ) (
   pub event : Event
   pub here : IsAt p.events at event
   pub before : (run_before start p at).accepted ≡ take at p.events
-  pub refused : fault_of p.shape.processes p.shape.registers (run_before start p at) event ≡ Some fault
+  pub refused : world_fault p.shape.processes p.shape.registers (run_before start p at) event ≡ Some fault
 
 -- The text is that of a plan, and this is the first event that is refused, with its fault.
 pub record RefusesAt (at : ℕ) (fault : WorldFault) (text : List ℕ) : Type 0 where

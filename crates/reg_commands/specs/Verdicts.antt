@@ -14,31 +14,31 @@ use Rattle.reg_commands.specs.declared.verdicts.Verdict.TheVariants.{Yes, No}
 use Rattle.reg_commands.specs.declared.verdicts.Verdicts.{Verdicts}
 
 -- the fault of a check that a finding is: each but want of memory
-abbrev pub fault_of : Finding → CheckFault
-fault_of Unknown = UnknownFault
-fault_of Twice = TwiceFault
-fault_of Missing = MissingFault
-fault_of OwnOrder = OwnOrderFault
-fault_of (Answer place) = AnswerFault place
-fault_of (Outside place) = OutsideFault place
-fault_of (Falling place) = FallingFault place
+abbrev pub check_fault : Finding → CheckFault
+check_fault Unknown = UnknownFault
+check_fault Twice = TwiceFault
+check_fault Missing = MissingFault
+check_fault OwnOrder = OwnOrderFault
+check_fault (Answer place) = AnswerFault place
+check_fault (Outside place) = OutsideFault place
+check_fault (Falling place) = FallingFault place
 
 -- the verdict of a checker's answer
 abbrev pub Tells : {A : Type 0} → Result A CheckFault → Verdict → Type 0
 Tells (Ok x) Yes = Unit {0}
 Tells (Ok x) (No finding) = ⊥
 Tells (Err fault) Yes = ⊥
-Tells (Err fault) (No finding) = fault ≡ fault_of finding
+Tells (Err fault) (No finding) = fault ≡ check_fault finding
 
 -- the order is serial, or this is the first fault that it has
 abbrev pub SerialSays : Contents → Verdict → Type 0
 SerialSays r Yes = IsSerial r.shape.registers r.entries r.order
-SerialSays r (No finding) = IsSerialFault r.shape.registers r.entries r.order (fault_of finding)
+SerialSays r (No finding) = IsSerialFault r.shape.registers r.entries r.order (check_fault finding)
 
 -- the points are a point order, or this is the first fault that they have
 abbrev pub PointsSay : Contents → List Point → Verdict → Type 0
 PointsSay r ps Yes = IsPointOrder r.shape.registers r.entries ps
-PointsSay r ps (No finding) = IsPointFault r.shape.registers r.entries ps (fault_of finding)
+PointsSay r ps (No finding) = IsPointFault r.shape.registers r.entries ps (check_fault finding)
 
 -- points are judged exactly where there are any
 abbrev pub AllPointsSay : Contents → Option (List Point) → Option Verdict → Type 0

@@ -3,7 +3,7 @@ ghost use Rattle.std.specs.Prelude.{◌≡◌, ◌++◌, ◌∷◌, [], IfOk, If
 ghost use Rattle.std.specs.Io.KnownBytes.{Appends};
 ghost use Rattle.std.specs.Fmt.{decimal};
 ghost use Rattle.reg_text.specs.Writing.{AppendsPart, Puts};
-ghost use Rattle.reg_commands.specs.Verdicts.{fault_of, Tells, SerialSays, PointsSay, AllPointsSay, Judges, is_yes as is_yes_of, all_yes as all_yes_of, verdict_line, points_line, verdicts_text};
+ghost use Rattle.reg_commands.specs.Verdicts.{check_fault, Tells, SerialSays, PointsSay, AllPointsSay, Judges, is_yes as is_yes_of, all_yes as all_yes_of, verdict_line, points_line, verdicts_text};
 
 use crate::faults::Fault;
 use itoa::Buffer;
@@ -69,7 +69,7 @@ pub fn all_yes(verdicts: Verdicts) -> bool
 
 /// What a fault says of the order: nothing where it is want of memory.
 fn finding_of(fault: CheckFault) -> Option<Finding>
-    ensures { MatchOption result (fault ≡ CheckFault.OutOfMemory) (λ f. fault ≡ fault_of f) }
+    ensures { MatchOption result (fault ≡ CheckFault.OutOfMemory) (λ f. fault ≡ check_fault f) }
 {
     match fault {
         CheckFault::Unknown => Some(Finding::Unknown),

@@ -14,6 +14,6 @@ why_of TextRange = Range
 why_of TextName = Name
 why_of TextEnd = End
 
-abbrev pub fault_of : TextFault → ReadFault
-fault_of (TextLine line why) = Line line (why_of why)
-fault_of TextOutOfMemory = OutOfMemory
+abbrev pub read_fault : TextFault → ReadFault
+read_fault (TextLine line why) = Line line (why_of why)
+read_fault TextOutOfMemory = OutOfMemory

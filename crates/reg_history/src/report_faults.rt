@@ -76,9 +76,9 @@ impl From<Why> for ReadWhy {
 }
 
 impl From<TextFault> for ReadFault {
-    ghost use Rattle.reg_history.specs.ReadFaults.{fault_of};
+    ghost use Rattle.reg_history.specs.ReadFaults.{read_fault};
 
-    ghost from_gives = { λ fault gives. gives ≡ fault_of fault };
+    ghost from_gives = { λ fault gives. gives ≡ read_fault fault };
 
     fn from(fault: TextFault) -> ReadFault {
         match fault {

@@ -28,7 +28,7 @@ use Rattle.reg_process.specs.declared.faults.ProcessFault.TheVariants.{Failed, N
 use Rattle.reg_process.specs.Faults.{early_fault, full_at, StopsAt, call_fault, is_out, early_body, frame_fault, take_fault, body_fault, FrameRefused, is_peer, is_stop}
 use Rattle.reg_process.specs.declared.outcomes.Put.{Put}
 use Rattle.reg_process.specs.Steps.{MakesCast, Delivers, due}
-use Rattle.reg_process.specs.Events.{Goes, cast_start, Kept, Steps, Refused, fault_of}
+use Rattle.reg_process.specs.Events.{Goes, cast_start, Kept, Steps, Refused, process_fault}
 
 pub broadcasts : (runs : Bool) (s : State) (op : Op) (stamp : Stamp) (frames : List Put) (s1 : State) (ds : List Delivered) (d : Option Reply) (s2 : State) (reply : Option Reply) →
     MakesCast s op runs stamp frames s1 → Delivers s1 ds d s2 → reply ≡ cond runs d (Some (record { answer = Done; place = s.delivered })) → Goes (length s.peers) (called s op (cast_start runs)) frames (Some stamp) ds reply s2
@@ -58,7 +58,7 @@ holds s op start frames ds s' e f d q = subst (λ st. Goes (length s.peers) (cal
 })
 
 module _ (start : Op → ℕ → Start) (f : Bool) (s : State) (op : Op) (st : Start) (s' : State) (runs : f ≡ false) (early : None ≡ early_fault s op s.running) (is : st ≡ start op (unsettled s)) where
-  faults : fault_of start (record { failed = f; state = s }) (Call op) ≡ full_at s.clock st
+  faults : process_fault start (record { failed = f; state = s }) (Call op) ≡ full_at s.clock st
   faults =
       ap (λ b. cond b (Some Failed) (call_fault start s op)) runs
       ∙ ap (λ o. first_of o (full_at s.clock (start op (unsettled s)))) (sym early)
@@ -170,7 +170,7 @@ module _ (start : Op → ℕ → Start) (f : Bool) (s : State) (from : ℕ) (fra
       not_false false k = absurd (cc)
 
   module _ (peer : is_peer s from ≡ true) (s' : State) where
-    take_faults : fault_of start (record { failed = f; state = s }) (Take from frame) ≡ frame_fault s from frame
+    take_faults : process_fault start (record { failed = f; state = s }) (Take from frame) ≡ frame_fault s from frame
     take_faults = ap (λ b. cond b (Some Failed) (take_fault s from frame)) runs ∙ ap (λ b. cond b (Some NoProcess) (frame_fault s from frame)) (not_true (nat_le (length s.peers) from || from == s.me) peer)
 
     pub take_steps : (frames : List Put) (cast : Option Stamp) (ds : List Delivered) (reply : Option Reply) → frame_fault s from frame ≡ None → Goes (length s.peers) (taken s from frame) frames cast ds reply s' → Steps start (record { failed = f; state = s }) (Take from frame) frames cast ds reply (record { failed = f; state = s' })

@@ -19,8 +19,8 @@ pub record Kept : Type 0 where
   pub failed : Bool
   pub state : State
 
-abbrev pub fault_of : (Op → ℕ → Start) → Kept → Step → Option ProcessFault
-fault_of start k e = cond k.failed (Some Failed) (step_fault start k.state e)
+abbrev pub process_fault : (Op → ℕ → Start) → Kept → Step → Option ProcessFault
+process_fault start k e = cond k.failed (Some Failed) (step_fault start k.state e)
 
 -- what goes out is what the definition says
 pub record IsOutcome (n : ℕ) (o : Outcome) (frames : List Put) (cast : Option Stamp) (delivered : List Delivered) (reply : Option Reply) : Type 0 where
@@ -39,12 +39,12 @@ cast_start runs = cond runs Casts CastsAndAnswers
 
 -- an accepted event
 pub record Steps (start : Op → ℕ → Start) (old : Kept) (e : Step) (frames : List Put) (cast : Option Stamp) (delivered : List Delivered) (reply : Option Reply) (new : Kept) : Type 0 where
-  pub no_fault : fault_of start old e ≡ None
+  pub no_fault : process_fault start old e ≡ None
   pub state : new ≡ record { failed = false; state = (step start old.state e).0 }
   pub outcome : IsOutcome (length old.state.peers) (step start old.state e).1 frames cast delivered reply
 
 -- a refused one: stopped for good, or unchanged
 abbrev pub Refused : (Op → ℕ → Start) → Kept → Step → ProcessFault → Kept → Type 0
-Refused start old e OutOfMemory new = (fault_of start old e ≡ None) × (new.failed ≡ true)
-Refused start old e ClockFull new = (fault_of start old e ≡ Some ClockFull) × (new.failed ≡ true)
-Refused start old e fault new = (fault_of start old e ≡ Some fault) × (new ≡ old)
+Refused start old e OutOfMemory new = (process_fault start old e ≡ None) × (new.failed ≡ true)
+Refused start old e ClockFull new = (process_fault start old e ≡ Some ClockFull) × (new.failed ≡ true)
+Refused start old e fault new = (process_fault start old e ≡ Some fault) × (new ≡ old)

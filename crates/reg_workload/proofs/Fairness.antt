@@ -19,7 +19,7 @@ use Rattle.reg_world.specs.declared.events.Event.{Event}
 use Rattle.reg_world.specs.declared.events.Event.TheVariants.{Call, Take}
 use Rattle.reg_world.specs.Laws.{NothingPending}
 use Rattle.reg_world.specs.Nodes.{put, after_step, take_step}
-use Rattle.reg_world.specs.World.{World, move_of, moved, fault_of, whole}
+use Rattle.reg_world.specs.World.{World, move_of, moved, world_fault, whole}
 use Rattle.reg_world.specs.Worlds.{Made, Accepts, run_in, with_event, new_world}
 use Rattle.reg_process.specs.Process.{Peer, no_peer}
 use Rattle.reg_process.proofs.Again.{replicate_at}
@@ -42,7 +42,7 @@ run_inv start laws n registers events =
 accepted_moves : (start : Op → ℕ → Start) (m m1 : Made) (e : Event) → Accepts start m e m1 → is_some (move_of m.processes m.registers (run_in start m) e) ≡ true
 accepted_moves start m m1 e A =
     let w = run_in start m in
-    refused_by_fault m.processes m.registers w e ∙ ap (λ f. not (is_some f)) (no_fault _ m.failed (fault_of m.processes m.registers w e) A.no_fault)
+    refused_by_fault m.processes m.registers w e ∙ ap (λ f. not (is_some f)) (no_fault _ m.failed (world_fault m.processes m.registers w e) A.no_fault)
   where
     no_fault : {X : Type 0} (x : X) (b : Bool) (o : Option X) → cond b (Some x) o ≡ None → o ≡ None
     no_fault x true o h = cc

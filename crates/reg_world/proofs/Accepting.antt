@@ -84,8 +84,8 @@ module _ (n registers k : ℕ) (w : Nodes) (I : Inv n registers k w) (p : ℕ) (
   sent_before : time_of body ≤ k
   sent_before = let x = (I.sent a la).past (peer_at (w p).state a).expected body next in let y = I.clocks a la in omega (arith, x, y)
 
-  -- a cast of the body's stamp is above the front, and apart from what is held
-  new_above : (c o : Delivered) → c.stamp.time ≡ time_of body → c.stamp.process ≡ a → In o (w p).front → Below o.stamp c.stamp
+  -- a cast of the body's stamp is above the list of deliveries, and apart from what is held
+  new_above : (c o : Delivered) → c.stamp.time ≡ time_of body → c.stamp.process ≡ a → In o (w p).deliveries → Below o.stamp c.stamp
   new_above c o e f i = elim (below_or o.stamp c.stamp) [
     | inl b ↦ b
     | inr b ↦
@@ -98,7 +98,7 @@ module _ (n registers k : ℕ) (w : Nodes) (I : Inv n registers k w) (p : ℕ) (
   new_apart : (c : Delivered) → c.stamp.time ≡ time_of body → c.stamp.process ≡ a → Apart c (w p).state.held
   new_apart c e f d h = elim (cases_stamps d.stamp c.stamp) [
     | inl q ↦
-        let r = (I.known p l).sound d (in_right d (w p).front (w p).state.held h) in
+        let r = (I.known p l).sound d (in_right d (w p).deliveries (w p).state.held h) in
         let at_a : d.stamp.process ≡ a = ap (λ (z : Stamp). z.process) q ∙ f in
         let i = r.1.0 in
         let within : i < (peer_at (w p).state a).expected = let x = r.1.1 in let y = ap (count_of (w p) p) at_a in let z = count_other (w p) p a ne in omega (arith, x, y, z) in
@@ -109,10 +109,10 @@ module _ (n registers k : ℕ) (w : Nodes) (I : Inv n registers k w) (p : ℕ) (
     | inr b ↦ b
   ]
 
-  accept_before : (s1 : State) → Accepted a (time_of body) (w p).state s1 → Rising s1.held → ((c : Delivered) → In c s1.held → In c (w p).state.held ⊎ ((c.stamp.time ≡ time_of body) × (c.stamp.process ≡ a))) → Before n p s1 (w p).front
+  accept_before : (s1 : State) → Accepted a (time_of body) (w p).state s1 → Rising s1.held → ((c : Delivered) → In c s1.held → In c (w p).state.held ⊎ ((c.stamp.time ≡ time_of body) × (c.stamp.process ≡ a))) → Before n p s1 (w p).deliveries
   accept_before s1 A r new =
       let L = I.local p l in
-      before_of n p (w p).state s1 (w p).front L A.me A.size (let z = A.clock in omega (arith, z))
+      before_of n p (w p).state s1 (w p).deliveries L A.me A.size (let z = A.clock in omega (arith, z))
       (λ r _ _. elim (cases_eq r a) [
         | inl e ↦ let x = A.seen_same in let y = ap (seen_at s1) e in let z = ap (seen_at (w p).state) e in omega (arith, x, y, z, later)
         | inr away ↦ let x = A.seen_other r away in omega (arith, x)
@@ -150,10 +150,10 @@ module _ (n registers k : ℕ) (w : Nodes) (I : Inv n registers k w) (p : ℕ) (
     | inr other ↦ A.expected_other r other ∙ sym (put_other (count_of (w p) p) a (count_of (w p) p a + 1) r other ∙ count_other (w p) p r away)
   ]
 
-  accept_known : (y : Node) (more : List Body) (casts : List Delivered) → y.queued ≡ (w p).queued ++ more → Adds ((w p).front ++ (w p).state.held) casts a body → Known n casts count1 (queues_of (put w p y))
+  accept_known : (y : Node) (more : List Body) (casts : List Delivered) → y.queued ≡ (w p).queued ++ more → Adds ((w p).deliveries ++ (w p).state.held) casts a body → Known n casts count1 (queues_of (put w p y))
   unfolding count1
   accept_known y more casts g A =
-      known_more n ((w p).front ++ (w p).state.held) casts (count_of (w p) p) (queues_of (put w p y)) a body la (grown n registers k w I p l y more g)
+      known_more n ((w p).deliveries ++ (w p).state.held) casts (count_of (w p) p) (queues_of (put w p y)) a body la (grown n registers k w I p l y more g)
       (ap (slice_get (queues_of (put w p y) a)) (count_other (w p) p a ne) ∙ queue_forth w p y more g a (peer_at (w p).state a).expected body next) A
 
 -- an acknowledgement
@@ -169,7 +169,7 @@ ack_kept n registers k w I p l a la ne t replies next =
     let inp : a < length s.peers = let z = L.size in omega (arith, z, la) in
     let A = accepts_is s a t inp in
     let queued_is = append-nil x.queued in
-    let adds : Adds (x.front ++ s.held) (x.front ++ s1.held) a (Ack t) = record { old = λ c h. h; new = λ u o e. cc; only = λ c h. inl h } in
+    let adds : Adds (x.deliveries ++ s.held) (x.deliveries ++ s1.held) a (Ack t) = record { old = λ c h. h; new = λ u o e. cc; only = λ c h. inl h } in
     loud_kept n registers k w I p l s1 [] frames replies
     (accept_before n registers k w I p l a la ne (Ack t) next s1 A L.held (λ c h. inl h))
     (subst (λ q. Sent registers q s1.clock) (sym queued_is) (sent_same registers x.queued s.clock s1.clock (I.sent p l) (omega arith)))
@@ -182,8 +182,8 @@ ack_kept n registers k w I p l a la ne t replies next =
     (λ i d h. absurd (got_no_numbered a ((peer_at s a).expected + 1) b i d h))
     (λ d h. absurd h))
     (accept_receives n registers k w I p l a la ne (Ack t) next s1 [] frames replies A (λ r c h. got_count a ((peer_at s a).expected + 1) r c h))
-    (known_same n (x.front ++ s1.held) (x.front ++ s1.held) _ (count_of y p) (queues_of (put w p y))
-    (accept_known n registers k w I p l a la ne (Ack t) next y [] (x.front ++ s1.held) refl adds)
+    (known_same n (x.deliveries ++ s1.held) (x.deliveries ++ s1.held) _ (count_of y p) (queues_of (put w p y))
+    (accept_known n registers k w I p l a la ne (Ack t) next y [] (x.deliveries ++ s1.held) refl adds)
     (λ c h. h) (λ c h. h)
     (λ r _. elim (cases_eq r p) [
       | inl e ↦ count_own y p r e ∙ (ap length queued_is ∙ (sym (count1_own n registers k w I p l a la ne (Ack t) next) ∙ ap (count1 n registers k w I p l a la ne (Ack t) next) (sym e)))
@@ -216,18 +216,18 @@ taken_cast_kept n registers k w I p l a la ne t op replies next =
       expected_same = queue_expected body 0 s.me s0.peers a ∙ A0.expected_same;
       expected_other = λ r away. queue_expected body 0 s.me s0.peers r ∙ A0.expected_other r away;
     } in
-    let adds : Adds (x.front ++ s.held) (x.front ++ s1.held) a (Cast t op) = record {
-      old = λ d h. elim (in_cases d x.front s.held h) [ inl i ↦ in_left d x.front _ i | inr i ↦ in_right d x.front _ (insert_old d c s.held i) ];
-      new = λ u o e. in_right (cast_at u a o) x.front _ (insert_new _ c s.held (same_new t u a op o e));
-      only = λ d h. elim (in_cases d x.front s1.held h) [
-        | inl i ↦ inl (in_left d x.front _ i)
+    let adds : Adds (x.deliveries ++ s.held) (x.deliveries ++ s1.held) a (Cast t op) = record {
+      old = λ d h. elim (in_cases d x.deliveries s.held h) [ inl i ↦ in_left d x.deliveries _ i | inr i ↦ in_right d x.deliveries _ (insert_old d c s.held i) ];
+      new = λ u o e. in_right (cast_at u a o) x.deliveries _ (insert_new _ c s.held (same_new t u a op o e));
+      only = λ d h. elim (in_cases d x.deliveries s1.held h) [
+        | inl i ↦ inl (in_left d x.deliveries _ i)
         | inr i ↦ elim (in_insert d c s.held i) [
           | inl e ↦ inr (ap (λ (z : Delivered). Cast z.stamp.time z.op) (sym e), ap (λ (z : Delivered). z.stamp.process) e)
-          | inr j ↦ inl (in_right d x.front _ j)
+          | inr j ↦ inl (in_right d x.deliveries _ j)
         ]
       ];
     } in
-    let acks : Adds (x.front ++ s1.held) (x.front ++ s1.held) p body = record { old = λ c h. h; new = λ u o e. cc; only = λ c h. inl h } in
+    let acks : Adds (x.deliveries ++ s1.held) (x.deliveries ++ s1.held) p body = record { old = λ c h. h; new = λ u o e. cc; only = λ c h. inl h } in
     let own1 = count1_own n registers k w I p l a la ne (Cast t op) next in
     let counts = count1 n registers k w I p l a la ne (Cast t op) next in
     loud_kept n registers k w I p l s1 (body ∷ []) frames replies
@@ -239,9 +239,9 @@ taken_cast_kept n registers k w I p l a la ne t op replies next =
     (λ b i d h. elim (in_cases (Numbered i d) (got_frames a ((peer_at s a).expected + 1) b) (data_frames s (Some body) b) h) [ inl j ↦ absurd (got_no_numbered a ((peer_at s a).expected + 1) b i d j) | inr j ↦ j ]))
     (accept_receives n registers k w I p l a la ne (Cast t op) next s1 (body ∷ []) frames replies A
     (λ r g h. elim (in_cases (Got g) (got_frames a ((peer_at s a).expected + 1) r) (data_frames s (Some body) r) h) [ inl j ↦ got_count a ((peer_at s a).expected + 1) r g j | inr j ↦ absurd (data_no_got s body r g j) ]))
-    (known_same n (x.front ++ s1.held) (x.front ++ s1.held) _ (count_of y p) (queues_of (put w p y))
-    (known_more n (x.front ++ s1.held) (x.front ++ s1.held) counts (queues_of (put w p y)) p body l
-    (accept_known n registers k w I p l a la ne (Cast t op) next y (body ∷ []) (x.front ++ s1.held) refl adds)
+    (known_same n (x.deliveries ++ s1.held) (x.deliveries ++ s1.held) _ (count_of y p) (queues_of (put w p y))
+    (known_more n (x.deliveries ++ s1.held) (x.deliveries ++ s1.held) counts (queues_of (put w p y)) p body l
+    (accept_known n registers k w I p l a la ne (Cast t op) next y (body ∷ []) (x.deliveries ++ s1.held) refl adds)
     (ap (slice_get (queues_of (put w p y) p)) own1 ∙ last_own n registers k w I p l y body refl) acks)
     (λ d h. h) (λ d h. h)
     (λ r _. own_counts n registers k w I p l y body counts refl own1 (λ r away. count1_other n registers k w I p l a la ne (Cast t op) next s1 A r away) r))

@@ -109,7 +109,7 @@ module _ (start : Op → ℕ → Start) (n registers : ℕ) (laws : KeepsLaws st
       subst (λ (z : Nodes). Sound n registers p (z p).state) same (record {
         me = L.me;
         size = L.size;
-        copy = ap length R.copy ∙ (length-memory (ops_of (v.nodes p).front) (replicate registers 0) ∙ length-replicate registers 0);
+        copy = ap length R.copy ∙ (length-memory (ops_of (v.nodes p).deliveries) (replicate registers 0) ∙ length-replicate registers 0);
       })
 
   no_step_fault : (e : Event) (p : ℕ) (st : Step) → step_of n registers w.nodes e ≡ Some (p, st) → step_fault start (w.nodes p).state st ≡ None

@@ -9,7 +9,7 @@ use Rattle.reg_frames.specs.declared.bodies.Body.TheVariants.{Cast}
 use Rattle.reg_base.specs.Order.{In}
 use Rattle.reg_process.specs.Process.{cast_at}
 use Rattle.reg_world.specs.Nodes.{Node, Nodes, put}
-use Rattle.reg_world.proofs.Bodies.{place_front, place_back}
+use Rattle.reg_world.proofs.Bodies.{place_first, place_back}
 use Rattle.reg_world.proofs.Local.{Local}
 use Rattle.reg_world.proofs.Links.{Sent}
 use Rattle.reg_world.proofs.Worlds.{Known, Inv, LinkOf, queues_of, count_of, count_own, count_other}
@@ -19,11 +19,11 @@ put_cases P at p x j h g = cond_both (j == p) x (at j) P (λ e. h (eqb-true j p 
 
 -- the node of p after a step, among the other nodes as they were
 pub record Kept (n registers k p : ℕ) (w : Nodes) (y : Node) : Type 0 where
-  pub local : Local n p y.state y.front
+  pub local : Local n p y.state y.deliveries
   pub sent : Sent registers y.queued y.state.clock
   pub sends : (b : ℕ) → b < n → (p ≡ b → ⊥) → LinkOf p b y (w b)
   pub receives : (a : ℕ) → a < n → (a ≡ p → ⊥) → LinkOf a p (w a) y
-  pub known : Known n (y.front ++ y.state.held) (count_of y p) (queues_of (put w p y))
+  pub known : Known n (y.deliveries ++ y.state.held) (count_of y p) (queues_of (put w p y))
   pub more : List Body
   pub grows : y.queued ≡ (w p).queued ++ more
   pub clock : y.state.clock ≤ suc k
@@ -95,7 +95,7 @@ counts_within n registers k w I q r l m = elim (cases_eq r q) [
 module _ (w : Nodes) (p : ℕ) (y : Node) (more : List Body) (grows : y.queued ≡ (w p).queued ++ more) where
   pub queue_forth : (r i : ℕ) (x : Body) → slice_get (w r).queued i ≡ Some x → slice_get (put w p y r).queued i ≡ Some x
   queue_forth r i x h = put_cases (λ (z : Node). slice_get z.queued i ≡ Some x) w p y r
-      (λ e. subst (λ q. slice_get q i ≡ Some x) (sym grows) (place_front (w p).queued more i x (subst (λ r. slice_get (w r).queued i ≡ Some x) e h)))
+      (λ e. subst (λ q. slice_get q i ≡ Some x) (sym grows) (place_first (w p).queued more i x (subst (λ r. slice_get (w r).queued i ≡ Some x) e h)))
       (λ ne. h)
 
   pub queue_back : (r i : ℕ) (x : Body) → i < length (w r).queued → slice_get (put w p y r).queued i ≡ Some x → slice_get (w r).queued i ≡ Some x
@@ -107,7 +107,7 @@ module _ (w : Nodes) (p : ℕ) (y : Node) (more : List Body) (grows : y.queued �
 
 pub inv_act : (n registers k p : ℕ) (w : Nodes) (y : Node) → p < n → Inv n registers k w → Kept n registers k p w y → Inv n registers (suc k) (put w p y)
 inv_act n registers k p w y l I K = record {
-  local = λ j m. put_cases (λ (z : Node). Local n j z.state z.front) w p y j (λ e. subst (λ r. Local n r y.state y.front) (sym e) K.local) (λ ne. I.local j m);
+  local = λ j m. put_cases (λ (z : Node). Local n j z.state z.deliveries) w p y j (λ e. subst (λ r. Local n r y.state y.deliveries) (sym e) K.local) (λ ne. I.local j m);
   sent = λ j m. put_cases (λ (z : Node). Sent registers z.queued z.state.clock) w p y j (λ e. K.sent) (λ ne. I.sent j m);
   link = λ a b la lb ne. put_cases (λ (z : Node). LinkOf a b z (put w p y b)) w p y a
       (λ e. put_cases (λ (z : Node). LinkOf a b y z) w p y b
@@ -116,8 +116,8 @@ inv_act n registers k p w y l I K = record {
       (λ e. put_cases (λ (z : Node). LinkOf a b (w a) z) w p y b
       (λ f. subst (λ r. LinkOf a r (w a) y) (sym f) (K.receives a la e))
       (λ f. I.link a b la lb ne));
-  known = λ q m. put_cases (λ (z : Node). Known n (z.front ++ z.state.held) (count_of z q) (queues_of (put w p y))) w p y q
-      (λ e. subst (λ r. Known n (y.front ++ y.state.held) (count_of y r) (queues_of (put w p y))) (sym e) K.known)
+  known = λ q m. put_cases (λ (z : Node). Known n (z.deliveries ++ z.state.held) (count_of z q) (queues_of (put w p y))) w p y q
+      (λ e. subst (λ r. Known n (y.deliveries ++ y.state.held) (count_of y r) (queues_of (put w p y))) (sym e) K.known)
       (λ ne. known_grown n _ (count_of (w q) q) (queues_of w) (queues_of (put w p y)) (I.known q m) (λ r o. counts_within n registers k w I q r m o) (queue_forth w p y K.more K.grows) (queue_back w p y K.more K.grows));
   clocks = λ j m. put_cases (λ (z : Node). z.state.clock ≤ suc k) w p y j (λ e. K.clock) (λ ne. let z = I.clocks j m in omega (arith, z));
 }

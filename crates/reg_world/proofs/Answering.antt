@@ -22,7 +22,7 @@ use Rattle.reg_world.specs.declared.faults.WorldFault.TheVariants.{Failed, TooMa
 use Rattle.reg_world.specs.declared.order.First.{First}
 use Rattle.reg_world.specs.declared.order.CopyRead.{CopyRead}
 use Rattle.reg_world.specs.Keys.{IsWitness, ArePoints}
-use Rattle.reg_world.specs.World.{World, run_of, fault_of, move_of, moved, whole}
+use Rattle.reg_world.specs.World.{World, run_of, world_fault, move_of, moved, whole}
 use Rattle.reg_world.specs.Tallies.{Tally}
 use Rattle.reg_world.specs.Witnesses.{is_kept, point_of, IsMerged}
 use Rattle.reg_world.specs.Pages.{Pages}
@@ -99,8 +99,8 @@ run_refuses start shape events at d fault old new l is h =
 accepted_more : (start : Op → ℕ → Start) (old : Made) (e : Event) → (run_in start old).accepted ≡ old.accepted → refusal start old e ≡ None → (run_in start (with_event start old e)).accepted ≡ old.accepted ++ e ∷ []
 accepted_more start old e so none = go (move_of old.processes old.registers (run_in start old) e) refl
   where
-    no_fault : fault_of old.processes old.registers (run_in start old) e ≡ None
-    no_fault = cond_both old.failed (Some Failed) (fault_of old.processes old.registers (run_in start old) e) (λ o. o ≡ None → fault_of old.processes old.registers (run_in start old) e ≡ None) (λ f h. absurd (none-some Failed (sym h))) (λ f h. h) none
+    no_fault : world_fault old.processes old.registers (run_in start old) e ≡ None
+    no_fault = cond_both old.failed (Some Failed) (world_fault old.processes old.registers (run_in start old) e) (λ o. o ≡ None → world_fault old.processes old.registers (run_in start old) e ≡ None) (λ f h. absurd (none-some Failed (sym h))) (λ f h. h) none
 
     go : (o : Option (ℕ × Step)) → move_of old.processes old.registers (run_in start old) e ≡ o → (run_in start (with_event start old e)).accepted ≡ old.accepted ++ e ∷ []
     go None is = let bad : false ≡ true = sym (ap is_some is) ∙ (refused_by_fault old.processes old.registers (run_in start old) e ∙ ap (λ o. not (is_some o)) no_fault) in cc

@@ -164,7 +164,7 @@ module _ (start : Op → ℕ → Start) (n registers : ℕ) (laws : KeepsLaws st
       let L : m.0 < n = (subst (Allowed n registers w.nodes) (move_is n registers w e m is).1 (allowed n registers w.nodes e)).0 in
       let y : Node = after_step start (w.nodes m.0) st in
       let new_is : (f : First) → In f New → (c : Delivered) × In c U × (f ≡ first_of Casts At c) = λ f i. map_in (first_of Casts At) f U i in
-      let fresh : (c : Delivered) → In c U → (q : ℕ) → q < n → In c (w.nodes q).front → ⊥ =
+      let fresh : (c : Delivered) → In c U → (q : ℕ) → q < n → In c (w.nodes q).deliveries → ⊥ =
       λ c i q l h.
       let g = O.all q c l h in
       let test = λ (d : Delivered). (d.stamp.time == c.stamp.time) && (d.stamp.process == c.stamp.process) in
@@ -181,28 +181,28 @@ module _ (start : Op → ℕ → Start) (n registers : ℕ) (laws : KeepsLaws st
             | inl old ↦
                 let b = A.bound k f old in
                 let shorter : take f.at w'.accepted ≡ take f.at w.accepted = take-append-le f.at w.accepted (e ∷ []) (omega (arith, b)) in
-                A.right.before k f q old l (subst (λ es. In (delivered_of f) ((whole start n registers es).nodes q).front) shorter h)
+                A.right.before k f q old l (subst (λ es. In (delivered_of f) ((whole start n registers es).nodes q).deliveries) shorter h)
             | inr new ↦
                 let c = new_is f new.1 in
                 let z = ap (λ (x : First). x.at) c.2 in
                 let shorter : take f.at w'.accepted ≡ w.accepted = take_at w.accepted (e ∷ []) f.at (sym z) in
-                let i : In (delivered_of f) (w.nodes q).front = subst (λ (x : World). In (delivered_of f) (x.nodes q).front) same (subst (λ es. In (delivered_of f) ((whole start n registers es).nodes q).front) shorter h) in
-                fresh c.0 c.1 q l (subst (λ (x : First). In (delivered_of x) (w.nodes q).front) c.2 i)
+                let i : In (delivered_of f) (w.nodes q).deliveries = subst (λ (x : World). In (delivered_of f) (x.nodes q).deliveries) same (subst (λ es. In (delivered_of f) ((whole start n registers es).nodes q).deliveries) shorter h) in
+                fresh c.0 c.1 q l (subst (λ (x : First). In (delivered_of x) (w.nodes q).deliveries) c.2 i)
           ];
           then_there = λ k f at. elim (place_split w.order New k f at) [
             | inl old ↦
                 let b = A.bound k f old in
                 let shorter : take (f.at + 1) w'.accepted ≡ take (f.at + 1) w.accepted = take-append-le (f.at + 1) w.accepted (e ∷ []) (omega (arith, b)) in
                 let r = A.right.then_there k f old in
-                (r.0, r.1, subst (λ es. In (delivered_of f) ((whole start n registers es).nodes r.0).front) (sym shorter) r.2)
+                (r.0, r.1, subst (λ es. In (delivered_of f) ((whole start n registers es).nodes r.0).deliveries) (sym shorter) r.2)
             | inr new ↦
                 let c = new_is f new.1 in
                 let z = ap (λ (x : First). x.at) c.2 in
                 let all : take (f.at + 1) w'.accepted ≡ w'.accepted = take_all (f.at + 1) w'.accepted (omega (arith, z, longer)) in
                 let i : In c.0 R.1.delivered = (in_filter c.0 (λ (x : Delivered). not (list_any (λ (d : Delivered). (d.stamp.time == x.stamp.time) && (d.stamp.process == x.stamp.process)) known)) R.1.delivered c.1).0 in
-                let here : (w'.nodes m.0).front ≡ (w.nodes m.0).front ++ R.1.delivered = ap (λ (x : Node). x.front) (put_same w.nodes m.0 y m.0 refl) in
-                let h : In (delivered_of f) (w'.nodes m.0).front = subst (λ (x : First). In (delivered_of x) (w'.nodes m.0).front) (sym c.2) (subst (In c.0) (sym here) (in_right c.0 (w.nodes m.0).front R.1.delivered i)) in
-                (m.0, L, subst (λ es. In (delivered_of f) ((whole start n registers es).nodes m.0).front) (sym all) (subst (λ (x : World). In (delivered_of f) (x.nodes m.0).front) (sym same') h))
+                let here : (w'.nodes m.0).deliveries ≡ (w.nodes m.0).deliveries ++ R.1.delivered = ap (λ (x : Node). x.deliveries) (put_same w.nodes m.0 y m.0 refl) in
+                let h : In (delivered_of f) (w'.nodes m.0).deliveries = subst (λ (x : First). In (delivered_of x) (w'.nodes m.0).deliveries) (sym c.2) (subst (In c.0) (sym here) (in_right c.0 (w.nodes m.0).deliveries R.1.delivered i)) in
+                (m.0, L, subst (λ es. In (delivered_of f) ((whole start n registers es).nodes m.0).deliveries) (sym all) (subst (λ (x : World). In (delivered_of f) (x.nodes m.0).deliveries) (sym same') h))
           ];
         };
       }

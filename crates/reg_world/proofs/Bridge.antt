@@ -17,7 +17,7 @@ use Rattle.reg_world.proofs.Facts.{IsCastAt, memory_at, RunFacts}
 use Rattle.reg_base.proofs.Orders.{below_irrefl}
 use Rattle.reg_base.proofs.Lists.{in_cases}
 use Rattle.reg_world.proofs.Bodies.{place_in}
-use Rattle.reg_world.proofs.Worlds.{front_made, held_made, undelivered_above}
+use Rattle.reg_world.proofs.Worlds.{delivered_made, held_made, undelivered_above}
 use Rattle.reg_world.proofs.Wholes.{whole_inv}
 use Rattle.reg_world.proofs.Named.{casts_called}
 use Rattle.reg_world.proofs.Copied.{copies_change_nothing}
@@ -57,15 +57,15 @@ run_facts start n registers events laws =
     let order = casts_of w.order in
     let P : PastsOk n w = whole_pasts start n registers events laws in
     let H : HistoryRight n registers w = history_right start n registers events laws in
-    let made : (c : Delivered) → In c order → IsMade n w.nodes c = λ c h. let s = O.some c h in front_made n registers k0 w.nodes I s.0 s.1 c s.2 in
+    let made : (c : Delivered) → In c order → IsMade n w.nodes c = λ c h. let s = O.some c h in delivered_made n registers k0 w.nodes I s.0 s.1 c s.2 in
     -- a cast of a call was made by its process
     let called_made : (p number : ℕ) (c : Delivered) → p < n → IsCastAt w p number c → (c.stamp.process ≡ p) × IsMade n w.nodes c =
     λ p number c l d.
     let r = (P p l).0.casts number d.0 c.stamp d.1 d.2 in
     let is : cast_of c.stamp d.0.op ≡ c = ap (cast_of c.stamp) d.3 in (
       r.0,
-      subst (IsMade n w.nodes) is (elim (in_cases (cast_of c.stamp d.0.op) (w.nodes p).front (w.nodes p).state.held r.1) [
-        | inl i ↦ front_made n registers k0 w.nodes I p l (cast_of c.stamp d.0.op) i
+      subst (IsMade n w.nodes) is (elim (in_cases (cast_of c.stamp d.0.op) (w.nodes p).deliveries (w.nodes p).state.held r.1) [
+        | inl i ↦ delivered_made n registers k0 w.nodes I p l (cast_of c.stamp d.0.op) i
         | inr i ↦ held_made n registers k0 w.nodes I p l (cast_of c.stamp d.0.op) i
       ]),
     ) in

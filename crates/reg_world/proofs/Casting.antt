@@ -75,31 +75,31 @@ module _ (n registers k : ℕ) (w : Nodes) (I : Inv n registers k w) (p : ℕ) (
       let seen' : (r : ℕ) → seen_at s1 r ≡ seen_at s r = λ r. queue_seen body 0 s.me s.peers r in
       let expected' : (r : ℕ) → (peer_at s1 r).expected ≡ (peer_at s r).expected = λ r. queue_expected body 0 s.me s.peers r in
       let apart : Apart c s.held = λ d h. let z = L.held_times d h in inl (inl (omega (arith, z))) in
-      let adds : Adds (x.front ++ s.held) (x.front ++ s1.held) p body = record {
-        old = λ d h. elim (in_cases d x.front s.held h) [ inl i ↦ in_left d x.front _ i | inr i ↦ in_right d x.front _ (insert_old d c s.held i) ];
-        new = λ u o e. in_right (cast_at u p o) x.front _ (insert_new _ c s.held (same_new u o e));
-        only = λ d h. elim (in_cases d x.front s1.held h) [
-          | inl i ↦ inl (in_left d x.front _ i)
+      let adds : Adds (x.deliveries ++ s.held) (x.deliveries ++ s1.held) p body = record {
+        old = λ d h. elim (in_cases d x.deliveries s.held h) [ inl i ↦ in_left d x.deliveries _ i | inr i ↦ in_right d x.deliveries _ (insert_old d c s.held i) ];
+        new = λ u o e. in_right (cast_at u p o) x.deliveries _ (insert_new _ c s.held (same_new u o e));
+        only = λ d h. elim (in_cases d x.deliveries s1.held h) [
+          | inl i ↦ inl (in_left d x.deliveries _ i)
           | inr i ↦ elim (in_insert d c s.held i) [
             | inl e ↦ inr (ap (λ (z : Delivered). Cast z.stamp.time z.op) (sym e), ap (λ (z : Delivered). z.stamp.process) e ∙ L.me)
-            | inr j ↦ inl (in_right d x.front _ j)
+            | inr j ↦ inl (in_right d x.deliveries _ j)
           ]
         ];
       } in
       loud_kept n registers k w I p l s1 (body ∷ []) frames replies
-      (before_of n p s s1 x.front L refl (length-queue body 0 s.me s.peers) (omega arith)
+      (before_of n p s s1 x.deliveries L refl (length-queue body 0 s.me s.peers) (omega arith)
       (λ r _ _. let z = seen' r in omega (arith, z))
       (λ r m ne. let z = seen' r in let v = L.seen r m ne in omega (arith, z, v))
       (rising_insert c s.held L.held apart)
       (λ d h. elim (in_insert d c s.held h) [
-        | inl e ↦ inr ((let z = ap (λ (q : Delivered). q.stamp.time) e in omega (arith, z)), (λ o i. let z = ap (λ (q : Delivered). q.stamp.time) e in let v = L.front_times o i in inl (omega (arith, z, v))))
+        | inl e ↦ inr ((let z = ap (λ (q : Delivered). q.stamp.time) e in omega (arith, z)), (λ o i. let z = ap (λ (q : Delivered). q.stamp.time) e in let v = L.delivery_times o i in inl (omega (arith, z, v))))
         | inr i ↦ inl i
       ]))
       (sent_more registers x.queued s.clock t body (I.sent p l) (omega arith) (omega arith) reg)
       (queue_sends s1 body frames replies s.peers refl refl (λ b. refl) (λ b. refl) (omega arith) (omega arith) (λ b i d h. h))
       (λ a la ne. queue_receives s1 (body ∷ []) frames replies a la ne (expected' a) (seen' a) (λ g. data_no_got s body a g))
-      (known_same n (x.front ++ s1.held) (x.front ++ s1.held) _ (count_of y p) (queues_of (put w p y))
-      (known_more n (x.front ++ s.held) (x.front ++ s1.held) (count_of x p) (queues_of (put w p y)) p body l (grown n registers k w I p l y (body ∷ []) refl)
+      (known_same n (x.deliveries ++ s1.held) (x.deliveries ++ s1.held) _ (count_of y p) (queues_of (put w p y))
+      (known_more n (x.deliveries ++ s.held) (x.deliveries ++ s1.held) (count_of x p) (queues_of (put w p y)) p body l (grown n registers k w I p l y (body ∷ []) refl)
       (ap (slice_get (queues_of (put w p y) p)) (count_own x p p refl) ∙ last_own n registers k w I p l y body refl) adds)
       (λ d h. h) (λ d h. h)
       (λ r _. own_counts y body (count_of x p) refl (count_own x p p refl) (λ r ne. expected' r ∙ sym (count_other x p r ne)) r))

@@ -20,7 +20,7 @@ use Rattle.reg_process.specs.declared.steps.Step.{Step}
 use Rattle.reg_process.specs.declared.steps.Reply.{Reply}
 use Rattle.reg_world.specs.World.{op_id, calls_in, answers_in}
 use Rattle.reg_world.specs.Pages.{Pages, calls_after, entries_after, first_in, firsts_in, tally_at, TimesDiffer}
-use Rattle.reg_world.proofs.Bodies.{place_last, place_front, place_within}
+use Rattle.reg_world.proofs.Bodies.{place_last, place_first, place_within}
 use Rattle.reg_world.proofs.Sending.{in_drop}
 use Rattle.reg_world.proofs.Noted.{at_index}
 
@@ -74,22 +74,22 @@ first_more at last ds before ts now now1 i d order order1 l S same more room =
 pub firsts_all : {A : Type 0} (at : ℕ) (last : Option Stamp) (ds : List Delivered) (before : List First) (ts now : List Tally) (i : ℕ) (order : Vec First A) → length ds ≤ i → IsSoFar at last ds before ts now i order → order.items ≡ before ++ firsts_in ts at last ds
 firsts_all at last ds before ts now i order l S = sym (append-nil order.items) ∙ (ap (λ z. order.items ++ firsts_in ts at last z) (sym (drop_all i ds l)) ∙ S.left)
 
--- the front of a history is a history
+-- the beginning of a history is a history
 pub history_front : (n registers : ℕ) (xs ys : List Entry) → IsHistory n registers (xs ++ ys) → IsHistory n registers xs
 history_front n registers xs ys good k e at =
     let l = place_within xs k e at in
-    subst (λ z. IsInPlace n registers z e) (take-append-le k xs ys (omega (arith, l))) (good k e (place_front xs ys k e at))
+    subst (λ z. IsInPlace n registers z e) (take-append-le k xs ys (omega (arith, l))) (good k e (place_first xs ys k e at))
 
 module _ (b : Pages) (p : ℕ) (step : Step) (reply : Option Reply) (good : IsHistory b.shape.processes b.shape.registers (entries_after b.entries (length b.accepted) p (tally_at b.tallies p) step reply)) where
   pub call_good : (shape : Extent) (entries : List Entry) (at : ℕ) (id : OpId) → shape ≡ b.shape → entries ≡ b.entries → at ≡ length b.accepted → id ≡ op_id p (tally_at b.tallies p).calls → IsHistory shape.processes shape.registers (entries ++ calls_in at id step)
   call_good shape entries at id es ee ea ei =
       let at0 = length b.accepted in
       let id0 = op_id p (tally_at b.tallies p).calls in
-      let front = history_front b.shape.processes b.shape.registers (b.entries ++ calls_in at0 id0 step) (answers_in at0 (op_id p (calls_after step (tally_at b.tallies p).calls - 1)) reply) good in
+      let deliveries = history_front b.shape.processes b.shape.registers (b.entries ++ calls_in at0 id0 step) (answers_in at0 (op_id p (calls_after step (tally_at b.tallies p).calls - 1)) reply) good in
       subst (λ (z : Extent). IsHistory z.processes z.registers (entries ++ calls_in at id step)) (sym es)
       (subst (λ z. IsHistory b.shape.processes b.shape.registers (z ++ calls_in at id step)) (sym ee)
       (subst (λ z. IsHistory b.shape.processes b.shape.registers (b.entries ++ calls_in z id step)) (sym ea)
-      (subst (λ z. IsHistory b.shape.processes b.shape.registers (b.entries ++ calls_in at0 z step)) (sym ei) front)))
+      (subst (λ z. IsHistory b.shape.processes b.shape.registers (b.entries ++ calls_in at0 z step)) (sym ei) deliveries)))
 
   pub answer_good : (shape : Extent) (entries : List Entry) (at : ℕ) (called answered : OpId) → shape ≡ b.shape → entries ≡ b.entries ++ calls_in at called step → at ≡ length b.accepted → called ≡ op_id p (tally_at b.tallies p).calls → answered ≡ op_id p (calls_after step (tally_at b.tallies p).calls - 1)
       → IsHistory shape.processes shape.registers (entries ++ answers_in at answered reply)

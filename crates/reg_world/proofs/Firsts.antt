@@ -1,4 +1,4 @@
--- The order of first deliveries is the longest front.
+-- The order of first deliveries is the longest list of deliveries.
 use Rattle.std.proofs.Common.{◌≡◌, ℕ, suc, ◌<◌, Bool, true, false, not, List, [], ◌∷◌, ◌++◌, Option, Some, None, refl, sym, ap, ◌∙◌, subst, inl, inr}
 use Rattle.std.specs.Prelude.{◌==◌, ◌&&◌}
 use Rattle.std.specs.List.{list_any}
@@ -18,7 +18,7 @@ use Rattle.reg_world.specs.Laws.{IsMade}
 use Rattle.reg_base.proofs.Orders.{same_stamp, below_irrefl}
 use Rattle.reg_base.proofs.Lists.{in_left, in_right, in_cases, in_filter, filter_in, rising_filter, rising_append, Closed, prefixes}
 use Rattle.reg_process.proofs.Peers.{clear_below}
-use Rattle.reg_world.proofs.Worlds.{Inv, made_once, front_made, undelivered_above, clear_in_front}
+use Rattle.reg_world.proofs.Worlds.{Inv, made_once, delivered_made, undelivered_above, clear_is_delivered}
 use Rattle.reg_world.proofs.Acts.{put_cases, inv_act}
 use Rattle.reg_world.proofs.NodeEvents.{put_same, put_other}
 use Rattle.reg_world.proofs.Runs.{StepKept, step_ok, inv_happens}
@@ -43,11 +43,11 @@ finds c d (x ∷ xs) (inl q) e =
     or_left (same_test c x) (list_any (same_test c) xs) (and_from _ _ (eq-eqb _ _ (ap (λ (z : Stamp). z.time) s)) (eq-eqb _ _ (ap (λ (z : Stamp). z.process) s)))
 finds c d (x ∷ xs) (inr q) e = or_right (same_test c x) (list_any (same_test c) xs) (finds c d xs q e)
 
--- the casts of the order rise, and are those of the fronts
+-- the casts of the order rise, and are those of the deliveries
 pub record Ordered (n : ℕ) (w : Nodes) (order : List Delivered) : Type 0 where
   pub rises : Rising order
-  pub some : (c : Delivered) → In c order → (q : ℕ) × (q < n) × In c (w q).front
-  pub all : (q : ℕ) (c : Delivered) → q < n → In c (w q).front → In c order
+  pub some : (c : Delivered) → In c order → (q : ℕ) × (q < n) × In c (w q).deliveries
+  pub all : (q : ℕ) (c : Delivered) → q < n → In c (w q).deliveries → In c order
 
 pub rising_cut : (xs ys : List Delivered) (x y : Delivered) → Rising (xs ++ ys) → In x xs → In y ys → Below x.stamp y.stamp
 rising_cut [] ys x y r i j = absurd i
@@ -58,42 +58,42 @@ pub rising_end : (xs ys : List Delivered) → Rising (xs ++ ys) → Rising ys
 rising_end [] ys r = r
 rising_end (x ∷ xs) ys r = rising_end xs ys r.1
 
-ordered_acts : (n registers k : ℕ) (w : Nodes) (p : ℕ) (y : Node) (ds : List Delivered) (order : List Delivered) → p < n → Inv n registers k w → Inv n registers (suc k) (put w p y) → y.front ≡ (w p).front ++ ds → Ordered n w order → Ordered n (put w p y) (order ++ unseen order ds)
+ordered_acts : (n registers k : ℕ) (w : Nodes) (p : ℕ) (y : Node) (ds : List Delivered) (order : List Delivered) → p < n → Inv n registers k w → Inv n registers (suc k) (put w p y) → y.deliveries ≡ (w p).deliveries ++ ds → Ordered n w order → Ordered n (put w p y) (order ++ unseen order ds)
 unfolding same_test
 ordered_acts n registers k w p y ds order l I J g O =
     let w' = put w p y in
-    let at_p : (w' p).front ≡ (w p).front ++ ds = ap (λ (z : Node). z.front) (put_same w p y p refl) ∙ g in
-    let rises_p : Rising ((w p).front ++ ds) = subst Rising at_p (J.local p l).front_rises in
-    let grows : (q : ℕ) (c : Delivered) → In c (w q).front → In c (w' q).front =
-    λ q c h. put_cases (λ (z : Node). In c z.front) w p y q (λ e. subst (In c) (sym g) (in_left c (w p).front ds (subst (λ r. In c (w r).front) e h))) (λ ne. h) in
+    let at_p : (w' p).deliveries ≡ (w p).deliveries ++ ds = ap (λ (z : Node). z.deliveries) (put_same w p y p refl) ∙ g in
+    let rises_p : Rising ((w p).deliveries ++ ds) = subst Rising at_p (J.local p l).deliveries_rise in
+    let grows : (q : ℕ) (c : Delivered) → In c (w q).deliveries → In c (w' q).deliveries =
+    λ q c h. put_cases (λ (z : Node). In c z.deliveries) w p y q (λ e. subst (In c) (sym g) (in_left c (w p).deliveries ds (subst (λ r. In c (w r).deliveries) e h))) (λ ne. h) in
     let new_is : (c : Delivered) → In c (unseen order ds) → In c ds × (list_any (same_test c) order ≡ false) =
     λ c h. let r = in_filter c (λ c. not (list_any (same_test c) order)) ds h in (r.0, not-true _ r.1) in
     let fresh : (c d : Delivered) → In c (unseen order ds) → In d order → d.stamp ≡ c.stamp → ⊥ =
     λ c d h i e. let x = finds c d order i e in let y' = (new_is c h).1 in let bad : ⊥ = false≢true (sym y' ∙ x) in bad in
-    let in_p : (c : Delivered) → In c ds → In c (w' p).front = λ c h. subst (In c) (sym at_p) (in_right c (w p).front ds h) in
+    let in_p : (c : Delivered) → In c ds → In c (w' p).deliveries = λ c h. subst (In c) (sym at_p) (in_right c (w p).deliveries ds h) in
     record {
-      rises = rising_append order (unseen order ds) O.rises (rising_filter (λ c. not (list_any (same_test c) order)) ds (rising_end (w p).front ds rises_p))
+      rises = rising_append order (unseen order ds) O.rises (rising_filter (λ c. not (list_any (same_test c) order)) ds (rising_end (w p).deliveries ds rises_p))
           (λ o c i j.
           let s = O.some o i in
           let q = s.0 in
           elim (cases_eq q p) [
-            | inl e ↦ rising_cut (w p).front ds o c rises_p (subst (λ r. In o (w r).front) e s.2) (new_is c j).0
-            | inr ne ↦ undelivered_above n registers (suc k) w' J q s.1 c o (front_made n registers (suc k) w' J p l c (in_p c (new_is c j).0))
-                (λ h. fresh c c j (O.all q c s.1 (subst (In c) (ap (λ (z : Node). z.front) (put_other w p y q ne)) h)) refl)
+            | inl e ↦ rising_cut (w p).deliveries ds o c rises_p (subst (λ r. In o (w r).deliveries) e s.2) (new_is c j).0
+            | inr ne ↦ undelivered_above n registers (suc k) w' J q s.1 c o (delivered_made n registers (suc k) w' J p l c (in_p c (new_is c j).0))
+                (λ h. fresh c c j (O.all q c s.1 (subst (In c) (ap (λ (z : Node). z.deliveries) (put_other w p y q ne)) h)) refl)
                 (grows q o s.2)
           ]);
       some = λ c h. elim (in_cases c order (unseen order ds) h) [
         | inl i ↦ let s = O.some c i in (s.0, s.1, grows s.0 c s.2)
         | inr i ↦ (p, l, in_p c (new_is c i).0)
       ];
-      all = λ q c m h. put_cases (λ (z : Node). In c z.front → In c (order ++ unseen order ds)) w p y q
-          (λ e h'. elim (in_cases c (w p).front ds (subst (In c) g h')) [
+      all = λ q c m h. put_cases (λ (z : Node). In c z.deliveries → In c (order ++ unseen order ds)) w p y q
+          (λ e h'. elim (in_cases c (w p).deliveries ds (subst (In c) g h')) [
             | inl i ↦ in_left c order _ (O.all p c l i)
             | inr i ↦ elim (cases_Bool (list_any (same_test c) order)) [
               | inl t ↦
                   let f = found c order t in
                   let s = O.some f.0 f.1 in
-                  let same = made_once n registers (suc k) w' J f.0 c (front_made n registers (suc k) w' J s.0 s.1 f.0 (grows s.0 f.0 s.2)) (front_made n registers (suc k) w' J p l c (in_p c i)) f.2 in
+                  let same = made_once n registers (suc k) w' J f.0 c (delivered_made n registers (suc k) w' J s.0 s.1 f.0 (grows s.0 f.0 s.2)) (delivered_made n registers (suc k) w' J p l c (in_p c i)) f.2 in
                   in_left c order _ (subst (λ z. In z order) same f.1)
               | inr t ↦ in_right c order _ (filter_in c (λ c. not (list_any (same_test c) order)) ds i (ap not t))
             ]
@@ -125,17 +125,17 @@ world_happens start n registers k w e W = record {
 }
 
 -- the casts of one of two rising lists with the same members
-pub front_prefix : (n registers k : ℕ) (w : World) → WorldInv n registers k w → (q : ℕ) → q < n → IsPrefixOf (w.nodes q).front (casts_of w.order)
-front_prefix n registers k w W q l =
+pub deliveries_prefix : (n registers k : ℕ) (w : World) → WorldInv n registers k w → (q : ℕ) → q < n → IsPrefixOf (w.nodes q).deliveries (casts_of w.order)
+deliveries_prefix n registers k w W q l =
     let I = W.inv in
     let O = W.ordered in
     let order = casts_of w.order in
-    let made : (c : Delivered) → In c order → IsMade n w.nodes c = λ c h. let s = O.some c h in front_made n registers k w.nodes I s.0 s.1 c s.2 in
-    let into : Closed order (w.nodes q).front = λ c d i j b. clear_in_front n registers k w.nodes I q l c (made c i) (clear_below (w.nodes q).state c.stamp d.stamp b ((I.local q l).clear d j)) in
-    let once : (c d : Delivered) → In c (w.nodes q).front → In d order → c.stamp ≡ d.stamp → c ≡ d = λ c d i j e. made_once n registers k w.nodes I c d (front_made n registers k w.nodes I q l c i) (made d j) e in
-    elim (prefixes (w.nodes q).front order (I.local q l).front_rises O.rises (λ c d i j b. O.all q c l i) into once) [
+    let made : (c : Delivered) → In c order → IsMade n w.nodes c = λ c h. let s = O.some c h in delivered_made n registers k w.nodes I s.0 s.1 c s.2 in
+    let into : Closed order (w.nodes q).deliveries = λ c d i j b. clear_is_delivered n registers k w.nodes I q l c (made c i) (clear_below (w.nodes q).state c.stamp d.stamp b ((I.local q l).clear d j)) in
+    let once : (c d : Delivered) → In c (w.nodes q).deliveries → In d order → c.stamp ≡ d.stamp → c ≡ d = λ c d i j e. made_once n registers k w.nodes I c d (delivered_made n registers k w.nodes I q l c i) (made d j) e in
+    elim (prefixes (w.nodes q).deliveries order (I.local q l).deliveries_rise O.rises (λ c d i j b. O.all q c l i) into once) [
       | inl h ↦ h
-      | inr h ↦ shorter (w.nodes q).front order h.0 (I.local q l).front_rises h.1 (λ c i. O.all q c l i)
+      | inr h ↦ shorter (w.nodes q).deliveries order h.0 (I.local q l).deliveries_rise h.1 (λ c i. O.all q c l i)
     ]
   where
     -- a longer list has nothing more if all of it stands in the shorter

@@ -33,14 +33,14 @@ use Rattle.reg_world.proofs.Changes.{at_set_same, at_set_other, filter_append, f
 use Rattle.reg_world.proofs.Rises.{RisesBy, rises_at, rises_filter, rises_map, in_kept, kept_in}
 use Rattle.reg_base.proofs.Lists.{in_right}
 use Rattle.reg_world.proofs.Members.{in_at, in_map, map_in}
-use Rattle.reg_world.proofs.Bodies.{place_in, place_within, place_front}
+use Rattle.reg_world.proofs.Bodies.{place_in, place_within, place_first}
 use Rattle.reg_base.proofs.Orders.{Decides-below, below_trans, below_irrefl, same_stamp}
 use Rattle.reg_world.proofs.Replicas.{any_found}
 use Rattle.reg_world.proofs.NodeEvents.{put_same, put_other}
 use Rattle.reg_world.proofs.Allowed.{calls_made}
 use Rattle.reg_world.proofs.Added.{cast_found, cast_finds}
 use Rattle.reg_world.proofs.Refusals.{one_more}
-use Rattle.reg_world.proofs.Promised.{order_right, casts_right, fronts_made}
+use Rattle.reg_world.proofs.Promised.{order_right, casts_right, deliveries_made}
 use Rattle.reg_world.proofs.Premises.{is_run}
 use Rattle.reg_world.proofs.Tallied.{at_or, OwnLater, fresh, casts_rise}
 
@@ -300,8 +300,8 @@ module _ (start : Op → ℕ → Start) (n registers : ℕ) (laws : KeepsLaws st
 
     pub casters_now : (d : Delivered) → In d r.1.delivered → d.stamp.process < n
     casters_now d i =
-        let there : In d (v.nodes p).front = subst (λ (z : Node). In d z.front) (sym node_here) (in_right d (w.nodes p).front r.1.delivered i) in
-        (subst (λ (z : World). (d : Delivered) → In d (z.nodes p).front → d.stamp.process < n) next_is (λ d j. (fronts_made start n registers laws longer p d l j).0) d there)
+        let there : In d (v.nodes p).deliveries = subst (λ (z : Node). In d z.deliveries) (sym node_here) (in_right d (w.nodes p).deliveries r.1.delivered i) in
+        (subst (λ (z : World). (d : Delivered) → In d (z.nodes p).deliveries → d.stamp.process < n) next_is (λ d j. (deliveries_made start n registers laws longer p d l j).0) d there)
 
     rising_now : (i j : ℕ) (a b : First) → IsAt v.order i a → IsAt v.order j b → i < j → Below a.stamp b.stamp
     rising_now = subst (λ (z : World). (i j : ℕ) (a b : First) → IsAt z.order i a → IsAt z.order j b → i < j → Below a.stamp b.stamp) next_is (order_right start n registers laws longer).rising
@@ -325,7 +325,7 @@ module _ (start : Op → ℕ → Start) (n registers : ℕ) (laws : KeepsLaws st
             let there = in_map (first_of v.casts (length w.accepted)) c (unseen known_casts r.1.delivered) (kept_in is_new c r.1.delivered i e) in
             let place = in_at (first_of v.casts (length w.accepted) c) (map (first_of v.casts (length w.accepted)) (unseen known_casts r.1.delivered)) there in
             let here = place_within w.order (length w.order - 1) f at in
-            let b = rising_now (length w.order - 1) (length w.order + place.0) f (first_of v.casts (length w.accepted) c) (place_front w.order (map (first_of v.casts (length w.accepted)) (unseen known_casts r.1.delivered)) (length w.order - 1) f at)
+            let b = rising_now (length w.order - 1) (length w.order + place.0) f (first_of v.casts (length w.accepted) c) (place_first w.order (map (first_of v.casts (length w.accepted)) (unseen known_casts r.1.delivered)) (length w.order - 1) f at)
             (at_append w.order (map (first_of v.casts (length w.accepted)) (unseen known_casts r.1.delivered)) place.0 (first_of v.casts (length w.accepted) c) place.1) (omega (arith, here)) in
             (Decides-below f.stamp c.stamp).1 b
 

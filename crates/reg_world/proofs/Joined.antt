@@ -25,7 +25,7 @@ use Rattle.reg_world.specs.Runs.{Cast}
 use Rattle.reg_world.specs.World.{World, Replied, op_id, calls_in, answers_in, replies_in, casts_in, has_cast, reads_in, first_of, delivered_of, told}
 use Rattle.reg_world.proofs.Traced.{Called as PastCall, Answered as PastAnswer, Past, First as PastFirst, World as Trace, called_in, answered_in, past_after, pasts_after, casts_of, firsts, order_after}
 use Rattle.reg_base.proofs.Lists.{in_left, in_right, in_cases}
-use Rattle.reg_world.proofs.Bodies.{place_front, place_split, place_within}
+use Rattle.reg_world.proofs.Bodies.{place_first, place_split, place_within}
 use Rattle.reg_world.proofs.Acts.{put_cases}
 use Rattle.reg_world.proofs.Members.{map_append, map_in}
 use Rattle.reg_world.proofs.Added.{plain, cast_of_first, IsPastCall, IsPastAnswer, new_called, called_new, no_answer, no_call, new_answered, answered_new, new_replied, new_cast, cast_new, called_once, last_new, same_op_id, cast_found, cast_finds, id_found, plain_firsts, plain_casts, new_read, read_new, unseen_in}
@@ -77,7 +77,7 @@ module _ (start : Op → ℕ → Start) (n : ℕ) (t : World) (v : Trace) (e : E
   call_stays id d h = (
     h.0,
     put_cases (λ (g : Past). slice_get g.calls id.number ≡ Some d) v.pasts p This id.process
-        (λ q. place_front (v.pasts p).calls Asked id.number d (subst (λ z. slice_get (v.pasts z).calls id.number ≡ Some d) q h.1)) (λ ne. h.1),
+        (λ q. place_first (v.pasts p).calls Asked id.number d (subst (λ z. slice_get (v.pasts z).calls id.number ≡ Some d) q h.1)) (λ ne. h.1),
   )
 
   pub answer_stays : (id : OpId) (a : PastAnswer) → IsPastAnswer n v.pasts id a → IsPastAnswer n pasts_now id a

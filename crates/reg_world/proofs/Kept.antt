@@ -15,7 +15,7 @@ use Rattle.reg_process.specs.Process.{step, ops_of}
 use Rattle.reg_history.specs.History.{IsHistory}
 use Rattle.reg_world.specs.declared.events.Event.{Event}
 use Rattle.reg_world.specs.Nodes.{Node, Nodes, put, after_step, step_of, nodes_after}
-use Rattle.reg_world.specs.Laws.{FrontsMade}
+use Rattle.reg_world.specs.Laws.{DeliveriesMade}
 use Rattle.reg_base.specs.declared.limits.TheConstants.{MOST_EVENTS}
 use Rattle.reg_world.specs.World.{World, empty_world, op_id, move_of, moved, happens, run, whole}
 use Rattle.reg_world.proofs.Traced.{Called as PastCall, Answered as PastAnswer, World as Trace, casts_of, pasts_after, order_after, count_after, world_after, run_world, empty_world as empty_trace, whole as traced, HistoryRight, CastsCalled}
@@ -37,7 +37,7 @@ pub record Known (n registers : ℕ) (v : Trace) : Type 0 where
   pub answered : AllAnswered n v
   pub right : HistoryRight n registers v
   pub called : CastsCalled n v
-  pub fronts : FrontsMade n v.nodes
+  pub deliveries : DeliveriesMade n v.nodes
 
 pub known : (start : Op → ℕ → Start) (n registers : ℕ) → KeepsLaws start → (events : List Event) → Known n registers (traced start n registers events)
 known start n registers laws events = record {
@@ -46,7 +46,7 @@ known start n registers laws events = record {
   answered = all_answered start n registers events;
   right = history_right start n registers events laws;
   called = casts_called start n registers events;
-  fronts = made start n registers events;
+  deliveries = made start n registers events;
 }
 
 -- one call makes the cast of a stamp
@@ -110,10 +110,10 @@ kept_step start n registers laws w e m K few is =
     let nodes : Nodes = put v.nodes p y in
     let numbers = (F.pasts p A.0).0.count in
     let right = call_of n registers (after start v (Some m)) G.right in
-    let here : (nodes p).front ≡ y.front = ap (λ (z : Node). z.front) (put_same v.nodes p y p refl) in
+    let here : (nodes p).deliveries ≡ y.deliveries = ap (λ (z : Node). z.deliveries) (put_same v.nodes p y p refl) in
     let J = joined_now start n w v e p st nodes A.0 K.count numbers K.joined
     (λ c i.
-    let c_made = G.fronts p c A.0 (subst (In c) (sym here) (in_right c (v.nodes p).front (step start (v.nodes p).state st).1.delivered i)) in
+    let c_made = G.deliveries p c A.0 (subst (In c) (sym here) (in_right c (v.nodes p).deliveries (step start (v.nodes p).state st).1.delivered i)) in
     let r = G.called c c_made in
     (op_id c.stamp.process r.0, r.1, (c_made.0, r.2), r.3, r.4))
     (one_stamp n (after start v (Some m)) G.pasts)
@@ -126,7 +126,7 @@ kept_step start n registers laws w e m K few is =
       count = (let c = K.count in let k : length (w.accepted ++ e ∷ []) ≡ v.count + 1 = omega (arith, more, c) in k) ∙ ap (λ (z : Trace). z.count) (sym now);
       joined = subst (λ (z : Trace). Joined n (moved start (with_nodes v.nodes w) e (Some m)) z.pasts z.order) (sym now) J;
       history = history_now start n registers w v e p st nodes A.0 K.count numbers K.joined A.1 few K.history F.answered (F.places p A.0).below
-          (step_fits p (v.nodes p).state (v.nodes p).front (v.pasts p) (F.pasts p A.0).0 start st) right;
+          (step_fits p (v.nodes p).state (v.nodes p).deliveries (v.pasts p) (F.pasts p A.0).0 start st) right;
     } in
     subst (λ z. Kept start n registers (moved start (with_nodes z w) e (Some m))) (sym K.nodes) X
 

@@ -44,7 +44,7 @@ pub mod Placed
 pub mod Times
 pub mod Copied
 pub mod Bridge
-pub mod Rows
+pub mod Examples
 pub mod NodeLaws
 pub mod Memories
 pub mod Walk

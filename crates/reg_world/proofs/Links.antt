@@ -8,7 +8,7 @@ use Rattle.reg_base.specs.Order.{In}
 use Rattle.reg_world.specs.Laws.{names_register}
 use Rattle.reg_process.specs.Process.{Peer, time_of}
 use Rattle.reg_base.proofs.Lists.{in_cases}
-use Rattle.reg_world.proofs.Bodies.{place_front, place_back, place_split, place_within}
+use Rattle.reg_world.proofs.Bodies.{place_first, place_back, place_split, place_within}
 
 -- what a process queued: the times rise, up to its clock
 pub record Sent (registers : ℕ) (queued : List Body) (clock : ℕ) : Type 0 where
@@ -52,7 +52,7 @@ link_sends queued more clock clock' outbox outbox' inbox put_frames new counts L
   within = omega (arith, L.within, length-append queued more);
   acked = f;
   pending = p;
-  numbered = λ i b h. elim (in_cases (Numbered i b) put_frames new h) [ inl k ↦ place_front queued more i b (L.numbered i b k) | inr k ↦ d i b k ];
+  numbered = λ i b h. elim (in_cases (Numbered i b) put_frames new h) [ inl k ↦ place_first queued more i b (L.numbered i b k) | inr k ↦ d i b k ];
   counts = L.counts;
   past = λ i b h k. L.past i b (place_back queued more i b (let w = L.within in omega (arith, w)) h) k;
   future = λ i b h k. elim (place_split queued more i b h) [

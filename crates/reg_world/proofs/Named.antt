@@ -18,7 +18,7 @@ use Rattle.reg_base.specs.Order.{In}
 use Rattle.reg_process.specs.Process.{State, Outcome, stamp_at, called, taken, accepted, quiet, got_frames, peer_at, unsettled, step}
 use Rattle.reg_world.specs.Nodes.{Node, put, nodes_after, step_of, after_step}
 use Rattle.reg_world.proofs.Traced.{World, Called, Past, called_in, past_after, pasts_after, world_after, run_world, empty_world, whole, IsCalled, CastsCalled}
-use Rattle.reg_world.proofs.Bodies.{place_front, place_split}
+use Rattle.reg_world.proofs.Bodies.{place_first, place_split}
 use Rattle.reg_world.proofs.Worlds.{Inv}
 use Rattle.reg_world.proofs.Acts.{put_cases}
 use Rattle.reg_world.proofs.Runs.{StepKept, step_ok, inv_happens}
@@ -57,7 +57,7 @@ step_new p at s me start Tick = λ t op h. absurd h
 
 -- a call stays, and one at the end counts
 called_front : (calls more : List Called) (stamp : Stamp) (op : Op) → IsCalled calls stamp op → IsCalled (calls ++ more) stamp op
-called_front calls more stamp op h = (h.0, h.1, place_front calls more h.0 h.1 h.2, h.3, h.4)
+called_front calls more stamp op h = (h.0, h.1, place_first calls more h.0 h.1 h.2, h.3, h.4)
 
 called_back : (calls more : List Called) (stamp : Stamp) (op : Op) → IsCalled more stamp op → IsCalled (calls ++ more) stamp op
 called_back [] more stamp op h = h

@@ -35,10 +35,10 @@ pub record Same (s s' : State) : Type 0 where
   pub expected : (r : ℕ) → (peer_at s' r).expected ≡ (peer_at s r).expected
 
 abbrev pub quiet_node : Node → State → (ℕ → List Frame) → List Said → Node
-quiet_node x s' frames replies = record { state = s'; front = x.front ++ []; queued = x.queued ++ []; wire = λ b. x.wire b ++ frames b; replies = replies }
+quiet_node x s' frames replies = record { state = s'; deliveries = x.deliveries ++ []; queued = x.queued ++ []; wire = λ b. x.wire b ++ frames b; replies = replies }
 
 abbrev pub loud_node : Node → State → List Body → (ℕ → List Frame) → List Said → Node
-loud_node x s1 more frames replies = record { state = delivered_state s1; front = x.front ++ clear_casts s1; queued = x.queued ++ more; wire = λ b. x.wire b ++ frames b; replies = replies }
+loud_node x s1 more frames replies = record { state = delivered_state s1; deliveries = x.deliveries ++ clear_casts s1; queued = x.queued ++ more; wire = λ b. x.wire b ++ frames b; replies = replies }
 
 module _ (n registers k : ℕ) (w : Nodes) (I : Inv n registers k w) (p : ℕ) (l : p < n) where
   pub quiet_kept : (s' : State) (frames : ℕ → List Frame) (replies : List Said) → Same (w p).state s' → ((b : ℕ) → b < n → (p ≡ b → ⊥) → ((peer_at s' b).first ≤ (peer_at (w b).state p).expected) × ((peer_at s' b).pending ≡ drop (peer_at s' b).first (w p).queued)) → ((b : ℕ) → b < n → (p ≡ b → ⊥) → (i : ℕ) (d : Body) → In (Numbered i d) (frames b) → slice_get (w p).queued i ≡ Some d) → ((a : ℕ) → a < n → (a ≡ p → ⊥) → (c : ℕ) → In (Got c) (frames a) → c ≤ (peer_at (w p).state a).expected) → Kept n registers k p w (quiet_node (w p) s' frames replies)
@@ -47,7 +47,7 @@ module _ (n registers k : ℕ) (w : Nodes) (I : Inv n registers k w) (p : ℕ) (
       let y = quiet_node x s' frames replies in
       let queued_is = append-nil x.queued in
       record {
-        local = subst (λ f. Local n p s' f) (sym (append-nil x.front)) (local_same n p x.state s' x.front (I.local p l) S.me S.size S.clock S.held S.seen);
+        local = subst (λ f. Local n p s' f) (sym (append-nil x.deliveries)) (local_same n p x.state s' x.deliveries (I.local p l) S.me S.size S.clock S.held S.seen);
         sent = subst (λ q. Sent registers q s'.clock) (sym queued_is) (sent_same registers x.queued x.state.clock s'.clock (I.sent p l) (let z = S.clock in omega (arith, z)));
         sends = λ b lb ne. link_sends x.queued [] x.state.clock s'.clock (peer_at x.state b) (peer_at s' b) (peer_at (w b).state p) (x.wire b) (frames b) ((w b).wire p)
             (I.link p b l lb ne) (let z = S.clock in omega (arith, z)) (out b lb ne).0
@@ -56,10 +56,10 @@ module _ (n registers k : ℕ) (w : Nodes) (I : Inv n registers k w) (p : ℕ) (
             (λ d h. absurd h);
         receives = λ a la ne. link_receives (w a).queued (w a).state.clock (peer_at (w a).state p) (peer_at x.state a) (peer_at s' a) ((w a).wire p) (x.wire a) (frames a)
             (I.link a p la l ne) (S.expected a) (S.seen a) (got a la ne);
-        known = known_same n (x.front ++ x.state.held) _ (count_of x p) (count_of y p) (queues_of (put w p y))
-            (known_grown n (x.front ++ x.state.held) (count_of x p) (queues_of w) (queues_of (put w p y)) (I.known p l) (λ r m. counts_within n registers k w I p r l m) (queue_forth w p y [] refl) (queue_back w p y [] refl))
-            (λ c h. subst (λ f. In c (f ++ s'.held)) (sym (append-nil x.front)) (subst (λ h'. In c (x.front ++ h')) (sym S.held) h))
-            (λ c h. subst (λ h'. In c (x.front ++ h')) S.held (subst (λ f. In c (f ++ s'.held)) (append-nil x.front) h))
+        known = known_same n (x.deliveries ++ x.state.held) _ (count_of x p) (count_of y p) (queues_of (put w p y))
+            (known_grown n (x.deliveries ++ x.state.held) (count_of x p) (queues_of w) (queues_of (put w p y)) (I.known p l) (λ r m. counts_within n registers k w I p r l m) (queue_forth w p y [] refl) (queue_back w p y [] refl))
+            (λ c h. subst (λ f. In c (f ++ s'.held)) (sym (append-nil x.deliveries)) (subst (λ h'. In c (x.deliveries ++ h')) (sym S.held) h))
+            (λ c h. subst (λ h'. In c (x.deliveries ++ h')) S.held (subst (λ f. In c (f ++ s'.held)) (append-nil x.deliveries) h))
             (λ r _ i. cond (r == p) (length (queued_is i)) (S.expected r i));
         more = [];
         grows = refl;
@@ -67,20 +67,20 @@ module _ (n registers k : ℕ) (w : Nodes) (I : Inv n registers k w) (p : ℕ) (
       }
 
   -- what delivery follows
-  pub loud_kept : (s1 : State) (more : List Body) (frames : ℕ → List Frame) (replies : List Said) → let y = loud_node (w p) s1 more frames replies in Before n p s1 (w p).front → Sent registers ((w p).queued ++ more) s1.clock → ((b : ℕ) → b < n → (p ≡ b → ⊥) → LinkOf p b y (w b)) → ((a : ℕ) → a < n → (a ≡ p → ⊥) → LinkOf a p (w a) y) → Known n ((w p).front ++ s1.held) (count_of y p) (queues_of (put w p y)) → s1.clock ≤ suc k → Kept n registers k p w y
+  pub loud_kept : (s1 : State) (more : List Body) (frames : ℕ → List Frame) (replies : List Said) → let y = loud_node (w p) s1 more frames replies in Before n p s1 (w p).deliveries → Sent registers ((w p).queued ++ more) s1.clock → ((b : ℕ) → b < n → (p ≡ b → ⊥) → LinkOf p b y (w b)) → ((a : ℕ) → a < n → (a ≡ p → ⊥) → LinkOf a p (w a) y) → Known n ((w p).deliveries ++ s1.held) (count_of y p) (queues_of (put w p y)) → s1.clock ≤ suc k → Kept n registers k p w y
   loud_kept s1 more frames replies B S out inn K c = record {
-    local = delivers n p s1 (w p).front B;
+    local = delivers n p s1 (w p).deliveries B;
     sent = S;
     sends = out;
     receives = inn;
-    known = known_same n ((w p).front ++ s1.held) _ _ _ _ K (delivery_keeps s1 (w p).front) (delivery_adds_none s1 (w p).front) (λ r _. refl);
+    known = known_same n ((w p).deliveries ++ s1.held) _ _ _ _ K (delivery_keeps s1 (w p).deliveries) (delivery_adds_none s1 (w p).deliveries) (λ r _. refl);
     more = more;
     grows = refl;
     clock = c;
   }
 
   -- the casts known are the same after the queue grows
-  pub grown : (y : Node) (more : List Body) → y.queued ≡ (w p).queued ++ more → Known n ((w p).front ++ (w p).state.held) (count_of (w p) p) (queues_of (put w p y))
+  pub grown : (y : Node) (more : List Body) → y.queued ≡ (w p).queued ++ more → Known n ((w p).deliveries ++ (w p).state.held) (count_of (w p) p) (queues_of (put w p y))
   grown y more g = known_grown n _ (count_of (w p) p) (queues_of w) (queues_of (put w p y)) (I.known p l) (λ r m. counts_within n registers k w I p r l m) (queue_forth w p y more g) (queue_back w p y more g)
 
   -- the own queue has the body at its end

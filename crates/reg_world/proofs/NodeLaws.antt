@@ -15,9 +15,9 @@ use Rattle.reg_base.specs.Order.{Below, In, Rising, IsPrefixOf}
 use Rattle.reg_process.specs.Process.{no_peer, peer_at, time_of, next_of, step}
 use Rattle.reg_world.specs.Nodes.{Node, Nodes, after_step, step_of, nodes_after, happens, run, empty, first_state}
 use Rattle.reg_world.proofs.Traced.{world_of}
-use Rattle.reg_world.specs.Laws.{FrontsAgree, FrontsRise, UndeliveredAbove, FrontsMade, NoRefusal, IsAhead, IsStale, IsFull}
+use Rattle.reg_world.specs.Laws.{DeliveriesAgree, DeliveriesRise, UndeliveredAbove, DeliveriesMade, NoRefusal, IsAhead, IsStale, IsFull}
 use Rattle.reg_base.proofs.Lists.{in_left, in_right, in_cases}
-use Rattle.reg_world.proofs.Worlds.{Inv, one_order, front_made, clear_in_front}
+use Rattle.reg_world.proofs.Worlds.{Inv, one_order, delivered_made, clear_is_delivered}
 use Rattle.reg_history.proofs.Places.{element_at}
 use Rattle.reg_world.proofs.Bodies.{place_within}
 use Rattle.reg_world.proofs.Links.{Sent}
@@ -38,11 +38,11 @@ empty_inv n registers = record {
     me = refl;
     size = length-replicate n no_peer;
     held = tt;
-    front_rises = tt;
+    deliveries_rise = tt;
     waits = λ c h. absurd h;
     clear = λ c h. absurd h;
     held_times = λ c h. absurd h;
-    front_times = λ c h. absurd h;
+    delivery_times = λ c h. absurd h;
     seen = λ r m ne. let z = ap (λ q. q.seen) (replicate_at n r no_peer) in omega (arith, z);
   };
   sent = λ p l. record { rises = λ i j a b h. cc; past = λ i a h. absurd (let bad : ⊥ = cc in bad); ranges = λ i a h. absurd (let bad : ⊥ = cc in bad) };
@@ -79,31 +79,31 @@ inv_run start n registers k (e ∷ es) w I =
 pub inv_of : (start : Op → ℕ → Start) (n registers : ℕ) (events : List Event) → Inv n registers (length events) (world_of start n registers events)
 inv_of start n registers events = subst (λ m. Inv n registers m (world_of start n registers events)) (let e : length events + 0 ≡ length events = omega arith in e) (inv_run start n registers 0 events (empty n registers) (empty_inv n registers))
 
-pub fronts_agree : (start : Op → ℕ → Start) (n registers : ℕ) (events : List Event) → FrontsAgree n (world_of start n registers events)
-fronts_agree start n registers events p q l m = one_order n registers (length events) (world_of start n registers events) (inv_of start n registers events) p q l m
+pub deliveries_agree : (start : Op → ℕ → Start) (n registers : ℕ) (events : List Event) → DeliveriesAgree n (world_of start n registers events)
+deliveries_agree start n registers events p q l m = one_order n registers (length events) (world_of start n registers events) (inv_of start n registers events) p q l m
 
-pub fronts_rise : (start : Op → ℕ → Start) (n registers : ℕ) (events : List Event) → FrontsRise n (world_of start n registers events)
-fronts_rise start n registers events p l = ((inv_of start n registers events).local p l).front_rises
+pub all_deliveries_rise : (start : Op → ℕ → Start) (n registers : ℕ) (events : List Event) → DeliveriesRise n (world_of start n registers events)
+all_deliveries_rise start n registers events p l = ((inv_of start n registers events).local p l).deliveries_rise
 
-pub fronts_made : (start : Op → ℕ → Start) (n registers : ℕ) (events : List Event) → FrontsMade n (world_of start n registers events)
-fronts_made start n registers events q c l h = front_made n registers (length events) (world_of start n registers events) (inv_of start n registers events) q l c h
+pub deliveries_made : (start : Op → ℕ → Start) (n registers : ℕ) (events : List Event) → DeliveriesMade n (world_of start n registers events)
+deliveries_made start n registers events q c l h = delivered_made n registers (length events) (world_of start n registers events) (inv_of start n registers events) q l c h
 
--- fronts grow at their ends
-after_front : (start : Op → ℕ → Start) (w : Nodes) (m : Option (ℕ × Step)) (q : ℕ) → IsPrefixOf (w q).front (nodes_after start w m q).front
-after_front start w None q = ([], append-nil (w q).front)
-after_front start w (Some m) q =
+-- deliveries grow at their ends
+after_deliveries : (start : Op → ℕ → Start) (w : Nodes) (m : Option (ℕ × Step)) (q : ℕ) → IsPrefixOf (w q).deliveries (nodes_after start w m q).deliveries
+after_deliveries start w None q = ([], append-nil (w q).deliveries)
+after_deliveries start w (Some m) q =
     let ds = (step start (w m.0).state m.1).1.delivered in
-    put_cases (λ (z : Node). IsPrefixOf (w q).front z.front) w m.0 (after_step start (w m.0) m.1) q (λ e. (ds, ap (λ q. (w q).front ++ ds) e)) (λ ne. ([], append-nil (w q).front))
+    put_cases (λ (z : Node). IsPrefixOf (w q).deliveries z.deliveries) w m.0 (after_step start (w m.0) m.1) q (λ e. (ds, ap (λ q. (w q).deliveries ++ ds) e)) (λ ne. ([], append-nil (w q).deliveries))
 
-pub happens_front : (start : Op → ℕ → Start) (n registers : ℕ) (w : Nodes) (e : Event) (q : ℕ) → IsPrefixOf (w q).front (happens start n registers w e q).front
-happens_front start n registers w e q = after_front start w (step_of n registers w e) q
+pub happens_deliveries : (start : Op → ℕ → Start) (n registers : ℕ) (w : Nodes) (e : Event) (q : ℕ) → IsPrefixOf (w q).deliveries (happens start n registers w e q).deliveries
+happens_deliveries start n registers w e q = after_deliveries start w (step_of n registers w e) q
 
-run_front : (start : Op → ℕ → Start) (n registers : ℕ) (events : List Event) (w : Nodes) (q : ℕ) → IsPrefixOf (w q).front (run start n registers events w q).front
-run_front start n registers [] w q = ([], append-nil (w q).front)
-run_front start n registers (e ∷ es) w q =
-    let a = happens_front start n registers w e q in
-    let b = run_front start n registers es (happens start n registers w e) q in
-    (a.0 ++ b.0, sym (append_assoc (w q).front a.0 b.0) ∙ (ap (λ f. f ++ b.0) a.1 ∙ b.1))
+run_deliveries : (start : Op → ℕ → Start) (n registers : ℕ) (events : List Event) (w : Nodes) (q : ℕ) → IsPrefixOf (w q).deliveries (run start n registers events w q).deliveries
+run_deliveries start n registers [] w q = ([], append-nil (w q).deliveries)
+run_deliveries start n registers (e ∷ es) w q =
+    let a = happens_deliveries start n registers w e q in
+    let b = run_deliveries start n registers es (happens start n registers w e) q in
+    (a.0 ++ b.0, sym (append_assoc (w q).deliveries a.0 b.0) ∙ (ap (λ f. f ++ b.0) a.1 ∙ b.1))
 
 run-append : (start : Op → ℕ → Start) (n registers : ℕ) (es fs : List Event) (w : Nodes) → run start n registers (es ++ fs) w ≡ run start n registers fs (run start n registers es w)
 run-append start n registers [] fs w = refl
@@ -120,17 +120,17 @@ undelivered_later start n registers events more q c d l m ne h =
     let w2 = world_of start n registers (events ++ more) in
     let I = inv_of start n registers (events ++ more) in
     let e : w2 ≡ run start n registers more w1 = run-append start n registers events more (empty n registers) in
-    let grown = run_front start n registers more w1 q in
-    let f2 : (w1 q).front ++ grown.0 ≡ (w2 q).front = grown.1 ∙ ap (λ (w : Nodes). (w q).front) (sym e) in
+    let grown = run_deliveries start n registers more w1 q in
+    let f2 : (w1 q).deliveries ++ grown.0 ≡ (w2 q).deliveries = grown.1 ∙ ap (λ (w : Nodes). (w q).deliveries) (sym e) in
     elim (below_or d.stamp c.stamp) [
       | inl b ↦ b
       | inr b ↦
-          let d2 : In d (w2 q).front = subst (In d) f2 (in_left d (w1 q).front grown.0 h) in
+          let d2 : In d (w2 q).deliveries = subst (In d) f2 (in_left d (w1 q).deliveries grown.0 h) in
           let clear = clear_down (w2 q).state c.stamp d.stamp b ((I.local q l).clear d d2) in
-          let c2 = clear_in_front n registers (length (events ++ more)) w2 I q l c m clear in
-          elim (in_cases c (w1 q).front grown.0 (subst (In c) (sym f2) c2)) [
+          let c2 = clear_is_delivered n registers (length (events ++ more)) w2 I q l c m clear in
+          elim (in_cases c (w1 q).deliveries grown.0 (subst (In c) (sym f2) c2)) [
             | inl i ↦ absurd (ne i)
-            | inr i ↦ rising_parts (w1 q).front grown.0 d c (subst Rising (sym f2) (I.local q l).front_rises) h i
+            | inr i ↦ rising_parts (w1 q).deliveries grown.0 d c (subst Rising (sym f2) (I.local q l).deliveries_rise) h i
           ]
     ]
 

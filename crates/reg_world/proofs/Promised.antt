@@ -18,7 +18,7 @@ use Rattle.reg_history.specs.History.{IsAt, IsIn, IsHistory}
 use Rattle.reg_world.specs.declared.events.Event.{Event}
 use Rattle.reg_world.specs.declared.order.First.{First}
 use Rattle.reg_world.specs.Nodes.{Nodes}
-use Rattle.reg_world.specs.Laws.{FrontsAgree, FrontsRise, IsMade, FrontsMade, UndeliveredAbove, NoRefusal, AllAcknowledged, NothingPending, IsQuiescent}
+use Rattle.reg_world.specs.Laws.{DeliveriesAgree, DeliveriesRise, IsMade, DeliveriesMade, UndeliveredAbove, NoRefusal, AllAcknowledged, NothingPending, IsQuiescent}
 use Rattle.reg_world.specs.Runs.{Cast, memory_of}
 use Rattle.reg_world.specs.Promises.{OrderIsLongest, OrderIsRight, CastsRight, RepliesRight, AnswersFirst}
 use Rattle.reg_world.specs.World.{World, Replied, delivered_of, run_of, move_of, moved, happens, run, empty_world, whole}
@@ -27,9 +27,9 @@ use Rattle.reg_world.proofs.Theorems.{agree, rise, made, refused, above}
 use Rattle.reg_world.proofs.Wholes.{whole_inv, order_is_longest}
 use Rattle.reg_world.proofs.Placed.{all_seated}
 use Rattle.reg_world.proofs.Settled.{quiescent, none_on_link}
-use Rattle.reg_world.proofs.Bodies.{place_in, place_front}
+use Rattle.reg_world.proofs.Bodies.{place_in, place_first}
 use Rattle.reg_base.proofs.Lists.{in_cases}
-use Rattle.reg_world.proofs.Worlds.{front_made, held_made}
+use Rattle.reg_world.proofs.Worlds.{delivered_made, held_made}
 use Rattle.reg_world.proofs.Members.{in_at, at_in, map_in}
 use Rattle.reg_world.proofs.Joined.{Joined}
 use Rattle.reg_world.proofs.Added.{cast_of_first, IsPastCall}
@@ -63,14 +63,14 @@ module _ (start : Op → ℕ → Start) (n registers : ℕ) (laws : KeepsLaws st
   same : v.nodes ≡ w.nodes
   same = sym (K start n registers laws events).nodes
 
-  pub fronts_agree : FrontsAgree n w.nodes
-  fronts_agree = subst (FrontsAgree n) same (agree start n registers w.accepted)
+  pub deliveries_agree : DeliveriesAgree n w.nodes
+  deliveries_agree = subst (DeliveriesAgree n) same (agree start n registers w.accepted)
 
-  pub fronts_rise : FrontsRise n w.nodes
-  fronts_rise = subst (FrontsRise n) same (rise start n registers w.accepted)
+  pub all_deliveries_rise : DeliveriesRise n w.nodes
+  all_deliveries_rise = subst (DeliveriesRise n) same (rise start n registers w.accepted)
 
-  pub fronts_made : FrontsMade n w.nodes
-  fronts_made = subst (FrontsMade n) same (made start n registers w.accepted)
+  pub deliveries_made : DeliveriesMade n w.nodes
+  deliveries_made = subst (DeliveriesMade n) same (made start n registers w.accepted)
 
   pub none_refused : NoRefusal n registers w.nodes
   none_refused = subst (NoRefusal n registers) same (refused start n registers w.accepted (K start n registers laws events).few)
@@ -92,8 +92,8 @@ module _ (start : Op → ℕ → Start) (n registers : ℕ) (laws : KeepsLaws st
       let L = order_is_longest start n registers w.accepted in
       let casts = sym (same_casts start n registers laws events) in
       record {
-        each = λ p l. subst (IsPrefixOf (w.nodes p).front) casts (subst (λ (z : Nodes). IsPrefixOf (z p).front (casts_of v.order)) same (L.each p l));
-        one = λ l. let r = L.one l in (r.0, r.1, sym (ap (λ (z : Nodes). (z r.0).front) same) ∙ (r.2 ∙ casts));
+        each = λ p l. subst (IsPrefixOf (w.nodes p).deliveries) casts (subst (λ (z : Nodes). IsPrefixOf (z p).deliveries (casts_of v.order)) same (L.each p l));
+        one = λ l. let r = L.one l in (r.0, r.1, sym (ap (λ (z : Nodes). (z r.0).deliveries) same) ∙ (r.2 ∙ casts));
       }
 
   pub order_right : OrderIsRight n w
@@ -105,9 +105,9 @@ module _ (start : Op → ℕ → Start) (n registers : ℕ) (laws : KeepsLaws st
         some = λ k f at.
             let i : In (delivered_of f) (map delivered_of w.order) = in_mapped f w.order (place_in w.order k f at) in
             let r = O.some (delivered_of f) (subst (In (delivered_of f)) casts i) in
-            (r.0, r.1, subst (λ (z : Nodes). In (delivered_of f) (z r.0).front) same r.2);
+            (r.0, r.1, subst (λ (z : Nodes). In (delivered_of f) (z r.0).deliveries) same r.2);
         all = λ q c l i.
-            let j = subst (In c) (sym casts) (O.all q c l (subst (λ (z : Nodes). In c (z q).front) (sym same) i)) in
+            let j = subst (In c) (sym casts) (O.all q c l (subst (λ (z : Nodes). In c (z q).deliveries) (sym same) i)) in
             let r = map_in delivered_of c w.order j in
             let place = in_at r.0 w.order r.1 in
             (place.0, r.0, place.1, sym r.2);
@@ -133,8 +133,8 @@ module _ (start : Op → ℕ → Start) (n registers : ℕ) (laws : KeepsLaws st
             let l = x.1.0 in
             let r = (P p l).0.casts c.id.number x.0 c.stamp x.1.1 x.2 in
             let is : cast_of c.stamp x.0.op ≡ record { stamp = c.stamp; op = c.op } = ap (cast_of c.stamp) x.3 in (
-              subst (λ (z : Nodes). IsMade n z (record { stamp = c.stamp; op = c.op })) same (subst (IsMade n v.nodes) is (elim (in_cases (cast_of c.stamp x.0.op) (v.nodes p).front (v.nodes p).state.held r.1) [
-                | inl h ↦ front_made n registers k0 v.nodes I p l (cast_of c.stamp x.0.op) h
+              subst (λ (z : Nodes). IsMade n z (record { stamp = c.stamp; op = c.op })) same (subst (IsMade n v.nodes) is (elim (in_cases (cast_of c.stamp x.0.op) (v.nodes p).deliveries (v.nodes p).state.held r.1) [
+                | inl h ↦ delivered_made n registers k0 v.nodes I p l (cast_of c.stamp x.0.op) h
                 | inr h ↦ held_made n registers k0 v.nodes I p l (cast_of c.stamp x.0.op) h
               ])),
               r.0,
@@ -182,7 +182,7 @@ module _ (start : Op → ℕ → Start) (n registers : ℕ) (laws : KeepsLaws st
           | inr there ↦
               let L = (order_is_longest start n registers w.accepted).each y.id.process r.1.0 in
               let whole_at : slice_get (casts_of v.order) r.0.reply.place ≡ Some (cast_of c.stamp x.0.op) =
-              ap (λ l. slice_get l r.0.reply.place) (sym L.1) ∙ place_front (v.nodes y.id.process).front L.0 r.0.reply.place (cast_of c.stamp x.0.op) there in
+              ap (λ l. slice_get l r.0.reply.place) (sym L.1) ∙ place_first (v.nodes y.id.process).deliveries L.0 r.0.reply.place (cast_of c.stamp x.0.op) there in
               let g = from_trace start n registers laws events r.0.reply.place (cast_of c.stamp x.0.op) whole_at in
               inr (g.0, g.1, one_id start n registers laws events (cast_of_first g.0) c (first_at start n registers laws events r.0.reply.place g.0 g.1) k (ap (λ (z : Delivered). z.stamp) g.2) ∙ e)
         ]);

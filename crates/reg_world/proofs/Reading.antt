@@ -33,20 +33,20 @@ ids_one false k c = refl
 pub merged_step : (kept : First → Bool) (reads : List Ranked) (order : List First) (before : List OpId) (k next n : ℕ) (ids ids1 ids2 : List OpId) (c : First) → k < length order → c ≡ get_or order k c → IsMergedSoFar kept reads order before k next ids → n ≤ length (drop next reads) → drop n (drop next reads) ≡ later k (drop next reads) → ids1 ≡ ids ++ ids_read (upto k (drop next reads)) → ids2 ≡ ids1 ++ cond (kept c) (c.id ∷ []) [] → IsMergedSoFar kept reads order before (k + 1) (next + n) ids2
 merged_step kept reads order before k next n ids ids1 ids2 c lt at I few left grown more =
     let here : drop k order ≡ c ∷ drop (k + 1) order = drop_more order k c lt ∙ ap (λ x. x ∷ drop (k + 1) order) (sym at) in
-    let front = upto k (drop next reads) in
+    let deliveries = upto k (drop next reads) in
     let one = kept_one kept k c in
     let onward : later k (drop next reads) ≡ drop (next + n) reads = sym left ∙ drop-drop n next reads in
     let rest = merge kept (k + 1) (later k (drop next reads)) (drop (k + 1) order) in
-    let split : ids_of (merge kept k (drop next reads) (drop k order)) ≡ ids_read front ++ (ids_of one ++ ids_of rest) =
-    ap (λ l. ids_of (merge kept k (drop next reads) l)) here ∙ (map-append (λ (e : Keyed). e.id) (map keyed_read front) (one ++ rest) ∙ (ap (λ l. l ++ ids_of (one ++ rest)) (ids_reads front) ∙ ap (λ l. ids_read front ++ l) (map-append (λ (e : Keyed). e.id) one rest))) in
+    let split : ids_of (merge kept k (drop next reads) (drop k order)) ≡ ids_read deliveries ++ (ids_of one ++ ids_of rest) =
+    ap (λ l. ids_of (merge kept k (drop next reads) l)) here ∙ (map-append (λ (e : Keyed). e.id) (map keyed_read deliveries) (one ++ rest) ∙ (ap (λ l. l ++ ids_of (one ++ rest)) (ids_reads deliveries) ∙ ap (λ l. ids_read deliveries ++ l) (map-append (λ (e : Keyed). e.id) one rest))) in
     record {
       within = (let z = length-drop next reads in let w = I.within in omega (arith, few, z, w));
       added =
           ap (λ l. ids2 ++ ids_of (merge kept (k + 1) l (drop (k + 1) order))) (sym onward)
           ∙ (ap (λ l. l ++ ids_of rest) (more ∙ ap (λ l. ids1 ++ l) (ids_one (kept c) k c))
           ∙ (ap (λ l. (l ++ ids_of one) ++ ids_of rest) grown
-          ∙ (append_assoc (ids ++ ids_read front) (ids_of one) (ids_of rest)
-          ∙ (append_assoc ids (ids_read front) (ids_of one ++ ids_of rest)
+          ∙ (append_assoc (ids ++ ids_read deliveries) (ids_of one) (ids_of rest)
+          ∙ (append_assoc ids (ids_read deliveries) (ids_of one ++ ids_of rest)
           ∙ (ap (λ l. ids ++ l) (sym split) ∙ I.added)))));
     }
 

@@ -24,15 +24,15 @@ last_in_place : (n registers : ℕ) (es : List Entry) (x : Entry) → IsHistory 
 last_in_place n registers es x good =
     subst (λ (l : List Entry). IsInPlace n registers l x) (take_at es (x ∷ []) (length es) refl) (good (length es) x (place_last es x))
 
-at_front : (xs ys : List Entry) (k : ℕ) (x : Entry) → IsAt xs k x → IsAt (xs ++ ys) k x
-at_front [] ys k x h = absurd (none-some x h)
-at_front (y ∷ xs) ys zero x h = h
-at_front (y ∷ xs) ys (suc k) x h = at_front xs ys k x h
+at_first : (xs ys : List Entry) (k : ℕ) (x : Entry) → IsAt xs k x → IsAt (xs ++ ys) k x
+at_first [] ys k x h = absurd (none-some x h)
+at_first (y ∷ xs) ys zero x h = h
+at_first (y ∷ xs) ys (suc k) x h = at_first xs ys k x h
 
 history_before : (n registers : ℕ) (xs ys : List Entry) → IsHistory n registers (xs ++ ys) → IsHistory n registers xs
 history_before n registers xs ys good k x at =
     let less = slice_get_within xs k x at in
-    subst (λ (l : List Entry). IsInPlace n registers l x) (take-append-le k xs ys (omega (arith, less))) (good k x (at_front xs ys k x at))
+    subst (λ (l : List Entry). IsInPlace n registers l x) (take-append-le k xs ys (omega (arith, less))) (good k x (at_first xs ys k x at))
 
 -- the step is that of the event, by this process
 abbrev pub IsStepOf : Event → ℕ × Step → Type 0

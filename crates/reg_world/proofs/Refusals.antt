@@ -14,7 +14,7 @@ use Rattle.reg_world.specs.declared.events.Event.TheVariants.{Call, Take, Tick}
 use Rattle.reg_world.specs.declared.faults.WorldFault.{WorldFault}
 use Rattle.reg_world.specs.declared.faults.WorldFault.TheVariants.{TooManyEvents, NoProcess, Busy, NoRegister, TooManyOperations, NoFrame}
 use Rattle.reg_world.specs.Nodes.{Nodes, take_step, step_of}
-use Rattle.reg_world.specs.World.{World, empty_world, move_of, moved, frame_fault, event_fault, fault_of, whole}
+use Rattle.reg_world.specs.World.{World, empty_world, move_of, moved, frame_fault, event_fault, world_fault, whole}
 use Rattle.reg_world.proofs.Promised.{run_parts}
 
 abbrev Agrees : Option (ℕ × Step) → Option WorldFault → Type 0
@@ -47,7 +47,7 @@ few_agrees : (m : Option (ℕ × Step)) (f : Option WorldFault) (b : Bool) → A
 few_agrees m f true h = h
 few_agrees m f false h = refl
 
-pub refused_by_fault : (n registers : ℕ) (w : World) (e : Event) → is_some (move_of n registers w e) ≡ not (is_some (fault_of n registers w e))
+pub refused_by_fault : (n registers : ℕ) (w : World) (e : Event) → is_some (move_of n registers w e) ≡ not (is_some (world_fault n registers w e))
 refused_by_fault n registers w e = few_agrees (step_of n registers w.nodes e) (event_fault n registers w.nodes e) (nat_lt (length w.accepted) MOST_EVENTS) (event_agrees n registers w.nodes e)
 
 pub one_more : (start : Op → ℕ → Start) (n registers : ℕ) (events : List Event) (e : Event) → whole start n registers (events ++ e ∷ []) ≡ moved start (whole start n registers events) e (move_of n registers (whole start n registers events) e)

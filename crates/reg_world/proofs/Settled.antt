@@ -26,7 +26,7 @@ use Rattle.reg_world.specs.Laws.{NothingPending, IsQuiescent}
 use Rattle.reg_base.proofs.Orders.{below_irrefl}
 use Rattle.reg_base.proofs.Lists.{in_right, filter_in, insert_new, insert_old}
 use Rattle.reg_world.proofs.Local.{held_above}
-use Rattle.reg_world.proofs.Worlds.{held_made, front_made, one_order}
+use Rattle.reg_world.proofs.Worlds.{held_made, delivered_made, one_order}
 use Rattle.reg_world.proofs.Acts.{put_cases}
 use Rattle.reg_world.proofs.Firsts.{rising_cut}
 use Rattle.reg_world.proofs.Replicas.{any_finds}
@@ -132,9 +132,9 @@ not_running s None h e = refl
 not_running s (Some (Own stamp op)) h e = absurd (subst (In (record { stamp = stamp; op = op })) e h)
 not_running s (Some (Held op)) h e = absurd (let z = ap (count_by (is_own s)) e in omega (arith, h, z))
 
-same_fronts : (xs ys rest : List Delivered) → Rising ys → xs ++ rest ≡ ys → ((c : Delivered) → In c ys → In c xs) → xs ≡ ys
-same_fronts xs ys [] r e h = sym (append-nil xs) ∙ e
-same_fronts xs ys (z ∷ rest) r e h =
+same_deliveries : (xs ys rest : List Delivered) → Rising ys → xs ++ rest ≡ ys → ((c : Delivered) → In c ys → In c xs) → xs ≡ ys
+same_deliveries xs ys [] r e h = sym (append-nil xs) ∙ e
+same_deliveries xs ys (z ∷ rest) r e h =
     absurd (below_irrefl z.stamp (rising_cut xs (z ∷ rest) z z (subst Rising (sym e) r) (h z (subst (In z) e (in_right z xs (z ∷ rest) (inl refl)))) (inl refl)))
 
 pub settled : (start : Op → ℕ → Start) (n registers : ℕ) (events : List Event) → KeepsLaws start → NothingPending n (whole start n registers events).nodes → (p : ℕ) → p < n → ((whole start n registers events).nodes p).state.running ≡ None
@@ -144,7 +144,7 @@ settled start n registers events laws none p l =
     let full = all_delivered start n registers events none in
     let empty_held : (w p).state.held ≡ [] = none_in (w p).state.held (λ c h.
     let f = full p c l (held_made n registers (length events + 0) w I p l c h) in
-    below_irrefl c.stamp (held_above n p (w p).state (w p).front (I.local p l) c c f h)) in
+    below_irrefl c.stamp (held_above n p (w p).state (w p).deliveries (I.local p l) c c f h)) in
     not_running (w p).state (w p).state.running (runs_run start n registers events (empty_world n registers) laws (λ q. tt) p) empty_held
 
 pub copies_equal : (start : Op → ℕ → Start) (n registers : ℕ) (events : List Event) → KeepsLaws start → NothingPending n (whole start n registers events).nodes → (p q : ℕ) → p < n → q < n → ((whole start n registers events).nodes p).state.copy ≡ ((whole start n registers events).nodes q).state.copy
@@ -153,10 +153,10 @@ copies_equal start n registers events laws none p q l m =
     let k = length events + 0 in
     let I = (whole_inv start n registers events).inv in
     let full = all_delivered start n registers events none in
-    let into : (a b : ℕ) → a < n → b < n → (c : Delivered) → In c (w a).front → In c (w b).front = λ a b la lb c h. full b c lb (front_made n registers k w I a la c h) in
-    let same : (w p).front ≡ (w q).front = elim (one_order n registers k w I p q l m) [
-      | inl h ↦ same_fronts (w p).front (w q).front h.0 (I.local q m).front_rises h.1 (into q p m l)
-      | inr h ↦ sym (same_fronts (w q).front (w p).front h.0 (I.local p l).front_rises h.1 (into p q l m))
+    let into : (a b : ℕ) → a < n → b < n → (c : Delivered) → In c (w a).deliveries → In c (w b).deliveries = λ a b la lb c h. full b c lb (delivered_made n registers k w I a la c h) in
+    let same : (w p).deliveries ≡ (w q).deliveries = elim (one_order n registers k w I p q l m) [
+      | inl h ↦ same_deliveries (w p).deliveries (w q).deliveries h.0 (I.local q m).deliveries_rise h.1 (into q p m l)
+      | inr h ↦ sym (same_deliveries (w q).deliveries (w p).deliveries h.0 (I.local p l).deliveries_rise h.1 (into p q l m))
     ] in
     let R = whole_replicas start n registers events laws in
     (R p l).copy ∙ (ap (λ f. memory_after (ops_of f) (replicate registers 0)) same ∙ sym (R q m).copy)

@@ -15,7 +15,7 @@ use Rattle.reg_world.specs.declared.events.Event.{Event}
 use Rattle.reg_world.specs.declared.faults.WorldFault.{WorldFault}
 use Rattle.reg_world.specs.declared.faults.WorldFault.TheVariants.{Failed, TooManyEvents, NoProcess, Busy, NoRegister, TooManyOperations, NoFrame, OutOfMemory}
 use Rattle.reg_world.specs.Nodes.{Node}
-use Rattle.reg_world.specs.World.{World, fault_of, move_of, moved, whole}
+use Rattle.reg_world.specs.World.{World, world_fault, move_of, moved, whole}
 use Rattle.reg_world.specs.Histories.{Grows}
 use Rattle.reg_world.specs.Pages.{Pages, entered, entries_after, tally_at, MayEnter}
 use Rattle.reg_world.specs.Stations.{Standing, MayAct, Acts}
@@ -88,17 +88,17 @@ module _ (start : Op → ℕ → Start) (failed : Bool) (b : Pages) (stations : 
   abbrev here_run : World
   here_run = whole start b.shape.processes b.shape.registers b.accepted
 
-  right : IsFound (fault_of b.shape.processes b.shape.registers here_run e) (move_of b.shape.processes b.shape.registers here_run e) (found stations b e)
+  right : IsFound (world_fault b.shape.processes b.shape.registers here_run e) (move_of b.shape.processes b.shape.registers here_run e) (found stations b e)
   right = found_right start b stations I.size I.tells (I.stand no_stop) e
 
   pub refuses_is : (fault : WorldFault) → found stations b e ≡ Err fault → Refuses start m e fault m
   refuses_is fault h =
-      let f : fault_of b.shape.processes b.shape.registers here_run e ≡ Some fault = subst (IsFound (fault_of b.shape.processes b.shape.registers here_run e) (move_of b.shape.processes b.shape.registers here_run e)) h right in
+      let f : world_fault b.shape.processes b.shape.registers here_run e ≡ Some fault = subst (IsFound (world_fault b.shape.processes b.shape.registers here_run e) (move_of b.shape.processes b.shape.registers here_run e)) h right in
       subst (λ z. Refuses start z e fault z) here_false
       (refuses_by start (made_of false b) e fault f (λ q. (ordinary b.shape.processes b.shape.registers here_run e).0 (f ∙ ap Some q)))
 
-  ok_is : (x : ℕ × Step) → found stations b e ≡ Ok x → (fault_of b.shape.processes b.shape.registers here_run e ≡ None) × IsMove start b e x
-  ok_is x h = subst (IsFound (fault_of b.shape.processes b.shape.registers here_run e) (move_of b.shape.processes b.shape.registers here_run e)) h right
+  ok_is : (x : ℕ × Step) → found stations b e ≡ Ok x → (world_fault b.shape.processes b.shape.registers here_run e ≡ None) × IsMove start b e x
+  ok_is x h = subst (IsFound (world_fault b.shape.processes b.shape.registers here_run e) (move_of b.shape.processes b.shape.registers here_run e)) h right
 
   pub move_found : (x : ℕ × Step) → found stations b e ≡ Ok x → IsMove start b e x
   move_found x h = (ok_is x h).1

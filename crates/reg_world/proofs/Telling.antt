@@ -15,12 +15,12 @@ use Rattle.reg_world.specs.declared.events.Event.TheVariants.{Call, Take, Tick}
 use Rattle.reg_world.specs.declared.faults.WorldFault.{WorldFault}
 use Rattle.reg_world.specs.declared.faults.WorldFault.TheVariants.{Failed, TooManyEvents, NoProcess, Busy, NoRegister, TooManyOperations, NoFrame, OutOfMemory}
 use Rattle.reg_world.specs.Nodes.{Nodes, step_of, take_step}
-use Rattle.reg_world.specs.World.{World, frame_fault, event_fault, fault_of, move_of, whole}
+use Rattle.reg_world.specs.World.{World, frame_fault, event_fault, world_fault, move_of, whole}
 use Rattle.reg_world.specs.Books.{tally_of}
 use Rattle.reg_world.specs.Pages.{Pages, tally_at}
 use Rattle.reg_world.specs.Stations.{Standing, listed}
 use Rattle.reg_world.specs.Worlds.{Tells, Stand, tally_fault, call_refusal, wire_in, frame_or, frame_in, call_or, take_or, found_step, found}
-use Rattle.reg_world.proofs.Bodies.{place_front, place_last}
+use Rattle.reg_world.proofs.Bodies.{place_first, place_last}
 use Rattle.reg_world.proofs.Tallied.{at_or}
 use Rattle.reg_world.proofs.Sending.{length-listed}
 use Rattle.reg_world.proofs.Found.{not_less}
@@ -57,7 +57,7 @@ pub at_listed : {X : Type 0} (f : ℕ → X) (n k : ℕ) → k < n → slice_get
 at_listed f zero k l = absurd (omega arith)
 at_listed f (suc n) k l = elim (cases_eq k n) [
   | inl e ↦ ap (slice_get (listed f n ++ f n ∷ [])) (e ∙ sym (length-listed f n)) ∙ (place_last (listed f n) (f n) ∙ ap (λ z. Some (f z)) (sym e))
-  | inr ne ↦ place_front (listed f n) (f n ∷ []) k (f k) (at_listed f n k (omega (arith, l, ne)))
+  | inr ne ↦ place_first (listed f n) (f n ∷ []) k (f k) (at_listed f n k (omega (arith, l, ne)))
 ]
 
 module _ (start : Op → ℕ → Start) (b : Pages) (stations : List Standing) (size : length stations ≡ b.shape.processes) (T : Tells start b) (S : Stand start b stations) where
@@ -116,9 +116,9 @@ module _ (start : Op → ℕ → Start) (b : Pages) (stations : List Standing) (
   step_right (Take from to number) = take_right from to number
   step_right (Tick p) = subst (λ m. IsFound (cond (nat_lt p n) None (Some NoProcess)) (cond (nat_lt p n) (Some (p, TickStep)) None) (cond (nat_lt p m) (Ok (p, TickStep)) (Err NoProcess))) (sym size) (tick_found (nat_lt p n) p)
 
-  pub found_right : (e : Event) → IsFound (fault_of n b.shape.registers w e) (move_of n b.shape.registers w e) (found stations b e)
+  pub found_right : (e : Event) → IsFound (world_fault n b.shape.registers w e) (move_of n b.shape.registers w e) (found stations b e)
   found_right e =
-      subst (λ l. IsFound (fault_of n b.shape.registers w e) (move_of n b.shape.registers w e) (cond (nat_lt (length l) MOST_EVENTS) (found_step stations b e) (Err TooManyEvents))) T.accepted
+      subst (λ l. IsFound (world_fault n b.shape.registers w e) (move_of n b.shape.registers w e) (cond (nat_lt (length l) MOST_EVENTS) (found_step stations b e) (Err TooManyEvents))) T.accepted
       (events_found (nat_lt (length w.accepted) MOST_EVENTS) (event_fault n b.shape.registers w.nodes e) (step_of n b.shape.registers w.nodes e) (found_step stations b e) (step_right e))
 
 -- no fault of an event is want of memory, or that the world has stopped
@@ -148,6 +148,6 @@ ordinary_event n registers w (Call p op) = ordinary_call (nat_lt p n) (is_some (
 ordinary_event n registers w (Take from to number) = ordinary_take (nat_lt from n) (nat_lt to n) (from == to) (slice_get ((w from).wire to) number)
 ordinary_event n registers w (Tick p) = ordinary_tick (nat_lt p n)
 
-pub ordinary : (n registers : ℕ) (w : World) (e : Event) → IsOrdinary (fault_of n registers w e)
+pub ordinary : (n registers : ℕ) (w : World) (e : Event) → IsOrdinary (world_fault n registers w e)
 ordinary n registers w e =
     cond_both (nat_lt (length w.accepted) MOST_EVENTS) (event_fault n registers w.nodes e) (Some TooManyEvents) IsOrdinary (λ _. ordinary_event n registers w.nodes e) (λ _. (λ e. cc, λ e. cc))

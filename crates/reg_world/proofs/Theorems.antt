@@ -5,19 +5,19 @@ use Rattle.reg_base.specs.declared.memory.Op.{Op}
 use Rattle.reg_front.specs.declared.starts.Start.{Start}
 use Rattle.reg_world.specs.declared.events.Event.{Event}
 use Rattle.reg_world.proofs.Traced.{empty_world, world_of, whole}
-use Rattle.reg_world.specs.Laws.{FrontsAgree, FrontsRise, FrontsMade, UndeliveredAbove, NoRefusal}
-use Rattle.reg_world.proofs.NodeLaws.{fronts_agree, fronts_rise, fronts_made, undelivered_later, no_refusal}
+use Rattle.reg_world.specs.Laws.{DeliveriesAgree, DeliveriesRise, DeliveriesMade, UndeliveredAbove, NoRefusal}
+use Rattle.reg_world.proofs.NodeLaws.{deliveries_agree, all_deliveries_rise, deliveries_made, undelivered_later, no_refusal}
 use Rattle.reg_world.proofs.Wholes.{whole_nodes}
 
 module _ (start : Op → ℕ → Start) (n registers : ℕ) (events : List Event) where
-  pub agree : FrontsAgree n (whole start n registers events).nodes
-  agree = subst (FrontsAgree n) (sym (whole_nodes start n registers events (empty_world n registers))) (fronts_agree start n registers events)
+  pub agree : DeliveriesAgree n (whole start n registers events).nodes
+  agree = subst (DeliveriesAgree n) (sym (whole_nodes start n registers events (empty_world n registers))) (deliveries_agree start n registers events)
 
-  pub rise : FrontsRise n (whole start n registers events).nodes
-  rise = subst (FrontsRise n) (sym (whole_nodes start n registers events (empty_world n registers))) (fronts_rise start n registers events)
+  pub rise : DeliveriesRise n (whole start n registers events).nodes
+  rise = subst (DeliveriesRise n) (sym (whole_nodes start n registers events (empty_world n registers))) (all_deliveries_rise start n registers events)
 
-  pub made : FrontsMade n (whole start n registers events).nodes
-  made = subst (FrontsMade n) (sym (whole_nodes start n registers events (empty_world n registers))) (fronts_made start n registers events)
+  pub made : DeliveriesMade n (whole start n registers events).nodes
+  made = subst (DeliveriesMade n) (sym (whole_nodes start n registers events (empty_world n registers))) (deliveries_made start n registers events)
 
   pub refused : length events ≤ MOST_EVENTS → NoRefusal n registers (whole start n registers events).nodes
   refused few = subst (NoRefusal n registers) (sym (whole_nodes start n registers events (empty_world n registers))) (no_refusal start n registers events few)

@@ -33,7 +33,7 @@ use Rattle.reg_world.proofs.Replicas.{any_found}
 use Rattle.reg_world.proofs.Settled.{IsRunning, runs_after, Runs, longer}
 use Rattle.reg_world.proofs.NodeEvents.{put_same}
 use Rattle.reg_world.proofs.Firsts.{Ordered, ordered_after, world_happens, WorldInv}
-use Rattle.reg_world.proofs.Worlds.{front_made}
+use Rattle.reg_world.proofs.Worlds.{delivered_made}
 use Rattle.reg_world.proofs.Turns.{answered_one}
 use Rattle.reg_world.proofs.History.{PastsOk, pasts_step}
 use Rattle.reg_world.proofs.Standing.{RunsAs, PastOk}
@@ -59,10 +59,10 @@ own_reply s (Some (Held op)) k calls r d stamp runs last e at c =
     let same : d ≡ record { op = op; at = last.1.0; cast = None } = same_Some _ _ (sym at ∙ last.1.1) in
     absurd (none-some stamp (sym (ap (λ (z : Called). z.cast) same) ∙ c))
 
-module _ (p at : ℕ) (x : Node) (h : Past) (W : Runs x.state x.state.running) (P : PastOk p x.state x.front h) where
-  -- the reply's own cast is in the front
+module _ (p at : ℕ) (x : Node) (h : Past) (W : Runs x.state x.state.running) (P : PastOk p x.state x.deliveries h) where
+  -- the reply's own cast is in the list of deliveries
   abbrev OwnIn : Step → State × Outcome → Type 0
-  OwnIn e r = (y : Reply) (d : Called) (stamp : Stamp) → r.1.reply ≡ Some y → slice_get (h.calls ++ called_in at e r.1.cast) (r.0.calls - 1) ≡ Some d → d.cast ≡ Some stamp → In (cast_of stamp d.op) (x.front ++ r.1.delivered)
+  OwnIn e r = (y : Reply) (d : Called) (stamp : Stamp) → r.1.reply ≡ Some y → slice_get (h.calls ++ called_in at e r.1.cast) (r.0.calls - 1) ≡ Some d → d.cast ≡ Some stamp → In (cast_of stamp d.op) (x.deliveries ++ r.1.delivered)
 
   casts_own : (op : Op) → OwnIn (Call op) (called x.state op Casts)
   casts_own op y d stamp e q c =
@@ -70,11 +70,11 @@ module _ (p at : ℕ) (x : Node) (h : Past) (W : Runs x.state x.state.running) (
       let new : Called = record { op = op; at = at; cast = Some st } in
       let s1 : State = cast_made x.state op (Some (Own st op)) in
       let last : slice_get (h.calls ++ new ∷ []) (s1.calls - 1) ≡ Some new = ap (slice_get (h.calls ++ new ∷ [])) (let k = P.count in let z : s1.calls - 1 ≡ length h.calls = omega (arith, k) in z) ∙ place_last h.calls new in
-      in_right _ x.front (clear_casts s1) (own_reply s1 (Some (Own st op)) s1.calls (h.calls ++ new ∷ []) y d stamp (insert_new _ _ x.state.held refl) (omega arith, (at, last)) e q c)
+      in_right _ x.deliveries (clear_casts s1) (own_reply s1 (Some (Own st op)) s1.calls (h.calls ++ new ∷ []) y d stamp (insert_new _ _ x.state.held refl) (omega arith, (at, last)) e q c)
 
-  loud_own : (s1 : State) → s1.calls ≡ x.state.calls → Runs s1 x.state.running → (y : Reply) (d : Called) (stamp : Stamp) → reply_of s1 (clear_casts s1) x.state.running ≡ Some y → slice_get (h.calls ++ []) (s1.calls - 1) ≡ Some d → d.cast ≡ Some stamp → In (cast_of stamp d.op) (x.front ++ clear_casts s1)
+  loud_own : (s1 : State) → s1.calls ≡ x.state.calls → Runs s1 x.state.running → (y : Reply) (d : Called) (stamp : Stamp) → reply_of s1 (clear_casts s1) x.state.running ≡ Some y → slice_get (h.calls ++ []) (s1.calls - 1) ≡ Some d → d.cast ≡ Some stamp → In (cast_of stamp d.op) (x.deliveries ++ clear_casts s1)
   loud_own s1 k runs y d stamp e q c =
-      in_right _ x.front (clear_casts s1) (own_reply s1 x.state.running x.state.calls h.calls y d stamp runs P.running e
+      in_right _ x.deliveries (clear_casts s1) (own_reply s1 x.state.running x.state.calls h.calls y d stamp runs P.running e
       (ap (λ m. slice_get h.calls (m - 1)) (sym k) ∙ (ap (λ l. slice_get l (s1.calls - 1)) (sym (append-nil h.calls)) ∙ q)) c)
 
   accepted_own : (a : ℕ) (body : Body) (f : Frame) → OwnIn (Take a f) (accepted x.state a body)
@@ -158,7 +158,7 @@ times_after start n registers k w (Some m) all V K W P O T =
     λ d f i j c.
     let s = step_late p w.count x h (W p) (P p K.0).0 start all e d f.cast.stamp i c in
     let o = V.ordered.some f.cast (cast_in w.order f j) in
-    let made = front_made n registers k w.nodes I o.0 o.1 f.cast o.2 in
+    let made = delivered_made n registers k w.nodes I o.0 o.1 f.cast o.2 in
     let at_p : f.cast.stamp.process ≡ p = s.0 ∙ (I.local p K.0).me in
     let in_p = subst (λ q. slice_get (w.nodes q).queued made.1.0 ≡ Some (Cast f.cast.stamp.time f.cast.op)) at_p made.1.1 in
     let old = (I.sent p K.0).past made.1.0 (Cast f.cast.stamp.time f.cast.op) in_p in
@@ -200,7 +200,7 @@ times_after start n registers k w (Some m) all V K W P O T =
                   let o = answered_one w.count (r.0.calls - 1) (op_in x.state e) r.1.reply a j in
                   let number_is : a.number ≡ r.0.calls - 1 = ap (λ (z : Answered). z.number) o.2 in
                   let own = step_own p w.count x h (W p) (P p K.0).0 start all e o.0 d stamp o.1 (ap (slice_get h'.calls) (sym number_is) ∙ at') c in
-                  let placed : In (cast_of stamp d.op) (nodes_after start w.nodes (Some m) p).front = subst (λ (z : Node). In (cast_of stamp d.op) z.front) (sym (put_same w.nodes p y p refl)) own in
+                  let placed : In (cast_of stamp d.op) (nodes_after start w.nodes (Some m) p).deliveries = subst (λ (z : Node). In (cast_of stamp d.op) z.deliveries) (sym (put_same w.nodes p y p refl)) own in
                   let f = first_in (w.order ++ firsts w.count cs) (cast_of stamp d.op) (O.all p (cast_of stamp d.op) K.0 placed) in
                   (f.0, f.1, f.2, (let z = by_now f.0 f.1 in let v = ap (λ (z : Answered). z.at) o.2 in omega (arith, z, v)))
             ])

@@ -103,10 +103,10 @@ world_of start n registers events = run start n registers events (empty n regist
 abbrev pub whole : (Op → ℕ → Start) → ℕ → ℕ → List Event → World
 whole start n registers events = run_world start n registers events (empty_world n registers)
 
--- The casts in the order of their first deliveries are the longest front: each front is a prefix of it, and one front is it.
+-- The casts in the order of their first deliveries are the longest list of deliveries: each list of deliveries is a prefix of it, and one list of deliveries is it.
 pub record OrderIsLongest (n : ℕ) (w : World) : Type 0 where
-  pub each : (p : ℕ) → p < n → IsPrefixOf (w.nodes p).front (casts_of w.order)
-  pub one : 0 < n → (p : ℕ) × (p < n) × ((w.nodes p).front ≡ casts_of w.order)
+  pub each : (p : ℕ) → p < n → IsPrefixOf (w.nodes p).deliveries (casts_of w.order)
+  pub one : 0 < n → (p : ℕ) × (p < n) × ((w.nodes p).deliveries ≡ casts_of w.order)
 
 -- A reply is what the memory answers after the first casts of the order, as many as its place says.
 abbrev pub RepliesRight : ℕ → ℕ → World → Type 0
@@ -121,10 +121,10 @@ cast_of stamp op = record { stamp = stamp; op = op }
 -- Where an answer stands: at its own cast, or anywhere if it is always Done; one from the copy behind all own casts called
 -- before it, and before all called after it.
 abbrev pub Stands : List Delivered → List Called → ℕ → ℕ → Called → Option Stamp → Type 0
-Stands front calls number place d (Some stamp) = ((m : Memory) → answer_of d.op m ≡ Done) ⊎ (slice_get front place ≡ Some (cast_of stamp d.op))
-Stands front calls number place d None =
+Stands deliveries calls number place d (Some stamp) = ((m : Memory) → answer_of d.op m ≡ Done) ⊎ (slice_get deliveries place ≡ Some (cast_of stamp d.op))
+Stands deliveries calls number place d None =
     (j : ℕ) (e : Called) (stamp : Stamp) → slice_get calls j ≡ Some e → e.cast ≡ Some stamp →
-    ((j < number → In (cast_of stamp e.op) (take place front)) × (number < j → In (cast_of stamp e.op) (take place front) → ⊥))
+    ((j < number → In (cast_of stamp e.op) (take place deliveries)) × (number < j → In (cast_of stamp e.op) (take place deliveries) → ⊥))
 
 -- Each answer is to its call, is the memory's after the first casts of the order, as many as its place says, and stands there.
 abbrev pub HistoryRight : ℕ → ℕ → World → Type 0

@@ -37,7 +37,7 @@ abbrev pub done_calls : State → Option Running → ℕ
 done_calls s None = s.calls
 done_calls s (Some r) = s.calls - 1
 
--- what a step's reply is: of the last call, at a place not before the front's end
+-- what a step's reply is: of the last call, at a place not before the end of the deliveries
 abbrev pub ReplyFits : State → State → Option Reply → Type 0
 ReplyFits s s' None = Unit {0}
 ReplyFits s s' (Some r) = (s.delivered ≤ r.place) × (done_calls s s.running ≤ s'.calls - 1) × (s'.calls - 1 < done_calls s' s'.running)
@@ -87,7 +87,7 @@ same_done : (s s' : State) (running : Option Running) → s'.calls ≡ s.calls �
 same_done s s' None e = omega (arith, e)
 same_done s s' (Some r) e = omega (arith, e)
 
-module _ (p : ℕ) (s : State) (front : List Delivered) (h : Past) (P : PastOk p s front h) where
+module _ (p : ℕ) (s : State) (deliveries : List Delivered) (h : Past) (P : PastOk p s deliveries h) where
   called_fits : (op : Op) (st : Start) → StepFits s (called s op st)
   called_fits op Casts =
       let running = Some (Own (stamp_at (s.clock + 1) s.me) op) in
@@ -123,9 +123,9 @@ module _ (p : ℕ) (s : State) (front : List Delivered) (h : Past) (P : PastOk p
   step_fits start (Take a f) = taken_fits a f
   step_fits start Tick = record { later = same_done s s s.running refl; reply = tt }
 
-pub record PlacesOk (s : State) (front : List Delivered) (answers : List Answered) : Type 0 where
+pub record PlacesOk (s : State) (deliveries : List Delivered) (answers : List Answered) : Type 0 where
   pub below : (a : Answered) → In a answers → a.number < done_calls s s.running
-  pub within : (a : Answered) → In a answers → a.reply.place ≤ length front
+  pub within : (a : Answered) → In a answers → a.reply.place ≤ length deliveries
   pub order : AnswersInOrder answers
 
 pub answered_one : (at number : ℕ) (op : Op) (o : Option Reply) (a : Answered) → In a (answered_in at number op o) → (r : Reply) × (o ≡ Some r) × (a ≡ record { number = number; at = at; op = op; reply = r })
@@ -136,8 +136,8 @@ answered_one at number op (Some r) a (inr f) = absurd f
 pub fits_at : (s s' : State) (o : Option Reply) (r : Reply) → o ≡ Some r → ReplyFits s s' o → (s.delivered ≤ r.place) × (done_calls s s.running ≤ s'.calls - 1) × (s'.calls - 1 < done_calls s' s'.running)
 fits_at s s' o r e h = let g : ReplyFits s s' (Some r) = subst (ReplyFits s s') e h in g
 
-places_step : (s : State) (front front' : List Delivered) (answers : List Answered) (at : ℕ) (op : Op) (r : State × Outcome) → s.delivered ≡ length front → StepFits s r → PlacesOk s front answers → ((a : Answered) → In a (answers ++ answered_in at (r.0.calls - 1) op r.1.reply) → a.reply.place ≤ length front') → PlacesOk r.0 front' (answers ++ answered_in at (r.0.calls - 1) op r.1.reply)
-places_step s front front' answers at op r count F O within =
+places_step : (s : State) (deliveries deliveries' : List Delivered) (answers : List Answered) (at : ℕ) (op : Op) (r : State × Outcome) → s.delivered ≡ length deliveries → StepFits s r → PlacesOk s deliveries answers → ((a : Answered) → In a (answers ++ answered_in at (r.0.calls - 1) op r.1.reply) → a.reply.place ≤ length deliveries') → PlacesOk r.0 deliveries' (answers ++ answered_in at (r.0.calls - 1) op r.1.reply)
+places_step s deliveries deliveries' answers at op r count F O within =
     let new : (a : Answered) → In a (answered_in at (r.0.calls - 1) op r.1.reply) → (s.delivered ≤ a.reply.place) × (done_calls s s.running ≤ a.number) × (a.number < done_calls r.0 r.0.running) =
     λ a i.
     let o = answered_one at (r.0.calls - 1) op r.1.reply a i in
@@ -167,24 +167,24 @@ places_step s front front' answers at op r count F O within =
     }
 
 abbrev pub AllPlaces : ℕ → World → Type 0
-AllPlaces n w = (p : ℕ) → p < n → PlacesOk (w.nodes p).state (w.nodes p).front (w.pasts p).answers
+AllPlaces n w = (p : ℕ) → p < n → PlacesOk (w.nodes p).state (w.nodes p).deliveries (w.pasts p).answers
 
-all_places_step : (start : Op → ℕ → Start) (n registers k : ℕ) (w : World) (e : Event) (m : Option (ℕ × Step)) → StepKept start n registers k w.nodes m → Replicas n registers w.nodes → PastsOk n w → ((q : ℕ) → q < n → PastOk q (nodes_after start w.nodes m q).state (nodes_after start w.nodes m q).front (pasts_after start w m q)) → AllPlaces n w → (q : ℕ) → q < n → PlacesOk (nodes_after start w.nodes m q).state (nodes_after start w.nodes m q).front (pasts_after start w m q).answers
+all_places_step : (start : Op → ℕ → Start) (n registers k : ℕ) (w : World) (e : Event) (m : Option (ℕ × Step)) → StepKept start n registers k w.nodes m → Replicas n registers w.nodes → PastsOk n w → ((q : ℕ) → q < n → PastOk q (nodes_after start w.nodes m q).state (nodes_after start w.nodes m q).deliveries (pasts_after start w m q)) → AllPlaces n w → (q : ℕ) → q < n → PlacesOk (nodes_after start w.nodes m q).state (nodes_after start w.nodes m q).deliveries (pasts_after start w m q).answers
 all_places_step start n registers k w e None K R P P' A q l = A q l
 all_places_step start n registers k w e (Some m) K R P P' A q l =
     let x = w.nodes m.0 in
     let y = after_step start x m.1 in
     let h = w.pasts m.0 in
     let h' = past_after w.count x.state h m.1 (step start x.state m.1) in
-    let ok : PastOk m.0 y.state y.front h' = put_self w.nodes w.pasts m.0 y h' (P' m.0 K.0) in
-    put_cases (λ (z : Node). PlacesOk z.state z.front (put w.pasts m.0 h' q).answers) w.nodes m.0 y q
-    (λ e. put_cases (λ (g : Past). PlacesOk y.state y.front g.answers) w.pasts m.0 h' q
-    (λ _. places_step x.state x.front y.front h.answers w.count (op_in x.state m.1) (step start x.state m.1) (R m.0 K.0).count (step_fits m.0 x.state x.front h (P m.0 K.0).0 start m.1) (A m.0 K.0) (λ a i. (ok.answers a i).0))
+    let ok : PastOk m.0 y.state y.deliveries h' = put_self w.nodes w.pasts m.0 y h' (P' m.0 K.0) in
+    put_cases (λ (z : Node). PlacesOk z.state z.deliveries (put w.pasts m.0 h' q).answers) w.nodes m.0 y q
+    (λ e. put_cases (λ (g : Past). PlacesOk y.state y.deliveries g.answers) w.pasts m.0 h' q
+    (λ _. places_step x.state x.deliveries y.deliveries h.answers w.count (op_in x.state m.1) (step start x.state m.1) (R m.0 K.0).count (step_fits m.0 x.state x.deliveries h (P m.0 K.0).0 start m.1) (A m.0 K.0) (λ a i. (ok.answers a i).0))
     (λ ne. absurd (ne e)))
-    (λ ne. put_cases (λ (g : Past). PlacesOk (w.nodes q).state (w.nodes q).front g.answers) w.pasts m.0 h' q (λ e. absurd (ne e)) (λ _. A q l))
+    (λ ne. put_cases (λ (g : Past). PlacesOk (w.nodes q).state (w.nodes q).deliveries g.answers) w.pasts m.0 h' q (λ e. absurd (ne e)) (λ _. A q l))
   where
-    put_self : (nodes : Nodes) (pasts : ℕ → Past) (p : ℕ) (y : Node) (g : Past) → PastOk p (put nodes p y p).state (put nodes p y p).front (put pasts p g p) → PastOk p y.state y.front g
-    put_self nodes pasts p y g h = subst (λ (z : Past). PastOk p y.state y.front z) (put_same pasts p g p refl) (subst (λ (z : Node). PastOk p z.state z.front (put pasts p g p)) (put_same nodes p y p refl) h)
+    put_self : (nodes : Nodes) (pasts : ℕ → Past) (p : ℕ) (y : Node) (g : Past) → PastOk p (put nodes p y p).state (put nodes p y p).deliveries (put pasts p g p) → PastOk p y.state y.deliveries g
+    put_self nodes pasts p y g h = subst (λ (z : Past). PastOk p y.state y.deliveries z) (put_same pasts p g p refl) (subst (λ (z : Node). PastOk p z.state z.deliveries (put pasts p g p)) (put_same nodes p y p refl) h)
 
 places_run : (start : Op → ℕ → Start) (n registers k : ℕ) (events : List Event) (w : World) → KeepsLaws start → Inv n registers k w.nodes → Replicas n registers w.nodes → ((p : ℕ) → IsRunning (w.nodes p)) → PastsOk n w → AllPlaces n w → AllPlaces n (run_world start n registers events w)
 places_run start n registers k [] w laws I R W P A = A

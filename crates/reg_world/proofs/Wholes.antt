@@ -16,7 +16,7 @@ use Rattle.reg_world.proofs.Worlds.{Inv}
 use Rattle.reg_world.proofs.Acts.{put_cases}
 use Rattle.reg_world.proofs.Runs.{StepKept, step_ok, inv_happens}
 use Rattle.reg_world.proofs.NodeLaws.{empty_inv}
-use Rattle.reg_world.proofs.Firsts.{WorldInv, world_happens, front_prefix, rising_cut}
+use Rattle.reg_world.proofs.Firsts.{WorldInv, world_happens, deliveries_prefix, rising_cut}
 use Rattle.reg_world.proofs.Replicas.{IsReplica, IsRight, right_later, step_replica}
 
 -- the greatest of a rising list
@@ -42,10 +42,10 @@ whole_prefix xs ys (z ∷ rest) c r e i h =
       | inr k ↦ below_asym c.stamp z.stamp b k
     ])
 
-longest : (n registers k : ℕ) (w : World) → WorldInv n registers k w → (order : List Delivered) → casts_of w.order ≡ order → 0 < n → (p : ℕ) × (p < n) × ((w.nodes p).front ≡ order)
+longest : (n registers k : ℕ) (w : World) → WorldInv n registers k w → (order : List Delivered) → casts_of w.order ≡ order → 0 < n → (p : ℕ) × (p < n) × ((w.nodes p).deliveries ≡ order)
 longest n registers k w W [] e l =
-    let f = front_prefix n registers k w W 0 l in
-    (0, l, nothing (w.nodes 0).front f.0 (f.1 ∙ e))
+    let f = deliveries_prefix n registers k w W 0 l in
+    (0, l, nothing (w.nodes 0).deliveries f.0 (f.1 ∙ e))
   where
     nothing : (xs ys : List Delivered) → xs ++ ys ≡ [] → xs ≡ []
     nothing [] ys h = refl
@@ -54,8 +54,8 @@ longest n registers k w W (x ∷ xs) e l =
     let R : Rising (x ∷ xs) = subst Rising e W.ordered.rises in
     let m = last_of x xs R in
     let s = W.ordered.some m.0 (subst (In m.0) (sym e) m.1) in
-    let f = front_prefix n registers k w W s.0 s.1 in
-    (s.0, s.1, whole_prefix (w.nodes s.0).front (x ∷ xs) f.0 m.0 R (f.1 ∙ e) s.2 m.2)
+    let f = deliveries_prefix n registers k w W s.0 s.1 in
+    (s.0, s.1, whole_prefix (w.nodes s.0).deliveries (x ∷ xs) f.0 m.0 R (f.1 ∙ e) s.2 m.2)
 
 world_run : (start : Op → ℕ → Start) (n registers k : ℕ) (events : List Event) (w : World) → WorldInv n registers k w → WorldInv n registers (length events + k) (run_world start n registers events w)
 world_run start n registers k [] w W = subst (λ m. WorldInv n registers m w) (let e : k ≡ 0 + k = omega arith in e) W
@@ -69,7 +69,7 @@ whole_inv start n registers events = world_run start n registers 0 events (empty
 pub order_is_longest : (start : Op → ℕ → Start) (n registers : ℕ) (events : List Event) → OrderIsLongest n (whole start n registers events)
 order_is_longest start n registers events =
     let W = whole_inv start n registers events in
-    record { each = λ p l. front_prefix n registers (length events + 0) (whole start n registers events) W p l; one = λ l. longest n registers (length events + 0) (whole start n registers events) W _ refl l }
+    record { each = λ p l. deliveries_prefix n registers (length events + 0) (whole start n registers events) W p l; one = λ l. longest n registers (length events + 0) (whole start n registers events) W _ refl l }
 
 -- every node's replies are right
 abbrev pub Replicas : ℕ → ℕ → Nodes → Type 0
@@ -78,7 +78,7 @@ Replicas n registers w = (p : ℕ) → p < n → IsReplica registers (w p)
 pub replicas_after : (start : Op → ℕ → Start) (n registers k : ℕ) (w : Nodes) (m : Option (ℕ × Step)) → KeepsLaws start → StepKept start n registers k w m → Replicas n registers w → Replicas n registers (nodes_after start w m)
 replicas_after start n registers k w None laws K R = R
 replicas_after start n registers k w (Some m) laws K R = λ q l.
-    put_cases (IsReplica registers) w m.0 (after_step start (w m.0) m.1) q (λ _. step_replica registers (w m.0) (R m.0 K.0) start m.1 laws K.1.local.front_rises) (λ _. R q l)
+    put_cases (IsReplica registers) w m.0 (after_step start (w m.0) m.1) q (λ _. step_replica registers (w m.0) (R m.0 K.0) start m.1 laws K.1.local.deliveries_rise) (λ _. R q l)
 
 replicas_run : (start : Op → ℕ → Start) (n registers k : ℕ) (events : List Event) (w : World) → KeepsLaws start → Inv n registers k w.nodes → Replicas n registers w.nodes → Replicas n registers (run_world start n registers events w).nodes
 replicas_run start n registers k [] w laws I R = R
@@ -92,8 +92,8 @@ whole_replicas start n registers events laws = replicas_run start n registers 0 
 pub replies_right : (start : Op → ℕ → Start) (n registers : ℕ) (events : List Event) → KeepsLaws start → RepliesRight n registers (whole start n registers events)
 replies_right start n registers events laws p r l h =
     let w = whole start n registers events in
-    let f = front_prefix n registers (length events + 0) w (whole_inv start n registers events) p l in
-    subst (λ order. IsRight registers order r) f.1 (right_later registers (w.nodes p).front f.0 r ((whole_replicas start n registers events laws p l).right r h))
+    let f = deliveries_prefix n registers (length events + 0) w (whole_inv start n registers events) p l in
+    subst (λ order. IsRight registers order r) f.1 (right_later registers (w.nodes p).deliveries f.0 r ((whole_replicas start n registers events laws p l).right r h))
 
 -- the nodes of a run are those of the run of nodes
 pub whole_nodes : (start : Op → ℕ → Start) (n registers : ℕ) (events : List Event) (w : World) → (run_world start n registers events w).nodes ≡ run start n registers events w.nodes

@@ -1,4 +1,4 @@
--- What holds of all nodes together, and what follows for their fronts.
+-- What holds of all nodes together, and what follows for their deliveries.
 use Rattle.std.proofs.Common.{◌≡◌, ℕ, ◌<◌, ◌≤◌, ◌⊎◌, List, ◌++◌, length, Some, sym, ap, ◌∙◌, subst, inl, inr, arith}
 use Rattle.std.specs.Prelude.{slice_get, cond, ◌==◌}
 use Rattle.std.proofs.lemmas.Bool.{cases_eq, cases_order, cond-true, cond-false, eq-eqb, ne_eqb}
@@ -35,10 +35,10 @@ LinkOf a b x y = Link x.queued x.state.clock (peer_at x.state b) (peer_at y.stat
 
 -- k bounds the clocks
 pub record Inv (n registers k : ℕ) (w : Nodes) : Type 0 where
-  pub local : (p : ℕ) → p < n → Local n p (w p).state (w p).front
+  pub local : (p : ℕ) → p < n → Local n p (w p).state (w p).deliveries
   pub sent : (p : ℕ) → p < n → Sent registers (w p).queued (w p).state.clock
   pub link : (a b : ℕ) → a < n → b < n → (a ≡ b → ⊥) → LinkOf a b (w a) (w b)
-  pub known : (q : ℕ) → q < n → Known n ((w q).front ++ (w q).state.held) (count_of (w q) q) (queues_of w)
+  pub known : (q : ℕ) → q < n → Known n ((w q).deliveries ++ (w q).state.held) (count_of (w q) q) (queues_of w)
   pub clocks : (p : ℕ) → p < n → (w p).state.clock ≤ k
 
 pub count_own : (x : Node) (q r : ℕ) → r ≡ q → count_of x q r ≡ length x.queued
@@ -52,8 +52,8 @@ time_at_most t u p h = grind arith
 
 module _ (n registers k : ℕ) (w : Nodes) (I : Inv n registers k w) where
   -- a cast that is clear at q was delivered there
-  pub clear_in_front : (q : ℕ) → q < n → (c : Delivered) → IsMade n w c → IsClear (w q).state c.stamp → In c (w q).front
-  clear_in_front q l c m h =
+  pub clear_is_delivered : (q : ℕ) → q < n → (c : Delivered) → IsMade n w c → IsClear (w q).state c.stamp → In c (w q).deliveries
+  clear_is_delivered q l c m h =
       let p = c.stamp.process in
       let L = I.local q l in
       let within : m.1.0 < count_of (w q) q p = elim (cases_eq p q) [
@@ -67,7 +67,7 @@ module _ (n registers k : ℕ) (w : Nodes) (I : Inv n registers k w) where
               absurd (omega (arith, f, g))
         ]
       ] in
-      elim (in_cases c (w q).front (w q).state.held ((I.known q l).complete p m.1.0 c.stamp.time c.op m.0 within m.1.1)) [
+      elim (in_cases c (w q).deliveries (w q).state.held ((I.known q l).complete p m.1.0 c.stamp.time c.op m.0 within m.1.1)) [
         | inl i ↦ i
         | inr i ↦ absurd (L.waits c i h)
       ]
@@ -75,24 +75,24 @@ module _ (n registers k : ℕ) (w : Nodes) (I : Inv n registers k w) where
       cases_lt' : (a b : ℕ) → (a < b) ⊎ (b ≤ a)
       cases_lt' a b = grind arith
 
-  pub front_made : (q : ℕ) → q < n → (c : Delivered) → In c (w q).front → IsMade n w c
-  front_made q l c h = let r = (I.known q l).sound c (in_left c (w q).front (w q).state.held h) in (r.0, (r.1.0, r.1.2))
+  pub delivered_made : (q : ℕ) → q < n → (c : Delivered) → In c (w q).deliveries → IsMade n w c
+  delivered_made q l c h = let r = (I.known q l).sound c (in_left c (w q).deliveries (w q).state.held h) in (r.0, (r.1.0, r.1.2))
 
   pub held_made : (q : ℕ) → q < n → (c : Delivered) → In c (w q).state.held → IsMade n w c
-  held_made q l c h = let r = (I.known q l).sound c (in_right c (w q).front (w q).state.held h) in (r.0, (r.1.0, r.1.2))
+  held_made q l c h = let r = (I.known q l).sound c (in_right c (w q).deliveries (w q).state.held h) in (r.0, (r.1.0, r.1.2))
 
   -- a cast that q hasn't delivered stands above all that it has
-  pub undelivered_above : (q : ℕ) → q < n → (c d : Delivered) → IsMade n w c → (In c (w q).front → ⊥) → In d (w q).front → Below d.stamp c.stamp
+  pub undelivered_above : (q : ℕ) → q < n → (c d : Delivered) → IsMade n w c → (In c (w q).deliveries → ⊥) → In d (w q).deliveries → Below d.stamp c.stamp
   undelivered_above q l c d m ne h = elim (below_or d.stamp c.stamp) [
     | inl b ↦ b
-    | inr a ↦ absurd (ne (clear_in_front q l c m (clear_down' a)))
+    | inr a ↦ absurd (ne (clear_is_delivered q l c m (clear_down' a)))
   ]
     where
       clear_down' : AtMost c.stamp d.stamp → IsClear (w q).state c.stamp
       clear_down' a = clear_down (w q).state c.stamp d.stamp a ((I.local q l).clear d h)
 
-  pub fronts_closed : (p q : ℕ) → p < n → q < n → Closed (w p).front (w q).front
-  fronts_closed p q l m c d h k b = clear_in_front q m c (front_made p l c h) (clear_below (w q).state c.stamp d.stamp b ((I.local q m).clear d k))
+  pub deliveries_closed : (p q : ℕ) → p < n → q < n → Closed (w p).deliveries (w q).deliveries
+  deliveries_closed p q l m c d h k b = clear_is_delivered q m c (delivered_made p l c h) (clear_below (w q).state c.stamp d.stamp b ((I.local q m).clear d k))
 
   -- a stamp tells the cast
   pub made_once : (c d : Delivered) → IsMade n w c → IsMade n w d → c.stamp ≡ d.stamp → c ≡ d
@@ -112,7 +112,7 @@ module _ (n registers k : ℕ) (w : Nodes) (I : Inv n registers k w) where
       same_op (inr (inl l)) = let r = (I.sent p m.0).rises m.1.0 h.1.0 _ _ at_c at_d l in absurd (omega (arith, r))
       same_op (inr (inr l)) = let r = (I.sent p m.0).rises h.1.0 m.1.0 _ _ at_d at_c l in absurd (omega (arith, r))
 
-  pub one_order : (p q : ℕ) → p < n → q < n → IsPrefixOf (w p).front (w q).front ⊎ IsPrefixOf (w q).front (w p).front
+  pub one_order : (p q : ℕ) → p < n → q < n → IsPrefixOf (w p).deliveries (w q).deliveries ⊎ IsPrefixOf (w q).deliveries (w p).deliveries
   one_order p q l m =
-      prefixes (w p).front (w q).front (I.local p l).front_rises (I.local q m).front_rises (fronts_closed p q l m) (fronts_closed q p m l)
-      (λ c d i j e. made_once c d (front_made p l c i) (front_made q m d j) e)
+      prefixes (w p).deliveries (w q).deliveries (I.local p l).deliveries_rise (I.local q m).deliveries_rise (deliveries_closed p q l m) (deliveries_closed q p m l)
+      (λ c d i j e. made_once c d (delivered_made p l c i) (delivered_made q m d j) e)

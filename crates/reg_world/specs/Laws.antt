@@ -11,13 +11,13 @@ use Rattle.reg_base.specs.Memory.{register_of}
 use Rattle.reg_process.specs.Process.{State, peer_at, time_of, next_of, pending_of}
 use Rattle.reg_world.specs.Nodes.{Nodes}
 
--- The fronts of any two processes are one a prefix of the other.
-abbrev pub FrontsAgree : ℕ → Nodes → Type 0
-FrontsAgree n w = (p q : ℕ) → p < n → q < n → IsPrefixOf (w p).front (w q).front ⊎ IsPrefixOf (w q).front (w p).front
+-- The deliveries of any two processes are one a prefix of the other.
+abbrev pub DeliveriesAgree : ℕ → Nodes → Type 0
+DeliveriesAgree n w = (p q : ℕ) → p < n → q < n → IsPrefixOf (w p).deliveries (w q).deliveries ⊎ IsPrefixOf (w q).deliveries (w p).deliveries
 
 -- each in rising stamp order
-abbrev pub FrontsRise : ℕ → Nodes → Type 0
-FrontsRise n w = (p : ℕ) → p < n → Rising (w p).front
+abbrev pub DeliveriesRise : ℕ → Nodes → Type 0
+DeliveriesRise n w = (p : ℕ) → p < n → Rising (w p).deliveries
 
 -- p queued this cast at some time
 abbrev pub IsMade : ℕ → Nodes → Delivered → Type 0
@@ -26,11 +26,11 @@ IsMade n w c = (c.stamp.process < n) × ((i : ℕ) × (slice_get (w c.stamp.proc
 -- A cast that q hasn't delivered in the earlier world, made then or later, stands above all that it has.
 abbrev pub UndeliveredAbove : ℕ → Nodes → Nodes → Type 0
 UndeliveredAbove n earlier later =
-    (q : ℕ) (c d : Delivered) → q < n → IsMade n later c → (In c (earlier q).front → ⊥) → In d (earlier q).front → Below d.stamp c.stamp
+    (q : ℕ) (c d : Delivered) → q < n → IsMade n later c → (In c (earlier q).deliveries → ⊥) → In d (earlier q).deliveries → Below d.stamp c.stamp
 
 -- only casts that were made are delivered
-abbrev pub FrontsMade : ℕ → Nodes → Type 0
-FrontsMade n w = (q : ℕ) (c : Delivered) → q < n → In c (w q).front → IsMade n w c
+abbrev pub DeliveriesMade : ℕ → Nodes → Type 0
+DeliveriesMade n w = (q : ℕ) (c : Delivered) → q < n → In c (w q).deliveries → IsMade n w c
 
 -- when a process refuses a frame
 abbrev pub IsAhead : State → ℕ → Frame → Type 0
@@ -67,12 +67,12 @@ AllAcknowledged n w = (p : ℕ) → p < n → pending_of (w p).state.peers ≡ 0
 abbrev pub NothingPending : ℕ → Nodes → Type 0
 NothingPending n w = (p q : ℕ) → p < n → q < n → (p ≡ q → ⊥) → (peer_at (w p).state q).pending ≡ []
 
--- Every front has all casts made.
-abbrev pub FrontsFull : ℕ → Nodes → Type 0
-FrontsFull n w = (q : ℕ) (c : Delivered) → q < n → IsMade n w c → In c (w q).front
+-- Every list of deliveries has all casts made.
+abbrev pub DeliveriesFull : ℕ → Nodes → Type 0
+DeliveriesFull n w = (q : ℕ) (c : Delivered) → q < n → IsMade n w c → In c (w q).deliveries
 
--- Every front has all casts made, no process is busy, and all copies are equal.
+-- Every list of deliveries has all casts made, no process is busy, and all copies are equal.
 pub record IsQuiescent (n : ℕ) (w : Nodes) : Type 0 where
-  pub full : FrontsFull n w
+  pub full : DeliveriesFull n w
   pub idle : (p : ℕ) → p < n → (w p).state.running ≡ None
   pub equal : (p q : ℕ) → p < n → q < n → (w p).state.copy ≡ (w q).state.copy

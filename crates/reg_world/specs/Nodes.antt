@@ -26,7 +26,7 @@ pub record Said : Type 0 where
 -- every other process, all frames ever put from it to each other process, and its replies.
 pub record Node : Type 0 where
   pub state : State
-  pub front : List Delivered
+  pub deliveries : List Delivered
   pub queued : List Body
   pub wire : ℕ → List Frame
   pub replies : List Said
@@ -51,7 +51,7 @@ first_state n registers p = record {
 }
 
 abbrev pub empty : ℕ → ℕ → Nodes
-empty n registers p = record { state = first_state n registers p; front = []; queued = []; wire = λ b. []; replies = [] }
+empty n registers p = record { state = first_state n registers p; deliveries = []; queued = []; wire = λ b. []; replies = [] }
 
 -- the operation that a reply in this step is for: the one called, or the one that runs
 abbrev pub running_op : Option Running → Op
@@ -72,7 +72,7 @@ said op (Some reply) = record { op = op; reply = reply } ∷ []
 abbrev pub after_result : Node → Op → State × Outcome → Node
 after_result x op r = record {
   state = r.0;
-  front = x.front ++ r.1.delivered;
+  deliveries = x.deliveries ++ r.1.delivered;
   queued = x.queued ++ option_to_list r.1.body;
   wire = λ b. x.wire b ++ r.1.frames b;
   replies = x.replies ++ said op r.1.reply;

@@ -15,24 +15,24 @@ use Rattle.reg_world.specs.Runs.{Cast, memory_of}
 use Rattle.reg_world.specs.Laws.{IsMade}
 use Rattle.reg_world.specs.World.{World, Replied, delivered_of, run_of, whole}
 
--- The casts in the order of their first deliveries are the longest front: each front is a prefix of it, and one is it.
+-- The casts in the order of their first deliveries are the longest list of deliveries: each list of deliveries is a prefix of it, and one is it.
 pub record OrderIsLongest (n : ℕ) (w : World) : Type 0 where
-  pub each : (p : ℕ) → p < n → IsPrefixOf (w.nodes p).front (map delivered_of w.order)
-  pub one : 0 < n → (p : ℕ) × (p < n) × ((w.nodes p).front ≡ map delivered_of w.order)
+  pub each : (p : ℕ) → p < n → IsPrefixOf (w.nodes p).deliveries (map delivered_of w.order)
+  pub one : 0 < n → (p : ℕ) × (p < n) × ((w.nodes p).deliveries ≡ map delivered_of w.order)
 
 -- The order rises strictly, so each cast stands in it once; exactly the casts delivered anywhere stand in it, each
 -- with the operation that was called under its id.
 pub record OrderIsRight (n : ℕ) (w : World) : Type 0 where
   pub rising : (i j : ℕ) (a b : First) → IsAt w.order i a → IsAt w.order j b → i < j → Below a.stamp b.stamp
-  pub some : (k : ℕ) (f : First) → IsAt w.order k f → (q : ℕ) × (q < n) × In (delivered_of f) (w.nodes q).front
-  pub all : (q : ℕ) (c : Delivered) → q < n → In c (w.nodes q).front → (k : ℕ) × (f : First) × IsAt w.order k f × (delivered_of f ≡ c)
+  pub some : (k : ℕ) (f : First) → IsAt w.order k f → (q : ℕ) × (q < n) × In (delivered_of f) (w.nodes q).deliveries
+  pub all : (q : ℕ) (c : Delivered) → q < n → In c (w.nodes q).deliveries → (k : ℕ) × (f : First) × IsAt w.order k f × (delivered_of f ≡ c)
   pub called : (k : ℕ) (f : First) → IsAt w.order k f → (at : ℕ) × IsCalled w.history f.id at f.op
   pub made : (k : ℕ) (f : First) → IsAt w.order k f → IsIn w.casts (record { stamp = f.stamp; id = f.id; op = f.op })
 
 -- Each cast is first delivered by the event of its number: nobody has it before, and some process has it then.
 pub record FirstsRight (start : Op → ℕ → Start) (n registers : ℕ) (w : World) : Type 0 where
-  pub before : (k : ℕ) (f : First) (q : ℕ) → IsAt w.order k f → q < n → In (delivered_of f) ((whole start n registers (take f.at w.accepted)).nodes q).front → ⊥
-  pub then_there : (k : ℕ) (f : First) → IsAt w.order k f → (q : ℕ) × (q < n) × In (delivered_of f) ((whole start n registers (take (f.at + 1) w.accepted)).nodes q).front
+  pub before : (k : ℕ) (f : First) (q : ℕ) → IsAt w.order k f → q < n → In (delivered_of f) ((whole start n registers (take f.at w.accepted)).nodes q).deliveries → ⊥
+  pub then_there : (k : ℕ) (f : First) → IsAt w.order k f → (q : ℕ) × (q < n) × In (delivered_of f) ((whole start n registers (take (f.at + 1) w.accepted)).nodes q).deliveries
 
 -- The casts made, each by the process of its id, under the id that called its operation.
 pub record CastsRight (n : ℕ) (w : World) : Type 0 where

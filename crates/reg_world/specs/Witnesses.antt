@@ -61,7 +61,7 @@ abbrev pub lost_from : Option Stamp → ℕ → List Tally → List Ranked
 lost_from last p [] = []
 lost_from last p (t ∷ ts) = lost_of last p t ++ lost_from last (p + 1) ts
 
--- those at the front with a rank of at most k, and the others
+-- the first ones with a rank of at most k, and the others
 abbrev pub upto : ℕ → List Ranked → List Ranked
 upto k [] = []
 upto k (q ∷ qs) = cond (nat_le q.rank k) (q ∷ upto k qs) []

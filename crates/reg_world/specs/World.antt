@@ -146,5 +146,5 @@ event_fault n registers w (TakeOf from to number) =
     cond (nat_lt from n) (cond (nat_lt to n) (cond (from == to) (Some NoFrame) (frame_fault (slice_get ((w from).wire to) number))) (Some NoProcess)) (Some NoProcess)
 event_fault n registers w (TickOf p) = cond (nat_lt p n) None (Some NoProcess)
 
-abbrev pub fault_of : ℕ → ℕ → World → Event → Option WorldFault
-fault_of n registers w e = cond (nat_lt (length w.accepted) MOST_EVENTS) (event_fault n registers w.nodes e) (Some TooManyEvents)
+abbrev pub world_fault : ℕ → ℕ → World → Event → Option WorldFault
+world_fault n registers w e = cond (nat_lt (length w.accepted) MOST_EVENTS) (event_fault n registers w.nodes e) (Some TooManyEvents)

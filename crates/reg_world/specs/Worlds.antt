@@ -18,7 +18,7 @@ use Rattle.reg_world.specs.declared.events.Event.{Event}
 use Rattle.reg_world.specs.declared.events.Event.TheVariants.{Call, Take, Tick}
 use Rattle.reg_world.specs.declared.faults.WorldFault.{WorldFault}
 use Rattle.reg_world.specs.declared.faults.WorldFault.TheVariants.{Failed, TooManyEvents, NoProcess, Busy, NoRegister, TooManyOperations, NoFrame, OutOfMemory}
-use Rattle.reg_world.specs.World.{World, move_of, fault_of, whole}
+use Rattle.reg_world.specs.World.{World, move_of, world_fault, whole}
 use Rattle.reg_world.specs.Histories.{Grows, Makes}
 use Rattle.reg_world.specs.Tallies.{Tally}
 use Rattle.reg_world.specs.Books.{AreTallies}
@@ -39,7 +39,7 @@ run_in start w = whole start w.processes w.registers w.accepted
 
 -- why an event is refused, want of memory aside
 abbrev pub refusal : (Op → ℕ → Start) → Made → Event → Option WorldFault
-refusal start w e = cond w.failed (Some Failed) (fault_of w.processes w.registers (run_in start w) e)
+refusal start w e = cond w.failed (Some Failed) (world_fault w.processes w.registers (run_in start w) e)
 
 -- the same with one more event
 abbrev pub with_event : (Op → ℕ → Start) → Made → Event → Made

@@ -11,9 +11,9 @@ ghost use Rattle.reg_history.specs.History.{IsHistory};
 ghost use Rattle.reg_history.specs.Orders.{IsSerial, IsPointOrder};
 ghost use Rattle.reg_world.specs.declared.events.Event.{Event};
 ghost use Rattle.reg_world.specs.Keys.{IsWitness, ArePoints};
-ghost use Rattle.reg_world.specs.Laws.{FrontsAgree, FrontsRise, FrontsMade, UndeliveredAbove, NoRefusal, AllAcknowledged, IsQuiescent};
+ghost use Rattle.reg_world.specs.Laws.{DeliveriesAgree, DeliveriesRise, DeliveriesMade, UndeliveredAbove, NoRefusal, AllAcknowledged, IsQuiescent};
 ghost use Rattle.reg_world.specs.Promises.{OrderIsLongest, OrderIsRight, FirstsRight, CastsRight, RepliesRight, ReadsRight};
-ghost use Rattle.reg_world.specs.World.{World, run_of, move_of, moved, fault_of, whole};
+ghost use Rattle.reg_world.specs.World.{World, run_of, move_of, moved, world_fault, whole};
 
 /// The operations of a run that have a key, by rising key, are a serial order of its history.
 pub fn witness_is_serial()
@@ -32,12 +32,12 @@ pub fn history_in_place()
     ensures again { (start : Op → ℕ → Start) (n registers : ℕ) (events : List Event) → whole start n registers (whole start n registers events).accepted ≡ whole start n registers events }
 {}
 
-/// The fronts of any two processes are one a prefix of the other, and the order is the longest. A cast that a
+/// What any two processes delivered is one a prefix of the other, and the order is the longest. A cast that a
 /// process hasn't delivered, made already or later, stands above all that it has.
 pub fn one_order()
-    ensures agree { (start : Op → ℕ → Start) (n registers : ℕ) (events : List Event) → KeepsLaws start → FrontsAgree n (whole start n registers events).nodes }
-    ensures rise { (start : Op → ℕ → Start) (n registers : ℕ) (events : List Event) → KeepsLaws start → FrontsRise n (whole start n registers events).nodes }
-    ensures made { (start : Op → ℕ → Start) (n registers : ℕ) (events : List Event) → KeepsLaws start → FrontsMade n (whole start n registers events).nodes }
+    ensures agree { (start : Op → ℕ → Start) (n registers : ℕ) (events : List Event) → KeepsLaws start → DeliveriesAgree n (whole start n registers events).nodes }
+    ensures rise { (start : Op → ℕ → Start) (n registers : ℕ) (events : List Event) → KeepsLaws start → DeliveriesRise n (whole start n registers events).nodes }
+    ensures made { (start : Op → ℕ → Start) (n registers : ℕ) (events : List Event) → KeepsLaws start → DeliveriesMade n (whole start n registers events).nodes }
     ensures above { (start : Op → ℕ → Start) (n registers : ℕ) (events more : List Event) → KeepsLaws start → UndeliveredAbove n (whole start n registers events).nodes (whole start n registers (events ++ more)).nodes }
     ensures longest { (start : Op → ℕ → Start) (n registers : ℕ) (events : List Event) → KeepsLaws start → OrderIsLongest n (whole start n registers events) }
     ensures order { (start : Op → ℕ → Start) (n registers : ℕ) (events : List Event) → KeepsLaws start → OrderIsRight n (whole start n registers events) }
@@ -61,6 +61,6 @@ pub fn none_refused()
 
 /// An event is refused exactly where a fault applies. One more event is one more step of the same world.
 pub fn refused_by_fault()
-    ensures refused { (n registers : ℕ) (w : World) (e : Event) → is_some (move_of n registers w e) ≡ not (is_some (fault_of n registers w e)) }
+    ensures refused { (n registers : ℕ) (w : World) (e : Event) → is_some (move_of n registers w e) ≡ not (is_some (world_fault n registers w e)) }
     ensures next { (start : Op → ℕ → Start) (n registers : ℕ) (events : List Event) (e : Event) → whole start n registers (events ++ e ∷ []) ≡ moved start (whole start n registers events) e (move_of n registers (whole start n registers events) e) }
 {}

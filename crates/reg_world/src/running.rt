@@ -7,7 +7,7 @@ ghost use Rattle.reg_process.specs.declared.steps.Reply.{Reply};
 ghost use Rattle.reg_world.specs.declared.events.Event.{Event};
 ghost use Rattle.reg_world.specs.Histories.{Grows, Makes};
 ghost use Rattle.reg_world.specs.Keys.{IsWitness, ArePoints};
-ghost use Rattle.reg_world.specs.Laws.{FrontsAgree, FrontsRise, FrontsMade, UndeliveredAbove, AllAcknowledged, IsQuiescent};
+ghost use Rattle.reg_world.specs.Laws.{DeliveriesAgree, DeliveriesRise, DeliveriesMade, UndeliveredAbove, AllAcknowledged, IsQuiescent};
 ghost use Rattle.reg_world.specs.Promises.{OrderIsLongest, OrderIsRight, FirstsRight, RepliesRight, ReadsRight};
 ghost use Rattle.reg_world.specs.World.{run_of, whole};
 ghost use Rattle.reg_world.specs.Stations.{listed};
@@ -279,9 +279,9 @@ impl<F: FrontEnd, A: Allocator + Copy> World<F, A> {
     /// Each cast's first delivery anywhere, in order of delivery: the one order of casts.
     pub fn order(&self) -> &[First]
         ensures value { result.now ≡ (run_in F.start self.now).order }
-        ensures agree { FrontsAgree self.now.processes (run_in F.start self.now).nodes }
-        ensures rise { FrontsRise self.now.processes (run_in F.start self.now).nodes }
-        ensures made { FrontsMade self.now.processes (run_in F.start self.now).nodes }
+        ensures agree { DeliveriesAgree self.now.processes (run_in F.start self.now).nodes }
+        ensures rise { DeliveriesRise self.now.processes (run_in F.start self.now).nodes }
+        ensures made { DeliveriesMade self.now.processes (run_in F.start self.now).nodes }
         ensures above { (more : List Event) → UndeliveredAbove self.now.processes (run_in F.start self.now).nodes (whole F.start self.now.processes self.now.registers (self.now.accepted ++ more)).nodes }
         ensures longest { OrderIsLongest self.now.processes (run_in F.start self.now) }
         ensures right { OrderIsRight self.now.processes (run_in F.start self.now) }

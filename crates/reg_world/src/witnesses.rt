@@ -129,7 +129,7 @@ fn lost_casts<A: Allocator + Copy>(
     Ok(lost)
 }
 
-/// Adds the reads at the front that have at most this place, and answers how many.
+/// Adds the first of the reads, which have at most this place, and answers how many.
 fn push_reads<A: Allocator + Copy>(
     ids: &mut Vec<OpId, A>,
     reads: &[Ranked],
