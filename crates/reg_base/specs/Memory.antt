@@ -39,13 +39,13 @@ abbrev pub memory_after : List Op → Memory → Memory
 memory_after [] m = m
 memory_after (op ∷ ops) m = memory_after ops (after op m)
 
--- all 0
+-- the memory after a list of operations, all 0 at first
+abbrev pub memory : ℕ → List Op → Memory
+memory registers ops = memory_after ops (replicate registers 0)
+
+-- the memory at first
 abbrev pub blank : ℕ → Memory
 blank registers = replicate registers 0
-
--- the memory after a list of operations, from the blank one
-abbrev pub memory : ℕ → List Op → Memory
-memory registers ops = memory_after ops (blank registers)
 
 abbrev pub IsUpdate : Op → Type 0
 IsUpdate op = updates op ≡ true

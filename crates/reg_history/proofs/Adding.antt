@@ -6,11 +6,11 @@ use Rattle.reg_base.specs.declared.memory.Op.{Op}
 use Rattle.reg_base.specs.declared.memory.Answer.{Answer}
 use Rattle.reg_history.specs.declared.entries.Entry.{Entry}
 use Rattle.reg_history.specs.declared.entries.Entry.TheVariants.{Called, Answered}
-use Rattle.reg_history.specs.History.{IsIn, IsCalled, IsFinished, WasCalled, IsIdle, IsHistory, MayCall, MayAnswer}
+use Rattle.reg_history.specs.History.{IsIn, IsCalled, IsFinished, WasCalled, IsHistory, MayCall, MayAnswer}
 use Rattle.reg_history.proofs.Histories.{answered_was_called}
 use Rattle.reg_history.specs.declared.place.Progress.{Progress}
 use Rattle.reg_history.specs.declared.place.Running.{Running}
-use Rattle.reg_history.specs.Progress.{op_of, IsState, IsProgressOf}
+use Rattle.reg_history.specs.Progress.{op_of, IsIdle, IsState, IsProgressOf}
 use Rattle.reg_history.proofs.OneMore.{IsOneMore}
 use Rattle.reg_history.proofs.Placing.{runs_last}
 

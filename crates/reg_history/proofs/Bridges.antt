@@ -12,8 +12,8 @@ use Rattle.reg_history.specs.declared.entries.Entry.{Entry}
 use Rattle.reg_history.specs.declared.entries.Entry.TheVariants.{Called}
 use Rattle.reg_base.specs.Memory.{IsUpdate, answer_of, memory, register_of}
 use Rattle.reg_history.specs.History.{IsAt, IsAnswered, IsFinished, IsHistory}
-use Rattle.reg_history.specs.Orders.{MayStand, IsSelection, IsDistinct, KeepsOwnOrder, AreCalled, IsLegal}
-use Rattle.reg_history.specs.Checks.{HasUnknown, HasTwice, HasMissing, BreaksOwnOrder, NoneOfThree, IsWrong, IsFirst}
+use Rattle.reg_history.specs.Orders.{MayStand, IsSelection, IsDistinct, KeepsOwnOrder, IsLegal}
+use Rattle.reg_history.specs.Checks.{AreCalled, HasUnknown, HasTwice, HasMissing, BreaksOwnOrder, NoneOfThree, IsWrong, IsFirst}
 use Rattle.reg_history.proofs.Histories.{answered_was_called, call_is, answer_is}
 use Rattle.reg_history.proofs.Places.{IsAt-map}
 use Rattle.reg_history.proofs.NoOrder.{same_ops}

@@ -1,14 +1,15 @@
 -- A fault shows that an order is none: so yes comes exactly for orders.
-use Rattle.std.proofs.Common.{◌≡◌, ◌≢◌, ℕ, ◌<◌, ◌≤◌, inl, inr, List, [], ◌∷◌, refl, ap₂, sym, subst, arith}
+use Rattle.std.proofs.Common.{◌≡◌, ◌≢◌, ℕ, ◌<◌, ◌≤◌, inl, inr, List, [], ◌∷◌, take, refl, ap₂, sym, subst, arith}
 use Rattle.reg_base.specs.declared.memory.OpId.{OpId}
 use Rattle.reg_base.specs.declared.memory.Op.{Op}
 use Rattle.reg_history.specs.declared.entries.Entry.{Entry}
 use Rattle.reg_history.specs.declared.entries.Point.{Point}
 use Rattle.reg_history.specs.declared.faults.CheckFault.{CheckFault}
 use Rattle.reg_history.specs.declared.faults.CheckFault.TheVariants.{Unknown, Twice, Missing, OwnOrder, Answer, Outside, Falling, OutOfMemory}
-use Rattle.reg_history.specs.History.{IsHistory}
-use Rattle.reg_history.specs.Orders.{IsSelection, IsLegal, KeepsOwnOrder, AreCalled, IsRightAt, IsSerial, IsPointOrder}
-use Rattle.reg_history.specs.Checks.{HasUnknown, HasTwice, HasMissing, BreaksOwnOrder, IsWrong, IsOutside, IsFalling, IsSerialFault, IsPointFault, ids_of}
+use Rattle.reg_base.specs.Memory.{answer_of, memory}
+use Rattle.reg_history.specs.History.{IsAt, IsHistory}
+use Rattle.reg_history.specs.Orders.{IsSelection, IsLegal, KeepsOwnOrder, IsSerial, IsPointOrder}
+use Rattle.reg_history.specs.Checks.{AreCalled, HasUnknown, HasTwice, HasMissing, BreaksOwnOrder, IsWrong, IsOutside, IsFalling, IsSerialFault, IsPointFault, ids_of}
 use Rattle.reg_history.proofs.Histories.{call_is}
 
 -- the operations under a list of ids are determined
@@ -36,8 +37,10 @@ module _ (n registers : ℕ) (h : List Entry) (good : IsHistory n registers h) w
 
   not_wrong : (ids : List OpId) → IsLegal registers h ids → (k : ℕ) → ¬ IsWrong registers h ids k
   not_wrong ids legal k w =
-      let right : IsRightAt registers h ids w.ops k = subst (λ (ops : List Op). IsRightAt registers h ids ops k) (same_ops n registers h good ids legal.ops w.ops legal.called w.called) (legal.right k) in
-      w.wrong (right w.id w.op w.at w.answer w.here w.its_op w.answered)
+      let same = same_ops n registers h good ids w.ops legal.ops w.called legal.called in
+      let its_op : IsAt legal.ops k w.op = subst (λ ops. IsAt ops k w.op) same w.its_op in
+      let right : w.answer ≡ answer_of w.op (memory registers (take k legal.ops)) = legal.right k w.id w.op w.at w.answer w.here its_op w.answered in
+      w.wrong (subst (λ ops. w.answer ≡ answer_of w.op (memory registers (take k ops))) (sym same) right)
 
   not_outside : (ps : List Point) → IsPointOrder registers h ps → (k : ℕ) → ¬ IsOutside h ps k
   not_outside ps order k (p, at, inl (t, op, is, lt)) = let le : t ≤ p.at = (order.points k p at).called t op is in omega arith

@@ -8,11 +8,11 @@ use Rattle.reg_history.specs.declared.entries.Entry.{Entry}
 use Rattle.reg_history.specs.declared.entries.Entry.TheVariants.{Called}
 use Rattle.reg_base.specs.Memory.{register_of, Fits}
 use Rattle.reg_base.specs.declared.limits.TheConstants.{LAST_EVENT, MOST_OPERATIONS}
-use Rattle.reg_history.specs.History.{IsCalled, IsFinished, WasCalled, IsNext, IsIdle, IsLater, IsHistory, MayCall, MayAnswer, last_of}
+use Rattle.reg_history.specs.History.{IsCalled, IsFinished, WasCalled, IsNext, IsLater, IsHistory, MayCall, MayAnswer, last_of}
 use Rattle.reg_history.proofs.Histories.{call_is}
 use Rattle.reg_history.specs.declared.place.Progress.{Progress}
 use Rattle.reg_history.specs.declared.place.Running.{Running}
-use Rattle.reg_history.specs.Progress.{op_of, IsState, IsProgressOf}
+use Rattle.reg_history.specs.Progress.{op_of, IsIdle, IsState, IsProgressOf}
 
 module _ (es : List Entry) (id : OpId) (g : Progress) (kept : IsProgressOf es id.process g) where
   pub next_is : IsNext es id → id.number ≡ g.next

@@ -1,5 +1,6 @@
 -- What the checkers answer: yes exactly for a serial order or a point order, and else the first fault of a fixed row.
 use Rattle.std.specs.Prelude.{ℕ, ◌≡◌, ◌≢◌, ◌<◌, ◌⊎◌, suc, List, map, take, Result, MatchResult}
+use Rattle.std.specs.List.{AllZip}
 use Rattle.reg_base.specs.declared.memory.OpId.{OpId}
 use Rattle.reg_base.specs.declared.memory.Op.{Op}
 use Rattle.reg_base.specs.declared.memory.Answer.{Answer as Reply}
@@ -9,7 +10,7 @@ use Rattle.reg_history.specs.declared.faults.CheckFault.{CheckFault}
 use Rattle.reg_history.specs.declared.faults.CheckFault.TheVariants.{Unknown, Twice, Missing, OwnOrder, Answer, Outside, Falling, OutOfMemory}
 use Rattle.reg_base.specs.Memory.{answer_of, memory}
 use Rattle.reg_history.specs.History.{IsAt, IsCalled, IsAnswered, IsFinished}
-use Rattle.reg_history.specs.Orders.{MayStand, AreCalled, IsSerial, IsPointOrder}
+use Rattle.reg_history.specs.Orders.{MayStand, IsSerial, IsPointOrder}
 
 -- some id is neither a finished operation nor a called update
 abbrev pub HasUnknown : List Entry → List OpId → Type 0
@@ -26,6 +27,10 @@ HasMissing h ids = (id : OpId) × IsFinished h id × ((k : ℕ) → IsAt ids k i
 -- some id stands behind one of its process with a larger number
 abbrev pub BreaksOwnOrder : List OpId → Type 0
 BreaksOwnOrder ids = (i : ℕ) × (j : ℕ) × (a : OpId) × (b : OpId) × IsAt ids i a × IsAt ids j b × (i < j) × (a.process ≡ b.process) × (b.number < a.number)
+
+-- these operations were called under these ids
+abbrev pub AreCalled : List Entry → List OpId → List Op → Type 0
+AreCalled h ids ops = AllZip (λ id op. (at : ℕ) × IsCalled h id at op) ids ops
 
 -- the operation at this place is finished, with another answer than that of the memory after those before it
 pub record IsWrong (registers : ℕ) (h : List Entry) (ids : List OpId) (k : ℕ) : Type 0 where

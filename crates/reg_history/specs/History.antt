@@ -49,11 +49,7 @@ WasCalled es id = (at : ℕ) × (op : Op) × IsCalled es id at op
 abbrev pub IsNext : List Entry → OpId → Type 0
 IsNext es id = (n : ℕ) → (n < id.number) ↔ WasCalled es (record { process = id.process; number = n })
 
--- each operation that the process has called is finished
-abbrev pub IsIdle : List Entry → ℕ → Type 0
-IsIdle es process = (id : OpId) → id.process ≡ process → WasCalled es id → IsFinished es id
-
--- a call in place
+-- a call in place: each operation that the process has called is finished
 pub record MayCall (n registers : ℕ) (es : List Entry) (at : ℕ) (id : OpId) (op : Op) : Type 0 where
   pub event : at ≤ LAST_EVENT
   pub process : id.process < n
@@ -61,7 +57,7 @@ pub record MayCall (n registers : ℕ) (es : List Entry) (at : ℕ) (id : OpId) 
   pub later : IsLater es at
   pub next : IsNext es id
   pub fits : id.number < MOST_OPERATIONS
-  pub idle : IsIdle es id.process
+  pub idle : (other : OpId) → other.process ≡ id.process → WasCalled es other → IsFinished es other
 
 -- an answer in place: of a running operation, at a later event or at that of its own call, if that stands last
 pub record MayAnswer (es : List Entry) (at : ℕ) (id : OpId) (answer : Answer) : Type 0 where

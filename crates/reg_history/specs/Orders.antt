@@ -1,12 +1,12 @@
 -- Serial orders (Lamport 1979) and point orders (Herlihy and Wing 1990) of a history.
-use Rattle.std.specs.Prelude.{ℕ, ◌≡◌, ◌<◌, ◌≤◌, ◌⊎◌, List, map, take}
+use Rattle.std.specs.Prelude.{ℕ, ◌≡◌, ◌<◌, ◌≤◌, ◌⊎◌, true, List, map, take}
 use Rattle.std.specs.List.{AllZip}
 use Rattle.reg_base.specs.declared.memory.OpId.{OpId}
 use Rattle.reg_base.specs.declared.memory.Op.{Op}
 use Rattle.reg_base.specs.declared.memory.Answer.{Answer}
 use Rattle.reg_history.specs.declared.entries.Entry.{Entry}
 use Rattle.reg_history.specs.declared.entries.Point.{Point}
-use Rattle.reg_base.specs.Memory.{IsUpdate, answer_of, memory}
+use Rattle.reg_base.specs.Memory.{updates, answer_of, memory}
 use Rattle.reg_history.specs.History.{IsAt, IsCalled, IsAnswered, IsFinished}
 
 -- no id stands twice
@@ -15,7 +15,7 @@ IsDistinct ids = (i j : ℕ) (id : OpId) → IsAt ids i id → IsAt ids j id →
 
 -- a finished operation, or a called one that may have changed the memory
 abbrev pub MayStand : List Entry → OpId → Type 0
-MayStand h id = IsFinished h id ⊎ ((at : ℕ) × (op : Op) × IsCalled h id at op × IsUpdate op)
+MayStand h id = IsFinished h id ⊎ ((at : ℕ) × (op : Op) × IsCalled h id at op × (updates op ≡ true))
 
 -- Distinct ids, with every finished operation, and besides only unfinished updates that were called
 -- (Herlihy and Wing 1990, section 2.3: some pending calls completed, the others dropped).
@@ -24,19 +24,12 @@ pub record IsSelection (h : List Entry) (ids : List OpId) : Type 0 where
   pub finished : (id : OpId) → IsFinished h id → (k : ℕ) × IsAt ids k id
   pub known : (k : ℕ) (id : OpId) → IsAt ids k id → MayStand h id
 
--- these operations were called under these ids
-abbrev pub AreCalled : List Entry → List OpId → List Op → Type 0
-AreCalled h ids ops = AllZip (λ id op. (at : ℕ) × IsCalled h id at op) ids ops
-
--- the operation at place k, where it is finished, has the answer of the memory after those before it
-abbrev pub IsRightAt : ℕ → List Entry → List OpId → List Op → ℕ → Type 0
-IsRightAt registers h ids ops k = (id : OpId) (op : Op) (at : ℕ) (answer : Answer) → IsAt ids k id → IsAt ops k op → IsAnswered h id at answer → answer ≡ answer_of op (memory registers (take k ops))
-
--- each finished operation has the answer of one memory
+-- The operations that were called under these ids: each of them that is finished has the answer of one memory after
+-- those before it.
 pub record IsLegal (registers : ℕ) (h : List Entry) (ids : List OpId) : Type 0 where
   pub ops : List Op
-  pub called : AreCalled h ids ops
-  pub right : (k : ℕ) → IsRightAt registers h ids ops k
+  pub called : AllZip (λ id op. (at : ℕ) × IsCalled h id at op) ids ops
+  pub right : (k : ℕ) (id : OpId) (op : Op) (at : ℕ) (answer : Answer) → IsAt ids k id → IsAt ops k op → IsAnswered h id at answer → answer ≡ answer_of op (memory registers (take k ops))
 
 -- of two ids of one process, the one with the smaller number stands first
 abbrev pub KeepsOwnOrder : List OpId → Type 0

@@ -4,12 +4,16 @@ use Rattle.reg_base.specs.declared.memory.OpId.{OpId}
 use Rattle.reg_history.specs.declared.entries.Entry.{Entry}
 use Rattle.reg_history.specs.declared.entries.Entry.TheVariants.{Called, Answered}
 use Rattle.reg_base.specs.declared.limits.TheConstants.{MOST_OPERATIONS}
-use Rattle.reg_history.specs.History.{IsAt, IsCalled, IsFinished, WasCalled, IsIdle, IsHistory}
+use Rattle.reg_history.specs.History.{IsAt, IsCalled, IsFinished, WasCalled, IsHistory}
 use Rattle.reg_history.specs.declared.place.Progress.{Progress}
 use Rattle.reg_history.specs.declared.place.Running.{Running}
 
 abbrev pub op_of : ℕ → ℕ → OpId
 op_of p n = record { process = p; number = n }
+
+-- each operation that the process has called is finished
+abbrev pub IsIdle : List Entry → ℕ → Type 0
+IsIdle es process = (id : OpId) → id.process ≡ process → WasCalled es id → IsFinished es id
 
 -- the process runs nothing; or it runs its last operation, and has finished those before
 abbrev pub IsState : List Entry → ℕ → ℕ → Option Running → Type 0

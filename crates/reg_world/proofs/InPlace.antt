@@ -14,7 +14,8 @@ use Rattle.reg_process.specs.declared.steps.Step.TheVariants.{Call, Take, Tick}
 use Rattle.reg_process.specs.Process.{State, Outcome, step}
 use Rattle.reg_history.specs.declared.entries.Entry.{Entry}
 use Rattle.reg_history.specs.declared.entries.Entry.TheVariants.{Called, Answered}
-use Rattle.reg_history.specs.History.{IsHistory, IsNext, IsIdle, IsLater, MayCall, MayAnswer, event_of, last_of}
+use Rattle.reg_history.specs.Progress.{IsIdle}
+use Rattle.reg_history.specs.History.{IsHistory, IsNext, IsLater, MayCall, MayAnswer, event_of, last_of}
 use Rattle.reg_history.proofs.Places.{element_at}
 use Rattle.reg_history.proofs.Pushing.{history_more}
 use Rattle.reg_world.specs.declared.events.Event.{Event}

@@ -7,7 +7,8 @@ use Rattle.reg_base.specs.declared.memory.Answer.{Answer}
 use Rattle.reg_history.specs.declared.entries.Entry.{Entry}
 use Rattle.reg_base.specs.Memory.{Memory, answer_of, after, memory_after, blank}
 use Rattle.reg_history.specs.History.{IsAt, IsAnswered}
-use Rattle.reg_history.specs.Orders.{AreCalled, IsLegal}
+use Rattle.reg_history.specs.Checks.{AreCalled}
+use Rattle.reg_history.specs.Orders.{IsLegal}
 use Rattle.reg_world.proofs.Walk.{LegalFrom}
 
 abbrev ops_of : (h : List Entry) (m : Memory) (ids : List OpId) → LegalFrom h m ids → List Op

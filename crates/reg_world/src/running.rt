@@ -1,7 +1,7 @@
 //! All processes and wires of a run, one event after another.
 ghost use Rattle.std.specs.Prelude.{◌≡◌, ◌<◌, ◌≤◌, ◌⊎◌, ◌++◌, ◌∷◌, List, false, length, take, drop, Option, Some, IfOk, OnOk, [], MatchOption, MatchResult};
 ghost use Rattle.reg_base.specs.declared.limits.TheConstants.{MOST_PROCESSES};
-ghost use Rattle.reg_history.specs.Log.{IsLog};
+ghost use Rattle.reg_history.specs.History.{IsHistory};
 ghost use Rattle.reg_history.specs.Orders.{IsSerial, IsPointOrder};
 ghost use Rattle.reg_process.specs.declared.steps.Reply.{Reply};
 ghost use Rattle.reg_world.specs.declared.events.Event.{Event};
@@ -346,7 +346,7 @@ impl<F: FrontEnd, A: Allocator + Copy> World<F, A> {
     pub fn serial_order(&self) -> Result<(&History<A>, Vec<OpId, A>), AllocError>
         ensures shape { IfOk result (λ r. r.0.now.shape ≡ record { processes = self.now.processes; registers = self.now.registers }) }
         ensures value { IfOk result (λ r. r.0.now.entries ≡ self.now.history) }
-        ensures history { IfOk result (λ r. IsLog r.0.now) }
+        ensures history { IfOk result (λ r. IsHistory r.0.now.shape.processes r.0.now.shape.registers r.0.now.entries) }
         ensures serial { IfOk result (λ r. IsSerial r.0.now.shape.registers r.0.now.entries r.1.items) }
         ensures keyed { IfOk result (λ r. IsWitness (run_of self.now.registers (run_in F.start self.now)) r.1.items) }
     {
@@ -372,7 +372,7 @@ impl<F: RealTime, A: Allocator + Copy> World<F, A> {
     pub fn linearization(&self) -> Result<(&History<A>, Vec<Point, A>), AllocError>
         ensures shape { IfOk result (λ r. r.0.now.shape ≡ record { processes = self.now.processes; registers = self.now.registers }) }
         ensures value { IfOk result (λ r. r.0.now.entries ≡ self.now.history) }
-        ensures history { IfOk result (λ r. IsLog r.0.now) }
+        ensures history { IfOk result (λ r. IsHistory r.0.now.shape.processes r.0.now.shape.registers r.0.now.entries) }
         ensures points { IfOk result (λ r. IsPointOrder r.0.now.shape.registers r.0.now.entries r.1.items) }
         ensures first { IfOk result (λ r. ArePoints (run_of self.now.registers (run_in F.start self.now)) r.1.items) }
     {
