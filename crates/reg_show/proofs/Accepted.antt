@@ -18,12 +18,12 @@ use Rattle.reg_world.specs.declared.events.Event.{Event}
 use Rattle.reg_world.specs.declared.events.Event.TheVariants.{Call, Take, Tick}
 use Rattle.reg_world.specs.World.{World, empty_world, move_of, moved, happens, run}
 use Rattle.reg_world.specs.Worlds.{Made, run_in}
-use Rattle.reg_world.proofs.Kept.{move_is}
+use Rattle.reg_world.proofs.one_memory.Kept.{move_is}
 use Rattle.reg_workload.specs.Schedules.{EventFits, Plan}
 use Rattle.reg_commands.specs.Plays.{IsPlayBy, plan_of}
 use Rattle.reg_base.specs.Shape.{Extent}
 use Rattle.reg_front.specs.declared.named.Front.{Front}
-use Rattle.reg_world.proofs.Ahead.{same_extent}
+use Rattle.reg_world.proofs.code.Ahead.{same_extent}
 use Rattle.reg_show.specs.Schedules.{IsScheduleText, EventHasBits, ShowsSchedule, schedule_text}
 use Rattle.reg_show.proofs.Spelled.{schedule_spelled}
 

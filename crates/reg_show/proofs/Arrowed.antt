@@ -20,9 +20,9 @@ use Rattle.reg_world.specs.Histories.{process_of}
 use Rattle.reg_world.specs.Nodes.{Node, Nodes, after_step, put, step_of, take_step}
 use Rattle.reg_world.specs.World.{World, move_of, moved, run, whole}
 use Rattle.reg_world.specs.Worlds.{Made, new_world, reply_in, run_in, with_event}
-use Rattle.reg_world.proofs.Kept.{move_is}
-use Rattle.reg_world.proofs.NodeEvents.{put_other}
-use Rattle.reg_world.proofs.Refusals.{one_more}
+use Rattle.reg_world.proofs.one_memory.Kept.{move_is}
+use Rattle.reg_world.proofs.one_order.NodeEvents.{put_other}
+use Rattle.reg_world.proofs.one_memory.Refusals.{one_more}
 use Rattle.reg_show.specs.declared.figures.Arrow.{Arrow}
 use Rattle.reg_show.specs.declared.moments.Sent.{Sent}
 use Rattle.reg_show.specs.Figures.{HaveArrows, arrow_from, arrow_of, arrows_in, arrows_of, is_put, putter, takes_in}

@@ -21,8 +21,8 @@ use Rattle.reg_world.specs.Nodes.{Node, after_step, take_step}
 use Rattle.reg_world.specs.Pages.{calls_after}
 use Rattle.reg_world.specs.World.{World, empty_world, move_of, moved, happens, run, frame_fault}
 use Rattle.reg_world.specs.Worlds.{Made, run_in, refusal}
-use Rattle.reg_world.proofs.Acts.{put_cases}
-use Rattle.reg_world.proofs.Growing.{calls_are}
+use Rattle.reg_world.proofs.one_order.Acts.{put_cases}
+use Rattle.reg_world.proofs.code.Growing.{calls_are}
 use Rattle.reg_workload.specs.Plays.{call_at, calls_of, script_of, Playing, next_at, cursor_at, IsPlaying, MayCall, next_frame, next_op}
 
 -- a run accepts no more events than it is given

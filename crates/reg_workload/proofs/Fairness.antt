@@ -23,10 +23,10 @@ use Rattle.reg_world.specs.World.{World, move_of, moved, world_fault, whole}
 use Rattle.reg_world.specs.Worlds.{Made, Accepts, run_in, with_event, new_world}
 use Rattle.reg_process.specs.Process.{Peer, no_peer}
 use Rattle.reg_process.proofs.Again.{replicate_at}
-use Rattle.reg_world.proofs.Worlds.{Inv}
-use Rattle.reg_world.proofs.Wholes.{whole_inv}
-use Rattle.reg_world.proofs.Premises.{K}
-use Rattle.reg_world.proofs.Refusals.{refused_by_fault, one_more}
+use Rattle.reg_world.proofs.one_order.Worlds.{Inv}
+use Rattle.reg_world.proofs.one_order.Wholes.{whole_inv}
+use Rattle.reg_world.proofs.witness.Premises.{K}
+use Rattle.reg_world.proofs.one_memory.Refusals.{refused_by_fault, one_more}
 use Rattle.reg_workload.specs.Plays.{Playing, cursor_at}
 use Rattle.reg_workload.specs.Fair.{takes_of, expected_after, counted_after, InStep, IsFair, IsBehind, Leaves}
 use Rattle.reg_workload.proofs.InOrder.{takes_more, ticks_same, taken_here, taken_other, range_more}

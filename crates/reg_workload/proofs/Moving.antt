@@ -13,9 +13,9 @@ use Rattle.reg_front.specs.declared.starts.Start.TheVariants.{Cast as Casts, Cas
 use Rattle.reg_process.specs.Process.{State, Peer, no_peer, peer_at, next_of, queue_from, data_frames, got_frames, accepts, called, taken, accepted, acknowledged, quiet}
 use Rattle.reg_process.proofs.Peers.{queue_expected}
 use Rattle.reg_world.specs.Nodes.{Node, Nodes, after_result}
-use Rattle.reg_world.proofs.Worlds.{Inv}
-use Rattle.reg_world.proofs.NodeEvents.{next_is}
-use Rattle.reg_world.proofs.Accepting.{accepts_is, accepts_first}
+use Rattle.reg_world.proofs.one_order.Worlds.{Inv}
+use Rattle.reg_world.proofs.one_order.NodeEvents.{next_is}
+use Rattle.reg_world.proofs.one_order.Accepting.{accepts_is, accepts_first}
 use Rattle.reg_workload.specs.Fair.{expected_after, counted_after}
 use Rattle.reg_workload.proofs.Wires.{Moves, expected_both, counted_both, next_expected, other_expected, got_expected, got_counted, none_counted}
 

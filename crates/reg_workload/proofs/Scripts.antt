@@ -18,8 +18,8 @@ use Rattle.reg_process.specs.Process.{Peer, no_peer, pending_of}
 use Rattle.reg_world.specs.Laws.{IsQuiescent}
 use Rattle.reg_world.specs.Worlds.{run_in}
 use Rattle.reg_process.proofs.Again.{replicate_at}
-use Rattle.reg_world.proofs.Promised.{settled}
-use Rattle.reg_world.proofs.Settled.{none_on_link}
+use Rattle.reg_world.proofs.witness.Promised.{settled}
+use Rattle.reg_world.proofs.one_order.Settled.{none_on_link}
 use Rattle.reg_workload.specs.Plays.{call_at, calls_of, script_of, Playing, next_at, next_op, Follows, IsPlayable, ArePlayable, IsPlaying, IsFinished, IsPlay, FollowsScript, AllStill}
 use Rattle.reg_workload.specs.Fair.{AtRest}
 

@@ -1,7 +1,7 @@
 use Rattle.std.proofs.Common.{◌∙◌, subst, sym, ap, arith}
 use Rattle.reg_world.specs.Tallies.{Tally}
 use Rattle.reg_world.specs.Pages.{tally_at, TimesDiffer}
-use Rattle.reg_world.proofs.Entering.{at_default}
+use Rattle.reg_world.proofs.code.Entering.{at_default}
 use Rattle.reg_world.proofs.books.id_of.Goals as goal
 
 pub number_of-number-requires : goal.number_of-number-requires

@@ -3,7 +3,7 @@ use Rattle.reg_history.specs.declared.entries.Entry.TheVariants.{Answered}
 use Rattle.reg_history.specs.History.{IsHistory}
 use Rattle.reg_process.specs.declared.steps.Reply.{Reply}
 use Rattle.reg_world.specs.World.{answers_in}
-use Rattle.reg_world.proofs.Entering.{not_refused}
+use Rattle.reg_world.proofs.code.Entering.{not_refused}
 use Rattle.reg_world.proofs.books.push_answer.Goals as goal
 
 pub unreachable-requires : goal.unreachable-requires

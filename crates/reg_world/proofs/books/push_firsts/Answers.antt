@@ -1,5 +1,5 @@
 use Rattle.std.proofs.Common.{◌∙◌, arith}
-use Rattle.reg_world.proofs.Entering.{caster_at, differ_at, first_more}
+use Rattle.reg_world.proofs.code.Entering.{caster_at, differ_at, first_more}
 use Rattle.reg_world.proofs.books.push_firsts.Goals as goal
 
 pub push_first-requires-clause-caster : goal.push_first-requires-clause-caster

@@ -1,4 +1,4 @@
-use Rattle.reg_world.proofs.Entering.{IsSoFar}
+use Rattle.reg_world.proofs.code.Entering.{IsSoFar}
 use Rattle.reg_world.proofs.books.push_firsts.Given as goal
 
 abbrev pub invariant-loop-cast : goal.invariant-loop-cast

@@ -1,5 +1,5 @@
 use Rattle.std.proofs.Common.{◌∙◌, ap, length, arith}
-use Rattle.reg_world.proofs.Found.{one_more}
+use Rattle.reg_world.proofs.code.Found.{one_more}
 use Rattle.reg_world.proofs.finding.found.Goals as goal
 
 pub returns : goal.returns

@@ -1,5 +1,5 @@
-use Rattle.reg_world.proofs.Promised.{in_place, few_events}
-use Rattle.reg_world.proofs.Arrivals.{again}
+use Rattle.reg_world.proofs.witness.Promised.{in_place, few_events}
+use Rattle.reg_world.proofs.one_memory.Arrivals.{again}
 use Rattle.reg_world.proofs.laws.history_in_place.Goals as goal
 
 pub returns-clause-in_place : goal.returns-clause-in_place

@@ -1,4 +1,4 @@
-use Rattle.reg_world.proofs.Promised.{none_refused}
+use Rattle.reg_world.proofs.witness.Promised.{none_refused}
 use Rattle.reg_world.proofs.laws.none_refused.Goals as goal
 
 pub returns : goal.returns

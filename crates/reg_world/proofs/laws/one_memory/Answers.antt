@@ -1,5 +1,5 @@
-use Rattle.reg_world.proofs.Promised.{replies_right, rests}
-use Rattle.reg_world.proofs.Arrivals.{reads_right}
+use Rattle.reg_world.proofs.witness.Promised.{replies_right, rests}
+use Rattle.reg_world.proofs.one_memory.Arrivals.{reads_right}
 use Rattle.reg_world.proofs.laws.one_memory.Goals as goal
 
 pub returns-clause-replies : goal.returns-clause-replies

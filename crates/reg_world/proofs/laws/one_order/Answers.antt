@@ -1,5 +1,5 @@
-use Rattle.reg_world.proofs.Promised.{deliveries_agree, all_deliveries_rise, deliveries_made, undelivered_above, longest, order_right, casts_right}
-use Rattle.reg_world.proofs.Arrivals.{firsts_right}
+use Rattle.reg_world.proofs.witness.Promised.{deliveries_agree, all_deliveries_rise, deliveries_made, undelivered_above, longest, order_right, casts_right}
+use Rattle.reg_world.proofs.one_memory.Arrivals.{firsts_right}
 use Rattle.reg_world.proofs.laws.one_order.Goals as goal
 
 pub returns-clause-agree : goal.returns-clause-agree

@@ -1,7 +1,7 @@
-use Rattle.reg_world.proofs.Points.{points_order}
-use Rattle.reg_world.proofs.Times.{laws_of}
-use Rattle.reg_world.proofs.Premises.{R, is_run}
-use Rattle.reg_world.proofs.Moments.{is_real_time}
+use Rattle.reg_world.proofs.witness.Points.{points_order}
+use Rattle.reg_world.proofs.witness.Times.{laws_of}
+use Rattle.reg_world.proofs.witness.Premises.{R, is_run}
+use Rattle.reg_world.proofs.witness.Moments.{is_real_time}
 use Rattle.reg_world.proofs.laws.points_are_a_point_order.Goals as goal
 
 pub returns : goal.returns

@@ -1,5 +1,5 @@
-use Rattle.reg_world.proofs.Serial.{witness_serial}
-use Rattle.reg_world.proofs.Premises.{R, is_run}
+use Rattle.reg_world.proofs.witness.Serial.{witness_serial}
+use Rattle.reg_world.proofs.witness.Premises.{R, is_run}
 use Rattle.reg_world.proofs.laws.witness_is_serial.Goals as goal
 
 pub returns : goal.returns

@@ -1,8 +1,8 @@
 use Rattle.std.proofs.Common.{sym, subst, false}
 use Rattle.reg_world.specs.declared.events.Event.{Event}
 use Rattle.reg_world.specs.Worlds.{Accepts, Refuses, made_of}
-use Rattle.reg_world.proofs.Ahead.{first_ahead, next_ahead}
-use Rattle.reg_world.proofs.Answering.{run_refuses, run_goes_on}
+use Rattle.reg_world.proofs.code.Ahead.{first_ahead, next_ahead}
+use Rattle.reg_world.proofs.code.Answering.{run_refuses, run_goes_on}
 use Rattle.reg_world.proofs.running.run_ahead.Goals as goal
 
 pub returns-in-Err-clause-made : goal.returns-in-Err-clause-made

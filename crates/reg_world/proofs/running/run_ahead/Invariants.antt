@@ -1,6 +1,6 @@
 use Rattle.std.proofs.Common.{◌≡◌, false, drop}
 use Rattle.reg_world.specs.Worlds.{IsWorld, made_of}
-use Rattle.reg_world.proofs.Answering.{IsRunSoFar}
+use Rattle.reg_world.proofs.code.Answering.{IsRunSoFar}
 use Rattle.reg_world.proofs.running.run_ahead.Given as goal
 
 abbrev pub invariant-loop-at : goal.invariant-loop-at

@@ -2,7 +2,7 @@ use Rattle.std.proofs.Common.{◌≡◌, List, arith, subst, ap, ◌∙◌}
 use Rattle.std.specs.List.Sorted.{IsStable}
 use Rattle.reg_world.specs.declared.witnesses.Ranked.{Ranked}
 use Rattle.reg_world.specs.Witnesses.{ranked_cmp, last_stamp, lost_from}
-use Rattle.reg_world.proofs.Reading.{lost_step, lost_all}
+use Rattle.reg_world.proofs.code.Reading.{lost_step, lost_all}
 use Rattle.reg_world.proofs.witnesses.lost_casts.Goals as goal
 
 pub loop-process-preserved : goal.loop-process-preserved

@@ -1,7 +1,7 @@
 use Rattle.std.proofs.Common.{◌≡◌, ◌-◌, ◌++◌, ◌∙◌, ap, take, drop, length, arith}
 use Rattle.std.proofs.lemmas.List.{take_all, take_rest}
 use Rattle.reg_world.specs.Witnesses.{is_kept}
-use Rattle.reg_world.proofs.Reading.{merged_more, merged_all, ids_read}
+use Rattle.reg_world.proofs.code.Reading.{merged_more, merged_all, ids_read}
 use Rattle.reg_world.proofs.witnesses.push_merged.Goals as goal
 
 pub loop-place-preserved : goal.loop-place-preserved

@@ -1,7 +1,7 @@
 use Rattle.std.proofs.Common.{◌≡◌, ◌++◌, take}
 use Rattle.std.proofs.Common.{◌≡◌}
 use Rattle.reg_world.specs.Witnesses.{is_kept}
-use Rattle.reg_world.proofs.Reading.{IsMergedSoFar, ids_read}
+use Rattle.reg_world.proofs.code.Reading.{IsMergedSoFar, ids_read}
 use Rattle.reg_world.proofs.witnesses.push_merged.Given as goal
 
 abbrev pub invariant-loop-place : goal.invariant-loop-place

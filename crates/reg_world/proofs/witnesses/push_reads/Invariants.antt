@@ -1,4 +1,4 @@
-use Rattle.reg_world.proofs.Reading.{IsReadSoFar}
+use Rattle.reg_world.proofs.code.Reading.{IsReadSoFar}
 use Rattle.reg_world.proofs.witnesses.push_reads.Given as goal
 
 abbrev pub invariant-loop-index : goal.invariant-loop-index

@@ -1,7 +1,7 @@
 use Rattle.std.proofs.Common.{◌≡◌, ◌++◌, ◌∙◌, ap}
 use Rattle.std.proofs.lemmas.List.{take_all}
 use Rattle.reg_world.specs.Witnesses.{is_kept, ids_of, merge}
-use Rattle.reg_world.proofs.Reading.{all_ids, ids_read}
+use Rattle.reg_world.proofs.code.Reading.{all_ids, ids_read}
 use Rattle.reg_world.proofs.witnesses.witness_of.Goals as goal
 
 pub returns : goal.returns

@@ -1,5 +1,5 @@
 use Rattle.std.proofs.Common.{◌≡◌, ◌++◌, take}
-use Rattle.reg_world.proofs.Reading.{ids_read}
+use Rattle.reg_world.proofs.code.Reading.{ids_read}
 use Rattle.reg_world.proofs.witnesses.witness_of.Given as goal
 
 abbrev pub invariant-loop-cast : goal.invariant-loop-cast

@@ -2,7 +2,7 @@ use Rattle.std.proofs.Common.{◌∙◌, ◌++◌, ◌-◌, length, ap, subst, a
 use Rattle.reg_base.specs.Order.{In}
 use Rattle.reg_world.specs.World.{op_id, calls_in}
 use Rattle.reg_world.specs.Pages.{Pages, tally_at, calls_after}
-use Rattle.reg_world.proofs.Entering.{call_good, answer_good}
+use Rattle.reg_world.proofs.code.Entering.{call_good, answer_good}
 use Rattle.reg_world.proofs.books.Book.enter.Goals as goal
 
 pub push_call-requires-clause-in_place : goal.push_call-requires-clause-in_place

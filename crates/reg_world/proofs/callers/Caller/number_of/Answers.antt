@@ -2,7 +2,7 @@ use Rattle.std.proofs.Common.{◌∙◌, List, subst, ap}
 use Rattle.reg_history.specs.History.{IsAt}
 use Rattle.reg_world.specs.declared.callers.Note.{Note}
 use Rattle.reg_world.specs.Tallies.{Tally}
-use Rattle.reg_world.proofs.Noted.{number_next, at_index}
+use Rattle.reg_world.proofs.code.Noted.{number_next, at_index}
 use Rattle.reg_world.proofs.callers.Caller.number_of.Goals as goal
 
 pub returns-clause-number : goal.returns-clause-number

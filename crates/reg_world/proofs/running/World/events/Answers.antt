@@ -1,5 +1,5 @@
 use Rattle.std.proofs.Common.{length, ap, arith}
-use Rattle.reg_world.proofs.Answering.{few_accepted}
+use Rattle.reg_world.proofs.code.Answering.{few_accepted}
 use Rattle.reg_world.proofs.running.World.events.Goals as goal
 
 pub overflow_cast-result : goal.overflow_cast-result

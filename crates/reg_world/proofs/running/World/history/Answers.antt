@@ -1,5 +1,5 @@
 use Rattle.reg_world.specs.Worlds.{Made}
-use Rattle.reg_world.proofs.Promised.{replies_right}
+use Rattle.reg_world.proofs.witness.Promised.{replies_right}
 use Rattle.reg_world.proofs.running.World.history.Goals as goal
 
 pub returns-clause-replies : goal.returns-clause-replies

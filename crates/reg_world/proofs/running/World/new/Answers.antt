@@ -1,4 +1,4 @@
-use Rattle.reg_world.proofs.Beginning.{new_is}
+use Rattle.reg_world.proofs.code.Beginning.{new_is}
 use Rattle.reg_world.proofs.running.World.new.Goals as goal
 
 pub invariant_of-result : goal.invariant_of-result

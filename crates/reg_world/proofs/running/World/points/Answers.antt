@@ -1,9 +1,9 @@
 use Rattle.reg_world.specs.Worlds.{Made}
-use Rattle.reg_world.proofs.Answering.{if_ok, points_told}
-use Rattle.reg_world.proofs.Premises.{R, is_run}
-use Rattle.reg_world.proofs.Moments.{is_real_time}
-use Rattle.reg_world.proofs.Points.{points_order}
-use Rattle.reg_world.proofs.Times.{laws_of}
+use Rattle.reg_world.proofs.code.Answering.{if_ok, points_told}
+use Rattle.reg_world.proofs.witness.Premises.{R, is_run}
+use Rattle.reg_world.proofs.witness.Moments.{is_real_time}
+use Rattle.reg_world.proofs.witness.Points.{points_order}
+use Rattle.reg_world.proofs.witness.Times.{laws_of}
 use Rattle.reg_world.proofs.running.World.points.Goals as goal
 
 pub returns-clause-first : goal.returns-clause-first

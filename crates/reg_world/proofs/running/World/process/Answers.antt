@@ -1,8 +1,8 @@
 use Rattle.std.proofs.Common.{◌≡◌, List, length, get_or, ap, subst, arith}
 use Rattle.reg_world.specs.Stations.{Standing}
 use Rattle.reg_world.specs.Worlds.{Made}
-use Rattle.reg_world.proofs.Answering.{process_told}
-use Rattle.reg_world.proofs.Promised.{rests}
+use Rattle.reg_world.proofs.code.Answering.{process_told}
+use Rattle.reg_world.proofs.witness.Promised.{rests}
 use Rattle.reg_world.proofs.running.World.process.Goals as goal
 
 pub returns-in-Some-clause-quiescent : goal.returns-in-Some-clause-quiescent

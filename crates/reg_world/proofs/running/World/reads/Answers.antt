@@ -1,5 +1,5 @@
 use Rattle.reg_world.specs.Worlds.{Made}
-use Rattle.reg_world.proofs.Arrivals.{reads_right}
+use Rattle.reg_world.proofs.one_memory.Arrivals.{reads_right}
 use Rattle.reg_world.proofs.running.World.reads.Goals as goal
 
 pub returns-clause-right : goal.returns-clause-right

@@ -1,5 +1,5 @@
 use Rattle.std.proofs.Common.{arith}
-use Rattle.reg_world.proofs.Answering.{run_refuses, run_begins, run_goes_on, run_all, run_ends}
+use Rattle.reg_world.proofs.code.Answering.{run_refuses, run_begins, run_goes_on, run_all, run_ends}
 use Rattle.reg_world.proofs.running.World.run.Goals as goal
 
 pub loop-at-init : goal.loop-at-init

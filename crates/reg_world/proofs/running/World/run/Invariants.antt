@@ -1,4 +1,4 @@
-use Rattle.reg_world.proofs.Answering.{IsRunSoFar}
+use Rattle.reg_world.proofs.code.Answering.{IsRunSoFar}
 use Rattle.reg_world.proofs.running.World.run.Given as goal
 
 abbrev pub invariant-loop-at : goal.invariant-loop-at

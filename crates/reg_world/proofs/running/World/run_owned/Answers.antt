@@ -4,7 +4,7 @@ use Rattle.reg_base.specs.Shape.{Extent}
 use Rattle.reg_world.specs.declared.events.Event.{Event}
 use Rattle.reg_world.specs.Pages.{Pages}
 use Rattle.reg_world.specs.Worlds.{Made, RunRefuses, new_world}
-use Rattle.reg_world.proofs.Ahead.{with_ahead, same_extent}
+use Rattle.reg_world.proofs.code.Ahead.{with_ahead, same_extent}
 use Rattle.reg_world.proofs.running.World.run_owned.Goals as goal
 
 pub run_ahead-requires-clause-world : goal.run_ahead-requires-clause-world

@@ -1,7 +1,7 @@
 use Rattle.std.proofs.Common.{◌≡◌, List, length, get_or, ap, subst, inl, arith}
 use Rattle.reg_world.specs.Stations.{Standing}
 use Rattle.reg_world.specs.Worlds.{Made}
-use Rattle.reg_world.proofs.Answering.{wire_told}
+use Rattle.reg_world.proofs.code.Answering.{wire_told}
 use Rattle.reg_world.proofs.running.World.wire.Goals as goal
 
 pub returns-in-Some : goal.returns-in-Some

@@ -1,7 +1,7 @@
 use Rattle.reg_world.specs.Worlds.{Made}
-use Rattle.reg_world.proofs.Answering.{if_ok, witness_told}
-use Rattle.reg_world.proofs.Premises.{R, is_run}
-use Rattle.reg_world.proofs.Serial.{witness_serial}
+use Rattle.reg_world.proofs.code.Answering.{if_ok, witness_told}
+use Rattle.reg_world.proofs.witness.Premises.{R, is_run}
+use Rattle.reg_world.proofs.witness.Serial.{witness_serial}
 use Rattle.reg_world.proofs.running.World.witness.Goals as goal
 
 pub returns-clause-keyed : goal.returns-clause-keyed

@@ -3,7 +3,7 @@ use Rattle.reg_process.specs.declared.outcomes.Put.{Put}
 use Rattle.reg_base.specs.Order.{In}
 use Rattle.reg_process.specs.Process.{step}
 use Rattle.reg_world.specs.Stations.{Standing}
-use Rattle.reg_world.proofs.Sending.{puts_within}
+use Rattle.reg_world.proofs.code.Sending.{puts_within}
 use Rattle.reg_world.proofs.stations.Station.act.Goals as goal
 
 pub put_all-requires : goal.put_all-requires

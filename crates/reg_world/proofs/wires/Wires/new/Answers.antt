@@ -1,6 +1,6 @@
 use Rattle.std.proofs.Common.{map, replicate, ap, ◌∙◌}
 use Rattle.reg_world.specs.Wires.{frames_in, no_frames}
-use Rattle.reg_world.proofs.Strands.{no_wires}
+use Rattle.reg_world.proofs.code.Strands.{no_wires}
 use Rattle.reg_world.proofs.wires.Wires.new.Goals as goal
 
 pub returns : goal.returns

@@ -2,7 +2,7 @@ use Rattle.std.proofs.Common.{◌≡◌, ◌<◌, ◌++◌, ◌∷◌, [], List,
 use Rattle.std.proofs.lemmas.List.{length-map}
 use Rattle.reg_frames.specs.declared.bodies.Frame.{Frame}
 use Rattle.reg_world.specs.Wires.{frames_in}
-use Rattle.reg_world.proofs.Strands.{put_on_one}
+use Rattle.reg_world.proofs.code.Strands.{put_on_one}
 use Rattle.reg_world.proofs.wires.Wires.put.Goals as goal
 
 pub returns : goal.returns

@@ -1,5 +1,5 @@
 use Rattle.std.proofs.Common.{length, arith}
-use Rattle.reg_world.proofs.Sending.{put_fits, put_more}
+use Rattle.reg_world.proofs.code.Sending.{put_fits, put_more}
 use Rattle.reg_world.proofs.wires.Wires.put_all.Goals as goal
 
 pub put-requires : goal.put-requires

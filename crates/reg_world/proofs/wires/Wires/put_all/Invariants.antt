@@ -1,4 +1,4 @@
-use Rattle.reg_world.proofs.Sending.{IsPutSoFar}
+use Rattle.reg_world.proofs.code.Sending.{IsPutSoFar}
 use Rattle.reg_world.proofs.wires.Wires.put_all.Given as goal
 
 abbrev pub invariant-loop-put : goal.invariant-loop-put

@@ -1,0 +1,77 @@
+-- The frames of an event go to the ends of their wires.
+use Rattle.std.proofs.Common.{◌≡◌, ℕ, zero, suc, ◌+◌, ◌<◌, List, [], ◌∷◌, ◌++◌, map, length, drop, get_or, set, replicate, refl, sym, ap, ◌∙◌, inl, inr, arith, length-set, length-append}
+use Rattle.std.proofs.lemmas.List.{append_assoc, append-nil, drop_more, set_at, get_or_at}
+use Rattle.reg_base.specs.Order.{In}
+use Rattle.reg_frames.specs.declared.bodies.Frame.{Frame}
+use Rattle.reg_process.specs.declared.outcomes.Put.{Put}
+use Rattle.reg_process.specs.Puts.{puts, put_to}
+use Rattle.reg_world.specs.Stations.{sent, listed}
+use Rattle.reg_base.proofs.Lists.{in_cases}
+use Rattle.reg_world.proofs.lists.Members.{map_in}
+
+-- so many frames were put; what is left decides
+pub record IsPutSoFar (ps : List Put) (before : List (List Frame)) (i : ℕ) (wires : List (List Frame)) : Type 0 where
+  pub size : length wires ≡ length before
+  pub left : sent (drop i ps) wires ≡ sent ps before
+
+pub in_drop : {X : Type 0} (i : ℕ) (xs : List X) (x d : X) → i < length xs → x ≡ get_or xs i d → In x xs
+in_drop i [] x d l e = absurd (omega arith)
+in_drop zero (y ∷ xs) x d l e = inl e
+in_drop (suc i) (y ∷ xs) x d l e = inr (in_drop i xs x d (omega arith) e)
+
+pub put_more : (ps : List Put) (before : List (List Frame)) (i : ℕ) (wires wires1 : List (List Frame)) (d : Put) → i < length ps → IsPutSoFar ps before i wires
+    → wires1 ≡ set wires (get_or ps i d).to (get_or wires (get_or ps i d).to [] ++ (get_or ps i d).frame ∷ []) → IsPutSoFar ps before (i + 1) wires1
+put_more ps before i wires wires1 d l S now = record {
+  size = ap length now ∙ (length-set wires (get_or ps i d).to (get_or wires (get_or ps i d).to [] ++ (get_or ps i d).frame ∷ []) ∙ S.size);
+  left = ap (sent (drop (i + 1) ps)) now ∙ (ap (λ q. sent q wires) (sym (drop_more ps i d l)) ∙ S.left);
+}
+
+pub sent_both : (xs ys : List Put) (wires : List (List Frame)) → sent (xs ++ ys) wires ≡ sent ys (sent xs wires)
+sent_both [] ys wires = refl
+sent_both (x ∷ xs) ys wires = sent_both xs ys (set wires x.to (get_or wires x.to [] ++ x.frame ∷ []))
+
+-- frames for one process
+sent_one : (n : ℕ) (fs : List Frame) (xs rest : List (List Frame)) (w : List Frame) → length xs ≡ n → sent (map (put_to n) fs) (xs ++ w ∷ rest) ≡ xs ++ (w ++ fs) ∷ rest
+sent_one n [] xs rest w e = ap (λ z. xs ++ z ∷ rest) (sym (append-nil w))
+sent_one n (f ∷ fs) xs rest w e =
+    let got : get_or (xs ++ w ∷ rest) n [] ≡ w = get_or_at xs w rest [] n e in
+    ap (λ z. sent (map (put_to n) fs) (set (xs ++ w ∷ rest) n (z ++ f ∷ []))) got
+    ∙ (ap (sent (map (put_to n) fs)) (set_at xs w rest (w ++ f ∷ []) n e)
+    ∙ (sent_one n fs xs rest (w ++ f ∷ []) e ∙ ap (λ z. xs ++ z ∷ rest) (append_assoc w (f ∷ []) fs)))
+
+pub length-listed : {X : Type 0} (f : ℕ → X) (n : ℕ) → length (listed f n) ≡ n
+length-listed f zero = refl
+length-listed f (suc n) = let a = length-append (listed f n) (f n ∷ []) in let b = length-listed f n in omega (arith, a, b)
+
+sent_listed : (wire frames : ℕ → List Frame) (n : ℕ) (rest : List (List Frame)) → sent (puts frames n) (listed wire n ++ rest) ≡ listed (λ b. wire b ++ frames b) n ++ rest
+sent_listed wire frames zero rest = refl
+sent_listed wire frames (suc n) rest =
+    let both : ℕ → List Frame = λ b. wire b ++ frames b in
+    ap (sent (puts frames n ++ map (put_to n) (frames n))) (append_assoc (listed wire n) (wire n ∷ []) rest)
+    ∙ (sent_both (puts frames n) (map (put_to n) (frames n)) (listed wire n ++ (wire n ∷ rest))
+    ∙ (ap (sent (map (put_to n) (frames n))) (sent_listed wire frames n (wire n ∷ rest))
+    ∙ (sent_one n (frames n) (listed both n) rest (wire n) (length-listed both n)
+    ∙ sym (append_assoc (listed both n) (both n ∷ []) rest))))
+
+pub sent_all : (wire frames : ℕ → List Frame) (n : ℕ) → sent (puts frames n) (listed wire n) ≡ listed (λ b. wire b ++ frames b) n
+sent_all wire frames n =
+    ap (sent (puts frames n)) (sym (append-nil (listed wire n))) ∙ (sent_listed wire frames n [] ∙ append-nil (listed (λ b. wire b ++ frames b) n))
+
+pub listed_empty : {X : Type 0} (x : X) (n : ℕ) → replicate n x ≡ listed (λ _. x) n
+listed_empty x zero = refl
+listed_empty x (suc n) = turn x n ∙ ap (λ l. l ++ x ∷ []) (listed_empty x n)
+  where
+    turn : {X : Type 0} (x : X) (n : ℕ) → x ∷ replicate n x ≡ replicate n x ++ x ∷ []
+    turn x zero = refl
+    turn x (suc n) = ap (λ l. x ∷ l) (turn x n)
+
+-- each frame is put for one of n processes
+pub puts_within : (frames : ℕ → List Frame) (n : ℕ) (p : Put) → In p (puts frames n) → p.to < n
+puts_within frames zero p h = absurd h
+puts_within frames (suc n) p h = elim (in_cases p (puts frames n) (map (put_to n) (frames n)) h) [
+  | inl i ↦ let l = puts_within frames n p i in omega (arith, l)
+  | inr i ↦ let m = map_in (put_to n) p (frames n) i in let e = ap (λ (z : Put). z.to) m.2 in omega (arith, e)
+]
+
+pub put_fits : (ps : List Put) (i : ℕ) (d : Put) (m k : ℕ) → ((p : Put) → In p ps → p.to < k) → m ≡ k → i < length ps → (get_or ps i d).to < m
+put_fits ps i d m k all same l = let h = all (get_or ps i d) (in_drop i ps (get_or ps i d) d l refl) in omega (arith, h, same)

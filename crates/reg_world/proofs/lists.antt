@@ -1,0 +1,5 @@
+-- Lemmas on lists.
+pub mod Members
+pub mod Rises
+pub mod Changes
+pub mod Bodies
