@@ -14,8 +14,7 @@ use Rattle.reg_process.specs.declared.steps.Step.TheVariants.{Call, Take, Tick}
 use Rattle.reg_process.specs.Process.{State, Outcome, step}
 use Rattle.reg_history.specs.declared.entries.Entry.{Entry}
 use Rattle.reg_history.specs.declared.entries.Entry.TheVariants.{Called, Answered}
-use Rattle.reg_history.specs.Progress.{IsIdle}
-use Rattle.reg_history.specs.History.{IsHistory, IsNext, IsLater, MayCall, MayAnswer, event_of, last_of}
+use Rattle.reg_history.specs.History.{IsHistory, IsFinished, WasCalled, IsNext, IsLater, MayCall, MayAnswer, event_of, last_of}
 use Rattle.reg_history.proofs.Places.{element_at}
 use Rattle.reg_history.proofs.Pushing.{history_more}
 use Rattle.reg_world.specs.declared.events.Event.{Event}
@@ -30,6 +29,10 @@ use Rattle.reg_world.proofs.one_memory.Turns.{done_calls, StepFits, fits_at}
 use Rattle.reg_world.proofs.witness.Times.{new_at}
 use Rattle.reg_world.proofs.one_memory.Joined.{Joined, pasts_now, told_now, call_cases, answer_added, calls_now}
 use Rattle.reg_world.proofs.one_memory.Added.{IsPastCall, IsPastAnswer, no_answer, called_new}
+
+-- each operation that the process has called is finished
+abbrev IsIdle : List Entry → ℕ → Type 0
+IsIdle es process = (id : OpId) → id.process ≡ process → WasCalled es id → IsFinished es id
 
 later_of : (es : List Entry) (at : ℕ) → ((x : Entry) → In x es → event_of x < at) → IsLater es at
 later_of es at h = go (last_of es) refl

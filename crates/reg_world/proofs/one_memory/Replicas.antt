@@ -22,7 +22,7 @@ use Rattle.reg_process.specs.Process.{State, Running, Own, Held, peer_at, is_own
 use Rattle.reg_world.specs.Nodes.{Said, Node, said, running_op, after_result, after_step}
 use Rattle.reg_front.specs.Fronts.{MayStart, KeepsLaws}
 use Rattle.reg_base.proofs.Orders.{Decides-below, Decides-at_most, below_trans, below_at_most}
-use Rattle.reg_base.proofs.Lists.{in_cases, DownIn, deliveries_filter}
+use Rattle.reg_base.proofs.Lists.{in_cases, DownIn, front_filter}
 use Rattle.reg_world.proofs.one_order.Firsts.{rising_end}
 
 -- the reply is the memory's, after the first casts of the list of deliveries
@@ -99,12 +99,12 @@ delivery_right registers s deliveries None copy count r = tt
 delivery_right registers s deliveries (Some (Own stamp op)) copy count r =
     let ds = clear_casts s in
     cond_both (list_any (λ c. (c.stamp.time == stamp.time) && (c.stamp.process == stamp.process)) ds) (Some (reply_after s (casts_before stamp ds) op)) None (SaidRight registers (deliveries ++ ds) op)
-    (λ _. reply_right registers s deliveries (casts_before stamp ds) _ ds op copy count (deliveries_filter (λ c. below c.stamp stamp) ds r (before_down stamp ds)))
+    (λ _. reply_right registers s deliveries (casts_before stamp ds) _ ds op copy count (front_filter (λ c. below c.stamp stamp) ds r (before_down stamp ds)))
     (λ _. tt)
 delivery_right registers s deliveries (Some (Held op)) copy count r =
     let ds = clear_casts s in
     cond_both (count_by (is_own s) ds == unsettled s) (Some (reply_after s (up_to_own s ds) op)) None (SaidRight registers (deliveries ++ ds) op)
-    (λ _. reply_right registers s deliveries (up_to_own s ds) _ ds op copy count (deliveries_filter (λ c. list_any (λ d. is_own s d && at_most c.stamp d.stamp) ds) ds r (own_down s ds)))
+    (λ _. reply_right registers s deliveries (up_to_own s ds) _ ds op copy count (front_filter (λ c. list_any (λ d. is_own s d && at_most c.stamp d.stamp) ds) ds r (own_down s ds)))
     (λ _. tt)
 
 quiet_replica : (registers : ℕ) (s s' : State) (deliveries : List Delivered) (replies : List Said) (op : Op) (o : Option Reply) → Replica registers s deliveries replies → s'.copy ≡ s.copy → s'.delivered ≡ s.delivered → SaidRight registers (deliveries ++ []) op o → Replica registers s' (deliveries ++ []) (replies ++ said op o)

@@ -13,7 +13,7 @@ use Rattle.reg_process.specs.Process.{State, Running, Own, Held, is_clear, is_ow
 use Rattle.reg_world.specs.Nodes.{running_op}
 use Rattle.reg_world.proofs.one_memory.Traced.{Called, Answered, Past, cast_of, Stands}
 use Rattle.reg_base.proofs.Orders.{Decides-below, Decides-at_most, below_irrefl}
-use Rattle.reg_base.proofs.Lists.{in_left, in_right, in_cases, in_filter, filter_in, rising_filter, deliveries_filter}
+use Rattle.reg_base.proofs.Lists.{in_left, in_right, in_cases, in_filter, filter_in, rising_filter, front_filter}
 use Rattle.reg_world.proofs.lists.Bodies.{place_first, place_split, place_within}
 use Rattle.reg_world.proofs.one_memory.Replicas.{any_found, any_finds, before_down, own_down}
 use Rattle.reg_world.proofs.one_order.Settled.{Runs, count_parts, count_cons}
@@ -105,7 +105,7 @@ own_placed s deliveries count rising_ds stamp op held t =
     let in_ds : In own (clear_casts s) = filter_in own (λ c. is_clear s c.stamp) s.held held clear in
     let test = λ (c : Delivered). below c.stamp stamp in
     let rest = filter (λ c. not (test c)) (clear_casts s) in
-    let parted = deliveries_filter test (clear_casts s) rising_ds (before_down stamp (clear_casts s)) in
+    let parted = front_filter test (clear_casts s) rising_ds (before_down stamp (clear_casts s)) in
     let not_below : test own ≡ false = elim (cases_Bool (test own)) [ inl q ↦ absurd (below_irrefl stamp ((Decides-below stamp stamp).0 q)) | inr q ↦ q ] in
     let in_rest : In own rest = filter_in own (λ c. not (test c)) (clear_casts s) in_ds (ap not not_below) in
     let head = head_is own rest (rising_filter (λ c. not (test c)) (clear_casts s) rising_ds) in_rest
@@ -126,7 +126,7 @@ module _ (p : ℕ) (s : State) (deliveries : List Delivered) (h : Past) (me : s.
       let cs = up_to_own s (clear_casts s) in
       let test = λ (c : Delivered). list_any (λ d. is_own s d && at_most c.stamp d.stamp) (clear_casts s) in
       let rest = filter (λ c. not (test c)) (clear_casts s) in
-      let parted : cs ++ rest ≡ clear_casts s = deliveries_filter test (clear_casts s) rising_ds (own_down s (clear_casts s)) in
+      let parted : cs ++ rest ≡ clear_casts s = front_filter test (clear_casts s) rising_ds (own_down s (clear_casts s)) in
       let all : deliveries ++ clear_casts s ≡ (deliveries ++ cs) ++ rest = ap (λ l. deliveries ++ l) (sym parted) ∙ sym (append_assoc deliveries cs rest) in
       let place : length (deliveries ++ cs) ≡ s.delivered + length cs = let z = length-append deliveries cs in omega (arith, z, count) in
       let taken : take (s.delivered + length cs) (deliveries ++ clear_casts s) ≡ deliveries ++ cs = ap (take (s.delivered + length cs)) all ∙ take_at (deliveries ++ cs) rest (s.delivered + length cs) place in
