@@ -25,10 +25,10 @@ use Rattle.reg_frames.specs.declared.bodies.Frame.TheVariants.{Numbered, Got}
 use Rattle.reg_process.proofs.Acks.{one_put}
 use Rattle.reg_process.specs.declared.faults.ProcessFault.{ProcessFault}
 use Rattle.reg_process.specs.declared.faults.ProcessFault.TheVariants.{Failed, NoProcess, Busy, NoRegister, TooManyOperations, Ahead, Stale, ClockFull, OutOfMemory}
-use Rattle.reg_process.specs.Faults.{early_fault, full_at, StopsAt, call_fault, is_out, early_body, frame_fault, take_fault, body_fault, FrameRefused, is_peer, is_stop}
+use Rattle.reg_process.specs.Faults.{early_fault, full_at, StopsAt, call_fault, is_out, early_body, frame_fault, take_fault, body_fault, FrameRefused, is_peer, is_stop, is_cast, is_numbered}
 use Rattle.reg_process.specs.declared.outcomes.Put.{Put}
 use Rattle.reg_process.specs.Steps.{MakesCast, Delivers, due}
-use Rattle.reg_process.specs.Events.{Goes, cast_start, Kept, Steps, Refused, process_fault}
+use Rattle.reg_process.specs.Events.{Goes, cast_start, Steps, Refused, process_fault}
 
 pub broadcasts : (runs : Bool) (s : State) (op : Op) (stamp : Stamp) (frames : List Put) (s1 : State) (ds : List Delivered) (d : Option Reply) (s2 : State) (reply : Option Reply) →
     MakesCast s op runs stamp frames s1 → Delivers s1 ds d s2 → reply ≡ cond runs d (Some (record { answer = Done; place = s.delivered })) → Goes (length s.peers) (called s op (cast_start runs)) frames (Some stamp) ds reply s2
@@ -57,23 +57,24 @@ holds s op start frames ds s' e f d q = subst (λ st. Goes (length s.peers) (cal
   outcome = record { put = f ∙ sym (nothing_put (length s.peers)); made = refl; casts = d; answer = refl };
 })
 
-module _ (start : Op → ℕ → Start) (f : Bool) (s : State) (op : Op) (st : Start) (s' : State) (runs : f ≡ false) (early : None ≡ early_fault s op s.running) (is : st ≡ start op (unsettled s)) where
-  faults : process_fault start (record { failed = f; state = s }) (Call op) ≡ full_at s.clock st
+module _ (start : Op → ℕ → Start) (f : Bool) (s : State) (room room' : ℕ) (op : Op) (st : Start) (s' : State) (runs : f ≡ false) (early : None ≡ early_fault s op s.running) (is : st ≡ start op (unsettled s)) where
+  faults : process_fault start (record { failed = f; state = s; room = room }) (Call op) ≡ full_at s.clock st
   faults =
       ap (λ b. cond b (Some Failed) (call_fault start s op)) runs
       ∙ ap (λ o. first_of o (full_at s.clock (start op (unsettled s)))) (sym early)
       ∙ ap (full_at s.clock) (sym is)
 
-  pub call_steps : (frames : List Put) (cast : Option Stamp) (ds : List Delivered) (reply : Option Reply) → full_at s.clock st ≡ None → Goes (length s.peers) (called s op st) frames cast ds reply s' → Steps start (record { failed = f; state = s }) (Call op) frames cast ds reply (record { failed = f; state = s' })
-  call_steps frames cast ds reply room g =
+  pub call_steps : (frames : List Put) (cast : Option Stamp) (ds : List Delivered) (reply : Option Reply) → full_at s.clock st ≡ None → room' ≡ cond (is_cast st) 0 room → Goes (length s.peers) (called s op st) frames cast ds reply s' → Steps start (record { failed = f; state = s; room = room }) (Call op) frames cast ds reply (record { failed = f; state = s'; room = room' })
+  call_steps frames cast ds reply due left g =
       let h : Goes (length s.peers) (called s op (start op (unsettled s))) frames cast ds reply s' = subst (λ x. Goes (length s.peers) (called s op x) frames cast ds reply s') is g in
       record {
-        no_fault = faults ∙ room;
-        state = ap (λ b. record { failed = b; state = s' }) runs ∙ ap (λ x. record { failed = false; state = x }) h.state;
+        no_fault = faults ∙ due;
+        state = (runs, h.state);
+        room = left ∙ ap (λ x. cond (is_cast x) 0 room) is;
         outcome = h.outcome;
       }
 
-  pub call_refused : (fault : ProcessFault) → StopsAt (full_at s.clock st) fault → Refused start (record { failed = f; state = s }) (Call op) fault (record { failed = true; state = s' })
+  pub call_refused : (fault : ProcessFault) → StopsAt (full_at s.clock st) fault → Refused start (record { failed = f; state = s; room = room }) (Call op) fault (record { failed = true; state = s'; room = room' })
   call_refused Failed h = absurd h
   call_refused NoProcess h = absurd h
   call_refused Busy h = absurd h
@@ -115,9 +116,6 @@ in_time s from x t body o e q l =
     sym (ap (λ b. cond b (Some NoRegister) (cond (nat_le (time_of body) (seen_at s from)) (Some Stale) None)) o ∙ ap (λ b. cond b (Some Stale) None) h)
 
 -- Frames.
-abbrev kept : Bool → State → Kept
-kept b x = record { failed = b; state = x }
-
 pub drop_goes : (s : State) (from number expected : ℕ) (body : Body) (frames : List Put) (ds : List Delivered) → expected ≡ (peer_at s from).expected → (number ≡ expected → ⊥) → from < length s.peers → frames ≡ put_to from (Got expected) ∷ [] → ds ≡ [] → Goes (length s.peers) (taken s from (Numbered number body)) frames None ds None s
 drop_goes s from number expected body frames ds e ne l f d =
     let no : (number == (peer_at s from).expected) ≡ false = ne_eqb number (peer_at s from).expected (λ q. ne (q ∙ sym e)) in
@@ -159,8 +157,8 @@ peer_parts s from h =
     let r = or_false (nat_le (length s.peers) from) (from == s.me) (not_true _ h) in
     ((let a = r.0 in grind (arith, nat_tests)), λ q. false≢true (sym r.1 ∙ eq-eqb from s.me q))
 
-module _ (start : Op → ℕ → Start) (f : Bool) (s : State) (from : ℕ) (frame : Frame) (runs : f ≡ false) where
-  pub no_process : is_peer s from ≡ false → Refused start (record { failed = f; state = s }) (Take from frame) NoProcess (record { failed = f; state = s })
+module _ (start : Op → ℕ → Start) (f : Bool) (s : State) (room : ℕ) (from : ℕ) (frame : Frame) (runs : f ≡ false) where
+  pub no_process : is_peer s from ≡ false → Refused start (record { failed = f; state = s; room = room }) (Take from frame) NoProcess (record { failed = f; state = s; room = room })
   no_process h =
       let o : (nat_le (length s.peers) from || from == s.me) ≡ true = not_false (nat_le (length s.peers) from || from == s.me) h in
       (ap (λ b. cond b (Some Failed) (take_fault s from frame)) runs ∙ ap (λ b. cond b (Some NoProcess) (frame_fault s from frame)) o, refl)
@@ -169,13 +167,14 @@ module _ (start : Op → ℕ → Start) (f : Bool) (s : State) (from : ℕ) (fra
       not_false true k = refl
       not_false false k = absurd (cc)
 
-  module _ (peer : is_peer s from ≡ true) (s' : State) where
-    take_faults : process_fault start (record { failed = f; state = s }) (Take from frame) ≡ frame_fault s from frame
+  module _ (peer : is_peer s from ≡ true) (s' : State) (room' : ℕ) where
+    take_faults : process_fault start (record { failed = f; state = s; room = room }) (Take from frame) ≡ frame_fault s from frame
     take_faults = ap (λ b. cond b (Some Failed) (take_fault s from frame)) runs ∙ ap (λ b. cond b (Some NoProcess) (frame_fault s from frame)) (not_true (nat_le (length s.peers) from || from == s.me) peer)
 
-    pub take_steps : (frames : List Put) (cast : Option Stamp) (ds : List Delivered) (reply : Option Reply) → frame_fault s from frame ≡ None → Goes (length s.peers) (taken s from frame) frames cast ds reply s' → Steps start (record { failed = f; state = s }) (Take from frame) frames cast ds reply (record { failed = f; state = s' })
-    take_steps frames cast ds reply room g = record {
-      no_fault = take_faults ∙ room;
-      state = ap (λ b. record { failed = b; state = s' }) runs ∙ ap (λ x. record { failed = false; state = x }) g.state;
+    pub take_steps : (frames : List Put) (cast : Option Stamp) (ds : List Delivered) (reply : Option Reply) → frame_fault s from frame ≡ None → room' ≡ cond (is_numbered frame) 0 room → Goes (length s.peers) (taken s from frame) frames cast ds reply s' → Steps start (record { failed = f; state = s; room = room }) (Take from frame) frames cast ds reply (record { failed = f; state = s'; room = room' })
+    take_steps frames cast ds reply due left g = record {
+      no_fault = take_faults ∙ due;
+      state = (runs, g.state);
+      room = left;
       outcome = g.outcome;
     }

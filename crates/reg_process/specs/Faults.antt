@@ -73,6 +73,12 @@ abbrev pub is_numbered : Frame → Bool
 is_numbered (Numbered number body) = true
 is_numbered (Got count) = false
 
+-- whether a frame can find no memory, where so many frames fit into the kept list: an accepted body, and a dropped one
+-- where there is no room for its answer, but never a count
+abbrev pub takes_memory : State → ℕ → ℕ → Frame → Bool
+takes_memory s room from (Numbered number body) = (number == (peer_at s from).expected) || (room == 0)
+takes_memory s room from (Got count) = false
+
 abbrev pub take_fault : State → ℕ → Frame → Option ProcessFault
 take_fault s from frame = if nat_le (length s.peers) from || from == s.me then Some NoProcess else frame_fault s from frame
 

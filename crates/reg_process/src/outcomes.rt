@@ -1,10 +1,11 @@
 //! What goes out of one event.
-ghost use Rattle.std.specs.Prelude.{◌≡◌, []};
+ghost use Rattle.std.specs.Prelude.{◌≡◌, max, [], vec_capacity};
 
 use crate::steps::Reply;
 use reg_base::{Delivered, Stamp};
 use reg_frames::Frame;
 use std::alloc::{Allocator, Global};
+use std::marker::Model;
 use std::mem;
 
 /// A frame, and the process that it is put for.
@@ -27,23 +28,35 @@ pub struct Outcome<A: Allocator + Copy = Global> {
     pub reply: Option<Reply>,
 }
 
-/// A list that a later event can put its frames in, so that it takes no memory for one.
+/// A list that a later event can put its frames in, so that it takes no memory for one. Contracts see how many frames fit.
 #[derive(Drop)]
-pub struct Spare<A: Allocator + Copy> {
+pub(crate) struct Spare<A: Allocator + Copy> {
     list: Vec<Put, A>,
+}
+
+impl<A: Allocator + Copy> Model for Spare<A> {
+    ghost use Rattle.std.specs.Prelude.{ℕ, vec_capacity};
+
+    ghost Value = { ℕ };
+
+    ghost view = { λ s. vec_capacity s.list };
 }
 
 impl<A: Allocator + Copy> Spare<A> {
     /// A list without room.
-    pub fn new(alloc: A) -> Spare<A> {
+    pub(crate) fn new(alloc: A) -> Spare<A>
+        ensures { result ≡ 0 }
+    {
         Spare {
             list: Vec::new(alloc),
         }
     }
 
     /// The list, with nothing in it. One without room stays.
-    pub fn take(&mut self, alloc: A) -> Vec<Put, A>
-        ensures { result.items ≡ [] }
+    pub(crate) fn take(&mut self, alloc: A) -> Vec<Put, A>
+        ensures empty { result.items ≡ [] }
+        ensures room { vec_capacity result ≡ self.old }
+        ensures left { self.new ≡ 0 }
     {
         let mut list = mem::replace(&mut self.list, Vec::new(alloc));
         list.clear();
@@ -51,7 +64,9 @@ impl<A: Allocator + Copy> Spare<A> {
     }
 
     /// Keeps a list for later, where it has more room.
-    pub fn keep(&mut self, list: Vec<Put, A>) {
+    pub(crate) fn keep(&mut self, list: Vec<Put, A>)
+        ensures { self.new ≡ max self.old (vec_capacity list) }
+    {
         if self.list.capacity() < list.capacity() {
             self.list = list;
         }

@@ -4,7 +4,7 @@ ghost use Rattle.reg_process.specs.Process.{pending_of, peer_at, next_of, acknow
 ghost use Rattle.reg_process.specs.Parts.{state_of, first_parts};
 ghost use Rattle.reg_process.specs.Puts.{puts};
 
-use crate::outcomes::{Put, Spare};
+use crate::outcomes::Put;
 use crate::puts::{new_inboxes, new_outboxes, pending_in, resend_all};
 use crate::running::Current;
 use reg_base::{Clock, Delivered, Registers, Shape};
@@ -19,7 +19,7 @@ mod taking;
 
 /// A process that has not failed.
 #[derive(Drop)]
-pub struct Core<A: Allocator + Copy> {
+pub(crate) struct Core<A: Allocator + Copy> {
     alloc: A,
     me: u8,
     clock: Clock,
@@ -31,7 +31,6 @@ pub struct Core<A: Allocator + Copy> {
     unsettled: u32,
     running: Option<Current>,
     calls: u32,
-    spare: Spare<A>,
 }
 
 impl<A: Allocator + Copy> Model for Core<A> {
@@ -47,7 +46,7 @@ impl<A: Allocator + Copy> Model for Core<A> {
 
 impl<A: Allocator + Copy> Core<A> {
     /// A process that did nothing yet.
-    pub fn new(alloc: A, me: u8, shape: Shape) -> Result<Core<A>, AllocError>
+    pub(crate) fn new(alloc: A, me: u8, shape: Shape) -> Result<Core<A>, AllocError>
         requires { me < shape.processes }
         ensures { IfOk result (λ c. c ≡ state_of (first_parts me shape.processes shape.registers)) }
     {
@@ -70,33 +69,32 @@ impl<A: Allocator + Copy> Core<A> {
             unsettled: 0,
             running: None,
             calls: 0,
-            spare: Spare::new(alloc),
         })
     }
 
     /// The number of own casts that are on their way.
-    pub fn unsettled(&self) -> u32
+    pub(crate) fn unsettled(&self) -> u32
         ensures { result ≡ unsettled self.now }
     {
         self.unsettled
     }
 
     /// The count of delivered casts.
-    pub fn delivered_count(&self) -> u64
+    pub(crate) fn delivered_count(&self) -> u64
         ensures { result ≡ self.now.delivered }
     {
         self.delivered
     }
 
     /// Whether an operation runs.
-    pub fn busy(&self) -> bool
+    pub(crate) fn busy(&self) -> bool
         ensures { result ≡ is_some self.now.running }
     {
         self.running.is_some()
     }
 
     /// The time now.
-    pub fn clock(&self) -> u64
+    pub(crate) fn clock(&self) -> u64
         ensures value { result ≡ self.now.clock }
         ensures numbers { (r : ℕ) → next_of (peer_at self.now r) ≤ result }
     {
@@ -104,36 +102,28 @@ impl<A: Allocator + Copy> Core<A> {
     }
 
     /// The copy of the registers.
-    pub fn registers(&self) -> &Registers<A>
+    pub(crate) fn registers(&self) -> &Registers<A>
         ensures { result.now ≡ self.now.copy }
     {
         &self.copy
     }
 
     /// How many bodies are not acknowledged, over all links.
-    pub fn pending(&self) -> u64
+    pub(crate) fn pending(&self) -> u64
         ensures { result ≡ pending_of self.now.peers }
     {
         pending_in(&self.outboxes, self.me)
     }
 
     /// Puts what is pending again.
-    pub fn tick(&self) -> Result<Vec<Put, A>, AllocError>
+    pub(crate) fn tick(&self) -> Result<Vec<Put, A>, AllocError>
         ensures { IfOk result (λ v. v.items ≡ puts (resent self.now) (length self.now.peers)) }
     {
-        let frames = resend_all(self.alloc, &self.outboxes, self.me)?;
-        Ok(frames)
-    }
-
-    /// Keeps a list of frames for a later event. Nothing else changes.
-    pub fn keep(&mut self, frames: Vec<Put, A>)
-        ensures { self.new ≡ self.old }
-    {
-        self.spare.keep(frames);
+        resend_all(self.alloc, &self.outboxes, self.me)
     }
 
     /// An empty list on the process's allocator.
-    pub fn none(&self) -> Vec<Delivered, A>
+    pub(crate) fn none(&self) -> Vec<Delivered, A>
         ensures { result.items ≡ [] }
     {
         Vec::new(self.alloc)

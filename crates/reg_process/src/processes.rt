@@ -1,13 +1,13 @@
 //! One process, with its stop.
-ghost use Rattle.std.specs.Prelude.{◌≡◌, ℕ, ◌<◌, ◌≤◌, MatchResult, IfOk, IfErr, is_some, false, true, IsErrOf};
+ghost use Rattle.std.specs.Prelude.{◌≡◌, ℕ, ◌<◌, ◌≤◌, MatchResult, IfOk, IfErr, is_some, max, false, true, IsErrOf, vec_capacity};
 ghost use Rattle.reg_process.specs.Process.{next_of, peer_at, pending_of, unsettled};
 ghost use Rattle.reg_process.specs.Parts.{state_of, first_parts};
 ghost use Rattle.reg_process.specs.declared.steps.Step.TheVariants.{Call, Take, Tick};
-ghost use Rattle.reg_process.specs.Faults.{NewRefused, is_cast, is_numbered};
+ghost use Rattle.reg_process.specs.Faults.{NewRefused, is_cast, takes_memory};
 ghost use Rattle.reg_process.specs.Events.{Steps, Refused};
 
 use crate::faults::{ProcessFault, is_stop};
-use crate::outcomes::{Outcome, Put};
+use crate::outcomes::{Outcome, Put, Spare};
 use crate::parts::Core;
 use reg_base::{Op, Registers, Shape};
 use reg_frames::Frame;
@@ -21,6 +21,7 @@ use std::marker::{Model, PhantomData};
 #[derive(Drop)]
 pub struct Process<F: FrontEnd, A: Allocator + Copy = Global> {
     core: Core<A>,
+    spare: Spare<A>,
     failed: bool,
     front: PhantomData<F>,
 }
@@ -30,13 +31,13 @@ impl<F: FrontEnd, A: Allocator + Copy> Model for Process<F, A> {
 
     ghost Value = { Kept };
 
-    ghost view = { λ p. record { failed = p.failed; state = p.core } };
+    ghost view = { λ p. record { failed = p.failed; state = p.core; room = p.spare } };
 }
 
 impl<F: FrontEnd, A: Allocator + Copy> Process<F, A> {
     /// A process that did nothing yet. Refused are a process that the shape does not have, and want of memory.
     pub fn new(alloc: A, shape: Shape, me: u8) -> Result<Process<F, A>, ProcessFault>
-        ensures made { IfOk result (λ p. (me < shape.processes) × (p ≡ record { failed = false; state = state_of (first_parts me shape.processes shape.registers) })) }
+        ensures made { IfOk result (λ p. (me < shape.processes) × (p ≡ record { failed = false; state = state_of (first_parts me shape.processes shape.registers); room = 0 })) }
         ensures fault { IfErr result (λ fault. NewRefused shape.processes me fault) }
     {
         if u32::from(me) >= shape.processes() {
@@ -47,6 +48,7 @@ impl<F: FrontEnd, A: Allocator + Copy> Process<F, A> {
         };
         Ok(Process {
             core,
+            spare: Spare::new(alloc),
             failed: false,
             front: PhantomData,
         })
@@ -95,11 +97,12 @@ impl<F: FrontEnd, A: Allocator + Copy> Process<F, A> {
         self.core.registers()
     }
 
-    /// Takes back the list of an event's frames, so that a later event takes no memory for one. Nothing else changes.
+    /// Takes back the list of an event's frames, so that a later event takes no memory for one. Of this list and the one that
+    /// it has, it keeps the one with more room. Nothing else changes.
     pub fn reuse(&mut self, frames: Vec<Put, A>)
-        ensures { self.new ≡ self.old }
+        ensures { self.new ≡ record self.old { room = max self.old.room (vec_capacity frames) } }
     {
-        self.core.keep(frames);
+        self.spare.keep(frames);
     }
 
     /// Puts the first unacknowledged data frames of every link again. The clock stays as it is.
@@ -123,11 +126,12 @@ impl<F: FrontEnd, A: Allocator + Copy> Process<F, A> {
     }
 
     /// Takes a frame that another process put for it. A data frame out of turn is dropped and answered by the count of those
-    /// accepted; an expected one is accepted, and what is clear then is delivered. A count takes no memory.
+    /// accepted; an expected one is accepted, and what is clear then is delivered. A count takes no
+    /// memory, nor does a dropped frame where the kept list has room for its answer.
     #[inline(always)]
     pub fn take(&mut self, from: u8, frame: &Frame) -> Result<Outcome<A>, ProcessFault>
         ensures taken { MatchResult result (λ o. Steps F.start self.old (Take from frame.now) o.frames.items o.cast o.delivered.items o.reply self.new) (λ fault. Refused F.start self.old (Take from frame.now) fault self.new) }
-        ensures memory { IsErrOf result ProcessFault.OutOfMemory → is_numbered frame.now ≡ true }
+        ensures memory { IsErrOf result ProcessFault.OutOfMemory → takes_memory self.old.state self.old.room from frame.now ≡ true }
     {
         if self.failed {
             return Err(ProcessFault::Failed);
@@ -135,7 +139,7 @@ impl<F: FrontEnd, A: Allocator + Copy> Process<F, A> {
         if !self.core.is_peer(from) {
             return Err(ProcessFault::NoProcess);
         }
-        match self.core.take_frame(from, frame) {
+        match self.core.take_frame(&mut self.spare, from, frame) {
             Ok(outcome) => Ok(outcome),
             Err(fault) => {
                 self.failed = is_stop(fault);
@@ -157,7 +161,7 @@ impl<F: FrontEnd, A: Allocator + Copy> Process<F, A> {
             return Err(fault);
         }
         let start = F::start(&op, self.core.unsettled());
-        match self.core.begin(op, start) {
+        match self.core.begin(&mut self.spare, op, start) {
             Ok(outcome) => Ok(outcome),
             Err(fault) => {
                 self.failed = true;

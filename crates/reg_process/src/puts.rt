@@ -1,5 +1,5 @@
 //! Bodies queued for all other processes, and the frames put.
-ghost use Rattle.std.specs.Prelude.{◌≡◌, ◌<◌, ◌≤◌, ◌+◌, ◌++◌, ◌∷◌, [], length, map, replicate, IfOk, OnOk};
+ghost use Rattle.std.specs.Prelude.{◌≡◌, ◌<◌, ◌≤◌, ◌+◌, ◌++◌, ◌∷◌, [], length, map, replicate, IfOk, OnOk, OnErr, vec_capacity};
 ghost use Rattle.reg_links.specs.Sending.{link_to};
 ghost use Rattle.reg_frames.specs.declared.bodies.Frame.TheVariants.{Got};
 ghost use Rattle.reg_base.specs.declared.limits.TheConstants.{FRAME_NUMBERS, MOST_PROCESSES};
@@ -106,14 +106,15 @@ pub fn queue_on_all<A: Allocator + Copy>(
     Ok(frames)
 }
 
-/// Puts a count alone in an empty list.
+/// Puts a count alone in an empty list. Memory is wanting only where the list has no room.
 pub fn got_alone<A: Allocator + Copy>(
     mut frames: Vec<Put, A>,
     to: u8,
     count: u64,
 ) -> Result<Vec<Put, A>, AllocError>
     requires { frames.items ≡ [] }
-    ensures { IfOk result (λ v. v.items ≡ put_to to (Got count) ∷ []) }
+    ensures frames { IfOk result (λ v. v.items ≡ put_to to (Got count) ∷ []) }
+    ensures memory { OnErr result (vec_capacity frames ≡ 0) }
 {
     frames.push(Put {
         to,

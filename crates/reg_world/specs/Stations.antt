@@ -1,5 +1,5 @@
 -- One process with its wires, and one event of it.
-use Rattle.std.specs.Prelude.{ℕ, ◌≡◌, zero, suc, false, List, [], ◌∷◌, ◌++◌, length, Option, None, slice_set, slice_index_or}
+use Rattle.std.specs.Prelude.{ℕ, ◌≡◌, zero, suc, Bool, false, List, [], ◌∷◌, ◌++◌, length, Option, None, slice_set, slice_index_or}
 use Rattle.reg_base.specs.declared.stamps.Stamp.{Stamp}
 use Rattle.reg_base.specs.declared.stamps.Delivered.{Delivered}
 use Rattle.reg_base.specs.declared.memory.Op.{Op}
@@ -8,14 +8,14 @@ use Rattle.reg_front.specs.declared.starts.Start.{Start}
 use Rattle.reg_process.specs.declared.outcomes.Put.{Put}
 use Rattle.reg_process.specs.declared.steps.Reply.{Reply}
 use Rattle.reg_process.specs.declared.steps.Step.{Step}
-use Rattle.reg_process.specs.Process.{step}
+use Rattle.reg_process.specs.Process.{State, step}
 use Rattle.reg_process.specs.Puts.{puts}
 use Rattle.reg_process.specs.Faults.{step_fault}
-use Rattle.reg_process.specs.Events.{Kept}
 
--- a process, and all frames that it ever put for each process
+-- whether a process has stopped, its state, and all frames that it ever put for each process
 pub record Standing : Type 0 where
-  pub process : Kept
+  pub failed : Bool
+  pub state : State
   pub wires : List (List Frame)
 
 -- the wires after these frames were put
@@ -30,14 +30,15 @@ listed f (suc n) = listed f n ++ f n ∷ []
 
 -- no fault applies to the step
 pub record MayAct (start : Op → ℕ → Start) (s : Standing) (e : Step) : Type 0 where
-  pub stands : s.process.failed ≡ false
-  pub none : step_fault start s.process.state e ≡ None
-  pub wires : length s.wires ≡ length s.process.state.peers
+  pub stands : s.failed ≡ false
+  pub none : step_fault start s.state e ≡ None
+  pub wires : length s.wires ≡ length s.state.peers
 
 -- the step was made
 pub record Acts (start : Op → ℕ → Start) (old : Standing) (e : Step) (made : Option Stamp) (casts : List Delivered) (answer : Option Reply) (new : Standing) : Type 0 where
-  pub process : new.process ≡ record { failed = false; state = (step start old.process.state e).0 }
-  pub wires : new.wires ≡ sent (puts (step start old.process.state e).1.frames (length old.process.state.peers)) old.wires
-  pub cast : made ≡ (step start old.process.state e).1.cast
-  pub delivered : casts ≡ (step start old.process.state e).1.delivered
-  pub reply : answer ≡ (step start old.process.state e).1.reply
+  pub runs : new.failed ≡ false
+  pub state : new.state ≡ (step start old.state e).0
+  pub wires : new.wires ≡ sent (puts (step start old.state e).1.frames (length old.state.peers)) old.wires
+  pub cast : made ≡ (step start old.state e).1.cast
+  pub delivered : casts ≡ (step start old.state e).1.delivered
+  pub reply : answer ≡ (step start old.state e).1.reply

@@ -10,7 +10,7 @@ use Rattle.reg_process.specs.declared.steps.Reply.{Reply}
 use Rattle.reg_process.specs.declared.steps.Step.{Step}
 use Rattle.reg_process.specs.declared.steps.Step.TheVariants.{Call as CallStep, Take as TakeStep, Tick as TickStep}
 use Rattle.reg_process.specs.Process.{step}
-use Rattle.reg_process.specs.Events.{Kept}
+use Rattle.reg_process.specs.Events.{Kept, IsGoing}
 use Rattle.reg_process.specs.Parts.{state_of, first_parts}
 use Rattle.reg_history.specs.declared.entries.Entry.{Entry}
 use Rattle.reg_history.specs.History.{IsAt}
@@ -78,7 +78,7 @@ pub record Tells (start : Op → ℕ → Start) (b : Pages) : Type 0 where
 
 -- a process of the run with its wires
 abbrev pub standing_of : ℕ → World → ℕ → Standing
-standing_of n w p = record { process = record { failed = false; state = (w.nodes p).state }; wires = listed (w.nodes p).wire n }
+standing_of n w p = record { failed = false; state = (w.nodes p).state; wires = listed (w.nodes p).wire n }
 
 -- the processes stand as the run has them
 pub record Stand (start : Op → ℕ → Start) (b : Pages) (stations : List Standing) : Type 0 where
@@ -167,11 +167,11 @@ RunRefuses start shape events at fault = (e : Event) × IsAt events at e × (ref
 
 -- a process that did nothing yet
 abbrev pub first_standing : Extent → ℕ → Standing
-first_standing shape p = record { process = record { failed = false; state = state_of (first_parts p shape.processes shape.registers) }; wires = replicate shape.processes [] }
+first_standing shape p = record { failed = false; state = state_of (first_parts p shape.processes shape.registers); wires = replicate shape.processes [] }
 
 -- the process p of the run, unless the world has stopped
 abbrev pub IsProcess : (Op → ℕ → Start) → Made → ℕ → Kept → Type 0
-IsProcess start w p k = (p < w.processes) × (w.failed ≡ false → k ≡ record { failed = false; state = ((run_in start w).nodes p).state })
+IsProcess start w p k = (p < w.processes) × (w.failed ≡ false → IsGoing k ((run_in start w).nodes p).state)
 
 -- all frames ever put from one process to another, unless the world has stopped
 abbrev pub IsWire : (Op → ℕ → Start) → Made → ℕ → ℕ → List Frame → Type 0

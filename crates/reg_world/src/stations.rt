@@ -27,13 +27,13 @@ impl<F: FrontEnd, A: Allocator + Copy> Model for Station<F, A> {
 
     ghost Value = { Standing };
 
-    ghost view = { λ s. record { process = s.process; wires = s.wires } };
+    ghost view = { λ s. record { failed = s.process.failed; state = s.process.state; wires = s.wires } };
 }
 
 impl<F: FrontEnd, A: Allocator + Copy> Station<F, A> {
     /// A process that did nothing yet.
     pub(crate) fn new(alloc: A, shape: Shape, me: u8) -> Result<Station<F, A>, AllocError>
-        ensures { IfOk result (λ s. s ≡ record { process = record { failed = false; state = state_of (first_parts me shape.processes shape.registers) }; wires = replicate shape.processes [] }) }
+        ensures { IfOk result (λ s. s ≡ record { failed = false; state = state_of (first_parts me shape.processes shape.registers); wires = replicate shape.processes [] }) }
     {
         let Ok(process) = Process::new(alloc, shape, me) else {
             return Err(AllocError);
@@ -44,7 +44,8 @@ impl<F: FrontEnd, A: Allocator + Copy> Station<F, A> {
 
     /// The process.
     pub(crate) fn process(&self) -> &Process<F, A>
-        ensures { result.now ≡ self.now.process }
+        ensures failed { result.now.failed ≡ self.now.failed }
+        ensures state { result.now.state ≡ self.now.state }
     {
         &self.process
     }

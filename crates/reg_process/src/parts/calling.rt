@@ -1,5 +1,5 @@
 //! The calls of a process: how operations start.
-ghost use Rattle.std.specs.Prelude.{◌≡◌, ◌<◌, ◌+◌, length, MatchResult, IfOk, OnOk, IfErr, cond, nat_le, Some, None, true, if◌then◌else◌};
+ghost use Rattle.std.specs.Prelude.{◌≡◌, ◌<◌, ◌+◌, [], length, MatchResult, IfOk, OnOk, IfErr, cond, nat_le, Some, None, true, if◌then◌else◌};
 ghost use Rattle.reg_base.specs.Memory.{after, register_of};
 ghost use Rattle.reg_process.specs.Process.{unsettled, look as look_of, called};
 ghost use Rattle.reg_process.specs.Process.{Held};
@@ -13,7 +13,7 @@ ghost use Rattle.reg_process.specs.Steps.{own_running, MakesCast};
 
 use super::Core;
 use crate::faults::ProcessFault;
-use crate::outcomes::{Outcome, Put};
+use crate::outcomes::{Outcome, Put, Spare};
 use crate::puts::queue_on_all;
 use crate::running::Current;
 use crate::steps::Reply;
@@ -50,7 +50,7 @@ fn reply_to(runs: bool, due: Option<Reply>, place: u64) -> Option<Reply>
 
 impl<A: Allocator + Copy> Core<A> {
     /// Why a call is refused before it starts.
-    pub fn refuses_call(&self, op: &Op) -> Option<ProcessFault>
+    pub(crate) fn refuses_call(&self, op: &Op) -> Option<ProcessFault>
         ensures { result ≡ early_fault self.now op.now self.now.running }
     {
         if self.running.is_some() {
@@ -65,8 +65,13 @@ impl<A: Allocator + Copy> Core<A> {
         None
     }
 
-    /// Starts an operation.
-    pub fn begin(&mut self, op: Op, start: Start) -> Result<Outcome<A>, ProcessFault>
+    /// Starts an operation. One that is cast puts its frames into the spare list.
+    pub(crate) fn begin(
+        &mut self,
+        spare: &mut Spare<A>,
+        op: Op,
+        start: Start,
+    ) -> Result<Outcome<A>, ProcessFault>
         requires register { register_of op < length self.old.copy }
         requires calls { self.old.calls < MOST_OPERATIONS }
         requires may { MayStart op (unsettled self.old) start }
@@ -74,10 +79,17 @@ impl<A: Allocator + Copy> Core<A> {
         ensures room { OnOk result (full_at self.old.clock start ≡ None) }
         ensures fault { IfErr result (λ fault. StopsAt (full_at self.old.clock start) fault) }
         ensures memory { IfErr result (λ _. is_cast start ≡ true) }
+        ensures list { OnOk result (spare.new ≡ (if is_cast start then 0 else spare.old)) }
     {
         match start {
-            Start::Cast => self.broadcast(op, true),
-            Start::CastAndAnswer => self.broadcast(op, false),
+            Start::Cast => {
+                let list = spare.take(self.alloc);
+                self.broadcast(list, op, true)
+            }
+            Start::CastAndAnswer => {
+                let list = spare.take(self.alloc);
+                self.broadcast(list, op, false)
+            }
             Start::Look => {
                 let reply = self.look(op);
                 Ok(Outcome {
@@ -100,7 +112,7 @@ impl<A: Allocator + Copy> Core<A> {
     }
 
     /// Holds a read.
-    pub fn hold(&mut self, op: Op)
+    fn hold(&mut self, op: Op)
         requires register { register_of op < length self.old.copy }
         requires calls { self.old.calls < MOST_OPERATIONS }
         requires waits { 0 < unsettled self.old }
@@ -111,7 +123,7 @@ impl<A: Allocator + Copy> Core<A> {
     }
 
     /// Answers from the copy at once.
-    pub fn look(&mut self, op: Op) -> Reply
+    fn look(&mut self, op: Op) -> Reply
         requires register { register_of op < length self.old.copy }
         requires calls { self.old.calls < MOST_OPERATIONS }
         ensures reply { result ≡ look_of self.old op }
@@ -126,8 +138,14 @@ impl<A: Allocator + Copy> Core<A> {
         }
     }
 
-    /// Casts an operation, and delivers what is clear.
-    pub fn broadcast(&mut self, op: Op, runs: bool) -> Result<Outcome<A>, ProcessFault>
+    /// Casts an operation with its frames in an empty list, and delivers what is clear.
+    fn broadcast(
+        &mut self,
+        list: Vec<Put, A>,
+        op: Op,
+        runs: bool,
+    ) -> Result<Outcome<A>, ProcessFault>
+        requires empty { list.items ≡ [] }
         requires register { register_of op < length self.old.copy }
         requires calls { self.old.calls < MOST_OPERATIONS }
         ensures goes { IfOk result (λ o. Goes (length self.old.peers) (called self.old op (cast_start runs)) o.frames.items o.cast o.delivered.items o.reply self.new) }
@@ -135,10 +153,7 @@ impl<A: Allocator + Copy> Core<A> {
         ensures fault { IfErr result (λ fault. Stops (nat_le LAST_TIME self.old.clock) fault) }
     {
         let place = self.delivered_count();
-        let (stamp, frames) = match self.cast(op, runs) {
-            Ok(made) => made,
-            Err(fault) => return Err(fault),
-        };
+        let (stamp, frames) = self.cast(list, op, runs)?;
         let Ok((delivered, due)) = self.deliver() else {
             return Err(ProcessFault::OutOfMemory);
         };
@@ -151,7 +166,13 @@ impl<A: Allocator + Copy> Core<A> {
     }
 
     /// Makes an own cast, which the operation may run for.
-    pub fn cast(&mut self, op: Op, runs: bool) -> Result<(Stamp, Vec<Put, A>), ProcessFault>
+    fn cast(
+        &mut self,
+        list: Vec<Put, A>,
+        op: Op,
+        runs: bool,
+    ) -> Result<(Stamp, Vec<Put, A>), ProcessFault>
+        requires empty { list.items ≡ [] }
         requires register { register_of op < length self.old.copy }
         requires calls { self.old.calls < MOST_OPERATIONS }
         ensures { MatchResult result (λ r. MakesCast self.old op runs r.0 r.1.items self.new) (λ fault. Stops (nat_le LAST_TIME self.old.clock) fault) }
@@ -164,7 +185,6 @@ impl<A: Allocator + Copy> Core<A> {
             process: self.me,
         };
         let body = Body::Cast { time, op };
-        let list = self.spare.take(self.alloc);
         let queued = queue_on_all(list, &mut self.outboxes, self.me, body, None);
         let Ok(frames) = queued else {
             return Err(ProcessFault::OutOfMemory);

@@ -88,7 +88,7 @@ impl<A: Allocator + Copy> Core<A> {
     }
 
     /// Delivers all clear casts.
-    pub fn deliver(&mut self) -> Result<(Vec<Delivered, A>, Option<Reply>), AllocError>
+    pub(crate) fn deliver(&mut self) -> Result<(Vec<Delivered, A>, Option<Reply>), AllocError>
         ensures { IfOk result (λ r. Delivers self.old r.0.items r.1 self.new) }
     {
         let mut delivered = Vec::new(self.alloc);

@@ -1,8 +1,8 @@
 //! The frames that a process takes.
-ghost use Rattle.std.specs.Prelude.{◌≡◌, ◌<◌, ◌+◌, ◌∷◌, [], length, MatchResult, IfOk, OnOk, OnErr, IfErr, max, not, nat_le, nat_lt, slice_index, slice_set, Some, None, true, IsErrOf, if◌then◌else◌};
+ghost use Rattle.std.specs.Prelude.{◌≡◌, ◌<◌, ◌+◌, ◌∷◌, [], length, MatchResult, IfOk, OnOk, OnErr, IfErr, max, not, nat_le, nat_lt, slice_index, slice_set, Some, None, false, true, IsErrOf, if◌then◌else◌};
 ghost use Rattle.reg_base.specs.Memory.{after, register_of};
 ghost use Rattle.reg_process.specs.Process.{peer_at, seen_at, next_of, acknowledged, accepted, taken, time_of};
-ghost use Rattle.reg_process.specs.Faults.{Stops, StopsAt, early_body, full_by, is_out as is_out_of, is_peer as is_peer_of, frame_fault, FrameRefused, is_numbered};
+ghost use Rattle.reg_process.specs.Faults.{Stops, StopsAt, early_body, full_by, is_out as is_out_of, is_peer as is_peer_of, frame_fault, FrameRefused, is_numbered, takes_memory, is_stop};
 ghost use Rattle.reg_frames.specs.declared.bodies.Body.TheVariants.{Cast, Ack};
 ghost use Rattle.reg_frames.specs.declared.bodies.Frame.TheVariants.{Numbered, Got};
 ghost use Rattle.reg_base.specs.declared.limits.TheConstants.{LAST_TIME, FRAME_NUMBERS};
@@ -13,7 +13,7 @@ ghost use Rattle.reg_process.specs.Steps.{TakesCast, TakesAck};
 
 use super::Core;
 use crate::faults::ProcessFault;
-use crate::outcomes::{Outcome, Put};
+use crate::outcomes::{Outcome, Put, Spare};
 use crate::puts::{got_alone, queue_on_all};
 use reg_base::{Op, Stamp};
 use reg_frames::{Body, Frame};
@@ -73,7 +73,7 @@ fn hear<A: Allocator + Copy>(waiting: &mut Holdback<A>, stamp: Stamp)
 
 impl<A: Allocator + Copy> Core<A> {
     /// Whether there is another process of this number.
-    pub fn is_peer(&self, from: u8) -> bool
+    pub(crate) fn is_peer(&self, from: u8) -> bool
         ensures { result ≡ is_peer_of self.now from }
     {
         (from as usize) < self.inboxes.len() && from != self.me
@@ -87,24 +87,30 @@ impl<A: Allocator + Copy> Core<A> {
         self.inboxes[from as usize].expected()
     }
 
-    /// Takes a frame.
+    /// Takes a frame. An answer to one with a body is put into the spare list.
     #[inline(always)]
-    pub fn take_frame(&mut self, from: u8, frame: &Frame) -> Result<Outcome<A>, ProcessFault>
+    pub(crate) fn take_frame(
+        &mut self,
+        spare: &mut Spare<A>,
+        from: u8,
+        frame: &Frame,
+    ) -> Result<Outcome<A>, ProcessFault>
         requires peer { from < length self.old.peers }
         requires other { from ≡ self.old.me → ⊥ }
         ensures goes { IfOk result (λ o. Goes (length self.old.peers) (taken self.old from frame.now) o.frames.items o.cast o.delivered.items o.reply self.new) }
         ensures room { OnOk result (frame_fault self.old from frame.now ≡ None) }
         ensures fault { IfErr result (λ fault. FrameRefused (frame_fault self.old from frame.now) self.old fault self.new) }
-        ensures memory { IsErrOf result ProcessFault.OutOfMemory → is_numbered frame.now ≡ true }
+        ensures memory { IsErrOf result ProcessFault.OutOfMemory → takes_memory self.old spare.old from frame.now ≡ true }
+        ensures list { MatchResult result (λ _. spare.new ≡ (if is_numbered frame.now then 0 else spare.old)) (λ fault. is_stop fault ≡ false → spare.new ≡ spare.old) }
     {
         match *frame {
-            Frame::Numbered { number, body } => self.take_body(from, number, body),
+            Frame::Numbered { number, body } => self.take_body(spare, from, number, body),
             Frame::Got { count } => self.take_got(from, count),
         }
     }
 
     /// Takes a count.
-    pub fn take_got(&mut self, from: u8, count: u64) -> Result<Outcome<A>, ProcessFault>
+    fn take_got(&mut self, from: u8, count: u64) -> Result<Outcome<A>, ProcessFault>
         requires peer { from < length self.old.peers }
         requires other { from ≡ self.old.me → ⊥ }
         ensures goes { IfOk result (λ o. Goes (length self.old.peers) (taken self.old from (Got count)) o.frames.items o.cast o.delivered.items o.reply self.new) }
@@ -124,7 +130,7 @@ impl<A: Allocator + Copy> Core<A> {
     }
 
     /// Drops what a process has accepted. False where the count is above what was queued.
-    pub fn acknowledge(&mut self, from: u8, count: u64) -> bool
+    fn acknowledge(&mut self, from: u8, count: u64) -> bool
         requires peer { from < length self.old.peers }
         requires other { from ≡ self.old.me → ⊥ }
         ensures answer { result ≡ not (nat_lt (next_of (peer_at self.old from)) count) }
@@ -133,19 +139,11 @@ impl<A: Allocator + Copy> Core<A> {
         self.outboxes.got(from, count).is_ok()
     }
 
-    /// Puts a count alone. Nothing changes.
-    fn put_count(&mut self, to: u8, count: u64) -> Result<Vec<Put, A>, AllocError>
-        ensures frames { IfOk result (λ v. v.items ≡ put_to to (Got count) ∷ []) }
-        ensures same { self.new ≡ self.old }
-    {
-        let list = self.spare.take(self.alloc);
-        got_alone(list, to, count)
-    }
-
     /// Takes a data frame.
     #[inline(always)]
-    pub fn take_body(
+    fn take_body(
         &mut self,
+        spare: &mut Spare<A>,
         from: u8,
         number: u64,
         body: Body,
@@ -155,10 +153,13 @@ impl<A: Allocator + Copy> Core<A> {
         ensures goes { IfOk result (λ o. Goes (length self.old.peers) (taken self.old from (Numbered number body)) o.frames.items o.cast o.delivered.items o.reply self.new) }
         ensures room { OnOk result (frame_fault self.old from (Numbered number body) ≡ None) }
         ensures fault { IfErr result (λ fault. FrameRefused (frame_fault self.old from (Numbered number body)) self.old fault self.new) }
+        ensures memory { IsErrOf result ProcessFault.OutOfMemory → takes_memory self.old spare.old from (Numbered number body) ≡ true }
+        ensures list { MatchResult result (λ _. spare.new ≡ 0) (λ fault. is_stop fault ≡ false → spare.new ≡ spare.old) }
     {
         let expected = self.expected(from);
         if number != expected {
-            let Ok(frames) = self.put_count(from, expected) else {
+            let list = spare.take(self.alloc);
+            let Ok(frames) = got_alone(list, from, expected) else {
                 return Err(ProcessFault::OutOfMemory);
             };
             return Ok(Outcome {
@@ -171,10 +172,8 @@ impl<A: Allocator + Copy> Core<A> {
         if let Some(fault) = self.refuses_body(from, &body) {
             return Err(fault);
         }
-        match self.accept(from, body) {
-            Ok(outcome) => Ok(outcome),
-            Err(fault) => Err(fault),
-        }
+        let list = spare.take(self.alloc);
+        self.accept(list, from, body)
     }
 
     /// Whether a body's cast names no register.
@@ -188,7 +187,7 @@ impl<A: Allocator + Copy> Core<A> {
     }
 
     /// Why an expected body is refused, a full clock aside.
-    pub fn refuses_body(&self, from: u8, body: &Body) -> Option<ProcessFault>
+    fn refuses_body(&self, from: u8, body: &Body) -> Option<ProcessFault>
         requires peer { from < length self.now.peers }
         requires other { from ≡ self.now.me → ⊥ }
         ensures { result ≡ early_body self.now from body.now }
@@ -206,8 +205,14 @@ impl<A: Allocator + Copy> Core<A> {
         None
     }
 
-    /// Accepts an expected body, and delivers what is clear.
-    pub fn accept(&mut self, from: u8, body: Body) -> Result<Outcome<A>, ProcessFault>
+    /// Accepts an expected body, answers it in an empty list, and delivers what is clear.
+    fn accept(
+        &mut self,
+        list: Vec<Put, A>,
+        from: u8,
+        body: Body,
+    ) -> Result<Outcome<A>, ProcessFault>
+        requires empty { list.items ≡ [] }
         requires peer { from < length self.old.peers }
         requires other { from ≡ self.old.me → ⊥ }
         requires early { early_body self.old from body ≡ None }
@@ -216,12 +221,19 @@ impl<A: Allocator + Copy> Core<A> {
         ensures fault { IfErr result (λ fault. StopsAt (full_by self.old body) fault) }
     {
         match body {
-            Body::Cast { time, op } => self.take_cast(from, time, op),
-            Body::Ack { time } => self.take_ack(from, time),
+            Body::Cast { time, op } => self.take_cast(list, from, time, op),
+            Body::Ack { time } => self.take_ack(list, from, time),
         }
     }
 
-    fn take_cast(&mut self, from: u8, time: u64, op: Op) -> Result<Outcome<A>, ProcessFault>
+    fn take_cast(
+        &mut self,
+        list: Vec<Put, A>,
+        from: u8,
+        time: u64,
+        op: Op,
+    ) -> Result<Outcome<A>, ProcessFault>
+        requires empty { list.items ≡ [] }
         requires peer { from < length self.old.peers }
         requires other { from ≡ self.old.me → ⊥ }
         requires register { register_of op < length self.old.copy }
@@ -230,10 +242,7 @@ impl<A: Allocator + Copy> Core<A> {
         ensures room { OnOk result (max self.old.clock time < LAST_TIME) }
         ensures fault { IfErr result (λ fault. Stops (nat_le LAST_TIME (max self.old.clock time)) fault) }
     {
-        let frames = match self.accept_cast(from, time, op) {
-            Ok(frames) => frames,
-            Err(fault) => return Err(fault),
-        };
+        let frames = self.accept_cast(list, from, time, op)?;
         let Ok((delivered, reply)) = self.deliver() else {
             return Err(ProcessFault::OutOfMemory);
         };
@@ -245,7 +254,13 @@ impl<A: Allocator + Copy> Core<A> {
         })
     }
 
-    fn take_ack(&mut self, from: u8, time: u64) -> Result<Outcome<A>, ProcessFault>
+    fn take_ack(
+        &mut self,
+        list: Vec<Put, A>,
+        from: u8,
+        time: u64,
+    ) -> Result<Outcome<A>, ProcessFault>
+        requires empty { list.items ≡ [] }
         requires peer { from < length self.old.peers }
         requires other { from ≡ self.old.me → ⊥ }
         requires fresh { seen_at self.old from < time }
@@ -253,10 +268,7 @@ impl<A: Allocator + Copy> Core<A> {
         ensures room { OnOk result (max self.old.clock time < LAST_TIME) }
         ensures fault { IfErr result (λ fault. Stops (nat_le LAST_TIME (max self.old.clock time)) fault) }
     {
-        let frames = match self.accept_ack(from, time) {
-            Ok(frames) => frames,
-            Err(fault) => return Err(fault),
-        };
+        let frames = self.accept_ack(list, from, time)?;
         let Ok((delivered, reply)) = self.deliver() else {
             return Err(ProcessFault::OutOfMemory);
         };
@@ -269,7 +281,14 @@ impl<A: Allocator + Copy> Core<A> {
     }
 
     /// Takes in a cast of another process, and acknowledges it to all.
-    pub fn accept_cast(&mut self, from: u8, time: u64, op: Op) -> Result<Vec<Put, A>, ProcessFault>
+    fn accept_cast(
+        &mut self,
+        list: Vec<Put, A>,
+        from: u8,
+        time: u64,
+        op: Op,
+    ) -> Result<Vec<Put, A>, ProcessFault>
+        requires empty { list.items ≡ [] }
         requires peer { from < length self.old.peers }
         requires other { from ≡ self.old.me → ⊥ }
         requires register { register_of op < length self.old.copy }
@@ -280,9 +299,8 @@ impl<A: Allocator + Copy> Core<A> {
             return Err(ProcessFault::ClockFull);
         };
         let count = self.inboxes[from as usize].expected() + 1;
-        let body = Body::Ack { time: now };
-        let list = self.spare.take(self.alloc);
-        let queued = queue_on_all(list, &mut self.outboxes, self.me, body, Some((from, count)));
+        let ack = Body::Ack { time: now };
+        let queued = queue_on_all(list, &mut self.outboxes, self.me, ack, Some((from, count)));
         let Ok(frames) = queued else {
             return Err(ProcessFault::OutOfMemory);
         };
@@ -293,12 +311,18 @@ impl<A: Allocator + Copy> Core<A> {
         let Ok(()) = hold_cast(&mut self.waiting, stamp, op) else {
             return Err(ProcessFault::OutOfMemory);
         };
-        expect_next(&mut self.inboxes, from, body);
+        expect_next(&mut self.inboxes, from, Body::Cast { time, op });
         Ok(frames)
     }
 
     /// Takes in an acknowledgement of another process.
-    pub fn accept_ack(&mut self, from: u8, time: u64) -> Result<Vec<Put, A>, ProcessFault>
+    fn accept_ack(
+        &mut self,
+        list: Vec<Put, A>,
+        from: u8,
+        time: u64,
+    ) -> Result<Vec<Put, A>, ProcessFault>
+        requires empty { list.items ≡ [] }
         requires peer { from < length self.old.peers }
         requires other { from ≡ self.old.me → ⊥ }
         requires fresh { seen_at self.old from < time }
@@ -308,7 +332,6 @@ impl<A: Allocator + Copy> Core<A> {
             return Err(ProcessFault::ClockFull);
         };
         let count = self.inboxes[from as usize].expected() + 1;
-        let list = self.spare.take(self.alloc);
         let Ok(frames) = got_alone(list, from, count) else {
             return Err(ProcessFault::OutOfMemory);
         };

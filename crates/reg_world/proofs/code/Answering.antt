@@ -62,12 +62,12 @@ module _ (start : Op → ℕ → Start) (laws : KeepsLaws start) (failed : Bool)
     stands : (p : ℕ) (s : Standing) → IsAt stations p s → p < length stations → failed ≡ false → s ≡ standing_of b.shape.processes w p
     stands p s at l f = let size = I.size in same_Some s (standing_of b.shape.processes w p) (sym at ∙ (I.stand f).each p (omega (arith, l, size)))
 
-    pub process_told : (p k : ℕ) (s : Standing) (q : Kept) → k ≡ p → k < length stations → s ≡ get_or stations k s → q ≡ s.process → IsProcess start m p q
-    process_told p k s q same l at is_process =
+    pub process_told : (p k : ℕ) (s : Standing) (q : Kept) → k ≡ p → k < length stations → s ≡ get_or stations k s → q.failed ≡ s.failed → q.state ≡ s.state → IsProcess start m p q
+    process_told p k s q same l at failing state =
         let place : IsAt stations p s = subst (λ j. IsAt stations j s) same (at_index stations k s l at) in
         subst (λ (z : Made). IsProcess start z p q) is (
           (let size = I.size in omega (arith, same, l, size)),
-          λ f. is_process ∙ ap (λ (z : Standing). z.process) (stands p s place (omega (arith, same, l)) f),
+          λ f. let here = stands p s place (omega (arith, same, l)) f in (failing ∙ ap (λ (z : Standing). z.failed) here, state ∙ ap (λ (z : Standing). z.state) here),
         )
 
     pub wire_told : (from to k : ℕ) (s : Standing) (frames : List Frame) → k ≡ from → k < length stations → s ≡ get_or stations k s → to < length stations → (from ≡ to → ⊥) → frames ≡ get_or s.wires to [] → IsWire start m from to frames

@@ -46,6 +46,6 @@ new_is start shape stations b few stand is =
       };
       makes = Nothing;
       stand = λ h. record {
-        each = λ p l. at_listed (first_standing shape) shape.processes p l ∙ λ i. Some (record { process = record { failed = false; state = first_is p shape.processes shape.registers i }; wires = listed_empty {X = _} [] shape.processes i });
+        each = λ p l. at_listed (first_standing shape) shape.processes p l ∙ λ i. Some (record { failed = false; state = first_is p shape.processes shape.registers i; wires = listed_empty {X = _} [] shape.processes i });
       };
     }))

@@ -128,14 +128,14 @@ module _ (start : Op → ℕ → Start) (laws : KeepsLaws start) (b : Pages) (T 
       let size : length s.peers ≡ n = (sound start n registers laws b.accepted p here).size in
       let wires : new.wires ≡ listed (v.nodes p).wire n =
       B.wires ∙ (ap (λ k. sent (puts r.1.frames k) (listed (w.nodes p).wire n)) size ∙ (sent_all (w.nodes p).wire r.1.frames n ∙ ap (λ (z : Node). listed z.wire n) (sym node))) in
-      let process : new.process ≡ record { failed = false; state = (v.nodes p).state } = B.process ∙ ap (λ (z : Node). record { failed = false; state = z.state }) (sym node) in
-      (λ i. record { process = process i; wires = wires i }, B.cast, B.delivered, B.reply)
+      let state : new.state ≡ (v.nodes p).state = B.state ∙ ap (λ (z : Node). z.state) (sym node) in
+      (λ i. record { failed = B.runs i; state = state i; wires = wires i }, B.cast, B.delivered, B.reply)
 
   pub stand_now : (stations : List Standing) (new : Standing) → length stations ≡ n → Stand start b stations → new ≡ standing_of n v p → Stand start after (set stations p new)
   stand_now stations new size S is = record {
     each = λ q l. subst (λ (z : World). IsAt (set stations p new) q (standing_of n z q)) (sym next) (elim (cases_eq q p) [
       | inl same ↦ subst (λ k. IsAt (set stations p new) k (standing_of n v k)) (sym same) (at_set_same stations p new (let h = here in omega (arith, h, size)) ∙ ap Some is)
-      | inr ne ↦ at_set_other stations p q new ne ∙ (S.each q l ∙ ap (λ (z : Node). Some (record { process = record { failed = false; state = z.state }; wires = listed z.wire n })) (sym (node_there start n registers laws b.accepted e p st move q ne)))
+      | inr ne ↦ at_set_other stations p q new ne ∙ (S.each q l ∙ ap (λ (z : Node). Some (record { failed = false; state = z.state; wires = listed z.wire n })) (sym (node_there start n registers laws b.accepted e p st move q ne)))
     ]);
   }
 

@@ -41,12 +41,12 @@ module _ (start : Op → ℕ → Start) (laws : KeepsLaws start) (b : Pages) (st
   pub act_ok : (k : ℕ) (t : Standing) → k ≡ p → t ≡ get_or stations k t → MayAct start t st
   act_ok k t same at = subst (λ z. MayAct start z st) (sym (old_is k t same at)) (may_act start b.shape.processes b.shape.registers laws b.accepted e p st move)
 
-  module _ (k : ℕ) (old new : Standing) (made : Option Stamp) (casts : List Delivered) (answer : Option Reply) (runs : Bool) (same : k ≡ p) (at : old ≡ get_or stations k old) (A : Acts start old st made casts answer new) (running : runs ≡ is_some new.process.state.running) where
+  module _ (k : ℕ) (old new : Standing) (made : Option Stamp) (casts : List Delivered) (answer : Option Reply) (runs : Bool) (same : k ≡ p) (at : old ≡ get_or stations k old) (A : Acts start old st made casts answer new) (running : runs ≡ is_some new.state.running) where
     facts : (new ≡ standing_of b.shape.processes (moved start w e (Some (p, st))) p) × (made ≡ (step start (w.nodes p).state st).1.cast) × (casts ≡ (step start (w.nodes p).state st).1.delivered) × (answer ≡ (step start (w.nodes p).state st).1.reply)
     facts = acted start laws b I.tells e p st move old new made casts answer (old_is k old same at) A
 
     runs_is : runs ≡ is_some (step start (w.nodes p).state st).0.running
-    runs_is = running ∙ (ap (λ (z : Standing). is_some z.process.state.running) facts.0 ∙ ap (λ (z : Node). is_some z.state.running) (node_here start b.shape.processes b.shape.registers laws b.accepted e p st move))
+    runs_is = running ∙ (ap (λ (z : Standing). is_some z.state.running) facts.0 ∙ ap (λ (z : Node). is_some z.state.running) (node_here start b.shape.processes b.shape.registers laws b.accepted e p st move))
 
     pub enter_ok : MayEnter b p st runs made casts answer
     enter_ok =

@@ -35,7 +35,7 @@ invariant_of-self-2 g c =
     let k = c.in-Ok.ensures.after in
     let l : c.args.from < length c.self.inside.inboxes.items = let z = i.ins in omega (arith, z, peer) in
     let count : c.expected-count.result + 1 ≡ slice_index c.self.inside.inboxes.items c.args.from + 1 = ap (λ n. n + 1) (c.expected-count.ensures.value ∙ c.index.ensures ∙ get_or_default c.self.inside.inboxes.items c.args.from _ 0 l) in
-    acked_good p i c.args.from c.args.time peer c.receive.new.self (c.expected-count.result + 1) c.hear.new.waiting c.expect_next.new.inboxes.items c.in-Ok-got_alone.frames.items t.0 k count c.hear.ensures c.expect_next.ensures c.in-Ok-got_alone.ensures
+    acked_good p i c.args.from c.args.time peer c.receive.new.self (c.expected-count.result + 1) c.hear.new.waiting c.expect_next.new.inboxes.items c.in-Ok-got_alone.frames.items t.0 k count c.hear.ensures c.expect_next.ensures c.in-Ok-got_alone.ensures.frames
 
 pub returns : goal.returns
 returns g c =
@@ -47,7 +47,7 @@ returns g c =
     let l : c.args.from < length c.self.inside.inboxes.items = let z = i.ins in omega (arith, z, peer) in
     let count : c.expected-count.result + 1 ≡ slice_index c.self.inside.inboxes.items c.args.from + 1 = ap (λ n. n + 1) (c.expected-count.ensures.value ∙ c.index.ensures ∙ get_or_default c.self.inside.inboxes.items c.args.from _ 0 l) in
     subst (λ (s : State). TakesAck s c.args.from c.args.time c.in-Ok-got_alone.frames.items (state_of (record p { clock = c.receive.new.self; waiting = c.hear.new.waiting; expected = c.expect_next.new.inboxes.items }))) c.self.view_is
-    (acked_takes p i c.args.from c.args.time peer c.receive.new.self (c.expected-count.result + 1) c.hear.new.waiting c.expect_next.new.inboxes.items c.in-Ok-got_alone.frames.items t.0 k count c.hear.ensures c.expect_next.ensures c.in-Ok-got_alone.ensures)
+    (acked_takes p i c.args.from c.args.time peer c.receive.new.self (c.expected-count.result + 1) c.hear.new.waiting c.expect_next.new.inboxes.items c.in-Ok-got_alone.frames.items t.0 k count c.hear.ensures c.expect_next.ensures c.in-Ok-got_alone.ensures.frames)
 
 pub hear-requires : goal.hear-requires
 hear-requires g c =

@@ -13,5 +13,5 @@ put_all-requires g c = λ p i.
     let l = puts_within (step g.F.FrontEnd.start s c.args.step.now).1.frames (length s.peers) p there in
     let size = c.requires.wires in
     let wires = ap (λ (x : Standing). length x.wires) c.self.view_is in
-    let peers = ap (λ (x : Standing). length x.process.state.peers) c.self.view_is in
+    let peers = ap (λ (x : Standing). length x.state.peers) c.self.view_is in
     omega (arith, l, size, wires, peers)
