@@ -165,7 +165,7 @@ impl<A: Allocator + Copy> Core<A> {
             return Ok(Outcome {
                 frames,
                 cast: None,
-                delivered: Vec::new(self.alloc),
+                delivered: self.none(),
                 reply: None,
             });
         }
