@@ -2,11 +2,10 @@
 use Rattle.std.proofs.Common.{◌≡◌, ℕ, ◌<◌, ◌≤◌, ◌+◌, Bool, true, false, zero, suc, [], ◌∷◌, List, length, Option, Some, None, refl, sym, ap, ◌∙◌, subst, arith}
 use Rattle.std.specs.Prelude.{cond, ◌==◌, ◌||◌, not, nat_lt, nat_le, nat_eq, slice_get, slice_index}
 use Rattle.std.proofs.lemmas.Bool.Decides.{nat_tests}
-use Rattle.std.proofs.lemmas.Bool.{cond-false, ne_eqb, eq-eqb, false≢true}
+use Rattle.std.proofs.lemmas.Bool.{cond-false, ne_eqb}
 use Rattle.std.proofs.lemmas.List.{append-nil}
 use Rattle.reg_base.specs.declared.stamps.Stamp.{Stamp}
 use Rattle.reg_base.specs.declared.memory.Op.{Op}
-use Rattle.reg_base.specs.declared.memory.Answer.TheVariants.{Done}
 use Rattle.reg_base.specs.declared.stamps.Delivered.{Delivered}
 use Rattle.reg_process.specs.declared.steps.Reply.{Reply}
 use Rattle.reg_frames.specs.declared.bodies.Body.{Body}
@@ -16,7 +15,7 @@ use Rattle.reg_process.specs.declared.steps.Step.TheVariants.{Call, Take}
 use Rattle.reg_frames.specs.declared.bodies.Frame.{Frame}
 use Rattle.reg_process.specs.Process.{Held}
 use Rattle.reg_process.specs.Delivery.{first_of}
-use Rattle.reg_process.specs.Process.{State, called, clear_casts, delivered_state, no_frames, look, unsettled, seen_at, time_of, peer_at, taken, accepted, quiet, got_frames}
+use Rattle.reg_process.specs.Process.{State, called, no_frames, look, unsettled, seen_at, time_of, peer_at, taken, accepted, quiet, got_frames}
 use Rattle.reg_holdback.specs.Waiting.{seen_of}
 use Rattle.reg_process.specs.Parts.{Parts, Good, state_of}
 use Rattle.reg_process.proofs.Deliveries.{merged_seen}
@@ -25,21 +24,10 @@ use Rattle.reg_frames.specs.declared.bodies.Frame.TheVariants.{Numbered, Got}
 use Rattle.reg_process.proofs.Acks.{one_put}
 use Rattle.reg_process.specs.declared.faults.ProcessFault.{ProcessFault}
 use Rattle.reg_process.specs.declared.faults.ProcessFault.TheVariants.{Failed, NoProcess, Busy, NoRegister, TooManyOperations, Ahead, Stale, ClockFull, OutOfMemory}
-use Rattle.reg_process.specs.Faults.{early_fault, full_at, StopsAt, call_fault, is_out, early_body, frame_fault, take_fault, body_fault, FrameRefused, is_peer, is_stop, is_cast, is_numbered}
+use Rattle.reg_process.specs.Faults.{early_fault, full_at, StopsAt, call_fault, is_out, early_body, frame_fault, take_fault, is_peer, is_cast, is_numbered}
 use Rattle.reg_process.specs.declared.outcomes.Put.{Put}
-use Rattle.reg_process.specs.Steps.{MakesCast, Delivers, due}
-use Rattle.reg_process.specs.Events.{Goes, cast_start, Steps, Refused, process_fault}
-
-pub broadcasts : (runs : Bool) (s : State) (op : Op) (stamp : Stamp) (frames : List Put) (s1 : State) (ds : List Delivered) (d : Option Reply) (s2 : State) (reply : Option Reply) →
-    MakesCast s op runs stamp frames s1 → Delivers s1 ds d s2 → reply ≡ cond runs d (Some (record { answer = Done; place = s.delivered })) → Goes (length s.peers) (called s op (cast_start runs)) frames (Some stamp) ds reply s2
-broadcasts true s op stamp frames s1 ds d s2 reply m v r = record {
-  state = v.state ∙ ap delivered_state m.state;
-  outcome = record { put = m.put; made = ap Some m.stamp; casts = v.casts ∙ ap clear_casts m.state; answer = r ∙ v.answer ∙ ap due m.state };
-}
-broadcasts false s op stamp frames s1 ds d s2 reply m v r = record {
-  state = v.state ∙ ap delivered_state m.state;
-  outcome = record { put = m.put; made = ap Some m.stamp; casts = v.casts ∙ ap clear_casts m.state; answer = r };
-}
+use Rattle.reg_process.specs.Steps.{due}
+use Rattle.reg_process.specs.Events.{Goes, Steps, Refused, process_fault}
 
 pub nothing_put : (n : ℕ) → puts no_frames n ≡ []
 nothing_put zero = refl
@@ -125,16 +113,6 @@ drop_goes s from number expected body frames ds e ne l f d =
       outcome = record { put = f ∙ sym (one_put from expected (length s.peers) l) ∙ ap (λ n. puts (got_frames from n) (length s.peers)) e; made = refl; casts = d; answer = refl };
     })
 
-pub drop_room : (s : State) (from number expected : ℕ) (body : Body) → expected ≡ (peer_at s from).expected → (number ≡ expected → ⊥) → frame_fault s from (Numbered number body) ≡ None
-drop_room s from number expected body e ne = ap (λ b. cond b (body_fault s from body) None) (ne_eqb number (peer_at s from).expected (λ q. ne (q ∙ sym e)))
-
-pub body_goes : (s : State) (from number expected : ℕ) (body : Body) (frames : List Put) (cast : Option Stamp) (ds : List Delivered) (reply : Option Reply) (s' : State) → expected ≡ (peer_at s from).expected → number ≡ expected → Goes (length s.peers) (accepted s from body) frames cast ds reply s' → Goes (length s.peers) (taken s from (Numbered number body)) frames cast ds reply s'
-body_goes s from number expected body frames cast ds reply s' e q g =
-    subst (λ x. Goes (length s.peers) x frames cast ds reply s') (sym (ap (λ b. cond b (accepted s from body) (quiet s (got_frames from (peer_at s from).expected))) (eq-eqb number (peer_at s from).expected (q ∙ e)))) g
-
-pub body_faults : (s : State) (from number expected : ℕ) (body : Body) → expected ≡ (peer_at s from).expected → number ≡ expected → frame_fault s from (Numbered number body) ≡ body_fault s from body
-body_faults s from number expected body e q = ap (λ b. cond b (body_fault s from body) None) (eq-eqb number (peer_at s from).expected (q ∙ e))
-
 pub within_peer : (n from me : ℕ) → from < n → not (nat_eq from me) ≡ not (nat_le n from || from == me)
 within_peer n from me l = let e : nat_le n from ≡ false = grind (arith, nat_tests) in sym (ap (λ b. not (b || from == me)) e)
 
@@ -152,21 +130,7 @@ or_false : (a b : Bool) → (a || b) ≡ false → (a ≡ false) × (b ≡ false
 or_false true b h = absurd (cc)
 or_false false b h = (refl, h)
 
-pub peer_parts : (s : State) (from : ℕ) → is_peer s from ≡ true → (from < length s.peers) × (from ≡ s.me → ⊥)
-peer_parts s from h =
-    let r = or_false (nat_le (length s.peers) from) (from == s.me) (not_true _ h) in
-    ((let a = r.0 in grind (arith, nat_tests)), λ q. false≢true (sym r.1 ∙ eq-eqb from s.me q))
-
 module _ (start : Op → ℕ → Start) (f : Bool) (s : State) (room : ℕ) (from : ℕ) (frame : Frame) (runs : f ≡ false) where
-  pub no_process : is_peer s from ≡ false → Refused start (record { failed = f; state = s; room = room }) (Take from frame) NoProcess (record { failed = f; state = s; room = room })
-  no_process h =
-      let o : (nat_le (length s.peers) from || from == s.me) ≡ true = not_false (nat_le (length s.peers) from || from == s.me) h in
-      (ap (λ b. cond b (Some Failed) (take_fault s from frame)) runs ∙ ap (λ b. cond b (Some NoProcess) (frame_fault s from frame)) o, refl)
-    where
-      not_false : (b : Bool) → not b ≡ false → b ≡ true
-      not_false true k = refl
-      not_false false k = absurd (cc)
-
   module _ (peer : is_peer s from ≡ true) (s' : State) (room' : ℕ) where
     take_faults : process_fault start (record { failed = f; state = s; room = room }) (Take from frame) ≡ frame_fault s from frame
     take_faults = ap (λ b. cond b (Some Failed) (take_fault s from frame)) runs ∙ ap (λ b. cond b (Some NoProcess) (frame_fault s from frame)) (not_true (nat_le (length s.peers) from || from == s.me) peer)

@@ -1,9 +1,7 @@
 -- Nothing clear is held between events.
-use Rattle.std.proofs.Common.{◌≡◌, ℕ, zero, suc, ◌<◌, Bool, true, false, not, List, [], ◌∷◌, length, refl, sym, ap, ◌∙◌, subst, arith}
+use Rattle.std.proofs.Common.{◌≡◌, ℕ, zero, suc, ◌<◌, Bool, true, false, not, List, [], ◌∷◌, length, refl, sym, ap, subst}
 use Rattle.std.specs.Prelude.{cond, slice_index_or, slice_set, ◌==◌}
 use Rattle.reg_base.specs.declared.memory.Op.{Op}
-use Rattle.reg_base.specs.declared.stamps.Stamp.{Stamp}
-use Rattle.reg_base.specs.declared.stamps.Delivered.{Delivered}
 use Rattle.reg_frames.specs.declared.bodies.Body.{Body}
 use Rattle.reg_frames.specs.declared.bodies.Body.TheVariants.{Cast, Ack}
 use Rattle.reg_frames.specs.declared.bodies.Frame.{Frame}
@@ -17,7 +15,7 @@ use Rattle.reg_base.proofs.Lists.{in_filter}
 use Rattle.std.proofs.Common.{◌+◌, Some, None}
 use Rattle.reg_process.specs.Steps.{with_cast}
 use Rattle.reg_process.specs.Process.{cast_made, accepts, Own, stamp_at}
-use Rattle.reg_process.specs.Process.{State, Peer, no_peer, seen_at, is_clear, IsClear, delivered_state, called, taken, accepted, acknowledged, step, peer_at, quiet, got_frames}
+use Rattle.reg_process.specs.Process.{State, Peer, no_peer, is_clear, delivered_state, called, taken, accepted, acknowledged, step, peer_at, quiet, got_frames}
 use Rattle.reg_process.specs.Settled.{NoneWaits}
 use Rattle.reg_process.proofs.Peers.{Decides-clear}
 

@@ -1,4 +1,4 @@
-use Rattle.reg_process.proofs.Calls.{drop_goes, body_goes}
+use Rattle.reg_process.proofs.Calls.{drop_goes}
 use Rattle.reg_process.proofs.parts.Core.take_body.Goals as goal
 
 pub returns-then-number-expected-clause-goes : goal.returns-then-number-expected-clause-goes
