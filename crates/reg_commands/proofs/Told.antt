@@ -9,7 +9,8 @@ use Rattle.reg_history.specs.Checks.{SerialVerdict, PointVerdict, IsSerialFault,
 use Rattle.reg_history.specs.Reports.{Contents}
 use Rattle.reg_commands.specs.declared.verdicts.Verdict.{Verdict}
 use Rattle.reg_commands.specs.declared.verdicts.Verdict.TheVariants.{Yes, No}
-use Rattle.reg_commands.specs.Verdicts.{Tells, SerialSays, PointsSay}
+use Rattle.reg_commands.specs.Verdicts.{SerialSays, PointsSay}
+use Rattle.reg_commands.specs.Inner.{Tells}
 
 pub serial_told : {A : Type 0} (r : Contents) (registers : ℕ) (h : List Entry) (ids : List OpId) (answer : Result A CheckFault) (v : Verdict) → registers ≡ r.shape.registers → h ≡ r.entries → ids ≡ r.order
     → SerialVerdict registers h ids answer → Tells answer v → SerialSays r v

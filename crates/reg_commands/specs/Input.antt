@@ -1,4 +1,4 @@
--- What a fault of reading says of the input.
+-- The faults of reading, and what they say of the input. They carry a proof: no promise speaks of them.
 use Rattle.std.specs.Prelude.{ℕ, ◌<◌, ⊤, List, length}
 use Rattle.std.specs.Str.{IsUtf8}
 use Rattle.reg_commands.specs.declared.input.InputFault.{InputFault}

@@ -4,3 +4,4 @@ pub mod Replays
 pub mod Plays
 pub mod Answers
 pub mod FaultLines
+pub mod Inner

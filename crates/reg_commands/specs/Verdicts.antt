@@ -1,5 +1,5 @@
 -- What a report read is told.
-use Rattle.std.specs.Prelude.{ℕ, ◌≡◌, Bool, true, false, ◌&&◌, List, [], ◌∷◌, ◌++◌, codes, Option, None, Some, Result, Ok, Err}
+use Rattle.std.specs.Prelude.{ℕ, Bool, true, false, ◌&&◌, List, [], ◌∷◌, ◌++◌, codes, Option, None, Some}
 use Rattle.std.specs.Fmt.{decimal}
 use Rattle.reg_history.specs.declared.entries.Point.{Point}
 use Rattle.reg_history.specs.declared.faults.CheckFault.{CheckFault}
@@ -22,13 +22,6 @@ check_fault OwnOrder = OwnOrderFault
 check_fault (Answer place) = AnswerFault place
 check_fault (Outside place) = OutsideFault place
 check_fault (Falling place) = FallingFault place
-
--- the verdict of a checker's answer
-abbrev pub Tells : {A : Type 0} → Result A CheckFault → Verdict → Type 0
-Tells (Ok x) Yes = Unit {0}
-Tells (Ok x) (No finding) = ⊥
-Tells (Err fault) Yes = ⊥
-Tells (Err fault) (No finding) = fault ≡ check_fault finding
 
 -- the order is serial, or this is the first fault that it has
 abbrev pub SerialSays : Contents → Verdict → Type 0

@@ -5,7 +5,8 @@ ghost use Rattle.reg_toml.specs.declared.faults.WorkloadFault.TheVariants.{OutOf
 ghost use Rattle.reg_toml.specs.Loads.{Load};
 ghost use Rattle.reg_commands.specs.Answers.{AnswersInPart, Blames};
 ghost use Rattle.reg_commands.specs.Replays.{ShowsPoints};
-ghost use Rattle.reg_commands.specs.Plays.{Holds, RefusesDocument, IsPlayBy, ShowsPlay, HasNoPoints, IsReportOfPlay, Plays};
+ghost use Rattle.reg_commands.specs.Plays.{Holds, RefusesDocument, IsPlayBy, ShowsPlay, IsReportOfPlay, Plays};
+ghost use Rattle.reg_commands.specs.Inner.{HasNoPoints};
 
 use crate::command::Command;
 use crate::faults::Fault;

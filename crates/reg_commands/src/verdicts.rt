@@ -3,7 +3,8 @@ ghost use Rattle.std.specs.Prelude.{◌≡◌, ◌++◌, ◌∷◌, [], IfOk, If
 ghost use Rattle.std.specs.Io.KnownBytes.{Appends};
 ghost use Rattle.std.specs.Fmt.{decimal};
 ghost use Rattle.reg_text.specs.Writing.{AppendsPart, Puts};
-ghost use Rattle.reg_commands.specs.Verdicts.{check_fault, Tells, SerialSays, PointsSay, AllPointsSay, Judges, is_yes as is_yes_of, all_yes as all_yes_of, verdict_line, points_line, verdicts_text};
+ghost use Rattle.reg_commands.specs.Verdicts.{check_fault, SerialSays, PointsSay, AllPointsSay, Judges, is_yes as is_yes_of, all_yes as all_yes_of, verdict_line, points_line, verdicts_text};
+ghost use Rattle.reg_commands.specs.Inner.{Tells};
 
 use crate::faults::Fault;
 use itoa::Buffer;

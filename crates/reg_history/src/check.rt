@@ -1,8 +1,8 @@
 //! The checkers of serial orders and point orders.
 ghost use Rattle.std.specs.Prelude.{MatchResult};
 ghost use Rattle.reg_history.specs.History.{IsHistory};
-ghost use Rattle.reg_history.specs.Checks.{SerialVerdict, PointVerdict, IsSelectionFault, NoneOfThree};
-ghost use Rattle.reg_history.specs.Facts.{IsSelected};
+ghost use Rattle.reg_history.specs.Checks.{SerialVerdict, PointVerdict, NoneOfThree};
+ghost use Rattle.reg_history.specs.Facts.{IsSelectionFault, IsSelected};
 
 use crate::answers::{Fact, first_wrong};
 use crate::entries::{Entry, Point};

@@ -11,7 +11,8 @@ ghost use Rattle.reg_world.specs.Laws.{DeliveriesAgree, DeliveriesRise, Deliveri
 ghost use Rattle.reg_world.specs.Promises.{OrderIsLongest, OrderIsRight, FirstsRight, RepliesRight, ReadsRight};
 ghost use Rattle.reg_world.specs.World.{run_of, whole};
 ghost use Rattle.reg_world.specs.Stations.{listed};
-ghost use Rattle.reg_world.specs.Worlds.{first_standing, Made, run_in, Accepts, Refuses, reply_in, IsWorld, IsMove, Advances, PartsGoOn, PartsRefuse, made_of, new_world, after_events, RunRefuses, IsProcess, IsWire, IsNoWire};
+ghost use Rattle.reg_world.specs.Worlds.{Made, run_in, Accepts, Refuses, reply_in, new_world, after_events, RunRefuses, IsProcess, IsWire, IsNoWire};
+ghost use Rattle.reg_world.specs.WorldParts.{first_standing, IsWorld, IsMove, Advances, PartsGoOn, PartsRefuse, made_of};
 
 use crate::books::Book;
 use crate::events::Event;
@@ -42,11 +43,12 @@ pub struct World<F: FrontEnd, A: Allocator + Copy = Global> {
 }
 
 impl<F: FrontEnd, A: Allocator + Copy> Model for World<F, A> {
-    ghost use Rattle.reg_world.specs.Worlds.{Made, made_of, IsWorld};
+    ghost use Rattle.reg_world.specs.Worlds.{Made};
+    ghost use Rattle.reg_world.specs.WorldParts.{IsWorld};
 
     ghost Value = { Made };
 
-    ghost view = { λ w. made_of w.failed w.book };
+    ghost view = { λ w. record { failed = w.failed; processes = w.book.shape.processes; registers = w.book.shape.registers; accepted = w.book.accepted; history = w.book.entries } };
 
     ghost invariant = { λ w. IsWorld F.start w.failed w.stations.items w.book };
 }

@@ -27,7 +27,8 @@ use Rattle.reg_world.specs.Tallies.{Tally}
 use Rattle.reg_world.specs.Witnesses.{is_kept, point_of, IsMerged}
 use Rattle.reg_world.specs.Pages.{Pages}
 use Rattle.reg_world.specs.Stations.{Standing, listed}
-use Rattle.reg_world.specs.Worlds.{Made, run_in, refusal, with_event, Accepts, Refuses, IsWorld, made_of, standing_of, new_world, after_events, RunRefuses, IsProcess, IsWire}
+use Rattle.reg_world.specs.Worlds.{Made, run_in, refusal, with_event, Accepts, Refuses, new_world, after_events, RunRefuses, IsProcess, IsWire}
+use Rattle.reg_world.specs.WorldParts.{IsWorld, made_of, standing_of}
 use Rattle.reg_world.proofs.code.Noted.{at_index}
 use Rattle.reg_world.proofs.code.Tallied.{at_or, points_are, witness_is}
 use Rattle.reg_world.proofs.code.Telling.{at_listed}

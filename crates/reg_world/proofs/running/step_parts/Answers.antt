@@ -1,5 +1,6 @@
 use Rattle.std.proofs.Common.{◌∙◌, ap, sym, refl, false}
-use Rattle.reg_world.specs.Worlds.{found, made_of, stopped}
+use Rattle.reg_world.specs.Worlds.{stopped}
+use Rattle.reg_world.specs.WorldParts.{found, made_of}
 use Rattle.reg_world.proofs.code.Stepping.{refuses_is, move_found, none_is, accepts_is}
 use Rattle.reg_world.proofs.running.step_parts.Goals as goal
 

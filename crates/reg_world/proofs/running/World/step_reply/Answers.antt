@@ -1,5 +1,6 @@
 use Rattle.std.proofs.Common.{◌∙◌, ap, sym}
-use Rattle.reg_world.specs.Worlds.{Made, found}
+use Rattle.reg_world.specs.Worlds.{Made}
+use Rattle.reg_world.specs.WorldParts.{found}
 use Rattle.reg_world.proofs.code.Stepping.{refuses_is, move_found, none_is, accepts_is, grows_is, stopped_is, stopped_world}
 use Rattle.reg_world.proofs.running.World.step_reply.Goals as goal
 
