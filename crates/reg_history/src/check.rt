@@ -50,10 +50,7 @@ fn judge_serial<A: Allocator + Copy>(
     requires { IsHistory shape.processes shape.registers entries.now }
     ensures { SerialVerdict shape.registers entries.now ids.now result }
 {
-    let facts = match select(alloc, shape, entries, ids) {
-        Ok(facts) => facts,
-        Err(fault) => return Err(fault),
-    };
+    let facts = select(alloc, shape, entries, ids)?;
     match breaks_own_order(alloc, ids) {
         Ok(false) => {}
         Ok(true) => return Err(CheckFault::OwnOrder),
@@ -78,10 +75,7 @@ fn judge_points<A: Allocator + Copy>(
     let Ok(ids) = ids_of_points(alloc, points) else {
         return Err(CheckFault::OutOfMemory);
     };
-    let facts = match select(alloc, shape, entries, &ids) {
-        Ok(facts) => facts,
-        Err(fault) => return Err(fault),
-    };
+    let facts = select(alloc, shape, entries, &ids)?;
     match first_wrong(alloc, shape, &facts) {
         Ok(None) => {}
         Ok(Some(place)) => return Err(CheckFault::Answer { place }),

@@ -99,10 +99,8 @@ fn call_step(refusal: Option<WorldFault>, process: u8, op: Op) -> Result<(u8, St
 fn take_step(frame: Result<Frame, WorldFault>, from: u8, to: u8) -> Result<(u8, Step), WorldFault>
     ensures { result ≡ take_or frame from to }
 {
-    match frame {
-        Ok(frame) => Ok((to, Step::Take { from, frame })),
-        Err(fault) => Err(fault),
-    }
+    let frame = frame?;
+    Ok((to, Step::Take { from, frame }))
 }
 
 /// The same, of an event that isn't one too many.
