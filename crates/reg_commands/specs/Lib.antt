@@ -1,4 +1,3 @@
-pub mod Input
 pub mod Verdicts
 pub mod Replays
 pub mod Plays

@@ -26,10 +26,8 @@ fn workload_in<A: Allocator + Copy>(
     ensures read { IfOk result (λ w. Holds text.now w) }
     ensures why { IfErr result (λ e. (e ≡ OutOfMemory) ⊎ RefusesDocument text.now e) }
 {
-    match read_table(global, text) {
-        Ok(table) => Workload::from_table(alloc, &table),
-        Err(fault) => Err(fault),
-    }
+    let table = read_table(global, text)?;
+    Workload::from_table(alloc, &table)
 }
 
 /// The workload that a document says.
