@@ -50,10 +50,6 @@ pub record ShowsPlay (fair : Bool) (start : Op → ℕ → Start) (work : Load) 
   pub shows : Shows start (plan_of work made) r
   pub points : AreSo (plan_of work made) r.points
 
--- no points
-abbrev pub HasNoPoints : Plan → Option (List Point) → Type 0
-HasNoPoints p points = points ≡ None
-
 -- the report of a play of the workload, with points where its front end has some
 abbrev pub IsReportOfPlay : Bool → Load → Contents → Type 0
 IsReportOfPlay fair work r = ShowsPlay fair (start_of work.front) work (PointsOf work.front) r

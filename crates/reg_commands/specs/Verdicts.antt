@@ -1,44 +1,24 @@
 -- What a report read is told.
-use Rattle.std.specs.Prelude.{ℕ, ◌≡◌, Bool, true, false, ◌&&◌, List, [], ◌∷◌, ◌++◌, codes, Option, None, Some, Result, Ok, Err}
+use Rattle.std.specs.Prelude.{ℕ, ◌≢◌, Bool, true, false, ◌&&◌, List, [], ◌∷◌, ◌++◌, codes, Option, None, Some}
 use Rattle.std.specs.Fmt.{decimal}
 use Rattle.reg_history.specs.declared.entries.Point.{Point}
-use Rattle.reg_history.specs.declared.faults.CheckFault.{CheckFault}
-use Rattle.reg_history.specs.declared.faults.CheckFault.TheVariants.{Unknown as UnknownFault, Twice as TwiceFault, Missing as MissingFault, OwnOrder as OwnOrderFault, Answer as AnswerFault, Outside as OutsideFault, Falling as FallingFault}
+use Rattle.reg_history.specs.declared.faults.CheckFault.TheVariants.{Unknown, Twice, Missing, OwnOrder, Answer, Outside, Falling, OutOfMemory}
 use Rattle.reg_history.specs.Orders.{IsSerial, IsPointOrder}
 use Rattle.reg_history.specs.Checks.{IsSerialFault, IsPointFault}
 use Rattle.reg_history.specs.Reports.{Contents}
-use Rattle.reg_commands.specs.declared.verdicts.Finding.{Finding}
-use Rattle.reg_commands.specs.declared.verdicts.Finding.TheVariants.{Unknown, Twice, Missing, OwnOrder, Answer, Outside, Falling}
 use Rattle.reg_commands.specs.declared.verdicts.Verdict.{Verdict}
 use Rattle.reg_commands.specs.declared.verdicts.Verdict.TheVariants.{Yes, No}
 use Rattle.reg_commands.specs.declared.verdicts.Verdicts.{Verdicts}
 
--- the fault of a check that a finding is: each but want of memory
-abbrev pub check_fault : Finding → CheckFault
-check_fault Unknown = UnknownFault
-check_fault Twice = TwiceFault
-check_fault Missing = MissingFault
-check_fault OwnOrder = OwnOrderFault
-check_fault (Answer place) = AnswerFault place
-check_fault (Outside place) = OutsideFault place
-check_fault (Falling place) = FallingFault place
-
--- the verdict of a checker's answer
-abbrev pub Tells : {A : Type 0} → Result A CheckFault → Verdict → Type 0
-Tells (Ok x) Yes = Unit {0}
-Tells (Ok x) (No finding) = ⊥
-Tells (Err fault) Yes = ⊥
-Tells (Err fault) (No finding) = fault ≡ check_fault finding
-
--- the order is serial, or this is the first fault that it has
+-- the order is serial, or this is the first fault that it has, and no want of memory
 abbrev pub SerialSays : Contents → Verdict → Type 0
 SerialSays r Yes = IsSerial r.shape.registers r.entries r.order
-SerialSays r (No finding) = IsSerialFault r.shape.registers r.entries r.order (check_fault finding)
+SerialSays r (No fault) = (fault ≢ OutOfMemory) × IsSerialFault r.shape.registers r.entries r.order fault
 
--- the points are a point order, or this is the first fault that they have
+-- the points are a point order, or this is the first fault that they have, and no want of memory
 abbrev pub PointsSay : Contents → List Point → Verdict → Type 0
 PointsSay r ps Yes = IsPointOrder r.shape.registers r.entries ps
-PointsSay r ps (No finding) = IsPointFault r.shape.registers r.entries ps (check_fault finding)
+PointsSay r ps (No fault) = (fault ≢ OutOfMemory) × IsPointFault r.shape.registers r.entries ps fault
 
 -- points are judged exactly where there are any
 abbrev pub AllPointsSay : Contents → Option (List Point) → Option Verdict → Type 0
@@ -52,7 +32,7 @@ Judges r v = SerialSays r v.serial × AllPointsSay r r.points v.points
 
 abbrev pub is_yes : Verdict → Bool
 is_yes Yes = true
-is_yes (No finding) = false
+is_yes (No fault) = false
 
 abbrev pub is_yes_or_none : Option Verdict → Bool
 is_yes_or_none None = true
@@ -72,6 +52,7 @@ verdict_words (No OwnOrder) = codes " no: own order"
 verdict_words (No (Answer place)) = codes " no: answer at " ++ decimal place
 verdict_words (No (Outside place)) = codes " no: outside at " ++ decimal place
 verdict_words (No (Falling place)) = codes " no: falling at " ++ decimal place
+verdict_words (No OutOfMemory) = codes " no: out of memory"
 
 -- the line of a verdict
 abbrev pub verdict_line : List ℕ → Verdict → List ℕ

@@ -1,5 +1,4 @@
 //! Why a command gives no answer.
-use crate::input::InputFault;
 use reg_history::ReadWhy;
 use reg_workload::WorkloadFault;
 use reg_world::WorldFault;

@@ -5,7 +5,8 @@ ghost use Rattle.reg_toml.specs.declared.faults.WorkloadFault.TheVariants.{OutOf
 ghost use Rattle.reg_toml.specs.Loads.{Load};
 ghost use Rattle.reg_commands.specs.Answers.{AnswersInPart, Blames};
 ghost use Rattle.reg_commands.specs.Replays.{ShowsPoints};
-ghost use Rattle.reg_commands.specs.Plays.{Holds, RefusesDocument, IsPlayBy, ShowsPlay, HasNoPoints, IsReportOfPlay, Plays};
+ghost use Rattle.reg_commands.specs.Plays.{Holds, RefusesDocument, IsPlayBy, ShowsPlay, IsReportOfPlay, Plays};
+ghost use Rattle.reg_commands.specs.Inner.{HasNoPoints};
 
 use crate::command::Command;
 use crate::faults::Fault;
@@ -25,10 +26,8 @@ fn workload_in<A: Allocator + Copy>(
     ensures read { IfOk result (λ w. Holds text.now w) }
     ensures why { IfErr result (λ e. (e ≡ OutOfMemory) ⊎ RefusesDocument text.now e) }
 {
-    match read_table(global, text) {
-        Ok(table) => Workload::from_table(alloc, &table),
-        Err(fault) => Err(fault),
-    }
+    let table = read_table(global, text)?;
+    Workload::from_table(alloc, &table)
 }
 
 /// The workload that a document says.

@@ -1,43 +1,21 @@
 //! Running a command over any reader and writer.
-ghost use Rattle.std.specs.Prelude.{◌≡◌, ◌≢◌, ◌≤◌, ◌⊎◌, IfOk, IfErr, OnOk, IfSome, true, false, length, string_bytes, IsErrOf};
+ghost use Rattle.std.specs.Prelude.{◌≡◌, ◌≢◌, ◌≤◌, ◌⊎◌, IfOk, IfErr, OnOk, IfSome, true, false, length, IsErrOf};
 ghost use Rattle.std.specs.Io.KnownBytes.{Appends};
 ghost use Rattle.reg_base.specs.declared.limits.TheConstants.{LONGEST_INPUT};
 ghost use Rattle.reg_text.specs.Writing.{AppendsPart};
 ghost use Rattle.reg_commands.specs.Answers.{Answers, AnswersInPart, Blames};
 ghost use Rattle.reg_commands.specs.FaultLines.{fault_line};
-ghost use Rattle.reg_commands.specs.declared.command.Command.{Command as AnyCommand};
 ghost use Rattle.reg_commands.specs.declared.faults.Fault.{Fault};
 
 use crate::checking::check;
 use crate::command::Command;
 use crate::fault_lines::write_fault;
 use crate::faults::Fault;
-use crate::input::{InputFault, read_text};
+use crate::input::read_input;
 use crate::playing::play;
 use crate::replaying::replay;
-use reg_base::limits::LONGEST_INPUT;
 use std::alloc::{Allocator, Global};
 use std::io::{Read, Write};
-
-/// The whole input as text.
-///
-/// # Errors
-///
-/// `Unread` where a read failed, and then no further one is made; `TooLong`, `NotText` and `OutOfMemory`.
-pub fn read_input<A: Allocator, R: Read>(alloc: A, reader: &mut R) -> Result<String<A>, Fault>
-    ensures ok { IfOk result (λ s. IfSome (R.remaining reader.old) (λ xs. string_bytes s ≡ xs)) }
-    ensures within { OnOk result (IfSome (R.remaining reader.old) (λ xs. length xs ≤ LONGEST_INPUT)) }
-    ensures why { IfErr result (λ f. IfSome (R.remaining reader.old) (λ xs. (command : AnyCommand) → Blames command f xs)) }
-    ensures kind { IfErr result (λ f. f ≢ Fault.Output) }
-{
-    match read_text(alloc, reader, LONGEST_INPUT) {
-        Ok(text) => Ok(text),
-        Err(InputFault::Read) => Err(Fault::Unread),
-        Err(InputFault::TooLong) => Err(Fault::TooLong),
-        Err(InputFault::NotText) => Err(Fault::NotText),
-        Err(InputFault::OutOfMemory) => Err(Fault::OutOfMemory),
-    }
-}
 
 fn answer<A: Allocator + Copy, W: Write>(
     alloc: A,
@@ -52,15 +30,15 @@ fn answer<A: Allocator + Copy, W: Write>(
     ensures part { IsErrOf result Fault.Output → AnswersInPart command (W.contents writer.old) (W.contents writer.new) text.now }
 {
     match command {
-        Command::Replay => match replay(alloc, text, writer) {
-            Ok(()) => Ok(true),
-            Err(fault) => Err(fault),
-        },
+        Command::Replay => {
+            replay(alloc, text, writer)?;
+            Ok(true)
+        }
         Command::Check => check(alloc, text, writer),
-        Command::Play { fair } => match play(alloc, global, text, fair, writer) {
-            Ok(()) => Ok(true),
-            Err(fault) => Err(fault),
-        },
+        Command::Play { fair } => {
+            play(alloc, global, text, fair, writer)?;
+            Ok(true)
+        }
     }
 }
 

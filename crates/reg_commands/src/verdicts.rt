@@ -1,9 +1,10 @@
 //! Judging a report from its text alone.
-ghost use Rattle.std.specs.Prelude.{◌≡◌, ◌++◌, ◌∷◌, [], IfOk, IfErr, MatchOption, MatchResult};
+ghost use Rattle.std.specs.Prelude.{◌≡◌, ◌++◌, ◌∷◌, [], Err, IfOk, IfErr, MatchResult};
 ghost use Rattle.std.specs.Io.KnownBytes.{Appends};
 ghost use Rattle.std.specs.Fmt.{decimal};
 ghost use Rattle.reg_text.specs.Writing.{AppendsPart, Puts};
-ghost use Rattle.reg_commands.specs.Verdicts.{check_fault, Tells, SerialSays, PointsSay, AllPointsSay, Judges, is_yes as is_yes_of, all_yes as all_yes_of, verdict_line, points_line, verdicts_text};
+ghost use Rattle.reg_commands.specs.Verdicts.{SerialSays, PointsSay, AllPointsSay, Judges, is_yes as is_yes_of, all_yes as all_yes_of, verdict_line, points_line, verdicts_text};
+ghost use Rattle.reg_commands.specs.Inner.{Tells};
 
 use crate::faults::Fault;
 use itoa::Buffer;
@@ -12,32 +13,13 @@ use reg_text::Sink;
 use std::alloc::{AllocError, Allocator};
 use std::io::Write;
 
-/// What is wrong with an order: a fault of its check, want of memory aside.
-#[derive(Clone, Copy, Debug, PartialEq, Eq)]
-pub enum Finding {
-    /// Some id is neither a finished operation nor a called write or swap.
-    Unknown,
-    /// Some id stands twice.
-    Twice,
-    /// Some finished operation isn't there.
-    Missing,
-    /// Some operation stands behind a later one of its process.
-    OwnOrder,
-    /// The operation at this place has another answer than one memory gives.
-    Answer { place: usize },
-    /// The point at this place is before the call or after the answer.
-    Outside { place: usize },
-    /// The point at this place is below the one before it.
-    Falling { place: usize },
-}
-
 /// What a checker says of an order.
 #[derive(Clone, Copy, Debug, PartialEq, Eq)]
 pub enum Verdict {
     /// It is one.
     Yes,
-    /// It is none, for this reason.
-    No(Finding),
+    /// It is none, for this reason: never want of memory.
+    No(CheckFault),
 }
 
 /// What the checkers say of a report: of its order, and of its points where it has any.
@@ -67,22 +49,6 @@ pub fn all_yes(verdicts: Verdicts) -> bool
     is_yes(verdicts.serial) && points
 }
 
-/// What a fault says of the order: nothing where it is want of memory.
-fn finding_of(fault: CheckFault) -> Option<Finding>
-    ensures { MatchOption result (fault ≡ CheckFault.OutOfMemory) (λ f. fault ≡ check_fault f) }
-{
-    match fault {
-        CheckFault::Unknown => Some(Finding::Unknown),
-        CheckFault::Twice => Some(Finding::Twice),
-        CheckFault::Missing => Some(Finding::Missing),
-        CheckFault::OwnOrder => Some(Finding::OwnOrder),
-        CheckFault::Answer { place } => Some(Finding::Answer { place }),
-        CheckFault::Outside { place } => Some(Finding::Outside { place }),
-        CheckFault::Falling { place } => Some(Finding::Falling { place }),
-        CheckFault::OutOfMemory => None,
-    }
-}
-
 /// The verdict of a check.
 fn verdict_of(answer: Result<(), CheckFault>) -> Result<Verdict, AllocError>
     ensures tells { IfOk result (λ v. Tells answer v) }
@@ -90,10 +56,8 @@ fn verdict_of(answer: Result<(), CheckFault>) -> Result<Verdict, AllocError>
 {
     match answer {
         Ok(()) => Ok(Verdict::Yes),
-        Err(fault) => match finding_of(fault) {
-            Some(finding) => Ok(Verdict::No(finding)),
-            None => Err(AllocError),
-        },
+        Err(CheckFault::OutOfMemory) => Err(AllocError),
+        Err(fault) => Ok(Verdict::No(fault)),
     }
 }
 
@@ -120,10 +84,7 @@ fn judge_all_points<A: Allocator + Copy>(
     ensures { IfOk result (λ v. AllPointsSay report.now report.now.points v) }
 {
     match report.points() {
-        Some(points) => match judge_points(alloc, report, points) {
-            Ok(verdict) => Ok(Some(verdict)),
-            Err(error) => Err(error),
-        },
+        Some(points) => Ok(Some(judge_points(alloc, report, points)?)),
         None => Ok(None),
     }
 }
@@ -155,17 +116,18 @@ fn put_place<W: Write>(sink: &mut Sink<'_, W>, name: &str, words: &str, place: u
     sink.put(b"\n");
 }
 
-fn put_finding<W: Write>(sink: &mut Sink<'_, W>, name: &str, finding: Finding)
-    ensures { Puts W.contents sink.old sink.new (verdict_line name.now (Verdict.No finding)) }
+fn put_fault<W: Write>(sink: &mut Sink<'_, W>, name: &str, fault: CheckFault)
+    ensures { Puts W.contents sink.old sink.new (verdict_line name.now (Verdict.No fault)) }
 {
-    match finding {
-        Finding::Unknown => put_words(sink, name, " no: unknown"),
-        Finding::Twice => put_words(sink, name, " no: twice"),
-        Finding::Missing => put_words(sink, name, " no: missing"),
-        Finding::OwnOrder => put_words(sink, name, " no: own order"),
-        Finding::Answer { place } => put_place(sink, name, " no: answer at ", place),
-        Finding::Outside { place } => put_place(sink, name, " no: outside at ", place),
-        Finding::Falling { place } => put_place(sink, name, " no: falling at ", place),
+    match fault {
+        CheckFault::Unknown => put_words(sink, name, " no: unknown"),
+        CheckFault::Twice => put_words(sink, name, " no: twice"),
+        CheckFault::Missing => put_words(sink, name, " no: missing"),
+        CheckFault::OwnOrder => put_words(sink, name, " no: own order"),
+        CheckFault::Answer { place } => put_place(sink, name, " no: answer at ", place),
+        CheckFault::Outside { place } => put_place(sink, name, " no: outside at ", place),
+        CheckFault::Falling { place } => put_place(sink, name, " no: falling at ", place),
+        CheckFault::OutOfMemory => put_words(sink, name, " no: out of memory"),
     }
 }
 
@@ -174,7 +136,7 @@ fn put_verdict<W: Write>(sink: &mut Sink<'_, W>, name: &str, verdict: Verdict)
 {
     match verdict {
         Verdict::Yes => put_words(sink, name, " yes"),
-        Verdict::No(finding) => put_finding(sink, name, finding),
+        Verdict::No(fault) => put_fault(sink, name, fault),
     }
 }
 

@@ -1,7 +1,7 @@
 -- Names on lines of their own.
 use Rattle.std.proofs.Common.{ℕ, zero, suc, ◌≡◌, ◌<◌, List, [], ◌∷◌, ◌++◌, length, map, get_or, None, Some, slice_get, true, refl, sym, ap, ◌∙◌, subst, arith}
 use Rattle.reg_base.specs.Names.{is_name, names_fault}
-use Rattle.reg_text.specs.Lines.{IsBlock}
+use Rattle.reg_text.specs.Inner.{IsBlock}
 use Rattle.reg_text.proofs.NamesLack.{well_spelt}
 
 each : (ns : List (List ℕ)) → ((r : ℕ) → r < length ns → is_name (get_or ns r []) ≡ true) → (k : ℕ) (x : List ℕ) → slice_get ns k ≡ Some x → is_name x ≡ true

@@ -11,14 +11,14 @@ use Rattle.reg_history.specs.declared.entries.Entry.{Entry}
 use Rattle.reg_history.specs.declared.entries.Point.{Point}
 use Rattle.reg_history.specs.History.{IsAt, IsCalled, IsAnswered, IsFinished, IsHistory}
 use Rattle.reg_history.specs.Orders.{IsPoint, NeverFalls}
-use Rattle.reg_history.specs.Checks.{IsOutside, IsFalling, IsFirst, IsSelectionFault, IsPointFault, ids_of}
+use Rattle.reg_history.specs.Checks.{IsOutside, IsFalling, IsFirst, IsPointFault, ids_of}
+use Rattle.reg_history.specs.Facts.{IsSelectionFault, IsFactOf, AreFacts, IsBeside, IsOutsideFact}
 use Rattle.reg_history.specs.declared.faults.CheckFault.{CheckFault}
 use Rattle.reg_history.specs.declared.faults.CheckFault.TheVariants.{Unknown, Twice, Missing, OwnOrder, Outside, Falling, OutOfMemory}
 use Rattle.reg_history.proofs.Histories.{call_is, answer_is}
 use Rattle.reg_history.proofs.Places.{IsAt-map, same_at, element_at}
 use Rattle.reg_history.specs.declared.answers.Fact.{Fact}
 use Rattle.reg_history.specs.declared.answers.Given.{Given}
-use Rattle.reg_history.specs.Facts.{IsFactOf, AreFacts, IsBeside, IsOutsideFact}
 use Rattle.reg_history.proofs.Bridges.{zip_right, has_given}
 
 -- one more place of which it does not hold

@@ -3,7 +3,7 @@ use Rattle.std.proofs.Common.{ℕ, ◌≡◌, ◌++◌, ◌⊎◌, List, codes, 
 use Rattle.reg_text.specs.declared.faults.Why.{Why}
 use Rattle.reg_text.specs.declared.faults.Why.TheVariants.{Range, Name}
 use Rattle.reg_text.specs.Forms.{HasOpForm, IsReadForm, IsWriteForm, IsSwapForm}
-use Rattle.reg_history.specs.EntryLines.{HasTailForm, IsTailWhy}
+use Rattle.reg_history.specs.LineForms.{HasTailForm, IsTailWhy}
 
 no_answer : (rest text other : List ℕ) → rest ≡ codes "call    " ++ text → rest ≡ codes "answer  " ++ other → ⊥
 no_answer rest text other e f = let clash = sym e ∙ f in search (rules, clash)

@@ -6,10 +6,11 @@ use Rattle.reg_history.specs.declared.report_limits.TheConstants.{MOST_ENTRIES, 
 use Rattle.reg_base.specs.Names.{names_fault}
 use Rattle.reg_history.specs.declared.entries.Entry.{Entry}
 use Rattle.reg_history.specs.declared.entries.Point.{Point}
-use Rattle.reg_history.specs.Reports.{Contents, head_lines, counted_lines, tail_lines, lines_in, IsCounted, IsReportIn, PointsFit, is_front}
+use Rattle.reg_history.specs.Reports.{Contents, head_lines, counted_lines, tail_lines, lines_in, IsReportIn, PointsFit, is_front}
+use Rattle.reg_history.specs.LineForms.{IsCounted, Follows}
 use Rattle.reg_history.specs.declared.versions.Version.{Version}
 use Rattle.reg_history.specs.Versions.{most_processes, most_registers}
-use Rattle.reg_history.specs.EntryLines.{entry_text, Follows}
+use Rattle.reg_history.specs.EntryLines.{entry_text}
 use Rattle.reg_history.specs.IdLines.{id_text, IdFits}
 
 abbrev pub after_head : Contents → List (List ℕ)

@@ -7,7 +7,8 @@ use Rattle.reg_text.specs.Lines.{AllFit}
 use Rattle.reg_text.proofs.Spelling.{op_fits}
 use Rattle.reg_history.specs.declared.entries.Entry.{Entry}
 use Rattle.reg_history.specs.declared.entries.Entry.TheVariants.{Called, Answered}
-use Rattle.reg_history.specs.EntryLines.{EntryFits, EntryHasValue, ColumnsFit}
+use Rattle.reg_history.specs.EntryLines.{EntryFits, ColumnsFit}
+use Rattle.reg_history.specs.LineForms.{EntryHasValue}
 use Rattle.reg_history.specs.declared.versions.Version.TheVariants.{Two}
 use Rattle.reg_history.specs.History.{IsHistory, MayCall, MayAnswer}
 use Rattle.reg_history.proofs.Places.{in_take}

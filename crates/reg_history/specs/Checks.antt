@@ -63,17 +63,6 @@ pub record NoneOfThree (h : List Entry) (ids : List OpId) : Type 0 where
   pub twice : ¬ HasTwice ids
   pub missing : ¬ HasMissing h ids
 
--- a fault of a selection: it is there, and none with a lower number is. Want of memory says nothing
-abbrev pub IsSelectionFault : List Entry → List OpId → CheckFault → Type 0
-IsSelectionFault h ids Unknown = HasUnknown h ids
-IsSelectionFault h ids Twice = (¬ HasUnknown h ids) × HasTwice ids
-IsSelectionFault h ids Missing = (¬ HasUnknown h ids) × (¬ HasTwice ids) × HasMissing h ids
-IsSelectionFault h ids OwnOrder = ⊥
-IsSelectionFault h ids (Answer place) = ⊥
-IsSelectionFault h ids (Outside place) = ⊥
-IsSelectionFault h ids (Falling place) = ⊥
-IsSelectionFault h ids OutOfMemory = Unit {0}
-
 -- a fault of an order: it is there, and none with a lower number is. Want of memory says nothing
 abbrev pub IsSerialFault : ℕ → List Entry → List OpId → CheckFault → Type 0
 IsSerialFault registers h ids Unknown = HasUnknown h ids

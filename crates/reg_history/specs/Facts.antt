@@ -1,4 +1,4 @@
--- What the passes of a check say, by the facts of the ids alone.
+-- The facts of operations, by which the passes of a check speak. They carry a proof: no promise speaks of them.
 use Rattle.std.specs.Prelude.{ℕ, ◌≡◌, ◌≢◌, ◌<◌, ◌⊎◌, List, map, take, Some, MatchOption}
 use Rattle.std.specs.List.{AllZip}
 use Rattle.reg_base.specs.declared.memory.OpId.{OpId}
@@ -9,6 +9,9 @@ use Rattle.reg_history.specs.History.{IsAt, IsCalled, IsAnswered, IsFinished}
 use Rattle.reg_history.specs.Orders.{IsSelection}
 use Rattle.reg_history.specs.declared.answers.Fact.{Fact}
 use Rattle.reg_history.specs.declared.answers.Given.{Given}
+use Rattle.reg_history.specs.declared.faults.CheckFault.{CheckFault}
+use Rattle.reg_history.specs.declared.faults.CheckFault.TheVariants.{Unknown, Twice, Missing, OwnOrder, Answer, Outside, Falling, OutOfMemory}
+use Rattle.reg_history.specs.Checks.{HasUnknown, HasTwice, HasMissing}
 
 -- what the history says of this operation
 pub record IsFactOf (h : List Entry) (id : OpId) (f : Fact) : Type 0 where
@@ -37,3 +40,14 @@ IsBeside p f = (p.at < f.called) ⊎ ((given : Given) × (f.answered ≡ Some gi
 
 abbrev pub IsOutsideFact : List Point → List Fact → ℕ → Type 0
 IsOutsideFact ps facts k = (p : Point) × (f : Fact) × IsAt ps k p × IsAt facts k f × IsBeside p f
+
+-- a fault of a selection: it is there, and none with a lower number is. Want of memory says nothing
+abbrev pub IsSelectionFault : List Entry → List OpId → CheckFault → Type 0
+IsSelectionFault h ids Unknown = HasUnknown h ids
+IsSelectionFault h ids Twice = (¬ HasUnknown h ids) × HasTwice ids
+IsSelectionFault h ids Missing = (¬ HasUnknown h ids) × (¬ HasTwice ids) × HasMissing h ids
+IsSelectionFault h ids OwnOrder = ⊥
+IsSelectionFault h ids (Answer place) = ⊥
+IsSelectionFault h ids (Outside place) = ⊥
+IsSelectionFault h ids (Falling place) = ⊥
+IsSelectionFault h ids OutOfMemory = Unit {0}

@@ -1,4 +1,4 @@
--- What is kept of each process beside a history, so that an entry is known to be in place at once.
+-- Marks beside a history, by which an entry is known to be in place. They carry a proof: no promise speaks of them.
 use Rattle.std.specs.Prelude.{ℕ, ◌≡◌, ◌+◌, ◌<◌, ◌↔◌, suc, List, length, Option, Some, None}
 use Rattle.reg_base.specs.declared.memory.OpId.{OpId}
 use Rattle.reg_history.specs.declared.entries.Entry.{Entry}

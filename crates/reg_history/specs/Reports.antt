@@ -68,12 +68,6 @@ report_text r = text_in Two r
 abbrev pub IsTextOf : List ℕ → List ℕ → Type 0
 IsTextOf text whole = (text ≡ whole) ⊎ (text ++ 10 ∷ [] ≡ whole)
 
--- the lines are those of a count and of as many elements, each fit, no more than the limit, and then the rest
-pub record IsCounted {X : Type 0} (mark : List ℕ) (line_of : X → List ℕ) (Fits : List X → X → Type 0) (limit : ℕ) (old rest : List (List ℕ)) (xs : List X) : Type 0 where
-  pub lines : old ≡ counted_lines mark line_of xs rest
-  pub fit : AllFit Fits xs
-  pub few : length xs ≤ limit
-
 abbrev pub PointsFit : Version → Option (List Point) → Type 0
 PointsFit version None = Unit {0}
 PointsFit version (Some points) = AllFit (λ _ p. PointFits version p) points × (length points ≤ MOST_IDS)

@@ -1,4 +1,4 @@
--- The lines as they are written.
+-- The lines as they are written. They carry a proof: no promise speaks of them.
 use Rattle.std.specs.Prelude.{ℕ, List, [], ◌∷◌, ◌++◌, flat_map}
 
 -- these lines, each with its line feed

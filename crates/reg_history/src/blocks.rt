@@ -5,9 +5,9 @@ ghost use Rattle.reg_history.specs.declared.entries.Point.{Point};
 ghost use Rattle.reg_base.specs.Names.{names_fault};
 ghost use Rattle.reg_history.specs.declared.entries.Entry.{Entry};
 ghost use Rattle.reg_history.specs.IdLines.{id_text, IdFits, point_text, PointFits};
-ghost use Rattle.reg_history.specs.EntryLines.{Follows};
+ghost use Rattle.reg_history.specs.LineForms.{Follows};
 ghost use Rattle.reg_history.specs.EntryLines.{entry_text};
-ghost use Rattle.reg_text.specs.Lines.{IsBlock};
+ghost use Rattle.reg_text.specs.Inner.{IsBlock};
 
 use crate::entries::Point;
 use crate::entry_lines::{read_entry, why_entry};

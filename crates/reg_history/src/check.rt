@@ -1,8 +1,8 @@
 //! The checkers of serial orders and point orders.
 ghost use Rattle.std.specs.Prelude.{MatchResult};
 ghost use Rattle.reg_history.specs.History.{IsHistory};
-ghost use Rattle.reg_history.specs.Checks.{SerialVerdict, PointVerdict, IsSelectionFault, NoneOfThree};
-ghost use Rattle.reg_history.specs.Facts.{IsSelected};
+ghost use Rattle.reg_history.specs.Checks.{SerialVerdict, PointVerdict, NoneOfThree};
+ghost use Rattle.reg_history.specs.Facts.{IsSelectionFault, IsSelected};
 
 use crate::answers::{Fact, first_wrong};
 use crate::entries::{Entry, Point};
@@ -50,10 +50,7 @@ fn judge_serial<A: Allocator + Copy>(
     requires { IsHistory shape.processes shape.registers entries.now }
     ensures { SerialVerdict shape.registers entries.now ids.now result }
 {
-    let facts = match select(alloc, shape, entries, ids) {
-        Ok(facts) => facts,
-        Err(fault) => return Err(fault),
-    };
+    let facts = select(alloc, shape, entries, ids)?;
     match breaks_own_order(alloc, ids) {
         Ok(false) => {}
         Ok(true) => return Err(CheckFault::OwnOrder),
@@ -78,10 +75,7 @@ fn judge_points<A: Allocator + Copy>(
     let Ok(ids) = ids_of_points(alloc, points) else {
         return Err(CheckFault::OutOfMemory);
     };
-    let facts = match select(alloc, shape, entries, &ids) {
-        Ok(facts) => facts,
-        Err(fault) => return Err(fault),
-    };
+    let facts = select(alloc, shape, entries, &ids)?;
     match first_wrong(alloc, shape, &facts) {
         Ok(None) => {}
         Ok(Some(place)) => return Err(CheckFault::Answer { place }),

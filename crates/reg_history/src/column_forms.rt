@@ -2,7 +2,7 @@
 ghost use Rattle.std.specs.Prelude.{◌≡◌, ◌≤◌, ◌++◌, ℕ, List, length, true, IfSome, IsSomeAnd};
 ghost use Rattle.reg_text.specs.Columns.{to_left, to_right};
 ghost use Rattle.reg_text.specs.Forms.{is_numeral as is_numeral_of};
-ghost use Rattle.reg_history.specs.EntryLines.{FitsColumn, HasColumns};
+ghost use Rattle.reg_history.specs.LineForms.{FitsColumn, HasColumns};
 
 use reg_text::{cut, form, in_front, is_numeral, skip, spaces_before};
 

@@ -4,7 +4,8 @@ ghost use Rattle.reg_base.specs.Names.{names_fault};
 ghost use Rattle.reg_base.specs.declared.memory.Answer.{Answer};
 ghost use Rattle.reg_history.specs.declared.entries.Entry.{Entry};
 ghost use Rattle.reg_text.specs.declared.faults.Why.{Why as AnyWhy};
-ghost use Rattle.reg_history.specs.EntryLines.{answer_text, AnswerFits, AreWithin, columns_text, ColumnsFit, entry_text, EntryFits, HasAnswerForm, HasColumns, HasEntryForm, HasTailForm, IsTailWhy};
+ghost use Rattle.reg_history.specs.EntryLines.{answer_text, AnswerFits, columns_text, ColumnsFit, entry_text, EntryFits};
+ghost use Rattle.reg_history.specs.LineForms.{AreWithin, HasAnswerForm, HasColumns, HasEntryForm, HasTailForm, IsTailWhy};
 ghost use Rattle.reg_history.specs.ReadFaults.{why_of};
 ghost use Rattle.reg_text.specs.Forms.{is_numeral as is_numeral_of};
 

@@ -2,7 +2,8 @@
 ghost use Rattle.std.specs.Prelude.{◌≡◌, ℕ, List, None, Some, IfSome, IsSome};
 ghost use Rattle.reg_base.specs.declared.memory.OpId.{OpId};
 ghost use Rattle.reg_history.specs.declared.entries.Point.{Point};
-ghost use Rattle.reg_history.specs.IdLines.{id_text, IdFits, point_text, PointFits, IsIdForm, HasIdForm, IsPointForm, HasPointForm};
+ghost use Rattle.reg_history.specs.IdLines.{id_text, IdFits, point_text, PointFits};
+ghost use Rattle.reg_history.specs.LineForms.{IsIdForm, HasIdForm, IsPointForm, HasPointForm};
 
 use crate::entries::Point;
 use crate::report_faults::ReadWhy;

@@ -1,7 +1,7 @@
 //! Readers of the registers of a report.
 ghost use Rattle.std.specs.Prelude.{◌≡◌, ◌≢◌, ◌≤◌, ◌++◌, ℕ, List, length, true, None, Some, IfOk, IfNone, MatchResult, MatchOption, string_bytes, codes, if◌then◌else◌};
 ghost use Rattle.reg_base.specs.Names.{is_name as is_name_of, names_fault, texts};
-ghost use Rattle.reg_text.specs.Lines.{IsBlock};
+ghost use Rattle.reg_text.specs.Inner.{IsBlock};
 ghost use Rattle.reg_text.specs.Forms.{is_word as is_word_of};
 ghost use Rattle.reg_history.specs.declared.versions.Version.{Version};
 ghost use Rattle.reg_history.specs.declared.versions.Version.TheVariants.{One, Two};

@@ -8,8 +8,8 @@ ghost use Rattle.reg_history.specs.declared.entries.Point.{Point};
 ghost use Rattle.reg_history.specs.EntryLines.{entry_text};
 ghost use Rattle.reg_history.specs.Reports.{is_front as is_front_of};
 ghost use Rattle.reg_history.specs.IdLines.{id_text, IdFits, point_text, PointFits};
-ghost use Rattle.reg_history.specs.EntryLines.{Follows};
-ghost use Rattle.reg_history.specs.Reports.{IsCounted, tail_lines, PointsFit, head_lines};
+ghost use Rattle.reg_history.specs.LineForms.{Follows, IsCounted};
+ghost use Rattle.reg_history.specs.Reports.{tail_lines, PointsFit, head_lines};
 ghost use Rattle.reg_history.specs.declared.versions.Version.{Version};
 ghost use Rattle.reg_history.specs.Versions.{most_processes, most_registers, version_line};
 

@@ -8,7 +8,6 @@ use crate::entries::Point;
 use reg_base::OpId;
 use std::alloc::{AllocError, Allocator};
 
-/// The ids of the points.
 pub fn ids_of_points<A: Allocator + Copy>(
     alloc: A,
     points: &[Point],

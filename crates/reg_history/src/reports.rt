@@ -6,7 +6,7 @@ ghost use Rattle.reg_text.specs.Lines.{AllFit};
 ghost use Rattle.reg_text.specs.Writing.{AppendsPart, Puts};
 ghost use Rattle.reg_history.specs.declared.entries.Entry.{Entry};
 ghost use Rattle.reg_history.specs.declared.entries.Point.{Point};
-ghost use Rattle.reg_history.specs.EntryLines.{EntryHasValue};
+ghost use Rattle.reg_history.specs.LineForms.{EntryHasValue};
 ghost use Rattle.reg_history.specs.declared.versions.Version.{Version};
 ghost use Rattle.reg_history.specs.declared.versions.Version.TheVariants.{Two};
 ghost use Rattle.reg_history.specs.IdLines.{IdFits, PointFits};

@@ -37,7 +37,8 @@ pub struct Holdback<A: Allocator + Copy = Global> {
 
 impl<A: Allocator + Copy> Model for Holdback<A> {
     ghost use Rattle.std.specs.Prelude.{length, ◌≤◌, ◌<◌};
-    ghost use Rattle.reg_holdback.specs.Waiting.{Waiting, InRange, casts_of};
+    ghost use Rattle.reg_holdback.specs.Waiting.{Waiting, casts_of};
+    ghost use Rattle.reg_holdback.specs.Inner.{InRange};
 
     ghost Value = { Waiting };
 

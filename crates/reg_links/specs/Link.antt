@@ -1,4 +1,4 @@
-use Rattle.std.specs.Prelude.{ℕ, ◌+◌, ◌-◌, ◌≤◌, ◌++◌, nat_eq, List, [], ◌∷◌, length, drop, max, Option, Some, None, if◌then◌else◌}
+use Rattle.std.specs.Prelude.{ℕ, ◌+◌, ◌-◌, ◌++◌, nat_eq, List, [], ◌∷◌, length, drop, max, Option, Some, None, if◌then◌else◌}
 use Rattle.reg_frames.specs.declared.bodies.Body.{Body}
 use Rattle.reg_links.specs.declared.outboxes.LinkFault.{LinkFault}
 use Rattle.reg_links.specs.declared.outboxes.LinkFault.TheVariants.{NumberFull, OutOfMemory}
@@ -12,9 +12,6 @@ pub record Unacknowledged : Type 0 where
 -- the number of the next body
 abbrev pub next_of : Unacknowledged → ℕ
 next_of o = o.first + length o.pending
-
-pub record InRange (o : Unacknowledged) : Type 0 where
-  pub next : next_of o ≤ FRAME_NUMBERS
 
 abbrev pub with_queued : Unacknowledged → Body → Unacknowledged
 with_queued o b = record o { pending = o.pending ++ b ∷ [] }

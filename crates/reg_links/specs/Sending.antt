@@ -1,5 +1,5 @@
 -- The sending ends of all links of one process, which queue the same bodies.
-use Rattle.std.specs.Prelude.{ℕ, ◌≡◌, ◌+◌, ◌-◌, ◌<◌, ◌≤◌, nat_eq, List, [], ◌∷◌, length, drop, min, Option, Some, None, if◌then◌else◌, slice_index}
+use Rattle.std.specs.Prelude.{ℕ, ◌≡◌, ◌+◌, ◌-◌, ◌<◌, nat_eq, List, [], length, drop, Option, Some, None, if◌then◌else◌, slice_index}
 use Rattle.reg_frames.specs.declared.bodies.Body.{Body}
 use Rattle.reg_links.specs.Link.{Unacknowledged, with_queued, acknowledged}
 use Rattle.reg_links.specs.declared.outboxes.LinkFault.{LinkFault}
@@ -16,11 +16,6 @@ pub record Sending : Type 0 where
 abbrev pub next_all : Sending → ℕ
 next_all s = s.first + length s.bodies
 
--- the least of the counts, or n where that is less
-abbrev pub least_from : ℕ → List ℕ → ℕ
-least_from n [] = n
-least_from n (c ∷ cs) = min c (least_from n cs)
-
 -- what a process that has acknowledged so many has not
 abbrev pub link_at : Sending → ℕ → Unacknowledged
 link_at s count = record { first = count; pending = drop (count - s.first) s.bodies }
@@ -28,12 +23,6 @@ link_at s count = record { first = count; pending = drop (count - s.first) s.bod
 -- the link to one process
 abbrev pub link_to : Sending → ℕ → Unacknowledged
 link_to s r = link_at s (slice_index s.counts r)
-
--- no process has acknowledged more than was queued, and just the bodies are kept that some process has not acknowledged
-pub record InStep (s : Sending) : Type 0 where
-  pub next : next_all s ≤ FRAME_NUMBERS
-  pub counts : (r : ℕ) → slice_index s.counts r ≤ next_all s
-  pub first : s.first ≡ least_from (next_all s) s.counts
 
 abbrev pub full_fault : Sending → Option LinkFault
 full_fault s = if nat_eq (next_all s) FRAME_NUMBERS then Some NumberFull else None

@@ -1,7 +1,8 @@
 //! The sending ends of all links of one process.
 ghost use Rattle.std.specs.Prelude.{◌≡◌, ℕ, ◌+◌, ◌-◌, ◌<◌, ◌≤◌, List, [], length, drop, replicate, None, IfOk, OnOk, OnErr, OkIff, MatchResult, slice_get, option_map};
 ghost use Rattle.reg_links.specs.Link.{next_of, refusal_of};
-ghost use Rattle.reg_links.specs.Sending.{next_all, least_from, link_to, full_fault, IsQueued, IsCounted};
+ghost use Rattle.reg_links.specs.Sending.{next_all, link_to, full_fault, IsQueued, IsCounted};
+ghost use Rattle.reg_links.specs.Inner.{least_from};
 ghost use Rattle.reg_frames.specs.declared.bodies.Frame.TheVariants.{Numbered};
 ghost use Rattle.reg_base.specs.declared.limits.TheConstants.{FRAME_NUMBERS};
 
@@ -24,7 +25,8 @@ pub struct Outboxes<A: Allocator + Copy = Global> {
 }
 
 impl<A: Allocator + Copy> Model for Outboxes<A> {
-    ghost use Rattle.reg_links.specs.Sending.{Sending, InStep};
+    ghost use Rattle.reg_links.specs.Sending.{Sending};
+    ghost use Rattle.reg_links.specs.Inner.{InStep};
 
     ghost Value = { Sending };
 

@@ -34,7 +34,8 @@ pub struct Outbox<A: Allocator + Copy = Global> {
 }
 
 impl<A: Allocator + Copy> Model for Outbox<A> {
-    ghost use Rattle.reg_links.specs.Link.{Unacknowledged, InRange};
+    ghost use Rattle.reg_links.specs.Link.{Unacknowledged};
+    ghost use Rattle.reg_links.specs.Inner.{InRange};
 
     ghost Value = { Unacknowledged };
 

@@ -1,2 +1,3 @@
 pub mod Lives
 pub mod StopLines
+pub mod Inner

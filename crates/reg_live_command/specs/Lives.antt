@@ -1,5 +1,5 @@
 -- What is written once threads have performed the scripts of a workload.
-use Rattle.std.specs.Prelude.{ℕ, ⊤, Bool, List, Option}
+use Rattle.std.specs.Prelude.{ℕ, Bool, List, Option}
 use Rattle.reg_base.specs.declared.memory.Op.{Op}
 use Rattle.reg_front.specs.declared.starts.Start.{Start}
 use Rattle.reg_history.specs.declared.entries.Point.{Point}
@@ -11,7 +11,6 @@ use Rattle.reg_live.specs.declared.entries.Receipt.{Receipt}
 use Rattle.reg_live.specs.Passes.{IsLived}
 use Rattle.reg_commands.specs.Replays.{start_of, Shows, PointsOf}
 use Rattle.reg_commands.specs.declared.command.Command.TheVariants.{Play}
-use Rattle.reg_commands.specs.declared.faults.Fault.TheVariants.{OutOfMemory}
 use Rattle.reg_commands.specs.Answers.{Blames}
 use Rattle.reg_commands.specs.Plays.{Holds, plan_of}
 use Rattle.reg_live_command.specs.declared.faults.Stop.{Stop}
@@ -38,12 +37,6 @@ pub record Lives (Wrote : List ℕ → Type 0) (text : List ℕ) : Type 0 where
   pub report : Contents
   pub shown : IsReportOfLive work report
   pub written : Wrote (report_text report)
-
--- what is told of threads: a pass that was refused, a record that was, or want of memory
-abbrev pub IsOfThreads : Stop → Type 0
-IsOfThreads (Command OutOfMemory) = ⊤
-IsOfThreads (Command fault) = ⊥
-IsOfThreads stop = ⊤
 
 -- What a stop says of the input: as of a play that isn't made. Of threads it is told only where the text says a workload.
 abbrev pub BlamesStop : Stop → List ℕ → Type 0

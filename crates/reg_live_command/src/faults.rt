@@ -1,5 +1,5 @@
 //! Why the threads' scripts give no report.
-ghost use Rattle.reg_live_command.specs.Lives.{IsOfThreads};
+ghost use Rattle.reg_live_command.specs.Inner.{IsOfThreads};
 
 use reg_commands::Fault;
 use reg_live::{CloseFault, LiveFault, RunStop};

@@ -3,11 +3,13 @@ ghost use Rattle.std.specs.Prelude.{◌≡◌, ◌≢◌, ◌≤◌, IfOk, IfErr
 ghost use Rattle.std.specs.Io.KnownBytes.{Appends};
 ghost use Rattle.reg_text.specs.Writing.{AppendsPart};
 ghost use Rattle.reg_toml.specs.Loads.{Load};
-ghost use Rattle.reg_commands.specs.Plays.{Holds, HasNoPoints};
+ghost use Rattle.reg_commands.specs.Plays.{Holds};
+ghost use Rattle.reg_commands.specs.Inner.{HasNoPoints};
 ghost use Rattle.reg_commands.specs.Replays.{ShowsPoints};
 ghost use Rattle.reg_live_command.specs.declared.faults.Stop.{Stop};
 ghost use Rattle.reg_live_command.specs.declared.faults.Stop.TheVariants.{Command};
-ghost use Rattle.reg_live_command.specs.Lives.{ShowsLive, IsReportOfLive, Lives, IsOfThreads, BlamesStop};
+ghost use Rattle.reg_live_command.specs.Lives.{ShowsLive, IsReportOfLive, Lives, BlamesStop};
+ghost use Rattle.reg_live_command.specs.Inner.{IsOfThreads};
 ghost use Rattle.reg_live_command.specs.StopLines.{stop_line};
 ghost use Rattle.reg_commands.specs.declared.faults.Fault.TheVariants.{Output};
 

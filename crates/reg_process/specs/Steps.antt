@@ -1,4 +1,4 @@
--- What the parts of an event do to the state.
+-- The parts of an event, and what they do to the state. They carry a proof: no promise speaks of them.
 use Rattle.std.specs.Prelude.{ℕ, ◌≡◌, ◌<◌, ◌+◌, length, Bool, cond, max, List, [], ◌∷◌, Option, Some, None}
 use Rattle.reg_base.specs.declared.stamps.Delivered.{Delivered}
 use Rattle.reg_process.specs.declared.steps.Reply.{Reply}

@@ -1,4 +1,4 @@
--- What a running operation waits for, as the code keeps it.
+-- What running operations wait for, as the code keeps it. They carry a proof: no promise speaks of them.
 use Rattle.reg_process.specs.declared.running.Awaited.{Awaited}
 use Rattle.reg_process.specs.declared.running.Awaited.TheVariants.{Cast, Settling}
 use Rattle.reg_process.specs.Process.{Running, Own, Held}

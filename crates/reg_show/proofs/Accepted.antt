@@ -12,7 +12,8 @@ use Rattle.reg_base.specs.declared.memory.Op.TheVariants.{Read, Write, Swap}
 use Rattle.reg_base.specs.Memory.{register_of}
 use Rattle.reg_front.specs.declared.starts.Start.{Start}
 use Rattle.reg_process.specs.declared.steps.Step.{Step}
-use Rattle.reg_text.specs.Ops.{OpFits, HasValue}
+use Rattle.reg_text.specs.Ops.{OpFits}
+use Rattle.reg_text.specs.Inner.{HasValue}
 use Rattle.reg_toml.specs.Loads.{Load, IsLoad}
 use Rattle.reg_world.specs.declared.events.Event.{Event}
 use Rattle.reg_world.specs.declared.events.Event.TheVariants.{Call, Take, Tick}
@@ -24,7 +25,8 @@ use Rattle.reg_commands.specs.Plays.{IsPlayBy, plan_of}
 use Rattle.reg_base.specs.Shape.{Extent}
 use Rattle.reg_front.specs.declared.named.Front.{Front}
 use Rattle.reg_world.proofs.code.Ahead.{same_extent}
-use Rattle.reg_show.specs.Schedules.{IsScheduleText, EventHasBits, ShowsSchedule, schedule_text}
+use Rattle.reg_show.specs.Schedules.{IsScheduleText, ShowsSchedule, schedule_text}
+use Rattle.reg_show.specs.Inner.{EventHasBits}
 use Rattle.reg_show.proofs.Spelled.{schedule_spelled}
 
 step_grows : (start : Op → ℕ → Start) (w : World) (e : Event) (m : Option (ℕ × Step)) → length (moved start w e m).accepted ≤ length w.accepted + 1

@@ -4,7 +4,8 @@ use Rattle.reg_history.specs.declared.entries.Entry.{Entry}
 use Rattle.reg_workload.specs.Schedules.{Plan, IsPlan, Spells}
 use Rattle.reg_commands.specs.Replays.{start_of}
 use Rattle.reg_show.specs.Moments.{Fact}
-use Rattle.reg_show.specs.Runs.{IsTold, TellsRun}
+use Rattle.reg_show.specs.Runs.{TellsRun}
+use Rattle.reg_show.specs.Inner.{IsTold}
 use Rattle.reg_show.specs.Traces.{trace_text}
 
 -- the trace that was written is that of the run

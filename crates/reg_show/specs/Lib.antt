@@ -4,3 +4,4 @@ pub mod Traces
 pub mod Figures
 pub mod Runs
 pub mod Showings
+pub mod Inner

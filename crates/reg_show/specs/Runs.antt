@@ -1,8 +1,5 @@
 -- What is told of the run of a schedule.
 use Rattle.std.specs.Prelude.{ℕ, ◌≡◌, ◌≤◌, ◌<◌, List, length}
-use Rattle.reg_base.specs.declared.memory.Op.{Op}
-use Rattle.reg_front.specs.declared.starts.Start.{Start}
-use Rattle.reg_history.specs.declared.entries.Entry.{Entry}
 use Rattle.reg_workload.specs.Schedules.{Plan, IsPlan, Spells}
 use Rattle.reg_commands.specs.Replays.{start_of, run_by}
 use Rattle.reg_commands.specs.Answers.{Blames}
@@ -10,15 +7,8 @@ use Rattle.reg_commands.specs.declared.command.Command.TheVariants.{Replay}
 use Rattle.reg_show.specs.declared.commands.TheConstants.{MOST_DRAWN}
 use Rattle.reg_show.specs.declared.faults.ShowFault.{ShowFault}
 use Rattle.reg_show.specs.declared.faults.ShowFault.TheVariants.{Command, TooManyToDraw}
-use Rattle.reg_show.specs.Moments.{Fact, moments_of}
+use Rattle.reg_show.specs.Moments.{moments_of}
 use Rattle.reg_show.specs.Traces.{trace_text}
-
--- All events of a plan are accepted, and these are its names, what its events did, and the history of its run.
-pub record IsTold (start : Op → ℕ → Start) (p : Plan) (names : List (List ℕ)) (facts : List Fact) (entries : List Entry) : Type 0 where
-  pub accepted : (run_by start p).accepted ≡ p.events
-  pub named : names ≡ p.names
-  pub did : facts ≡ moments_of start p.shape p.events
-  pub history : entries ≡ (run_by start p).history
 
 -- The text is that of a plan, all of whose events are accepted, and the trace of its run was written: `Wrote` says how a text
 -- was.

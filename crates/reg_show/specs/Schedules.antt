@@ -1,22 +1,13 @@
 -- The text of a schedule, and the schedule of a play.
-use Rattle.std.specs.Prelude.{ℕ, ◌≤◌, Bool, List}
+use Rattle.std.specs.Prelude.{ℕ, Bool, List}
 use Rattle.reg_base.specs.declared.memory.Op.{Op}
 use Rattle.reg_front.specs.declared.starts.Start.{Start}
 use Rattle.reg_text.specs.Lines.{text_of}
-use Rattle.reg_text.specs.Ops.{HasValue}
 use Rattle.reg_toml.specs.Loads.{Load}
-use Rattle.reg_world.specs.declared.events.Event.{Event}
-use Rattle.reg_world.specs.declared.events.Event.TheVariants.{Call, Take, Tick}
 use Rattle.reg_world.specs.Worlds.{Made}
 use Rattle.reg_workload.specs.Schedules.{Plan, IsPlan, Spells, plan_lines}
 use Rattle.reg_commands.specs.Replays.{start_of}
 use Rattle.reg_commands.specs.Plays.{Holds, IsPlayBy, plan_of}
-
--- the numbers of an event are within their types
-abbrev pub EventHasBits : Event → Type 0
-EventHasBits (Call process op) = (process ≤ 255) × HasValue op
-EventHasBits (Take from to number) = (from ≤ 255) × (to ≤ 255) × (number ≤ 4294967295)
-EventHasBits (Tick process) = process ≤ 255
 
 -- the lines of a schedule, each with its line feed
 abbrev pub schedule_text : Plan → List ℕ

@@ -6,7 +6,8 @@ ghost use Rattle.reg_workload.specs.Schedules.{Plan, IsPlan, Spells};
 ghost use Rattle.reg_commands.specs.Answers.{Blames};
 ghost use Rattle.reg_commands.specs.Replays.{start_of};
 ghost use Rattle.reg_commands.specs.declared.command.Command.TheVariants.{Replay};
-ghost use Rattle.reg_show.specs.Runs.{BlamesDrawn, DrawsRun, IsTold, TellsRun};
+ghost use Rattle.reg_show.specs.Runs.{BlamesDrawn, DrawsRun, TellsRun};
+ghost use Rattle.reg_show.specs.Inner.{IsTold};
 ghost use Rattle.reg_show.specs.Traces.{trace_text};
 
 use crate::drawing::{Drawing, write_drawing};

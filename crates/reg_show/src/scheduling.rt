@@ -9,7 +9,8 @@ ghost use Rattle.reg_commands.specs.Plays.{IsPlayBy, plan_of};
 ghost use Rattle.reg_commands.specs.Replays.{start_of};
 ghost use Rattle.reg_commands.specs.declared.command.Command.TheVariants.{Play};
 ghost use Rattle.reg_workload.specs.Schedules.{Plan};
-ghost use Rattle.reg_show.specs.Schedules.{EventHasBits, IsScheduleText, ShowsSchedule, WritesSchedule, schedule_text};
+ghost use Rattle.reg_show.specs.Schedules.{IsScheduleText, ShowsSchedule, WritesSchedule, schedule_text};
+ghost use Rattle.reg_show.specs.Inner.{EventHasBits};
 
 use crate::schedule_text::write_schedule;
 use reg_base::{Names, Shape};

@@ -2,7 +2,7 @@
 ghost use Rattle.std.specs.Prelude.{◌≡◌, None, IfOk, IfErr, option_map};
 ghost use Rattle.reg_commands.specs.Replays.{start_of, BlamesRun, PointsOf, ShowsPoints};
 ghost use Rattle.reg_show.specs.Moments.{moments_of};
-ghost use Rattle.reg_show.specs.Runs.{IsTold};
+ghost use Rattle.reg_show.specs.Inner.{IsTold};
 
 use crate::moments::{Moment, tell_events};
 use reg_base::Names;

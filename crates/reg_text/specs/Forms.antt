@@ -20,10 +20,6 @@ is_word bytes = not (length bytes == 0) && list_all is_word_byte bytes
 abbrev pub IsReadForm : List ℕ → List ℕ → Type 0
 IsReadForm text name = (is_word name ≡ true) × (text ≡ codes "read " ++ name)
 
--- a word and a numeral
-abbrev pub IsValuedForm : List ℕ → List ℕ → List ℕ → Type 0
-IsValuedForm text name digits = (is_word name ≡ true) × (is_numeral digits ≡ true) × (text ≡ name ++ 32 ∷ digits)
-
 -- `write`, a word and a numeral
 abbrev pub IsWriteForm : List ℕ → List ℕ → List ℕ → Type 0
 IsWriteForm text name digits = (is_word name ≡ true) × (is_numeral digits ≡ true) × (text ≡ codes "write " ++ (name ++ 32 ∷ digits))

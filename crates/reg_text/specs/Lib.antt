@@ -7,3 +7,4 @@ pub mod Ops
 pub mod Forms
 pub mod Writing
 pub mod WordsFaults
+pub mod Inner

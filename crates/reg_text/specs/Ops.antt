@@ -1,5 +1,5 @@
 -- How operations are spelled. A further kind of operation adds a line to each of these.
-use Rattle.std.specs.Prelude.{ℕ, ◌^◌, ◌<◌, ⊤, List, [], ◌∷◌, ◌++◌, length, codes, slice_index_or}
+use Rattle.std.specs.Prelude.{ℕ, ◌^◌, ◌<◌, List, [], ◌∷◌, ◌++◌, length, codes, slice_index_or}
 use Rattle.std.specs.Fmt.{decimal}
 use Rattle.reg_base.specs.declared.memory.Op.{Op}
 use Rattle.reg_base.specs.declared.memory.Op.TheVariants.{Read, Write, Swap}
@@ -17,12 +17,6 @@ abbrev pub op_text : List (List ℕ) → Op → List ℕ
 op_text names (Read register) = codes "read " ++ name_of names register
 op_text names (Write register value) = codes "write " ++ valued names register value
 op_text names (Swap register value) = codes "swap " ++ valued names register value
-
--- its value has 64 bits
-abbrev pub HasValue : Op → Type 0
-HasValue (Read register) = ⊤
-HasValue (Write register value) = value < 2 ^ 64
-HasValue (Swap register value) = value < 2 ^ 64
 
 -- its register has a name, and its value has 64 bits
 abbrev pub OpFits : List (List ℕ) → Op → Type 0

@@ -1,5 +1,5 @@
 -- Words of a line.
-use Rattle.std.specs.Prelude.{ℕ, ◌≡◌, ◌==◌, ◌<◌, ◌||◌, Bool, true, None, List, [], ◌∷◌, ◌⊎◌, flat_map, length, take}
+use Rattle.std.specs.Prelude.{ℕ, ◌≡◌, ◌==◌, ◌<◌, ◌||◌, Bool, true, None, List, ◌∷◌, flat_map, length, take}
 use Rattle.std.specs.Char.{is_ascii_lowercase}
 use Rattle.std.specs.List.{list_all}
 use Rattle.reg_base.specs.Names.{names_fault}
@@ -10,10 +10,6 @@ use Rattle.reg_text.specs.Forms.{is_word}
 -- each name behind a space
 abbrev pub names_text : List (List ℕ) → List ℕ
 names_text names = flat_map (λ name. 32 ∷ name) names
-
--- nothing, or a text that begins with the mark
-abbrev pub Starts : ℕ → List ℕ → Type 0
-Starts mark text = (text ≡ []) ⊎ ((rest : List ℕ) × (text ≡ mark ∷ rest))
 
 -- a letter from a to z, or a hyphen
 abbrev pub is_front_letter : ℕ → Bool

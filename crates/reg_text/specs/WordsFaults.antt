@@ -1,4 +1,4 @@
--- Why words are no names.
+-- The faults of words that are no names. They carry a proof: no promise speaks of them.
 use Rattle.std.specs.Prelude.{ℕ, List}
 use Rattle.reg_text.specs.declared.words.WordsFault.{WordsFault}
 use Rattle.reg_text.specs.declared.words.WordsFault.TheVariants.{Why, OutOfMemory}

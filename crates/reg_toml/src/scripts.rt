@@ -87,10 +87,7 @@ pub(crate) fn scripts_of<A: Allocator + Copy>(
     let mut all = Vec::new(alloc);
     let mut process = 0u8;
     for value in scripts {
-        let script = match script_of(alloc, process, lines_of(value), names) {
-            Ok(script) => script,
-            Err(fault) => return Err(fault),
-        };
+        let script = script_of(alloc, process, lines_of(value), names)?;
         if all.push(script).is_err() {
             return Err(WorkloadFault::OutOfMemory);
         }

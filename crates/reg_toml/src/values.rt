@@ -130,14 +130,9 @@ pub(crate) fn read_names<A: Allocator + Copy>(
     ensures { MatchResult result (λ n. (get_member (key_name key.Registers) (table_view table.now) ≡ Some (texts_data n)) × (names_fault n ≡ None) × (registers_at (table_view table.now) ≡ None))
         (λ e. (e ≡ OutOfMemory) ⊎ (registers_at (table_view table.now) ≡ Some e)) }
 {
-    let values = match array_at(table, Key::Registers) {
-        Ok(values) => values,
-        Err(fault) => return Err(fault),
-    };
-    match names_of(alloc, values) {
-        Ok(names) => Ok(names),
-        Err(fault) => Err(fault),
-    }
+    let values = array_at(table, Key::Registers)?;
+    let names = names_of(alloc, values)?;
+    Ok(names)
 }
 
 /// Whether a value is an array of texts.
@@ -206,10 +201,7 @@ pub(crate) fn read_scripts(table: &Table) -> Result<&[Value], WorkloadFault>
     ensures short { IfOk result (λ a. list_all (λ v. is_short_data (view v)) a.now ≡ true) }
 {
     let key = Key::Scripts;
-    let scripts = match array_at(table, key) {
-        Ok(scripts) => scripts,
-        Err(fault) => return Err(fault),
-    };
+    let scripts = array_at(table, key)?;
     if !are_scripts(scripts) {
         return Err(WorkloadFault::Kind { key });
     }

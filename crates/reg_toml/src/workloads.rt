@@ -55,26 +55,11 @@ fn workload_of<A: Allocator + Copy>(alloc: A, table: &Table) -> Result<Workload<
     if !has_known_keys(table) {
         return Err(WorkloadFault::UnknownKey);
     }
-    let front = match read_front(table) {
-        Ok(front) => front,
-        Err(fault) => return Err(fault),
-    };
-    let names = match read_names(alloc, table) {
-        Ok(names) => names,
-        Err(fault) => return Err(fault),
-    };
-    let lines = match read_scripts(table) {
-        Ok(lines) => lines,
-        Err(fault) => return Err(fault),
-    };
-    let numbers = match read_numbers(table) {
-        Ok(numbers) => numbers,
-        Err(fault) => return Err(fault),
-    };
-    let scripts = match scripts_of(alloc, lines, &names) {
-        Ok(scripts) => scripts,
-        Err(fault) => return Err(fault),
-    };
+    let front = read_front(table)?;
+    let names = read_names(alloc, table)?;
+    let lines = read_scripts(table)?;
+    let numbers = read_numbers(table)?;
+    let scripts = scripts_of(alloc, lines, &names)?;
     let Ok(shape) = Shape::new(scripts.len() as u32, names.count() as u32) else {
         unreachable!();
     };
@@ -102,10 +87,8 @@ impl<A: Allocator + Copy> Workload<A> {
         ensures whole { (l : Load) → Says (table_view table.now) l → IsLoad l → MatchResult result (λ w. w ≡ l) (λ e. e ≡ OutOfMemory) }
         ensures refused { IfErr result (λ e. (e ≡ OutOfMemory) ⊎ IsFault (table_view table.now) e) }
     {
-        match workload_of(alloc, table) {
-            Ok(work) => Ok(work),
-            Err(fault) => Err(fault),
-        }
+        let work = workload_of(alloc, table)?;
+        Ok(work)
     }
 }
 
@@ -141,9 +124,7 @@ impl Workload {
         ensures whole { (ms : Members) (l : Load) → parse_document text.now ≡ Some ms → Says ms l → IsLoad l → MatchResult result (λ w. w ≡ l) (λ e. e ≡ OutOfMemory) }
         ensures refused { IfErr result (λ e. (e ≡ OutOfMemory) ⊎ ((e ≡ Toml) × (parse_document text.now ≡ None)) ⊎ ((ms : Members) × (parse_document text.now ≡ Some ms) × IsFault ms e)) }
     {
-        match read_table(alloc, text) {
-            Ok(table) => Workload::from_table(alloc, &table),
-            Err(fault) => Err(fault),
-        }
+        let table = read_table(alloc, text)?;
+        Workload::from_table(alloc, &table)
     }
 }

@@ -23,7 +23,8 @@ use Rattle.reg_world.specs.World.{World, empty_world, move_of, moved, happens, r
 use Rattle.reg_world.specs.Worlds.{Made, run_in, refusal}
 use Rattle.reg_world.proofs.one_order.Acts.{put_cases}
 use Rattle.reg_world.proofs.code.Growing.{calls_are}
-use Rattle.reg_workload.specs.Plays.{call_at, calls_of, script_of, Playing, next_at, cursor_at, IsPlaying, MayCall, next_frame, next_op}
+use Rattle.reg_workload.specs.Plays.{call_at, calls_of, script_of, Playing, next_at, cursor_at, next_frame, next_op}
+use Rattle.reg_workload.specs.PlayParts.{IsPlaying, MayCall}
 
 -- a run accepts no more events than it is given
 few_in : (start : Op → ℕ → Start) (n registers : ℕ) (es : List Event) (w : World) → length (run start n registers es w).accepted ≤ length w.accepted + length es

@@ -17,7 +17,7 @@ use Rattle.reg_process.specs.declared.steps.Step.{Step}
 use Rattle.reg_process.specs.declared.steps.Step.TheVariants.{Call as CallStep, Take as TakeStep}
 use Rattle.reg_world.specs.declared.events.Event.{Event}
 use Rattle.reg_world.specs.declared.events.Event.TheVariants.{Call, Take}
-use Rattle.reg_world.specs.Laws.{NothingPending}
+use Rattle.reg_world.specs.NodeRuns.{NothingPending}
 use Rattle.reg_world.specs.Nodes.{put, after_step, take_step}
 use Rattle.reg_world.specs.World.{World, move_of, moved, world_fault, whole}
 use Rattle.reg_world.specs.Worlds.{Made, Accepts, run_in, with_event, new_world}
@@ -28,7 +28,8 @@ use Rattle.reg_world.proofs.one_order.Wholes.{whole_inv}
 use Rattle.reg_world.proofs.witness.Premises.{K}
 use Rattle.reg_world.proofs.one_memory.Refusals.{refused_by_fault, one_more}
 use Rattle.reg_workload.specs.Plays.{Playing, cursor_at}
-use Rattle.reg_workload.specs.Fair.{takes_of, expected_after, counted_after, InStep, IsFair, IsBehind, Leaves}
+use Rattle.reg_workload.specs.Fair.{takes_of}
+use Rattle.reg_workload.specs.FairParts.{expected_after, counted_after, InStep, IsFair, IsBehind, Leaves}
 use Rattle.reg_workload.proofs.InOrder.{takes_more, ticks_same, taken_here, taken_other, range_more}
 use Rattle.reg_workload.proofs.Wires.{Takes, moves_on, all_behind, first_left}
 use Rattle.reg_workload.proofs.Moving.{none_got, one_got, called_moves, taken_moves}

@@ -11,7 +11,8 @@ use Rattle.reg_base.specs.declared.memory.Op.{Op}
 use Rattle.reg_world.specs.declared.events.Event.{Event}
 use Rattle.reg_world.specs.declared.events.Event.TheVariants.{Take}
 use Rattle.reg_workload.specs.Plays.{Playing, cursor_at}
-use Rattle.reg_workload.specs.Fair.{take_at, takes_of, tick_in, ticks_of, TakesInOrder, IsFair}
+use Rattle.reg_workload.specs.Fair.{take_at, takes_of, tick_in, ticks_of, TakesInOrder}
+use Rattle.reg_workload.specs.FairParts.{IsFair}
 
 pub takes_more : (x y : ℕ) (es es1 : List Event) (e : Event) → es1 ≡ es ++ e ∷ [] → takes_of x y es1 ≡ takes_of x y es ++ take_at x y e
 takes_more x y es es1 e q = ap (takes_of x y) q ∙ (flat_map-append (take_at x y) es (e ∷ []) ∙ ap (λ l. takes_of x y es ++ l) (append-nil (take_at x y e)))

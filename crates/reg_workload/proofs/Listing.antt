@@ -11,7 +11,8 @@ use Rattle.reg_workload.specs.Seeded.{take_of, call_choice, take_choice, tick_ch
 use Rattle.reg_base.specs.declared.memory.Op.{Op}
 use Rattle.reg_front.specs.declared.starts.Start.{Start}
 use Rattle.reg_workload.specs.declared.choices.Choice.{Choice}
-use Rattle.reg_workload.specs.Plays.{Playing, may_call, next_frame, pending_at, IsChoice, AreChoices}
+use Rattle.reg_workload.specs.Plays.{Playing, may_call, next_frame, pending_at}
+use Rattle.reg_workload.specs.PlayParts.{IsChoice, AreChoices}
 
 one_more : {X : Type 0} (P : X → Type 0) (xs : List X) (x : X) → ((k : ℕ) (c : X) → slice_get xs k ≡ Some c → P c) → P x → (k : ℕ) (c : X) → slice_get (xs ++ x ∷ []) k ≡ Some c → P c
 one_more P [] x h p zero c e = let z : x ≡ c = cc in subst P z p

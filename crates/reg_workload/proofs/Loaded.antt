@@ -6,7 +6,8 @@ use Rattle.reg_base.specs.declared.memory.Op.TheVariants.{Read, Write, Swap}
 use Rattle.reg_base.specs.Memory.{register_of}
 use Rattle.reg_text.specs.Ops.{OpFits}
 use Rattle.reg_toml.specs.Loads.{Load, IsLoad}
-use Rattle.reg_workload.specs.Plays.{script_of, ArePlayable}
+use Rattle.reg_workload.specs.Plays.{script_of}
+use Rattle.reg_workload.specs.PlayParts.{ArePlayable}
 
 op_known : (names : List (List ℕ)) (op : Op) → OpFits names op → register_of op < length names
 op_known names (Read register) fits = fits

@@ -16,7 +16,7 @@ use Rattle.reg_world.specs.Nodes.{Node, Nodes, after_result}
 use Rattle.reg_world.proofs.one_order.Worlds.{Inv}
 use Rattle.reg_world.proofs.one_order.NodeEvents.{next_is}
 use Rattle.reg_world.proofs.one_order.Accepting.{accepts_is, accepts_first}
-use Rattle.reg_workload.specs.Fair.{expected_after, counted_after}
+use Rattle.reg_workload.specs.FairParts.{expected_after, counted_after}
 use Rattle.reg_workload.proofs.Wires.{Moves, expected_both, counted_both, next_expected, other_expected, got_expected, got_counted, none_counted}
 
 -- no frame taken, and one frame of one process

@@ -4,7 +4,7 @@ use Rattle.std.proofs.lemmas.Bool.{false≢true}
 use Rattle.reg_base.specs.declared.memory.Op.{Op}
 use Rattle.reg_front.specs.declared.starts.Start.{Start}
 use Rattle.reg_workload.specs.Plays.{Playing}
-use Rattle.reg_workload.specs.Fair.{IsFair, GoesFairly, RoundPart}
+use Rattle.reg_workload.specs.FairParts.{IsFair, GoesFairly, RoundPart}
 
 module _ (start : Op → ℕ → Start) (budget : ℕ) where
   -- an event was made

@@ -20,8 +20,9 @@ use Rattle.reg_world.specs.Worlds.{run_in}
 use Rattle.reg_process.proofs.Again.{replicate_at}
 use Rattle.reg_world.proofs.witness.Promised.{settled}
 use Rattle.reg_world.proofs.one_order.Settled.{none_on_link}
-use Rattle.reg_workload.specs.Plays.{call_at, calls_of, script_of, Playing, next_at, next_op, Follows, IsPlayable, ArePlayable, IsPlaying, IsFinished, IsPlay, FollowsScript, AllStill}
-use Rattle.reg_workload.specs.Fair.{AtRest}
+use Rattle.reg_workload.specs.Plays.{call_at, calls_of, script_of, Playing, next_at, next_op, IsFinished, IsPlay, FollowsScript}
+use Rattle.reg_workload.specs.PlayParts.{Follows, IsPlayable, ArePlayable, IsPlaying, AllStill}
+use Rattle.reg_workload.specs.FairParts.{AtRest}
 
 -- one event more
 calls_more : (p : ℕ) (es : List Event) (e : Event) → calls_of p (es ++ e ∷ []) ≡ calls_of p es ++ call_at p e

@@ -7,7 +7,8 @@ use Rattle.reg_front.specs.declared.starts.Start.{Start}
 use Rattle.reg_world.specs.declared.events.Event.TheVariants.{Take}
 use Rattle.reg_workload.specs.declared.choices.Choice.{Choice}
 use Rattle.reg_workload.specs.declared.choices.Choice.TheVariants.{Call as CallNext, Take as TakeNext, Tick as PutAgain}
-use Rattle.reg_workload.specs.Plays.{Playing, GoesOn, Turns, cursor_at, steps, makes, passes}
+use Rattle.reg_workload.specs.Plays.{Playing, cursor_at, steps, makes, passes}
+use Rattle.reg_workload.specs.PlayParts.{GoesOn, Turns}
 use Rattle.reg_workload.specs.Seeded.{choices_of, says, picked, takes_next, chooses, turns_by, turn, turns}
 
 -- one step more

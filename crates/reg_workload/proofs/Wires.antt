@@ -7,11 +7,11 @@ use Rattle.reg_frames.specs.declared.bodies.Body.{Body}
 use Rattle.reg_frames.specs.declared.bodies.Frame.{Frame}
 use Rattle.reg_frames.specs.declared.bodies.Frame.TheVariants.{Numbered, Got}
 use Rattle.reg_process.specs.Process.{peer_at, got_frames}
-use Rattle.reg_world.specs.Laws.{NothingPending}
+use Rattle.reg_world.specs.NodeRuns.{NothingPending}
 use Rattle.reg_world.specs.Nodes.{Node, Nodes, put}
 use Rattle.reg_world.proofs.one_order.Acts.{put_cases}
 use Rattle.reg_world.proofs.one_order.Worlds.{Inv}
-use Rattle.reg_workload.specs.Fair.{expected_after, counted_after, InStep}
+use Rattle.reg_workload.specs.FairParts.{expected_after, counted_after, InStep}
 
 pub expected_both : (e : ℕ) (fs gs : List Frame) → expected_after e (fs ++ gs) ≡ expected_after (expected_after e fs) gs
 expected_both e [] gs = refl

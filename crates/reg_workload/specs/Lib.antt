@@ -3,3 +3,5 @@ pub mod Plays
 pub mod Fair
 pub mod Seeded
 pub mod Rounds
+pub mod PlayParts
+pub mod FairParts

@@ -1,6 +1,6 @@
 //! What can happen next in a seeded play.
 ghost use Rattle.std.specs.Prelude.{◌≡◌, ◌<◌, ◌≤◌, ◌++◌, [], false, OnOk};
-ghost use Rattle.reg_workload.specs.Plays.{AreChoices, NoCall, NoTick, AllStill};
+ghost use Rattle.reg_workload.specs.PlayParts.{AreChoices, NoCall, NoTick, AllStill};
 ghost use Rattle.reg_workload.specs.Seeded.{call_choices, take_choices_from, take_choices, tick_choices, choices_of};
 
 use crate::playing::Player;

@@ -1,9 +1,11 @@
 //! The fair player.
 ghost use Rattle.std.specs.Prelude.{◌≡◌, ◌≤◌, ◌<◌, length, false, true, OnOk, IfOk, map};
 ghost use Rattle.reg_base.specs.declared.limits.TheConstants.{MOST_EVENTS};
-ghost use Rattle.reg_workload.specs.Plays.{GoesOn, IsPlay, MayCall, ArePlayable};
+ghost use Rattle.reg_workload.specs.Plays.{IsPlay};
+ghost use Rattle.reg_workload.specs.PlayParts.{GoesOn, MayCall, ArePlayable};
 ghost use Rattle.reg_workload.specs.Rounds.{call_in_round, take_in_round, calls_in_round, takes_from_in_round, takes_in_round, round, rounds, fair_play};
-ghost use Rattle.reg_workload.specs.Fair.{TakesInOrder, IsFair, IsBehind, RoundPart, NoneMayCall, AllBehindFrom, AllBehind, AtRest};
+ghost use Rattle.reg_workload.specs.Fair.{TakesInOrder};
+ghost use Rattle.reg_workload.specs.FairParts.{IsFair, IsBehind, RoundPart, NoneMayCall, AllBehindFrom, AllBehind, AtRest};
 
 use crate::playing::{Play, Player};
 use reg_base::{Op, Shape};

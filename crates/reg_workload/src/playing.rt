@@ -6,8 +6,9 @@ ghost use Rattle.reg_base.specs.declared.limits.TheConstants.{MOST_PROCESSES, MO
 ghost use Rattle.reg_world.specs.Worlds.{Accepts, new_world, refusal, run_in};
 ghost use Rattle.reg_world.specs.declared.events.Event.TheVariants.{Call, Take, Tick};
 ghost use Rattle.reg_base.specs.declared.memory.Op.{Op};
-ghost use Rattle.reg_workload.specs.Plays.{script_of, next_at, cursor_at, call_at, MayCall, IsDone, IsFinished, IsPlay, Playing, ArePlayable, new_play, may_call, next_frame, next_op, makes, calls_next, passes};
-ghost use Rattle.reg_workload.specs.Fair.{IsBehind, Leaves, AtRest};
+ghost use Rattle.reg_workload.specs.Plays.{script_of, next_at, cursor_at, call_at, IsDone, IsFinished, IsPlay, Playing, new_play, may_call, next_frame, next_op, makes, calls_next, passes};
+ghost use Rattle.reg_workload.specs.PlayParts.{MayCall, ArePlayable};
+ghost use Rattle.reg_workload.specs.FairParts.{IsBehind, Leaves, AtRest};
 
 use reg_base::limits::MOST_PROCESSES;
 use reg_base::{Op, Shape};
@@ -38,7 +39,8 @@ pub(crate) struct Player<'w, F: FrontEnd, A: Allocator + Copy> {
 
 impl<'w, F: FrontEnd, A: Allocator + Copy> Model for Player<'w, F, A> {
     ghost use Rattle.std.specs.Prelude.{map, length};
-    ghost use Rattle.reg_workload.specs.Plays.{Playing, IsPlaying};
+    ghost use Rattle.reg_workload.specs.Plays.{Playing};
+    ghost use Rattle.reg_workload.specs.PlayParts.{IsPlaying};
 
     ghost Value = { Playing };
 

@@ -1,7 +1,8 @@
 //! The seeded player.
 ghost use Rattle.std.specs.Prelude.{◌≡◌, ◌≤◌, ◌<◌, ◌+◌, ℕ, [], length, false, true, None, Some, slice_get, OnOk, IfOk, IfSome, map};
 ghost use Rattle.reg_base.specs.declared.limits.TheConstants.{MOST_EVENTS};
-ghost use Rattle.reg_workload.specs.Plays.{GoesOn, Turns, IsPlay, AllStill, IsChoice, AreChoices, ArePlayable, cursor_at, next_frame};
+ghost use Rattle.reg_workload.specs.Plays.{IsPlay, cursor_at, next_frame};
+ghost use Rattle.reg_workload.specs.PlayParts.{GoesOn, Turns, AllStill, IsChoice, AreChoices, ArePlayable};
 ghost use Rattle.reg_workload.specs.Seeded.{says, picked, takes_or_loses, chooses, choices_of, turn, turns, seeded_play};
 
 use crate::choices::{Choice, list};

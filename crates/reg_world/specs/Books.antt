@@ -1,4 +1,4 @@
--- What is kept of the operations of each process, against a run.
+-- Tallies of all processes, against a run. They carry a proof: no promise speaks of them.
 use Rattle.std.specs.Prelude.{ℕ, ◌≡◌, ◌<◌, ◌==◌, List, map, length}
 use Rattle.std.specs.Option.{is_some}
 use Rattle.std.specs.List.{filter}

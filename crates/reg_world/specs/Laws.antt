@@ -1,5 +1,5 @@
 -- The laws of a run.
-use Rattle.std.specs.Prelude.{[], ◌≡◌, ℕ, ◌+◌, ◌<◌, ◌≤◌, max, ◌⊎◌, slice_get, Some, None}
+use Rattle.std.specs.Prelude.{◌≡◌, ℕ, ◌+◌, ◌<◌, ◌≤◌, max, ◌⊎◌, slice_get, Some, None}
 use Rattle.reg_base.specs.declared.limits.TheConstants.{FRAME_NUMBERS, LAST_TIME}
 use Rattle.reg_base.specs.declared.stamps.Delivered.{Delivered}
 use Rattle.reg_frames.specs.declared.bodies.Body.{Body}
@@ -62,10 +62,6 @@ pub record NoRefusal (n registers : ℕ) (w : Nodes) : Type 0 where
 -- at every process no data frame, over all its links, waits for an acknowledgement
 abbrev pub AllAcknowledged : ℕ → Nodes → Type 0
 AllAcknowledged n w = (p : ℕ) → p < n → pending_of (w p).state.peers ≡ 0
-
--- the same, link by link
-abbrev pub NothingPending : ℕ → Nodes → Type 0
-NothingPending n w = (p q : ℕ) → p < n → q < n → (p ≡ q → ⊥) → (peer_at (w p).state q).pending ≡ []
 
 -- Every list of deliveries has all casts made.
 abbrev pub DeliveriesFull : ℕ → Nodes → Type 0

@@ -94,18 +94,6 @@ step_of n registers w (Take from to number) =
     cond (nat_lt from n && (nat_lt to n && not (from == to))) (take_step from to (slice_get ((w from).wire to) number)) None
 step_of n registers w (Tick p) = cond (nat_lt p n) (Some (p, TickStep)) None
 
-abbrev pub nodes_after : (Op → ℕ → Start) → Nodes → Option (ℕ × Step) → Nodes
-nodes_after start w None = w
-nodes_after start w (Some m) = put w m.0 (after_step start (w m.0) m.1)
-
--- A refused event changes nothing.
-abbrev pub happens : (Op → ℕ → Start) → ℕ → ℕ → Nodes → Event → Nodes
-happens start n registers w e = nodes_after start w (step_of n registers w e)
-
-abbrev pub run : (Op → ℕ → Start) → ℕ → ℕ → List Event → Nodes → Nodes
-run start n registers [] w = w
-run start n registers (e ∷ es) w = run start n registers es (happens start n registers w e)
-
 -- those of the casts whose stamps don't stand in the list
 abbrev pub unseen : List Delivered → List Delivered → List Delivered
 unseen known casts = filter (λ c. not (list_any (λ (d : Delivered). (d.stamp.time == c.stamp.time) && (d.stamp.process == c.stamp.process)) known)) casts

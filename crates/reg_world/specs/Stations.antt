@@ -1,4 +1,4 @@
--- One process with its wires, and one event of it.
+-- Processes with their wires, and an event of one. They carry a proof: no promise speaks of them.
 use Rattle.std.specs.Prelude.{ℕ, ◌≡◌, zero, suc, Bool, false, List, [], ◌∷◌, ◌++◌, length, Option, None, slice_set, slice_index_or}
 use Rattle.reg_base.specs.declared.stamps.Stamp.{Stamp}
 use Rattle.reg_base.specs.declared.stamps.Delivered.{Delivered}

@@ -1,4 +1,4 @@
--- What is kept of the operations of a process.
+-- Tallies of the operations of processes. They carry a proof: no promise speaks of them.
 use Rattle.std.specs.Prelude.{ℕ, ◌-◌, Bool, false, nat_lt, if◌then◌else◌, List, [], slice_index_or}
 use Rattle.reg_base.specs.declared.memory.OpId.{OpId}
 use Rattle.reg_world.specs.declared.callers.Note.{Note}

@@ -1,4 +1,4 @@
--- The wires of one process. Frames that stand on several wires at the same place are kept once.
+-- The wires of one process, whose common frames are kept once. They carry a proof: no promise speaks of them.
 use Rattle.std.specs.Prelude.{ℕ, ◌≡◌, ◌≤◌, List, [], ◌∷◌, length, take, slice_index_or}
 use Rattle.reg_frames.specs.declared.bodies.Frame.{Frame}
 

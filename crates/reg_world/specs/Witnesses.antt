@@ -1,4 +1,4 @@
--- The order and the points of a run as lists, from what is kept of it.
+-- The order and the points of a run as lists, from what is kept of it. They carry a proof: no promise speaks of them.
 use Rattle.std.specs.Prelude.{ℕ, ◌≡◌, ◌+◌, ◌-◌, slice_get, Bool, true, ◌||◌, ◌&&◌, nat_lt, nat_le, cond, List, [], ◌∷◌, ◌++◌, map, length, Option, Some, None}
 use Rattle.std.specs.List.{filter}
 use Rattle.std.specs.List.Sorted.{IsSorted, IsStable}

@@ -70,14 +70,6 @@ impl<A: Allocator + Copy> Accepted<A> {
         self.count = 0;
     }
 
-    /// Makes room for so many more. Nothing else changes.
-    pub(crate) fn reserve(&mut self, events: usize) -> Result<(), AllocError>
-        ensures taken { self.new.taken ≡ self.old.taken }
-        ensures ahead { self.new.ahead ≡ self.old.ahead }
-    {
-        self.events.reserve(events)
-    }
-
     /// Makes room for one more. Nothing else changes.
     pub(crate) fn make_room(&mut self) -> Result<(), AllocError>
         ensures taken { self.new.taken ≡ self.old.taken }

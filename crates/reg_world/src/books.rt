@@ -230,13 +230,6 @@ impl<A: Allocator + Copy> Book<A> {
         })
     }
 
-    /// Makes room for so many events. Nothing else changes.
-    pub(crate) fn reserve(&mut self, events: usize) -> Result<(), AllocError>
-        ensures { self.new ≡ self.old }
-    {
-        self.accepted.reserve(events)
-    }
-
     /// Puts these events ahead, before any was accepted. Nothing else changes.
     pub(crate) fn put_ahead(&mut self, events: Vec<Event, A>)
         requires { self.old.accepted ≡ [] }

@@ -1,6 +1,6 @@
 //! Which process makes which step in an event.
 ghost use Rattle.std.specs.Prelude.{◌≡◌, slice_get};
-ghost use Rattle.reg_world.specs.Worlds.{call_refusal as call_refusal_of, wire_in, frame_or, frame_in, call_or, take_or, found_step as found_step_of, found as found_of};
+ghost use Rattle.reg_world.specs.WorldParts.{call_refusal as call_refusal_of, wire_in, frame_or, frame_in, call_or, take_or, found_step as found_step_of, found as found_of};
 
 use crate::books::Book;
 use crate::callers::Caller;
@@ -99,10 +99,8 @@ fn call_step(refusal: Option<WorldFault>, process: u8, op: Op) -> Result<(u8, St
 fn take_step(frame: Result<Frame, WorldFault>, from: u8, to: u8) -> Result<(u8, Step), WorldFault>
     ensures { result ≡ take_or frame from to }
 {
-    match frame {
-        Ok(frame) => Ok((to, Step::Take { from, frame })),
-        Err(fault) => Err(fault),
-    }
+    let frame = frame?;
+    Ok((to, Step::Take { from, frame }))
 }
 
 /// The same, of an event that isn't one too many.

@@ -11,7 +11,8 @@ ghost use Rattle.reg_world.specs.Laws.{DeliveriesAgree, DeliveriesRise, Deliveri
 ghost use Rattle.reg_world.specs.Promises.{OrderIsLongest, OrderIsRight, FirstsRight, RepliesRight, ReadsRight};
 ghost use Rattle.reg_world.specs.World.{run_of, whole};
 ghost use Rattle.reg_world.specs.Stations.{listed};
-ghost use Rattle.reg_world.specs.Worlds.{first_standing, Made, run_in, Accepts, Refuses, reply_in, IsWorld, IsMove, Advances, PartsGoOn, PartsRefuse, made_of, new_world, after_events, RunRefuses, IsProcess, IsWire, IsNoWire};
+ghost use Rattle.reg_world.specs.Worlds.{Made, run_in, Accepts, Refuses, reply_in, new_world, after_events, RunRefuses, IsProcess, IsWire, IsNoWire};
+ghost use Rattle.reg_world.specs.WorldParts.{first_standing, IsWorld, IsMove, Advances, PartsGoOn, PartsRefuse, made_of};
 
 use crate::books::Book;
 use crate::events::Event;
@@ -42,11 +43,12 @@ pub struct World<F: FrontEnd, A: Allocator + Copy = Global> {
 }
 
 impl<F: FrontEnd, A: Allocator + Copy> Model for World<F, A> {
-    ghost use Rattle.reg_world.specs.Worlds.{Made, made_of, IsWorld};
+    ghost use Rattle.reg_world.specs.Worlds.{Made};
+    ghost use Rattle.reg_world.specs.WorldParts.{IsWorld};
 
     ghost Value = { Made };
 
-    ghost view = { λ w. made_of w.failed w.book };
+    ghost view = { λ w. record { failed = w.failed; processes = w.book.shape.processes; registers = w.book.shape.registers; accepted = w.book.accepted; history = w.book.entries } };
 
     ghost invariant = { λ w. IsWorld F.start w.failed w.stations.items w.book };
 }
@@ -98,10 +100,7 @@ fn step_parts<F: FrontEnd, A: Allocator + Copy>(
     requires { IsWorld F.start false stations.old.items book.old }
     ensures made { MatchResult result (λ _. PartsGoOn F.start book.old event stations.new.items book.new) (λ fault. PartsRefuse F.start book.old event fault) }
 {
-    let (process, step) = match found(stations, book, &event) {
-        Ok(found) => found,
-        Err(fault) => return Err(fault),
-    };
+    let (process, step) = found(stations, book, &event)?;
     match advance(stations, book, event, process, &step) {
         Ok(_) => Ok(()),
         Err(_) => Err(WorldFault::OutOfMemory),
@@ -155,10 +154,8 @@ impl<F: FrontEnd, A: Allocator + Copy> World<F, A> {
         ensures history { MatchResult result (λ _. (reply : Option Reply) × Grows (length self.old.accepted) self.old.history event.now reply self.new.history) (λ _. self.new.history ≡ self.old.history) }
         ensures accepted { MatchResult result (λ _. self.new.accepted ≡ self.old.accepted ++ event.now ∷ []) (λ _. self.new.accepted ≡ self.old.accepted) }
     {
-        match self.step_reply(event) {
-            Ok(_) => Ok(()),
-            Err(fault) => Err(fault),
-        }
+        self.step_reply(event)?;
+        Ok(())
     }
 
     /// The same, with the reply that the event gives: its answer is the one that the history grows by.
@@ -170,10 +167,7 @@ impl<F: FrontEnd, A: Allocator + Copy> World<F, A> {
         if self.failed {
             return Err(WorldFault::Failed);
         }
-        let (process, step) = match found(&self.stations, &self.book, event) {
-            Ok(found) => found,
-            Err(fault) => return Err(fault),
-        };
+        let (process, step) = found(&self.stations, &self.book, event)?;
         match advance(&mut self.stations, &mut self.book, *event, process, &step) {
             Ok(reply) => Ok(reply),
             Err(_) => {
@@ -183,15 +177,6 @@ impl<F: FrontEnd, A: Allocator + Copy> World<F, A> {
         }
     }
 
-    /// A world in which nothing happened yet, with room for so many events, or for all that a world may have.
-    fn with_room(alloc: A, shape: Shape, events: usize) -> Result<World<F, A>, AllocError>
-        ensures { IfOk result (λ w. w ≡ new_world shape) }
-    {
-        let mut world = World::new(alloc, shape)?;
-        world.book.reserve(events.min(MOST_EVENTS as usize))?;
-        Ok(world)
-    }
-
     /// Makes these events, one after another, in a new world. The first one that is refused ends the run; want of memory
     /// before the first event is told of that one.
     pub fn run(alloc: A, shape: Shape, events: &[Event]) -> Result<World<F, A>, RunFault>
@@ -199,17 +184,11 @@ impl<F: FrontEnd, A: Allocator + Copy> World<F, A> {
         ensures history { IfOk result (λ w. Makes events.now w.history) }
         ensures accepted { MatchResult result (λ _. (run_in F.start (after_events F.start shape events.now)).accepted ≡ events.now) (λ f. (run_in F.start (after_events F.start shape (take f.at events.now))).accepted ≡ take f.at events.now) }
     {
-        let Ok(mut world) = World::with_room(alloc, shape, events.len()) else {
+        let Ok(events) = events.to_vec(alloc) else {
             let fault = WorldFault::OutOfMemory;
             return Err(RunFault { at: 0, fault });
         };
-        for (at, event) in events.iter().enumerate() {
-            if let Err(fault) = world.step(event) {
-                return Err(RunFault { at, fault });
-            }
-        }
-        world.history();
-        Ok(world)
+        World::run_owned(alloc, shape, events)
     }
 
     /// The same, with the list itself kept as that of the accepted events, so that it takes no memory for a copy.
@@ -224,13 +203,9 @@ impl<F: FrontEnd, A: Allocator + Copy> World<F, A> {
         };
         let count = events.len();
         world.book.put_ahead(events);
-        match run_ahead(&mut world.stations, &mut world.book, count) {
-            Ok(()) => {
-                world.history();
-                Ok(world)
-            }
-            Err(fault) => Err(fault),
-        }
+        run_ahead(&mut world.stations, &mut world.book, count)?;
+        world.history();
+        Ok(world)
     }
 
     /// The number of processes and of registers.

@@ -42,7 +42,6 @@ impl<F: FrontEnd, A: Allocator + Copy> Station<F, A> {
         Ok(Station { process, wires })
     }
 
-    /// The process.
     pub(crate) fn process(&self) -> &Process<F, A>
         ensures failed { result.now.failed ≡ self.now.failed }
         ensures state { result.now.state ≡ self.now.state }

@@ -67,7 +67,7 @@ impl<A: Allocator + Copy> Wire<A> {
         }
     }
 
-    /// The frames.
+    /// All frames of the wire, where `common` has those that it shares.
     fn frames<'w>(&'w self, common: &'w [Frame]) -> &'w [Frame]
         requires { self.now.shared ≤ length common.now }
         ensures { result.now ≡ frames_in common.now self.now }

@@ -7,7 +7,7 @@ use Rattle.reg_front.specs.declared.starts.Start.{Start}
 use Rattle.reg_world.specs.declared.events.Event.{Event}
 use Rattle.reg_world.specs.Pages.{Pages}
 use Rattle.reg_world.specs.Stations.{Standing}
-use Rattle.reg_world.specs.Worlds.{IsWorld}
+use Rattle.reg_world.specs.WorldParts.{IsWorld}
 
 first_of : (at : ℕ) (events : List Event) (e : Event) → Some e ≡ slice_get (drop at events) 0 → (at < length events) × (get_or events at e ≡ e)
 first_of zero [] e h = absurd (cc)

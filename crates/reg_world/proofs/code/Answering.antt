@@ -1,7 +1,7 @@
 -- What a world answers, from its parts.
 use Rattle.std.proofs.Common.{◌≡◌, ℕ, ◌+◌, ◌<◌, ◌≤◌, Bool, true, false, not, List, [], ◌∷◌, ◌++◌, map, length, take, get_or, Option, Some, None, Result, Ok, Err, IfOk, refl, sym, ap, ◌∙◌, subst, inr, arith}
 use Rattle.std.specs.List.{filter}
-use Rattle.std.proofs.lemmas.List.{get_or_default, take_more, take_all}
+use Rattle.std.proofs.lemmas.List.{get_or_default, take_more}
 use Rattle.std.specs.Option.{is_some}
 use Rattle.std.proofs.lemmas.Bool.{cond_both}
 use Rattle.std.proofs.lemmas.Option.{same_Some, none-some}
@@ -27,7 +27,8 @@ use Rattle.reg_world.specs.Tallies.{Tally}
 use Rattle.reg_world.specs.Witnesses.{is_kept, point_of, IsMerged}
 use Rattle.reg_world.specs.Pages.{Pages}
 use Rattle.reg_world.specs.Stations.{Standing, listed}
-use Rattle.reg_world.specs.Worlds.{Made, run_in, refusal, with_event, Accepts, Refuses, IsWorld, made_of, standing_of, new_world, after_events, RunRefuses, IsProcess, IsWire}
+use Rattle.reg_world.specs.Worlds.{Made, run_in, refusal, with_event, Accepts, Refuses, after_events, RunRefuses, IsProcess, IsWire}
+use Rattle.reg_world.specs.WorldParts.{IsWorld, made_of, standing_of}
 use Rattle.reg_world.proofs.code.Noted.{at_index}
 use Rattle.reg_world.proofs.code.Tallied.{at_or, points_are, witness_is}
 use Rattle.reg_world.proofs.code.Telling.{at_listed}
@@ -115,9 +116,6 @@ pub record IsRunSoFar (start : Op → ℕ → Start) (shape : Extent) (events : 
   pub made : world ≡ after_events start shape (take at events)
   pub all : (run_in start (after_events start shape (take at events))).accepted ≡ take at events
 
-pub run_begins : (start : Op → ℕ → Start) (shape : Extent) (events : List Event) (w : Made) → w ≡ new_world shape → IsRunSoFar start shape events 0 w
-run_begins start shape events w is = record { made = is; all = refl }
-
 pub run_goes_on : (start : Op → ℕ → Start) (shape : Extent) (events : List Event) (at : ℕ) (d : Event) (old new : Made) → at < length events → IsRunSoFar start shape events at old → Accepts start old (get_or events at d) new → IsRunSoFar start shape events (at + 1) new
 run_goes_on start shape events at d old new l S A =
     let more = take_more events at d l in
@@ -126,9 +124,3 @@ run_goes_on start shape events at d old new l S A =
       all = subst (λ z. (run_in start (after_events start shape z)).accepted ≡ z) (sym more)
           (accepted_more start (after_events start shape (take at events)) (get_or events at d) S.all (subst (λ (z : Made). refusal start z (get_or events at d) ≡ None) S.made A.no_fault));
     }
-
-pub run_ends : (start : Op → ℕ → Start) (shape : Extent) (events : List Event) (at : ℕ) (w : Made) → length events ≤ at → IsRunSoFar start shape events at w → (run_in start (after_events start shape events)).accepted ≡ events
-run_ends start shape events at w l S = subst (λ z. (run_in start (after_events start shape z)).accepted ≡ z) (take_all at events l) S.all
-
-pub run_all : (start : Op → ℕ → Start) (shape : Extent) (events : List Event) (at : ℕ) (w : Made) → length events ≤ at → w ≡ after_events start shape (take at events) → w ≡ after_events start shape events
-run_all start shape events at w l is = is ∙ ap (after_events start shape) (take_all at events l)

@@ -13,7 +13,7 @@ use Rattle.reg_world.specs.Nodes.{first_state}
 use Rattle.reg_world.specs.Tallies.{no_calls}
 use Rattle.reg_world.specs.Pages.{Pages}
 use Rattle.reg_world.specs.Stations.{Standing, listed}
-use Rattle.reg_world.specs.Worlds.{IsWorld, first_standing}
+use Rattle.reg_world.specs.WorldParts.{IsWorld, first_standing}
 use Rattle.reg_world.proofs.code.Sending.{length-listed, listed_empty}
 use Rattle.reg_world.proofs.code.Telling.{at_listed}
 

@@ -8,7 +8,7 @@ use Rattle.reg_world.specs.Stations.{Standing}
 use Rattle.reg_base.specs.declared.limits.TheConstants.{MOST_EVENTS}
 use Rattle.reg_world.specs.declared.events.Event.{Event}
 use Rattle.reg_world.specs.Pages.{Pages}
-use Rattle.reg_world.specs.Worlds.{wire_in, frame_or, frame_in, found_step, found}
+use Rattle.reg_world.specs.WorldParts.{wire_in, frame_or, frame_in, found_step, found}
 
 pub past_none : {X : Type 0} (xs : List X) (k : ℕ) → length xs ≤ k → slice_get xs k ≡ None
 past_none [] k l = refl

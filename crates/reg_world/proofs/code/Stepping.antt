@@ -19,7 +19,8 @@ use Rattle.reg_world.specs.World.{World, world_fault, move_of, moved, whole}
 use Rattle.reg_world.specs.Histories.{Grows}
 use Rattle.reg_world.specs.Pages.{Pages, entered, entries_after, tally_at, MayEnter}
 use Rattle.reg_world.specs.Stations.{Standing, MayAct, Acts}
-use Rattle.reg_world.specs.Worlds.{Made, refusal, with_event, stopped, reply_of_move, reply_in, Accepts, Refuses, IsWorld, made_of, standing_of, found, IsMove, Advances}
+use Rattle.reg_world.specs.Worlds.{Made, refusal, with_event, stopped, reply_of_move, reply_in, Accepts, Refuses}
+use Rattle.reg_world.specs.WorldParts.{IsWorld, made_of, standing_of, found, IsMove, Advances}
 use Rattle.reg_world.proofs.code.Noted.{at_index}
 use Rattle.reg_world.proofs.one_order.Acting.{may_act}
 use Rattle.reg_world.proofs.code.Telling.{IsFound, found_right, ordinary}

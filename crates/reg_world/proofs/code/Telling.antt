@@ -19,7 +19,7 @@ use Rattle.reg_world.specs.World.{World, frame_fault, event_fault, world_fault, 
 use Rattle.reg_world.specs.Books.{tally_of}
 use Rattle.reg_world.specs.Pages.{Pages, tally_at}
 use Rattle.reg_world.specs.Stations.{Standing, listed}
-use Rattle.reg_world.specs.Worlds.{Tells, Stand, tally_fault, call_refusal, wire_in, frame_or, frame_in, call_or, take_or, found_step, found}
+use Rattle.reg_world.specs.WorldParts.{Tells, Stand, tally_fault, call_refusal, wire_in, frame_or, frame_in, call_or, take_or, found_step, found}
 use Rattle.reg_world.proofs.lists.Bodies.{place_first, place_last}
 use Rattle.reg_world.proofs.code.Tallied.{at_or}
 use Rattle.reg_world.proofs.code.Sending.{length-listed}

@@ -19,7 +19,8 @@ use Rattle.reg_base.specs.Order.{In, Rising, insert}
 use Rattle.reg_base.specs.Memory.{answer_of, memory_after}
 use Rattle.reg_process.specs.Process.{State, ops_of, Running, Own, Held, is_own, stamp_at, cast_at, clear_casts, reply_of, still, look, done_at_once, cast_made, called, taken, accepted, accepts, acknowledged, queues, quiet, got_frames, peer_at, delivered_state, unsettled, step}
 use Rattle.reg_front.specs.Fronts.{MayStart, KeepsLaws}
-use Rattle.reg_world.specs.Nodes.{Node, put, nodes_after, step_of, said, op_in, running_op, after_result, after_step}
+use Rattle.reg_world.specs.Nodes.{Node, put, step_of, said, op_in, running_op, after_result, after_step}
+use Rattle.reg_world.specs.NodeRuns.{nodes_after}
 use Rattle.reg_world.proofs.one_memory.Traced.{World, casts_of, Called, Answered, Past, answered_in, past_after, pasts_after, world_after, run_world, empty_world, cast_of, Stands, HistoryRight, whole}
 use Rattle.reg_world.specs.declared.events.Event.{Event}
 use Rattle.reg_world.proofs.one_order.Worlds.{Inv}

@@ -14,7 +14,8 @@ use Rattle.reg_process.specs.declared.steps.Step.{Step}
 use Rattle.reg_process.specs.Process.{step, ops_of}
 use Rattle.reg_history.specs.History.{IsHistory}
 use Rattle.reg_world.specs.declared.events.Event.{Event}
-use Rattle.reg_world.specs.Nodes.{Node, Nodes, put, after_step, step_of, nodes_after}
+use Rattle.reg_world.specs.Nodes.{Node, Nodes, put, after_step, step_of}
+use Rattle.reg_world.specs.NodeRuns.{nodes_after}
 use Rattle.reg_world.specs.Laws.{DeliveriesMade}
 use Rattle.reg_base.specs.declared.limits.TheConstants.{MOST_EVENTS}
 use Rattle.reg_world.specs.World.{World, empty_world, op_id, move_of, moved, happens, run, whole}

@@ -16,7 +16,8 @@ use Rattle.reg_process.specs.declared.steps.Step.TheVariants.{Call, Take, Tick}
 use Rattle.reg_world.specs.declared.events.Event.{Event}
 use Rattle.reg_base.specs.Order.{In}
 use Rattle.reg_process.specs.Process.{State, Outcome, stamp_at, called, taken, accepted, quiet, got_frames, peer_at, unsettled, step}
-use Rattle.reg_world.specs.Nodes.{Node, put, nodes_after, step_of, after_step}
+use Rattle.reg_world.specs.Nodes.{Node, put, step_of, after_step}
+use Rattle.reg_world.specs.NodeRuns.{nodes_after}
 use Rattle.reg_world.proofs.one_memory.Traced.{World, Called, Past, called_in, past_after, pasts_after, world_after, run_world, empty_world, whole, IsCalled, CastsCalled}
 use Rattle.reg_world.proofs.lists.Bodies.{place_first, place_split}
 use Rattle.reg_world.proofs.one_order.Worlds.{Inv}

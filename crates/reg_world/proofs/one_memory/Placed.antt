@@ -21,7 +21,8 @@ use Rattle.reg_process.specs.declared.steps.Step.{Step}
 use Rattle.reg_process.specs.declared.steps.Step.TheVariants.{Call, Take, Tick}
 use Rattle.reg_process.specs.Process.{State, Outcome, Running, Own, Held, cast_at, clear_casts, casts_before, reply_after, reply_of, taken, accepted, accepts, queues, quiet, got_frames, peer_at, step, called, cast_made, stamp_at, unsettled}
 use Rattle.reg_world.specs.declared.events.Event.{Event}
-use Rattle.reg_world.specs.Nodes.{Node, put, op_in, after_step, step_of, nodes_after}
+use Rattle.reg_world.specs.Nodes.{Node, put, op_in, after_step, step_of}
+use Rattle.reg_world.specs.NodeRuns.{nodes_after}
 use Rattle.reg_world.proofs.one_memory.Traced.{Called, Answered, Past, World, cast_of, called_in, answered_in, past_after, pasts_after, world_after, run_world, empty_world, whole}
 use Rattle.reg_world.specs.Promises.{AnswersFirst}
 use Rattle.reg_base.proofs.Lists.{in_cases, insert_new}

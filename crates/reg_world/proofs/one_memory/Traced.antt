@@ -13,7 +13,8 @@ use Rattle.reg_process.specs.Process.{State, Outcome, step, ops_of}
 -- The laws of a run.
 use Rattle.reg_base.specs.declared.memory.Answer.TheVariants.{Done}
 use Rattle.reg_base.specs.Order.{In, IsPrefixOf}
-use Rattle.reg_world.specs.Nodes.{unseen, Said, Nodes, run, empty, put, op_in, step_of, happens}
+use Rattle.reg_world.specs.Nodes.{unseen, Said, Nodes, empty, put, op_in, step_of}
+use Rattle.reg_world.specs.NodeRuns.{run, happens}
 use Rattle.reg_world.specs.Laws.{IsMade}
 
 -- A cast with the number of the event that first delivered it anywhere.

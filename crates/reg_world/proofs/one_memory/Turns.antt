@@ -20,7 +20,8 @@ use Rattle.reg_world.specs.declared.events.Event.{Event}
 use Rattle.reg_base.specs.Order.{In, insert}
 use Rattle.reg_process.specs.Process.{State, Outcome, Running, Own, Held, is_own, stamp_at, cast_at, clear_casts, casts_before, up_to_own, reply_after, reply_of, still, called, taken, accepted, accepts, queues, cast_made, quiet, got_frames, peer_at, unsettled, step}
 use Rattle.reg_front.specs.Fronts.{KeepsLaws}
-use Rattle.reg_world.specs.Nodes.{Node, Nodes, put, nodes_after, step_of, op_in, after_step}
+use Rattle.reg_world.specs.Nodes.{Node, Nodes, put, step_of, op_in, after_step}
+use Rattle.reg_world.specs.NodeRuns.{nodes_after}
 use Rattle.reg_world.proofs.one_memory.Traced.{World, Called, Answered, Past, answered_in, past_after, pasts_after, world_after, run_world, empty_world, whole, AnswersInOrder}
 use Rattle.reg_base.proofs.Lists.{in_cases}
 use Rattle.reg_world.proofs.one_order.Worlds.{Inv}

@@ -20,7 +20,8 @@ use Rattle.reg_process.specs.declared.steps.Step.TheVariants.{Call as CallStep, 
 use Rattle.reg_process.specs.Process.{State, Outcome, Running, Own, stamp_at, cast_at, clear_casts, reply_of, still, called, taken, accepted, accepts, queues, cast_made, quiet, got_frames, peer_at, unsettled, step}
 use Rattle.reg_world.specs.declared.events.Event.{Event}
 use Rattle.reg_world.specs.declared.events.Event.TheVariants.{Call, Take, Tick}
-use Rattle.reg_world.specs.Nodes.{Node, Nodes, put, take_step, step_of, nodes_after, after_step, op_in}
+use Rattle.reg_world.specs.Nodes.{Node, Nodes, put, take_step, step_of, after_step, op_in}
+use Rattle.reg_world.specs.NodeRuns.{nodes_after}
 use Rattle.reg_world.proofs.one_memory.Traced.{Answered, Past, World, answered_in, past_after, pasts_after, world_after, run_world, empty_world, whole}
 use Rattle.reg_base.proofs.Lists.{in_left, in_right}
 use Rattle.reg_world.proofs.one_order.Acts.{put_cases}

@@ -16,9 +16,10 @@ use Rattle.reg_process.specs.declared.steps.Step.TheVariants.{Call, Take, Tick}
 use Rattle.reg_world.specs.declared.events.Event.{Event}
 use Rattle.reg_base.specs.Order.{AtMost, In, insert}
 use Rattle.reg_process.specs.Process.{State, Running, Own, Held, peer_at, seen_at, stamp_at, cast_at, time_of, clear_casts, delivered_state, called, taken, accepted, accepts, acknowledged, queues, cast_made, quiet, got_frames, unsettled}
-use Rattle.reg_world.specs.Nodes.{Node, Nodes, running_op, after_result, after_step, step_of, nodes_after}
+use Rattle.reg_world.specs.Nodes.{Node, Nodes, running_op, after_result, after_step, step_of}
+use Rattle.reg_world.specs.NodeRuns.{nodes_after, NothingPending}
 use Rattle.reg_world.proofs.one_memory.Traced.{World, world_after, run_world, empty_world, whole}
-use Rattle.reg_world.specs.Laws.{NothingPending, DeliveriesFull}
+use Rattle.reg_world.specs.Laws.{DeliveriesFull}
 use Rattle.reg_base.proofs.Lists.{in_left, in_right, in_cases, in_insert}
 use Rattle.reg_world.proofs.lists.Bodies.{place_first, place_last, place_within}
 use Rattle.reg_world.proofs.one_order.Local.{delivery_adds_none}

@@ -12,7 +12,8 @@ use Rattle.reg_process.specs.declared.steps.Step.{Step}
 use Rattle.reg_world.specs.declared.events.Event.{Event}
 use Rattle.reg_base.specs.Order.{Below, In, Rising, IsPrefixOf}
 use Rattle.reg_process.specs.Process.{step}
-use Rattle.reg_world.specs.Nodes.{Node, Nodes, put, after_step, step_of, nodes_after, unseen}
+use Rattle.reg_world.specs.Nodes.{Node, Nodes, put, after_step, step_of, unseen}
+use Rattle.reg_world.specs.NodeRuns.{nodes_after}
 use Rattle.reg_world.proofs.one_memory.Traced.{World, First, casts_of, firsts, order_after, world_after}
 use Rattle.reg_world.specs.Laws.{IsMade}
 use Rattle.reg_base.proofs.Orders.{same_stamp, below_irrefl}

@@ -13,7 +13,8 @@ use Rattle.reg_process.specs.declared.steps.Step.{Step}
 use Rattle.reg_world.specs.declared.events.Event.{Event}
 use Rattle.reg_base.specs.Order.{Below, In, Rising, IsPrefixOf}
 use Rattle.reg_process.specs.Process.{no_peer, peer_at, time_of, next_of, step}
-use Rattle.reg_world.specs.Nodes.{Node, Nodes, after_step, step_of, nodes_after, happens, run, empty, first_state}
+use Rattle.reg_world.specs.Nodes.{Node, Nodes, after_step, step_of, empty, first_state}
+use Rattle.reg_world.specs.NodeRuns.{nodes_after, happens, run}
 use Rattle.reg_world.proofs.one_memory.Traced.{world_of}
 use Rattle.reg_world.specs.Laws.{DeliveriesAgree, DeliveriesRise, UndeliveredAbove, DeliveriesMade, NoRefusal, IsAhead, IsStale, IsFull}
 use Rattle.reg_base.proofs.Lists.{in_left, in_right, in_cases}

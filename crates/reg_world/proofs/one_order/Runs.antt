@@ -11,7 +11,8 @@ use Rattle.reg_frames.specs.declared.bodies.Frame.{Frame}
 use Rattle.reg_frames.specs.declared.bodies.Frame.TheVariants.{Numbered, Got}
 use Rattle.reg_base.specs.Order.{In}
 use Rattle.reg_process.specs.Process.{State, Peer, no_peer, peer_at, seen_at, stamp_at, got_frames, numbered_from, Own, Held, called, taken, accepted, acknowledged, resent, quiet, no_frames}
-use Rattle.reg_world.specs.Nodes.{Nodes, op_in, after_result, after_step, take_step, step_of, nodes_after, happens}
+use Rattle.reg_world.specs.Nodes.{Nodes, op_in, after_result, after_step, take_step, step_of}
+use Rattle.reg_world.specs.NodeRuns.{nodes_after, happens}
 use Rattle.reg_world.proofs.one_order.Worlds.{Inv}
 use Rattle.reg_world.proofs.one_order.Acts.{Kept, inv_act}
 use Rattle.reg_world.proofs.one_order.Frames.{got_no_numbered, got_count, numbered_in, numbered_no_got, place_take, place_drop}

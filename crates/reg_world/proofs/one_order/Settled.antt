@@ -20,9 +20,10 @@ use Rattle.reg_base.specs.Order.{below, In, Rising, insert}
 use Rattle.reg_base.specs.Memory.{memory_after}
 use Rattle.reg_process.specs.Process.{Peer, no_peer, pending_of, State, Running, Own, Held, is_clear, is_own, peer_at, stamp_at, cast_at, clear_casts, casts_before, up_to_own, reply_after, reply_of, still, delivered_state, called, taken, accepted, accepts, queues, cast_made, quiet, got_frames, unsettled, ops_of}
 use Rattle.reg_front.specs.Fronts.{MayStart, KeepsLaws}
-use Rattle.reg_world.specs.Nodes.{Node, Nodes, after_step, step_of, nodes_after}
+use Rattle.reg_world.specs.Nodes.{Node, Nodes, after_step, step_of}
+use Rattle.reg_world.specs.NodeRuns.{nodes_after, NothingPending}
 use Rattle.reg_world.proofs.one_memory.Traced.{World, world_after, run_world, empty_world, whole}
-use Rattle.reg_world.specs.Laws.{NothingPending, IsQuiescent}
+use Rattle.reg_world.specs.Laws.{IsQuiescent}
 use Rattle.reg_base.proofs.Orders.{below_irrefl}
 use Rattle.reg_base.proofs.Lists.{in_right, filter_in, insert_new, insert_old}
 use Rattle.reg_world.proofs.one_order.Local.{held_above}

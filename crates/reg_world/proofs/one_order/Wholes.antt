@@ -7,7 +7,8 @@ use Rattle.reg_process.specs.declared.steps.Step.{Step}
 use Rattle.reg_world.specs.declared.events.Event.{Event}
 use Rattle.reg_base.specs.Order.{Below, In, Rising}
 use Rattle.reg_front.specs.Fronts.{KeepsLaws}
-use Rattle.reg_world.specs.Nodes.{Nodes, after_step, step_of, nodes_after, run}
+use Rattle.reg_world.specs.Nodes.{Nodes, after_step, step_of}
+use Rattle.reg_world.specs.NodeRuns.{nodes_after, run}
 use Rattle.reg_world.proofs.one_memory.Traced.{World, casts_of, world_after, run_world, empty_world, whole, OrderIsLongest, RepliesRight}
 use Rattle.reg_base.proofs.Orders.{below_irrefl, below_asym}
 use Rattle.std.proofs.lemmas.List.{append-nil}

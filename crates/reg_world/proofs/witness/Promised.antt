@@ -18,7 +18,8 @@ use Rattle.reg_history.specs.History.{IsAt, IsIn, IsHistory}
 use Rattle.reg_world.specs.declared.events.Event.{Event}
 use Rattle.reg_world.specs.declared.order.First.{First}
 use Rattle.reg_world.specs.Nodes.{Nodes}
-use Rattle.reg_world.specs.Laws.{DeliveriesAgree, DeliveriesRise, IsMade, DeliveriesMade, UndeliveredAbove, NoRefusal, AllAcknowledged, NothingPending, IsQuiescent}
+use Rattle.reg_world.specs.Laws.{DeliveriesAgree, DeliveriesRise, IsMade, DeliveriesMade, UndeliveredAbove, NoRefusal, AllAcknowledged, IsQuiescent}
+use Rattle.reg_world.specs.NodeRuns.{NothingPending}
 use Rattle.reg_world.specs.Runs.{Cast, memory_of}
 use Rattle.reg_world.specs.Promises.{OrderIsLongest, OrderIsRight, CastsRight, RepliesRight, AnswersFirst}
 use Rattle.reg_world.specs.World.{World, Replied, delivered_of, run_of, move_of, moved, happens, run, empty_world, whole}

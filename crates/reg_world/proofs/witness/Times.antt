@@ -19,7 +19,8 @@ use Rattle.reg_process.specs.declared.steps.Step.TheVariants.{Call, Take, Tick}
 use Rattle.reg_base.specs.Order.{In, insert}
 use Rattle.reg_process.specs.Process.{State, Running, Own, Held, is_clear, stamp_at, cast_at, clear_casts, casts_before, reply_after, reply_of, cast_made, called, taken, accepted, accepts, queues, quiet, got_frames, peer_at, unsettled, step, Outcome}
 use Rattle.reg_front.specs.Fronts.{MayStart, KeepsLaws, CastsAll}
-use Rattle.reg_world.specs.Nodes.{Node, nodes_after, step_of, op_in, after_step, unseen}
+use Rattle.reg_world.specs.Nodes.{Node, step_of, op_in, after_step, unseen}
+use Rattle.reg_world.specs.NodeRuns.{nodes_after}
 use Rattle.reg_world.proofs.one_memory.Traced.{World, casts_of, Called, Answered, Past, answered_in, past_after, pasts_after, world_after, run_world, empty_world, cast_of, whole, NeverFalls, TimesRight, First, firsts, order_after, count_after, called_in}
 use Rattle.reg_world.specs.declared.events.Event.{Event}
 use Rattle.reg_world.proofs.one_order.Acts.{put_cases}

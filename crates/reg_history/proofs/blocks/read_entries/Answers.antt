@@ -5,7 +5,8 @@ use Rattle.reg_history.specs.declared.versions.Version.{Version}
 use Rattle.reg_history.specs.History.{IsInPlace}
 use Rattle.reg_history.specs.Log.{Log, IsNextOf}
 use Rattle.reg_text.proofs.Turns.{Taken, steps, ended, refused, only_read}
-use Rattle.reg_history.specs.EntryLines.{entry_text, Follows}
+use Rattle.reg_history.specs.EntryLines.{entry_text}
+use Rattle.reg_history.specs.LineForms.{Follows}
 use Rattle.reg_history.proofs.blocks.read_entries.Goals as goal
 
 -- an entry in place, at a shape that is the history's

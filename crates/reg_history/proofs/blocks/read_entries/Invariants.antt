@@ -1,6 +1,7 @@
 use Rattle.std.proofs.Common.{◌≡◌}
 use Rattle.reg_text.proofs.Turns.{Taken}
-use Rattle.reg_history.specs.EntryLines.{entry_text, Follows}
+use Rattle.reg_history.specs.EntryLines.{entry_text}
+use Rattle.reg_history.specs.LineForms.{Follows}
 use Rattle.reg_history.proofs.blocks.read_entries.Given as goal
 
 -- as many were read as there were turns

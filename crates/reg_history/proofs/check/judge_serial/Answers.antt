@@ -3,7 +3,7 @@ use Rattle.reg_history.proofs.check.judge_serial.Goals as goal
 
 pub first_wrong-requires : goal.first_wrong-requires
 first_wrong-requires g c =
-    rw c.deref.ensures.value (registers_fit c.args.shape.processes c.args.shape.registers c.args.entries.now c.requires c.args.ids.now c.in-Ok.facts.items c.in-Ok.ensures.0.facts_of)
+    rw c.deref.ensures.value (registers_fit c.args.shape.processes c.args.shape.registers c.args.entries.now c.requires c.args.ids.now c.in_ok-facts.facts.items c.in_ok-facts.ensures.0.facts_of)
 
 pub returns-in-Ok-None : goal.returns-in-Ok-None
 returns-in-Ok-None g c =
@@ -12,8 +12,8 @@ returns-in-Ok-None g c =
     let none = rw (c.in-Ok-None.field-0-is, c.deref.ensures.value) at c.in-Ok-None.ensures in
     let own = rw c.in-Ok-false.field-0-test at c.in-Ok-false.ensures in
     record {
-      selection = c.in-Ok.ensures.0.selection;
-      legal = legal c.args.shape.processes c.args.shape.registers h c.requires ids c.in-Ok.facts.items c.in-Ok.ensures.0.facts_of none;
+      selection = c.in_ok-facts.ensures.0.selection;
+      legal = legal c.args.shape.processes c.args.shape.registers h c.requires ids c.in_ok-facts.facts.items c.in_ok-facts.ensures.0.facts_of none;
       own_order = own;
     }
 
@@ -23,4 +23,4 @@ returns-in-Ok-Some g c =
     let ids = c.args.ids.now in
     let first = rw (c.in-Ok-Some.field-0-is, c.deref.ensures.value) at c.in-Ok-Some.ensures in
     let own = rw c.in-Ok-false.field-0-test at c.in-Ok-false.ensures in
-    (c.in-Ok.ensures.1, not_broken ids own, first_is c.args.shape.processes c.args.shape.registers h c.requires ids c.in-Ok.facts.items c.in-Ok.ensures.0.facts_of c.in-Ok-Some.place first)
+    (c.in_ok-facts.ensures.1, not_broken ids own, first_is c.args.shape.processes c.args.shape.registers h c.requires ids c.in_ok-facts.facts.items c.in_ok-facts.ensures.0.facts_of c.in-Ok-Some.place first)

@@ -2,9 +2,9 @@ use Rattle.std.proofs.Common.{rules, arith, ◌≡◌, ◌≤◌, ℕ, List, ◌
 use Rattle.std.specs.Fmt.{decimal}
 use Rattle.reg_base.specs.Shape.{Extent}
 use Rattle.reg_history.specs.declared.entries.Entry.{Entry}
-use Rattle.reg_text.specs.Lines.{IsBlock}
-use Rattle.reg_history.specs.Reports.{IsCounted}
-use Rattle.reg_history.specs.EntryLines.{entry_text, Follows}
+use Rattle.reg_text.specs.Inner.{IsBlock}
+use Rattle.reg_history.specs.LineForms.{IsCounted, Follows}
+use Rattle.reg_history.specs.EntryLines.{entry_text}
 use Rattle.reg_history.specs.declared.versions.Version.{Version}
 use Rattle.reg_history.specs.declared.report_limits.TheConstants.{MOST_ENTRIES}
 use Rattle.reg_history.proofs.parts.read_history.Goals as goal

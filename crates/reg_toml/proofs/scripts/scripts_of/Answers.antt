@@ -1,5 +1,6 @@
 use Rattle.std.proofs.Common.{◌≡◌, ◌<◌, ◌≤◌, [], ◌∷◌, ◌++◌, length, map, refl, sym, ap, ◌∙◌, inl, inr, arith, rules}
 use Rattle.std.proofs.lemmas.List.{map-append}
+use Rattle.std.proofs.lemmas.Result.{err_from_is_err_and}
 use Rattle.toml.specs.Data.{array}
 use Rattle.toml.specs.View.{view, items_of}
 use Rattle.reg_toml.specs.Loads.{IsScript, op_data, script_data}
@@ -19,21 +20,22 @@ loop-value-init g c =
     let none : c.new-all.result.items ≡ [] = c.new-all.ensures.items in
     (refl, rw none (spelled_none (script_data c.args.names.now) (IsScript c.args.names.now) c.args.scripts.now))
 
-pub returns-in-Err-clause-refused : goal.returns-in-Err-clause-refused
-returns-in-Err-clause-refused g c =
+pub returns-in_err-script-clause-refused : goal.returns-in_err-script-clause-refused
+returns-in_err-script-clause-refused g c =
     let within : c.loop-value.value-index < length c.args.scripts.now = omega arith in
-    elim c.in-Err.ensures.refused [
+    let p = err_from_is_err_and c.from_residual.result c.from_residual.ensures.1 in
+    rw (p.1, p.2) (elim c.in_err-script.ensures.refused [
       | inl memory ↦ inl memory
       | inr w ↦ inr (c.loop-value.process, w.0, w.1, rw c.loop-value.invariant.0 (first_refused c.args.names.now c.args.scripts.now c.loop-value.value-index w.0 _ c.value-item.result c.lines_of.result.now within c.value-item.is c.lines_of.ensures.value w.2 c.loop-value.invariant.1))
-    ]
+    ])
 
 pub loop-value-preserved : goal.loop-value-preserved
 loop-value-preserved g c =
-    let grown : c.push.new.self.items ≡ c.loop-value.all.items ++ c.in-Ok.script ∷ [] = search rules in
+    let grown : c.push.new.self.items ≡ c.loop-value.all.items ++ c.in_ok-script.script ∷ [] = search rules in
     let within : c.loop-value.value-index < length c.args.scripts.now = omega arith in (
       omega arith,
-      spelled_more (script_data c.args.names.now) (IsScript c.args.names.now) c.args.scripts.now c.loop-value.value-index _ _ c.value-item.result c.in-Ok.script.items
-          within c.value-item.is (c.lines_of.ensures.value ∙ ap (λ ds. array (items_of ds)) c.in-Ok.ensures.read.0) c.in-Ok.ensures.read.1 (λ y fits e. c.in-Ok.ensures.only y fits (items_same (map view c.lines_of.result.now) (map (op_data c.args.names.now) y) (sym c.lines_of.ensures.value ∙ e))) (rw (grown, map-append)) c.loop-value.invariant.1,
+      spelled_more (script_data c.args.names.now) (IsScript c.args.names.now) c.args.scripts.now c.loop-value.value-index _ _ c.value-item.result c.in_ok-script.script.items
+          within c.value-item.is (c.lines_of.ensures.value ∙ ap (λ ds. array (items_of ds)) c.in_ok-script.ensures.read.0) c.in_ok-script.ensures.read.1 (λ y fits e. c.in_ok-script.ensures.only y fits (items_same (map view c.lines_of.result.now) (map (op_data c.args.names.now) y) (sym c.lines_of.ensures.value ∙ e))) (rw (grown, map-append)) c.loop-value.invariant.1,
     )
 
 pub returns-clause-read : goal.returns-clause-read

@@ -1,4 +1,5 @@
 use Rattle.std.proofs.Common.{Some, inl, inr, ap, ◌∙◌}
+use Rattle.std.proofs.lemmas.Result.{err_from_is_err_and}
 use Rattle.toml.specs.Data.{array}
 use Rattle.toml.specs.View.{items_of}
 use Rattle.reg_toml.specs.declared.keys.Key.TheVariants as key
@@ -6,16 +7,19 @@ use Rattle.reg_toml.specs.Judged.{registers_fault}
 use Rattle.reg_toml.proofs.Lists.{array_found}
 use Rattle.reg_toml.proofs.values.read_names.Goals as goal
 
-pub returns-in-Err : goal.returns-in-Err
-returns-in-Err g c = inr (c.in-Err.ensures registers_fault)
+pub returns-in_err-values : goal.returns-in_err-values
+returns-in_err-values g c =
+    let p = err_from_is_err_and c.from_residual.result c.from_residual.ensures.1 in
+    rw (p.1, p.2) (inr (c.in_err-values.ensures registers_fault))
 
-pub returns-in-Ok-names_of : goal.returns-in-Ok-names_of
-returns-in-Ok-names_of g c =
-    (c.in-Ok.ensures ∙ ap (λ ds. Some (array (items_of ds))) c.in-Ok-names_of.ensures.0, c.in-Ok-names_of.ensures.1, array_found key.Registers registers_fault _ c.in-Ok.values.now c.in-Ok.ensures ∙ c.in-Ok-names_of.ensures.2)
+pub returns : goal.returns
+returns g c =
+    (c.in_ok-values.ensures ∙ ap (λ ds. Some (array (items_of ds))) c.in_ok-names.ensures.0, c.in_ok-names.ensures.1, array_found key.Registers registers_fault _ c.in_ok-values.values.now c.in_ok-values.ensures ∙ c.in_ok-names.ensures.2)
 
-pub returns-in-Err-names_of : goal.returns-in-Err-names_of
-returns-in-Err-names_of g c =
-    elim c.in-Err-names_of.ensures [
+pub returns-in_err-names : goal.returns-in_err-names
+returns-in_err-names g c =
+    let p = err_from_is_err_and c.from_residual-in_err-names.result c.from_residual-in_err-names.ensures.1 in
+    rw (p.1, p.2) (elim c.in_err-names.ensures [
       | inl memory ↦ inl memory
-      | inr fault ↦ inr (array_found key.Registers registers_fault _ c.in-Ok.values.now c.in-Ok.ensures ∙ fault)
-    ]
+      | inr fault ↦ inr (array_found key.Registers registers_fault _ c.in_ok-values.values.now c.in_ok-values.ensures ∙ fault)
+    ])

@@ -2,7 +2,7 @@ use Rattle.std.proofs.Common.{rules, ◌≡◌, ◌<◌, [], ◌∷◌, ◌++◌
 use borrow.Author.Count.{below_more}
 use Rattle.std.proofs.lemmas.Bool.{false≢true}
 use Rattle.reg_workload.specs.declared.choices.Choice.TheVariants.{Call as CallNext}
-use Rattle.reg_workload.specs.Plays.{MayCall, AreChoices}
+use Rattle.reg_workload.specs.PlayParts.{MayCall, AreChoices}
 use Rattle.reg_workload.proofs.Listing.{none_called, call_added, call_passed_by, more_choices, no_more}
 use Rattle.reg_workload.proofs.choices.list_calls.Goals.{then-may_call+in_ok-push, else-may_call}
 use Rattle.reg_workload.proofs.choices.list_calls.Goals as goal

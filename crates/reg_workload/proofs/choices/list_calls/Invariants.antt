@@ -1,5 +1,5 @@
 use Rattle.std.proofs.Common.{◌≡◌}
-use Rattle.reg_workload.specs.Plays.{AreChoices, NoCall}
+use Rattle.reg_workload.specs.PlayParts.{AreChoices, NoCall}
 use Rattle.reg_workload.specs.Seeded.{call_choices}
 use Rattle.reg_workload.proofs.choices.list_calls.Given as goal
 

@@ -1,6 +1,7 @@
 use Rattle.std.proofs.Common.{rules, ◌≡◌, ◌<◌, [], ◌∷◌, ◌++◌, Some, None, sym, subst, ◌∙◌}
 use Rattle.reg_workload.specs.declared.choices.Choice.TheVariants.{Take as TakeNext}
-use Rattle.reg_workload.specs.Plays.{next_frame, AreChoices}
+use Rattle.reg_workload.specs.Plays.{next_frame}
+use Rattle.reg_workload.specs.PlayParts.{AreChoices}
 use Rattle.reg_workload.proofs.Listing.{none_taken_from, take_added, take_passed_by, more_choices, no_more}
 use Rattle.reg_workload.proofs.choices.list_takes_from.Goals.{in-Some+in_ok-push, in_default}
 use Rattle.reg_workload.proofs.choices.list_takes_from.Goals as goal

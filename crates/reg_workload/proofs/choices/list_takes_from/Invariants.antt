@@ -1,5 +1,5 @@
 use Rattle.std.proofs.Common.{◌≡◌, ◌++◌, []}
-use Rattle.reg_workload.specs.Plays.{AreChoices}
+use Rattle.reg_workload.specs.PlayParts.{AreChoices}
 use Rattle.reg_workload.specs.Seeded.{take_choices_from}
 use Rattle.reg_workload.proofs.choices.list_takes_from.Given as goal
 

@@ -1,7 +1,8 @@
 use Rattle.std.proofs.Common.{rules, arith, ◌≡◌, ◌<◌, ◌≤◌, [], ◌∷◌, ◌++◌, sym, subst, ◌∙◌}
 use borrow.Author.Count.{below_more}
 use Rattle.reg_workload.specs.declared.choices.Choice.TheVariants.{Tick as PutAgain}
-use Rattle.reg_workload.specs.Plays.{pending_at, AreChoices}
+use Rattle.reg_workload.specs.Plays.{pending_at}
+use Rattle.reg_workload.specs.PlayParts.{AreChoices}
 use Rattle.reg_workload.proofs.Listing.{none_put, tick_added, tick_passed_by, more_choices, no_more}
 use Rattle.reg_workload.proofs.choices.list_ticks.Goals.{then-pending-gt0+in_ok-push, else-pending-gt0}
 use Rattle.reg_workload.proofs.choices.list_ticks.Goals as goal

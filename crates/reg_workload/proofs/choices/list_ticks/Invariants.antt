@@ -1,5 +1,5 @@
 use Rattle.std.proofs.Common.{◌≡◌, ◌++◌, []}
-use Rattle.reg_workload.specs.Plays.{AreChoices, NoTick}
+use Rattle.reg_workload.specs.PlayParts.{AreChoices, NoTick}
 use Rattle.reg_workload.specs.Seeded.{tick_choices}
 use Rattle.reg_workload.proofs.choices.list_ticks.Given as goal
 

@@ -1,8 +1,9 @@
 use Rattle.std.proofs.Common.{arith, ◌≡◌, ◌≤◌, ◌+◌, ◌∙◌, false, refl, ap, subst}
 use borrow.Author.Count.{below_more}
 use Rattle.std.proofs.lemmas.Grind.{common_steps}
-use Rattle.reg_workload.specs.Plays.{Playing, MayCall}
-use Rattle.reg_workload.specs.Fair.{RoundPart, NoneMayCall}
+use Rattle.reg_workload.specs.Plays.{Playing}
+use Rattle.reg_workload.specs.PlayParts.{MayCall}
+use Rattle.reg_workload.specs.FairParts.{RoundPart, NoneMayCall}
 use Rattle.reg_workload.specs.Rounds.{calls_in_round}
 use Rattle.reg_workload.proofs.Rounds.{both}
 use Rattle.reg_workload.proofs.Rounding.{calls_more, calls_end}

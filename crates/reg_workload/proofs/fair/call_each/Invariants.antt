@@ -1,5 +1,5 @@
 use Rattle.std.proofs.Common.{◌≡◌, false}
-use Rattle.reg_workload.specs.Fair.{RoundPart, NoneMayCall}
+use Rattle.reg_workload.specs.FairParts.{RoundPart, NoneMayCall}
 use Rattle.reg_workload.specs.Rounds.{calls_in_round}
 use Rattle.reg_workload.proofs.fair.call_each.Given as goal
 

@@ -1,7 +1,7 @@
 use Rattle.std.proofs.Common.{◌≡◌, false, sym, subst}
 use Rattle.std.proofs.lemmas.Result.{IfOk-weaker, on_ok_weaker}
 use Rattle.reg_workload.specs.Plays.{Playing}
-use Rattle.reg_workload.specs.Fair.{RoundPart, NoneMayCall, AllBehind, AtRest}
+use Rattle.reg_workload.specs.FairParts.{RoundPart, NoneMayCall, AllBehind, AtRest}
 use Rattle.reg_workload.specs.Rounds.{takes_in_round}
 use Rattle.reg_workload.proofs.Fairness.{rests}
 use Rattle.reg_workload.proofs.Rounding.{round_is, takes_full}

@@ -1,5 +1,5 @@
 use Rattle.std.proofs.Common.{◌≡◌, ◌≤◌, length}
-use Rattle.reg_workload.specs.Fair.{GoesFairly}
+use Rattle.reg_workload.specs.FairParts.{GoesFairly}
 use Rattle.reg_workload.specs.Rounds.{rounds}
 use Rattle.reg_workload.proofs.fair.play_rounds.Given as goal
 

@@ -2,7 +2,7 @@ use Rattle.std.proofs.Common.{arith, ◌≡◌, ◌≤◌, ◌+◌, ◌∙◌, f
 use borrow.Author.Count.{below_more}
 use Rattle.std.proofs.lemmas.Grind.{common_steps}
 use Rattle.reg_workload.specs.Plays.{Playing}
-use Rattle.reg_workload.specs.Fair.{RoundPart, AllBehindFrom, AllBehind}
+use Rattle.reg_workload.specs.FairParts.{RoundPart, AllBehindFrom, AllBehind}
 use Rattle.reg_workload.specs.Rounds.{takes_in_round}
 use Rattle.reg_workload.proofs.Rounds.{both}
 use Rattle.reg_workload.proofs.Rounding.{takes_more, takes_end}

@@ -1,5 +1,5 @@
 use Rattle.std.proofs.Common.{◌≡◌, false}
-use Rattle.reg_workload.specs.Fair.{RoundPart, AllBehind}
+use Rattle.reg_workload.specs.FairParts.{RoundPart, AllBehind}
 use Rattle.reg_workload.specs.Rounds.{takes_in_round}
 use Rattle.reg_workload.proofs.fair.take_each.Given as goal
 

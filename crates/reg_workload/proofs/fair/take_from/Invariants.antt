@@ -1,5 +1,5 @@
 use Rattle.std.proofs.Common.{◌≡◌, false}
-use Rattle.reg_workload.specs.Fair.{RoundPart, AllBehindFrom}
+use Rattle.reg_workload.specs.FairParts.{RoundPart, AllBehindFrom}
 use Rattle.reg_workload.specs.Rounds.{takes_from_in_round}
 use Rattle.reg_workload.proofs.fair.take_from.Given as goal
 

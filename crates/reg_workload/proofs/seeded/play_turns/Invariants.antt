@@ -1,5 +1,6 @@
 use Rattle.std.proofs.Common.{◌≡◌, ◌≤◌, ℕ, length}
-use Rattle.reg_workload.specs.Plays.{GoesOn, cursor_at}
+use Rattle.reg_workload.specs.Plays.{cursor_at}
+use Rattle.reg_workload.specs.PlayParts.{GoesOn}
 use Rattle.reg_workload.specs.Seeded.{turns}
 use Rattle.reg_workload.proofs.seeded.play_turns.Given as goal
 

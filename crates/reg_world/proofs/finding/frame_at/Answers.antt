@@ -1,6 +1,6 @@
 use Rattle.std.proofs.Common.{◌∙◌, ap, arith}
 use Rattle.std.specs.Prelude.{slice_get}
-use Rattle.reg_world.specs.Worlds.{frame_or}
+use Rattle.reg_world.specs.WorldParts.{frame_or}
 use Rattle.reg_world.proofs.code.Found.{frame_is, no_sender, no_receiver, no_wire}
 use Rattle.reg_world.proofs.finding.frame_at.Goals as goal
 

@@ -1,6 +1,6 @@
 use Rattle.std.proofs.Common.{◌∙◌, ap, sym}
 use Rattle.std.specs.Prelude.{slice_get}
-use Rattle.reg_world.specs.Worlds.{wire_in}
+use Rattle.reg_world.specs.WorldParts.{wire_in}
 use Rattle.reg_world.proofs.code.Noted.{at_index}
 use Rattle.reg_world.proofs.code.Found.{past_none}
 use Rattle.reg_world.proofs.finding.wire_from.Goals as goal

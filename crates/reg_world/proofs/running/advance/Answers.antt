@@ -2,7 +2,7 @@ use Rattle.std.proofs.Common.{◌∙◌, ap, set, subst, sym}
 use Rattle.std.specs.Option.{is_some}
 use Rattle.reg_process.specs.Process.{State}
 use Rattle.reg_world.specs.Stations.{Standing}
-use Rattle.reg_world.specs.Worlds.{Advances}
+use Rattle.reg_world.specs.WorldParts.{Advances}
 use Rattle.reg_world.proofs.code.Stepping.{act_ok, enter_ok, advances}
 use Rattle.reg_world.proofs.running.advance.Goals as goal
 

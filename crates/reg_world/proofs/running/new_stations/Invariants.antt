@@ -1,6 +1,6 @@
 use Rattle.std.proofs.Common.{◌≡◌}
 use Rattle.reg_world.specs.Stations.{listed}
-use Rattle.reg_world.specs.Worlds.{first_standing}
+use Rattle.reg_world.specs.WorldParts.{first_standing}
 use Rattle.reg_world.proofs.running.new_stations.Given as goal
 
 abbrev pub invariant-loop-me : goal.invariant-loop-me

@@ -1,6 +1,7 @@
 use Rattle.std.proofs.Common.{sym, subst, false}
 use Rattle.reg_world.specs.declared.events.Event.{Event}
-use Rattle.reg_world.specs.Worlds.{Accepts, Refuses, made_of}
+use Rattle.reg_world.specs.Worlds.{Accepts, Refuses}
+use Rattle.reg_world.specs.WorldParts.{made_of}
 use Rattle.reg_world.proofs.code.Ahead.{first_ahead, next_ahead}
 use Rattle.reg_world.proofs.code.Answering.{run_refuses, run_goes_on}
 use Rattle.reg_world.proofs.running.run_ahead.Goals as goal

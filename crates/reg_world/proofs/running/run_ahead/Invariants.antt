@@ -1,5 +1,5 @@
 use Rattle.std.proofs.Common.{◌≡◌, false, drop}
-use Rattle.reg_world.specs.Worlds.{IsWorld, made_of}
+use Rattle.reg_world.specs.WorldParts.{IsWorld, made_of}
 use Rattle.reg_world.proofs.code.Answering.{IsRunSoFar}
 use Rattle.reg_world.proofs.running.run_ahead.Given as goal
 

@@ -1,6 +1,7 @@
 use Rattle.std.proofs.Common.{subst, sym, ap}
 use Rattle.reg_world.specs.Worlds.{Made}
-use Rattle.reg_workload.specs.Plays.{Playing, IsPlaying, IsPlay}
+use Rattle.reg_workload.specs.Plays.{Playing, IsPlay}
+use Rattle.reg_workload.specs.PlayParts.{IsPlaying}
 use Rattle.reg_workload.proofs.Scripts.{is_play}
 use Rattle.reg_workload.proofs.playing.Player.end.Goals as goal
 

@@ -1,5 +1,6 @@
 use Rattle.std.proofs.Common.{rules, ◌<◌, subst}
-use Rattle.reg_workload.specs.Plays.{Follows, Playing}
+use Rattle.reg_workload.specs.Plays.{Playing}
+use Rattle.reg_workload.specs.PlayParts.{Follows}
 use Rattle.reg_workload.proofs.Scripts.{all_called, none_left}
 use Rattle.reg_workload.proofs.playing.Player.is_done.Goals as goal
 

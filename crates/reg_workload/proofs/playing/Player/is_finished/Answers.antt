@@ -1,5 +1,6 @@
 use Rattle.std.proofs.Common.{◌<◌, length, subst, arith}
-use Rattle.reg_workload.specs.Plays.{Playing, IsPlaying, IsFinished}
+use Rattle.reg_workload.specs.Plays.{Playing, IsFinished}
+use Rattle.reg_workload.specs.PlayParts.{IsPlaying}
 use Rattle.reg_workload.proofs.Scripts.{rest_done}
 use Rattle.reg_workload.proofs.playing.Player.is_finished.Given.{Over}
 use Rattle.reg_workload.proofs.playing.Player.is_finished.Goals as goal

@@ -1,0 +1,86 @@
+-- The forms of lines, whatever the limits, and lines that are being read. They carry a proof: no promise speaks of them.
+use Rattle.std.specs.Prelude.{ℕ, ◌≡◌, ◌≤◌, ◌⊎◌, true, List, ◌++◌, codes, length, Some, slice_get, ◌∷◌}
+use Rattle.std.specs.Fmt.{decimal}
+use Rattle.reg_base.specs.Shape.{Extent}
+use Rattle.reg_text.specs.Inner.{HasValue}
+use Rattle.reg_text.specs.Forms.{is_numeral, HasOpForm, IsReadForm, IsWriteForm, IsSwapForm}
+use Rattle.reg_text.specs.declared.faults.Why.{Why}
+use Rattle.reg_text.specs.declared.faults.Why.TheVariants.{Range, Name}
+use Rattle.reg_history.specs.declared.entries.Entry.{Entry}
+use Rattle.reg_history.specs.declared.entries.Entry.TheVariants.{Called, Answered}
+use Rattle.reg_history.specs.declared.versions.Version.{Version}
+use Rattle.reg_history.specs.History.{IsInPlace}
+use Rattle.reg_history.specs.EntryLines.{columns_of, AnswerFits, ColumnsFit, EntryFits}
+use Rattle.reg_text.specs.Lines.{AllFit}
+use Rattle.reg_history.specs.Reports.{counted_lines}
+
+-- the value of its operation or answer has 64 bits
+abbrev pub EntryHasValue : Entry → Type 0
+EntryHasValue (Called at id op) = HasValue op
+EntryHasValue (Answered at id answer) = AnswerFits answer
+
+-- the entry is within the limits, and in place after those before it
+abbrev pub Follows : Version → List (List ℕ) → Extent → List Entry → Entry → Type 0
+Follows version names shape before e = EntryFits version names e × IsInPlace shape.processes shape.registers before e
+
+-- the form of an answer, whatever its value
+abbrev pub HasAnswerForm : List ℕ → Type 0
+HasAnswerForm text = (text ≡ codes "done") ⊎ ((digits : List ℕ) × ((is_numeral digits ≡ true) × (text ≡ codes "value " ++ digits)))
+
+-- the form of what stands behind the columns
+abbrev pub HasTailForm : List ℕ → Type 0
+HasTailForm rest = ((text : List ℕ) × ((rest ≡ codes "call    " ++ text) × HasOpForm text)) ⊎ ((text : List ℕ) × ((rest ≡ codes "answer  " ++ text) × HasAnswerForm text))
+
+-- a numeral that has room in a column of so many places
+pub record FitsColumn (places : ℕ) (numeral : List ℕ) : Type 0 where
+  pub numeral_is : is_numeral numeral ≡ true
+  pub short : length numeral ≤ places
+
+-- the line has columns with these numerals, whatever the limits, and then this rest
+pub record HasColumns (line at process number rest : List ℕ) : Type 0 where
+  pub at_fits : FitsColumn 8 at
+  pub process_fits : FitsColumn 3 process
+  pub number_fits : FitsColumn 6 number
+  pub spelled : line ≡ columns_of at process number rest
+
+-- the numerals are of numbers within the limits
+abbrev pub AreWithin : Version → List ℕ → List ℕ → List ℕ → Type 0
+AreWithin version at process number =
+    (a p n : ℕ) × (at ≡ decimal a) × (process ≡ decimal p) × (number ≡ decimal n) × ColumnsFit version a p n
+
+-- the line has the form of an entry's, whatever the limits and the names
+abbrev pub HasEntryForm : List ℕ → Type 0
+HasEntryForm line = (at process number rest : List ℕ) × HasColumns line at process number rest × HasTailForm rest
+
+-- the form of a write or a swap
+abbrev pub IsUpdateForm : List ℕ → List ℕ → List ℕ → Type 0
+IsUpdateForm text name digits = IsWriteForm text name digits ⊎ IsSwapForm text name digits
+
+-- Why what stands behind the columns is not read, though it has its form: an answer, and an update of a register with a name,
+-- has a value beyond its range; what another operation names is no register's name.
+pub record IsTailWhy (names : List (List ℕ)) (rest : List ℕ) (why : Why) : Type 0 where
+  pub answer : (text : List ℕ) → rest ≡ codes "answer  " ++ text → why ≡ Range
+  pub read : (text name : List ℕ) → rest ≡ codes "call    " ++ text → IsReadForm text name → why ≡ Name
+  pub known : (text name digits : List ℕ) (i : ℕ) → rest ≡ codes "call    " ++ text → IsUpdateForm text name digits → slice_get names i ≡ Some name → why ≡ Range
+  pub unknown : (text name digits : List ℕ) → rest ≡ codes "call    " ++ text → IsUpdateForm text name digits → ((i : ℕ) → ¬ (slice_get names i ≡ Some name)) → why ≡ Name
+
+-- the line has the form of an operation's, whatever the limits: these numerals in their places
+abbrev pub IsIdForm : List ℕ → List ℕ → List ℕ → Type 0
+IsIdForm line process number = (is_numeral process ≡ true) × (is_numeral number ≡ true) × (line ≡ codes "p" ++ (process ++ 32 ∷ (codes "#" ++ number)))
+
+abbrev pub HasIdForm : List ℕ → Type 0
+HasIdForm line = (process : List ℕ) × ((number : List ℕ) × IsIdForm line process number)
+
+-- the same of a point's line
+abbrev pub IsPointForm : List ℕ → List ℕ → List ℕ → List ℕ → Type 0
+IsPointForm line process number at = (is_numeral process ≡ true) × (is_numeral number ≡ true) × (is_numeral at ≡ true)
+    × (line ≡ codes "p" ++ (process ++ 32 ∷ (codes "#" ++ (number ++ 32 ∷ (codes "at " ++ at)))))
+
+abbrev pub HasPointForm : List ℕ → Type 0
+HasPointForm line = (process : List ℕ) × ((number : List ℕ) × ((at : List ℕ) × IsPointForm line process number at))
+
+-- the lines are those of a count and of as many elements, each fit, no more than the limit, and then the rest
+pub record IsCounted {X : Type 0} (mark : List ℕ) (line_of : X → List ℕ) (Fits : List X → X → Type 0) (limit : ℕ) (old rest : List (List ℕ)) (xs : List X) : Type 0 where
+  pub lines : old ≡ counted_lines mark line_of xs rest
+  pub fit : AllFit Fits xs
+  pub few : length xs ≤ limit
