@@ -83,11 +83,7 @@ fn told<A: Allocator + Copy>(
     step: &Step,
 ) -> Result<Option<String>, Fail> {
     Ok(match event(process, step) {
-        Ok(out) => {
-            let line = line_of(ample, &out)?;
-            process.reuse(out.frames);
-            Some(line)
-        }
+        Ok(out) => Some(line_of(ample, &out)?),
         Err(ProcessFault::OutOfMemory) if has_stopped(process) => None,
         Err(ProcessFault::OutOfMemory) => Some(String::from_str(ample, "goes on\n")?),
         Err(fault) => Some(format!(in ample; "{fault:?}\n")?),
