@@ -1,4 +1,4 @@
-use Rattle.std.proofs.Common.{sym, ◌∙◌, subst, arith, ◌≡◌, ℕ, ◌+◌, List}
+use Rattle.std.proofs.Common.{sym, ◌∙◌, subst, arith, ◌≡◌, ℕ, ◌+◌, List, rules}
 use Rattle.reg_base.specs.Shape.{Extent}
 use Rattle.reg_history.specs.declared.entries.Entry.{Entry}
 use Rattle.reg_history.specs.declared.versions.Version.{Version}
@@ -54,3 +54,6 @@ returns-clause-whole g c = λ ys rest b.
     let n : c.loop-place._place ≡ c.args.count = omega arith in
     let P : ℕ → Type 0 = λ i. Taken (entry_text c.args.names.now) (Follows c.args.version c.args.names.now c.args.history.now.shape) c.args.count c.args.lines.now.left c.loop-place.lines.left c.loop-place.history.entries i in
     only_read (entry_text c.args.names.now) (Follows c.args.version c.args.names.now c.args.history.now.shape) c.args.count c.args.lines.now.left c.loop-place.lines.left c.loop-place.history.entries (subst P n c.loop-place.invariant.1) ys rest b
+
+pub returns-in-Err-OutOfPlace-clause-read : goal.returns-in-Err-OutOfPlace-clause-read
+returns-in-Err-OutOfPlace-clause-read g c = search rules

@@ -1,4 +1,4 @@
-use Rattle.std.proofs.Common.{refl, ap, ◌∙◌, ◌++◌, codes}
+use Rattle.std.proofs.Common.{refl, ap, ◌∙◌, ◌++◌, codes, rules}
 use Rattle.reg_text.proofs.NamesLack.{got_is}
 use Rattle.reg_text.proofs.Spelling.{read_same}
 use Rattle.reg_text.proofs.ops.read_op.Goals as goal
@@ -10,3 +10,15 @@ returns-in-Some-clause-read g c =
 
 pub returns-in-Some-clause-whole : goal.returns-in-Some-clause-whole
 returns-in-Some-clause-whole g c = λ op fits e. read_same c.args.names.now c.args.text.now c.in-Some.name.now c.in_ok-register.register op c.in_ok-register.ensures c.in-Some.ensures.read fits e
+
+pub returns-in-Some-skip-clause-read : goal.returns-in-Some-skip-clause-read
+returns-in-Some-skip-clause-read g c = search rules
+
+pub returns-in-Some-skip-clause-whole : goal.returns-in-Some-skip-clause-whole
+returns-in-Some-skip-clause-whole g c = search rules
+
+pub returns-clause-read : goal.returns-clause-read
+returns-clause-read g c = search rules
+
+pub returns-clause-whole : goal.returns-clause-whole
+returns-clause-whole g c = search rules

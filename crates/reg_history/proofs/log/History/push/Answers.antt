@@ -1,4 +1,4 @@
-use Rattle.std.proofs.Common.{◌≡◌, ◌<◌, ℕ, List, ◌∷◌, [], ◌++◌, set, length, get_or, refl, ap, sym, ◌∙◌, subst, arith}
+use Rattle.std.proofs.Common.{◌≡◌, ◌<◌, ℕ, List, ◌∷◌, [], ◌++◌, set, length, get_or, refl, ap, sym, ◌∙◌, subst, arith, rules}
 use Rattle.reg_history.specs.declared.entries.Entry.{Entry}
 use Rattle.reg_history.specs.declared.place.Progress.{Progress}
 use Rattle.reg_history.specs.History.{IsInPlace}
@@ -35,3 +35,9 @@ invariant_of-self-2 g c =
     more c.self.inside.shape.processes c.self.inside.shape.registers c.self.inside.entries.items c.deref.result.now c.push_reserved.new.self.items c.self.inside.progress.items c.args.entry c.from-process.result
     c.index-before.result.now c.after_entry.result c.self.invariant c.deref.ensures.value (c.if-not-is_in_place.ensures.0 refl) (c.from-process.ensures ∙ ap (λ x. x.process) c.id_of.ensures)
     (c.push_reserved.ensures.items ∙ ap (λ (xs : List Entry). xs ++ c.args.entry ∷ []) c.reserve.ensures.items) c.after_entry.ensures c.index-before.ensures
+
+pub returns-then-not-is_in_place : goal.returns-then-not-is_in_place
+returns-then-not-is_in_place g c = search rules
+
+pub returns : goal.returns
+returns g c = search rules

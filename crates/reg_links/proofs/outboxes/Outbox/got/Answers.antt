@@ -1,4 +1,4 @@
-use Rattle.std.proofs.Common.{◌≡◌, ◌+◌, ◌-◌, ◌≤◌, drop, length, ap, ◌∙◌, arith, length-drop}
+use Rattle.std.proofs.Common.{◌≡◌, ◌+◌, ◌-◌, ◌≤◌, drop, length, ap, ◌∙◌, arith, length-drop, rules}
 use Rattle.reg_links.specs.Link.{next_of}
 use Rattle.reg_links.proofs.LinkLaws.{drop_on}
 use Rattle.reg_links.proofs.outboxes.Outbox.got.Goals as goal
@@ -18,3 +18,9 @@ loop-self-preserved g c =
           omega (arith, e, whole, c.loop-self.invariant.next);
       later = omega arith;
     }
+
+pub returns-then-count-self-clause-answer : goal.returns-then-count-self-clause-answer
+returns-then-count-self-clause-answer g c = search rules
+
+pub returns-then-count-self-clause-after : goal.returns-then-count-self-clause-after
+returns-then-count-self-clause-after g c = search rules
