@@ -176,9 +176,7 @@ fn end<F: FrontEnd, R: Threads + Wait>(
     if !all {
         return Err(RunStop::OutOfMemory);
     }
-    if let Err(stop) = told {
-        return Err(stop);
-    }
+    told?;
     match close(rt, alloc, cluster, passes, Vec::new(alloc), pacer) {
         Ok(closed) => Ok(closed),
         Err(CloseFault::OutOfMemory) => Err(RunStop::OutOfMemory),
@@ -217,8 +215,5 @@ pub fn run_scripts<
         pacer,
     } = parts;
     let all = start(rt, &mut crew, passes, couriers, pacer, scripts).is_ok();
-    match end(&rt, alloc, cluster, crew, all) {
-        Ok(closed) => Ok(closed),
-        Err(stop) => Err(stop),
-    }
+    end(&rt, alloc, cluster, crew, all)
 }

@@ -1,5 +1,5 @@
 -- What a drawing of a run joins.
-use Rattle.std.specs.Prelude.{ℕ, ◌≡◌, ◌+◌, ◌<◌, ◌==◌, ◌&&◌, Bool, cond, List, [], ◌∷◌, ◌++◌, map, All, Option, None, Some, position}
+use Rattle.std.specs.Prelude.{ℕ, ◌≡◌, ◌+◌, ◌<◌, ◌==◌, ◌&&◌, Bool, false, cond, List, [], ◌∷◌, ◌++◌, map, All, Option, None, Some, position}
 use Rattle.std.specs.List.{list_any}
 use Rattle.reg_base.specs.declared.memory.OpId.{OpId}
 use Rattle.reg_history.specs.declared.entries.Entry.{Entry}
@@ -54,6 +54,12 @@ arrows_in facts k (f ∷ fs) = arrow_of facts k f.event ++ arrows_in facts (k + 
 -- an arrow for each take of a run
 abbrev pub arrows_of : List Fact → List Arrow
 arrows_of facts = arrows_in facts 0 facts
+
+-- whether an event takes the frame at this place of the wire from one process to another
+abbrev pub takes_from : ℕ → ℕ → ℕ → Event → Bool
+takes_from from to place (Call p op) = false
+takes_from from to place (Take a b number) = (a == from) && ((b == to) && (number == place))
+takes_from from to place (Tick p) = false
 
 -- the numbers of the takes among these events, the first of which has the number k
 abbrev pub takes_in : ℕ → List Event → List ℕ

@@ -3,7 +3,8 @@
 ghost use Rattle.std.specs.Prelude.{◌≡◌, ◌==◌, ◌&&◌, IfOk};
 ghost use Rattle.std.specs.List.{list_any};
 ghost use Rattle.reg_show.specs.declared.moments.Sent.{Sent as AnySent};
-ghost use Rattle.reg_show.specs.Figures.{arrows_of, bars_of, end_of, is_put, putter};
+ghost use Rattle.reg_show.specs.Figures.{arrows_of, bars_of, end_of, is_put, putter, takes_from};
+ghost use Rattle.reg_show.specs.Moments.{Fact};
 
 use crate::moments::{Moment, Sent};
 use reg_base::{Answer, Op, OpId};
@@ -133,19 +134,28 @@ pub fn arrows<A: Allocator + Copy>(
     Ok(arrows)
 }
 
-/// Whether some event takes the frame at this place of a wire.
+/// Whether an event takes the frame at this place of a wire.
+fn takes<A: Allocator + Copy>(moment: &Moment<A>, from: u8, to: u8, place: usize) -> bool
+    ensures { result ≡ takes_from from to place moment.now.event }
+{
+    match moment.event {
+        Event::Take {
+            from: sender,
+            to: receiver,
+            number,
+        } => sender == from && receiver == to && number as usize == place,
+        _ => false,
+    }
+}
+
+/// Whether some event takes the frame at this place of a wire. A drawing shows a frame as never taken exactly where none does.
 pub fn is_taken<A: Allocator + Copy>(
     moments: &[Moment<A>],
     from: u8,
     to: u8,
     place: usize,
-) -> bool {
-    moments.iter().any(|moment| match moment.event {
-        Event::Take {
-            from: other,
-            to: receiver,
-            number,
-        } => other == from && receiver == to && number as usize == place,
-        _ => false,
-    })
+) -> bool
+    ensures { result ≡ list_any (λ (f : Fact). takes_from from to place f.event) moments.now }
+{
+    moments.iter().any(|moment| takes(moment, from, to, place))
 }

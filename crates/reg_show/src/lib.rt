@@ -17,7 +17,7 @@ mod trace_text;
 mod words;
 
 pub use faults::ShowFault;
-pub use figures::{Arrow, Bar, End, arrows, bars};
+pub use figures::{Arrow, Bar, End, arrows, bars, is_taken};
 pub use moments::{Moment, Sent, tell_events};
 pub use running::show_text;
 pub use schedule_text::write_schedule;

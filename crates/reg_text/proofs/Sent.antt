@@ -1,5 +1,6 @@
 -- Bytes that go out one part after another.
-use Rattle.std.proofs.Common.{ℕ, Bool, true, false, ◌≡◌, List, [], ◌++◌, Option, Some, None, refl, sym, ap, ◌∙◌, append_assoc, append-nil, subst, take, drop}
+use Rattle.std.proofs.Common.{ℕ, Bool, true, false, ◌≡◌, List, [], ◌++◌, Option, Some, None, Result, Ok, Err, refl, sym, ap, ◌∙◌, append_assoc, append-nil, subst, take, drop}
+use Rattle.std.specs.Prelude.{MatchResult}
 use Rattle.std.specs.Io.KnownBytes.{Appends, Keeps}
 use Rattle.std.proofs.lemmas.List.{take-append-drop}
 use Rattle.reg_text.specs.declared.writing.Sink.{Sink}
@@ -27,6 +28,11 @@ more_sent a b c n rest left bytes s h l =
 
 pub still_sent : (a b c : Option (List ℕ)) (rest left bytes : List ℕ) → Sent a b rest bytes → Keeps b c → left ≡ rest → Sent a c left bytes
 still_sent a b c rest left bytes s k l = (s.0, ap (λ r. s.0 ++ r) l ∙ s.1, appends_kept a b c s.0 s.2 k)
+
+-- all of it is a first part too
+pub all_or_part : {E : Type 0} (old new : Option (List ℕ)) (bs : List ℕ) (r : Result Unit E) → MatchResult r (λ _. Appends old new bs) (λ _. AppendsPart old new bs) → AppendsPart old new bs
+all_or_part old new bs (Ok x) m = (bs, [], append-nil bs, m)
+all_or_part old new bs (Err e) m = m
 
 -- a first part of the first of two is one of both
 pub part_of_first : (a b : Option (List ℕ)) (xs ys : List ℕ) → AppendsPart a b xs → AppendsPart a b (xs ++ ys)

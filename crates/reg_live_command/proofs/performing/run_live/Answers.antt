@@ -1,14 +1,7 @@
-use Rattle.std.proofs.Common.{ℕ, List, [], Option, Result, Ok, Err, ap, append-nil}
-use Rattle.std.specs.Prelude.{MatchResult}
-use Rattle.std.specs.Io.KnownBytes.{Appends}
-use Rattle.reg_text.specs.Writing.{AppendsPart}
+use Rattle.std.proofs.Common.{Err, ap}
+use Rattle.reg_text.proofs.Sent.{all_or_part}
 use Rattle.reg_live_command.specs.StopLines.{stop_line}
 use Rattle.reg_live_command.proofs.performing.run_live.Goals as goal
-
--- all of it is a first part too
-all_or_part : {E : Type 0} (old new : Option (List ℕ)) (bs : List ℕ) (r : Result Unit E) → MatchResult r (λ _. Appends old new bs) (λ _. AppendsPart old new bs) → AppendsPart old new bs
-all_or_part old new bs (Ok x) m = (bs, [], append-nil bs, m)
-all_or_part old new bs (Err e) m = m
 
 pub returns-in-Err-clause-refused : goal.returns-in-Err-clause-refused
 returns-in-Err-clause-refused g c = λ _.
