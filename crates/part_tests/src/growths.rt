@@ -9,7 +9,7 @@ use reg_front::LocalWrite;
 use reg_history::{
     CheckFault, Point, ReadFault, Report, check_points, check_serial, read_report, write_report,
 };
-use reg_process::{Outcome, Process, ProcessFault, Step};
+use reg_process::{Outcome, Process, ProcessFault, Put, Step};
 use reg_text::{Lines, TextFault, read_names};
 use reg_toml::{Workload, WorkloadFault, read_table};
 use std::alloc::{Allocator, Global};
@@ -116,6 +116,42 @@ fn followed<A: Allocator + Copy>(alloc: A, ample: Global) -> Result<Option<Strin
 impl Trial for Events {
     fn answer<A: Allocator + Copy>(&self, alloc: A, ample: Global) -> Result<Option<String>, Fail> {
         followed(alloc, ample)
+    }
+}
+
+/// A cast, taken once, and then so many times again, each time with the list of the answer before it given back.
+#[derive(Clone, Copy)]
+struct Again {
+    times: u32,
+}
+
+fn taken_again<A: Allocator + Copy>(
+    process: &mut Process<LocalWrite, A>,
+    times: u32,
+) -> Result<Vec<Put, A>, ProcessFault> {
+    let mut answer = process.take(1, &CAST)?;
+    for _i in 0..times {
+        process.reuse(answer.frames);
+        answer = process.take(1, &CAST)?;
+    }
+    Ok(answer.frames)
+}
+
+fn last_answer<A: Allocator + Copy>(
+    alloc: A,
+    shape: Shape,
+    times: u32,
+) -> Result<Vec<Put, A>, ProcessFault> {
+    let mut process = Process::<LocalWrite, A>::new(alloc, shape, 0)?;
+    taken_again(&mut process, times)
+}
+
+impl Trial for Again {
+    fn answer<A: Allocator + Copy>(&self, alloc: A, ample: Global) -> Result<Option<String>, Fail> {
+        match last_answer(alloc, Shape::new(2, 1)?, self.times) {
+            Err(ProcessFault::OutOfMemory) => Ok(None),
+            answer => Ok(Some(format!(in ample; "{:?}", answer?.as_slice())?)),
+        }
     }
 }
 
@@ -249,6 +285,14 @@ fn each_growth_is_refused(rt: HostRuntime) -> Result<(), Fail> {
     for text in [ONE_PROCESS, NO_POINTS] {
         assert!(rt; refusals(&Judged { text }, alloc)? > 6);
     }
+    Ok(())
+}
+
+#[test]
+fn a_frame_out_of_turn_uses_the_list_given_back(rt: HostRuntime) -> Result<(), Fail> {
+    let alloc = rt.alloc();
+    let once = refusals(&Again { times: 0 }, alloc)?;
+    assert_eq!(rt; refusals(&Again { times: 5 }, alloc)?, once);
     Ok(())
 }
 
