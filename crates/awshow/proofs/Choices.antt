@@ -23,8 +23,8 @@ use Rattle.awshow.specs.Lines.{IsAnswer, IsCommandLine, IsHelpLine, awshow, is_f
 use Rattle.awshow.proofs.Lines.{awshow_lines, no_name, subs}
 use Rattle.awshow.specs.declared.words.Asked.{Asked}
 use Rattle.awshow.specs.declared.words.Asked.TheVariants.{Help, Show}
-use Rattle.awshow.specs.declared.words.WordsFault.{WordsFault}
-use Rattle.awshow.specs.declared.words.WordsFault.TheVariants.{CommandLine, OutOfMemory}
+use Rattle.reg_words.specs.declared.faults.WordsFault.{WordsFault}
+use Rattle.reg_words.specs.declared.faults.WordsFault.TheVariants.{CommandLine, OutOfMemory}
 
 abbrev fault_at : List Text → Kinds
 fault_at line = built_fault (built awshow) nothing_held line

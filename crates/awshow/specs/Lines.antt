@@ -1,5 +1,5 @@
 -- Which words ask for what.
-use Rattle.std.specs.Prelude.{◌≡◌, ◌⊎◌, ⊤, Bool, true, false, List, [], ◌∷◌, codes, Result, Ok, Err}
+use Rattle.std.specs.Prelude.{ℕ, ◌≡◌, ◌⊎◌, ⊤, Bool, true, false, List, [], ◌∷◌, ◌++◌, codes, Result, Ok, Err}
 use Rattle.std.specs.List.{list_any}
 use Rattle.clap.specs.Words.{App, Text, new_app, with_subcommand}
 use Rattle.reg_show.specs.declared.Showing.{Showing}
@@ -7,8 +7,8 @@ use Rattle.reg_show.specs.declared.Showing.TheVariants.{Draw, Schedule, Trace}
 use Rattle.reg_words.specs.Lines.{fair_app, may_ask_help, named_line}
 use Rattle.awshow.specs.declared.words.Asked.{Asked}
 use Rattle.awshow.specs.declared.words.Asked.TheVariants.{Help, Show}
-use Rattle.awshow.specs.declared.words.WordsFault.{WordsFault}
-use Rattle.awshow.specs.declared.words.WordsFault.TheVariants.{CommandLine, OutOfMemory}
+use Rattle.reg_words.specs.declared.faults.WordsFault.{WordsFault}
+use Rattle.reg_words.specs.declared.faults.WordsFault.TheVariants.{CommandLine, OutOfMemory}
 
 -- the name of what is shown
 abbrev pub name_of : Showing → Text
@@ -40,6 +40,10 @@ IsAnswer line (Ok (Show showing)) = line ≡ line_of showing
 IsAnswer line (Ok Help) = ¬ IsCommandLine line × (list_any may_ask_help line ≡ true)
 IsAnswer line (Err CommandLine) = ¬ IsCommandLine line × ¬ IsHelpLine line
 IsAnswer line (Err OutOfMemory) = ⊤
+
+-- the line for words that ask for nothing, with its line feed
+abbrev pub refused_line : List ℕ
+refused_line = codes "usage: awshow schedule [--fair] | trace | draw" ++ 10 ∷ []
 
 -- the program with its subcommands, as clap's parse reads it
 abbrev pub awshow : App

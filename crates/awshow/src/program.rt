@@ -1,40 +1,31 @@
 //! The program: the words of its command line, and then what they ask for, over the standard streams.
 ghost use Rattle.std.specs.Prelude.{◌≡◌, ◌≤◌, IfErr, IfOk, MatchResult, Err};
+ghost use Rattle.std.specs.Io.KnownBytes.{Appends};
+ghost use Rattle.reg_text.specs.Writing.{AppendsPart};
+ghost use Rattle.reg_commands.specs.FaultLines.{fault_line};
+ghost use Rattle.reg_words.specs.Faults.{status_of};
 ghost use Rattle.reg_words.specs.Lines.{behind_name};
-ghost use Rattle.awshow.specs.Lines.{IsAnswer, IsCommandLine, IsHelpLine};
-ghost use Rattle.awshow.specs.Words.{status_of};
+ghost use Rattle.awshow.specs.Lines.{IsAnswer, IsCommandLine, IsHelpLine, refused_line};
 
-use crate::words::{Asked, HELP, WordsFault, choose};
-use reg_commands::Fault;
-use reg_show::{ShowFault, show_text};
-use std::io::{BufWriter, ErrorKind, Write};
+use crate::words::{Asked, HELP, choose};
+use reg_commands::{Fault, write_fault};
+use reg_show::show_text;
+use reg_text::write_bytes;
+use reg_words::{WordsFault, tell, words_of};
+use std::io::{self, BufWriter, Write};
 use std::rt::Env;
-use std::{env, io};
 
-/// The words of the command line.
-fn words_of<R: AllocGlobal + Env>(rt: &R) -> Result<Vec<String>, WordsFault> {
-    match env::args(rt) {
-        Ok(args) => match args.collect(rt.alloc()) {
-            Ok(words) => Ok(words),
-            Err(_) => Err(WordsFault::OutOfMemory),
-        },
-        Err(error) if error.kind() == ErrorKind::OutOfMemory => Err(WordsFault::OutOfMemory),
-        Err(_) => Err(WordsFault::CommandLine),
-    }
-}
-
-/// Writes how the program is used.
-fn help<W: Write, E: Write>(writer: &mut W, errors: &mut E) -> u8
+/// Writes how the program is used. Where the writer fails, that is told.
+fn help<W: Write, E: Write>(text: &str, writer: &mut W, errors: &mut E) -> u8
     ensures range { result ≤ 1 }
+    ensures written { result ≡ 0 → Appends (W.contents writer.old) (W.contents writer.new) text.now }
+    ensures told { result ≡ 1 → AppendsPart (E.contents errors.old) (E.contents errors.new) (fault_line Fault.Output) }
     ensures quiet { result ≡ 0 → errors.new ≡ errors.old }
 {
-    if writer.write_all(HELP.as_bytes()).is_ok() && writer.flush().is_ok() {
+    if write_bytes(writer, text.as_bytes()).is_ok() && writer.flush().is_ok() {
         return 0;
     }
-    let fault = ShowFault::Command {
-        fault: Fault::Output,
-    };
-    let _ = writeln!(errors, "{fault}");
+    let _ = write_fault(errors, Fault::Output);
     1
 }
 
@@ -54,7 +45,7 @@ where
     };
     let (alloc, global) = (rt.alloc(), rt.alloc());
     match asked {
-        Asked::Help => Ok(help(&mut writer, errors)),
+        Asked::Help => Ok(help(HELP, &mut writer, errors)),
         Asked::Show { showing } => Ok(show_text(
             alloc,
             global,
@@ -67,11 +58,15 @@ where
 }
 
 /// Tells why the words ask for nothing, and gives the status.
-fn tell<E: Write>(fault: WordsFault, errors: &mut E) -> u8
-    ensures { result ≡ status_of fault }
+pub fn refuse<E: Write>(fault: WordsFault, errors: &mut E) -> u8
+    ensures status { result ≡ status_of fault }
+    ensures told { result ≡ 2 → AppendsPart (E.contents errors.old) (E.contents errors.new) refused_line }
 {
-    let _ = writeln!(errors, "{fault}");
-    fault.status()
+    tell(
+        fault,
+        b"usage: awshow schedule [--fair] | trace | draw\n",
+        errors,
+    )
 }
 
 /// Does what the words of a command line ask for, and gives the exit status: 0, or 1 where something was refused, or 2
@@ -83,11 +78,12 @@ where
     ensures range { result ≤ 2 }
     ensures refused { result ≡ 2 → ¬ IsCommandLine (behind_name words.now) }
     ensures helped { result ≡ 2 → ¬ IsHelpLine (behind_name words.now) }
+    ensures told { result ≡ 2 → AppendsPart (E.contents errors.old) (E.contents errors.new) refused_line }
     ensures quiet { result ≡ 0 → errors.new ≡ errors.old }
 {
     match obey_words(rt, words, errors) {
         Ok(status) => status,
-        Err(fault) => tell(fault, errors),
+        Err(fault) => refuse(fault, errors),
     }
 }
 
@@ -97,10 +93,11 @@ where
     R: AllocGlobal + Env + Input + Print + Copy,
     E: Write,
     ensures range { result ≤ 2 }
+    ensures told { result ≡ 2 → AppendsPart (E.contents errors.old) (E.contents errors.new) refused_line }
     ensures quiet { result ≡ 0 → errors.new ≡ errors.old }
 {
     match words_of(rt) {
         Ok(words) => run_words(rt, words.as_slice(), errors),
-        Err(fault) => tell(fault, errors),
+        Err(fault) => refuse(fault, errors),
     }
 }

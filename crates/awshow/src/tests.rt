@@ -1,9 +1,10 @@
 //! Which command lines are taken, and how a refused one is told.
-use crate::words::{Asked, USAGE, WordsFault, choose};
+use crate::program::refuse;
+use crate::words::{Asked, choose};
 use reg_show::Showing;
+use reg_words::WordsFault;
 use std::alloc::Global;
 use std::process::Abort;
-use std::test::Fail;
 
 fn words_of(rt: &impl Abort, alloc: Global, line: &str) -> Vec<String> {
     let mut words = Vec::new(alloc);
@@ -47,9 +48,11 @@ fn each_command_line_asks_for_what_it_says(rt: HostRuntime) {
 }
 
 #[test]
-fn a_refused_command_line_is_told_by_a_usage_line(rt: HostRuntime) -> Result<(), Fail> {
-    let told = format!(in rt.alloc(); "{}", WordsFault::CommandLine)?;
-    assert_eq!(rt; told.as_str(), USAGE);
-    assert_eq!(rt; WordsFault::CommandLine.status(), 2);
-    Ok(())
+fn a_refused_command_line_is_told_by_a_usage_line(rt: HostRuntime) {
+    let mut errors = Vec::new(rt.alloc());
+    assert_eq!(rt; refuse(WordsFault::CommandLine, &mut errors), 2);
+    assert_eq!(rt;
+        errors.as_slice(),
+        b"usage: awshow schedule [--fair] | trace | draw\n".as_slice()
+    );
 }

@@ -4,15 +4,13 @@ ghost use Rattle.clap.specs.Words.{app_of, kind_of};
 ghost use Rattle.reg_show.specs.declared.Showing.{Showing};
 ghost use Rattle.reg_words.specs.Lines.{behind_name};
 ghost use Rattle.awshow.specs.declared.words.Asked.TheVariants.{Show};
-ghost use Rattle.awshow.specs.declared.words.WordsFault.TheVariants.{OutOfMemory};
-ghost use Rattle.awshow.specs.Words.{status_of, told_of};
+ghost use Rattle.awshow.specs.Words.{told_of};
 ghost use Rattle.awshow.specs.Lines.{IsAnswer, awshow, is_fair, name_of};
 
 use clap::error::ErrorKind;
 use reg_show::Showing;
-use reg_words::{has_dashes, met, with_fair};
+use reg_words::{WordsFault, has_dashes, met, with_fair};
 use std::alloc::{AllocError, Global};
-use std::fmt;
 
 /// What the words ask for.
 #[derive(Clone, Copy, Debug, PartialEq, Eq)]
@@ -23,39 +21,6 @@ pub enum Asked {
     Help,
 }
 
-/// Why the words ask for nothing.
-#[derive(Clone, Copy, Debug, PartialEq, Eq)]
-pub enum WordsFault {
-    /// They are none of the command lines.
-    CommandLine,
-    /// There was no memory to read them.
-    OutOfMemory,
-}
-
-impl WordsFault {
-    /// The exit status of a program that is told so.
-    pub fn status(self) -> u8
-        ensures { result ≡ status_of self }
-    {
-        match self {
-            WordsFault::CommandLine => 2,
-            WordsFault::OutOfMemory => 1,
-        }
-    }
-}
-
-impl fmt::Display for WordsFault {
-    fn fmt<W: fmt::Write>(&self, f: &mut fmt::Formatter<W>) -> fmt::Result {
-        match self {
-            WordsFault::CommandLine => f.write_str(USAGE),
-            WordsFault::OutOfMemory => f.write_str("out of memory"),
-        }
-    }
-}
-
-/// How the program is used, in one line.
-pub const USAGE: &str = "usage: awshow schedule [--fair] | trace | draw";
-
 /// How the program is used.
 pub const HELP: &str = "\
 Shows what processes that share registers do. Each command reads standard input.
@@ -65,14 +30,6 @@ usage: awshow schedule [--fair]   reads a workload, prints the schedule of its p
        awshow draw                reads a schedule, prints its space-time diagram as SVG
        awshow help                prints this
 ";
-
-impl From<AllocError> for WordsFault {
-    ghost from_gives = { λ _ fault. fault ≡ OutOfMemory };
-
-    fn from(_error: AllocError) -> WordsFault {
-        WordsFault::OutOfMemory
-    }
-}
 
 /// The program's command line, with a subcommand for each command.
 fn command_line<'a>(alloc: Global) -> Result<clap::Command<'a>, AllocError>

@@ -1,12 +1,12 @@
 -- Which words ask for what.
-use Rattle.std.specs.Prelude.{◌≡◌, ⊤, Bool, false, List, codes, Result, Ok, Err}
+use Rattle.std.specs.Prelude.{ℕ, ◌≡◌, ⊤, Bool, false, List, [], ◌∷◌, ◌++◌, codes, Result, Ok, Err}
 use Rattle.clap.specs.Words.{App, Text, new_app, with_subcommand}
 use Rattle.reg_commands.specs.declared.Command.TheVariants.{Check, Play, Replay}
 use Rattle.reg_words.specs.Lines.{fair_app, named_line}
 use Rattle.reg_cli.specs.declared.words.Asked.{Asked}
 use Rattle.reg_cli.specs.declared.words.Asked.TheVariants.{Live, Text as OverText}
-use Rattle.reg_cli.specs.declared.words.WordsFault.{WordsFault}
-use Rattle.reg_cli.specs.declared.words.WordsFault.TheVariants.{CommandLine, OutOfMemory}
+use Rattle.reg_words.specs.declared.faults.WordsFault.{WordsFault}
+use Rattle.reg_words.specs.declared.faults.WordsFault.TheVariants.{CommandLine, OutOfMemory}
 
 -- the name of what is asked for
 abbrev pub name_of : Asked → Text
@@ -33,6 +33,10 @@ abbrev pub IsAnswer : List Text → Result Asked WordsFault → Type 0
 IsAnswer line (Ok asked) = line ≡ line_of asked
 IsAnswer line (Err CommandLine) = ¬ IsCommandLine line
 IsAnswer line (Err OutOfMemory) = ⊤
+
+-- the line for words that ask for nothing, with its line feed
+abbrev pub refused_line : List ℕ
+refused_line = codes "command line" ++ 10 ∷ []
 
 -- the program with its subcommands, as clap's parse reads it
 abbrev pub awreg : App

@@ -4,7 +4,8 @@
 mod program;
 mod words;
 
-pub use program::{run_program, run_words};
+pub use program::{refuse, run_program, run_words};
 pub use reg_commands::{Command, Fault, run_text};
 pub use reg_live_command::run_live;
-pub use words::{Asked, WordsFault, choose};
+pub use reg_words::WordsFault;
+pub use words::{Asked, choose};

@@ -1,30 +1,19 @@
 //! The program: the words of its command line, and then the command over the standard streams.
 ghost use Rattle.std.specs.Prelude.{◌≡◌, ◌≤◌, IfOk, MatchResult, Err};
+ghost use Rattle.reg_text.specs.Writing.{AppendsPart};
+ghost use Rattle.reg_words.specs.Faults.{status_of};
 ghost use Rattle.reg_words.specs.Lines.{behind_name};
-ghost use Rattle.reg_cli.specs.Lines.{IsAnswer, IsCommandLine};
-ghost use Rattle.reg_cli.specs.Words.{status_of};
+ghost use Rattle.reg_cli.specs.Lines.{IsAnswer, IsCommandLine, refused_line};
 
-use crate::words::{Asked, WordsFault, choose};
+use crate::words::{Asked, choose};
 use reg_commands::run_text;
 use reg_live_command::run_live;
-use std::io::{BufWriter, ErrorKind, Write};
+use reg_words::{WordsFault, tell, words_of};
+use std::io::{self, BufWriter, Write};
 use std::rt::Env;
 use std::sync::Wait;
 use std::thread::Threads;
 use std::time::Clock;
-use std::{env, io};
-
-/// The words of the command line.
-fn words_of<R: AllocGlobal + Env>(rt: &R) -> Result<Vec<String>, WordsFault> {
-    match env::args(rt) {
-        Ok(args) => match args.collect(rt.alloc()) {
-            Ok(words) => Ok(words),
-            Err(_) => Err(WordsFault::OutOfMemory),
-        },
-        Err(error) if error.kind() == ErrorKind::OutOfMemory => Err(WordsFault::OutOfMemory),
-        Err(_) => Err(WordsFault::CommandLine),
-    }
-}
 
 /// Runs the command that the words ask for, and gives its status.
 fn obey_words<R, E>(rt: &R, words: &[String], errors: &mut E) -> Result<u8, WordsFault>
@@ -55,11 +44,11 @@ where
 }
 
 /// Tells why the words ask for nothing, and gives the status.
-fn tell<E: Write>(fault: WordsFault, errors: &mut E) -> u8
-    ensures { result ≡ status_of fault }
+pub fn refuse<E: Write>(fault: WordsFault, errors: &mut E) -> u8
+    ensures status { result ≡ status_of fault }
+    ensures told { result ≡ 2 → AppendsPart (E.contents errors.old) (E.contents errors.new) refused_line }
 {
-    let _ = writeln!(errors, "{fault}");
-    fault.status()
+    tell(fault, b"command line\n", errors)
 }
 
 /// Does what the words of a command line ask for, and gives the exit status: 0, or 1 where something was refused or a
@@ -71,11 +60,12 @@ where
     ensures range { result ≤ 2 }
     ensures obeyed { result ≡ 0 → IsCommandLine (behind_name words.now) }
     ensures refused { result ≡ 2 → ¬ IsCommandLine (behind_name words.now) }
+    ensures told { result ≡ 2 → AppendsPart (E.contents errors.old) (E.contents errors.new) refused_line }
     ensures quiet { result ≡ 0 → errors.new ≡ errors.old }
 {
     match obey_words(rt, words, errors) {
         Ok(status) => status,
-        Err(fault) => tell(fault, errors),
+        Err(fault) => refuse(fault, errors),
     }
 }
 
@@ -85,10 +75,11 @@ where
     R: AllocGlobal + Env + Input + Print + Threads + Wait + Clock + Copy + Send + Sync + 'static,
     E: Write,
     ensures range { result ≤ 2 }
+    ensures told { result ≡ 2 → AppendsPart (E.contents errors.old) (E.contents errors.new) refused_line }
     ensures quiet { result ≡ 0 → errors.new ≡ errors.old }
 {
     match words_of(rt) {
         Ok(words) => run_words(rt, words.as_slice(), errors),
-        Err(fault) => tell(fault, errors),
+        Err(fault) => refuse(fault, errors),
     }
 }

@@ -149,12 +149,7 @@ fn takes<A: Allocator + Copy>(moment: &Moment<A>, from: u8, to: u8, place: usize
 }
 
 /// Whether some event takes the frame at this place of a wire. A drawing shows a frame as never taken exactly where none does.
-pub fn is_taken<A: Allocator + Copy>(
-    moments: &[Moment<A>],
-    from: u8,
-    to: u8,
-    place: usize,
-) -> bool
+pub fn is_taken<A: Allocator + Copy>(moments: &[Moment<A>], from: u8, to: u8, place: usize) -> bool
     ensures { result ≡ list_any (λ (f : Fact). takes_from from to place f.event) moments.now }
 {
     moments.iter().any(|moment| takes(moment, from, to, place))

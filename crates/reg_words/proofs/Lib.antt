@@ -3,3 +3,4 @@ pub mod Leaves
 pub mod Programs
 pub mod Getters
 pub mod Chosen
+pub mod Told

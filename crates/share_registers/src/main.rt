@@ -26,10 +26,7 @@ fn read_from<R: Wait>(
 ) -> Result<Receipt, LiveFault>
     ensures { IfOk result (λ receipt. front ≤ receipt.called) }
 {
-    match pass.perform_after(rt, read(0), front) {
-        Ok(receipt) => Ok(receipt),
-        Err(fault) => Err(fault),
-    }
+    pass.perform_after(rt, read(0), front)
 }
 
 /// Starts a courier over the road.

@@ -1,9 +1,8 @@
 //! Which command lines are taken, and how a refused one is told.
 use crate::values::over_text;
-use reg_cli::{Asked, Command, WordsFault, choose};
+use reg_cli::{Asked, Command, WordsFault, choose, refuse};
 use std::alloc::Global;
 use std::process::Abort;
-use std::test::Fail;
 
 /// The words of a line behind the program's name.
 fn words_of(rt: &impl Abort, alloc: Global, line: &str) -> Vec<String> {
@@ -76,14 +75,14 @@ fn exactly_the_command_lines_are_taken(rt: HostRuntime) {
 }
 
 #[test]
-fn refusals_are_told(rt: HostRuntime) -> Result<(), Fail> {
+fn refusals_are_told(rt: HostRuntime) {
     let table = [
-        (WordsFault::CommandLine, "command line", 2),
-        (WordsFault::OutOfMemory, "out of memory", 1),
+        (WordsFault::CommandLine, "command line\n", 2),
+        (WordsFault::OutOfMemory, "out of memory\n", 1),
     ];
     for (fault, line, status) in table {
-        assert_eq!(rt; format!(in rt.alloc(); "{fault}")?.as_str(), line);
-        assert_eq!(rt; fault.status(), status);
+        let mut errors = Vec::new(rt.alloc());
+        assert_eq!(rt; refuse(fault, &mut errors), status);
+        assert_eq!(rt; errors.as_slice(), line.as_bytes());
     }
-    Ok(())
 }
