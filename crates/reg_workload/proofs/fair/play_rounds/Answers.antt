@@ -1,4 +1,4 @@
-use Rattle.std.proofs.Common.{arith, ◌≡◌, ◌≤◌, ◌+◌, ◌∙◌, sym, ap, length}
+use Rattle.std.proofs.Common.{arith, ◌≡◌, ◌≤◌, ◌+◌, ◌∙◌, sym, ap, length, rules}
 use Rattle.reg_workload.specs.Rounds.{round}
 use Rattle.reg_workload.proofs.Rounding.{round_full, rounds_more, rounds_end}
 use Rattle.reg_workload.proofs.fair.play_rounds.Goals.{then-branch-via-then-branch, then-branch-via-else-branch+then-events-before}
@@ -21,3 +21,9 @@ returns-then-branch-clause-value g c =
           ap (round start c.args.budget) (part.same count) ∙ sym value
     ] in
     rounds_end start c.args.budget (n + 1) c.args.budget c.args.player.now new more within still
+
+pub returns-clause-value : goal.returns-clause-value
+returns-clause-value g c = search rules
+
+pub returns-clause-rest : goal.returns-clause-rest
+returns-clause-rest g c = search rules

@@ -16,3 +16,6 @@ pub returns-in_default-read_event-clause-whole : goal.returns-in_default-read_ev
 returns-in_default-read_event-clause-whole g c = λ ys fit few e.
     absurd (gathers_none (event_text c.args.names.now) (λ _ x. EventFits c.args.names.now x) c.args.lines.now.left c.loop-place.lines.left c.loop-place.events.items c.loop-place._place c.loop-place.invariant
     c.in-Some.line.now c.next.new.self.left c.in-Some.ensures.line (λ y fits f. let none = c.in_default-read_event.ensures.whole y fits f in absurd (cc)) ys fit e)
+
+pub returns-in-Some-next-clause-read : goal.returns-in-Some-next-clause-read
+returns-in-Some-next-clause-read g c = search rules
