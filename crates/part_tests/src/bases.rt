@@ -54,32 +54,41 @@ fn shapes_within_the_limits(rt: HostRuntime) {
     }
 }
 
+const LAST: u64 = 281_474_976_710_656;
+
+/// A time that is received, or none at a tick; the answer, and the clock's time then.
+const CLOCK_AT_ITS_END: [(Option<u64>, Result<u64, ClockFull>, u64); 7] = [
+    (None, Ok(1), 1),
+    (Some(0), Ok(2), 2),
+    (Some(LAST - 2), Ok(LAST - 1), LAST - 1),
+    (None, Ok(LAST), LAST),
+    (None, Err(ClockFull), LAST),
+    (Some(0), Err(ClockFull), LAST),
+    (Some(LAST), Err(ClockFull), LAST),
+];
+
+fn answer(clock: &mut Clock, time: Option<u64>) -> Result<u64, ClockFull> {
+    match time {
+        Some(time) => clock.receive(time),
+        None => clock.tick(),
+    }
+}
+
 #[test]
 fn a_clock_at_its_end(rt: HostRuntime) {
-    let last = 281_474_976_710_656;
     let mut clock = Clock::new();
-    assert_eq!(rt; (clock.now(), LAST_TIME), (0, last));
-    // A time that is received, or none at a tick.
-    let cases = [
-        (None, Ok(1)),
-        (Some(0), Ok(2)),
-        (Some(last - 2), Ok(last - 1)),
-        (None, Ok(last)),
-        (None, Err(ClockFull)),
-        (Some(0), Err(ClockFull)),
-        (Some(last), Err(ClockFull)),
-    ];
-    for (time, answer) in cases {
-        let found = match time {
-            Some(time) => clock.receive(time),
-            None => clock.tick(),
-        };
-        assert_eq!(rt; found, answer);
-        assert_eq!(rt; clock.now(), answer.unwrap_or(last));
+    for (time, expected, after) in CLOCK_AT_ITS_END {
+        assert_eq!(rt; answer(&mut clock, time), expected);
+        assert_eq!(rt; clock.now(), after);
     }
-    let mut fresh = Clock::new();
-    assert_eq!(rt; fresh.receive(last), Err(ClockFull));
-    assert_eq!(rt; fresh.now(), 0);
+}
+
+#[test]
+fn a_fresh_clock(rt: HostRuntime) {
+    let mut clock = Clock::new();
+    assert_eq!(rt; (clock.now(), LAST_TIME), (0, LAST));
+    assert_eq!(rt; clock.receive(LAST), Err(ClockFull));
+    assert_eq!(rt; clock.now(), 0);
 }
 
 #[test]
