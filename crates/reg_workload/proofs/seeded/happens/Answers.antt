@@ -1,8 +1,0 @@
-use Rattle.std.proofs.Common.{rules}
-use Rattle.reg_workload.proofs.seeded.happens.Goals as goal
-
-pub returns-clause-value : goal.returns-clause-value
-returns-clause-value g c = search rules
-
-pub returns-clause-never : goal.returns-clause-never
-returns-clause-never g c = search rules
