@@ -29,6 +29,8 @@ mod orders;
 #[cfg(test)]
 mod processes;
 #[cfg(test)]
+mod refusals;
+#[cfg(test)]
 mod reports;
 #[cfg(test)]
 mod resends;
