@@ -1,0 +1,6 @@
+use Rattle.std.proofs.lemmas.Grind.{common_steps}
+use Rattle.std.proofs.Common.{rules, arith}
+use Rattle.reg_live_command.proofs.stop_lines.put_stop_text.Goals as goal
+
+pub returns-in-Full : goal.returns-in-Full
+returns-in-Full g c = search rules
