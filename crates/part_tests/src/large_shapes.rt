@@ -1,8 +1,9 @@
 //! The largest shapes, and reports of version 2.
 use crate::values::{cast, id};
 use reg_base::{Names, Op, Shape};
-use reg_frames::{FrameFault, decode, encode};
+use reg_frames::{Frame, FrameFault, decode, encode};
 use reg_history::{History, ReadFault, ReadWhy, Report, read_report, write_report};
+use std::process::Abort;
 use std::test::Fail;
 
 /// A report of version 1, whose lines 3, 4 and 5 are to be put in.
@@ -261,25 +262,55 @@ fn read_again(rt: &HostRuntime, report: &Report) -> Result<Report, Fail> {
     Ok(read_report(rt.alloc(), std::str::from_utf8(out.as_slice())?)?)
 }
 
+/// The largest report, as it is read where it was written.
+fn largest_again(rt: &HostRuntime) -> Result<Report, Fail> {
+    let report = largest(rt)?;
+    read_again(rt, &report)
+}
+
+/// Whether the last name, the shape and the order are those of the largest report.
+fn is_largest(report: &Report) -> bool {
+    let shape = report.history().shape();
+    report.names().name(4095) == Some("ngbn")
+        && shape.processes() == 64
+        && shape.registers() == 4096
+        && report.order() == [id(63, 0)].as_slice()
+}
+
 #[test]
 fn the_largest_report_is_read_as_it_was_written(rt: HostRuntime) -> Result<(), Fail> {
-    let report = largest(&rt)?;
-    let again = read_again(&rt, &report)?;
-    assert!(rt; again.names().name(4095) == Some("ngbn"));
-    let shape = again.history().shape();
-    assert!(rt; shape.processes() == 64 && shape.registers() == 4096);
-    assert!(rt; again.order() == [id(63, 0)].as_slice());
+    let again = largest_again(&rt)?;
+    assert!(rt; is_largest(&again));
     Ok(())
+}
+
+/// A write of 5 to the register.
+fn write_to(register: u16) -> Frame {
+    cast(1, 3, Op::Write { register, value: 5 })
+}
+
+/// What is read of the bytes, with these in the place of the register.
+fn read_with(rt: &impl Abort, bytes: &[u8], register: [u8; 2]) -> Result<Frame, FrameFault> {
+    let mut copy = [0u8; 32];
+    assert!(rt; bytes.len() == 32);
+    copy.copy_from_slice(bytes);
+    copy[22] = register[0];
+    copy[23] = register[1];
+    decode(copy.as_slice())
 }
 
 #[test]
 fn the_last_register_in_a_frame(rt: HostRuntime) -> Result<(), Fail> {
-    let write = |register: u16| cast(1, 3, Op::Write { register, value: 5 });
-    let mut bytes = encode(rt.alloc(), &write(4095))?;
-    assert_eq!(rt; &bytes[22..24], [0x0f, 0xff].as_slice());
-    assert_eq!(rt; decode(bytes.as_slice()), Ok(write(4095)));
-    assert!(rt; matches!(encode(rt.alloc(), &write(4096)), Err(FrameFault::Range)));
-    bytes[22..24].copy_from_slice(&[0x10, 0]);
-    assert_eq!(rt; decode(bytes.as_slice()), Err(FrameFault::Range));
+    let bytes = encode(rt.alloc(), &write_to(4095))?;
+    assert!(rt; bytes.as_slice().get(22..24) == Some([0x0f, 0xff].as_slice()));
+    assert!(rt; decode(bytes.as_slice()) == Ok(write_to(4095)));
+    let over = read_with(&rt, bytes.as_slice(), [0x10, 0]);
+    assert!(rt; over == Err(FrameFault::Range));
     Ok(())
+}
+
+#[test]
+fn no_frame_has_a_register_past_the_last(rt: HostRuntime) {
+    let made = encode(rt.alloc(), &write_to(4096));
+    assert!(rt; matches!(made, Err(FrameFault::Range)));
 }
