@@ -7,16 +7,21 @@ use std::alloc::{AllocError, Global};
 use std::process::Abort;
 
 /// The letter at this place, counted round from `a`.
-fn letter(place: u32) -> char {
+pub(crate) fn letter(place: u32) -> char {
     char::from(b'a' + (place % 26) as u8)
 }
 
 /// A name of four letters, another for each number up to 17,575.
+pub(crate) fn push_name(text: &mut String, number: u32) -> Result<(), AllocError> {
+    text.push('n')?;
+    text.push(letter(number / 676))?;
+    text.push(letter(number / 26))?;
+    text.push(letter(number))
+}
+
 fn name_of(alloc: Global, number: u32) -> Result<String, AllocError> {
-    let mut name = String::from_str(alloc, "n")?;
-    name.push(letter(number / 676))?;
-    name.push(letter(number / 26))?;
-    name.push(letter(number))?;
+    let mut name = String::new(alloc);
+    push_name(&mut name, number)?;
     Ok(name)
 }
 
@@ -195,29 +200,37 @@ fn an_answer_before_the_operation_is_applied(rt: HostRuntime) {
     assert_eq!(rt; registers.get(0), Some(0));
 }
 
+/// Words, and why they are no names.
+const NAMES: [(&[&str], Option<NamesFault>); 4] = [
+    (&[], Some(NamesFault::NoName)),
+    (&["x", "a1", "x"], Some(NamesFault::BadName { place: 1 })),
+    (
+        &["x", "y", "x", "y"],
+        Some(NamesFault::SameName { place: 2 }),
+    ),
+    (&["x", "y"], None),
+];
+
 #[test]
 fn names_and_their_faults(rt: HostRuntime) {
-    let cases = [
-        (&[].as_slice(), Some(NamesFault::NoName)),
-        (
-            &["x", "a1", "x"].as_slice(),
-            Some(NamesFault::BadName { place: 1 }),
-        ),
-        (
-            &["x", "y", "x", "y"].as_slice(),
-            Some(NamesFault::SameName { place: 2 }),
-        ),
-        (&["x", "y"].as_slice(), None),
-    ];
-    for (words, fault) in cases {
-        assert_eq!(rt; names_of(&rt, rt.alloc(), words).err(), fault);
+    for (words, fault) in &NAMES {
+        assert!(rt; names_of(&rt, rt.alloc(), words).err() == *fault);
     }
+}
+
+/// Whether these are the names x and y.
+fn are_x_and_y(names: &Names) -> bool {
+    names.count() == 2
+        && names.number("y") == Some(1)
+        && names.number("z").is_none()
+        && names.name(0) == Some("x")
+        && names.name(2).is_none()
+}
+
+#[test]
+fn names_and_their_numbers(rt: HostRuntime) {
     let names = names_of(&rt, rt.alloc(), &["x", "y"]).expect(&rt, "names");
-    assert_eq!(rt;
-        (names.count(), names.number("y"), names.number("z")),
-        (2, Some(1), None)
-    );
-    assert_eq!(rt; (names.name(0), names.name(2)), (Some("x"), None));
+    assert!(rt; are_x_and_y(&names));
 }
 
 /// How many names there are, and why there may not be so many.
