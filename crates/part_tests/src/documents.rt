@@ -1,4 +1,5 @@
 //! Workloads that are read, and that are refused.
+use crate::bases::push_name;
 use reg_base::Shape;
 use reg_front::Front;
 use reg_toml::{Key, Workload, WorkloadFault};
@@ -80,158 +81,174 @@ fn documents_are_read(rt: HostRuntime) -> Result<(), Fail> {
 }
 
 fn refused(rt: &(impl AllocGlobal + Abort), text: &str, fault: WorkloadFault) {
-    assert_eq!(rt;
-        Workload::from_toml(rt.alloc(), text).err(),
-        Some(fault),
-        "{text}"
-    );
+    let found = Workload::from_toml(rt.alloc(), text).err();
+    assert!(rt; found == Some(fault), "{text}");
 }
 
-fn missing(key: Key) -> WorkloadFault {
-    WorkloadFault::Missing { key }
+/// A part of a document, and the fault.
+type Refused = (&'static str, WorkloadFault);
+
+/// Demands the fault of each part, with one text before it and another behind it.
+fn all_refused(rt: &(impl AllocGlobal + Abort), before: &str, rows: &[Refused], behind: &str) {
+    for (part, fault) in rows {
+        let text = format!(in rt.alloc(); "{before}{part}{behind}").expect(rt, "memory");
+        refused(rt, text.as_str(), *fault);
+    }
 }
 
-fn kind(key: Key) -> WorkloadFault {
-    WorkloadFault::Kind { key }
+macro_rules! missing {
+    ($key:expr) => {
+        WorkloadFault::Missing { key: $key }
+    };
 }
 
-fn range(key: Key) -> WorkloadFault {
-    WorkloadFault::Range { key }
+macro_rules! kind {
+    ($key:expr) => {
+        WorkloadFault::Kind { key: $key }
+    };
 }
+
+macro_rules! range {
+    ($key:expr) => {
+        WorkloadFault::Range { key: $key }
+    };
+}
+
+const DOCUMENTS: [Refused; 10] = [
+    ("", missing!(Key::Front)),
+    ("front = \"linear", WorkloadFault::Toml),
+    (
+        "front = \"linear\"\nfront = \"linear\"",
+        WorkloadFault::Toml,
+    ),
+    ("front = \"linear\"\nspeed = 1", WorkloadFault::UnknownKey),
+    ("front = 3\n[more]", WorkloadFault::UnknownKey),
+    ("front = 3", kind!(Key::Front)),
+    ("[front]", kind!(Key::Front)),
+    ("front = \"other\"", range!(Key::Front)),
+    ("front = \"Linear\"", range!(Key::Front)),
+    ("front = \"linear\"\nloss = 101", missing!(Key::Registers)),
+];
 
 #[test]
 fn documents_are_refused(rt: HostRuntime) {
-    let cases = [
-        ("", missing(Key::Front)),
-        ("front = \"linear", WorkloadFault::Toml),
-        (
-            "front = \"linear\"\nfront = \"linear\"",
-            WorkloadFault::Toml,
-        ),
-        ("front = \"linear\"\nspeed = 1", WorkloadFault::UnknownKey),
-        ("front = 3\n[more]", WorkloadFault::UnknownKey),
-        ("front = 3", kind(Key::Front)),
-        ("[front]", kind(Key::Front)),
-        ("front = \"other\"", range(Key::Front)),
-        ("front = \"Linear\"", range(Key::Front)),
-        ("front = \"linear\"\nloss = 101", missing(Key::Registers)),
-    ];
-    for (text, fault) in cases {
-        refused(&rt, text, fault);
-    }
+    all_refused(&rt, "", DOCUMENTS.as_slice(), "");
 }
+
+const REGISTERS: [Refused; 11] = [
+    ("\"x\"", kind!(Key::Registers)),
+    ("[\"x\", 1]", kind!(Key::Registers)),
+    ("[\"X\", [\"y\"]]", kind!(Key::Registers)),
+    ("{ x = 1 }", kind!(Key::Registers)),
+    ("[]", range!(Key::Registers)),
+    ("[\"\"]", range!(Key::Registers)),
+    ("[\"x\", \"Y\"]", range!(Key::Registers)),
+    ("[\"x\", \"x\"]", range!(Key::Registers)),
+    ("[\"abcdefghijklmnopq\"]", range!(Key::Registers)),
+    ("[\"abcdefghijklmnop\"]", missing!(Key::Scripts)),
+    ("[\"x\"]", missing!(Key::Scripts)),
+];
 
 #[test]
 fn registers_are_refused(rt: HostRuntime) {
-    let cases = [
-        ("\"x\"", kind(Key::Registers)),
-        ("[\"x\", 1]", kind(Key::Registers)),
-        ("[\"X\", [\"y\"]]", kind(Key::Registers)),
-        ("{ x = 1 }", kind(Key::Registers)),
-        ("[]", range(Key::Registers)),
-        ("[\"\"]", range(Key::Registers)),
-        ("[\"x\", \"Y\"]", range(Key::Registers)),
-        ("[\"x\", \"x\"]", range(Key::Registers)),
-        ("[\"abcdefghijklmnopq\"]", range(Key::Registers)),
-        ("[\"abcdefghijklmnop\"]", missing(Key::Scripts)),
-        ("[\"x\"]", missing(Key::Scripts)),
-    ];
-    for (registers, fault) in cases {
-        let text = format!(in rt.alloc(); "front = \"linear\"\nregisters = {registers}\n").expect(
-            &rt, "memory",
-        );
-        refused(&rt, text.as_str(), fault);
-    }
+    all_refused(
+        &rt,
+        "front = \"linear\"\nregisters = ",
+        REGISTERS.as_slice(),
+        "\n",
+    );
 }
+
+const SCRIPTS: [Refused; 12] = [
+    ("[]", range!(Key::Scripts)),
+    ("7", kind!(Key::Scripts)),
+    ("[\"read x\"]", kind!(Key::Scripts)),
+    ("[[\"read x\"], 3]", kind!(Key::Scripts)),
+    ("[[\"read x\", 3]]", kind!(Key::Scripts)),
+    ("[[\"read x\", true]]", kind!(Key::Scripts)),
+    (
+        "[[], [], [], [], [], [], [], [], [], [], [], [], [], [], [], [], \
+         [], [], [], [], [], [], [], [], [], [], [], [], [], [], [], [], \
+         [], [], [], [], [], [], [], [], [], [], [], [], [], [], [], [], \
+         [], [], [], [], [], [], [], [], [], [], [], [], [], [], [], [], []]",
+        range!(Key::Scripts),
+    ),
+    (
+        "[[], [], [], [], [], [], [], [], [], [], [], [], [], [], [], [], \
+         [], [], [], [], [], [], [], [], [], [], [], [], [], [], [], [], \
+         [], [], [], [], [], [], [], [], [], [], [], [], [], [], [], [], \
+         [], [], [], [], [], [], [], [], [], [], [], [], [], [], [], [], [1]]",
+        kind!(Key::Scripts),
+    ),
+    (
+        "[[\"read x\", \"write y 5\"]]",
+        WorkloadFault::Script {
+            process: 0,
+            place: 1,
+        },
+    ),
+    (
+        "[[\"read x\"], [\"read x\", \"write x 5\", \"read x \"], [\"swap x\"]]",
+        WorkloadFault::Script {
+            process: 1,
+            place: 2,
+        },
+    ),
+    (
+        "[[], [\"write x 18446744073709551616\"]]",
+        WorkloadFault::Script {
+            process: 1,
+            place: 0,
+        },
+    ),
+    (
+        "[[\"write x 05\"]]",
+        WorkloadFault::Script {
+            process: 0,
+            place: 0,
+        },
+    ),
+];
 
 #[test]
 fn scripts_are_refused(rt: HostRuntime) {
-    let cases = [
-        ("[]", range(Key::Scripts)),
-        ("7", kind(Key::Scripts)),
-        ("[\"read x\"]", kind(Key::Scripts)),
-        ("[[\"read x\"], 3]", kind(Key::Scripts)),
-        ("[[\"read x\", 3]]", kind(Key::Scripts)),
-        ("[[\"read x\", true]]", kind(Key::Scripts)),
-        (
-            "[[], [], [], [], [], [], [], [], [], [], [], [], [], [], [], [], \
-             [], [], [], [], [], [], [], [], [], [], [], [], [], [], [], [], \
-             [], [], [], [], [], [], [], [], [], [], [], [], [], [], [], [], \
-             [], [], [], [], [], [], [], [], [], [], [], [], [], [], [], [], []]",
-            range(Key::Scripts),
-        ),
-        (
-            "[[], [], [], [], [], [], [], [], [], [], [], [], [], [], [], [], \
-             [], [], [], [], [], [], [], [], [], [], [], [], [], [], [], [], \
-             [], [], [], [], [], [], [], [], [], [], [], [], [], [], [], [], \
-             [], [], [], [], [], [], [], [], [], [], [], [], [], [], [], [], [1]]",
-            kind(Key::Scripts),
-        ),
-        (
-            "[[\"read x\", \"write y 5\"]]",
-            WorkloadFault::Script {
-                process: 0,
-                place: 1,
-            },
-        ),
-        (
-            "[[\"read x\"], [\"read x\", \"write x 5\", \"read x \"], [\"swap x\"]]",
-            WorkloadFault::Script {
-                process: 1,
-                place: 2,
-            },
-        ),
-        (
-            "[[], [\"write x 18446744073709551616\"]]",
-            WorkloadFault::Script {
-                process: 1,
-                place: 0,
-            },
-        ),
-        (
-            "[[\"write x 05\"]]",
-            WorkloadFault::Script {
-                process: 0,
-                place: 0,
-            },
-        ),
-    ];
-    for (scripts, fault) in cases {
-        let text = format!(in rt.alloc();
-            "front = \"linear\"\nregisters = [\"x\"]\nscripts = {scripts}\n"
-        ).expect(&rt, "memory");
-        refused(&rt, text.as_str(), fault);
-    }
+    all_refused(
+        &rt,
+        "front = \"linear\"\nregisters = [\"x\"]\nscripts = ",
+        SCRIPTS.as_slice(),
+        "\n",
+    );
 }
+
+const NUMBERS: [Refused; 15] = [
+    ("seed = -1", range!(Key::Seed)),
+    ("seed = 1.0", kind!(Key::Seed)),
+    ("seed = \"1\"", kind!(Key::Seed)),
+    ("seed = 9223372036854775808", WorkloadFault::Toml),
+    ("loss = 101", range!(Key::Loss)),
+    ("loss = -1", range!(Key::Loss)),
+    ("loss = true", kind!(Key::Loss)),
+    ("repeat = 101", range!(Key::Repeat)),
+    ("repeat = [1]", kind!(Key::Repeat)),
+    ("budget = 0", range!(Key::Budget)),
+    ("budget = 1048577", range!(Key::Budget)),
+    ("budget = 1979-05-27", kind!(Key::Budget)),
+    (
+        "budget = 0\nrepeat = 101\nloss = \"\"\nseed = -1",
+        range!(Key::Seed),
+    ),
+    ("budget = 0\nrepeat = 101\nloss = \"\"", kind!(Key::Loss)),
+    ("budget = 0\nrepeat = 101", range!(Key::Repeat)),
+];
 
 #[test]
 fn numbers_are_refused(rt: HostRuntime) {
-    let cases = [
-        ("seed = -1", range(Key::Seed)),
-        ("seed = 1.0", kind(Key::Seed)),
-        ("seed = \"1\"", kind(Key::Seed)),
-        ("seed = 9223372036854775808", WorkloadFault::Toml),
-        ("loss = 101", range(Key::Loss)),
-        ("loss = -1", range(Key::Loss)),
-        ("loss = true", kind(Key::Loss)),
-        ("repeat = 101", range(Key::Repeat)),
-        ("repeat = [1]", kind(Key::Repeat)),
-        ("budget = 0", range(Key::Budget)),
-        ("budget = 1048577", range(Key::Budget)),
-        ("budget = 1979-05-27", kind(Key::Budget)),
-        (
-            "budget = 0\nrepeat = 101\nloss = \"\"\nseed = -1",
-            range(Key::Seed),
-        ),
-        ("budget = 0\nrepeat = 101\nloss = \"\"", kind(Key::Loss)),
-        ("budget = 0\nrepeat = 101", range(Key::Repeat)),
-    ];
-    for (numbers, fault) in cases {
-        let text = format!(in rt.alloc();
-            "front = \"linear\"\nregisters = [\"x\"]\nscripts = [[\"none\"]]\n{numbers}\n"
-        ).expect(&rt, "memory");
-        refused(&rt, text.as_str(), fault);
-    }
+    all_refused(
+        &rt,
+        "front = \"linear\"\nregisters = [\"x\"]\nscripts = [[\"none\"]]\n",
+        NUMBERS.as_slice(),
+        "\n",
+    );
 }
 
 /// A document with one script of so many reads.
@@ -253,15 +270,13 @@ fn a_script_is_not_too_long(rt: HostRuntime) {
     let work = Workload::from_toml(rt.alloc(), most.as_str()).expect(&rt, "a workload");
     assert_eq!(rt; work.scripts[0].len(), 65_535);
     let more = long(&rt, 65_536).expect(&rt, "memory");
-    refused(&rt, more.as_str(), range(Key::Scripts));
+    refused(&rt, more.as_str(), range!(Key::Scripts));
 }
 
 /// A name of four letters in quotes, another for each number up to 17,575.
-fn push_name(text: &mut String, number: u32) -> Result<(), AllocError> {
-    text.push_str("\"n")?;
-    for place in [number / 676 % 26, number / 26 % 26, number % 26] {
-        text.push(char::from(b'a' + place as u8))?;
-    }
+fn push_quoted(text: &mut String, number: u32) -> Result<(), AllocError> {
+    text.push('"')?;
+    push_name(text, number)?;
     text.push_str("\",")
 }
 
@@ -269,7 +284,7 @@ fn push_name(text: &mut String, number: u32) -> Result<(), AllocError> {
 fn wide(alloc: Global, names: u32, scripts: u32) -> Result<String, AllocError> {
     let mut text = String::from_str(alloc, "front = \"linear\"\nregisters = [")?;
     for number in 0..names {
-        push_name(&mut text, number)?;
+        push_quoted(&mut text, number)?;
     }
     text.push_str("]\nscripts = [")?;
     for _ in 0..scripts {
@@ -300,18 +315,20 @@ fn a_document_has_as_many_names_and_scripts_as_it_may(rt: HostRuntime) -> Result
     Ok(())
 }
 
+/// Keys, and how each is spelled.
+const KEYS: [(Key, &str); 7] = [
+    (Key::Front, "front"),
+    (Key::Registers, "registers"),
+    (Key::Scripts, "scripts"),
+    (Key::Seed, "seed"),
+    (Key::Loss, "loss"),
+    (Key::Repeat, "repeat"),
+    (Key::Budget, "budget"),
+];
+
 #[test]
 fn keys_are_spelled(rt: HostRuntime) {
-    let cases = [
-        (Key::Front, "front"),
-        (Key::Registers, "registers"),
-        (Key::Scripts, "scripts"),
-        (Key::Seed, "seed"),
-        (Key::Loss, "loss"),
-        (Key::Repeat, "repeat"),
-        (Key::Budget, "budget"),
-    ];
-    for (key, name) in cases {
-        assert_eq!(rt; key.name(), name);
+    for (key, name) in &KEYS {
+        assert!(rt; key.name() == *name, "{name}");
     }
 }

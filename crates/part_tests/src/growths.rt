@@ -3,7 +3,7 @@ use crate::documents::SMALL;
 use crate::reports::{NO_POINTS, NO_POINTS_NOW, ONE_PROCESS};
 use crate::values::{READ, WRITE_FIVE};
 use refusing::{Trial, refusals};
-use reg_base::{OpId, Shape};
+use reg_base::{Op, OpId, Shape};
 use reg_frames::{Body, Frame};
 use reg_front::LocalWrite;
 use reg_history::{
@@ -253,11 +253,19 @@ fn second_number<A: Allocator + Copy>(alloc: A, ample: Global) -> Result<Option<
     }
 }
 
+fn head_told<A: Allocator + Copy>(ample: Global, work: &Workload<A>) -> Result<String, Fail> {
+    Ok(format!(in ample; " {:?} {:?}", work.names.name(0), work.front)?)
+}
+
+fn script_told(ample: Global, script: &[Op]) -> Result<String, Fail> {
+    Ok(format!(in ample; " {script:?}")?)
+}
+
 /// The first name, the front end and the scripts of a workload.
 fn work_told<A: Allocator + Copy>(ample: Global, work: &Workload<A>) -> Result<String, Fail> {
-    let mut text = format!(in ample; " {:?} {:?}", work.names.name(0), work.front)?;
+    let mut text = head_told(ample, work)?;
     for script in &work.scripts {
-        text.push_str(format!(in ample; " {:?}", script.as_slice())?.as_str())?;
+        text.push_str(script_told(ample, script.as_slice())?.as_str())?;
     }
     Ok(text)
 }
@@ -296,19 +304,24 @@ fn a_frame_out_of_turn_uses_the_list_given_back(rt: HostRuntime) -> Result<(), F
     Ok(())
 }
 
+/// What is read with ample memory.
+const READ_TOLD: &str =
+    "Some(1) Some(\"x\") LocalWrite [Write { register: 0, value: 5 }, Read { register: 0 }] [Read { register: 0 }]";
+
 #[test]
-fn the_answers_with_ample_memory(rt: HostRuntime) -> Result<(), Fail> {
-    let alloc = rt.alloc();
-    let read = Read.answer(alloc, alloc)?.expect(&rt, "ample memory");
-    assert_eq!(rt;
-        read.as_str(),
-        "Some(1) Some(\"x\") LocalWrite [Write { register: 0, value: 5 }, Read { register: 0 }] [Read { register: 0 }]"
-    );
+fn what_is_read_with_ample_memory(rt: HostRuntime) -> Result<(), Fail> {
+    let told = Read.answer(rt.alloc(), rt.alloc())?;
+    let read = told.expect(&rt, "ample memory");
+    assert!(rt; read.as_str() == READ_TOLD);
+    Ok(())
+}
+
+#[test]
+fn what_is_judged_with_ample_memory(rt: HostRuntime) -> Result<(), Fail> {
     let text = NO_POINTS;
-    let judged = Judged { text }
-        .answer(alloc, alloc)?
-        .expect(&rt, "ample memory");
+    let told = Judged { text }.answer(rt.alloc(), rt.alloc())?;
+    let judged = told.expect(&rt, "ample memory");
     let verdicts = judged.as_str().strip_suffix(NO_POINTS_NOW);
-    assert_eq!(rt; verdicts, Some("Ok(()) Err(Answer { place: 1 })\n"));
+    assert!(rt; verdicts == Some("Ok(()) Err(Answer { place: 1 })\n"));
     Ok(())
 }

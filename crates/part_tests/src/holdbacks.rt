@@ -4,7 +4,8 @@ ghost use Rattle.std.specs.Prelude.{◌≡◌};
 use refusing::Refusing;
 use reg_base::{Op, Shape, Stamp};
 use reg_holdback::{HoldFault, Holdback};
-use std::alloc::AllocError;
+use std::alloc::{AllocError, Global};
+use std::process::Abort;
 
 const WRITE: Op = Op::Write {
     register: 0,
@@ -197,35 +198,57 @@ impl Plain {
     }
 }
 
+/// The queue of process 1 of three, with a cast of its own.
+fn queue_with_a_cast(rt: &impl Abort, alloc: Global) -> Holdback {
+    let shape = Shape::new(3, 1).expect(rt, "a shape of three");
+    let mut held = Holdback::new(alloc, 1, shape).expect(rt, "memory");
+    assert!(rt; held.cast(stamp(40, 1), WRITE).is_ok());
+    held
+}
+
+/// The same as a list.
+fn list_with_a_cast(rt: &impl Abort, alloc: Global) -> Plain {
+    let mut held = Vec::new(alloc);
+    assert!(rt; held.push(stamp(40, 1)).is_ok());
+    Plain { seen: [0; 3], held }
+}
+
+/// The stamp that a word of chance gives at a turn.
+fn stamp_at(turn: u64, word: u64) -> Stamp {
+    let time = turn.wrapping_add((word >> 40) % 7);
+    stamp(time, ((word >> 60) % 4) as u8)
+}
+
+/// Whether the queue and the list answer the same to the stamp.
+fn both_receive(held: &mut Holdback, plain: &mut Plain, cast: Stamp, holds: bool) -> bool {
+    let op = if holds { Some(WRITE) } else { None };
+    let taken = held.receive(cast, op).is_ok();
+    plain.receive(cast, holds) == Ok(taken)
+}
+
+/// Pops both, which are to give the same and hold as many casts then, and says whether there was one.
+fn both_pop(rt: &impl Abort, held: &mut Holdback, plain: &mut Plain) -> bool {
+    let first = held.pop().map(|c| c.0);
+    assert!(rt; first == plain.pop());
+    assert!(rt; held.len() == plain.held.len());
+    first.is_some()
+}
+
 #[test]
 fn agrees_with_a_plain_list(rt: HostRuntime) {
-    let shape = Shape::new(3, 1).expect(&rt, "a shape of three");
-    let mut held = Holdback::new(rt.alloc(), 1, shape).expect(&rt, "memory");
-    let mut plain = Plain {
-        seen: [0; 3],
-        held: Vec::new(rt.alloc()),
-    };
-    assert!(rt; held.cast(stamp(40, 1), WRITE).is_ok());
-    assert!(rt; plain.held.push(stamp(40, 1)).is_ok());
+    let mut held = queue_with_a_cast(&rt, rt.alloc());
+    let mut plain = list_with_a_cast(&rt, rt.alloc());
     let mut word: u64 = 1;
     let mut popped: u32 = 0;
     for turn in 0..600u64 {
         word = word
             .wrapping_mul(6_364_136_223_846_793_005)
             .wrapping_add(1_442_695_040_888_963_407);
-        let process = ((word >> 60) % 4) as u8;
-        let time = turn + (word >> 40) % 7;
         let holds = (word >> 35) % 3 != 0;
-        let cast = if holds { Some(WRITE) } else { None };
-        let taken = held.receive(stamp(time, process), cast).is_ok();
-        let listed = plain
-            .receive(stamp(time, process), holds)
-            .expect(&rt, "memory");
-        assert_eq!(rt; taken, listed);
-        let first = held.pop().map(|c| c.0);
-        assert!(rt; first == plain.pop());
-        popped = popped.saturating_add(u32::from(first.is_some()));
-        assert_eq!(rt; held.len(), plain.held.len());
+        let cast = stamp_at(turn, word);
+        assert!(rt; both_receive(&mut held, &mut plain, cast, holds), "{turn}");
+        let one = both_pop(&rt, &mut held, &mut plain);
+        popped = popped.saturating_add(u32::from(one));
     }
     assert!(rt; popped > 50);
 }

@@ -1,8 +1,10 @@
 //! The largest shapes, and reports of version 2.
+use crate::bases::push_name;
 use crate::values::{cast, id};
 use reg_base::{Names, Op, Shape};
-use reg_frames::{FrameFault, decode, encode};
+use reg_frames::{Frame, FrameFault, decode, encode};
 use reg_history::{History, ReadFault, ReadWhy, Report, read_report, write_report};
+use std::process::Abort;
 use std::test::Fail;
 
 /// A report of version 1, whose lines 3, 4 and 5 are to be put in.
@@ -23,31 +25,27 @@ fn refusal(
     Ok(read_report(rt.alloc(), text.as_str()).err())
 }
 
-fn at(line: u64, why: ReadWhy) -> Option<ReadFault> {
-    Some(ReadFault::Line { line, why })
+/// What is refused at this line.
+macro_rules! at {
+    ($line:expr, $why:expr) => {
+        Some(ReadFault::Line {
+            line: $line,
+            why: $why,
+        })
+    };
 }
 
-/// A text, its line of processes, those of its registers, and the line that is refused with its cause.
-type Header = (
-    &'static str,
-    &'static str,
-    &'static str,
-    Option<(u64, ReadWhy)>,
-);
+/// A text, its line of processes, those of its registers, and what is refused.
+type Header = (&'static str, &'static str, &'static str, Option<ReadFault>);
 
 const HEADERS: [Header; 21] = [
     (OLDER, "processes 16", "registers x y", None),
-    (
-        OLDER,
-        "processes 17",
-        "registers x",
-        Some((3, ReadWhy::Range)),
-    ),
+    (OLDER, "processes 17", "registers x", at!(3, ReadWhy::Range)),
     (
         OLDER,
         "processes 1",
         "registers 1\nx",
-        Some((4, ReadWhy::Name)),
+        at!(4, ReadWhy::Name),
     ),
     (NEWER, "processes 17", "registers 1\nx", None),
     (NEWER, "processes 64", "registers 2\ny\nx", None),
@@ -55,137 +53,138 @@ const HEADERS: [Header; 21] = [
         NEWER,
         "processes 65",
         "registers 1\nx",
-        Some((3, ReadWhy::Range)),
+        at!(3, ReadWhy::Range),
     ),
     (
         NEWER,
         "processes 0",
         "registers 1\nx",
-        Some((3, ReadWhy::Range)),
+        at!(3, ReadWhy::Range),
     ),
-    (
-        NEWER,
-        "processes 1",
-        "registers x",
-        Some((4, ReadWhy::Form)),
-    ),
+    (NEWER, "processes 1", "registers x", at!(4, ReadWhy::Form)),
     (
         NEWER,
         "processes 1",
         "registers 01\nx",
-        Some((4, ReadWhy::Form)),
+        at!(4, ReadWhy::Form),
     ),
-    (
-        NEWER,
-        "processes 1",
-        "registers 0",
-        Some((4, ReadWhy::Range)),
-    ),
+    (NEWER, "processes 1", "registers 0", at!(4, ReadWhy::Range)),
     (
         NEWER,
         "processes 1",
         "registers 4097",
-        Some((4, ReadWhy::Range)),
+        at!(4, ReadWhy::Range),
     ),
     (
         NEWER,
         "processes 1",
         "registers 2\nx\nx",
-        Some((6, ReadWhy::Name)),
+        at!(6, ReadWhy::Name),
     ),
     (
         NEWER,
         "processes 1",
         "registers 2\nx\nx1",
-        Some((6, ReadWhy::Name)),
+        at!(6, ReadWhy::Name),
     ),
     (
         NEWER,
         "processes 1",
         "registers 2\nx\n",
-        Some((6, ReadWhy::Form)),
+        at!(6, ReadWhy::Form),
     ),
     (
         NEWER,
         "processes 1",
         "registers 2\nx\ny z",
-        Some((6, ReadWhy::Form)),
+        at!(6, ReadWhy::Form),
     ),
     (
         NEWER,
         "processes 1",
         "registers 2\nx\ny ",
-        Some((6, ReadWhy::Form)),
+        at!(6, ReadWhy::Form),
     ),
     (
         NEWER,
         "processes 1",
         "registers 2\nx\né",
-        Some((6, ReadWhy::Form)),
+        at!(6, ReadWhy::Form),
     ),
     (
         NEWER,
         "processes 1",
         "registers 3\nx\nx\ny z",
-        Some((6, ReadWhy::Name)),
+        at!(6, ReadWhy::Name),
     ),
     (
         NEWER,
         "processes 1",
         "registers 9\nx\nx",
-        Some((6, ReadWhy::Name)),
+        at!(6, ReadWhy::Name),
     ),
     (
         NEWER,
         "processes 1",
         "registers 9\nx\ny",
-        Some((7, ReadWhy::Form)),
+        at!(7, ReadWhy::Form),
     ),
     (
         NEWER,
         "processes 1",
         "registers 1\nx\ny",
-        Some((6, ReadWhy::Form)),
+        at!(6, ReadWhy::Form),
     ),
 ];
 
 #[test]
 fn each_version_has_its_own_header(rt: HostRuntime) -> Result<(), Fail> {
     for (text, processes, registers, found) in &HEADERS {
-        let found = found.map(|(line, why)| ReadFault::Line { line, why });
-        assert_eq!(rt;
-            refusal(&rt, text, processes, registers)?,
-            found,
-            "{processes} {registers}"
-        );
+        let told = refusal(&rt, text, processes, registers)?;
+        assert!(rt; told == *found, "{processes} {registers}");
     }
     Ok(())
 }
 
+/// A text with too few names, and what is refused.
+const ENDED: [(&str, Option<ReadFault>); 2] = [
+    (
+        "awreg report 2\nfront linear\nprocesses 1\nregisters 3\nx\ny\n",
+        at!(7, ReadWhy::End),
+    ),
+    (
+        "awreg report 2\nfront linear\nprocesses 1\nregisters 3\nx\nx\n",
+        at!(6, ReadWhy::Name),
+    ),
+];
+
 #[test]
 fn too_few_names_are_told_last(rt: HostRuntime) {
-    let ended = "awreg report 2\nfront linear\nprocesses 1\nregisters 3\nx\ny\n";
-    assert_eq!(rt; read_report(rt.alloc(), ended).err(), at(7, ReadWhy::End));
-    let ended = "awreg report 2\nfront linear\nprocesses 1\nregisters 3\nx\nx\n";
-    assert_eq!(rt; read_report(rt.alloc(), ended).err(), at(6, ReadWhy::Name));
+    for (text, found) in &ENDED {
+        assert!(rt; read_report(rt.alloc(), text).err() == *found, "{text}");
+    }
+}
+
+/// A text, the line of its registers, the only line of its order, and what is refused.
+const LAST_PROCESSES: [(&str, &str, &str, Option<ReadFault>); 4] = [
+    (OLDER, "registers x", "p15 #0", None),
+    (OLDER, "registers x", "p16 #0", at!(7, ReadWhy::Range)),
+    (NEWER, "registers 1\nx", "p63 #0", None),
+    (NEWER, "registers 1\nx", "p64 #0", at!(8, ReadWhy::Range)),
+];
+
+/// The text with this line as its order.
+fn with_order(rt: &HostRuntime, text: &str, line: &str) -> Result<String, Fail> {
+    let text = text.replacen(rt.alloc(), "order 0", "order 1\nLINE", 1)?;
+    Ok(text.as_str().replacen(rt.alloc(), "LINE", line, 1)?)
 }
 
 #[test]
 fn each_version_has_its_own_processes(rt: HostRuntime) -> Result<(), Fail> {
-    let cases = [
-        (OLDER, "registers x", "p15 #0", None),
-        (OLDER, "registers x", "p16 #0", at(7, ReadWhy::Range)),
-        (NEWER, "registers 1\nx", "p63 #0", None),
-        (NEWER, "registers 1\nx", "p64 #0", at(8, ReadWhy::Range)),
-    ];
-    for (text, registers, line, found) in cases {
-        let text = text.replacen(rt.alloc(), "order 0", "order 1\nLINE", 1)?;
-        let text = text.replacen(rt.alloc(), "LINE", line, 1)?;
-        assert_eq!(rt;
-            refusal(&rt, text.as_str(), "processes 2", registers)?,
-            found,
-            "{line}"
-        );
+    for (text, registers, line, found) in &LAST_PROCESSES {
+        let text = with_order(&rt, text, line)?;
+        let told = refusal(&rt, text.as_str(), "processes 2", registers)?;
+        assert!(rt; told == *found, "{line}");
     }
     Ok(())
 }
@@ -195,29 +194,31 @@ fn many_names(rt: &HostRuntime, count: u32, mark: char) -> Result<String, Fail> 
     let mut text = String::new(rt.alloc());
     for number in 0..count {
         text.push(mark)?;
-        text.push('n')?;
-        for place in [number / 676 % 26, number / 26 % 26, number % 26] {
-            text.push(char::from(b'a' + place as u8))?;
-        }
+        push_name(&mut text, number)?;
     }
+    Ok(text)
+}
+
+/// A text, what stands before its names, the mark before each, how many there are, and what is refused.
+const MANY: [(&str, &str, char, u32, Option<ReadFault>); 3] = [
+    (OLDER, "registers", ' ', 256, None),
+    (OLDER, "registers", ' ', 257, at!(4, ReadWhy::Range)),
+    (NEWER, "registers 4096", '\n', 4096, None),
+];
+
+/// The lines of so many registers.
+fn registers_of(rt: &HostRuntime, head: &str, mark: char, count: u32) -> Result<String, Fail> {
+    let mut text = String::from_str(rt.alloc(), head)?;
+    text.push_str(many_names(rt, count, mark)?.as_str())?;
     Ok(text)
 }
 
 #[test]
 fn each_version_has_as_many_names_as_it_may(rt: HostRuntime) -> Result<(), Fail> {
-    let cases = [
-        (OLDER, "registers", ' ', 256, None),
-        (OLDER, "registers", ' ', 257, at(4, ReadWhy::Range)),
-        (NEWER, "registers 4096", '\n', 4096, None),
-    ];
-    for (text, head, mark, count, found) in cases {
-        let mut registers = String::from_str(rt.alloc(), head)?;
-        registers.push_str(many_names(&rt, count, mark)?.as_str())?;
-        assert_eq!(rt;
-            refusal(&rt, text, "processes 1", registers.as_str())?,
-            found,
-            "{head} {count}"
-        );
+    for (text, head, mark, count, found) in &MANY {
+        let registers = registers_of(&rt, head, *mark, *count)?;
+        let told = refusal(&rt, text, "processes 1", registers.as_str())?;
+        assert!(rt; told == *found, "{head} {count}");
     }
     Ok(())
 }
@@ -232,15 +233,26 @@ fn most_names(rt: &HostRuntime) -> Result<Names, Fail> {
     Ok(Names::new(names)?)
 }
 
+/// Some of the words, and the number of each name.
+const OF_MOST_NAMES: [(&str, Option<u16>); 3] = [
+    ("naaa", Some(0)),
+    ("ngbn", Some(4095)),
+    ("ngbo", None),
+];
+
+fn has_its_number(names: &Names, number: u16) -> bool {
+    let name = names.name(number).unwrap_or("");
+    names.number(name) == Some(number)
+}
+
 #[test]
 fn each_of_the_most_names_has_its_number(rt: HostRuntime) -> Result<(), Fail> {
     let names = most_names(&rt)?;
-    for (name, number) in [("naaa", Some(0)), ("ngbn", Some(4095)), ("ngbo", None)] {
-        assert!(rt; names.number(name) == number, "{name}");
+    for (name, number) in &OF_MOST_NAMES {
+        assert!(rt; names.number(name) == *number, "{name}");
     }
     for number in 0..4096u16 {
-        let name = names.name(number).unwrap_or("");
-        assert!(rt; names.number(name) == Some(number), "{number}");
+        assert!(rt; has_its_number(&names, number), "{number}");
     }
     Ok(())
 }
@@ -261,25 +273,55 @@ fn read_again(rt: &HostRuntime, report: &Report) -> Result<Report, Fail> {
     Ok(read_report(rt.alloc(), std::str::from_utf8(out.as_slice())?)?)
 }
 
+/// The largest report, as it is read where it was written.
+fn largest_again(rt: &HostRuntime) -> Result<Report, Fail> {
+    let report = largest(rt)?;
+    read_again(rt, &report)
+}
+
+/// Whether the last name, the shape and the order are those of the largest report.
+fn is_largest(report: &Report) -> bool {
+    let shape = report.history().shape();
+    report.names().name(4095) == Some("ngbn")
+        && shape.processes() == 64
+        && shape.registers() == 4096
+        && report.order() == [id(63, 0)].as_slice()
+}
+
 #[test]
 fn the_largest_report_is_read_as_it_was_written(rt: HostRuntime) -> Result<(), Fail> {
-    let report = largest(&rt)?;
-    let again = read_again(&rt, &report)?;
-    assert!(rt; again.names().name(4095) == Some("ngbn"));
-    let shape = again.history().shape();
-    assert!(rt; shape.processes() == 64 && shape.registers() == 4096);
-    assert!(rt; again.order() == [id(63, 0)].as_slice());
+    let again = largest_again(&rt)?;
+    assert!(rt; is_largest(&again));
     Ok(())
+}
+
+/// A write of 5 to the register.
+fn write_to(register: u16) -> Frame {
+    cast(1, 3, Op::Write { register, value: 5 })
+}
+
+/// What is read of the bytes, with these in the place of the register.
+fn read_with(rt: &impl Abort, bytes: &[u8], register: [u8; 2]) -> Result<Frame, FrameFault> {
+    let mut copy = [0u8; 32];
+    assert!(rt; bytes.len() == 32);
+    copy.copy_from_slice(bytes);
+    copy[22] = register[0];
+    copy[23] = register[1];
+    decode(copy.as_slice())
 }
 
 #[test]
 fn the_last_register_in_a_frame(rt: HostRuntime) -> Result<(), Fail> {
-    let write = |register: u16| cast(1, 3, Op::Write { register, value: 5 });
-    let mut bytes = encode(rt.alloc(), &write(4095))?;
-    assert_eq!(rt; &bytes[22..24], [0x0f, 0xff].as_slice());
-    assert_eq!(rt; decode(bytes.as_slice()), Ok(write(4095)));
-    assert!(rt; matches!(encode(rt.alloc(), &write(4096)), Err(FrameFault::Range)));
-    bytes[22..24].copy_from_slice(&[0x10, 0]);
-    assert_eq!(rt; decode(bytes.as_slice()), Err(FrameFault::Range));
+    let bytes = encode(rt.alloc(), &write_to(4095))?;
+    assert!(rt; bytes.as_slice().get(22..24) == Some([0x0f, 0xff].as_slice()));
+    assert!(rt; decode(bytes.as_slice()) == Ok(write_to(4095)));
+    let over = read_with(&rt, bytes.as_slice(), [0x10, 0]);
+    assert!(rt; over == Err(FrameFault::Range));
     Ok(())
+}
+
+#[test]
+fn no_frame_has_a_register_past_the_last(rt: HostRuntime) {
+    let made = encode(rt.alloc(), &write_to(4096));
+    assert!(rt; matches!(made, Err(FrameFault::Range)));
 }

@@ -151,57 +151,84 @@ fn links_keep_what_is_not_acknowledged_by_all(rt: HostRuntime) -> Result<(), Fai
     let mut out = Outboxes::new(rt.alloc(), 3)?;
     for (row, (step, told, first, last)) in OF_THREE.iter().enumerate() {
         let answer = used(&rt, rt.alloc(), &mut out, step)?;
-        assert_eq!(rt; answer.as_str(), *told, "{row}");
-        assert_eq!(rt; pending(&rt, &out), [*first, 0, *last], "{row}");
+        assert!(rt;
+            answer.as_str() == *told && pending(&rt, &out) == [*first, 0, *last],
+            "{row}"
+        );
     }
-    assert_eq!(rt; (out.processes(), out.next()), (3, 3));
+    assert!(rt; out.processes() == 3 && out.next() == 3);
     Ok(())
+}
+
+/// What the only process answers to a body, where nothing is pending to it then.
+fn queued_alone(rt: &impl Abort, out: &mut Outboxes) -> Result<u64, LinkFault> {
+    assert!(rt; out.processes() == 1);
+    let answer = out.queue(0, TWO);
+    assert!(rt; out.pending(0) == 0);
+    answer
+}
+
+/// What the only process answers to a count of its own.
+fn got_alone(rt: &impl Abort, out: &mut Outboxes, count: u64) -> Result<(), Ahead> {
+    assert!(rt; out.processes() == 1);
+    out.got(0, count)
 }
 
 #[test]
 fn one_process_has_all_that_it_queues(rt: HostRuntime) {
     let mut out = Outboxes::new(rt.alloc(), 1).expect(&rt, "one process");
     for number in 0..2 {
-        assert!(rt; out.processes() == 1);
-        assert_eq!(rt; out.queue(0, TWO), Ok(number));
-        assert_eq!(rt; out.pending(0), 0);
+        assert!(rt; queued_alone(&rt, &mut out) == Ok(number));
     }
-    assert!(rt; out.processes() == 1);
-    assert_eq!(rt; out.got(0, 3), Err(Ahead));
+    assert!(rt; got_alone(&rt, &mut out, 3) == Err(Ahead));
 }
 
 #[test]
 fn numbers_end(rt: HostRuntime) {
     assert_eq!(rt; FRAME_NUMBERS, 1 << 48);
     let mut out = Outbox::starting(rt.alloc(), FRAME_NUMBERS - 1).expect(&rt, "the last number");
-    let last = Frame::Numbered {
+    for answer in &AT_THE_END {
+        assert!(rt; out.queue(TWO) == *answer && out.pending() == 1);
+    }
+}
+
+/// What is answered to a body with the last number, and to one more.
+const AT_THE_END: [Result<Frame, LinkFault>; 2] = [
+    Ok(Frame::Numbered {
         number: FRAME_NUMBERS - 1,
         body: TWO,
-    };
-    for (answer, pending) in [(Ok(last), 1), (Err(LinkFault::NumberFull), 1)] {
-        assert_eq!(rt; out.queue(TWO), answer);
-        assert_eq!(rt; out.pending(), pending);
-    }
+    }),
+    Err(LinkFault::NumberFull),
+];
+
+#[test]
+fn no_number_is_past_the_end(rt: HostRuntime) {
     assert!(rt; Outbox::starting(rt.alloc(), FRAME_NUMBERS).is_some());
     assert!(rt; Outbox::starting(rt.alloc(), FRAME_NUMBERS + 1).is_none());
 }
 
+/// The number of a body, what is accepted of it, and the number that is expected then.
+const TAKEN: [(u64, Option<Body>, u64); 5] = [
+    (1, None, 0),
+    (0, Some(TWO), 1),
+    (0, None, 1),
+    (2, None, 1),
+    (1, Some(TWO), 2),
+];
+
 #[test]
 fn inbox_accepts_in_order(rt: HostRuntime) {
     let mut inbox = Inbox::new();
-    let cases = [
-        (1, None, 0),
-        (0, Some(TWO), 1),
-        (0, None, 1),
-        (2, None, 1),
-        (1, Some(TWO), 2),
-    ];
-    for (number, accepted, expected) in cases {
-        assert_eq!(rt; inbox.take(number, TWO), accepted);
-        assert_eq!(rt; inbox.expected(), expected);
+    for (number, accepted, expected) in &TAKEN {
+        assert!(rt; inbox.take(*number, TWO) == *accepted);
+        assert!(rt; inbox.expected() == *expected);
     }
+}
+
+#[test]
+fn inbox_accepts_up_to_the_last_number(rt: HostRuntime) {
     let mut last = Inbox::starting(FRAME_NUMBERS).expect(&rt, "the last count");
-    assert_eq!(rt; last.take(FRAME_NUMBERS, TWO), None);
+    assert!(rt; last.take(FRAME_NUMBERS, TWO).is_none());
     assert!(rt; Inbox::starting(FRAME_NUMBERS + 1).is_none());
 }
 
@@ -220,13 +247,20 @@ fn no_links_without_memory(rt: HostRuntime) {
     assert!(rt; Outboxes::new(&none, 3).is_err());
 }
 
+/// What is answered to each of three bodies, and the next number then.
+const ONCE_REFUSED: [(Result<u64, LinkFault>, u64); 3] = [
+    (Err(LinkFault::OutOfMemory), 0),
+    (Ok(0), 1),
+    (Ok(1), 2),
+];
+
 #[test]
 fn a_refused_body_is_queued_for_none(rt: HostRuntime) {
     let heap = Refusing::new(rt.alloc(), 1);
     let mut out = Outboxes::new(&heap, 3).expect(&rt, "the counts");
-    for (answer, next) in [(Err(LinkFault::OutOfMemory), 0), (Ok(0), 1), (Ok(1), 2)] {
+    for (answer, next) in &ONCE_REFUSED {
         assert!(rt; out.processes() == 3);
-        assert!(rt; out.queue(1, TWO) == answer && out.next() == next);
+        assert!(rt; out.queue(1, TWO) == *answer && out.next() == *next);
     }
     assert!(rt; out.processes() == 3);
     assert!(rt; out.pending(0) == 2);

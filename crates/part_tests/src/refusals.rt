@@ -2,16 +2,24 @@
 use refusing::Refusing;
 use std::alloc::Global;
 
+/// Pushes a byte, and says whether there was memory, and whether the refusal is still to come then.
+fn pushed(
+    heap: &Refusing<Global>,
+    list: &mut Vec<u8, &Refusing<Global>>,
+    byte: u8,
+) -> (bool, bool) {
+    let is_there = list.push(byte).is_ok();
+    (is_there, heap.is_waiting())
+}
+
 #[test]
 fn refuses_just_one(rt: HostRuntime) {
     let heap = Refusing::new(rt.alloc(), 1);
-    let mut first: Vec<u8, &Refusing<Global>> = Vec::new(&heap);
-    assert!(rt; first.push(1).is_ok());
-    assert!(rt; heap.is_waiting());
-    let mut second: Vec<u8, &Refusing<Global>> = Vec::new(&heap);
-    assert!(rt; second.push(2).is_err());
-    assert!(rt; !heap.is_waiting());
-    assert!(rt; second.push(3).is_ok());
-    assert_eq!(rt; first.as_slice(), [1].as_slice());
-    assert_eq!(rt; second.as_slice(), [3].as_slice());
+    let mut first = Vec::new(&heap);
+    assert!(rt; pushed(&heap, &mut first, 1) == (true, true));
+    let mut second = Vec::new(&heap);
+    assert!(rt; pushed(&heap, &mut second, 2) == (false, false));
+    assert!(rt; pushed(&heap, &mut second, 3).0);
+    assert!(rt; first.as_slice() == [1].as_slice());
+    assert!(rt; second.as_slice() == [3].as_slice());
 }

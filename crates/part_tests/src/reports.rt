@@ -5,7 +5,6 @@ use reg_history::{
     Entry, History, Point, ReadFault, ReadWhy, Report, ReportFault, read_report, write_report,
 };
 use std::alloc::Global;
-use std::process::Abort;
 use std::test::Fail;
 
 pub(crate) const ONE_PROCESS: &str =
@@ -215,19 +214,27 @@ fn parts_that_are_no_report_are_refused(rt: HostRuntime) -> Result<(), Fail> {
     Ok(())
 }
 
-/// Both texts are read, and written as the second.
-fn demand_written(rt: &(impl Abort + AllocGlobal), older: &str, now: &str) -> Result<(), Fail> {
-    for text in [older, now] {
-        let report = read_report(rt.alloc(), text)?;
-        assert!(rt; written(rt.alloc(), &report)?.as_str() == now);
-    }
-    Ok(())
+/// The report that is read, as it is written.
+fn written_again(alloc: Global, text: &str) -> Result<String, Fail> {
+    let report = read_report(alloc, text)?;
+    written(alloc, &report)
 }
+
+/// Reports of both versions, and each as it is written.
+const WRITTEN: [(&str, &str); 4] = [
+    (ONE_PROCESS, ONE_PROCESS_NOW),
+    (ONE_PROCESS_NOW, ONE_PROCESS_NOW),
+    (NO_POINTS, NO_POINTS_NOW),
+    (NO_POINTS_NOW, NO_POINTS_NOW),
+];
 
 #[test]
 fn reports_are_written_in_version_2(rt: HostRuntime) -> Result<(), Fail> {
-    demand_written(&rt, ONE_PROCESS, ONE_PROCESS_NOW)?;
-    demand_written(&rt, NO_POINTS, NO_POINTS_NOW)
+    for (text, now) in &WRITTEN {
+        let again = written_again(rt.alloc(), text)?;
+        assert!(rt; again.as_str() == *now, "{text}");
+    }
+    Ok(())
 }
 
 fn is_refused_at_a_line(rt: &HostRuntime, bytes: &[u8]) -> Result<bool, Fail> {

@@ -1,10 +1,11 @@
 //! Lines and parts of lines, as the formats have them.
+use crate::bases::letter;
 use crate::operations::two_names;
 use reg_text::{
     Lines, TextFault, Why, expect_line, field_within, in_front, is_numeral, left_field, numeral,
     read_count, read_names, right_field, why_number, within,
 };
-use std::alloc::Global;
+use std::alloc::{AllocError, Global};
 use std::process::Abort;
 use std::str::from_utf8;
 use std::test::Fail;
@@ -47,14 +48,21 @@ const KEPT_LINES: &str = "0
 ends at 8, Line { line: 8, why: End }
 ";
 
+fn line_told(alloc: Global, number: u64, fault: TextFault, line: &[u8]) -> Result<String, Fail> {
+    let text = from_utf8(line)?;
+    Ok(format!(in alloc; "{number}, {fault:?} [{text}]\n")?)
+}
+
+fn end_told(alloc: Global, number: u64, fault: TextFault) -> Result<String, Fail> {
+    Ok(format!(in alloc; "ends at {number}, {fault:?}\n")?)
+}
+
 /// The number of the next line, a fault of it, and the line itself.
 fn next_told(alloc: Global, lines: &mut Lines<'_>, why: Why) -> Result<String, Fail> {
-    let Some(line) = lines.next() else {
-        let fault = lines.fault(Why::End);
-        return Ok(format!(in alloc; "ends at {}, {fault:?}\n", lines.number())?);
-    };
-    let fault = lines.fault(why);
-    Ok(format!(in alloc; "{}, {fault:?} [{}]\n", lines.number(), from_utf8(line)?)?)
+    match lines.next() {
+        Some(line) => line_told(alloc, lines.number(), lines.fault(why), line),
+        None => end_told(alloc, lines.number(), lines.fault(Why::End)),
+    }
 }
 
 /// What the cursor tells of each line up to the end.
@@ -71,14 +79,18 @@ fn walked(alloc: Global, lines: Lines<'_>, why: Why) -> Result<String, Fail> {
     Ok(text)
 }
 
+fn lines_of(text: &str, skips: bool) -> Lines<'_> {
+    if skips {
+        Lines::skipping(text.as_bytes())
+    } else {
+        Lines::new(text.as_bytes())
+    }
+}
+
 fn demand_lines(rt: &(impl Abort + AllocGlobal), walks: &[Walk]) -> Result<(), Fail> {
     for (text, skips, why, told) in walks {
-        let lines = if *skips {
-            Lines::skipping(text.as_bytes())
-        } else {
-            Lines::new(text.as_bytes())
-        };
-        assert_eq!(rt; walked(rt.alloc(), lines, *why)?.as_str(), *told);
+        let found = walked(rt.alloc(), lines_of(text, *skips), *why)?;
+        assert!(rt; found.as_str() == *told, "{text}");
     }
     Ok(())
 }
@@ -171,16 +183,24 @@ const LEFT: [(&str, Option<(u64, &str)>); 6] = [
 const FRONTS: [(&str, &str); 4] = [("1  ", "1"), ("123", "123"), (" 1 ", " 1 "), ("1 2", "1 2")];
 
 #[test]
-fn columns(rt: HostRuntime) {
+fn columns_at_the_right(rt: HostRuntime) {
     for (text, number) in &RIGHT {
         let field = right_field(text.as_bytes(), 8, b"  p");
         assert!(rt; field.map(|(found, _)| found) == *number, "{text}");
     }
+}
+
+#[test]
+fn columns_at_the_left(rt: HostRuntime) {
     for (text, wanted) in &LEFT {
         let field = left_field(text.as_bytes(), 3, b"  #");
         let wanted = wanted.map(|(number, rest)| (number, rest.as_bytes()));
         assert!(rt; field == wanted, "{text}");
     }
+}
+
+#[test]
+fn fronts_of_columns(rt: HostRuntime) {
     for (text, front) in &FRONTS {
         assert!(rt; in_front(text.as_bytes()) == front.as_bytes(), "{text}");
     }
@@ -217,14 +237,18 @@ fn names_of_their_line(rt: HostRuntime) -> Result<(), Fail> {
     Ok(())
 }
 
+/// A name of three letters behind a space, another for each number up to 675.
+fn push_name(line: &mut String, number: u32) -> Result<(), AllocError> {
+    line.push_str(" n")?;
+    line.push(letter(number / 26))?;
+    line.push(letter(number))
+}
+
 /// A line of 256 different names, and a word behind them.
 fn many_names(alloc: Global, last: &str) -> Result<String, Fail> {
     let mut line = String::from_str(alloc, "registers")?;
     for number in 0..256u32 {
-        line.push_str(" n")?;
-        for place in [number / 26 % 26, number % 26] {
-            line.push(char::from(b'a' + place as u8))?;
-        }
+        push_name(&mut line, number)?;
     }
     line.push_str(last)?;
     Ok(line)

@@ -80,23 +80,28 @@ fn step_of<F: FrontEnd>(process: &mut Process<F>, step: &Step) -> Result<Outcome
     }
 }
 
+fn counts_text<F: FrontEnd>(alloc: Global, process: &Process<F>) -> Result<String, Fail> {
+    let (clock, pending) = (process.clock(), process.pending());
+    let (unsettled, delivered) = (process.unsettled(), process.delivered_count());
+    Ok(format!(in alloc;
+        "clock {clock}, pending {pending}, unsettled {unsettled}, delivered {delivered}, "
+    )?)
+}
+
+fn value_text<F: FrontEnd>(alloc: Global, process: &Process<F>) -> Result<String, Fail> {
+    let word = if process.busy() { "busy" } else { "free" };
+    let x = process.registers().get(0).unwrap_or(0);
+    Ok(format!(in alloc; "{word}, x {x}")?)
+}
+
 /// What the process answers.
 fn push_state<F: FrontEnd>(
     alloc: Global,
     text: &mut String,
     process: &Process<F>,
 ) -> Result<(), Fail> {
-    let counts = format!(in alloc;
-        "clock {}, pending {}, unsettled {}, delivered {}, ",
-        process.clock(),
-        process.pending(),
-        process.unsettled(),
-        process.delivered_count()
-    )?;
-    text.push_str(counts.as_str())?;
-    text.push_str(if process.busy() { "busy" } else { "free" })?;
-    let x = process.registers().get(0).unwrap_or(0);
-    text.push_str(format!(in alloc; ", x {x}")?.as_str())?;
+    text.push_str(counts_text(alloc, process)?.as_str())?;
+    text.push_str(value_text(alloc, process)?.as_str())?;
     Ok(())
 }
 
