@@ -12,3 +12,6 @@ returns-clause-fault c = search rules
 
 pub returns-clause-loss : goal.returns-clause-loss
 returns-clause-loss c = search rules
+
+pub returns-clause-budget : goal.returns-clause-budget
+returns-clause-budget c = search rules

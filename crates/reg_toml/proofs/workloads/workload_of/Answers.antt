@@ -1,4 +1,5 @@
-use Rattle.std.proofs.Common.{◌≡◌, ℕ, List, Some, map, sym, ap, subst, ◌∙◌, arith}
+use Rattle.std.proofs.lemmas.Grind.{common_steps}
+use Rattle.std.proofs.Common.{rules, ◌≡◌, ℕ, List, Some, map, sym, ap, subst, ◌∙◌, arith}
 use Rattle.std.proofs.lemmas.List.{length-map}
 use Rattle.toml.specs.Data.{array}
 use Rattle.toml.specs.View.{items_of, table_view, view}
@@ -40,3 +41,12 @@ returns-clause-only g c = λ w s l.
     let lines = scripts_read ms w (map view c.in_ok-lines.lines.now) c.in_ok-lines.ensures.fault.0 s in
     let mine = subst (λ (n : List (List ℕ)). map view c.in_ok-lines.lines.now ≡ map (script_data n) w.scripts) (sym names) lines in
     loads_same ms _ w read.0 read.1 s l front names (c.in_ok-scripts.ensures.only w.scripts fit mine)
+
+pub overflow_cast-len : goal.overflow_cast-len
+overflow_cast-len g c = grind (arith, common_steps)
+
+pub unreachable-requires : goal.unreachable-requires
+unreachable-requires g c = grind (arith, common_steps)
+
+pub returns-in_err-numbers-clause-refused : goal.returns-in_err-numbers-clause-refused
+returns-in_err-numbers-clause-refused g c = search rules
