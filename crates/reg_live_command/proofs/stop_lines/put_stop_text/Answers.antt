@@ -1,5 +1,4 @@
-use Rattle.std.proofs.lemmas.Grind.{common_steps}
-use Rattle.std.proofs.Common.{rules, arith}
+use Rattle.std.proofs.Common.{rules}
 use Rattle.reg_live_command.proofs.stop_lines.put_stop_text.Goals as goal
 
 pub returns-in-Full : goal.returns-in-Full
