@@ -51,9 +51,9 @@ fn each_casts_a_swap(rt: HostRuntime) {
 
 #[test]
 fn names_are_fixed(rt: HostRuntime) {
-    assert_eq!(rt; Front::Linear.name(), "linear");
-    assert_eq!(rt; Front::LocalRead.name(), "local-read");
-    assert_eq!(rt; Front::LocalWrite.name(), "local-write");
+    assert!(rt; Front::Linear.name() == "linear");
+    assert!(rt; Front::LocalRead.name() == "local-read");
+    assert!(rt; Front::LocalWrite.name() == "local-write");
     assert!(rt; Front::from_name("local-read") == Some(Front::LocalRead));
     assert!(rt; Front::from_name("Linear").is_none());
     assert!(rt; Front::from_name("").is_none());

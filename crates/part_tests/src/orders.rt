@@ -142,10 +142,10 @@ fn entries_in_place(rt: HostRuntime) {
     let shape = Shape::new(1, 1).expect(&rt, "a shape");
     let mut history = History::new(alloc, shape).expect(&rt, "memory");
     let done = answered(0, id(0, 0), Answer::Done);
-    assert_eq!(rt; history.push(done), Err(HistoryFault::OutOfPlace));
+    assert!(rt; history.push(done) == Err(HistoryFault::OutOfPlace));
     history.reserve(2).expect(&rt, "memory");
-    assert_eq!(rt; history.push(called(0, id(0, 0), WRITE_FIVE)), Ok(()));
-    assert_eq!(rt; history.push(done), Ok(()));
-    assert_eq!(rt; history.entries().len(), 2);
-    assert_eq!(rt; history.shape(), shape);
+    assert!(rt; history.push(called(0, id(0, 0), WRITE_FIVE)) == Ok(()));
+    assert!(rt; history.push(done) == Ok(()));
+    assert!(rt; history.entries().len() == 2);
+    assert!(rt; history.shape() == shape);
 }

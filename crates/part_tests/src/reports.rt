@@ -205,9 +205,8 @@ const CASES: [Parts; 9] = [
 #[test]
 fn parts_that_are_no_report_are_refused(rt: HostRuntime) -> Result<(), Fail> {
     for (front, names, ids, points, fault) in &CASES {
-        assert_eq!(rt;
-            made(&rt, front, names, ids, points)?.err(),
-            *fault,
+        assert!(rt;
+            made(&rt, front, names, ids, points)?.err() == *fault,
             "{front}"
         );
     }
@@ -250,9 +249,8 @@ fn every_shorter_text_is_refused(rt: HostRuntime) -> Result<(), Fail> {
     let bytes = ONE_PROCESS_NOW.as_bytes();
     for length in 0..bytes.len() {
         let whole = length + 1 == bytes.len();
-        assert_eq!(rt;
-            is_refused_at_a_line(&rt, &bytes[..length])?,
-            !whole,
+        assert!(rt;
+            is_refused_at_a_line(&rt, &bytes[..length])? == !whole,
             "{length}"
         );
     }

@@ -142,7 +142,7 @@ pub(crate) fn follow<F: FrontEnd>(
             .get_mut(*at as usize)
             .expect(rt, "a process of the shape");
         let line = line_of(rt.alloc(), process, step)?;
-        assert_eq!(rt; line.as_str(), *told, "p{at} {step:?}");
+        assert!(rt; line.as_str() == *told, "p{at} {step:?}");
     }
     Ok(())
 }

@@ -3,9 +3,13 @@ use Rattle.std.proofs.Common.{◌≡◌, ℕ, zero, suc, [], ◌∷◌, refl, sy
 use Rattle.std.specs.Prelude.{slice_index}
 use Rattle.reg_base.specs.declared.memory.Op.TheVariants.{Read, Write, Swap}
 use Rattle.reg_base.specs.declared.memory.Answer.TheVariants.{Done, Value}
-use Rattle.reg_base.specs.Memory.{Memory, answer_of, after, IsBlind, Fits}
+use Rattle.reg_base.specs.Memory.{Memory, answer_of, after, IsBlind}
 use Rattle.reg_base.specs.declared.memory.Op.{Op}
 use Rattle.reg_base.specs.declared.memory.Answer.{Answer}
+
+-- an answer that the operation can have
+abbrev pub Fits : Op → Answer → Type 0
+Fits op answer = (m : Memory) × (answer ≡ answer_of op m)
 
 -- a memory with this value at the register
 abbrev with_value : ℕ → ℕ → Memory

@@ -6,10 +6,6 @@ use Rattle.reg_base.specs.declared.memory.Op.TheVariants.{Read, Write, Swap}
 use Rattle.reg_base.specs.declared.memory.Answer.{Answer}
 use Rattle.reg_base.specs.declared.memory.Answer.TheVariants.{Done, Value}
 
--- a value for each register
-abbrev pub Memory : Type 0
-Memory = List ℕ
-
 -- the register that an operation names
 abbrev pub register_of : Op → ℕ
 register_of (Read r) = r
@@ -19,33 +15,37 @@ register_of (Swap r v) = r
 -- whether the operation may change the memory
 abbrev pub updates : Op → Bool
 updates (Read r) = false
-updates (Write r v) = true
-updates (Swap r v) = true
+updates op = true
 
--- a read answers its register's value; a write answers Done; a swap answers its register's old value
-abbrev pub answer_of : Op → Memory → Answer
-answer_of (Read r) m = Value (slice_index m r)
+-- a write answers Done; a read answers its register's value, and a swap its old value
+abbrev pub answer_of : Op → List ℕ → Answer
 answer_of (Write r v) m = Done
-answer_of (Swap r v) m = Value (slice_index m r)
+answer_of op m = Value (slice_index m (register_of op))
 
 -- a write or a swap replaces its register's value; a read changes nothing
-abbrev pub after : Op → Memory → Memory
+abbrev pub after : Op → List ℕ → List ℕ
 after (Read r) m = m
 after (Write r v) m = slice_set m r v
 after (Swap r v) m = slice_set m r v
 
 -- the memory after these operations, the first of them first
-abbrev pub memory_after : List Op → Memory → Memory
+abbrev pub memory_after : List Op → List ℕ → List ℕ
 memory_after [] m = m
 memory_after (op ∷ ops) m = memory_after ops (after op m)
 
--- the memory after a list of operations, all 0 at first
-abbrev pub memory : ℕ → List Op → Memory
-memory registers ops = memory_after ops (replicate registers 0)
+-- The other definitions of this file are no part of the definitions behind a serial order: they are shorthands.
+
+-- a memory: a value for each register
+abbrev pub Memory : Type 0
+Memory = List ℕ
 
 -- the memory at first
 abbrev pub blank : ℕ → Memory
 blank registers = replicate registers 0
+
+-- the memory after a list of operations, all 0 at first
+abbrev pub memory : ℕ → List Op → Memory
+memory registers ops = memory_after ops (replicate registers 0)
 
 abbrev pub IsUpdate : Op → Type 0
 IsUpdate op = updates op ≡ true
@@ -53,7 +53,3 @@ IsUpdate op = updates op ≡ true
 -- the operation has one answer on every memory
 abbrev pub IsBlind : Op → Type 0
 IsBlind op = (m n : Memory) → answer_of op m ≡ answer_of op n
-
--- an answer that the operation can have
-abbrev pub Fits : Op → Answer → Type 0
-Fits op answer = (m : Memory) × (answer ≡ answer_of op m)

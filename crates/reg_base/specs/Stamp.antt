@@ -1,12 +1,7 @@
 use Rattle.std.specs.Ordering.{nat_cmp, ordering_then}
 use Rattle.std.specs.declared.cmp.Ordering.{Ordering}
 use Rattle.reg_base.specs.declared.stamps.Stamp.{Stamp}
-use Rattle.reg_base.specs.declared.memory.OpId.{OpId}
 
 -- by time, and then by process
 abbrev pub stamp_cmp : Stamp → Stamp → Ordering
 stamp_cmp a b = ordering_then (nat_cmp a.time b.time) (nat_cmp a.process b.process)
-
--- by process, and then by number
-abbrev pub id_cmp : OpId → OpId → Ordering
-id_cmp a b = ordering_then (nat_cmp a.process b.process) (nat_cmp a.number b.number)

@@ -1,6 +1,6 @@
 //! Operations, their names and answers, and one memory.
-ghost use Rattle.std.specs.Prelude.{◌≡◌, ◌<◌, ◌↔◌, IsTrue, IfOk, SomeIff, length, slice_get};
-ghost use Rattle.reg_base.specs.Memory.{register_of, updates, answer_of, after, blank, Fits};
+ghost use Rattle.std.specs.Prelude.{◌≡◌, ◌<◌, ◌↔◌, ℕ, List, IsTrue, IfOk, SomeIff, length, slice_get};
+ghost use Rattle.reg_base.specs.Memory.{register_of, updates, answer_of, after, blank};
 
 use std::alloc::{AllocError, Allocator, Global};
 use std::marker::Model;
@@ -53,7 +53,7 @@ impl Op {
 
     /// Whether it has this answer on some memory.
     pub fn can_answer(&self, answer: &Answer) -> bool
-        ensures { IsTrue result ↔ Fits self.now answer.now }
+        ensures { IsTrue result ↔ ((m : List ℕ) × (answer.now ≡ answer_of self.now m)) }
     {
         match *self {
             Op::Read { register: _ } => match *answer {

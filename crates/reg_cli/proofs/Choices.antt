@@ -5,7 +5,8 @@ use Rattle.clap.specs.declared.error.ErrorKind.{ErrorKind}
 use Rattle.clap.specs.declared.error.ErrorKind.TheVariants.{OutOfMemory as NoMemory}
 use Rattle.reg_words.proofs.Chosen.{takes_line}
 use Rattle.reg_words.specs.Faults.{words_fault}
-use Rattle.reg_cli.specs.Lines.{IsAnswer, awreg, is_fair, line_of, name_of}
+use Rattle.reg_cli.specs.Lines.{IsAnswer, is_fair, line_of, name_of}
+use Rattle.reg_cli.specs.Apps.{awreg}
 use Rattle.reg_cli.proofs.Lines.{awreg_lines}
 use Rattle.reg_cli.specs.declared.words.Asked.{Asked}
 use Rattle.reg_words.specs.declared.faults.WordsFault.{WordsFault}

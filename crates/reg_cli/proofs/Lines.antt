@@ -15,7 +15,8 @@ use Rattle.reg_words.proofs.Chosen.{TakesLines, met_at}
 use Rattle.reg_words.proofs.Strays.{some_kind}
 use Rattle.reg_words.proofs.Leaves.{fair_words, has_none, plain_words}
 use Rattle.reg_words.proofs.Programs.{at_name, below, first_turn, no_subcommand, start}
-use Rattle.reg_cli.specs.Lines.{IsCommandLine, awreg, is_fair, line_of, name_of}
+use Rattle.reg_cli.specs.Lines.{IsCommandLine, is_fair, line_of, name_of}
+use Rattle.reg_cli.specs.Apps.{awreg}
 use Rattle.reg_cli.specs.declared.words.Asked.{Asked}
 use Rattle.reg_cli.specs.declared.words.Asked.TheVariants.{Live, Text as OverText}
 

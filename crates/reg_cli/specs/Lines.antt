@@ -1,8 +1,8 @@
 -- Which words ask for what.
 use Rattle.std.specs.Prelude.{ℕ, ◌≡◌, ⊤, Bool, false, List, [], ◌∷◌, ◌++◌, codes, Result, Ok, Err}
-use Rattle.clap.specs.Words.{App, Text, new_app, with_subcommand}
+use Rattle.clap.specs.Words.{Text}
 use Rattle.reg_commands.specs.declared.Command.TheVariants.{Check, Play, Replay}
-use Rattle.reg_words.specs.Lines.{fair_app, named_line}
+use Rattle.reg_words.specs.Lines.{named_line}
 use Rattle.reg_cli.specs.declared.words.Asked.{Asked}
 use Rattle.reg_cli.specs.declared.words.Asked.TheVariants.{Live, Text as OverText}
 use Rattle.reg_words.specs.declared.faults.WordsFault.{WordsFault}
@@ -37,8 +37,3 @@ IsAnswer line (Err OutOfMemory) = ⊤
 -- the line for words that ask for nothing, with its line feed
 abbrev pub refused_line : List ℕ
 refused_line = codes "command line" ++ 10 ∷ []
-
--- the program with its subcommands, as clap's parse reads it
-abbrev pub awreg : App
-awreg = with_subcommand (with_subcommand (with_subcommand (with_subcommand (new_app (codes "awreg"))
-    (new_app (codes "replay")).top) (new_app (codes "check")).top) (new_app (codes "live")).top) (fair_app (codes "play")).top

@@ -3,7 +3,8 @@ ghost use Rattle.std.specs.Prelude.{◌≡◌, IfOk};
 ghost use Rattle.clap.specs.Words.{app_of};
 ghost use Rattle.reg_words.specs.Lines.{behind_name};
 ghost use Rattle.reg_cli.specs.declared.words.Asked.{Asked};
-ghost use Rattle.reg_cli.specs.Lines.{IsAnswer, awreg, is_fair, name_of};
+ghost use Rattle.reg_cli.specs.Lines.{IsAnswer, is_fair, name_of};
+ghost use Rattle.reg_cli.specs.Apps.{awreg};
 
 use reg_commands::Command;
 use reg_words::{WordsFault, has_dashes, met, with_fair};

@@ -1,5 +1,5 @@
 -- A serial order of a history is within the limits of a report, and so is a point order at events that a run may have.
-use Rattle.std.proofs.Common.{◌≡◌, ℕ, zero, suc, ◌+◌, ◌*◌, ◌-◌, ◌<◌, ◌≤◌, ◌⊎◌, inl, inr, Bool, true, false, ◌||◌, List, [], ◌∷◌, map, take, length, Option, Some, None, slice_get, get_or, refl, ap, sym, ◌∙◌, subst, arith, length-take}
+use Rattle.std.proofs.Common.{◌≡◌, ℕ, zero, suc, ◌+◌, ◌*◌, ◌-◌, ◌<◌, ◌≤◌, ◌⊎◌, inl, inr, Bool, true, false, ◌||◌, List, [], ◌∷◌, map, take, length, Option, Some, None, slice_get, get_or, refl, ap, sym, ◌∙◌, subst, arith}
 use Rattle.std.specs.List.{list_any}
 use Rattle.std.proofs.Math.Dec.{eqb}
 use Rattle.std.proofs.lemmas.Bool.{cases_order, cases_eq, ne_eqb}
@@ -19,14 +19,15 @@ use Rattle.reg_history.specs.declared.entries.Point.{Point}
 use Rattle.reg_history.specs.declared.report_faults.ReportFault.{ReportFault}
 use Rattle.reg_history.specs.declared.report_faults.ReportFault.TheVariants.{Front as FrontFault, Names as NamesFault, Range as RangeFault}
 use Rattle.reg_history.specs.declared.report_limits.TheConstants.{MOST_ENTRIES, MOST_IDS}
-use Rattle.reg_history.specs.History.{IsAt, IsCalled, WasCalled, IsLater, MayCall, MayAnswer, IsHistory, event_of, last_of}
+use Rattle.reg_history.specs.History.{IsAt, IsCalled, WasCalled, MayCall, MayAnswer, IsHistory, event_of}
 use Rattle.reg_history.specs.declared.versions.Version.TheVariants.{Two}
 use Rattle.reg_history.specs.IdLines.{IdFits}
-use Rattle.reg_history.specs.Orders.{IsDistinct, MayStand, IsSelection, IsSerial}
+use Rattle.reg_history.specs.Orders.{IsDistinct, IsSelection, IsSerial}
+use Rattle.reg_history.specs.Table.{MayStand}
 use Rattle.reg_history.specs.Reports.{Contents, is_front, InRange, PointsFit, IsReportFault}
 use Rattle.reg_commands.specs.Replays.{PointsStand}
 use Rattle.reg_history.proofs.Places.{within, same_at, at_take, element_at, IsAt-map}
-use Rattle.reg_history.proofs.Histories.{later_than_all, answered_was_called}
+use Rattle.reg_history.proofs.Histories.{answered_was_called}
 
 -- twice the event of an entry, and one more for an answer
 abbrev rank : Entry → ℕ
@@ -64,12 +65,6 @@ few_numbers xs n apart below =
             omega arith
 
 module _ (n registers : ℕ) (es : List Entry) (good : IsHistory n registers es) where
-  last_of_front : (j : ℕ) (c : Entry) → IsAt es j c → last_of (take (suc j) es) ≡ Some c
-  last_of_front j c here =
-      let inside : j < length es = within es j c here in
-      let last : length (take (suc j) es) - 1 ≡ j = omega (arith, length-take (suc j) es) in
-      ap (λ (k : ℕ). slice_get (take (suc j) es) k) last ∙ (at_take es (suc j) j (omega arith) ∙ here)
-
   -- an event has a call and an answer at most
   rank_at : (k : ℕ) (e : Entry) → IsAt es k e → k ≤ rank e
   rank_at zero e here = omega arith
@@ -78,30 +73,22 @@ module _ (n registers : ℕ) (es : List Entry) (good : IsHistory n registers es)
       let before : (c : Entry) × IsAt es j c = element_at es j (omega arith) in
       go e here before.0 before.1 (rank_at j before.0 before.1)
     where
-      after : (c : Entry) (at : ℕ) → suc j ≤ length es → IsAt es j c → j ≤ rank c → IsLater (take (suc j) es) at → suc j ≤ 2 * at
-      after c at inside last le later =
-          let less : event_of c < at = later_than_all n registers es good (suc j) at inside later j c last (omega arith) in
-          let cap : rank c ≤ 2 * event_of c + 1 = rank_within c in
-          omega arith
+      after : (c : Entry) (at : ℕ) → j ≤ rank c → event_of c < at → suc j ≤ 2 * at
+      after c at le less = let cap : rank c ≤ 2 * event_of c + 1 = rank_within c in omega arith
+
+      front : (c : Entry) → IsAt es j c → IsAt (take (suc j) es) j c
+      front c last = at_take es (suc j) j (omega arith) ∙ last
 
       go : (e : Entry) → IsAt es (suc j) e → (c : Entry) → IsAt es j c → j ≤ rank c → suc j ≤ rank e
-      go (Called at id op) here c last le =
-          let inside : suc j < length es = within es (suc j) (Called at id op) here in
-          after c at (omega arith) last le (good (suc j) (Called at id op) here).later
+      go (Called at id op) here c last le = after c at le ((good (suc j) (Called at id op) here).later j c (front c last))
       go (Answered at id answer) here c last le = cases (good (suc j) (Answered at id answer) here)
         where
-          inside : suc j < length es
-          inside = within es (suc j) (Answered at id answer) here
-
-          either : (op : Op) → IsLater (take (suc j) es) at ⊎ (last_of (take (suc j) es) ≡ Some (Called at id op)) → suc j ≤ 2 * at + 1
-          either op (inl later) = let bound : suc j ≤ 2 * at = after c at (omega (arith, inside)) last le later in omega arith
-          either op (inr own) =
-              let same : c ≡ Called at id op = same_Some c (Called at id op) (sym (last_of_front j c last) ∙ own) in
-              let equal : rank c ≡ 2 * at = ap rank same in
-              omega arith
+          either : (op : Op) → (event_of c < at) ⊎ (c ≡ Called at id op) → suc j ≤ 2 * at + 1
+          either op (inl less) = let bound : suc j ≤ 2 * at = after c at le less in omega arith
+          either op (inr own) = let equal : rank c ≡ 2 * at = ap rank own in omega arith
 
           cases : MayAnswer (take (suc j) es) at id answer → suc j ≤ 2 * at + 1
-          cases may = either may.op may.later
+          cases may = either may.op (may.later j c (front c last))
 
   event_within : (k : ℕ) (e : Entry) → IsAt es k e → event_of e ≤ LAST_EVENT
   event_within k (Called at id op) here = (good k (Called at id op) here).event
@@ -136,8 +123,7 @@ module _ (n registers : ℕ) (es : List Entry) (good : IsHistory n registers es)
     where
       apart : (a b : OpId) (o p : Op) (i j : ℕ) → IsAt es i (Called t a o) → IsAt es j (Called t b p) → i < j → ⊥
       apart a b o p i j at1 at2 lt =
-          let inside : j < length es = within es j (Called t b p) at2 in
-          let less : t < t = later_than_all n registers es good j t (omega arith) (good j (Called t b p) at2).later i (Called t a o) at1 lt in
+          let less : t < t = (good j (Called t b p) at2).later i (Called t a o) (at_take es j i lt ∙ at1) in
           omega arith
 
       go : (i ≡ j) ⊎ ((i < j) ⊎ (j < i)) → a ≡ b

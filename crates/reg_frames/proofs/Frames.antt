@@ -14,7 +14,8 @@ use Rattle.reg_frames.specs.declared.bodies.Frame.TheVariants.{Numbered, Got}
 use Rattle.reg_frames.specs.declared.faults.FrameFault.{FrameFault}
 use Rattle.reg_frames.specs.declared.faults.FrameFault.TheVariants as faults
 use Rattle.reg_frames.specs.Spelling.{op_bytes, body_bytes, payload, version_of, spelling, OpFits, TimeFits, Fits, Spells}
-use Rattle.reg_frames.specs.Reading.{OpIsNarrow, IsNarrow, number_at, is_time, body_fits, frame_fits, in_range, sized, cast_at, cast_of, data_of, plain_of, swap_cast_of, swap_data_of, swap_of, frame_of}
+use Rattle.reg_frames.specs.Reading.{number_at, is_time, body_fits, frame_fits, in_range, sized, cast_at, cast_of, data_of, plain_of, swap_cast_of, swap_data_of, swap_of, frame_of}
+use Rattle.reg_frames.specs.Narrow.{OpIsNarrow, IsNarrow}
 use Rattle.reg_frames.proofs.Fields.{IsBytes, chosen, wide16, wide64, number_there, number_below, byte_there, none_left}
 
 and_true : (a b : Bool) → (a && b) ≡ true → (a ≡ true) × (b ≡ true)

@@ -1,5 +1,5 @@
 -- Which fault the bytes have: the first of a fixed row of tests.
-use Rattle.std.specs.Prelude.{ℕ, ◌<◌, ◌^◌, ◌-◌, ◌==◌, ◌&&◌, nat_lt, nat_le, Bool, List, length, take, drop, slice_index, Result, Ok, Err, if◌then◌else◌}
+use Rattle.std.specs.Prelude.{ℕ, ◌-◌, ◌==◌, ◌&&◌, nat_lt, nat_le, Bool, List, length, take, drop, slice_index, Result, Ok, Err, if◌then◌else◌}
 use Rattle.std.specs.Int.{Width, w16, w64, byte_len, from_be_bytes}
 use Rattle.reg_base.specs.declared.limits.TheConstants.{MOST_REGISTERS, LAST_TIME, FRAME_NUMBERS}
 use Rattle.reg_base.specs.declared.memory.Op.{Op}
@@ -22,20 +22,6 @@ is_time time = nat_lt 0 time && nat_le time LAST_TIME
 abbrev pub body_fits : Body → Bool
 body_fits (Cast time op) = is_time time && nat_lt (register_of op) MOST_REGISTERS
 body_fits (Ack time) = is_time time
-
--- the value of a write or a swap fits its width, as each that a program holds does
-abbrev pub OpIsNarrow : Op → Type 0
-OpIsNarrow (Read register) = Unit {0}
-OpIsNarrow (Write register value) = value < 2 ^ 64
-OpIsNarrow (Swap register value) = value < 2 ^ 64
-
-abbrev pub BodyIsNarrow : Body → Type 0
-BodyIsNarrow (Cast time op) = OpIsNarrow op
-BodyIsNarrow (Ack time) = Unit {0}
-
-abbrev pub IsNarrow : Frame → Type 0
-IsNarrow (Numbered number body) = BodyIsNarrow body
-IsNarrow (Got count) = Unit {0}
 
 -- whether the fields are in range
 abbrev pub frame_fits : Frame → Bool

@@ -7,7 +7,8 @@ ghost use Rattle.reg_frames.specs.declared.bodies.Body.TheVariants.{Ack};
 ghost use Rattle.reg_frames.specs.declared.bodies.Frame.{Frame};
 ghost use Rattle.reg_frames.specs.declared.bodies.Frame.TheVariants.{Numbered, Got};
 ghost use Rattle.reg_frames.specs.Spelling.{Spells};
-ghost use Rattle.reg_frames.specs.Reading.{number_at, cast_at, is_time, body_fits as is_body, OpIsNarrow, BodyIsNarrow, IsNarrow, frame_fits, in_range as in_range_of, sized as sized_of, cast_of, data_of, plain_of, swap_cast_of, swap_data_of, swap_of, frame_of};
+ghost use Rattle.reg_frames.specs.Reading.{number_at, cast_at, is_time, body_fits as is_body, frame_fits, in_range as in_range_of, sized as sized_of, cast_of, data_of, plain_of, swap_cast_of, swap_data_of, swap_of, frame_of};
+ghost use Rattle.reg_frames.specs.Narrow.{OpIsNarrow, BodyIsNarrow, IsNarrow};
 
 use crate::bodies::{Body, Frame};
 use crate::faults::FrameFault;

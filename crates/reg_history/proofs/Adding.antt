@@ -6,7 +6,7 @@ use Rattle.reg_base.specs.declared.memory.Op.{Op}
 use Rattle.reg_base.specs.declared.memory.Answer.{Answer}
 use Rattle.reg_history.specs.declared.entries.Entry.{Entry}
 use Rattle.reg_history.specs.declared.entries.Entry.TheVariants.{Called, Answered}
-use Rattle.reg_history.specs.History.{IsIn, IsCalled, IsFinished, WasCalled, IsHistory, MayCall, MayAnswer}
+use Rattle.reg_history.specs.History.{IsAt, IsCalled, IsFinished, WasCalled, IsHistory, MayCall, MayAnswer}
 use Rattle.reg_history.proofs.Histories.{answered_was_called}
 use Rattle.reg_history.specs.declared.place.Progress.{Progress}
 use Rattle.reg_history.specs.declared.place.Running.{Running}
@@ -42,7 +42,7 @@ module _ (count registers : ℕ) (es ys : List Entry) (p : ℕ) (g : Progress) (
           down : WasCalled ys (op_of p n) → n < g.next + 1
           down (t, o, is) = go (more.cases (Called t (op_of p n) o) is)
             where
-              go : IsIn es (Called t (op_of p n) o) ⊎ (Called t (op_of p n) o ≡ Called at id op) → n < g.next + 1
+              go : ((k : ℕ) × IsAt es k (Called t (op_of p n) o)) ⊎ (Called t (op_of p n) o ≡ Called at id op) → n < g.next + 1
               go (inl h) = let lt : n < g.next = (kept.calls n).1 (t, o, h) in omega arith
               go (inr e) =
                   let name : op_of p n ≡ id = cc in
@@ -55,7 +55,7 @@ module _ (count registers : ℕ) (es ys : List Entry) (p : ℕ) (g : Progress) (
       back : (x : OpId) → IsFinished ys x → IsFinished es x
       back x (t, a, is) = go (more.cases (Answered t x a) is)
         where
-          go : IsIn es (Answered t x a) ⊎ (Answered t x a ≡ Called at id op) → IsFinished es x
+          go : ((k : ℕ) × IsAt es k (Answered t x a)) ⊎ (Answered t x a ≡ Called at id op) → IsFinished es x
           go (inl h) = (t, a, h)
           go (inr e) = absurd cc
 
@@ -75,7 +75,7 @@ module _ (count registers : ℕ) (es ys : List Entry) (p : ℕ) (g : Progress) (
       down : WasCalled ys (op_of p n) → n < g.next
       down (t, o, is) = go (more.cases (Called t (op_of p n) o) is)
         where
-          go : IsIn es (Called t (op_of p n) o) ⊎ (Called t (op_of p n) o ≡ Answered at id a) → n < g.next
+          go : ((k : ℕ) × IsAt es k (Called t (op_of p n) o)) ⊎ (Called t (op_of p n) o ≡ Answered at id a) → n < g.next
           go (inl h) = (kept.calls n).1 (t, o, h)
           go (inr e) = absurd cc
 
@@ -107,7 +107,7 @@ module _ (count registers : ℕ) (es ys : List Entry) (p : ℕ) (g : Progress) (
               subst (λ (y : OpId). IsFinished ys y) name (fin_more es ys (Answered at id a) (op_of id.process x.number) more (before x.number h))
           pick low (inr (inr h)) = absurd (omega (arith, last))
 
-          go : IsIn es (Called t x o) ⊎ (Called t x o ≡ Answered at id a) → IsFinished ys x
+          go : ((k : ℕ) × IsAt es k (Called t x o)) ⊎ (Called t x o ≡ Answered at id a) → IsFinished ys x
           go (inl h) =
               let name : x ≡ op_of p x.number = ap (λ (u : ℕ). op_of u x.number) proc in
               pick ((kept.calls x.number).1 (subst (λ (y : OpId). WasCalled es y) name (t, o, h))) (cases_order x.number id.number)
@@ -130,11 +130,11 @@ call_elsewhere es ys p g at id op other kept more = elsewhere es ys p g (Called 
     (λ x proc (t, o, is). was x proc t o (more.cases (Called t x o) is))
     (λ x proc (t, a, is). fin x t a (more.cases (Answered t x a) is))
   where
-    was : (x : OpId) → x.process ≡ p → (t : ℕ) (o : Op) → IsIn es (Called t x o) ⊎ (Called t x o ≡ Called at id op) → WasCalled es x
+    was : (x : OpId) → x.process ≡ p → (t : ℕ) (o : Op) → ((k : ℕ) × IsAt es k (Called t x o)) ⊎ (Called t x o ≡ Called at id op) → WasCalled es x
     was x proc t o (inl h) = (t, o, h)
     was x proc t o (inr e) = let name : x ≡ id = cc in absurd (other (sym proc ∙ ap (λ (y : OpId). y.process) name))
 
-    fin : (x : OpId) (t : ℕ) (a : Answer) → IsIn es (Answered t x a) ⊎ (Answered t x a ≡ Called at id op) → IsFinished es x
+    fin : (x : OpId) (t : ℕ) (a : Answer) → ((k : ℕ) × IsAt es k (Answered t x a)) ⊎ (Answered t x a ≡ Called at id op) → IsFinished es x
     fin x t a (inl h) = (t, a, h)
     fin x t a (inr e) = absurd cc
 
@@ -143,10 +143,10 @@ answer_elsewhere es ys p g at id b other kept more = elsewhere es ys p g (Answer
     (λ x proc (t, o, is). was x t o (more.cases (Called t x o) is))
     (λ x proc (t, a, is). fin x proc t a (more.cases (Answered t x a) is))
   where
-    was : (x : OpId) (t : ℕ) (o : Op) → IsIn es (Called t x o) ⊎ (Called t x o ≡ Answered at id b) → WasCalled es x
+    was : (x : OpId) (t : ℕ) (o : Op) → ((k : ℕ) × IsAt es k (Called t x o)) ⊎ (Called t x o ≡ Answered at id b) → WasCalled es x
     was x t o (inl h) = (t, o, h)
     was x t o (inr e) = absurd cc
 
-    fin : (x : OpId) → x.process ≡ p → (t : ℕ) (a : Answer) → IsIn es (Answered t x a) ⊎ (Answered t x a ≡ Answered at id b) → IsFinished es x
+    fin : (x : OpId) → x.process ≡ p → (t : ℕ) (a : Answer) → ((k : ℕ) × IsAt es k (Answered t x a)) ⊎ (Answered t x a ≡ Answered at id b) → IsFinished es x
     fin x proc t a (inl h) = (t, a, h)
     fin x proc t a (inr e) = let name : x ≡ id = cc in absurd (other (sym proc ∙ ap (λ (y : OpId). y.process) name))

@@ -12,7 +12,7 @@ use Rattle.reg_history.specs.declared.entries.Entry.{Entry}
 use Rattle.reg_history.specs.declared.entries.Entry.TheVariants.{Called}
 use Rattle.reg_base.specs.Memory.{IsUpdate, answer_of, memory, register_of}
 use Rattle.reg_history.specs.History.{IsAt, IsAnswered, IsFinished, IsHistory}
-use Rattle.reg_history.specs.Orders.{MayStand, IsSelection, IsDistinct, KeepsOwnOrder, IsLegal}
+use Rattle.reg_history.specs.Orders.{IsSelection, IsDistinct, KeepsOwnOrder, IsLegal}
 use Rattle.reg_history.specs.Checks.{AreCalled, HasUnknown, HasTwice, HasMissing, BreaksOwnOrder, NoneOfThree, IsWrong, IsFirst}
 use Rattle.reg_history.proofs.Histories.{answered_was_called, call_is, answer_is}
 use Rattle.reg_history.proofs.Places.{IsAt-map}
@@ -20,7 +20,7 @@ use Rattle.reg_history.proofs.NoOrder.{same_ops}
 use Rattle.reg_history.specs.declared.answers.Fact.{Fact}
 use Rattle.reg_history.specs.declared.answers.Given.{Given}
 use Rattle.reg_history.specs.Facts.{IsFactOf, AreFacts, IsWrongFact, IsSelected}
-use Rattle.reg_history.specs.Table.{Rows, cell, IsTable, Stands, Marked, AreMarked, AreResolved}
+use Rattle.reg_history.specs.Table.{MayStand, Rows, cell, IsTable, Stands, Marked, AreMarked, AreResolved}
 
 some_given : (o : Option Given) → IsSome o → (r : Given) × (o ≡ Some r)
 some_given None h = absurd cc
@@ -48,10 +48,10 @@ module _ (count registers : ℕ) (h : List Entry) (good : IsHistory count regist
   stands_may id (f, is, inr up) = inr (f.called, f.op, (table.facts id f is).called, up)
 
   pub unknown_here : (ids : List OpId) → (k : ℕ) × (id : OpId) × IsAt ids k id × (¬ Stands rows id) → HasUnknown h ids
-  unknown_here ids (k, id, at, none) = (k, id, at, λ may. none (may_stands id may))
+  unknown_here ids (k, id, at, none) = (k, id, at, (λ fin. none (may_stands id (inl fin))), (λ call. none (may_stands id (inr call))))
 
   pub none_unknown : (ids : List OpId) (facts : List Fact) → AreResolved rows ids facts → ¬ HasUnknown h ids
-  none_unknown ids facts res (k, id, at, none) = none (stands_may id (res.stand k id at))
+  none_unknown ids facts res (k, id, at, open_, no_update) = elim (stands_may id (res.stand k id at)) [ inl fin ↦ open_ fin | inr call ↦ no_update call ]
 
   facts_are : (ids : List OpId) (facts : List Fact) → AllZip (λ id f. cell rows id ≡ Some f) ids facts → AreFacts h ids facts
   facts_are [] [] all = tt
@@ -163,7 +163,7 @@ module _ (count registers : ℕ) (h : List Entry) (good : IsHistory count regist
 
 pub none_of_three : (h : List Entry) (ids : List OpId) → IsSelection h ids → NoneOfThree h ids
 none_of_three h ids sel = record {
-  unknown = λ (k, id, at, fault). fault (sel.known k id at);
+  unknown = λ (k, id, at, open_, no_update). elim (sel.known k id at) [ inl fin ↦ open_ fin | inr call ↦ no_update call ];
   twice = λ (i, j, id, at1, at2, lt). (let same : i ≡ j = sel.distinct i j id at1 at2 in absurd (omega arith));
   missing = λ (id, fin, none). (let found = sel.finished id fin in none found.0 found.1);
 }

@@ -1,5 +1,5 @@
 -- What holds of a history in which each entry was in place.
-use Rattle.std.proofs.Common.{◌≡◌, ℕ, zero, suc, ◌-◌, ◌<◌, ◌≤◌, ◌⊎◌, inl, inr, List, take, length, Option, Some, IfSome, slice_get, ap, sym, ◌∙◌, subst, arith, length-take}
+use Rattle.std.proofs.Common.{◌≡◌, ℕ, ◌-◌, ◌<◌, ◌≤◌, ◌⊎◌, inl, inr, List, take, length, Option, Some, None, IfSome, refl, ap, sym, ◌∙◌, subst, arith}
 use Rattle.std.proofs.lemmas.Bool.{cases_order}
 use Rattle.std.proofs.lemmas.Option.{same_Some}
 use Rattle.reg_base.specs.declared.memory.OpId.{OpId}
@@ -7,65 +7,72 @@ use Rattle.reg_base.specs.declared.memory.Op.{Op}
 use Rattle.reg_base.specs.declared.memory.Answer.{Answer}
 use Rattle.reg_history.specs.declared.entries.Entry.{Entry}
 use Rattle.reg_history.specs.declared.entries.Entry.TheVariants.{Called, Answered}
-use Rattle.reg_history.specs.History.{IsAt, IsCalled, IsAnswered, IsFinished, WasCalled, IsLater, MayCall, MayAnswer, IsHistory, event_of, last_of}
+use Rattle.reg_history.specs.History.{IsAt, IsCalled, IsAnswered, IsFinished, WasCalled, MayCall, MayAnswer, IsHistory, event_of}
+use Rattle.reg_history.specs.Progress.{last_of, IsBehindLast}
 use Rattle.reg_history.proofs.Places.{within, same_at, at_take, in_take, element_at}
 
 module _ (n registers : ℕ) (es : List Entry) (good : IsHistory n registers es) where
-  last_of_front : (j : ℕ) (c : Entry) → IsAt es j c → last_of (take (suc j) es) ≡ Some c
-  last_of_front j c here =
-      let inside : j < length es = within es j c here in
-      let n : length (take (suc j) es) - 1 ≡ j = omega (arith, length-take (suc j) es) in
-      ap (λ (k : ℕ). slice_get (take (suc j) es) k) n ∙ (at_take es (suc j) j (omega arith) ∙ here)
-
-  -- the next entry is of no earlier event
-  next_event : (j : ℕ) (c b : Entry) → IsAt es j c → IsAt es (suc j) b → event_of c ≤ event_of b
-  next_event j c (Called at id op) here there =
-      let later : IfSome (last_of (take (suc j) es)) (λ e. event_of e < at) = (good (suc j) (Called at id op) there).later in
-      let less : event_of c < at = subst (λ (o : Option Entry). IfSome o (λ e. event_of e < at)) (last_of_front j c here) later in
-      omega arith
-  next_event j c (Answered at id answer) here there = go (good (suc j) (Answered at id answer) there)
-    where
-      cases : (op : Op) → IsLater (take (suc j) es) at ⊎ (last_of (take (suc j) es) ≡ Some (Called at id op)) → event_of c ≤ at
-      cases op (inl later) =
-          let less : event_of c < at = subst (λ (o : Option Entry). IfSome o (λ e. event_of e < at)) (last_of_front j c here) later in
-          omega arith
-      cases op (inr own) =
-          let same : c ≡ Called at id op = same_Some c (Called at id op) (sym (last_of_front j c here) ∙ own) in
-          let same_event : event_of c ≡ at = ap event_of same in
-          omega arith
-
-      go : MayAnswer (take (suc j) es) at id answer → event_of c ≤ at
-      go may = cases may.op may.later
-
   -- events never fall
   pub events_rise : (i j : ℕ) (a b : Entry) → IsAt es i a → IsAt es j b → i < j → event_of a ≤ event_of b
-  events_rise i zero a b at1 at2 lt = absurd (omega arith)
-  events_rise i (suc j) a b at1 at2 lt =
-      let before : (c : Entry) × IsAt es j c = element_at es j (let inside : suc j < length es = within es (suc j) b at2 in omega arith) in
-      let last : event_of before.0 ≤ event_of b = next_event j before.0 b before.1 at2 in
-      go (cases_order i j) before.0 before.1 last (events_rise i j a before.0 at1 before.1)
+  events_rise i j a (Called at id op) at1 at2 lt =
+      let less : event_of a < at = (good j (Called at id op) at2).later i a (at_take es j i lt ∙ at1) in
+      omega arith
+  events_rise i j a (Answered at id answer) at1 at2 lt = go (good j (Answered at id answer) at2)
     where
-      go : (i ≡ j) ⊎ ((i < j) ⊎ (j < i)) → (c : Entry) → IsAt es j c → event_of c ≤ event_of b → (i < j → event_of a ≤ event_of c) → event_of a ≤ event_of b
-      go (inl e) c at last rec =
-          let same : a ≡ c = same_at es j a c (subst (λ (k : ℕ). IsAt es k a) e at1) at in
-          subst (λ (d : Entry). event_of d ≤ event_of b) (sym same) last
-      go (inr (inl less)) c at last rec = let le : event_of a ≤ event_of c = rec less in omega arith
-      go (inr (inr more)) c at last rec = absurd (omega arith)
+      cases : (op : Op) → (event_of a < at) ⊎ (a ≡ Called at id op) → event_of a ≤ at
+      cases op (inl less) = omega arith
+      cases op (inr own) = let same : event_of a ≡ at = ap event_of own in omega arith
 
-  -- what comes later than the last comes later than all
-  pub later_than_all : (j t : ℕ) → j ≤ length es → IsLater (take j es) t → (l : ℕ) (e : Entry) → IsAt es l e → l < j → event_of e < t
-  later_than_all zero t le later l e at lt = absurd (omega arith)
-  later_than_all (suc j) t le later l e at lt =
-      let before : (c : Entry) × IsAt es j c = element_at es j (omega arith) in
-      let less : event_of before.0 < t = subst (λ (o : Option Entry). IfSome o (λ e. event_of e < t)) (last_of_front j before.0 before.1) later in
-      go (cases_order l j) before.0 before.1 less
+      go : MayAnswer (take j es) at id answer → event_of a ≤ at
+      go may = cases may.op (may.later i a (at_take es j i lt ∙ at1))
+
+  -- an entry is the last one, or stands before it
+  at_last : (k : ℕ) (e c : Entry) → IsAt es k e → last_of es ≡ Some c → (e ≡ c) ⊎ (k < length es - 1)
+  at_last k e c here last = go (cases_order k (length es - 1))
     where
-      go : (l ≡ j) ⊎ ((l < j) ⊎ (j < l)) → (c : Entry) → IsAt es j c → event_of c < t → event_of e < t
-      go (inl same) c here less =
-          let one : e ≡ c = same_at es j e c (subst (λ (k : ℕ). IsAt es k e) same at) here in
-          subst (λ (d : Entry). event_of d < t) (sym one) less
-      go (inr (inl before)) c here less = let le : event_of e ≤ event_of c = events_rise l j e c at here before in omega arith
-      go (inr (inr more)) c here less = absurd (omega arith)
+      go : (k ≡ length es - 1) ⊎ ((k < length es - 1) ⊎ (length es - 1 < k)) → (e ≡ c) ⊎ (k < length es - 1)
+      go (inl same) = inl (same_at es (length es - 1) e c (subst (λ (l : ℕ). IsAt es l e) same here) last)
+      go (inr (inl less)) = inr less
+      go (inr (inr more)) = let inside : k < length es = within es k e here in absurd (omega arith)
+
+  -- what comes behind the last entry comes behind all
+  pub behind_all : (t : ℕ) → IsBehindLast es t → (k : ℕ) (e : Entry) → IsAt es k e → event_of e < t
+  behind_all t behind k e here =
+      let last : (c : Entry) × IsAt es (length es - 1) c = element_at es (length es - 1) (let inside : k < length es = within es k e here in omega arith) in
+      let less : event_of last.0 < t = subst (λ (o : Option Entry). IfSome o (λ e. event_of e < t)) last.1 behind in
+      go last.0 last.1 less (at_last k e last.0 here last.1)
+    where
+      go : (c : Entry) → IsAt es (length es - 1) c → event_of c < t → (e ≡ c) ⊎ (k < length es - 1) → event_of e < t
+      go c last less (inl same) = subst (λ (d : Entry). event_of d < t) (sym same) less
+      go c last less (inr before) = let le : event_of e ≤ event_of c = events_rise k (length es - 1) e c here last before in omega arith
+
+  -- and the other way about
+  pub behind_last : (t : ℕ) → ((k : ℕ) (e : Entry) → IsAt es k e → event_of e < t) → IsBehindLast es t
+  behind_last t all = go (last_of es) refl
+    where
+      go : (o : Option Entry) → last_of es ≡ o → IfSome o (λ e. event_of e < t)
+      go None is = tt
+      go (Some c) is = all (length es - 1) c is
+
+  -- where a call stands last, all else is of earlier events
+  pub behind_call : (at : ℕ) (id : OpId) (op : Op) → last_of es ≡ Some (Called at id op) → (k : ℕ) (e : Entry) → IsAt es k e → (event_of e < at) ⊎ (e ≡ Called at id op)
+  behind_call at id op last k e here = go (at_last k e (Called at id op) here last)
+    where
+      go : (e ≡ Called at id op) ⊎ (k < length es - 1) → (event_of e < at) ⊎ (e ≡ Called at id op)
+      go (inl same) = inr same
+      go (inr before) = inl ((good (length es - 1) (Called at id op) last).later k e (at_take es (length es - 1) k before ∙ here))
+
+  pub last_or_call : (at : ℕ) (id : OpId) (op : Op) → ((k : ℕ) (e : Entry) → IsAt es k e → (event_of e < at) ⊎ (e ≡ Called at id op))
+      → IsBehindLast es at ⊎ ((op : Op) × (last_of es ≡ Some (Called at id op)))
+  last_or_call at id op all = go (last_of es) refl
+    where
+      pick : (c : Entry) → (event_of c < at) ⊎ (c ≡ Called at id op) → (event_of c < at) ⊎ ((op : Op) × (Some c ≡ Some (Called at id op)))
+      pick c (inl less) = inl less
+      pick c (inr own) = inr (op, ap (λ (x : Entry). Some x) own)
+
+      go : (o : Option Entry) → last_of es ≡ o → IfSome o (λ e. event_of e < at) ⊎ ((op : Op) × (o ≡ Some (Called at id op)))
+      go None is = inl tt
+      go (Some c) is = pick c (all (length es - 1) c is)
 
   -- calls of one process come by their numbers
   pub called_in_turn : (i j : ℕ) (a b : OpId) (s t : ℕ) (o p : Op) → IsAt es i (Called s a o) → IsAt es j (Called t b p) → a.process ≡ b.process → a.number < b.number → i < j
@@ -134,5 +141,4 @@ module _ (n registers : ℕ) (es : List Entry) (good : IsHistory n registers es)
       let may : MayCall n registers (take j es) t b p = good j (Called t b p) at2 in
       let fin : IsFinished (take j es) a = may.idle a same (s, o, (i, at_take es j i order ∙ at1)) in
       let there = in_take es j fin.2.0 (Answered fin.0 a fin.1) fin.2.1 in
-      let inside : j < length es = within es j (Called t b p) at2 in
-      (fin.0, fin.1, (fin.2.0, there.1), later_than_all j t (omega arith) may.later fin.2.0 (Answered fin.0 a fin.1) there.1 there.0)
+      (fin.0, fin.1, (fin.2.0, there.1), may.later fin.2.0 (Answered fin.0 a fin.1) fin.2.1)

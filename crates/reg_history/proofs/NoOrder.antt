@@ -24,7 +24,7 @@ same_ops n registers h good (id ∷ ids) (x ∷ xs) (y ∷ ys) p q =
 
 module _ (n registers : ℕ) (h : List Entry) (good : IsHistory n registers h) where
   not_unknown : (ids : List OpId) → IsSelection h ids → ¬ HasUnknown h ids
-  not_unknown ids sel (k, id, at, fault) = fault (sel.known k id at)
+  not_unknown ids sel (k, id, at, open_, no_update) = elim (sel.known k id at) [ inl fin ↦ open_ fin | inr call ↦ no_update call ]
 
   not_twice : (ids : List OpId) → IsSelection h ids → ¬ HasTwice ids
   not_twice ids sel (i, j, id, at1, at2, lt) = let same : i ≡ j = sel.distinct i j id at1 at2 in omega arith
@@ -43,8 +43,8 @@ module _ (n registers : ℕ) (h : List Entry) (good : IsHistory n registers h) w
       w.wrong (subst (λ ops. w.answer ≡ answer_of w.op (memory registers (take k ops))) (sym same) right)
 
   not_outside : (ps : List Point) → IsPointOrder registers h ps → (k : ℕ) → ¬ IsOutside h ps k
-  not_outside ps order k (p, at, inl (t, op, is, lt)) = let le : t ≤ p.at = (order.points k p at).called t op is in omega arith
-  not_outside ps order k (p, at, inr (t, answer, is, lt)) = let le : p.at ≤ t = (order.points k p at).answered t answer is in omega arith
+  not_outside ps order k (p, at, inl (t, op, is, lt)) = let le : t ≤ p.at = order.called k p t op at is in omega arith
+  not_outside ps order k (p, at, inr (t, answer, is, lt)) = let le : p.at ≤ t = order.answered k p t answer at is in omega arith
 
   not_falling : (ps : List Point) → IsPointOrder registers h ps → (k : ℕ) → ¬ IsFalling ps k
   not_falling ps order k (j, p, q, e, at1, at2, lt) = let le : p.at ≤ q.at = order.rising j k p q at1 at2 (omega arith) in omega arith

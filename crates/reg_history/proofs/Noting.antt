@@ -7,7 +7,7 @@ use Rattle.reg_base.specs.declared.memory.Op.{Op}
 use Rattle.reg_base.specs.declared.memory.Answer.{Answer}
 use Rattle.reg_history.specs.declared.entries.Entry.{Entry}
 use Rattle.reg_history.specs.declared.entries.Entry.TheVariants.{Called, Answered}
-use Rattle.reg_history.specs.History.{IsAt, IsIn, IsCalled, IsAnswered, IsFinished, WasCalled, MayCall, IsInPlace, IsHistory}
+use Rattle.reg_history.specs.History.{IsAt, IsCalled, IsAnswered, IsFinished, WasCalled, MayCall, IsInPlace, IsHistory}
 use Rattle.reg_history.proofs.Histories.{answered_was_called}
 use Rattle.reg_history.proofs.OneMore.{IsOneMore}
 use Rattle.reg_history.proofs.Places.{in_take}
@@ -34,7 +34,7 @@ module _ (count registers : ℕ) (xs ys : List Entry) {A : Type 0} (rows rows' :
       back : (x : OpId) → IsFinished ys x → IsFinished xs x
       back x (t, a, is) = go (more.cases (Answered t x a) is)
         where
-          go : IsIn xs (Answered t x a) ⊎ (Answered t x a ≡ Called at id op) → IsFinished xs x
+          go : ((k : ℕ) × IsAt xs k (Answered t x a)) ⊎ (Answered t x a ≡ Called at id op) → IsFinished xs x
           go (inl h) = (t, a, h)
           go (inr e) = absurd cc
 
@@ -59,7 +59,7 @@ module _ (count registers : ℕ) (xs ys : List Entry) {A : Type 0} (rows rows' :
       all : (x : OpId) → WasCalled ys x → (f : Fact) × (cell rows' x ≡ Some f)
       all x (t, o, is) = go (same_id x id) (more.cases (Called t x o) is)
         where
-          go : (x ≡ id) ⊎ (x ≢ id) → IsIn xs (Called t x o) ⊎ (Called t x o ≡ Called at id op) → (f : Fact) × (cell rows' x ≡ Some f)
+          go : (x ≡ id) ⊎ (x ≢ id) → ((k : ℕ) × IsAt xs k (Called t x o)) ⊎ (Called t x o ≡ Called at id op) → (f : Fact) × (cell rows' x ≡ Some f)
           go (inl e) other = (record { op = op; called = at; answered = None; stands = false }, ap (λ (y : OpId). cell rows' y) e ∙ changed.here)
           go (inr away) (inl h) = let had = table.all x (t, o, h) in (had.0, changed.others x away ∙ had.1)
           go (inr away) (inr e) = absurd (away cc)
@@ -74,7 +74,7 @@ module _ (count registers : ℕ) (xs ys : List Entry) {A : Type 0} (rows rows' :
       back : (x : OpId) → x ≢ id → IsFinished ys x → IsFinished xs x
       back x other (t, a, is) = go (more.cases (Answered t x a) is)
         where
-          go : IsIn xs (Answered t x a) ⊎ (Answered t x a ≡ Answered at id answer) → IsFinished xs x
+          go : ((k : ℕ) × IsAt xs k (Answered t x a)) ⊎ (Answered t x a ≡ Answered at id answer) → IsFinished xs x
           go (inl h) = (t, a, h)
           go (inr e) = absurd (other cc)
 
@@ -90,7 +90,7 @@ module _ (count registers : ℕ) (xs ys : List Entry) {A : Type 0} (rows rows' :
       all : (x : OpId) → WasCalled ys x → (f : Fact) × (cell rows' x ≡ Some f)
       all x (t, o, is) = go (same_id x id) (more.cases (Called t x o) is)
         where
-          go : (x ≡ id) ⊎ (x ≢ id) → IsIn xs (Called t x o) ⊎ (Called t x o ≡ Answered at id answer) → (f : Fact) × (cell rows' x ≡ Some f)
+          go : (x ≡ id) ⊎ (x ≢ id) → ((k : ℕ) × IsAt xs k (Called t x o)) ⊎ (Called t x o ≡ Answered at id answer) → (f : Fact) × (cell rows' x ≡ Some f)
           go (inl e) other = (record { op = f₀.op; called = f₀.called; answered = Some (record { at = at; answer = answer }); stands = false }, ap (λ (y : OpId). cell rows' y) e ∙ changed.here)
           go (inr away) (inl h) = let had = table.all x (t, o, h) in (had.0, changed.others x away ∙ had.1)
           go (inr away) (inr e) = absurd cc

@@ -3,15 +3,15 @@ use Rattle.std.proofs.Common.{◌≡◌, ℕ, zero, suc, ◌<◌, ◌⊎◌, inl
 use Rattle.std.proofs.lemmas.Option.{same_Some}
 use Rattle.std.proofs.lemmas.Bool.{cases_order}
 use Rattle.reg_history.specs.declared.entries.Entry.{Entry}
-use Rattle.reg_history.specs.History.{IsAt, IsIn}
+use Rattle.reg_history.specs.History.{IsAt}
 use Rattle.reg_history.proofs.Places.{at_take, in_take, get_push_same}
 use Rattle.reg_history.proofs.Pushing.{at_push}
 
 -- ys holds what xs holds, and e
 pub record IsOneMore (xs : List Entry) (e : Entry) (ys : List Entry) : Type 0 where
-  pub old : (x : Entry) → IsIn xs x → IsIn ys x
-  pub new : IsIn ys e
-  pub cases : (x : Entry) → IsIn ys x → IsIn xs x ⊎ (x ≡ e)
+  pub old : (x : Entry) → ((k : ℕ) × IsAt xs k x) → (k : ℕ) × IsAt ys k x
+  pub new : (k : ℕ) × IsAt ys k e
+  pub cases : (x : Entry) → ((k : ℕ) × IsAt ys k x) → ((k : ℕ) × IsAt xs k x) ⊎ (x ≡ e)
 
 pub one_more : (xs : List Entry) (i : ℕ) (e : Entry) → IsAt xs i e → IsOneMore (take i xs) e (take (suc i) xs)
 one_more xs i e here = record {
@@ -20,10 +20,10 @@ one_more xs i e here = record {
   cases = λ x (k, at). (let r = in_take xs (suc i) k x at in split x k r.0 r.1);
 }
   where
-    split : (x : Entry) (k : ℕ) → k < suc i → IsAt xs k x → IsIn (take i xs) x ⊎ (x ≡ e)
+    split : (x : Entry) (k : ℕ) → k < suc i → IsAt xs k x → ((k : ℕ) × IsAt (take i xs) k x) ⊎ (x ≡ e)
     split x k lt at = go (cases_order k i)
       where
-        go : (k ≡ i) ⊎ ((k < i) ⊎ (i < k)) → IsIn (take i xs) x ⊎ (x ≡ e)
+        go : (k ≡ i) ⊎ ((k < i) ⊎ (i < k)) → ((k : ℕ) × IsAt (take i xs) k x) ⊎ (x ≡ e)
         go (inl same) = inr (same_Some x e (sym at ∙ (ap (λ (j : ℕ). slice_get xs j) same ∙ here)))
         go (inr (inl less)) = inl (k, at_take xs i k less ∙ at)
         go (inr (inr more)) = absurd (omega arith)
@@ -40,6 +40,6 @@ pushed es e = record {
   cases = λ x (k, at). go x (at_push es k e x at);
 }
   where
-    go : (x : Entry) {k : ℕ} → IsAt es k x ⊎ ((k ≡ length es) × (x ≡ e)) → IsIn es x ⊎ (x ≡ e)
+    go : (x : Entry) {k : ℕ} → IsAt es k x ⊎ ((k ≡ length es) × (x ≡ e)) → ((k : ℕ) × IsAt es k x) ⊎ (x ≡ e)
     go x {k} (inl at) = inl (k, at)
     go x (inr (k, e)) = inr e

@@ -6,13 +6,14 @@ use Rattle.reg_base.specs.declared.memory.Op.{Op}
 use Rattle.reg_base.specs.declared.memory.Answer.{Answer}
 use Rattle.reg_history.specs.declared.entries.Entry.{Entry}
 use Rattle.reg_history.specs.declared.entries.Entry.TheVariants.{Called}
-use Rattle.reg_base.specs.Memory.{register_of, Fits}
+use Rattle.reg_base.specs.Memory.{register_of}
+use Rattle.reg_base.proofs.Operations.{Fits}
 use Rattle.reg_base.specs.declared.limits.TheConstants.{LAST_EVENT, MOST_OPERATIONS}
-use Rattle.reg_history.specs.History.{IsCalled, IsFinished, WasCalled, IsNext, IsLater, IsHistory, MayCall, MayAnswer, last_of}
-use Rattle.reg_history.proofs.Histories.{call_is}
+use Rattle.reg_history.specs.History.{IsCalled, IsFinished, WasCalled, IsNext, IsHistory, MayCall, MayAnswer}
+use Rattle.reg_history.proofs.Histories.{call_is, behind_all, behind_call, last_or_call}
 use Rattle.reg_history.specs.declared.place.Progress.{Progress}
 use Rattle.reg_history.specs.declared.place.Running.{Running}
-use Rattle.reg_history.specs.Progress.{op_of, IsIdle, IsState, IsProgressOf}
+use Rattle.reg_history.specs.Progress.{op_of, IsIdle, IsState, IsProgressOf, last_of, IsBehindLast}
 
 module _ (es : List Entry) (id : OpId) (g : Progress) (kept : IsProgressOf es id.process g) where
   pub next_is : IsNext es id → id.number ≡ g.next
@@ -74,15 +75,15 @@ none_is : (o : Option Running) → is_none o ≡ true → o ≡ None
 none_is None h = refl
 none_is (Some run) h = absurd cc
 
-pub call_iff : (count registers : ℕ) (es : List Entry) (g : Progress) (at : ℕ) (id : OpId) (op : Op) (b : Bool) → IsProgressOf es id.process g
-    → at ≤ LAST_EVENT → id.process < count → register_of op < registers → IsLater es at → id.number ≡ g.next → id.number < MOST_OPERATIONS → b ≡ is_none g.running
+pub call_iff : (count registers : ℕ) (es : List Entry) → IsHistory count registers es → (g : Progress) (at : ℕ) (id : OpId) (op : Op) (b : Bool) → IsProgressOf es id.process g
+    → at ≤ LAST_EVENT → id.process < count → register_of op < registers → IsBehindLast es at → id.number ≡ g.next → id.number < MOST_OPERATIONS → b ≡ is_none g.running
     → (IsTrue b → MayCall count registers es at id op) × (MayCall count registers es at id op → IsTrue b)
-call_iff count registers es g at id op b kept event process register later number small is = (
+call_iff count registers es good g at id op b kept event process register later number small is = (
   λ t. record {
     event = event;
     process = process;
     register = register;
-    later = later;
+    later = behind_all count registers es good at later;
     next = is_next es id g kept number;
     fits = small;
     idle = idle_from es id g kept (none_is g.running (sym is ∙ t));
@@ -99,9 +100,9 @@ not_fitting count registers es good g at id a run kept e next none may =
     none (subst (λ (o : Op). Fits o a) (same_op count registers es good at id a run.at run.op (running_is es id g kept run e next).0 may) may.fits)
 
 pub answer_iff : (count registers : ℕ) (es : List Entry) → IsHistory count registers es → (g : Progress) (at : ℕ) (id : OpId) (a : Answer) (run : Running) (b : Bool) → IsProgressOf es id.process g → g.running ≡ Some run → g.next ≡ suc id.number
-    → at ≤ LAST_EVENT → Fits run.op a → (IsTrue b ↔ (IsLater es at ⊎ ((op : Op) × (last_of es ≡ Some (Called at id op)))))
+    → at ≤ LAST_EVENT → Fits run.op a → (IsTrue b ↔ (IsBehindLast es at ⊎ ((op : Op) × (last_of es ≡ Some (Called at id op)))))
     → (IsTrue b → MayAnswer es at id a) × (MayAnswer es at id a → IsTrue b)
-answer_iff count registers es good g at id a run b kept e next event fits says = (λ t. make (says.0 t), λ may. says.1 (left may.op may.later))
+answer_iff count registers es good g at id a run b kept e next event fits says = (λ t. make (says.0 t), λ may. says.1 (last_or_call count registers es good at id may.op may.later))
   where
     runs : IsCalled es id run.at run.op × (¬ IsFinished es id)
     runs = running_is es id g kept run e next
@@ -111,13 +112,9 @@ answer_iff count registers es good g at id a run b kept e next event fits says =
         let same : op ≡ run.op = (call_is count registers es good id at run.at op run.op (length es - 1, h) runs.0).1 in
         h ∙ ap (λ (o : Op). Some (Called at id o)) same
 
-    make : IsLater es at ⊎ ((op : Op) × (last_of es ≡ Some (Called at id op))) → MayAnswer es at id a
-    make (inl later) = record { event = event; called_at = run.at; op = run.op; called = runs.0; running = runs.1; fits = fits; later = inl later }
-    make (inr (op, own)) = record { event = event; called_at = run.at; op = run.op; called = runs.0; running = runs.1; fits = fits; later = inr (last_call op own) }
-
-    left : (op : Op) → IsLater es at ⊎ (last_of es ≡ Some (Called at id op)) → IsLater es at ⊎ ((op : Op) × (last_of es ≡ Some (Called at id op)))
-    left op (inl later) = inl later
-    left op (inr own) = inr (op, own)
+    make : IsBehindLast es at ⊎ ((op : Op) × (last_of es ≡ Some (Called at id op))) → MayAnswer es at id a
+    make (inl later) = record { event = event; called_at = run.at; op = run.op; called = runs.0; running = runs.1; fits = fits; later = λ k e here. inl (behind_all count registers es good at later k e here) }
+    make (inr (op, own)) = record { event = event; called_at = run.at; op = run.op; called = runs.0; running = runs.1; fits = fits; later = behind_call count registers es good at id run.op (last_call op own) }
 
 pub or_true : (P Q : Type 0) (b : Bool) → b ≡ true → (IsTrue true → P) × (P → IsTrue true) → IsTrue b ↔ (P ⊎ Q)
 or_true P Q b e says = (λ t. inl (says.0 refl), λ h. e)

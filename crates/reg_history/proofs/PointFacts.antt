@@ -10,7 +10,6 @@ use Rattle.reg_base.specs.declared.memory.Answer.{Answer}
 use Rattle.reg_history.specs.declared.entries.Entry.{Entry}
 use Rattle.reg_history.specs.declared.entries.Point.{Point}
 use Rattle.reg_history.specs.History.{IsAt, IsCalled, IsAnswered, IsFinished, IsHistory}
-use Rattle.reg_history.specs.Orders.{IsPoint, NeverFalls}
 use Rattle.reg_history.specs.Checks.{IsOutside, IsFalling, IsFirst, IsPointFault, ids_of}
 use Rattle.reg_history.specs.Facts.{IsSelectionFault, IsFactOf, AreFacts, IsBeside, IsOutsideFact}
 use Rattle.reg_history.specs.declared.faults.CheckFault.{CheckFault}
@@ -76,18 +75,18 @@ module _ (count registers : ℕ) (h : List Entry) (good : IsHistory count regist
   pub first_outside_is : (k : ℕ) → IsFirst (IsOutsideFact ps facts) k → IsFirst (IsOutside h ps) k
   first_outside_is k (here, before) = (outside_here k here, λ j lt o. before j lt (outside_there j o))
 
-  pub inside : ((k : ℕ) → ¬ IsOutsideFact ps facts k) → (k : ℕ) (p : Point) → IsAt ps k p → IsPoint h p
-  inside none k p at = record {
-    called = λ t op is. le (cases_lt p.at t) (λ lt. none k (outside_there k (p, at, inl (t, op, is, lt))));
-    answered = λ t a is. le (cases_lt t p.at) (λ lt. none k (outside_there k (p, at, inr (t, a, is, lt))));
-  }
-    where
-      le : {m n : ℕ} → (m < n) ⊎ (n ≤ m) → (m < n → ⊥) → n ≤ m
-      le (inl lt) no_less = absurd (no_less lt)
-      le (inr h) no_less = h
+  no_more : {m n : ℕ} → (m < n) ⊎ (n ≤ m) → (m < n → ⊥) → n ≤ m
+  no_more (inl lt) no_less = absurd (no_less lt)
+  no_more (inr h) no_less = h
+
+  pub inside_called : ((k : ℕ) → ¬ IsOutsideFact ps facts k) → (k : ℕ) (p : Point) (t : ℕ) (op : Op) → IsAt ps k p → IsCalled h p.id t op → t ≤ p.at
+  inside_called none k p t op at is = no_more (cases_lt p.at t) (λ lt. none k (outside_there k (p, at, inl (t, op, is, lt))))
+
+  pub inside_answered : ((k : ℕ) → ¬ IsOutsideFact ps facts k) → (k : ℕ) (p : Point) (t : ℕ) (a : Answer) → IsAt ps k p → IsAnswered h p.id t a → p.at ≤ t
+  inside_answered none k p t a at is = no_more (cases_lt t p.at) (λ lt. none k (outside_there k (p, at, inr (t, a, is, lt))))
 
 -- where no point falls below the one before, none falls
-pub never_falls : (ps : List Point) → ((k : ℕ) → ¬ IsFalling ps k) → NeverFalls ps
+pub never_falls : (ps : List Point) → ((k : ℕ) → ¬ IsFalling ps k) → (i j : ℕ) (p q : Point) → IsAt ps i p → IsAt ps j q → i < j → p.at ≤ q.at
 never_falls ps none i zero p q at1 at2 lt = absurd (omega arith)
 never_falls ps none i (suc j) p q at1 at2 lt =
     let before : (c : Point) × IsAt ps j c = element_at ps j (let n : suc j < length ps = slice_get_within ps (suc j) q at2 in omega arith) in

@@ -7,7 +7,8 @@ use Rattle.reg_base.specs.declared.memory.Answer.{Answer}
 use Rattle.reg_history.specs.declared.entries.Entry.{Entry}
 use Rattle.reg_history.specs.declared.entries.Point.{Point}
 use Rattle.reg_history.specs.History.{IsAt, IsCalled, IsAnswered, WasCalled, IsHistory}
-use Rattle.reg_history.specs.Orders.{MayStand, KeepsOwnOrder, IsSerial, IsPointOrder}
+use Rattle.reg_history.specs.Orders.{KeepsOwnOrder, IsSerial, IsPointOrder}
+use Rattle.reg_history.specs.Table.{MayStand}
 use Rattle.reg_history.proofs.Places.{same_at, at_map}
 use Rattle.reg_history.proofs.Histories.{answered_was_called, answered_before_next}
 
@@ -15,8 +16,8 @@ use Rattle.reg_history.proofs.Histories.{answered_was_called, answered_before_ne
 pub stands_before : (registers : ℕ) (h : List Entry) (ps : List Point) → IsPointOrder registers h ps → (i j : ℕ) (p q : Point) → IsAt ps i p → IsAt ps j q
     → (s t : ℕ) (answer : Answer) (op : Op) → IsAnswered h p.id s answer → IsCalled h q.id t op → s < t → i < j
 stands_before registers h ps order i j p q at1 at2 s t answer op ans call lt =
-    let low : p.at ≤ s = (order.points i p at1).answered s answer ans in
-    let high : t ≤ q.at = (order.points j q at2).called t op call in
+    let low : p.at ≤ s = order.answered i p s answer at1 ans in
+    let high : t ≤ q.at = order.called j q t op at2 call in
     let less : p.at < q.at = omega arith in
     go (cases_order i j) less
   where

@@ -1,5 +1,5 @@
 -- What the checkers answer: yes exactly for a serial order or a point order, and else the first fault of a fixed row.
-use Rattle.std.specs.Prelude.{ℕ, ◌≡◌, ◌≢◌, ◌<◌, ◌⊎◌, suc, List, map, take, Result, MatchResult}
+use Rattle.std.specs.Prelude.{ℕ, ◌≡◌, ◌≢◌, ◌<◌, ◌⊎◌, suc, true, List, map, take, Result, MatchResult}
 use Rattle.std.specs.List.{AllZip}
 use Rattle.reg_base.specs.declared.memory.OpId.{OpId}
 use Rattle.reg_base.specs.declared.memory.Op.{Op}
@@ -8,13 +8,13 @@ use Rattle.reg_history.specs.declared.entries.Entry.{Entry}
 use Rattle.reg_history.specs.declared.entries.Point.{Point}
 use Rattle.reg_history.specs.declared.faults.CheckFault.{CheckFault}
 use Rattle.reg_history.specs.declared.faults.CheckFault.TheVariants.{Unknown, Twice, Missing, OwnOrder, Answer, Outside, Falling, OutOfMemory}
-use Rattle.reg_base.specs.Memory.{answer_of, memory}
+use Rattle.reg_base.specs.Memory.{updates, answer_of, memory}
 use Rattle.reg_history.specs.History.{IsAt, IsCalled, IsAnswered, IsFinished}
-use Rattle.reg_history.specs.Orders.{MayStand, IsSerial, IsPointOrder}
+use Rattle.reg_history.specs.Orders.{IsSerial, IsPointOrder}
 
--- some id is neither a finished operation nor a called update
+-- some id is not that of a finished operation, nor that of a called one that may have changed the memory
 abbrev pub HasUnknown : List Entry → List OpId → Type 0
-HasUnknown h ids = (k : ℕ) × (id : OpId) × IsAt ids k id × (¬ MayStand h id)
+HasUnknown h ids = (k : ℕ) × (id : OpId) × IsAt ids k id × (¬ IsFinished h id) × (¬ ((at : ℕ) × (op : Op) × IsCalled h id at op × (updates op ≡ true)))
 
 -- some id stands twice
 abbrev pub HasTwice : List OpId → Type 0

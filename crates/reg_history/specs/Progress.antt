@@ -1,12 +1,20 @@
 -- Marks beside a history, by which an entry is known to be in place. They carry a proof: no promise speaks of them.
-use Rattle.std.specs.Prelude.{ℕ, ◌≡◌, ◌+◌, ◌<◌, ◌↔◌, suc, List, length, Option, Some, None}
+use Rattle.std.specs.Prelude.{ℕ, ◌≡◌, ◌+◌, ◌-◌, ◌<◌, ◌↔◌, suc, List, length, slice_get, Option, Some, None, IfSome}
 use Rattle.reg_base.specs.declared.memory.OpId.{OpId}
 use Rattle.reg_history.specs.declared.entries.Entry.{Entry}
 use Rattle.reg_history.specs.declared.entries.Entry.TheVariants.{Called, Answered}
 use Rattle.reg_base.specs.declared.limits.TheConstants.{MOST_OPERATIONS}
-use Rattle.reg_history.specs.History.{IsAt, IsCalled, IsFinished, WasCalled, IsHistory}
+use Rattle.reg_history.specs.History.{IsAt, IsCalled, IsFinished, WasCalled, IsHistory, event_of}
 use Rattle.reg_history.specs.declared.place.Progress.{Progress}
 use Rattle.reg_history.specs.declared.place.Running.{Running}
+
+-- the last entry, if there is one
+abbrev pub last_of : List Entry → Option Entry
+last_of es = slice_get es (length es - 1)
+
+-- the event comes after that of the last entry
+abbrev pub IsBehindLast : List Entry → ℕ → Type 0
+IsBehindLast es at = IfSome (last_of es) (λ e. event_of e < at)
 
 abbrev pub op_of : ℕ → ℕ → OpId
 op_of p n = record { process = p; number = n }

@@ -3,10 +3,15 @@ use Rattle.std.specs.Prelude.{ℕ, ◌≡◌, ◌≢◌, ◌⊎◌, ◌↔◌, t
 use Rattle.reg_base.specs.declared.memory.OpId.{OpId}
 use Rattle.reg_history.specs.declared.answers.Fact.{Fact}
 use Rattle.reg_history.specs.declared.entries.Entry.{Entry}
-use Rattle.reg_history.specs.History.{IsAt, IsIn, WasCalled}
+use Rattle.reg_history.specs.History.{IsAt, IsCalled, IsFinished, WasCalled}
 use Rattle.std.specs.List.{AllZip}
-use Rattle.reg_base.specs.Memory.{IsUpdate}
+use Rattle.reg_base.specs.declared.memory.Op.{Op}
+use Rattle.reg_base.specs.Memory.{updates, IsUpdate}
 use Rattle.reg_history.specs.Facts.{IsFactOf}
+
+-- what a selection may hold: a finished operation, or a called one that may have changed the memory
+abbrev pub MayStand : List Entry → OpId → Type 0
+MayStand h id = IsFinished h id ⊎ ((at : ℕ) × (op : Op) × IsCalled h id at op × (updates op ≡ true))
 
 abbrev pub Rows : Type 0 → Type 0
 Rows A = List (Vec Fact A)
@@ -31,7 +36,7 @@ Marked rows id = (f : Fact) × (cell rows id ≡ Some f) × (f.stands ≡ true)
 
 -- exactly these are marked
 abbrev pub AreMarked : {A : Type 0} → Rows A → List OpId → Type 0
-AreMarked rows ids = (id : OpId) → Marked rows id ↔ IsIn ids id
+AreMarked rows ids = (id : OpId) → Marked rows id ↔ ((k : ℕ) × IsAt ids k id)
 
 -- one more operation is marked, and none is lost
 pub record IsMarkedToo {A : Type 0} (old new : Rows A) (id : OpId) : Type 0 where

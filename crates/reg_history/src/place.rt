@@ -1,7 +1,7 @@
 //! Whether an entry is in place, by what is kept of its process.
 ghost use Rattle.std.specs.Prelude.{◌≡◌, ◌<◌, ◌↔◌, Some, IsTrue, length, slice_get};
-ghost use Rattle.reg_history.specs.History.{event_of, last_of, IsLater, IsHistory, MayCall, MayAnswer, IsInPlace};
-ghost use Rattle.reg_history.specs.Progress.{IsProgressOf, IsKept, IsNumbered, id_of as id_of_entry, progress_after};
+ghost use Rattle.reg_history.specs.History.{event_of, IsHistory, MayCall, MayAnswer, IsInPlace};
+ghost use Rattle.reg_history.specs.Progress.{last_of, IsBehindLast, IsProgressOf, IsKept, IsNumbered, id_of as id_of_entry, progress_after};
 ghost use Rattle.reg_base.specs.declared.memory.Op.{Op};
 ghost use Rattle.reg_history.specs.declared.entries.Entry.TheVariants.{Called};
 
@@ -73,7 +73,7 @@ pub fn after_entry(before: Progress, entry: Entry) -> Progress
 
 /// Whether the event comes after that of the last entry.
 fn is_later(entries: &[Entry], at: u32) -> bool
-    ensures { IsTrue result ↔ IsLater entries.now at }
+    ensures { IsTrue result ↔ IsBehindLast entries.now at }
 {
     match entries.last() {
         Some(entry) => event(*entry) < at,
@@ -104,6 +104,7 @@ fn last_is_call(entries: &[Entry], at: u32, id: OpId) -> bool
 
 /// Whether a call is in place.
 fn may_call(shape: Shape, entries: &[Entry], progress: Progress, at: u32, id: OpId, op: Op) -> bool
+    requires history { IsHistory shape.processes shape.registers entries.now }
     requires process { id.process < shape.processes }
     requires progress { IsProgressOf entries.now id.process progress }
     ensures { IsTrue result ↔ MayCall shape.processes shape.registers entries.now at id op }

@@ -5,7 +5,7 @@ use Rattle.reg_world.specs.declared.order.First.{First}
 use Rattle.reg_world.specs.declared.order.CopyRead.{CopyRead}
 use Rattle.reg_history.specs.declared.entries.Point.{Point}
 use Rattle.reg_base.specs.Memory.{IsUpdate}
-use Rattle.reg_history.specs.History.{IsIn, IsAt, IsFinished}
+use Rattle.reg_history.specs.History.{IsAt, IsFinished}
 use Rattle.reg_world.specs.Runs.{Run, Cast, IsWaiting}
 
 -- four numbers, of which the first decides, then the second, and so on
@@ -30,9 +30,9 @@ IsKept r c = IsUpdate c.op ⊎ IsFinished r.history c.id
 -- Delivered: a cast that was delivered, if it is an update or finished, has its place in the order.
 -- Lost: a finished cast that was delivered nowhere stands behind all others, by its stamp.
 pub data HasKey (r : Run) (id : OpId) (k : Key) : Type 0 where
-  Copied : (q : CopyRead) → IsIn r.reads q → q.id ≡ id → k ≡ key q.place 0 id.process id.number → HasKey r id k
+  Copied : (q : CopyRead) → ((k : ℕ) × IsAt r.reads k q) → q.id ≡ id → k ≡ key q.place 0 id.process id.number → HasKey r id k
   Delivered : (place : ℕ) (c : First) → IsAt r.order place c → c.id ≡ id → IsKept r c → k ≡ key place 1 0 0 → HasKey r id k
-  Lost : (d : Cast) → IsIn r.casts d → d.id ≡ id → IsWaiting r id → IsFinished r.history id → k ≡ key (length r.order) 2 d.stamp.time d.stamp.process → HasKey r id k
+  Lost : (d : Cast) → ((k : ℕ) × IsAt r.casts k d) → d.id ≡ id → IsWaiting r id → IsFinished r.history id → k ≡ key (length r.order) 2 d.stamp.time d.stamp.process → HasKey r id k
 
 pub record Keyed : Type 0 where
   pub id : OpId

@@ -8,7 +8,7 @@ use Rattle.reg_base.specs.Memory.{answer_of}
 use Rattle.reg_base.specs.Order.{Below, In, IsPrefixOf}
 use Rattle.reg_front.specs.declared.starts.Start.{Start}
 use Rattle.reg_front.specs.declared.starts.Start.TheVariants.{CastAndAnswer as CastsAndAnswers}
-use Rattle.reg_history.specs.History.{IsAt, IsIn, IsCalled, IsAnswered}
+use Rattle.reg_history.specs.History.{IsAt, IsCalled, IsAnswered}
 use Rattle.reg_world.specs.declared.order.First.{First}
 use Rattle.reg_world.specs.declared.order.CopyRead.{CopyRead}
 use Rattle.reg_world.specs.Runs.{Cast, memory_of}
@@ -27,7 +27,7 @@ pub record OrderIsRight (n : ℕ) (w : World) : Type 0 where
   pub some : (k : ℕ) (f : First) → IsAt w.order k f → (q : ℕ) × (q < n) × In (delivered_of f) (w.nodes q).deliveries
   pub all : (q : ℕ) (c : Delivered) → q < n → In c (w.nodes q).deliveries → (k : ℕ) × (f : First) × IsAt w.order k f × (delivered_of f ≡ c)
   pub called : (k : ℕ) (f : First) → IsAt w.order k f → (at : ℕ) × IsCalled w.history f.id at f.op
-  pub made : (k : ℕ) (f : First) → IsAt w.order k f → IsIn w.casts (record { stamp = f.stamp; id = f.id; op = f.op })
+  pub made : (k : ℕ) (f : First) → IsAt w.order k f → (k : ℕ) × IsAt w.casts k (record { stamp = f.stamp; id = f.id; op = f.op })
 
 -- Each cast is first delivered by the event of its number: nobody has it before, and some process has it then.
 pub record FirstsRight (start : Op → ℕ → Start) (n registers : ℕ) (w : World) : Type 0 where
@@ -36,10 +36,10 @@ pub record FirstsRight (start : Op → ℕ → Start) (n registers : ℕ) (w : W
 
 -- The casts made, each by the process of its id, under the id that called its operation.
 pub record CastsRight (n : ℕ) (w : World) : Type 0 where
-  pub made : (c : Cast) → IsIn w.casts c → IsMade n w.nodes (record { stamp = c.stamp; op = c.op }) × (c.stamp.process ≡ c.id.process)
-  pub all : (d : Delivered) → IsMade n w.nodes d → (id : OpId) × IsIn w.casts (record { stamp = d.stamp; id = id; op = d.op })
-  pub called : (c : Cast) → IsIn w.casts c → (at : ℕ) × IsCalled w.history c.id at c.op
-  pub once : (c d : Cast) → IsIn w.casts c → IsIn w.casts d → c.id ≡ d.id → c ≡ d
+  pub made : (c : Cast) → ((k : ℕ) × IsAt w.casts k c) → IsMade n w.nodes (record { stamp = c.stamp; op = c.op }) × (c.stamp.process ≡ c.id.process)
+  pub all : (d : Delivered) → IsMade n w.nodes d → (id : OpId) × ((k : ℕ) × IsAt w.casts k (record { stamp = d.stamp; id = id; op = d.op }))
+  pub called : (c : Cast) → ((k : ℕ) × IsAt w.casts k c) → (at : ℕ) × IsCalled w.history c.id at c.op
+  pub once : (c d : Cast) → ((k : ℕ) × IsAt w.casts k c) → ((k : ℕ) × IsAt w.casts k d) → c.id ≡ d.id → c ≡ d
 
 -- the front end may answer the operation before its cast is delivered
 abbrev pub AnswersFirst : (Op → ℕ → Start) → Op → Type 0
@@ -49,15 +49,15 @@ AnswersFirst start op = (unsettled : ℕ) × (start op unsettled ≡ CastsAndAns
 -- its place says. Where the operation made a cast, that stands at the place; but for an operation that the front end answers
 -- before its delivery, in the call's own event.
 pub record RepliesRight (start : Op → ℕ → Start) (registers : ℕ) (w : World) : Type 0 where
-  pub answered : (y : Replied) → IsIn w.replies y → IsAnswered w.history y.id y.at y.reply.answer
-  pub all : (id : OpId) (at : ℕ) (x : Answer) → IsAnswered w.history id at x → (y : Replied) × IsIn w.replies y × (y.id ≡ id) × (y.at ≡ at) × (y.reply.answer ≡ x)
-  pub within : (y : Replied) → IsIn w.replies y → y.reply.place ≤ length w.order
-  pub right : (y : Replied) (at : ℕ) (op : Op) → IsIn w.replies y → IsCalled w.history y.id at op → y.reply.answer ≡ answer_of op (memory_of (run_of registers w) y.reply.place)
-  pub own : (y : Replied) (c : Cast) (at : ℕ) (op : Op) → IsIn w.replies y → IsIn w.casts c → c.id ≡ y.id → IsCalled w.history y.id at op → ((y.at ≡ at) × AnswersFirst start c.op) ⊎ ((f : First) × IsAt w.order y.reply.place f × (f.id ≡ y.id))
+  pub answered : (y : Replied) → ((k : ℕ) × IsAt w.replies k y) → IsAnswered w.history y.id y.at y.reply.answer
+  pub all : (id : OpId) (at : ℕ) (x : Answer) → IsAnswered w.history id at x → (y : Replied) × ((k : ℕ) × IsAt w.replies k y) × (y.id ≡ id) × (y.at ≡ at) × (y.reply.answer ≡ x)
+  pub within : (y : Replied) → ((k : ℕ) × IsAt w.replies k y) → y.reply.place ≤ length w.order
+  pub right : (y : Replied) (at : ℕ) (op : Op) → ((k : ℕ) × IsAt w.replies k y) → IsCalled w.history y.id at op → y.reply.answer ≡ answer_of op (memory_of (run_of registers w) y.reply.place)
+  pub own : (y : Replied) (c : Cast) (at : ℕ) (op : Op) → ((k : ℕ) × IsAt w.replies k y) → ((k : ℕ) × IsAt w.casts k c) → c.id ≡ y.id → IsCalled w.history y.id at op → ((y.at ≡ at) × AnswersFirst start c.op) ⊎ ((f : First) × IsAt w.order y.reply.place f × (f.id ≡ y.id))
 
 -- The reads are exactly the finished operations that made no cast, with the places of their replies, in order of their answers.
 pub record ReadsRight (w : World) : Type 0 where
-  pub some : (q : CopyRead) → IsIn w.reads q → (y : Replied) × IsIn w.replies y × (y.id ≡ q.id) × (y.reply.place ≡ q.place)
-  pub no_cast : (q : CopyRead) (c : Cast) → IsIn w.reads q → IsIn w.casts c → c.id ≡ q.id → ⊥
-  pub all : (y : Replied) → IsIn w.replies y → ((c : Cast) → IsIn w.casts c → c.id ≡ y.id → ⊥) → IsIn w.reads (record { id = y.id; place = y.reply.place })
+  pub some : (q : CopyRead) → ((k : ℕ) × IsAt w.reads k q) → (y : Replied) × ((k : ℕ) × IsAt w.replies k y) × (y.id ≡ q.id) × (y.reply.place ≡ q.place)
+  pub no_cast : (q : CopyRead) (c : Cast) → ((k : ℕ) × IsAt w.reads k q) → ((k : ℕ) × IsAt w.casts k c) → c.id ≡ q.id → ⊥
+  pub all : (y : Replied) → ((k : ℕ) × IsAt w.replies k y) → ((c : Cast) → ((k : ℕ) × IsAt w.casts k c) → c.id ≡ y.id → ⊥) → (k : ℕ) × IsAt w.reads k (record { id = y.id; place = y.reply.place })
   pub in_order : (i j : ℕ) (p q : CopyRead) (s t : ℕ) (x y : Answer) → IsAt w.reads i p → IsAt w.reads j q → i < j → IsAnswered w.history p.id s x → IsAnswered w.history q.id t y → s < t

@@ -8,7 +8,6 @@ use Rattle.reg_base.specs.declared.memory.OpId.{OpId}
 use Rattle.reg_base.specs.declared.stamps.Stamp.{Stamp}
 use Rattle.reg_base.specs.Memory.{updates}
 use Rattle.reg_base.specs.Order.{below}
-use Rattle.reg_base.specs.Stamp.{id_cmp}
 use Rattle.reg_history.specs.declared.entries.Point.{Point}
 use Rattle.reg_world.specs.declared.order.First.{First}
 use Rattle.reg_world.specs.declared.order.CopyRead.{CopyRead}
@@ -26,6 +25,10 @@ point_of c = record { id = c.id; at = c.at }
 
 abbrev pub ranked_read : CopyRead → Ranked
 ranked_read q = record { rank = q.place; id = q.id }
+
+-- by process, and then by number
+abbrev pub id_cmp : OpId → OpId → Ordering
+id_cmp a b = ordering_then (nat_cmp a.process b.process) (nat_cmp a.number b.number)
 
 abbrev pub ranked_cmp : Ranked → Ranked → Ordering
 ranked_cmp a b = ordering_then (nat_cmp a.rank b.rank) (id_cmp a.id b.id)

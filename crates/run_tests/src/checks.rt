@@ -95,9 +95,9 @@ pub(crate) fn demand_read<R: Read>(
 ) {
     let mut written = Vec::new(alloc);
     let (got, errors) = ran(alloc, alloc, command, reader, &mut written);
-    assert_eq!(rt; errors.as_slice(), faults.as_bytes());
-    assert_eq!(rt; written.as_slice(), output.as_bytes());
-    assert_eq!(rt; got, status);
+    assert!(rt; errors.as_slice() == faults.as_bytes());
+    assert!(rt; written.as_slice() == output.as_bytes());
+    assert!(rt; got == status);
 }
 
 /// Demands the status, the output and the faults of a command.

@@ -85,8 +85,8 @@ const KEYS: [(Key, &str); 7] = [
 fn demand_line(rt: &impl Abort, alloc: Global, fault: Fault, line: &str) -> Result<(), Fail> {
     let mut errors = Vec::new(alloc);
     assert!(rt; write_fault(&mut errors, fault).is_ok());
-    assert_eq!(rt; errors.as_slice(), line.as_bytes());
-    assert_eq!(rt; format!(in alloc; "{fault}\n")?.as_str(), line);
+    assert!(rt; errors.as_slice() == line.as_bytes());
+    assert!(rt; format!(in alloc; "{fault}\n")?.as_str() == line);
     Ok(())
 }
 

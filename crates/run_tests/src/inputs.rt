@@ -54,7 +54,7 @@ fn one_byte_at_a_time(rt: HostRuntime) {
 
 #[test]
 fn an_input_up_to_the_limit(rt: HostRuntime) {
-    assert_eq!(rt; LONGEST_INPUT, 268_435_456);
+    assert!(rt; LONGEST_INPUT == 268_435_456);
     let cases = [
         (LONGEST_INPUT, "line 1: form\n"),
         (LONGEST_INPUT + 1, "input: too long\n"),

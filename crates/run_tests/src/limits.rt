@@ -18,7 +18,7 @@ fn a_run_has_so_many_events(rt: HostRuntime) {
         world.step(&tick).expect(&rt, "accepted");
     }
     assert!(rt; world.step(&tick) == Err(WorldFault::TooManyEvents));
-    assert_eq!(rt; world.events(), MOST_EVENTS);
+    assert!(rt; world.events() == MOST_EVENTS);
 }
 
 #[test]
@@ -32,8 +32,5 @@ fn a_process_calls_so_many_operations(rt: HostRuntime) {
         world.step(&call).expect(&rt, "accepted");
     }
     assert!(rt; world.step(&call) == Err(WorldFault::TooManyOperations));
-    assert_eq!(rt;
-        world.points().expect(&rt, "memory").len(),
-        MOST_OPERATIONS as usize
-    );
+    assert!(rt; world.points().expect(&rt, "memory").len() == MOST_OPERATIONS as usize);
 }

@@ -45,10 +45,10 @@ fn a_fair_play_takes_turns(rt: HostRuntime) {
     let work = small(&rt, "");
     let play = play_fair::<LocalWrite, _>(rt.alloc(), &work).expect(&rt, "memory");
     assert!(rt; play.finished);
-    assert_eq!(rt; play.world.events(), 7);
+    assert!(rt; play.world.events() == 7);
     assert!(rt; play.world.history().entries() == history_of(1, 0, 4, 5).as_slice());
     let order = play.world.witness().expect(&rt, "memory");
-    assert_eq!(rt; order.as_slice(), [id(1, 0), id(0, 0), id(0, 1)].as_slice());
+    assert!(rt; order.as_slice() == [id(1, 0), id(0, 0), id(0, 1)].as_slice());
 }
 
 #[test]
@@ -56,8 +56,8 @@ fn a_fair_play_keeps_its_budget(rt: HostRuntime) {
     let work = small(&rt, "budget = 3\n");
     let play = play_fair::<LocalWrite, _>(rt.alloc(), &work).expect(&rt, "memory");
     assert!(rt; !play.finished);
-    assert_eq!(rt; play.world.events(), 3);
-    assert_eq!(rt; play.world.history().entries().len(), 4);
+    assert!(rt; play.world.events() == 3);
+    assert!(rt; play.world.history().entries().len() == 4);
 }
 
 #[test]
@@ -101,7 +101,7 @@ fn a_seeded_play_keeps_its_budget(rt: HostRuntime) {
     let work = small(&rt, "budget = 2\n");
     let play = seeded::<LocalWrite>(&rt, &work, 0);
     assert!(rt; !play.finished);
-    assert_eq!(rt; play.world.events(), 2);
+    assert!(rt; play.world.events() == 2);
 }
 
 #[test]
@@ -110,7 +110,7 @@ fn seeds_differ(rt: HostRuntime) {
     let mut same = SeedWords::new(42);
     let mut other = SeedWords::new(7);
     let word = one.word();
-    assert_eq!(rt; word, same.word());
+    assert!(rt; word == same.word());
     assert_ne!(rt; word, other.word());
-    assert_eq!(rt; one.word(), same.word());
+    assert!(rt; one.word() == same.word());
 }

@@ -150,7 +150,7 @@ fn written_so(
 fn writes_of(rt: &impl Abort, alloc: Global, command: Command, input: &str, output: &str) -> u32 {
     let (writer, status, errors) = written_so(alloc, command, input, (u32::MAX, 0), true);
     assert!(rt; status == 0 && errors.is_empty());
-    assert_eq!(rt; writer.taken.as_slice(), output.as_bytes());
+    assert!(rt; writer.taken.as_slice() == output.as_bytes());
     let writes = u32::MAX.saturating_sub(writer.before);
     assert!(rt; writes > 1 && writes < 900, "{writes} writes");
     writes
@@ -166,8 +166,8 @@ fn demand_failing_write(
 ) {
     let flushes = faults.1 > 0;
     let (_writer, status, errors) = written_so(alloc, command, input, faults, flushes);
-    assert_eq!(rt; errors.as_slice(), b"output: write\n".as_slice());
-    assert_eq!(rt; status, 1);
+    assert!(rt; errors.as_slice() == b"output: write\n".as_slice());
+    assert!(rt; status == 1);
 }
 
 /// Every read up to the last fails in turn, then every write, and then the flush.
@@ -205,8 +205,8 @@ fn refused_after(
     } else {
         (streams.1, "")
     };
-    assert_eq!(rt; errors.as_slice(), line.as_bytes());
-    assert_eq!(rt; written.as_slice(), output.as_bytes());
+    assert!(rt; errors.as_slice() == line.as_bytes());
+    assert!(rt; written.as_slice() == output.as_bytes());
     (heap.is_waiting(), wants)
 }
 

@@ -4,3 +4,5 @@
 #[cfg(test)]
 mod shown;
 pub mod values;
+#[cfg(test)]
+mod words;

@@ -5,7 +5,7 @@ use Rattle.std.proofs.lemmas.Bool.{cond_both, leb-true, leb-false}
 use Rattle.std.proofs.lemmas.Option.{same_Some}
 use Rattle.reg_base.specs.declared.memory.OpId.{OpId}
 use Rattle.reg_base.specs.Order.{In}
-use Rattle.reg_history.specs.History.{IsAt, IsIn, IsFinished}
+use Rattle.reg_history.specs.History.{IsAt, IsFinished}
 use Rattle.reg_world.specs.declared.order.First.{First}
 use Rattle.reg_world.specs.declared.order.CopyRead.{CopyRead}
 use Rattle.reg_world.specs.declared.witnesses.Ranked.{Ranked}
@@ -152,12 +152,12 @@ merge_rises kept k reads (c ∷ cs) r =
 
 module _ (r : Run) (kept : First → Bool) (reads lost : List Ranked)
     (keeps : (c : First) → IsKept r c ↔ (kept c ≡ true))
-    (reads_some : (q : Ranked) → In q reads → (x : CopyRead) × IsIn r.reads x × (x.id ≡ q.id) × (x.place ≡ q.rank))
-    (reads_all : (x : CopyRead) → IsIn r.reads x → In (record { rank = x.place; id = x.id }) reads)
+    (reads_some : (q : Ranked) → In q reads → (x : CopyRead) × ((k : ℕ) × IsAt r.reads k x) × (x.id ≡ q.id) × (x.place ≡ q.rank))
+    (reads_all : (x : CopyRead) → ((k : ℕ) × IsAt r.reads k x) → In (record { rank = x.place; id = x.id }) reads)
     (reads_rise : RisesBy Lower reads)
-    (within : (x : CopyRead) → IsIn r.reads x → x.place ≤ length r.order)
-    (lost_some : (q : Ranked) → In q lost → (d : Cast) × IsIn r.casts d × (d.id ≡ q.id) × (d.stamp.time ≡ q.rank) × (d.stamp.process ≡ q.id.process) × IsWaiting r d.id × IsFinished r.history d.id)
-    (lost_all : (d : Cast) → IsIn r.casts d → IsWaiting r d.id → IsFinished r.history d.id → In (record { rank = d.stamp.time; id = d.id }) lost × (d.stamp.process ≡ d.id.process))
+    (within : (x : CopyRead) → ((k : ℕ) × IsAt r.reads k x) → x.place ≤ length r.order)
+    (lost_some : (q : Ranked) → In q lost → (d : Cast) × ((k : ℕ) × IsAt r.casts k d) × (d.id ≡ q.id) × (d.stamp.time ≡ q.rank) × (d.stamp.process ≡ q.id.process) × IsWaiting r d.id × IsFinished r.history d.id)
+    (lost_all : (d : Cast) → ((k : ℕ) × IsAt r.casts k d) → IsWaiting r d.id → IsFinished r.history d.id → In (record { rank = d.stamp.time; id = d.id }) lost × (d.stamp.process ≡ d.id.process))
     (lost_rise : RisesBy (λ (a b : Ranked). (a.rank < b.rank) ⊎ ((a.rank ≡ b.rank) × (a.id.process < b.id.process))) lost) where
   abbrev all : List Keyed
   all = all_keyed kept reads r.order lost

@@ -18,7 +18,7 @@ use Rattle.reg_process.specs.declared.steps.Step.{Step}
 use Rattle.reg_process.specs.declared.steps.Step.TheVariants.{Call, Take, Tick}
 use Rattle.reg_process.specs.Process.{State, Running, step}
 use Rattle.reg_history.specs.declared.entries.Entry.TheVariants.{Answered}
-use Rattle.reg_history.specs.History.{IsAt, IsIn, IsFinished, IsAnswered}
+use Rattle.reg_history.specs.History.{IsAt, IsFinished, IsAnswered}
 use Rattle.reg_world.specs.declared.events.Event.{Event}
 use Rattle.reg_world.specs.declared.order.First.{First}
 use Rattle.reg_world.specs.declared.order.CopyRead.{CopyRead}
@@ -258,7 +258,7 @@ module _ (start : Op → ℕ → Start) (n registers : ℕ) (laws : KeepsLaws st
       element (x ∷ xs) zero h = (x, refl)
       element (x ∷ xs) (suc k) h = element xs k (omega arith)
 
-  after_waits : (d : Cast) → IsIn w.casts d → is_after (last_stamp w.order) d.stamp ≡ true → IsWaiting r d.id
+  after_waits : (d : Cast) → ((k : ℕ) × IsAt w.casts k d) → is_after (last_stamp w.order) d.stamp ≡ true → IsWaiting r d.id
   after_waits d i e k c at same =
       let l = last_at c k at in
       let stamps : c.stamp ≡ d.stamp = ap (λ (z : Cast). z.stamp) (ok.one_cast (cast_of c) d (ok.delivered k c at) i same) in
@@ -269,7 +269,7 @@ module _ (start : Op → ℕ → Start) (n registers : ℕ) (laws : KeepsLaws st
         | inr q ↦ below_irrefl d.stamp (below_trans d.stamp l.0.stamp d.stamp (subst (λ z. Below z l.0.stamp) stamps q) b)
       ]
 
-  waits_after : (d : Cast) → IsIn w.casts d → IsWaiting r d.id → is_after (last_stamp w.order) d.stamp ≡ true
+  waits_after : (d : Cast) → ((k : ℕ) × IsAt w.casts k d) → IsWaiting r d.id → is_after (last_stamp w.order) d.stamp ≡ true
   waits_after d i waits = go (slice_get w.order (length w.order - 1)) refl
     where
       go : (o : Option First) → slice_get w.order (length w.order - 1) ≡ o → is_after (stamp_in o) d.stamp ≡ true
@@ -277,7 +277,7 @@ module _ (start : Op → ℕ → Start) (n registers : ℕ) (laws : KeepsLaws st
       go (Some l) e = (Decides-below l.stamp d.stamp).1 (ok.waiting d i waits (length w.order - 1) l e)
 
   -- the notes of a process are its casts
-  note_cast : (p : ℕ) (t : Tally) (note : Note) → IsAt tallies p t → In note t.casts → (d : Cast) × IsIn w.casts d × (d.id ≡ op_id p note.number) × (d.stamp.time ≡ note.time) × (d.stamp.process ≡ p)
+  note_cast : (p : ℕ) (t : Tally) (note : Note) → IsAt tallies p t → In note t.casts → (d : Cast) × ((k : ℕ) × IsAt w.casts k d) × (d.id ≡ op_id p note.number) × (d.stamp.time ≡ note.time) × (d.stamp.process ≡ p)
   note_cast p t note at i =
       let l : p < n = (let z = place_within tallies p t at in let s = T.size in omega (arith, z, s)) in
       let same : t ≡ tally_of w p = same_Some t (tally_of w p) (sym at ∙ T.each p l) in
@@ -288,12 +288,12 @@ module _ (start : Op → ℕ → Start) (n registers : ℕ) (laws : KeepsLaws st
       let stamp : m.0.stamp.process ≡ m.0.id.process = ((known.pasts m.0.id.process x.1.0).0.casts m.0.id.number x.0 m.0.stamp x.1.1 x.2).0 in
       (m.0, in_at m.0 w.casts f.0, same_op_id m.0.id (op_id p note.number) process (ap (λ (z : Note). z.number) (sym m.2)), ap (λ (z : Note). z.time) (sym m.2), stamp ∙ process)
 
-  own_stamp : (d : Cast) → IsIn w.casts d → (d.id.process < n) × (d.stamp.process ≡ d.id.process)
+  own_stamp : (d : Cast) → ((k : ℕ) × IsAt w.casts k d) → (d.id.process < n) × (d.stamp.process ≡ d.id.process)
   own_stamp d i =
       let x = joined.cast d (at_in d w.casts i) in
       (x.1.0, ((known.pasts d.id.process x.1.0).0.casts d.id.number x.0 d.stamp x.1.1 x.2).0)
 
-  cast_note : (d : Cast) → IsIn w.casts d → In (note_of d) (tally_of w d.id.process).casts
+  cast_note : (d : Cast) → ((k : ℕ) × IsAt w.casts k d) → In (note_of d) (tally_of w d.id.process).casts
   cast_note d i = in_map note_of d (filter (λ (c : Cast). c.id.process == d.id.process) w.casts) (kept_in (λ (c : Cast). c.id.process == d.id.process) d w.casts (at_in d w.casts i) (eq-eqb d.id.process d.id.process refl))
 
   done_of : (p : ℕ) (t : Tally) (number : ℕ) → IsAt tallies p t → nat_lt number (finished t) ≡ is_done tallies (op_id p number)
@@ -322,12 +322,12 @@ module _ (start : Op → ℕ → Start) (n registers : ℕ) (laws : KeepsLaws st
       (λ a b i j h e. h (ap (λ (z : Ranked). z.id) e))
 
   module _ (sorted lost : List Ranked) (reads_sorted : IsSortedFrom (map ranked_read w.reads) sorted) (lost_sorted : IsSortedFrom (lost_from (last_stamp w.order) 0 tallies) lost) where
-    reads_some : (q : Ranked) → In q sorted → (x : CopyRead) × IsIn w.reads x × (x.id ≡ q.id) × (x.place ≡ q.rank)
+    reads_some : (q : Ranked) → In q sorted → (x : CopyRead) × ((k : ℕ) × IsAt w.reads k x) × (x.id ≡ q.id) × (x.place ≡ q.rank)
     reads_some q i =
         let m = map_in ranked_read q w.reads (sorted_in (map ranked_read w.reads) sorted reads_sorted q i) in
         (m.0, in_at m.0 w.reads m.1, ap (λ (z : Ranked). z.id) (sym m.2), ap (λ (z : Ranked). z.rank) (sym m.2))
 
-    lost_some : (q : Ranked) → In q lost → (d : Cast) × IsIn w.casts d × (d.id ≡ q.id) × (d.stamp.time ≡ q.rank) × (d.stamp.process ≡ q.id.process) × IsWaiting r d.id × IsFinished w.history d.id
+    lost_some : (q : Ranked) → In q lost → (d : Cast) × ((k : ℕ) × IsAt w.casts k d) × (d.id ≡ q.id) × (d.stamp.time ≡ q.rank) × (d.stamp.process ≡ q.id.process) × IsWaiting r d.id × IsFinished w.history d.id
     lost_some q i =
         let from = sorted_in (lost_from (last_stamp w.order) 0 tallies) lost lost_sorted q i in
         let m = in_lost (last_stamp w.order) 0 tallies q from in
@@ -351,7 +351,7 @@ module _ (start : Op → ℕ → Start) (n registers : ℕ) (laws : KeepsLaws st
         stamps : (a b : Stamp) → a.time ≡ b.time → a.process ≡ b.process → a ≡ b
         stamps a b t p = λ i. record { time = t i; process = p i }
 
-    lost_all : (d : Cast) → IsIn w.casts d → IsWaiting r d.id → IsFinished w.history d.id → In (record { rank = d.stamp.time; id = d.id }) lost × (d.stamp.process ≡ d.id.process)
+    lost_all : (d : Cast) → ((k : ℕ) × IsAt w.casts k d) → IsWaiting r d.id → IsFinished w.history d.id → In (record { rank = d.stamp.time; id = d.id }) lost × (d.stamp.process ≡ d.id.process)
     lost_all d i waits fin =
         let own = own_stamp d i in
         let p = d.id.process in

@@ -1,16 +1,16 @@
 -- Members of lists, and induction from the end.
-use Rattle.std.proofs.Common.{◌≡◌, suc, List, [], ◌∷◌, ◌++◌, map, Some, ap, sym, subst, inl, inr, refl, append_assoc}
+use Rattle.std.proofs.Common.{ℕ, ◌≡◌, suc, List, [], ◌∷◌, ◌++◌, map, Some, ap, sym, subst, inl, inr, refl, append_assoc}
 use Rattle.std.proofs.lemmas.List.{append-nil}
 use Rattle.reg_base.specs.Order.{In}
-use Rattle.reg_history.specs.History.{IsIn}
+use Rattle.reg_history.specs.History.{IsAt}
 use Rattle.reg_world.proofs.lists.Bodies.{place_in}
 
-pub in_at : {X : Type 0} (x : X) (xs : List X) → In x xs → IsIn xs x
+pub in_at : {X : Type 0} (x : X) (xs : List X) → In x xs → (k : ℕ) × IsAt xs k x
 in_at x [] h = absurd h
 in_at x (y ∷ xs) (inl e) = (0, ap Some (sym e))
 in_at x (y ∷ xs) (inr h) = let r = in_at x xs h in (suc r.0, r.1)
 
-pub at_in : {X : Type 0} (x : X) (xs : List X) → IsIn xs x → In x xs
+pub at_in : {X : Type 0} (x : X) (xs : List X) → ((k : ℕ) × IsAt xs k x) → In x xs
 at_in x xs h = place_in xs h.0 x h.1
 
 pub from_end : {X : Type 0} (P : List X → Type 0) → P [] → ((xs : List X) (x : X) → P xs → P (xs ++ x ∷ [])) → (xs : List X) → P xs

@@ -17,7 +17,7 @@ use Rattle.reg_process.specs.declared.steps.Reply.{Reply}
 use Rattle.reg_process.specs.declared.steps.Step.{Step}
 use Rattle.reg_process.specs.Process.{State, Outcome, step}
 use Rattle.reg_history.specs.declared.entries.Entry.TheVariants.{Answered}
-use Rattle.reg_history.specs.History.{IsAt, IsIn, IsAnswered}
+use Rattle.reg_history.specs.History.{IsAt, IsAnswered}
 use Rattle.reg_history.proofs.Histories.{answer_is}
 use Rattle.reg_world.specs.declared.events.Event.{Event}
 use Rattle.reg_world.specs.declared.order.First.{First}
@@ -118,7 +118,7 @@ module _ (start : Op → ℕ → Start) (n registers : ℕ) (laws : KeepsLaws st
   order_run [] w K h = h
   order_run (e ∷ es) w K h = order_run es (happens start n registers w e) (kept_moved start n registers laws w e (move_of n registers w e) K refl) (order_step w e (move_of n registers w e) refl K h)
 
-  uncast : (events : List Event) (id : OpId) (d : PastCall) → IsPastCall n (V start n registers laws events).pasts id d → ((c : Cast) → IsIn (whole start n registers events).casts c → c.id ≡ id → ⊥) → (o : Option Stamp) → d.cast ≡ o → d.cast ≡ None
+  uncast : (events : List Event) (id : OpId) (d : PastCall) → IsPastCall n (V start n registers laws events).pasts id d → ((c : Cast) → ((k : ℕ) × IsAt (whole start n registers events).casts k c) → c.id ≡ id → ⊥) → (o : Option Stamp) → d.cast ≡ o → d.cast ≡ None
   uncast events id d call never None none = none
   uncast events id d call never (Some stamp) made =
       let c : Cast = record { stamp = stamp; id = id; op = d.op } in

@@ -1,7 +1,7 @@
 -- The history of a run stays in place through a step.
-use Rattle.std.proofs.Common.{◌≡◌, ℕ, ◌+◌, ◌-◌, ◌<◌, ◌⊎◌, List, [], ◌∷◌, ◌++◌, length, Option, Some, None, refl, sym, ap, ◌∙◌, subst, inl, inr, arith, length-append}
+use Rattle.std.proofs.Common.{◌≡◌, ℕ, ◌+◌, ◌-◌, ◌<◌, ◌⊎◌, List, [], ◌∷◌, ◌++◌, length, Option, Some, None, refl, sym, ap, ◌∙◌, subst, inl, inr, arith}
 use Rattle.reg_base.specs.declared.limits.TheConstants.{MOST_EVENTS}
-use Rattle.std.specs.Prelude.{slice_get, IfSome}
+use Rattle.std.specs.Prelude.{slice_get}
 use Rattle.std.proofs.lemmas.List.{append-nil}
 use Rattle.reg_base.specs.declared.memory.Op.{Op}
 use Rattle.reg_base.specs.declared.memory.OpId.{OpId}
@@ -14,7 +14,7 @@ use Rattle.reg_process.specs.declared.steps.Step.TheVariants.{Call, Take, Tick}
 use Rattle.reg_process.specs.Process.{State, Outcome, step}
 use Rattle.reg_history.specs.declared.entries.Entry.{Entry}
 use Rattle.reg_history.specs.declared.entries.Entry.TheVariants.{Called, Answered}
-use Rattle.reg_history.specs.History.{IsHistory, IsFinished, WasCalled, IsNext, IsLater, MayCall, MayAnswer, event_of, last_of}
+use Rattle.reg_history.specs.History.{IsHistory, IsFinished, WasCalled, IsAt, IsNext, MayCall, MayAnswer, event_of}
 use Rattle.reg_history.proofs.Places.{element_at}
 use Rattle.reg_history.proofs.Pushing.{history_more}
 use Rattle.reg_world.specs.declared.events.Event.{Event}
@@ -22,7 +22,7 @@ use Rattle.reg_world.specs.Nodes.{Nodes, op_in}
 use Rattle.reg_world.specs.World.{World, op_id, calls_in, answers_in}
 use Rattle.reg_world.proofs.one_memory.Traced.{Called as PastCall, Answered as PastAnswer, World as Trace, answered_in}
 use Rattle.reg_base.proofs.Lists.{in_cases}
-use Rattle.reg_world.proofs.lists.Bodies.{place_in, place_last, place_within}
+use Rattle.reg_world.proofs.lists.Bodies.{place_in, place_within}
 use Rattle.reg_world.proofs.lists.Members.{in_at, at_in}
 use Rattle.reg_world.proofs.one_order.Allowed.{StepAllowed, CallsMade, calls_made, AllAnswered}
 use Rattle.reg_world.proofs.one_memory.Turns.{done_calls, StepFits, fits_at}
@@ -34,19 +34,6 @@ use Rattle.reg_world.proofs.one_memory.Added.{IsPastCall, IsPastAnswer, no_answe
 abbrev IsIdle : List Entry → ℕ → Type 0
 IsIdle es process = (id : OpId) → id.process ≡ process → WasCalled es id → IsFinished es id
 
-later_of : (es : List Entry) (at : ℕ) → ((x : Entry) → In x es → event_of x < at) → IsLater es at
-later_of es at h = go (last_of es) refl
-  where
-    go : (o : Option Entry) → last_of es ≡ o → IfSome o (λ x. event_of x < at)
-    go None e = tt
-    go (Some x) e = h x (place_in es (length es - 1) x e)
-
-last_is : (es : List Entry) (x : Entry) → last_of (es ++ x ∷ []) ≡ Some x
-last_is es x =
-    let more = length-append es (x ∷ []) in
-    let n : length (es ++ x ∷ []) - 1 ≡ length es = omega (arith, more) in
-    ap (slice_get (es ++ x ∷ [])) n ∙ place_last es x
-
 calls_in_place : (n registers at : ℕ) (es : List Entry) (id : OpId) (st : Step) → IsHistory n registers es → ((op : Op) → st ≡ Call op → MayCall n registers es at id op) → IsHistory n registers (es ++ calls_in at id st)
 calls_in_place n registers at es id (Call op) good may = history_more n registers es (Called at id op) good (may op refl)
 calls_in_place n registers at es id (Take a f) good may = subst (IsHistory n registers) (sym (append-nil es)) good
@@ -56,10 +43,14 @@ answers_in_place : (n registers at : ℕ) (es : List Entry) (id : OpId) (o : Opt
 answers_in_place n registers at es id None good may = subst (IsHistory n registers) (sym (append-nil es)) good
 answers_in_place n registers at es id (Some y) good may = history_more n registers es (Answered at id y.answer) good (may y refl)
 
-answer_later : (es : List Entry) (at : ℕ) (id : OpId) (st : Step) (x : Entry) → ((y : Entry) → In y es → event_of y < at) → ((op : Op) → st ≡ Call op → In x (calls_in at id st)) → IsLater (es ++ calls_in at id st) at ⊎ (last_of (es ++ calls_in at id st) ≡ Some x)
-answer_later es at id (Call op) x below own = elim (own op refl) [ inl e ↦ inr (last_is es (Called at id op) ∙ ap Some (sym e)) | inr f ↦ absurd f ]
-answer_later es at id (Take a f) x below own = inl (later_of (es ++ []) at (λ y i. below y (subst (In y) (append-nil es) i)))
-answer_later es at id Tick x below own = inl (later_of (es ++ []) at (λ y i. below y (subst (In y) (append-nil es) i)))
+answer_later : (es : List Entry) (at : ℕ) (id : OpId) (st : Step) (x : Entry) → ((y : Entry) → In y es → event_of y < at) → ((op : Op) → st ≡ Call op → In x (calls_in at id st))
+    → (k : ℕ) (y : Entry) → IsAt (es ++ calls_in at id st) k y → (event_of y < at) ⊎ (y ≡ x)
+answer_later es at id (Call op) x below own k y here = elim (in_cases y es (Called at id op ∷ []) (place_in (es ++ Called at id op ∷ []) k y here)) [
+  | inl old ↦ inl (below y old)
+  | inr new ↦ elim new [ inl e ↦ elim (own op refl) [ inl f ↦ inr (e ∙ sym f) | inr f ↦ absurd f ] | inr f ↦ absurd f ]
+]
+answer_later es at id (Take a f) x below own k y here = inl (below y (subst (In y) (append-nil es) (place_in (es ++ []) k y here)))
+answer_later es at id Tick x below own k y here = inl (below y (subst (In y) (append-nil es) (place_in (es ++ []) k y here)))
 
 given_in : (at number : ℕ) (op : Op) (o : Option Reply) (y : Reply) → o ≡ Some y → In (record { number = number; at = at; op = op; reply = y }) (answered_in at number op o)
 given_in at number op None y e = absurd (let bad : ⊥ = cc in bad)
@@ -114,7 +105,7 @@ module _ (start : Op → ℕ → Start) (n registers : ℕ) (t : World) (v : Tra
         event = omega (arith, few);
         process = l;
         register = B.1;
-        later = later_of t.history At J.below;
+        later = λ k y here. J.below y (place_in t.history k y here);
         next = next;
         fits = B.2;
         idle = idle B.0;

@@ -1,11 +1,13 @@
 -- The first deliveries are a point order.
-use Rattle.std.proofs.Common.{◌≡◌, ℕ, zero, suc, ◌+◌, ◌<◌, inl, List, [], ◌∷◌, map, Some, refl, ap, sym, ◌∙◌, subst, arith}
+use Rattle.std.proofs.Common.{◌≡◌, ℕ, zero, suc, ◌+◌, ◌<◌, ◌≤◌, inl, List, [], ◌∷◌, map, Some, refl, ap, sym, ◌∙◌, subst, arith}
 use Rattle.std.proofs.lemmas.Option.{same_Some}
 use Rattle.reg_base.specs.declared.memory.OpId.{OpId}
+use Rattle.reg_base.specs.declared.memory.Op.{Op}
+use Rattle.reg_base.specs.declared.memory.Answer.{Answer}
 use Rattle.reg_world.specs.declared.order.First.{First}
 use Rattle.reg_history.specs.declared.entries.Point.{Point}
-use Rattle.reg_history.specs.History.{IsAt}
-use Rattle.reg_history.specs.Orders.{IsSerial, IsPoint, NeverFalls, IsPointOrder}
+use Rattle.reg_history.specs.History.{IsAt, IsCalled, IsAnswered}
+use Rattle.reg_history.specs.Orders.{IsSerial, IsPointOrder}
 use Rattle.reg_world.specs.Runs.{Run}
 use Rattle.reg_world.specs.Keys.{Key, key, IsBelow, IsKept, HasKey, Copied, Delivered, Lost, Keyed, IsByKeys, Keeps, Nothing, Takes, Leaves, ArePoints}
 use Rattle.reg_history.proofs.Places.{at_map}
@@ -124,16 +126,19 @@ module _ (r : Run) (ok : IsRun r) (real : IsRealTime r) (cs : List First) (kept 
   serial : IsSerial r.registers r.history (map (λ p. p.id) (map point_of cs))
   serial = witness_serial r (map (λ p. p.id) (map point_of cs)) ok (keyed_of 0 kept, by_keys, sym (keyed_ids 0 kept ∙ ids_same cs))
 
-  points : (k : ℕ) (p : Point) → IsAt (map point_of cs) k p → IsPoint r.history p
-  points k p at =
+  called : (k : ℕ) (p : Point) (t : ℕ) (op : Op) → IsAt (map point_of cs) k p → IsCalled r.history p.id t op → t ≤ p.at
+  called k p t op at =
       let c = at_map point_of cs k p at in
       let there = keeps_at kept k c.0 c.1 in
-      subst (λ (q : Point). IsPoint r.history q) c.2 (record {
-        called = λ t op is. real.after_call there.0 c.0 t op there.1 is;
-        answered = λ t answer is. real.before_answer there.0 c.0 t answer there.1 is;
-      })
+      subst (λ (q : Point). IsCalled r.history q.id t op → t ≤ q.at) c.2 (λ is. real.after_call there.0 c.0 t op there.1 is)
 
-  rising : NeverFalls (map point_of cs)
+  answered : (k : ℕ) (p : Point) (t : ℕ) (answer : Answer) → IsAt (map point_of cs) k p → IsAnswered r.history p.id t answer → p.at ≤ t
+  answered k p t answer at =
+      let c = at_map point_of cs k p at in
+      let there = keeps_at kept k c.0 c.1 in
+      subst (λ (q : Point). IsAnswered r.history q.id t answer → q.at ≤ t) c.2 (λ is. real.before_answer there.0 c.0 t answer there.1 is)
+
+  rising : (i j : ℕ) (p q : Point) → IsAt (map point_of cs) i p → IsAt (map point_of cs) j q → i < j → p.at ≤ q.at
   rising i j p q at1 at2 lt =
       let a = at_map point_of cs i p at1 in
       let b = at_map point_of cs j q at2 in
@@ -144,7 +149,7 @@ module _ (r : Run) (ok : IsRun r) (real : IsRealTime r) (cs : List First) (kept 
       omega (arith, le)
 
   point_order : IsPointOrder r.registers r.history (map point_of cs)
-  point_order = record { selection = serial.selection; legal = serial.legal; points = points; rising = rising }
+  point_order = record { selection = serial.selection; legal = serial.legal; called = called; answered = answered; rising = rising }
 
 pub points_order : (r : Run) (ps : List Point) → IsRun r → IsRealTime r → ArePoints r ps → IsPointOrder r.registers r.history ps
 points_order r ps ok real (cs, kept, same) = subst (λ (xs : List Point). IsPointOrder r.registers r.history xs) (sym same) (point_order r ok real cs kept)

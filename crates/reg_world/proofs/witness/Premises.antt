@@ -15,7 +15,7 @@ use Rattle.reg_front.specs.declared.starts.Start.{Start}
 use Rattle.reg_front.specs.Fronts.{KeepsLaws}
 use Rattle.reg_process.specs.Process.{ops_of}
 use Rattle.reg_history.specs.declared.entries.Entry.TheVariants.{Called, Answered}
-use Rattle.reg_history.specs.History.{IsAt, IsIn, IsCalled, IsAnswered}
+use Rattle.reg_history.specs.History.{IsAt, IsCalled, IsAnswered}
 use Rattle.reg_history.proofs.Places.{IsAt-map, at_map}
 use Rattle.reg_world.specs.declared.events.Event.{Event}
 use Rattle.reg_world.specs.declared.order.First.{First}
@@ -80,28 +80,28 @@ module _ (start : Op → ℕ → Start) (n registers : ℕ) (laws : KeepsLaws st
   same_call id d f a b = same_Some d f (sym a.1 ∙ b.1)
 
   -- the cast of an id is told with its call
-  cast_at : (c : Cast) → IsIn W.casts c → (d : PastCall) × IsPastCall n V.pasts c.id d × (d.cast ≡ Some c.stamp) × (d.op ≡ c.op)
+  cast_at : (c : Cast) → ((k : ℕ) × IsAt W.casts k c) → (d : PastCall) × IsPastCall n V.pasts c.id d × (d.cast ≡ Some c.stamp) × (d.op ≡ c.op)
   cast_at c i = J.cast c (at_in c W.casts i)
 
-  call_at : (c : Cast) → IsIn W.casts c → (c.id.process < n) × IsCastAt V c.id.process c.id.number (as_delivered c)
+  call_at : (c : Cast) → ((k : ℕ) × IsAt W.casts k c) → (c.id.process < n) × IsCastAt V c.id.process c.id.number (as_delivered c)
   call_at c i = let r = cast_at c i in (r.1.0, (r.0, r.1.1, r.2, r.3))
 
-  pub first_at : (k : ℕ) (c : First) → IsAt W.order k c → IsIn W.casts (cast_of_first c)
+  pub first_at : (k : ℕ) (c : First) → IsAt W.order k c → (k : ℕ) × IsAt W.casts k (cast_of_first c)
   first_at k c at = in_at (cast_of_first c) W.casts (J.first c (place_in W.order k c at))
 
   -- two casts of one stamp have one id
-  pub one_id : (a b : Cast) → IsIn W.casts a → IsIn W.casts b → a.stamp ≡ b.stamp → a.id ≡ b.id
+  pub one_id : (a b : Cast) → ((k : ℕ) × IsAt W.casts k a) → ((k : ℕ) × IsAt W.casts k b) → a.stamp ≡ b.stamp → a.id ≡ b.id
   one_id a b i j e =
       let x = cast_at a i in
       let y = cast_at b j in
       one_stamp n V G.pasts a.id b.id x.0 y.0 b.stamp x.1 y.1 (x.2 ∙ ap Some e) y.2
 
-  waits : (d : Cast) → IsIn W.casts d → IsWaiting R d.id → WaitsInTrace V (as_delivered d)
+  waits : (d : Cast) → ((k : ℕ) × IsAt W.casts k d) → IsWaiting R d.id → WaitsInTrace V (as_delivered d)
   waits d i h k at =
       let c = from_trace k (as_delivered d) at in
       h k c.0 c.1 (one_id (cast_of_first c.0) d (first_at k c.0 c.1) i (ap (λ (z : Delivered). z.stamp) c.2))
 
-  one_cast : (d e : Cast) → IsIn W.casts d → IsIn W.casts e → d.id ≡ e.id → d ≡ e
+  one_cast : (d e : Cast) → ((k : ℕ) × IsAt W.casts k d) → ((k : ℕ) × IsAt W.casts k e) → d.id ≡ e.id → d ≡ e
   one_cast d e i j same =
       let x = cast_at d i in
       let y = cast_at e j in
@@ -110,24 +110,24 @@ module _ (start : Op → ℕ → Start) (n registers : ℕ) (laws : KeepsLaws st
       let op : d.op ≡ e.op = sym x.3 ∙ (ap (λ (z : PastCall). z.op) call ∙ y.3) in
       (λ k. record { stamp = stamp k; id = same k; op = op k })
 
-  own_casts : (d e : Cast) → IsIn W.casts d → IsIn W.casts e → d.id.process ≡ e.id.process → d.id.number < e.id.number → Below d.stamp e.stamp
+  own_casts : (d e : Cast) → ((k : ℕ) × IsAt W.casts k d) → ((k : ℕ) × IsAt W.casts k e) → d.id.process ≡ e.id.process → d.id.number < e.id.number → Below d.stamp e.stamp
   own_casts d e i j same less =
       let x = call_at d i in
       let y = call_at e j in
       (F.own_casts d.id.process d.id.number e.id.number (as_delivered d) (as_delivered e) x.0 x.1 (subst (λ p. IsCastAt V p e.id.number (as_delivered e)) (sym same) y.1) less).2
 
-  was_called : (d : Cast) → IsIn W.casts d → (at : ℕ) × IsCalled W.history d.id at d.op
+  was_called : (d : Cast) → ((k : ℕ) × IsAt W.casts k d) → (at : ℕ) × IsCalled W.history d.id at d.op
   was_called d i =
       let x = cast_at d i in
       (x.0.at, subst (λ o. IsCalled W.history d.id x.0.at o) x.3 (in_at (Called x.0.at d.id x.0.op) W.history (J.calls d.id x.0 x.1)))
 
-  pub no_cast : (id : OpId) (d : PastCall) → IsPastCall n V.pasts id d → d.cast ≡ None → (c : Cast) → IsIn W.casts c → c.id ≢ id
+  pub no_cast : (id : OpId) (d : PastCall) → IsPastCall n V.pasts id d → d.cast ≡ None → (c : Cast) → ((k : ℕ) × IsAt W.casts k c) → c.id ≢ id
   no_cast id d call none c i same =
       let x = cast_at c i in
       let one : x.0 ≡ d = same_call id x.0 d (subst (λ z. IsPastCall n V.pasts z x.0) same x.1) call in
       none-some c.stamp (sym none ∙ (sym (ap (λ (z : PastCall). z.cast) one) ∙ x.2))
 
-  copies : (q : CopyRead) → IsIn W.reads q → IsCopyRead R q
+  copies : (q : CopyRead) → ((k : ℕ) × IsAt W.reads k q) → IsCopyRead R q
   copies q i =
       let r = J.read q (at_in q W.reads i) in
       let a = r.0 in
@@ -151,7 +151,7 @@ module _ (start : Op → ℕ → Start) (n registers : ℕ) (laws : KeepsLaws st
             omega (arith, z, place);
       }
 
-  places : (p q : CopyRead) → IsIn W.reads p → IsIn W.reads q → p.id.process ≡ q.id.process → p.id.number ≤ q.id.number → p.place ≤ q.place
+  places : (p q : CopyRead) → ((k : ℕ) × IsAt W.reads k p) → ((k : ℕ) × IsAt W.reads k q) → p.id.process ≡ q.id.process → p.id.number ≤ q.id.number → p.place ≤ q.place
   places p q i j same le =
       let x = J.read p (at_in p W.reads i) in
       let y = J.read q (at_in q W.reads j) in
@@ -179,7 +179,7 @@ module _ (start : Op → ℕ → Start) (n registers : ℕ) (laws : KeepsLaws st
       let there : Stands (casts_of V.order) (V.pasts id.process).calls a.number a.reply.place d (Some stamp) =
       subst (Stands (casts_of V.order) (V.pasts id.process).calls a.number a.reply.place d) made (subst (λ (z : PastCall). Stands (casts_of V.order) (V.pasts id.process).calls a.number a.reply.place z z.cast) same H.4) in
       let its : Cast = record { stamp = stamp; id = id; op = d.op } in
-      let stood : IsIn W.casts its = in_at its W.casts (J.casts id d stamp call made) in
+      let stood : ((k : ℕ) × IsAt W.casts k its) = in_at its W.casts (J.casts id d stamp call made) in
       elim there [
         | inl done ↦ AtOnce its stood refl (λ m k. done m ∙ sym (done k))
         | inr placed ↦

@@ -14,7 +14,7 @@ use Rattle.reg_front.specs.Fronts.{KeepsLaws}
 use Rattle.reg_process.specs.declared.steps.Step.{Step}
 use Rattle.reg_process.specs.declared.steps.Reply.{Reply}
 use Rattle.reg_history.specs.declared.entries.Entry.TheVariants.{Called, Answered}
-use Rattle.reg_history.specs.History.{IsAt, IsIn, IsHistory}
+use Rattle.reg_history.specs.History.{IsAt, IsHistory}
 use Rattle.reg_world.specs.declared.events.Event.{Event}
 use Rattle.reg_world.specs.declared.order.First.{First}
 use Rattle.reg_world.specs.Nodes.{Nodes}

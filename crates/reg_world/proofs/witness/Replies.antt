@@ -8,7 +8,7 @@ use Rattle.reg_base.specs.declared.stamps.Stamp.{Stamp}
 use Rattle.reg_world.specs.declared.order.First.{First}
 use Rattle.reg_world.specs.declared.order.CopyRead.{CopyRead}
 use Rattle.reg_base.specs.Memory.{Memory, IsUpdate, answer_of}
-use Rattle.reg_history.specs.History.{IsAt, IsIn, IsAnswered, IsFinished, IsHistory}
+use Rattle.reg_history.specs.History.{IsAt, IsAnswered, IsFinished, IsHistory}
 use Rattle.reg_base.specs.Order.{Below}
 use Rattle.reg_world.specs.Runs.{Run, Cast, IsWaiting, memory_of}
 use Rattle.reg_history.proofs.Histories.{answered_was_called}
@@ -31,18 +31,18 @@ stands_once r ok i j a b at1 at2 same = go (cases_order i j)
     go (inr (inr gt)) = absurd (self b.stamp (subst (λ (s : Stamp). Below b.stamp s) stamps (ok.rising j i b a at2 at1 gt)))
 
 module _ (n registers : ℕ) (r : Run) (good : IsHistory n registers r.history) (ok : IsOrdered r) where
-  finished : (id : OpId) → IsFinished r.history id → ((d : Cast) × IsIn r.casts d × (d.id ≡ id)) ⊎ ((q : CopyRead) × IsIn r.reads q × (q.id ≡ id))
+  finished : (id : OpId) → IsFinished r.history id → ((d : Cast) × ((k : ℕ) × IsAt r.casts k d) × (d.id ≡ id)) ⊎ ((q : CopyRead) × ((k : ℕ) × IsAt r.reads k q) × (q.id ≡ id))
   finished id (t, a, is) =
       let was = answered_was_called n registers r.history good id t a is in
       let reply = ok.replied id was.0 t was.1 a was.2 is in
       go was.1 reply.0 reply.1
     where
-      go : (op : Op) (place : ℕ) → Came r id op place → ((d : Cast) × IsIn r.casts d × (d.id ≡ id)) ⊎ ((q : CopyRead) × IsIn r.reads q × (q.id ≡ id))
+      go : (op : Op) (place : ℕ) → Came r id op place → ((d : Cast) × ((k : ℕ) × IsAt r.casts k d) × (d.id ≡ id)) ⊎ ((q : CopyRead) × ((k : ℕ) × IsAt r.reads k q) × (q.id ≡ id))
       go op place (AtDelivery c at same) = inl (cast_of c, ok.delivered place c at, same)
       go op place (AtOnce d in' same blind) = inl (d, in', same)
       go op place (FromCopy in' reads) = inr (record { id = id; place = place }, in', refl)
 
-  copied : (q : CopyRead) → IsIn r.reads q → IsCopied r q
+  copied : (q : CopyRead) → ((k : ℕ) × IsAt r.reads k q) → IsCopied r q
   copied q in' =
       let facts = ok.copies q in' in
       let was = answered_was_called n registers r.history good q.id facts.finished.0 facts.finished.1 facts.finished.2 in
@@ -84,7 +84,7 @@ module _ (n registers : ℕ) (r : Run) (good : IsHistory n registers r.history) 
       go place (AtOnce d in' same blind) = blind (memory_of r place) (memory_of r k)
       go place (FromCopy in' reads) = absurd ((ok.copies (record { id = c.id; place = place }) in').no_cast (cast_of c) (ok.delivered k c at) refl)
 
-  blind : (d : Cast) (t : ℕ) (a : Answer) → IsIn r.casts d → IsWaiting r d.id → IsAnswered r.history d.id t a → (m : Memory) → a ≡ answer_of d.op m
+  blind : (d : Cast) (t : ℕ) (a : Answer) → ((k : ℕ) × IsAt r.casts k d) → IsWaiting r d.id → IsAnswered r.history d.id t a → (m : Memory) → a ≡ answer_of d.op m
   blind d t a in' waits is m =
       let made = ok.called d in' in
       let reply = ok.replied d.id made.0 t d.op a made.1 is in

@@ -5,8 +5,9 @@ use Rattle.std.proofs.lemmas.Option.{same_Some}
 use Rattle.reg_base.specs.declared.memory.OpId.{OpId}
 use Rattle.reg_world.specs.declared.order.First.{First}
 use Rattle.reg_world.specs.declared.order.CopyRead.{CopyRead}
-use Rattle.reg_history.specs.History.{IsIn, IsAt, IsFinished, IsCalled}
-use Rattle.reg_history.specs.Orders.{IsDistinct, MayStand, IsLegal, KeepsOwnOrder, IsSerial}
+use Rattle.reg_history.specs.History.{IsAt, IsFinished, IsCalled}
+use Rattle.reg_history.specs.Orders.{IsDistinct, IsLegal, KeepsOwnOrder, IsSerial}
+use Rattle.reg_history.specs.Table.{MayStand}
 use Rattle.reg_world.specs.Runs.{Run, Cast}
 use Rattle.reg_world.specs.Keys.{Key, key, IsBelow, HasKey, Copied, Delivered, Lost, Keyed, IsByKeys, IsWitness}
 use Rattle.reg_history.proofs.Places.{same_at, IsAt-map, at_map}
@@ -42,11 +43,11 @@ in_order (x ∷ xs) id = go (same_id x.id id) (in_order xs id)
 pub finished_has_key : (r : Run) → IsRun r → (id : OpId) → IsFinished r.history id → (k : Key) × HasKey r id k
 finished_has_key r ok id fin = go (ok.finished id fin)
   where
-    cast : (d : Cast) → IsIn r.casts d → d.id ≡ id → ((k : ℕ) × (c : First) × IsAt r.order k c × (c.id ≡ id)) ⊎ ((k : ℕ) (c : First) → IsAt r.order k c → c.id ≢ id) → (k : Key) × HasKey r id k
+    cast : (d : Cast) → ((k : ℕ) × IsAt r.casts k d) → d.id ≡ id → ((k : ℕ) × (c : First) × IsAt r.order k c × (c.id ≡ id)) ⊎ ((k : ℕ) (c : First) → IsAt r.order k c → c.id ≢ id) → (k : Key) × HasKey r id k
     cast d in' is (inl f) = (key f.0 1 0 0, Delivered f.0 f.1 f.2 f.3 (inr (subst (λ (x : OpId). IsFinished r.history x) (sym f.3) fin)) refl)
     cast d in' is (inr waits) = (key (length r.order) 2 d.stamp.time d.stamp.process, Lost d in' is waits fin refl)
 
-    go : ((d : Cast) × IsIn r.casts d × (d.id ≡ id)) ⊎ ((q : CopyRead) × IsIn r.reads q × (q.id ≡ id)) → (k : Key) × HasKey r id k
+    go : ((d : Cast) × ((k : ℕ) × IsAt r.casts k d) × (d.id ≡ id)) ⊎ ((q : CopyRead) × ((k : ℕ) × IsAt r.reads k q) × (q.id ≡ id)) → (k : Key) × HasKey r id k
     go (inl d) = cast d.0 d.1 d.2 (in_order r.order id)
     go (inr q) = (key q.0.place 0 id.process id.number, Copied q.0 q.1 q.2 refl)
 

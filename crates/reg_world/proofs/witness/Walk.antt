@@ -7,7 +7,7 @@ use Rattle.reg_base.specs.declared.memory.Answer.{Answer}
 use Rattle.reg_history.specs.declared.entries.Entry.{Entry}
 use Rattle.reg_world.specs.declared.order.First.{First}
 use Rattle.reg_base.specs.Memory.{Memory, IsUpdate, answer_of, after}
-use Rattle.reg_history.specs.History.{IsIn, IsAt, IsCalled, IsAnswered}
+use Rattle.reg_history.specs.History.{IsAt, IsCalled, IsAnswered}
 use Rattle.reg_world.specs.Runs.{Run, Cast, IsWaiting, memory_of}
 use Rattle.reg_world.specs.Keys.{Key, key, IsBelow, HasKey, Copied, Delivered, Lost, Keyed}
 use Rattle.reg_history.proofs.Places.{within}
@@ -68,7 +68,7 @@ left_behind r e w c n left le other j d low at up = go (left.updates j d (omega 
 
 -- what is known of a finished cast that was delivered nowhere
 abbrev pub IsLost : Run → OpId → Type 0
-IsLost r id = (d : Cast) × IsIn r.casts d × (d.id ≡ id) × IsWaiting r id
+IsLost r id = (d : Cast) × ((k : ℕ) × IsAt r.casts k d) × (d.id ≡ id) × IsWaiting r id
 
 -- such casts are legal on any memory
 walk_lost : (r : Run) → IsRun r → (w : List Keyed) (m : Memory) → ((i : ℕ) (e : Keyed) → IsAt w i e → IsLost r e.id) → LegalFrom r.history m (map (λ e. e.id) w)

@@ -1,7 +1,7 @@
 use Rattle.std.proofs.lemmas.Result.{err_from_is_err_and}
 use Rattle.reg_history.specs.Checks.{ids_of}
 use Rattle.reg_history.proofs.Bridges.{legal, registers_fit, first_is, wrong_there}
-use Rattle.reg_history.proofs.PointFacts.{selection_fault, same_length, first_outside_is, outside_there, inside, never_falls}
+use Rattle.reg_history.proofs.PointFacts.{selection_fault, same_length, first_outside_is, outside_there, inside_called, inside_answered, never_falls}
 use Rattle.reg_history.proofs.check.judge_points.Goals as goal
 
 pub returns-in_err-facts : goal.returns-in_err-facts
@@ -60,6 +60,7 @@ returns g c =
     record {
       selection = sel.0.selection;
       legal = legal c.args.shape.processes c.args.shape.registers h c.requires (ids_of ps) facts sel.0.facts_of none;
-      points = inside c.args.shape.processes c.args.shape.registers h c.requires ps facts sel.0.facts_of beside;
+      called = inside_called c.args.shape.processes c.args.shape.registers h c.requires ps facts sel.0.facts_of beside;
+      answered = inside_answered c.args.shape.processes c.args.shape.registers h c.requires ps facts sel.0.facts_of beside;
       rising = never_falls ps c.in-None.ensures;
     }

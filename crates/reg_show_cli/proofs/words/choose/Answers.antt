@@ -2,10 +2,11 @@ use Rattle.std.proofs.Common.{◌∙◌, Some, None, map, string_bytes, drop, re
 use Rattle.clap.specs.Words.{HasKind, app_of, fault_of, is_simple_and_free, subcommand_rows_of, takes}
 use Rattle.reg_words.specs.Lines.{seen}
 use Rattle.reg_words.proofs.Chosen.{no_fault, none_met, one_met, rows_found}
-use Rattle.awshow.specs.Lines.{awshow, is_fair, name_of}
-use Rattle.awshow.proofs.Lines.{awshow_lines}
-use Rattle.awshow.proofs.Choices.{not_help, picked, refused}
-use Rattle.awshow.proofs.words.choose.Goals as goal
+use Rattle.reg_show_cli.specs.Lines.{is_fair, name_of}
+use Rattle.reg_show_cli.specs.Words.{awshow}
+use Rattle.reg_show_cli.proofs.Lines.{awshow_lines}
+use Rattle.reg_show_cli.proofs.Choices.{not_help, picked, refused}
+use Rattle.reg_show_cli.proofs.words.choose.Goals as goal
 
 pub returns-in-Err : goal.returns-in-Err
 returns-in-Err c =

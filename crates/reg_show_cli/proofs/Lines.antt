@@ -16,7 +16,8 @@ use Rattle.reg_words.proofs.Chosen.{TakesLines, met_at}
 use Rattle.reg_words.proofs.Strays.{some_kind}
 use Rattle.reg_words.proofs.Leaves.{fair_words, has_none, plain_words}
 use Rattle.reg_words.proofs.Programs.{at_name, below, first_turn, no_subcommand, start}
-use Rattle.awshow.specs.Lines.{IsCommandLine, awshow, is_fair, line_of, name_of}
+use Rattle.reg_show_cli.specs.Lines.{IsCommandLine, is_fair, line_of, name_of}
+use Rattle.reg_show_cli.specs.Words.{awshow}
 
 taken : (showing : Showing) → built_takes (built awshow) nothing_held (line_of showing) ≡ true
 unfolding clap_on_literals

@@ -5,7 +5,7 @@ ghost use Rattle.reg_text.specs.Writing.{AppendsPart};
 ghost use Rattle.reg_commands.specs.FaultLines.{fault_line};
 ghost use Rattle.reg_words.specs.Faults.{status_of};
 ghost use Rattle.reg_words.specs.Lines.{behind_name};
-ghost use Rattle.awshow.specs.Lines.{IsAnswer, IsCommandLine, IsHelpLine, refused_line};
+ghost use Rattle.reg_show_cli.specs.Lines.{IsAnswer, IsCommandLine, IsHelpLine, refused_line};
 
 use crate::words::{Asked, HELP, choose};
 use reg_commands::{Fault, write_fault};
@@ -71,7 +71,7 @@ pub fn refuse<E: Write>(fault: WordsFault, errors: &mut E) -> u8
 
 /// Does what the words of a command line ask for, and gives the exit status: 0, or 1 where something was refused, or 2
 /// for the command line. Every line of a fault goes to `errors`.
-fn run_words<R, E>(rt: &R, words: &[String], errors: &mut E) -> u8
+pub fn run_words<R, E>(rt: &R, words: &[String], errors: &mut E) -> u8
 where
     R: AllocGlobal + Input + Print + Copy,
     E: Write,

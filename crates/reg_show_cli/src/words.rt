@@ -3,9 +3,9 @@ ghost use Rattle.std.specs.Prelude.{◌≡◌, IfOk, Some};
 ghost use Rattle.clap.specs.Words.{app_of, kind_of};
 ghost use Rattle.reg_show.specs.declared.Showing.{Showing};
 ghost use Rattle.reg_words.specs.Lines.{behind_name};
-ghost use Rattle.awshow.specs.declared.words.Asked.TheVariants.{Show};
-ghost use Rattle.awshow.specs.Words.{told_of};
-ghost use Rattle.awshow.specs.Lines.{IsAnswer, awshow, is_fair, name_of};
+ghost use Rattle.reg_show_cli.specs.declared.words.Asked.TheVariants.{Show};
+ghost use Rattle.reg_show_cli.specs.Words.{awshow, told_of};
+ghost use Rattle.reg_show_cli.specs.Lines.{IsAnswer, is_fair, name_of};
 
 use clap::error::ErrorKind;
 use reg_show::Showing;

@@ -1,8 +1,5 @@
 //! Which command lines are taken, and how a refused one is told.
-use crate::program::refuse;
-use crate::words::{Asked, choose};
-use reg_show::Showing;
-use reg_words::WordsFault;
+use reg_show_cli::{Asked, Showing, WordsFault, choose, refuse};
 use std::alloc::Global;
 use std::process::Abort;
 

@@ -18,11 +18,11 @@ use Rattle.reg_words.proofs.Chosen.{takes_line}
 use Rattle.reg_words.proofs.Leaves.{fair_stray, plain_stray}
 use Rattle.reg_words.proofs.Programs.{fails_below, stray_first}
 use Rattle.reg_words.proofs.Strays.{some_kind}
-use Rattle.awshow.specs.Words.{told_of}
-use Rattle.awshow.specs.Lines.{IsAnswer, IsCommandLine, IsHelpLine, awshow, is_fair, line_of, name_of}
-use Rattle.awshow.proofs.Lines.{awshow_lines, no_name, subs}
-use Rattle.awshow.specs.declared.words.Asked.{Asked}
-use Rattle.awshow.specs.declared.words.Asked.TheVariants.{Help, Show}
+use Rattle.reg_show_cli.specs.Words.{awshow, told_of}
+use Rattle.reg_show_cli.specs.Lines.{IsAnswer, IsCommandLine, IsHelpLine, is_fair, line_of, name_of}
+use Rattle.reg_show_cli.proofs.Lines.{awshow_lines, no_name, subs}
+use Rattle.reg_show_cli.specs.declared.words.Asked.{Asked}
+use Rattle.reg_show_cli.specs.declared.words.Asked.TheVariants.{Help, Show}
 use Rattle.reg_words.specs.declared.faults.WordsFault.{WordsFault}
 use Rattle.reg_words.specs.declared.faults.WordsFault.TheVariants.{CommandLine, OutOfMemory}
 

@@ -1,12 +1,12 @@
 -- Which words ask for what.
 use Rattle.std.specs.Prelude.{ℕ, ◌≡◌, ◌⊎◌, ⊤, Bool, true, false, List, [], ◌∷◌, ◌++◌, codes, Result, Ok, Err}
 use Rattle.std.specs.List.{list_any}
-use Rattle.clap.specs.Words.{App, Text, new_app, with_subcommand}
+use Rattle.clap.specs.Words.{Text}
 use Rattle.reg_show.specs.declared.Showing.{Showing}
 use Rattle.reg_show.specs.declared.Showing.TheVariants.{Draw, Schedule, Trace}
-use Rattle.reg_words.specs.Lines.{fair_app, may_ask_help, named_line}
-use Rattle.awshow.specs.declared.words.Asked.{Asked}
-use Rattle.awshow.specs.declared.words.Asked.TheVariants.{Help, Show}
+use Rattle.reg_words.specs.Lines.{may_ask_help, named_line}
+use Rattle.reg_show_cli.specs.declared.words.Asked.{Asked}
+use Rattle.reg_show_cli.specs.declared.words.Asked.TheVariants.{Help, Show}
 use Rattle.reg_words.specs.declared.faults.WordsFault.{WordsFault}
 use Rattle.reg_words.specs.declared.faults.WordsFault.TheVariants.{CommandLine, OutOfMemory}
 
@@ -44,8 +44,3 @@ IsAnswer line (Err OutOfMemory) = ⊤
 -- the line for words that ask for nothing, with its line feed
 abbrev pub refused_line : List ℕ
 refused_line = codes "usage: awshow schedule [--fair] | trace | draw" ++ 10 ∷ []
-
--- the program with its subcommands, as clap's parse reads it
-abbrev pub awshow : App
-awshow = with_subcommand (with_subcommand (with_subcommand (new_app (codes "awshow")) (fair_app (codes "schedule")).top)
-    (new_app (codes "trace")).top) (new_app (codes "draw")).top

@@ -1,8 +1,8 @@
 use Rattle.std.proofs.Common.{sym, ◌∙◌}
 use Rattle.reg_text.specs.Writing.{AppendsPart}
 use Rattle.reg_words.proofs.Told.{refused_told}
-use Rattle.awshow.specs.Lines.{refused_line}
-use Rattle.awshow.proofs.program.refuse.Goals as goal
+use Rattle.reg_show_cli.specs.Lines.{refused_line}
+use Rattle.reg_show_cli.proofs.program.refuse.Goals as goal
 
 pub returns-clause-told : goal.returns-clause-told
 returns-clause-told g c = λ two.

@@ -1,0 +1,10 @@
+//! The words of the command line of `awshow`, and the program: what is shown of a text, over the standard streams.
+#![tactic(auto)]
+
+mod program;
+mod words;
+
+pub use program::{refuse, run_program, run_words};
+pub use reg_show::Showing;
+pub use reg_words::WordsFault;
+pub use words::{Asked, choose};
