@@ -14,11 +14,11 @@ IsAt xs k x = slice_get xs k ≡ Some x
 
 -- the operation op was called under this id, at event at
 abbrev pub IsCalled : List Entry → OpId → ℕ → Op → Type 0
-IsCalled h id at op = ((k : ℕ) × IsAt h k (Called at id op))
+IsCalled h id at op = (k : ℕ) × IsAt h k (Called at id op)
 
 -- the operation of this id was answered so, at event at
 abbrev pub IsAnswered : List Entry → OpId → ℕ → Answer → Type 0
-IsAnswered h id at answer = ((k : ℕ) × IsAt h k (Answered at id answer))
+IsAnswered h id at answer = (k : ℕ) × IsAt h k (Answered at id answer)
 
 -- the operation of this id has an answer
 abbrev pub IsFinished : List Entry → OpId → Type 0
