@@ -15,8 +15,9 @@ use Rattle.reg_process.specs.declared.steps.Reply.{Reply}
 use Rattle.reg_process.specs.declared.steps.Step.{Step}
 use Rattle.reg_process.specs.declared.steps.Step.TheVariants.{Call, Take, Tick}
 use Rattle.reg_base.specs.declared.limits.TheConstants.{MOST_RESENT}
-use Rattle.reg_base.specs.Order.{AtMost, below, at_most, insert}
-pub use Rattle.reg_base.specs.Order.{stamp_at, cast_at, all_below}
+use Rattle.reg_base.specs.Order.{below, at_most, insert}
+pub use Rattle.reg_base.specs.Order.{stamp_at, cast_at}
+use Rattle.reg_base.specs.Order as order
 use Rattle.reg_base.specs.Memory.{Memory, answer_of, memory_after}
 
 abbrev pub time_of : Body → ℕ
@@ -74,13 +75,12 @@ peer_at s r = slice_index_or s.peers r no_peer
 abbrev pub seen_at : State → ℕ → ℕ
 seen_at s r = (peer_at s r).seen
 
--- a stamp is clear when it is at most the stamp of the last body from every other process
+-- clear, by what the process has seen of the others, and the same as a test
 abbrev pub IsClear : State → Stamp → Type 0
-IsClear s stamp = (r : ℕ) → r < length s.peers → (r ≡ s.me → ⊥) → AtMost stamp (stamp_at (seen_at s r) r)
+IsClear s stamp = order.IsClear s.me (seen_at s) (length s.peers) stamp
 
--- the same as a test
 abbrev pub is_clear : State → Stamp → Bool
-is_clear s stamp = all_below (λ r. (r == s.me) || at_most stamp (stamp_at (seen_at s r) r)) (length s.peers)
+is_clear s stamp = order.is_clear s.me (seen_at s) (length s.peers) stamp
 
 abbrev pub is_own : State → Delivered → Bool
 is_own s c = c.stamp.process == s.me
