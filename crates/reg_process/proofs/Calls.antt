@@ -13,21 +13,20 @@ use Rattle.reg_front.specs.declared.starts.Start.{Start}
 use Rattle.reg_front.specs.declared.starts.Start.TheVariants.{Look as Looks, Hold as Holds}
 use Rattle.reg_process.specs.declared.steps.Step.TheVariants.{Call, Take}
 use Rattle.reg_frames.specs.declared.bodies.Frame.{Frame}
-use Rattle.reg_process.specs.Process.{Held}
-use Rattle.reg_process.specs.Delivery.{first_of}
-use Rattle.reg_process.specs.Process.{State, called, no_frames, look, unsettled, seen_at, time_of, peer_at, taken, accepted, quiet, got_frames}
+use Rattle.reg_process.specs.Process.{Held, State, called, no_frames, look, unsettled, seen_at, time_of, peer_at, taken, accepted, quiet, got_frames, due}
+use Rattle.reg_process.specs.Faults.{first_of, early_fault, full_at, call_fault, is_out, early_body, frame_fault, take_fault, is_cast, is_numbered}
 use Rattle.reg_holdback.specs.Waiting.{seen_of}
-use Rattle.reg_process.specs.Parts.{Parts, Good, state_of}
+use Rattle.reg_process.specs.Parts.{Parts, state_of}
+use Rattle.reg_process.specs.Inner.{Good}
 use Rattle.reg_process.proofs.Deliveries.{merged_seen}
 use Rattle.reg_process.specs.Puts.{puts, put_to}
 use Rattle.reg_frames.specs.declared.bodies.Frame.TheVariants.{Numbered, Got}
 use Rattle.reg_process.proofs.Acks.{one_put}
 use Rattle.reg_process.specs.declared.faults.ProcessFault.{ProcessFault}
 use Rattle.reg_process.specs.declared.faults.ProcessFault.TheVariants.{Failed, NoProcess, Busy, NoRegister, TooManyOperations, Ahead, Stale, ClockFull, OutOfMemory}
-use Rattle.reg_process.specs.Faults.{early_fault, full_at, StopsAt, call_fault, is_out, early_body, frame_fault, take_fault, is_peer, is_cast, is_numbered}
+use Rattle.reg_process.specs.Steps.{StopsAt, is_peer, Goes}
 use Rattle.reg_process.specs.declared.outcomes.Put.{Put}
-use Rattle.reg_process.specs.Steps.{due}
-use Rattle.reg_process.specs.Events.{Goes, Steps, Refused, process_fault}
+use Rattle.reg_process.specs.Events.{Steps, Refused, process_fault}
 
 pub nothing_put : (n : ℕ) → puts no_frames n ≡ []
 nothing_put zero = refl

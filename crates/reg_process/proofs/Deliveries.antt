@@ -7,20 +7,20 @@ use mir.Val.{bool_byte}
 use Rattle.reg_base.specs.declared.stamps.Stamp.{Stamp}
 use Rattle.reg_base.specs.declared.stamps.Delivered.{Delivered}
 use Rattle.reg_process.specs.declared.steps.Reply.{Reply}
-use Rattle.reg_process.specs.Process.{Running}
-use Rattle.reg_process.specs.Process.{Own, Held}
+use Rattle.reg_process.specs.Process.{Running, Own, Held, State, no_peer, seen_at, is_clear, clear_casts, still, delivered_state, is_stamp, due}
 use Rattle.reg_base.specs.Memory.{Memory, after, register_of, answer_of}
 use Rattle.reg_base.proofs.Operations.{length-after}
 use Rattle.reg_base.specs.Order.{In, Rising}
 use Rattle.reg_base.specs.Order as order
-use Rattle.reg_process.specs.Process.{State, no_peer, seen_at, is_clear, clear_casts, still, delivered_state}
-use Rattle.reg_process.specs.Delivery.{is_stamp, reply_one, popped, first_of, Waits}
+use Rattle.reg_process.specs.Delivery.{reply_one, popped, Waits, reply_by, delivered_parts}
+use Rattle.reg_process.specs.Faults.{first_of}
 use Rattle.reg_process.proofs.Pops.{none_clear}
 use Rattle.reg_process.proofs.Deliver.{count_cons, one_clear, one_state, one_due, end_due, end_state}
 use Rattle.reg_links.specs.Link.{Unacknowledged}
 use Rattle.reg_holdback.specs.Waiting.{Waiting, ready_in, ready_of, tail_of, without_first}
-use Rattle.reg_process.specs.Parts.{Parts, Good, state_of, merged, RunsWell, reply_by, delivered_parts, is_from}
-use Rattle.reg_process.specs.Steps.{DeliversOne, DeliversNone, due}
+use Rattle.reg_process.specs.Parts.{Parts, state_of, merged}
+use Rattle.reg_process.specs.Inner.{Good, RunsWell, is_from}
+use Rattle.reg_process.specs.Steps.{DeliversOne, DeliversNone}
 
 pub merged_seen : (ts es : List ℕ) (os : List Unacknowledged) (r : ℕ) → length es ≡ length ts → length os ≡ length ts → (slice_index_or (merged ts es os) r no_peer).seen ≡ slice_index ts r
 merged_seen [] es os r a b = refl
@@ -108,9 +108,7 @@ module _ (p : Parts) (good : Good p) (c : Delivered) (rest : List Delivered) (le
   }
 
   reply_is : (r : Option Running) → reply_by p.copy p.delivered left c r ≡ reply_one (state_of p) c rest r
-  reply_is None = refl
-  reply_is (Some (Own stamp op)) = let e : p.delivered ≡ p.delivered + 0 = omega arith in ap (λ n. cond (is_stamp stamp c) (Some (record { answer = answer_of op p.copy; place = n })) None) e
-  reply_is (Some (Held op)) = ap (λ n. cond (n == 0) (Some (record { answer = answer_of op (after c.op p.copy); place = p.delivered + 1 })) None) left_is
+  reply_is r = ap (λ n. reply_by p.copy p.delivered n c r) left_is
 
   next_is : popped (state_of p) c rest ≡ state_of (delivered_parts p c rest left)
   next_is = ap (λ (o : Option Reply). record (popped (state_of p) c rest) { running = still o p.running }) (sym (reply_is p.running))

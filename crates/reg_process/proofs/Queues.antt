@@ -5,7 +5,8 @@ use Rattle.reg_frames.specs.declared.bodies.Body.{Body}
 use Rattle.reg_links.specs.Link.{Unacknowledged, next_of, with_queued}
 use Rattle.reg_process.specs.declared.outcomes.Put.{Put}
 use Rattle.reg_process.specs.Parts.{nothing}
-use Rattle.reg_process.specs.Puts.{puts, put_to, owed, frame_to, body_frames, all_frames, queued_at, queue_outs, IsGrown}
+use Rattle.reg_process.specs.Puts.{puts, put_to}
+use Rattle.reg_process.specs.Queued.{owed, frame_to, body_frames, all_frames, queued_at, queue_outs, IsGrown}
 
 grown_at : (me : ℕ) (body : Body) (r : ℕ) (o : Unacknowledged) → next_of (queued_at me body r o) ≤ next_of o + 1
 grown_at me body r o = go (r == me)

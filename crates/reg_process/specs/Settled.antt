@@ -1,4 +1,4 @@
--- Between events nothing that is clear is held.
+-- Between events nothing that is clear is held. Promises cite it.
 use Rattle.std.specs.Prelude.{length}
 use Rattle.reg_base.specs.Order.{NoneClear}
 use Rattle.reg_process.specs.Process.{State, seen_at}

@@ -1,6 +1,6 @@
 //! The parts of a process that has not failed.
 ghost use Rattle.std.specs.Prelude.{◌≡◌, ℕ, ◌<◌, ◌+◌, ◌≤◌, length, IfOk, [], not, None, is_some};
-ghost use Rattle.reg_process.specs.Process.{pending_of, peer_at, next_of, acknowledged, unsettled, called, resent};
+ghost use Rattle.reg_process.specs.Process.{pending_of, peer_at, next_of, unsettled, resent};
 ghost use Rattle.reg_process.specs.Parts.{state_of, first_parts};
 ghost use Rattle.reg_process.specs.Puts.{puts};
 
@@ -35,7 +35,9 @@ pub(crate) struct Core<A: Allocator + Copy> {
 
 impl<A: Allocator + Copy> Model for Core<A> {
     ghost use Rattle.reg_process.specs.Process.{State};
-    ghost use Rattle.reg_process.specs.Parts.{Parts, state_of, Good, outs_of};
+    ghost use Rattle.reg_process.specs.Parts.{state_of};
+    ghost use Rattle.reg_process.specs.Inner.{Good};
+    ghost use Rattle.reg_process.specs.Queued.{outs_of};
 
     ghost Value = { State };
 

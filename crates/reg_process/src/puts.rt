@@ -3,8 +3,9 @@ ghost use Rattle.std.specs.Prelude.{◌≡◌, ◌<◌, ◌≤◌, ◌+◌, ◌+
 ghost use Rattle.reg_links.specs.Sending.{link_to};
 ghost use Rattle.reg_frames.specs.declared.bodies.Frame.TheVariants.{Got};
 ghost use Rattle.reg_base.specs.declared.limits.TheConstants.{FRAME_NUMBERS, MOST_PROCESSES};
-ghost use Rattle.reg_process.specs.Parts.{nothing, out_to, outs_of};
-ghost use Rattle.reg_process.specs.Puts.{put_to, puts, owed, frame_to, IsNumbered, all_frames, queue_outs, IsGrown, HasNumbers, pending_in as pending_in_all, again_at, again_frames};
+ghost use Rattle.reg_process.specs.Parts.{nothing};
+ghost use Rattle.reg_process.specs.Queued.{out_to, outs_of, owed, frame_to, IsNumbered, all_frames, queue_outs, IsGrown, HasNumbers, pending_in as pending_in_all, again_at, again_frames};
+ghost use Rattle.reg_process.specs.Puts.{put_to, puts};
 
 use crate::outcomes::Put;
 use reg_base::limits::MOST_RESENT;

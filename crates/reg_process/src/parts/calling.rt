@@ -1,15 +1,13 @@
 //! The calls of a process: how operations start.
 ghost use Rattle.std.specs.Prelude.{◌≡◌, ◌<◌, ◌+◌, [], length, MatchResult, IfOk, OnOk, IfErr, cond, nat_le, Some, None, true, if◌then◌else◌};
 ghost use Rattle.reg_base.specs.Memory.{after, register_of};
-ghost use Rattle.reg_process.specs.Process.{unsettled, look as look_of, called};
-ghost use Rattle.reg_process.specs.Process.{Held};
-ghost use Rattle.reg_process.specs.Faults.{Stops, StopsAt, early_fault, full_at, is_cast};
+ghost use Rattle.reg_process.specs.Process.{unsettled, look as look_of, called, Held};
+ghost use Rattle.reg_process.specs.Steps.{Stops, StopsAt, Goes, cast_start, own_running, MakesCast};
+ghost use Rattle.reg_process.specs.Faults.{early_fault, full_at, is_cast};
 ghost use Rattle.reg_front.specs.Fronts.{MayStart};
 ghost use Rattle.reg_frames.specs.declared.bodies.Body.TheVariants.{Cast};
 ghost use Rattle.reg_base.specs.declared.limits.TheConstants.{LAST_TIME, MOST_OPERATIONS};
 ghost use Rattle.reg_base.specs.declared.memory.Answer.TheVariants.{Done};
-ghost use Rattle.reg_process.specs.Events.{Goes, cast_start};
-ghost use Rattle.reg_process.specs.Steps.{own_running, MakesCast};
 
 use super::Core;
 use crate::faults::ProcessFault;

@@ -2,7 +2,8 @@
 ghost use Rattle.std.specs.Prelude.{◌≡◌, ◌<◌, ◌+◌, ◌^◌, length, MatchOption, IfOk, Some, None, if◌then◌else◌};
 ghost use Rattle.reg_base.specs.Memory.{after, register_of};
 ghost use Rattle.reg_process.specs.Process.{still};
-ghost use Rattle.reg_process.specs.Parts.{reply_by, RunsWell};
+ghost use Rattle.reg_process.specs.Delivery.{reply_by};
+ghost use Rattle.reg_process.specs.Inner.{RunsWell};
 ghost use Rattle.reg_frames.specs.declared.bodies.Body.TheVariants.{Cast};
 ghost use Rattle.reg_process.specs.Steps.{DeliversOne, DeliversNone, Delivers};
 

@@ -1,15 +1,13 @@
 //! The frames that a process takes.
-ghost use Rattle.std.specs.Prelude.{◌≡◌, ◌<◌, ◌+◌, ◌∷◌, [], length, MatchResult, IfOk, OnOk, OnErr, IfErr, max, not, nat_le, nat_lt, slice_index, slice_set, Some, None, false, true, IsErrOf, if◌then◌else◌};
+ghost use Rattle.std.specs.Prelude.{◌≡◌, ◌<◌, ◌+◌, [], length, MatchResult, IfOk, OnOk, OnErr, IfErr, max, not, nat_le, nat_lt, slice_index, slice_set, Some, None, false, true, IsErrOf, if◌then◌else◌};
 ghost use Rattle.reg_base.specs.Memory.{after, register_of};
 ghost use Rattle.reg_process.specs.Process.{peer_at, seen_at, next_of, acknowledged, accepted, taken, time_of};
-ghost use Rattle.reg_process.specs.Faults.{Stops, StopsAt, early_body, full_by, is_out as is_out_of, is_peer as is_peer_of, frame_fault, FrameRefused, is_numbered, takes_memory, is_stop};
+ghost use Rattle.reg_process.specs.Steps.{Stops, StopsAt, is_peer as is_peer_of, FrameRefused, Goes, TakesCast, TakesAck};
+ghost use Rattle.reg_process.specs.Faults.{early_body, full_by, is_out as is_out_of, frame_fault, is_numbered, takes_memory, is_stop};
 ghost use Rattle.reg_frames.specs.declared.bodies.Body.TheVariants.{Cast, Ack};
 ghost use Rattle.reg_frames.specs.declared.bodies.Frame.TheVariants.{Numbered, Got};
 ghost use Rattle.reg_base.specs.declared.limits.TheConstants.{LAST_TIME, FRAME_NUMBERS};
-ghost use Rattle.reg_process.specs.Events.{Goes};
-ghost use Rattle.reg_process.specs.Puts.{put_to};
 ghost use Rattle.reg_holdback.specs.Waiting.{receive_fault, received};
-ghost use Rattle.reg_process.specs.Steps.{TakesCast, TakesAck};
 
 use super::Core;
 use crate::faults::ProcessFault;

@@ -1,6 +1,6 @@
 use Rattle.std.proofs.Common.{◌≡◌, ◌<◌, length, sym, ap, ◌∙◌, arith}
-use Rattle.reg_process.specs.Parts.{outs_of}
-use Rattle.reg_process.specs.Puts.{puts, all_frames}
+use Rattle.reg_process.specs.Queued.{outs_of, all_frames}
+use Rattle.reg_process.specs.Puts.{puts}
 use Rattle.reg_process.proofs.Outs.{length-outs, frame_same}
 use Rattle.reg_process.proofs.Queues.{frames_more}
 use Rattle.reg_process.proofs.puts.queue_on_all.Goals as goal

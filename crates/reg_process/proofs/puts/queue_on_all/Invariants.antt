@@ -1,6 +1,6 @@
 use Rattle.std.proofs.Common.{◌≡◌}
-use Rattle.reg_process.specs.Parts.{outs_of}
-use Rattle.reg_process.specs.Puts.{puts, all_frames}
+use Rattle.reg_process.specs.Queued.{outs_of, all_frames}
+use Rattle.reg_process.specs.Puts.{puts}
 use Rattle.reg_process.proofs.puts.queue_on_all.Given as goal
 
 abbrev pub invariant-loop-r : goal.invariant-loop-r

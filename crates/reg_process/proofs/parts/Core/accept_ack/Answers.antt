@@ -3,7 +3,8 @@ use Rattle.std.specs.Prelude.{slice_index}
 use Rattle.std.proofs.lemmas.List.{get_or_default}
 use Rattle.reg_process.specs.Process.{State, seen_at}
 use Rattle.reg_base.specs.declared.limits.TheConstants.{LAST_TIME}
-use Rattle.reg_process.specs.Parts.{Parts, state_of, outs_of}
+use Rattle.reg_process.specs.Parts.{Parts, state_of}
+use Rattle.reg_process.specs.Queued.{outs_of}
 use Rattle.reg_process.proofs.Pending.{not_stale}
 use Rattle.reg_process.specs.Steps.{TakesAck}
 use Rattle.reg_process.proofs.Deliveries.{length-merged}
