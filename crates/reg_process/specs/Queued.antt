@@ -4,6 +4,7 @@ use Rattle.std.specs.List.{range_with_len}
 use Rattle.reg_frames.specs.declared.bodies.Body.{Body}
 use Rattle.reg_frames.specs.declared.bodies.Frame.{Frame}
 use Rattle.reg_frames.specs.declared.bodies.Frame.TheVariants.{Numbered, Got}
+use Rattle.reg_process.specs.declared.puts.Sent.{Sent}
 use Rattle.reg_process.specs.Process.{numbered_from}
 use Rattle.reg_base.specs.declared.limits.TheConstants.{FRAME_NUMBERS, MOST_RESENT}
 use Rattle.reg_links.specs.Link.{Unacknowledged, next_of, with_queued}
@@ -29,6 +30,10 @@ body_frames me body r out = cond (r == me) [] (Numbered (next_of out) body ∷ [
 -- the same frame where the number is known
 abbrev pub frame_to : ℕ → ℕ → Body → ℕ → List Frame
 frame_to me number body r = cond (r == me) [] (Numbered number body ∷ [])
+
+-- the frames of a body and of the count that is owed
+abbrev pub sent_frames : Sent → ℕ → List Frame
+sent_frames s r = owed s.got r ++ frame_to s.me s.number s.body r
 
 -- the number is the next one on the link to every other process
 abbrev pub IsNumbered : ℕ → ℕ → Sending → Type 0

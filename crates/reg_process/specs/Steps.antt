@@ -4,6 +4,7 @@ use Rattle.reg_base.specs.declared.stamps.Delivered.{Delivered}
 use Rattle.reg_process.specs.declared.steps.Reply.{Reply}
 use Rattle.reg_base.specs.declared.stamps.Stamp.{Stamp}
 use Rattle.reg_base.specs.declared.memory.Op.{Op}
+use Rattle.reg_frames.specs.declared.bodies.Body.{Body}
 use Rattle.reg_frames.specs.declared.bodies.Body.TheVariants.{Cast, Ack}
 use Rattle.reg_front.specs.declared.starts.Start.{Start}
 use Rattle.reg_front.specs.declared.starts.Start.TheVariants.{Cast as Casts, CastAndAnswer as CastsAndAnswers}
@@ -77,13 +78,18 @@ pub record MakesCast (s : State) (op : Op) (runs : Bool) (made : Stamp) (frames 
 abbrev pub with_cast : State → ℕ → ℕ → Op → State
 with_cast s from t op = record (queues (max s.clock t + 1) (Ack (max s.clock t + 1)) (accepts from t s)) { held = insert (cast_at t from op) s.held }
 
--- a body was accepted, with its cast or with none
+-- a body was accepted with its cast
 pub record TakesCast (s : State) (from t : ℕ) (op : Op) (frames : List Put) (s' : State) : Type 0 where
   pub room : max s.clock t < LAST_TIME
   pub state : s' ≡ with_cast s from t op
   pub put : frames ≡ puts (both_frames (got_frames from ((peer_at s from).expected + 1)) (data_frames s (Some (Ack (max s.clock t + 1))))) (length s.peers)
 
+-- a body without one
 pub record TakesAck (s : State) (from t : ℕ) (frames : List Put) (s' : State) : Type 0 where
   pub room : max s.clock t < LAST_TIME
   pub state : s' ≡ accepts from t s
   pub put : frames ≡ puts (got_frames from ((peer_at s from).expected + 1)) (length s.peers)
+
+abbrev pub TakesBody : State → ℕ → Body → List Put → State → Type 0
+TakesBody s from (Cast t op) frames s' = TakesCast s from t op frames s'
+TakesBody s from (Ack t) frames s' = TakesAck s from t frames s'

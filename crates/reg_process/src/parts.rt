@@ -4,10 +4,11 @@ ghost use Rattle.reg_process.specs.Process.{pending_of, peer_at, next_of, unsett
 ghost use Rattle.reg_process.specs.Parts.{state_of, first_parts};
 ghost use Rattle.reg_process.specs.Puts.{puts};
 
-use crate::outcomes::Put;
+use crate::outcomes::{Outcome, Put};
 use crate::puts::{new_inboxes, new_outboxes, pending_in, resend_all};
 use crate::running::Current;
-use reg_base::{Clock, Delivered, Registers, Shape};
+use crate::steps::Reply;
+use reg_base::{Clock, Registers, Shape};
 use reg_holdback::Holdback;
 use reg_links::{Inbox, Outboxes};
 use std::alloc::{AllocError, Allocator};
@@ -124,10 +125,18 @@ impl<A: Allocator + Copy> Core<A> {
         resend_all(self.alloc, &self.outboxes, self.me)
     }
 
-    /// An empty list on the process's allocator.
-    pub(crate) fn none(&self) -> Vec<Delivered, A>
-        ensures { result.items ≡ [] }
+    /// What goes out of an event without a cast or a delivery.
+    pub(crate) fn quiet(&self, frames: Vec<Put, A>, reply: Option<Reply>) -> Outcome<A>
+        ensures put { result.frames.items ≡ frames.items }
+        ensures made { result.cast ≡ None }
+        ensures casts { result.delivered.items ≡ [] }
+        ensures answer { result.reply ≡ reply }
     {
-        Vec::new(self.alloc)
+        Outcome {
+            frames,
+            cast: None,
+            delivered: Vec::new(self.alloc),
+            reply,
+        }
     }
 }

@@ -90,21 +90,11 @@ impl<A: Allocator + Copy> Core<A> {
             }
             Start::Look => {
                 let reply = self.look(op);
-                Ok(Outcome {
-                    frames: Vec::new(self.alloc),
-                    cast: None,
-                    delivered: Vec::new(self.alloc),
-                    reply: Some(reply),
-                })
+                Ok(self.quiet(Vec::new(self.alloc), Some(reply)))
             }
             Start::Hold => {
                 self.hold(op);
-                Ok(Outcome {
-                    frames: Vec::new(self.alloc),
-                    cast: None,
-                    delivered: Vec::new(self.alloc),
-                    reply: None,
-                })
+                Ok(self.quiet(Vec::new(self.alloc), None))
             }
         }
     }
@@ -139,11 +129,11 @@ impl<A: Allocator + Copy> Core<A> {
     /// Casts an operation with its frames in an empty list, and delivers what is clear.
     fn broadcast(
         &mut self,
-        list: Vec<Put, A>,
+        mut frames: Vec<Put, A>,
         op: Op,
         runs: bool,
     ) -> Result<Outcome<A>, ProcessFault>
-        requires empty { list.items ≡ [] }
+        requires empty { frames.items ≡ [] }
         requires register { register_of op < length self.old.copy }
         requires calls { self.old.calls < MOST_OPERATIONS }
         ensures goes { IfOk result (λ o. Goes (length self.old.peers) (called self.old op (cast_start runs)) o.frames.items o.cast o.delivered.items o.reply self.new) }
@@ -151,29 +141,18 @@ impl<A: Allocator + Copy> Core<A> {
         ensures fault { IfErr result (λ fault. Stops (nat_le LAST_TIME self.old.clock) fault) }
     {
         let place = self.delivered_count();
-        let (stamp, frames) = self.cast(list, op, runs)?;
-        let Ok((delivered, due)) = self.deliver() else {
-            return Err(ProcessFault::OutOfMemory);
-        };
-        Ok(Outcome {
-            frames,
-            cast: Some(stamp),
-            delivered,
-            reply: reply_to(runs, due, place),
-        })
+        let stamp = self.cast(&mut frames, op, runs)?;
+        let mut outcome = self.finish(frames, Some(stamp))?;
+        outcome.reply = reply_to(runs, outcome.reply, place);
+        Ok(outcome)
     }
 
-    /// Makes an own cast, which the operation may run for.
-    fn cast(
-        &mut self,
-        list: Vec<Put, A>,
-        op: Op,
-        runs: bool,
-    ) -> Result<(Stamp, Vec<Put, A>), ProcessFault>
-        requires empty { list.items ≡ [] }
+    /// Makes an own cast, which the operation may run for, with its frames in an empty list.
+    fn cast(&mut self, frames: &mut Vec<Put, A>, op: Op, runs: bool) -> Result<Stamp, ProcessFault>
+        requires empty { frames.old.items ≡ [] }
         requires register { register_of op < length self.old.copy }
         requires calls { self.old.calls < MOST_OPERATIONS }
-        ensures { MatchResult result (λ r. MakesCast self.old op runs r.0 r.1.items self.new) (λ fault. Stops (nat_le LAST_TIME self.old.clock) fault) }
+        ensures { MatchResult result (λ stamp. MakesCast self.old op runs stamp frames.new.items self.new) (λ fault. Stops (nat_le LAST_TIME self.old.clock) fault) }
     {
         let Ok(time) = self.clock.tick() else {
             return Err(ProcessFault::ClockFull);
@@ -183,8 +162,7 @@ impl<A: Allocator + Copy> Core<A> {
             process: self.me,
         };
         let body = Body::Cast { time, op };
-        let queued = queue_on_all(list, &mut self.outboxes, self.me, body, None);
-        let Ok(frames) = queued else {
+        let Ok(()) = queue_on_all(frames, &mut self.outboxes, self.me, body, None) else {
             return Err(ProcessFault::OutOfMemory);
         };
         let Ok(()) = self.waiting.cast(stamp, op) else {
@@ -193,6 +171,6 @@ impl<A: Allocator + Copy> Core<A> {
         self.unsettled += 1;
         self.calls += 1;
         self.running = own(runs, stamp, op);
-        Ok((stamp, frames))
+        Ok(stamp)
     }
 }
