@@ -127,8 +127,12 @@ pub fn queue_on_all<A: Allocator + Copy>(
 {
     let processes = outboxes.processes();
     let count = processes.saturating_sub(1) + usize::from(got.is_some());
-    frames.reserve(count)?;
-    let number = queue_for_others(outboxes, me, body)?;
+    let Ok(()) = frames.reserve(count) else {
+        return Err(AllocError);
+    };
+    let Ok(number) = queue_for_others(outboxes, me, body) else {
+        return Err(AllocError);
+    };
     let sent = Sent {
         me,
         number,
@@ -206,7 +210,7 @@ pub fn new_inboxes<A: Allocator + Copy>(alloc: A, count: u32) -> Result<Vec<Inbo
 {
     let mut all = Vec::with_capacity(alloc, count as usize)?;
     for _i in 0..count {
-        all.push(Inbox::new())?;
+        all.push_reserved(Inbox::new());
     }
     Ok(all)
 }

@@ -10,8 +10,8 @@ queue_for_others-requires-clause-me g c = let n = length-outs c.args.me c.args.o
 pub overflow_cast-processes : goal.overflow_cast-processes
 overflow_cast-processes g c = let n = length-outs c.args.me c.args.outboxes.now in let e = c.processes-processes.ensures in let h = c.requires.few in omega (arith, n, e, h)
 
-pub returns-in_err-number-clause-length : goal.returns-in_err-number-clause-length
-returns-in_err-number-clause-length g c = length-outs c.args.me c.queue_for_others.new.outboxes ∙ c.queue_for_others.ensures.processes ∙ sym (length-outs c.args.me c.args.outboxes.now)
+pub returns-in_default-queue_for_others-clause-length : goal.returns-in_default-queue_for_others-clause-length
+returns-in_default-queue_for_others-clause-length g c = length-outs c.args.me c.queue_for_others.new.outboxes ∙ c.queue_for_others.ensures.processes ∙ sym (length-outs c.args.me c.args.outboxes.now)
 
 pub returns-clause-length : goal.returns-clause-length
 returns-clause-length g c = length-outs c.args.me c.queue_for_others.new.outboxes ∙ c.queue_for_others.ensures.processes ∙ sym (length-outs c.args.me c.args.outboxes.now)
@@ -19,5 +19,5 @@ returns-clause-length g c = length-outs c.args.me c.queue_for_others.new.outboxe
 pub returns-clause-frames : goal.returns-clause-frames
 returns-clause-frames g c =
     subst (λ (fs : List Put). OnOk c.put_all.result (c.put_all.new.frames.items ≡ fs))
-    (sent_all c.args.got c.args.me c.in_ok-number.number c.args.body c.args.outboxes.now c.processes-processes.result c.processes-processes.ensures c.in_ok-number.ensures.number)
+    (sent_all c.args.got c.args.me c.in-Ok-queue_for_others.number c.args.body c.args.outboxes.now c.processes-processes.result c.processes-processes.ensures c.in-Ok-queue_for_others.ensures.number)
     c.put_all.ensures
