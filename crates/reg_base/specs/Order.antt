@@ -1,4 +1,4 @@
--- The order of stamps, and lists of casts in that order.
+-- The order of stamps, lists of casts in that order, and what is clear.
 use Rattle.std.specs.Prelude.{◌≡◌, ℕ, zero, suc, true, ◌<◌, ◌≤◌, Bool, ◌&&◌, ◌||◌, ◌==◌, nat_lt, nat_le, cond, ◌⊎◌, List, [], ◌∷◌, ◌++◌}
 use Rattle.reg_base.specs.declared.stamps.Stamp.{Stamp}
 use Rattle.reg_base.specs.declared.stamps.Delivered.{Delivered}
@@ -43,6 +43,19 @@ Rising (x ∷ xs) = ((c : Delivered) → In c xs → Below x.stamp c.stamp) × R
 abbrev pub insert : Delivered → List Delivered → List Delivered
 insert c [] = c ∷ []
 insert c (x ∷ xs) = cond (below c.stamp x.stamp) (c ∷ x ∷ xs) (x ∷ insert c xs)
+
+-- A stamp is clear for one of n processes when every other one is known to have passed it: the stamp of the last body from
+-- it, whose time is `seen` of it, is not below.
+abbrev pub IsClear : ℕ → (ℕ → ℕ) → ℕ → Stamp → Type 0
+IsClear me seen n stamp = (r : ℕ) → r < n → (r ≡ me → ⊥) → AtMost stamp (stamp_at (seen r) r)
+
+-- the same as a test
+abbrev pub is_clear : ℕ → (ℕ → ℕ) → ℕ → Stamp → Bool
+is_clear me seen n stamp = all_below (λ r. (r == me) || at_most stamp (stamp_at (seen r) r)) n
+
+-- no cast of the list is clear
+abbrev pub NoneClear : ℕ → (ℕ → ℕ) → ℕ → List Delivered → Type 0
+NoneClear me seen n cs = (c : Delivered) → In c cs → IsClear me seen n c.stamp → ⊥
 
 abbrev pub IsPrefixOf : List Delivered → List Delivered → Type 0
 IsPrefixOf xs ys = (rest : List Delivered) × (xs ++ rest ≡ ys)

@@ -1,8 +1,8 @@
 //! The hold-back queue: an ordered map from stamp to operation.
-ghost use Rattle.std.specs.Prelude.{◌≡◌, ◌<◌, ◌≤◌, [], length, replicate, IfOk, IfSome, IfNone, MatchResult, MatchOption, if◌then◌else◌, is_ok, option_map, Some, None, IfErr, IsTrue, false};
+ghost use Rattle.std.specs.Prelude.{◌≡◌, ◌<◌, ◌≤◌, [], length, replicate, slice_index, IfOk, IfSome, IfNone, MatchResult, MatchOption, if◌then◌else◌, is_ok, option_map, Some, None, IfErr, IsTrue, false};
 ghost use Rattle.reg_base.specs.declared.limits.TheConstants.{MOST_PROCESSES};
-ghost use Rattle.reg_base.specs.Order.{Rising};
-ghost use Rattle.reg_holdback.specs.Waiting.{is_clear as is_clear_by, cast_of, ready_of, without_first, with_cast, received, receive_fault, refusal_of, IsLatestOwn, seen_of, IsReady, NoneClear};
+ghost use Rattle.reg_base.specs.Order.{Rising, is_clear as is_clear_by};
+ghost use Rattle.reg_holdback.specs.Waiting.{cast_of, ready_of, without_first, with_cast, received, receive_fault, refusal_of, IsLatestOwn, seen_of, IsReady, NoneClear};
 
 use reg_base::{Op, Shape, Stamp};
 use std::alloc::{AllocError, Allocator, Global};
@@ -49,7 +49,7 @@ impl<A: Allocator + Copy> Model for Holdback<A> {
 
 /// Whether one of the other processes is not known to have passed a stamp.
 fn is_behind(seen: &[u64], me: u8, stamp: Stamp, process: u8) -> bool
-    ensures { IsTrue result → is_clear_by me seen.now stamp ≡ false }
+    ensures { IsTrue result → is_clear_by me (slice_index seen.now) (length seen.now) stamp ≡ false }
 {
     if process == me || process as usize >= seen.len() {
         return false;
@@ -62,7 +62,7 @@ fn is_behind(seen: &[u64], me: u8, stamp: Stamp, process: u8) -> bool
 /// Whether every other process is known to have passed a stamp. The one that was behind last is looked at first.
 fn is_clear(seen: &[u64], me: u8, stamp: Stamp, behind: &mut u8) -> bool
     requires { length seen.now ≤ MOST_PROCESSES }
-    ensures { result ≡ is_clear_by me seen.now stamp }
+    ensures { result ≡ is_clear_by me (slice_index seen.now) (length seen.now) stamp }
 {
     if is_behind(seen, me, stamp, *behind) {
         return false;

@@ -6,14 +6,15 @@ use Rattle.std.proofs.lemmas.Bool.Decides.{nat_tests}
 use Rattle.std.proofs.lemmas.List.{append-nil}
 use Rattle.reg_frames.specs.declared.bodies.Frame.TheVariants.{Got}
 use Rattle.reg_base.specs.declared.limits.TheConstants.{LAST_TIME}
-use Rattle.reg_process.specs.Process.{State, Peer, no_peer, peer_at, seen_at, got_frames, stamp_at, accepts, acknowledged}
+use Rattle.reg_process.specs.Process.{State, Peer, no_peer, peer_at, got_frames, stamp_at, acknowledged}
 use Rattle.reg_process.specs.Process as process
 use Rattle.reg_links.specs.Link.{Unacknowledged, next_of}
 use Rattle.reg_links.specs.Link as link
 use Rattle.reg_holdback.specs.Waiting.{Waiting}
 use Rattle.reg_holdback.specs.Waiting as waiting
 use Rattle.reg_process.specs.declared.outcomes.Put.{Put}
-use Rattle.reg_process.specs.Parts.{Parts, Good, state_of, merged, nothing}
+use Rattle.reg_process.specs.Parts.{Parts, state_of, merged, nothing}
+use Rattle.reg_process.specs.Inner.{Good}
 use Rattle.reg_process.specs.Puts.{puts, put_to}
 use Rattle.reg_process.specs.Steps.{TakesAck}
 use Rattle.reg_process.proofs.Deliveries.{length-merged}

@@ -10,9 +10,11 @@ use Rattle.reg_process.specs.Process.{numbered_from, resent}
 use Rattle.reg_base.specs.declared.limits.TheConstants.{MOST_RESENT, MOST_PROCESSES}
 use Rattle.reg_links.specs.Link.{Unacknowledged, next_of}
 use Rattle.reg_process.specs.declared.outcomes.Put.{Put}
-use Rattle.reg_process.specs.Parts.{Parts, Good, state_of, nothing, first_parts}
+use Rattle.reg_process.specs.Parts.{Parts, state_of, nothing, first_parts}
+use Rattle.reg_process.specs.Inner.{Good}
 use Rattle.reg_holdback.specs.Waiting.{Waiting}
-use Rattle.reg_process.specs.Puts.{puts, put_to, again_at, again_frames}
+use Rattle.reg_process.specs.Puts.{puts, put_to}
+use Rattle.reg_process.specs.Queued.{again_at, again_frames}
 use Rattle.reg_process.proofs.Deliveries.{length-merged}
 use Rattle.reg_process.proofs.Sends.{puts_same}
 use Rattle.reg_process.proofs.Acks.{merged_out_at}

@@ -1,6 +1,6 @@
 -- A call, from its cast and its deliveries.
 use Rattle.std.proofs.Common.{◌≡◌, ℕ, ◌<◌, ◌≤◌, ◌+◌, Bool, true, false, zero, suc, [], ◌∷◌, List, length, Option, Some, None, refl, sym, ap, ◌∙◌, subst, arith}
-use Rattle.std.specs.Prelude.{cond, ◌==◌, ◌||◌, not, nat_lt, nat_le, nat_eq, slice_get, slice_index}
+use Rattle.std.specs.Prelude.{Result, Ok, Err, IfOk, cond, ◌==◌, ◌||◌, not, nat_lt, nat_le, nat_eq, slice_get, slice_index}
 use Rattle.std.proofs.lemmas.Bool.Decides.{nat_tests}
 use Rattle.std.proofs.lemmas.Bool.{cond-false, ne_eqb}
 use Rattle.std.proofs.lemmas.List.{append-nil}
@@ -9,40 +9,40 @@ use Rattle.reg_base.specs.declared.memory.Op.{Op}
 use Rattle.reg_base.specs.declared.stamps.Delivered.{Delivered}
 use Rattle.reg_process.specs.declared.steps.Reply.{Reply}
 use Rattle.reg_frames.specs.declared.bodies.Body.{Body}
+use Rattle.reg_frames.specs.declared.bodies.Body.TheVariants.{Cast, Ack}
 use Rattle.reg_front.specs.declared.starts.Start.{Start}
 use Rattle.reg_front.specs.declared.starts.Start.TheVariants.{Look as Looks, Hold as Holds}
 use Rattle.reg_process.specs.declared.steps.Step.TheVariants.{Call, Take}
 use Rattle.reg_frames.specs.declared.bodies.Frame.{Frame}
-use Rattle.reg_process.specs.Process.{Held}
-use Rattle.reg_process.specs.Delivery.{first_of}
-use Rattle.reg_process.specs.Process.{State, called, no_frames, look, unsettled, seen_at, time_of, peer_at, taken, accepted, quiet, got_frames}
+use Rattle.reg_process.specs.Process.{Held, State, called, no_frames, look, unsettled, seen_at, time_of, peer_at, taken, accepted, quiet, got_frames, clear_casts, delivered_state, due}
+use Rattle.reg_process.specs.Faults.{first_of, early_fault, full_at, call_fault, is_out, early_body, frame_fault, take_fault, is_cast, is_numbered}
 use Rattle.reg_holdback.specs.Waiting.{seen_of}
-use Rattle.reg_process.specs.Parts.{Parts, Good, state_of}
+use Rattle.reg_process.specs.Parts.{Parts, state_of}
+use Rattle.reg_process.specs.Inner.{Good}
 use Rattle.reg_process.proofs.Deliveries.{merged_seen}
 use Rattle.reg_process.specs.Puts.{puts, put_to}
 use Rattle.reg_frames.specs.declared.bodies.Frame.TheVariants.{Numbered, Got}
 use Rattle.reg_process.proofs.Acks.{one_put}
 use Rattle.reg_process.specs.declared.faults.ProcessFault.{ProcessFault}
 use Rattle.reg_process.specs.declared.faults.ProcessFault.TheVariants.{Failed, NoProcess, Busy, NoRegister, TooManyOperations, Ahead, Stale, ClockFull, OutOfMemory}
-use Rattle.reg_process.specs.Faults.{early_fault, full_at, StopsAt, call_fault, is_out, early_body, frame_fault, take_fault, is_peer, is_cast, is_numbered}
+use Rattle.reg_process.specs.Steps.{StopsAt, is_peer, Goes, TakesBody, Delivers}
 use Rattle.reg_process.specs.declared.outcomes.Put.{Put}
-use Rattle.reg_process.specs.Steps.{due}
-use Rattle.reg_process.specs.Events.{Goes, Steps, Refused, process_fault}
+use Rattle.reg_process.specs.Events.{Steps, Refused, process_fault}
 
 pub nothing_put : (n : ℕ) → puts no_frames n ≡ []
 nothing_put zero = refl
 nothing_put (suc n) = append-nil (puts no_frames n) ∙ nothing_put n
 
-pub looks : (s : State) (op : Op) (start : Start) (frames : List Put) (ds : List Delivered) (reply : Reply) (s' : State) → start ≡ Looks → frames ≡ [] → ds ≡ [] → reply ≡ look s op → s' ≡ record s { calls = s.calls + 1; running = None } → Goes (length s.peers) (called s op start) frames None ds (Some reply) s'
-looks s op start frames ds reply s' e f d r q = subst (λ st. Goes (length s.peers) (called s op st) frames None ds (Some reply) s') (sym e) (record {
+pub looks : (s : State) (op : Op) (start : Start) (frames : List Put) (cast : Option Stamp) (ds : List Delivered) (reply : Option Reply) (s' : State) → start ≡ Looks → frames ≡ [] → cast ≡ None → ds ≡ [] → reply ≡ Some (look s op) → s' ≡ record s { calls = s.calls + 1; running = None } → Goes (length s.peers) (called s op start) frames cast ds reply s'
+looks s op start frames cast ds reply s' e f m d r q = subst (λ st. Goes (length s.peers) (called s op st) frames cast ds reply s') (sym e) (record {
   state = q;
-  outcome = record { put = f ∙ sym (nothing_put (length s.peers)); made = refl; casts = d; answer = ap Some r };
+  outcome = record { put = f ∙ sym (nothing_put (length s.peers)); made = m; casts = d; answer = r };
 })
 
-pub holds : (s : State) (op : Op) (start : Start) (frames : List Put) (ds : List Delivered) (s' : State) → start ≡ Holds → frames ≡ [] → ds ≡ [] → s' ≡ record s { calls = s.calls + 1; running = Some (Held op) } → Goes (length s.peers) (called s op start) frames None ds None s'
-holds s op start frames ds s' e f d q = subst (λ st. Goes (length s.peers) (called s op st) frames None ds None s') (sym e) (record {
+pub holds : (s : State) (op : Op) (start : Start) (frames : List Put) (cast : Option Stamp) (ds : List Delivered) (reply : Option Reply) (s' : State) → start ≡ Holds → frames ≡ [] → cast ≡ None → ds ≡ [] → reply ≡ None → s' ≡ record s { calls = s.calls + 1; running = Some (Held op) } → Goes (length s.peers) (called s op start) frames cast ds reply s'
+holds s op start frames cast ds reply s' e f m d r q = subst (λ st. Goes (length s.peers) (called s op st) frames cast ds reply s') (sym e) (record {
   state = q;
-  outcome = record { put = f ∙ sym (nothing_put (length s.peers)); made = refl; casts = d; answer = refl };
+  outcome = record { put = f ∙ sym (nothing_put (length s.peers)); made = m; casts = d; answer = r };
 })
 
 module _ (start : Op → ℕ → Start) (f : Bool) (s : State) (room room' : ℕ) (op : Op) (st : Start) (s' : State) (runs : f ≡ false) (early : None ≡ early_fault s op s.running) (is : st ≡ start op (unsettled s)) where
@@ -104,14 +104,29 @@ in_time s from x t body o e q l =
     sym (ap (λ b. cond b (Some NoRegister) (cond (nat_le (time_of body) (seen_at s from)) (Some Stale) None)) o ∙ ap (λ b. cond b (Some Stale) None) h)
 
 -- Frames.
-pub drop_goes : (s : State) (from number expected : ℕ) (body : Body) (frames : List Put) (ds : List Delivered) → expected ≡ (peer_at s from).expected → (number ≡ expected → ⊥) → from < length s.peers → frames ≡ put_to from (Got expected) ∷ [] → ds ≡ [] → Goes (length s.peers) (taken s from (Numbered number body)) frames None ds None s
-drop_goes s from number expected body frames ds e ne l f d =
+pub drop_goes : (s : State) (from number expected : ℕ) (body : Body) (frames : List Put) (cast : Option Stamp) (ds : List Delivered) (reply : Option Reply) → expected ≡ (peer_at s from).expected → (number ≡ expected → ⊥) → from < length s.peers → frames ≡ put_to from (Got expected) ∷ [] → cast ≡ None → ds ≡ [] → reply ≡ None → Goes (length s.peers) (taken s from (Numbered number body)) frames cast ds reply s
+drop_goes s from number expected body frames cast ds reply e ne l f m d a =
     let no : (number == (peer_at s from).expected) ≡ false = ne_eqb number (peer_at s from).expected (λ q. ne (q ∙ sym e)) in
     let r : quiet s (got_frames from (peer_at s from).expected) ≡ taken s from (Numbered number body) = sym (ap (λ b. cond b (accepted s from body) (quiet s (got_frames from (peer_at s from).expected))) no) in
-    subst (λ x. Goes (length s.peers) x frames None ds None s) r (record {
+    subst (λ x. Goes (length s.peers) x frames cast ds reply s) r (record {
       state = refl;
-      outcome = record { put = f ∙ sym (one_put from expected (length s.peers) l) ∙ ap (λ n. puts (got_frames from n) (length s.peers)) e; made = refl; casts = d; answer = refl };
+      outcome = record { put = f ∙ sym (one_put from expected (length s.peers) l) ∙ ap (λ n. puts (got_frames from n) (length s.peers)) e; made = m; casts = d; answer = a };
     })
+
+pub both_ok : {T E : Type 0} (r : Result T E) (P R Q : T → Type 0) → IfOk r P → IfOk r R → ((x : T) → P x → R x → Q x) → IfOk r Q
+both_ok (Ok x) P R Q a b f = f x a b
+both_ok (Err e) P R Q a b f = tt
+
+-- a body was accepted, and what is clear was delivered
+pub accepted_goes : (s : State) (from : ℕ) (body : Body) (put frames : List Put) (s1 s2 : State) (cast : Option Stamp) (ds : List Delivered) (reply : Option Reply) → TakesBody s from body put s1 → frames ≡ put → cast ≡ None → Delivers s1 ds reply s2 → Goes (length s.peers) (accepted s from body) frames cast ds reply s2
+accepted_goes s from (Cast t op) put frames s1 s2 cast ds reply took same made d = record {
+  state = d.state ∙ ap delivered_state took.state;
+  outcome = record { put = same ∙ took.put; made = made; casts = d.casts ∙ ap clear_casts took.state; answer = d.answer ∙ ap due took.state };
+}
+accepted_goes s from (Ack t) put frames s1 s2 cast ds reply took same made d = record {
+  state = d.state ∙ ap delivered_state took.state;
+  outcome = record { put = same ∙ took.put; made = made; casts = d.casts ∙ ap clear_casts took.state; answer = d.answer ∙ ap due took.state };
+}
 
 pub within_peer : (n from me : ℕ) → from < n → not (nat_eq from me) ≡ not (nat_le n from || from == me)
 within_peer n from me l = let e : nat_le n from ≡ false = grind (arith, nat_tests) in sym (ap (λ b. not (b || from == me)) e)

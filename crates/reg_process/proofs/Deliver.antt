@@ -9,9 +9,10 @@ use Rattle.reg_base.specs.declared.memory.Op.{Op}
 use Rattle.reg_base.specs.declared.stamps.Delivered.{Delivered}
 use Rattle.reg_process.specs.declared.steps.Reply.{Reply}
 use Rattle.reg_base.specs.Order.{In, Rising, Below, AtMost, below, at_most}
-use Rattle.reg_base.specs.Memory.{memory_after, after}
-use Rattle.reg_process.specs.Process.{State, Running, Own, Held, is_own, is_clear, clear_casts, delivered_state, reply_of, reply_after, still, unsettled, casts_before, up_to_own, ops_of}
-use Rattle.reg_process.specs.Delivery.{is_stamp, reply_one, popped, first_of, Waits}
+use Rattle.reg_base.specs.Memory.{answer_of, memory_after, after}
+use Rattle.reg_process.specs.Process.{State, Running, Own, Held, is_own, is_clear, clear_casts, delivered_state, reply_of, reply_after, still, unsettled, casts_before, up_to_own, ops_of, is_stamp}
+use Rattle.reg_process.specs.Delivery.{reply_one, popped, Waits}
+use Rattle.reg_process.specs.Faults.{first_of}
 use Rattle.reg_base.proofs.Orders.{Decides-below, Decides-at_most, below_irrefl, below_asym, same_stamp}
 use Rattle.reg_base.proofs.Lists.{none_kept, in_filter}
 use Rattle.reg_process.proofs.Pops.{first_clear}
@@ -88,11 +89,19 @@ module _ (s : State) (c : Delivered) (cs : List Delivered) (above : (d : Deliver
     | inr j ↦ below_asym c.stamp d.stamp (above d j) (subst (λ (x : Stamp). Below d.stamp x) (sym e) b)
   ]))
 
+  -- the reply before c
+  abbrev reply_now : Op → Reply
+  reply_now op = record { answer = answer_of op s.copy; place = s.delivered }
+
+  reply_first : (op : Op) → reply_after s [] op ≡ reply_now op
+  reply_first op = let e : s.delivered + 0 ≡ s.delivered = omega arith in ap (λ n. record (reply_now op) { place = n }) e
+
   own_here : (stamp : Stamp) (op : Op) (b : Bool) → is_stamp stamp c ≡ b → (held : List Delivered) →
-      reply_of s (c ∷ cs) (Some (Own stamp op)) ≡ first_of (cond b (Some (reply_after s [] op)) None) (reply_of (record after_one { held = held }) cs (still (cond b (Some (reply_after s [] op)) None) (Some (Own stamp op))))
+      reply_of s (c ∷ cs) (Some (Own stamp op)) ≡ first_of (cond b (Some (reply_now op)) None) (reply_of (record after_one { held = held }) cs (still (cond b (Some (reply_now op)) None) (Some (Own stamp op))))
   own_here stamp op true e held =
       cond-true (is_stamp stamp c || list_any (is_stamp stamp) cs) (Some (reply_after s (casts_before stamp (c ∷ cs)) op)) None (or_left (is_stamp stamp c) (list_any (is_stamp stamp) cs) e)
       ∙ ap (λ l. Some (reply_after s l op)) (none_before stamp (stamp_is stamp c e))
+      ∙ ap Some (reply_first op)
   own_here stamp op false e held =
       ap (λ b. cond (b || list_any (is_stamp stamp) cs) (Some (reply_after s (casts_before stamp (c ∷ cs)) op)) None) e
       ∙ go (list_any (is_stamp stamp) cs) refl

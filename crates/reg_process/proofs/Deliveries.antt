@@ -1,26 +1,26 @@
 -- One delivery, by the parts of a process.
 use Rattle.std.proofs.Common.{◌≡◌, ℕ, zero, suc, ◌+◌, ◌-◌, ◌<◌, ◌≤◌, Bool, true, false, List, [], ◌∷◌, length, Option, Some, None, refl, sym, ap, ◌∙◌, subst, inl, inr, arith}
 use Rattle.std.specs.List.{filter}
-use Rattle.std.specs.Prelude.{cond, ◌==◌, ◌||◌, slice_index, slice_index_or, count_by}
+use Rattle.std.specs.Prelude.{cond, ◌==◌, slice_index, slice_index_or, count_by}
 use Rattle.std.proofs.lemmas.Bool.{eq-eqb, false≢true}
 use mir.Val.{bool_byte}
 use Rattle.reg_base.specs.declared.stamps.Stamp.{Stamp}
 use Rattle.reg_base.specs.declared.stamps.Delivered.{Delivered}
 use Rattle.reg_process.specs.declared.steps.Reply.{Reply}
-use Rattle.reg_process.specs.Process.{Running}
-use Rattle.reg_process.specs.Process.{Own, Held}
+use Rattle.reg_process.specs.Process.{Running, Own, Held, State, no_peer, seen_at, is_clear, clear_casts, still, delivered_state, is_stamp, due}
 use Rattle.reg_base.specs.Memory.{Memory, after, register_of, answer_of}
 use Rattle.reg_base.proofs.Operations.{length-after}
-use Rattle.reg_base.specs.Order.{In, Rising, at_most}
-use Rattle.reg_process.specs.Process.{State, no_peer, seen_at, stamp_at, all_below, is_clear, clear_casts, still, delivered_state}
-use Rattle.reg_process.specs.Delivery.{is_stamp, reply_one, popped, first_of, Waits}
+use Rattle.reg_base.specs.Order.{In, Rising}
+use Rattle.reg_base.specs.Order as order
+use Rattle.reg_process.specs.Delivery.{reply_one, popped, Waits, reply_by, delivered_parts}
+use Rattle.reg_process.specs.Faults.{first_of}
 use Rattle.reg_process.proofs.Pops.{none_clear}
 use Rattle.reg_process.proofs.Deliver.{count_cons, one_clear, one_state, one_due, end_due, end_state}
 use Rattle.reg_links.specs.Link.{Unacknowledged}
 use Rattle.reg_holdback.specs.Waiting.{Waiting, ready_in, ready_of, tail_of, without_first}
-use Rattle.reg_holdback.specs.Waiting as waiting
-use Rattle.reg_process.specs.Parts.{Parts, Good, state_of, merged, RunsWell, reply_by, delivered_parts, is_from}
-use Rattle.reg_process.specs.Steps.{DeliversOne, DeliversNone, due}
+use Rattle.reg_process.specs.Parts.{Parts, state_of, merged}
+use Rattle.reg_process.specs.Inner.{Good, RunsWell, is_from}
+use Rattle.reg_process.specs.Steps.{DeliversOne, DeliversNone}
 
 pub merged_seen : (ts es : List ℕ) (os : List Unacknowledged) (r : ℕ) → length es ≡ length ts → length os ≡ length ts → (slice_index_or (merged ts es os) r no_peer).seen ≡ slice_index ts r
 merged_seen [] es os r a b = refl
@@ -35,18 +35,14 @@ length-merged (t ∷ ts) [] os a b = absurd (omega arith)
 length-merged (t ∷ ts) (e ∷ es) [] a b = absurd (omega arith)
 length-merged (t ∷ ts) (e ∷ es) (o ∷ os) a b = ap suc (length-merged ts es os (omega arith) (omega arith))
 
-same_tests : (f g : ℕ → Bool) (n : ℕ) → ((r : ℕ) → f r ≡ g r) → all_below f n ≡ all_below g n
-same_tests f g n h = let e : f ≡ g = λ i r. h r i in ap (λ (t : ℕ → Bool). all_below t n) e
-
 module _ (p : Parts) (good : Good p) where
   -- the queue's test is the definition's
-  pub clear_is : (stamp : Stamp) → waiting.is_clear p.waiting.me p.waiting.seen stamp ≡ is_clear (state_of p) stamp
+  pub clear_is : (stamp : Stamp) → order.is_clear p.waiting.me (slice_index p.waiting.seen) (length p.waiting.seen) stamp ≡ is_clear (state_of p) stamp
   clear_is stamp =
-      let s = state_of p in
-      let seen : (r : ℕ) → slice_index p.waiting.seen r ≡ seen_at s r = λ r. sym (merged_seen p.waiting.seen p.expected p.outs r good.ins good.out) in
-      same_tests (λ r. (r == p.waiting.me) || at_most stamp (stamp_at (slice_index p.waiting.seen r) r)) (λ r. (r == s.me) || at_most stamp (stamp_at (seen_at s r) r)) (length p.waiting.seen)
-      (λ r. ap (λ m. (r == m) || at_most stamp (stamp_at (slice_index p.waiting.seen r) r)) good.same ∙ ap (λ t. (r == s.me) || at_most stamp (stamp_at t r)) (seen r))
-      ∙ ap (λ n. all_below (λ r. (r == s.me) || at_most stamp (stamp_at (seen_at s r) r)) n) (sym (length-merged p.waiting.seen p.expected p.outs good.ins good.out))
+      let seen : slice_index p.waiting.seen ≡ seen_at (state_of p) = λ i r. sym (merged_seen p.waiting.seen p.expected p.outs r good.ins good.out) i in
+      ap (λ me. order.is_clear me (slice_index p.waiting.seen) (length p.waiting.seen) stamp) good.same
+      ∙ ap (λ (f : ℕ → ℕ). order.is_clear p.me f (length p.waiting.seen) stamp) seen
+      ∙ ap (λ n. order.is_clear p.me (seen_at (state_of p)) n stamp) (sym (length-merged p.waiting.seen p.expected p.outs good.ins good.out))
 
   pub waits : Waits (state_of p) p.running
   waits = go p.running good.runs
@@ -56,13 +52,13 @@ module _ (p : Parts) (good : Good p) where
       go (Some (Own stamp op)) h = tt
       go (Some (Held op)) h = let e = good.unsettled in let z = h.1 in omega (arith, e, z)
 
-pub ready_parts : (w : Waiting) (c : Delivered) → Some c ≡ ready_of w → (rest : List Delivered) × (w.held ≡ c ∷ rest) × (waiting.is_clear w.me w.seen c.stamp ≡ true)
+pub ready_parts : (w : Waiting) (c : Delivered) → Some c ≡ ready_of w → (rest : List Delivered) × (w.held ≡ c ∷ rest) × (order.is_clear w.me (slice_index w.seen) (length w.seen) c.stamp ≡ true)
 ready_parts w c h = go w.held h
   where
-    go : (held : List Delivered) → Some c ≡ ready_in w.me w.seen held → (rest : List Delivered) × (held ≡ c ∷ rest) × (waiting.is_clear w.me w.seen c.stamp ≡ true)
+    go : (held : List Delivered) → Some c ≡ ready_in w.me w.seen held → (rest : List Delivered) × (held ≡ c ∷ rest) × (order.is_clear w.me (slice_index w.seen) (length w.seen) c.stamp ≡ true)
     go [] k = absurd (cc)
-    go (d ∷ ds) k = elim (waiting.is_clear w.me w.seen d.stamp) as (λ b. waiting.is_clear w.me w.seen d.stamp ≡ b → Some c ≡ cond b (Some d) None → (rest : List Delivered) × ((d ∷ ds) ≡ c ∷ rest) × (waiting.is_clear w.me w.seen c.stamp ≡ true)) [
-      | true ↦ λ e q. let same : d ≡ c = cc in (ds, ap (λ (x : Delivered). x ∷ ds) same, ap (λ (x : Delivered). waiting.is_clear w.me w.seen x.stamp) (sym same) ∙ e)
+    go (d ∷ ds) k = elim (order.is_clear w.me (slice_index w.seen) (length w.seen) d.stamp) as (λ b. order.is_clear w.me (slice_index w.seen) (length w.seen) d.stamp ≡ b → Some c ≡ cond b (Some d) None → (rest : List Delivered) × ((d ∷ ds) ≡ c ∷ rest) × (order.is_clear w.me (slice_index w.seen) (length w.seen) c.stamp ≡ true)) [
+      | true ↦ λ e q. let same : d ≡ c = cc in (ds, ap (λ (x : Delivered). x ∷ ds) same, ap (λ (x : Delivered). order.is_clear w.me (slice_index w.seen) (length w.seen) x.stamp) (sym same) ∙ e)
       | false ↦ λ e q. absurd (cc)
     ] refl k
 
@@ -112,14 +108,12 @@ module _ (p : Parts) (good : Good p) (c : Delivered) (rest : List Delivered) (le
   }
 
   reply_is : (r : Option Running) → reply_by p.copy p.delivered left c r ≡ reply_one (state_of p) c rest r
-  reply_is None = refl
-  reply_is (Some (Own stamp op)) = let e : p.delivered ≡ p.delivered + 0 = omega arith in ap (λ n. cond (is_stamp stamp c) (Some (record { answer = answer_of op p.copy; place = n })) None) e
-  reply_is (Some (Held op)) = ap (λ n. cond (n == 0) (Some (record { answer = answer_of op (after c.op p.copy); place = p.delivered + 1 })) None) left_is
+  reply_is r = ap (λ n. reply_by p.copy p.delivered n c r) left_is
 
   next_is : popped (state_of p) c rest ≡ state_of (delivered_parts p c rest left)
   next_is = ap (λ (o : Option Reply). record (popped (state_of p) c rest) { running = still o p.running }) (sym (reply_is p.running))
 
-  pub delivers_one : Rising p.waiting.held → waiting.is_clear p.waiting.me p.waiting.seen c.stamp ≡ true → DeliversOne (state_of p) c (reply_by p.copy p.delivered left c p.running) (state_of (delivered_parts p c rest left))
+  pub delivers_one : Rising p.waiting.held → order.is_clear p.waiting.me (slice_index p.waiting.seen) (length p.waiting.seen) c.stamp ≡ true → DeliversOne (state_of p) c (reply_by p.copy p.delivered left c p.running) (state_of (delivered_parts p c rest left))
   delivers_one r k =
       let clear : is_clear (state_of p) c.stamp ≡ true = sym (clear_is p good c.stamp) ∙ k in
       let w = waits p good in
@@ -141,7 +135,7 @@ delivers_none p good r h =
   where
     go : (held : List Delivered) → p.waiting.held ≡ held → None ≡ ready_in p.waiting.me p.waiting.seen held → clear_casts (state_of p) ≡ []
     go [] q k = ap (filter (λ c. is_clear (state_of p) c.stamp)) q
-    go (c ∷ cs) q k = none_clear (state_of p) c cs q r (sym (clear_is p good c.stamp) ∙ no (waiting.is_clear p.waiting.me p.waiting.seen c.stamp) k)
+    go (c ∷ cs) q k = none_clear (state_of p) c cs q r (sym (clear_is p good c.stamp) ∙ no (order.is_clear p.waiting.me (slice_index p.waiting.seen) (length p.waiting.seen) c.stamp) k)
       where
         no : (b : Bool) → None ≡ cond b (Some c) None → b ≡ false
         no true x = absurd (cc)

@@ -1,6 +1,6 @@
 -- The links of a process as a list.
-use Rattle.std.proofs.Common.{◌≡◌, ℕ, zero, suc, ◌+◌, ◌-◌, ◌<◌, ◌≤◌, Bool, true, false, List, [], ◌∷◌, length, drop, take, replicate, refl, sym, ap, ◌∙◌, inl, inr, arith, length-drop, length-set, get_or-set_same, get_or-set_other}
-use Rattle.std.specs.Prelude.{Result, Ok, Err, IfOk, OnOk, OnErr, OkIff, is_ok, cond, ◌==◌, slice_index, slice_index_or, slice_set}
+use Rattle.std.proofs.Common.{◌≡◌, ℕ, zero, suc, ◌+◌, ◌-◌, ◌<◌, ◌≤◌, Bool, true, false, List, [], ◌∷◌, ◌++◌, length, drop, take, replicate, refl, sym, ap, ◌∙◌, inl, inr, arith, length-drop, length-set, get_or-set_same, get_or-set_other}
+use Rattle.std.specs.Prelude.{Option, Result, Ok, Err, IfOk, OnOk, OnErr, OkIff, is_ok, cond, ◌==◌, slice_index, slice_index_or, slice_set}
 use Rattle.std.proofs.lemmas.Bool.{cases_eq, eq-eqb, ne_eqb}
 use Rattle.std.proofs.lemmas.List.{ext_get_or, length-replicate}
 use Rattle.std.proofs.lemmas.List.FromFn.{length-map-range_with_len, get_or-map-range_with_len}
@@ -8,11 +8,12 @@ use Rattle.reg_frames.specs.declared.bodies.Body.{Body}
 use Rattle.reg_frames.specs.declared.bodies.Frame.TheVariants.{Numbered}
 use Rattle.reg_links.specs.Link.{Unacknowledged, next_of, with_queued, acknowledged}
 use Rattle.reg_links.specs.Sending.{Sending, link_to, next_all, IsQueued, IsCounted}
-use Rattle.reg_process.specs.Parts.{nothing, out_to, outs_of}
+use Rattle.reg_process.specs.Parts.{nothing}
+use Rattle.reg_process.specs.Queued.{out_to, outs_of, owed, frame_to, body_frames, sent_frames, all_frames, queued_at, queue_outs, again_at, IsGrown, IsNumbered, HasNumbers}
 use Rattle.reg_process.specs.Process.{numbered_from}
 use Rattle.reg_base.specs.declared.limits.TheConstants.{FRAME_NUMBERS, MOST_RESENT}
-use Rattle.reg_process.specs.Puts.{frame_to, body_frames, queued_at, queue_outs, again_at, IsGrown, IsNumbered, HasNumbers}
-use Rattle.reg_process.proofs.Queues.{all_queued, queued_grown}
+use Rattle.reg_process.specs.Puts.{puts}
+use Rattle.reg_process.proofs.Queues.{all_queued, queued_grown, puts_below}
 use Rattle.reg_process.proofs.Again.{replicate_at}
 
 pub length-outs : (me : ℕ) (s : Sending) → length (outs_of me s) ≡ length s.counts
@@ -125,6 +126,13 @@ frame_same me number body s r h l = elim (cases_eq r me) [
       ∙ sym (ap (λ b. cond b [] (Numbered (next_of (slice_index_or (outs_of me s) r nothing)) body ∷ [])) (eq-eqb r me e))
   | inr ne ↦ ap (λ n. cond (r == me) [] (Numbered n body ∷ [])) (h r l ne ∙ ap next_of (sym (link_is me s r l ne)))
 ]
+
+-- the frames put are those of the outboxes
+pub sent_all : (got : Option (ℕ × ℕ)) (me number : ℕ) (body : Body) (s : Sending) (n : ℕ) → n ≡ length s.counts → IsNumbered me number s → puts (sent_frames (record { me = me; number = number; body = body; got = got })) n ≡ puts (all_frames got me body (outs_of me s)) (length (outs_of me s))
+sent_all got me number body s n e h =
+    puts_below (sent_frames (record { me = me; number = number; body = body; got = got })) (all_frames got me body (outs_of me s)) n
+    (λ r l. ap (λ x. owed got r ++ x) (frame_same me number body s r h (omega (arith, e, l))))
+    ∙ ap (puts (all_frames got me body (outs_of me s))) (e ∙ sym (length-outs me s))
 
 -- one process has acknowledged more
 pub outs_counted : (me : ℕ) (s t : Sending) (from : ℕ) → (from ≡ me → ⊥) → from < length s.counts → length t.counts ≡ length s.counts → ((r : ℕ) → r < length s.counts → (r ≡ from → ⊥) → link_to t r ≡ link_to s r) → outs_of me t ≡ slice_set (outs_of me s) from (link_to t from)

@@ -1,30 +1,22 @@
 -- What is kept for a peer after each change, and what it means to be clear.
-use Rattle.std.proofs.Common.{◌≡◌, ℕ, zero, suc, ◌+◌, ◌<◌, ◌⊎◌, Bool, true, false, List, [], ◌∷◌, ◌++◌, length, refl, ap, inl, inr, arith}
-use Rattle.std.specs.Prelude.{cond, slice_index_or, ◌==◌, ◌||◌}
+use Rattle.std.proofs.Common.{◌≡◌, ℕ, zero, suc, ◌+◌, ◌<◌, Bool, true, false, List, [], ◌∷◌, ◌++◌, length, refl, ap, arith}
+use Rattle.std.specs.Prelude.{cond, slice_index_or, ◌==◌}
 use Rattle.std.specs.Bool.{Decides}
-use Rattle.std.proofs.lemmas.Bool.{cases_eq, cond-true, cond-false, eq-eqb, ne_eqb}
-use Rattle.std.proofs.lemmas.Bool.Decides.{Decides-eqb, Decides-or, Decides-like, Decides-below_and}
+use Rattle.std.proofs.lemmas.Bool.{cond-true, cond-false, eq-eqb, ne_eqb}
 use Rattle.reg_base.specs.declared.stamps.Stamp.{Stamp}
 use Rattle.reg_frames.specs.declared.bodies.Body.{Body}
-use Rattle.reg_base.specs.Order.{Below, AtMost, at_most}
-use Rattle.reg_process.specs.Process.{Peer, State, no_peer, seen_at, stamp_at, all_below, is_clear, IsClear, queue_from}
-use Rattle.reg_base.proofs.Orders.{Decides-at_most, below_at_most, at_most_trans}
+use Rattle.reg_base.specs.Order.{Below, AtMost}
+use Rattle.reg_process.specs.Process.{Peer, State, no_peer, seen_at, is_clear, IsClear, queue_from}
+use Rattle.reg_base.proofs.Orders as orders
 
 pub Decides-clear : (s : State) (stamp : Stamp) → Decides (is_clear s stamp) (IsClear s stamp)
-Decides-clear s stamp =
-    let test = λ (r : ℕ). (r == s.me) || at_most stamp (stamp_at (seen_at s r) r) in
-    let P : ℕ → Type 0 = λ r. (r ≡ s.me) ⊎ AtMost stamp (stamp_at (seen_at s r) r) in
-    Decides-like (is_clear s stamp)
-    (λ h r l ne. elim (h r l) [ inl e ↦ absurd (ne e) | inr a ↦ a ])
-    (λ h k l. elim (cases_eq k s.me) [ inl e ↦ inl e | inr ne ↦ inr (h k l ne) ])
-    (Decides-below_and test P (all_below test) (λ k. Decides-or _ _ (Decides-eqb k s.me) (Decides-at_most stamp (stamp_at (seen_at s k) k))) refl (λ _. refl) (length s.peers))
+Decides-clear s = orders.Decides-clear s.me (seen_at s) (length s.peers)
 
--- what stands below a clear stamp is clear
 pub clear_down : (s : State) (a b : Stamp) → AtMost a b → IsClear s b → IsClear s a
-clear_down s a b h c = λ r l ne. at_most_trans a b (stamp_at (seen_at s r) r) h (c r l ne)
+clear_down s = orders.clear_down s.me (seen_at s) (length s.peers)
 
 pub clear_below : (s : State) (a b : Stamp) → Below a b → IsClear s b → IsClear s a
-clear_below s a b h c = λ r l ne. below_at_most a b (stamp_at (seen_at s r) r) h (c r l ne)
+clear_below s = orders.clear_below s.me (seen_at s) (length s.peers)
 
 -- queueing leaves the own entry, and puts the body at the end of the others
 pub queue_same : (body : Body) (r me : ℕ) (ps : List Peer) (i : ℕ) → r + i ≡ me → slice_index_or (queue_from r me body ps) i no_peer ≡ slice_index_or ps i no_peer

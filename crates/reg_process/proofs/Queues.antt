@@ -1,11 +1,12 @@
 -- A body on all outboxes.
-use Rattle.std.proofs.Common.{◌≡◌, ℕ, zero, suc, ◌+◌, ◌<◌, ◌≤◌, Bool, true, false, List, [], ◌∷◌, ◌++◌, length, map, refl, sym, ap, ◌∙◌, arith, length-append, add-one}
-use Rattle.std.specs.Prelude.{cond, ◌==◌, Option, slice_index_or}
+use Rattle.std.proofs.Common.{◌≡◌, ℕ, zero, suc, ◌+◌, ◌<◌, ◌≤◌, Bool, true, false, List, [], ◌∷◌, ◌++◌, length, map, refl, ap, ◌∙◌, arith, length-append}
+use Rattle.std.specs.Prelude.{cond, ◌==◌, slice_index_or}
 use Rattle.reg_frames.specs.declared.bodies.Body.{Body}
 use Rattle.reg_links.specs.Link.{Unacknowledged, next_of, with_queued}
-use Rattle.reg_process.specs.declared.outcomes.Put.{Put}
+use Rattle.reg_frames.specs.declared.bodies.Frame.{Frame}
 use Rattle.reg_process.specs.Parts.{nothing}
-use Rattle.reg_process.specs.Puts.{puts, put_to, owed, frame_to, body_frames, all_frames, queued_at, queue_outs, IsGrown}
+use Rattle.reg_process.specs.Puts.{puts, put_to}
+use Rattle.reg_process.specs.Queued.{queued_at, queue_outs, IsGrown}
 
 grown_at : (me : ℕ) (body : Body) (r : ℕ) (o : Unacknowledged) → next_of (queued_at me body r o) ≤ next_of o + 1
 grown_at me body r o = go (r == me)
@@ -34,9 +35,9 @@ all_queued r me body (o ∷ os) (x ∷ xs) e h =
     let k : r + suc i ≡ suc r + i = omega arith in h (suc i) (omega arith) ∙ ap (λ n. queued_at me body n (slice_index_or xs i nothing)) k) in
     ap (λ q. q ∷ os) head ∙ ap (λ qs. queued_at me body r x ∷ qs) tail
 
--- the frames of one more process
-pub frames_more : (got : Option (ℕ × ℕ)) (me number : ℕ) (body : Body) (outs : List Unacknowledged) (r : ℕ) (fs gs : List Put) → frame_to me number body r ≡ body_frames me body r (slice_index_or outs r nothing) → fs ≡ puts (all_frames got me body outs) r → gs ≡ fs ++ map (put_to r) (owed got r ++ frame_to me number body r) → gs ≡ puts (all_frames got me body outs) (r + 1)
-frames_more got me number body outs r fs gs e f h =
-    h ∙ ap (λ x. fs ++ map (put_to r) (owed got r ++ x)) e
-    ∙ ap (λ x. x ++ map (put_to r) (all_frames got me body outs r)) f
-    ∙ sym (ap (puts (all_frames got me body outs)) (add-one r))
+-- the frames of the processes below n
+pub puts_below : (f g : ℕ → List Frame) (n : ℕ) → ((r : ℕ) → r < n → f r ≡ g r) → puts f n ≡ puts g n
+puts_below f g zero h = refl
+puts_below f g (suc n) h =
+    ap (λ l. l ++ map (put_to n) (f n)) (puts_below f g n (λ r l. h r (omega arith)))
+    ∙ ap (λ x. puts g n ++ map (put_to n) x) (h n (omega arith))

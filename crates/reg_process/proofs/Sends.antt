@@ -9,11 +9,10 @@ use Rattle.reg_frames.specs.declared.bodies.Body.TheVariants.{Cast, Ack}
 use Rattle.reg_frames.specs.declared.bodies.Frame.{Frame}
 use Rattle.reg_frames.specs.declared.bodies.Frame.TheVariants.{Numbered, Got}
 use Rattle.reg_base.specs.declared.stamps.Delivered.{Delivered}
-use Rattle.reg_process.specs.Process.{Running}
+use Rattle.reg_process.specs.Process.{Running, State, Peer, no_peer, peer_at, queue_from, data_frames, both_frames, got_frames, stamp_at}
 use Rattle.reg_base.specs.declared.limits.TheConstants.{LAST_TIME, MOST_OPERATIONS}
 use Rattle.reg_base.specs.Memory.{register_of}
 use Rattle.reg_base.specs.Order.{In, insert, below}
-use Rattle.reg_process.specs.Process.{State, Peer, no_peer, peer_at, seen_at, queue_from, data_frames, both_frames, got_frames, stamp_at, cast_at, queues, cast_made, accepts}
 use Rattle.reg_process.specs.Process as process
 use Rattle.reg_base.proofs.Lists.{in_insert}
 use Rattle.reg_process.proofs.Deliver.{count_cons}
@@ -21,8 +20,10 @@ use Rattle.reg_links.specs.Link.{Unacknowledged, next_of, with_queued}
 use Rattle.reg_holdback.specs.Waiting.{Waiting, cast_of}
 use Rattle.reg_holdback.specs.Waiting as waiting
 use Rattle.reg_process.specs.declared.outcomes.Put.{Put}
-use Rattle.reg_process.specs.Parts.{Parts, Good, state_of, merged, nothing, is_from, RunsWell}
-use Rattle.reg_process.specs.Puts.{puts, body_frames, all_frames, queue_outs, IsGrown}
+use Rattle.reg_process.specs.Parts.{Parts, state_of, merged, nothing}
+use Rattle.reg_process.specs.Inner.{Good, is_from, RunsWell}
+use Rattle.reg_process.specs.Puts.{puts}
+use Rattle.reg_process.specs.Queued.{body_frames, all_frames, queue_outs, IsGrown}
 use Rattle.reg_process.specs.Steps.{MakesCast, TakesCast, own_running}
 use Rattle.reg_process.proofs.Deliveries.{length-merged}
 

@@ -10,12 +10,10 @@ use Rattle.reg_front.specs.declared.starts.Start.{Start}
 use Rattle.reg_front.specs.declared.starts.Start.TheVariants.{Cast as Casts, CastAndAnswer as CastsAndAnswers, Look as Looks, Hold as Holds}
 use Rattle.reg_process.specs.declared.steps.Step.{Step}
 use Rattle.reg_process.specs.declared.steps.Step.TheVariants.{Call, Take, Tick}
-use Rattle.reg_base.specs.Order.{In}
 use Rattle.reg_base.proofs.Lists.{in_filter}
 use Rattle.std.proofs.Common.{◌+◌, Some, None}
 use Rattle.reg_process.specs.Steps.{with_cast}
-use Rattle.reg_process.specs.Process.{cast_made, accepts, Own, stamp_at}
-use Rattle.reg_process.specs.Process.{State, Peer, no_peer, is_clear, delivered_state, called, taken, accepted, acknowledged, step, peer_at, quiet, got_frames}
+use Rattle.reg_process.specs.Process.{cast_made, accepts, Own, stamp_at, State, Peer, no_peer, is_clear, delivered_state, called, taken, accepted, acknowledged, step, peer_at, quiet, got_frames}
 use Rattle.reg_process.specs.Settled.{NoneWaits}
 use Rattle.reg_process.proofs.Peers.{Decides-clear}
 

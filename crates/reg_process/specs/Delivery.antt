@@ -1,19 +1,21 @@
--- Delivery of one cast, and the list of what is put.
-use Rattle.std.specs.Prelude.{◌+◌, ◌<◌, Bool, ◌&&◌, ◌==◌, cond, List, [], ◌∷◌, Option, Some, None, count_by}
-use Rattle.reg_base.specs.declared.stamps.Stamp.{Stamp}
+-- Delivery of one cast. It carries a proof: no promise speaks of it.
+use Rattle.std.specs.Prelude.{ℕ, ◌+◌, ◌<◌, ◌==◌, cond, List, Option, Some, None, count_by}
 use Rattle.reg_base.specs.declared.stamps.Delivered.{Delivered}
 use Rattle.reg_process.specs.declared.steps.Reply.{Reply}
-use Rattle.reg_base.specs.Memory.{after}
-use Rattle.reg_process.specs.Process.{State, Running, Own, Held, is_own, reply_after, still, unsettled}
+use Rattle.reg_base.specs.Memory.{Memory, answer_of, after}
+use Rattle.reg_process.specs.Process.{State, Running, Own, Held, is_own, is_stamp, still, unsettled}
+pub use Rattle.reg_process.specs.Faults.{first_of}
+use Rattle.reg_process.specs.Parts.{Parts}
 
-abbrev pub is_stamp : Stamp → Delivered → Bool
-is_stamp stamp c = (c.stamp.time == stamp.time) && (c.stamp.process == stamp.process)
+-- the reply due to the cast c that is delivered on the memory m, where so many own ones stay held
+abbrev pub reply_by : Memory → ℕ → ℕ → Delivered → Option Running → Option Reply
+reply_by m place left c None = None
+reply_by m place left c (Some (Own stamp op)) = cond (is_stamp stamp c) (Some (record { answer = answer_of op m; place = place })) None
+reply_by m place left c (Some (Held op)) = cond (left == 0) (Some (record { answer = answer_of op (after c.op m); place = place + 1 })) None
 
--- the reply due to the cast c that is delivered, where the rest stays held
+-- the same, where the rest stays held
 abbrev pub reply_one : State → Delivered → List Delivered → Option Running → Option Reply
-reply_one s c rest None = None
-reply_one s c rest (Some (Own stamp op)) = cond (is_stamp stamp c) (Some (reply_after s [] op)) None
-reply_one s c rest (Some (Held op)) = cond (count_by (is_own s) rest == 0) (Some (reply_after s (c ∷ []) op)) None
+reply_one s c rest running = reply_by s.copy s.delivered (count_by (is_own s) rest) c running
 
 -- the state after the cast c was delivered alone
 abbrev pub popped : State → Delivered → List Delivered → State
@@ -24,9 +26,15 @@ popped s c rest = record s {
   running = still (reply_one s c rest s.running) s.running;
 }
 
-abbrev pub first_of : {X : Type 0} → Option X → Option X → Option X
-first_of (Some x) o = Some x
-first_of None o = o
+-- the parts after the cast c was delivered, where the rest and so many own ones stay held
+abbrev pub delivered_parts : Parts → Delivered → List Delivered → ℕ → Parts
+delivered_parts p c rest left = record p {
+  waiting = record p.waiting { held = rest };
+  copy = after c.op p.copy;
+  delivered = p.delivered + 1;
+  unsettled = left;
+  running = still (reply_by p.copy p.delivered left c p.running) p.running;
+}
 
 -- a held read waits for own casts
 abbrev pub Waits : State → Option Running → Type 0

@@ -1,11 +1,10 @@
--- One event of a process, with its refusals.
+-- One event of a process, with its refusals. Promises cite it.
 use Rattle.std.specs.Prelude.{ℕ, ◌≡◌, Bool, true, false, cond, if◌then◌else◌, List, length, Option, Some, None}
 use Rattle.reg_base.specs.declared.stamps.Stamp.{Stamp}
 use Rattle.reg_base.specs.declared.memory.Op.{Op}
 use Rattle.reg_base.specs.declared.stamps.Delivered.{Delivered}
 use Rattle.reg_process.specs.declared.steps.Reply.{Reply}
 use Rattle.reg_front.specs.declared.starts.Start.{Start}
-use Rattle.reg_front.specs.declared.starts.Start.TheVariants.{Cast as Casts, CastAndAnswer as CastsAndAnswers}
 use Rattle.reg_process.specs.declared.steps.Step.{Step}
 use Rattle.reg_process.specs.declared.steps.Step.TheVariants.{Call, Take, Tick}
 use Rattle.reg_process.specs.Process.{State, Outcome, step, unsettled}
@@ -40,14 +39,6 @@ pub record IsOutcome (n : ℕ) (o : Outcome) (frames : List Put) (cast : Option 
   pub made : cast ≡ o.cast
   pub casts : delivered ≡ o.delivered
   pub answer : reply ≡ o.reply
-
--- the state and what goes out
-pub record Goes (n : ℕ) (r : State × Outcome) (frames : List Put) (cast : Option Stamp) (delivered : List Delivered) (reply : Option Reply) (new : State) : Type 0 where
-  pub state : new ≡ r.0
-  pub outcome : IsOutcome n r.1 frames cast delivered reply
-
-abbrev pub cast_start : Bool → Start
-cast_start runs = cond runs Casts CastsAndAnswers
 
 -- an accepted event
 pub record Steps (start : Op → ℕ → Start) (old : Kept) (e : Step) (frames : List Put) (cast : Option Stamp) (delivered : List Delivered) (reply : Option Reply) (new : Kept) : Type 0 where

@@ -1,5 +1,5 @@
--- When an event is refused.
-use Rattle.std.specs.Prelude.{ℕ, ◌≡◌, ◌<◌, ◌≤◌, Bool, true, false, ◌==◌, ◌||◌, not, nat_lt, nat_le, max, length, Option, Some, None, if◌then◌else◌}
+-- When an event is refused. Promises cite it.
+use Rattle.std.specs.Prelude.{ℕ, ◌<◌, ◌≤◌, Bool, true, false, ◌==◌, ◌||◌, nat_lt, nat_le, max, length, Option, Some, None, if◌then◌else◌}
 use Rattle.reg_base.specs.declared.memory.Op.{Op}
 use Rattle.reg_frames.specs.declared.bodies.Body.{Body}
 use Rattle.reg_frames.specs.declared.bodies.Body.TheVariants.{Cast, Ack}
@@ -9,19 +9,15 @@ use Rattle.reg_front.specs.declared.starts.Start.{Start}
 use Rattle.reg_front.specs.declared.starts.Start.TheVariants.{Cast as Casts, CastAndAnswer as CastsAndAnswers, Look as Looks, Hold as Holds}
 use Rattle.reg_process.specs.declared.steps.Step.{Step}
 use Rattle.reg_process.specs.declared.steps.Step.TheVariants.{Call, Take, Tick}
-use Rattle.reg_process.specs.Process.{Running}
 use Rattle.reg_base.specs.declared.limits.TheConstants.{LAST_TIME, MOST_OPERATIONS}
 use Rattle.reg_base.specs.Memory.{register_of}
-use Rattle.reg_process.specs.Delivery.{first_of}
-use Rattle.reg_process.specs.Process.{State, peer_at, next_of, seen_at, unsettled, time_of}
+use Rattle.reg_process.specs.Process.{State, Running, peer_at, next_of, seen_at, unsettled, time_of}
 use Rattle.reg_process.specs.declared.faults.ProcessFault.{ProcessFault}
 use Rattle.reg_process.specs.declared.faults.ProcessFault.TheVariants.{NoProcess, Busy, NoRegister, TooManyOperations, Ahead, Stale, ClockFull, OutOfMemory}
 
--- what stops a process: the clock is full, or want of memory
-abbrev pub Stops : Bool → ProcessFault → Type 0
-Stops full OutOfMemory = full ≡ false
-Stops full ClockFull = full ≡ true
-Stops full f = ⊥
+abbrev pub first_of : {X : Type 0} → Option X → Option X → Option X
+first_of (Some x) o = Some x
+first_of None o = o
 
 abbrev pub is_cast : Start → Bool
 is_cast Casts = true
@@ -41,12 +37,6 @@ early_fault s op None =
 
 abbrev pub call_fault : (Op → ℕ → Start) → State → Op → Option ProcessFault
 call_fault start s op = first_of (early_fault s op s.running) (full_at s.clock (start op (unsettled s)))
-
--- the only fault of an operation that starts is a full clock
-abbrev pub StopsAt : Option ProcessFault → ProcessFault → Type 0
-StopsAt full OutOfMemory = full ≡ None
-StopsAt full ClockFull = full ≡ Some ClockFull
-StopsAt full f = ⊥
 
 abbrev pub is_out : State → Body → Bool
 is_out s (Cast t op) = nat_le (length s.copy) (register_of op)
@@ -87,19 +77,10 @@ step_fault start s (Call op) = call_fault start s op
 step_fault start s (Take from frame) = take_fault s from frame
 step_fault start s Tick = None
 
--- a refused frame changes nothing, unless the process stops
-abbrev pub FrameRefused : Option ProcessFault → State → ProcessFault → State → Type 0
-FrameRefused due old OutOfMemory new = due ≡ None
-FrameRefused due old ClockFull new = due ≡ Some ClockFull
-FrameRefused due old fault new = (due ≡ Some fault) × (new ≡ old)
-
 abbrev pub is_stop : ProcessFault → Bool
 is_stop ClockFull = true
 is_stop OutOfMemory = true
 is_stop fault = false
-
-abbrev pub is_peer : State → ℕ → Bool
-is_peer s from = not (nat_le (length s.peers) from || from == s.me)
 
 abbrev pub NewRefused : ℕ → ℕ → ProcessFault → Type 0
 NewRefused processes me NoProcess = processes ≤ me

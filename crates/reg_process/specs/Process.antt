@@ -1,5 +1,5 @@
--- One process: what each event does.
-use Rattle.std.specs.Prelude.{◌≡◌, ℕ, suc, ◌+◌, ◌-◌, ◌<◌, max, Bool, not, ◌&&◌, ◌||◌, ◌==◌, cond, if◌then◌else◌, List, [], ◌∷◌, ◌++◌, length, map, take, drop, Option, Some, None, slice_set, slice_index_or, count_by}
+-- One process: what each event does. Promises cite it.
+use Rattle.std.specs.Prelude.{ℕ, suc, ◌+◌, ◌-◌, max, Bool, not, ◌&&◌, ◌==◌, cond, if◌then◌else◌, List, [], ◌∷◌, ◌++◌, length, map, take, drop, Option, Some, None, slice_set, slice_index_or, count_by}
 use Rattle.std.specs.List.{filter, list_any}
 use Rattle.reg_base.specs.declared.stamps.Stamp.{Stamp}
 use Rattle.reg_base.specs.declared.stamps.Delivered.{Delivered}
@@ -15,8 +15,9 @@ use Rattle.reg_process.specs.declared.steps.Reply.{Reply}
 use Rattle.reg_process.specs.declared.steps.Step.{Step}
 use Rattle.reg_process.specs.declared.steps.Step.TheVariants.{Call, Take, Tick}
 use Rattle.reg_base.specs.declared.limits.TheConstants.{MOST_RESENT}
-use Rattle.reg_base.specs.Order.{AtMost, below, at_most, insert}
-pub use Rattle.reg_base.specs.Order.{stamp_at, cast_at, all_below}
+use Rattle.reg_base.specs.Order.{below, at_most, insert}
+pub use Rattle.reg_base.specs.Order.{stamp_at, cast_at}
+use Rattle.reg_base.specs.Order as order
 use Rattle.reg_base.specs.Memory.{Memory, answer_of, memory_after}
 
 abbrev pub time_of : Body → ℕ
@@ -74,13 +75,12 @@ peer_at s r = slice_index_or s.peers r no_peer
 abbrev pub seen_at : State → ℕ → ℕ
 seen_at s r = (peer_at s r).seen
 
--- a stamp is clear when it is at most the stamp of the last body from every other process
+-- clear, by what the process has seen of the others, and the same as a test
 abbrev pub IsClear : State → Stamp → Type 0
-IsClear s stamp = (r : ℕ) → r < length s.peers → (r ≡ s.me → ⊥) → AtMost stamp (stamp_at (seen_at s r) r)
+IsClear s stamp = order.IsClear s.me (seen_at s) (length s.peers) stamp
 
--- the same as a test
 abbrev pub is_clear : State → Stamp → Bool
-is_clear s stamp = all_below (λ r. (r == s.me) || at_most stamp (stamp_at (seen_at s r) r)) (length s.peers)
+is_clear s stamp = order.is_clear s.me (seen_at s) (length s.peers) stamp
 
 abbrev pub is_own : State → Delivered → Bool
 is_own s c = c.stamp.process == s.me
@@ -106,10 +106,17 @@ up_to_own s cs = filter (λ c. list_any (λ d. is_own s d && at_most c.stamp d.s
 abbrev pub reply_after : State → List Delivered → Op → Reply
 reply_after s cs op = record { answer = answer_of op (memory_after (ops_of cs) s.copy); place = s.delivered + length cs }
 
+abbrev pub is_stamp : Stamp → Delivered → Bool
+is_stamp stamp c = (c.stamp.time == stamp.time) && (c.stamp.process == stamp.process)
+
+-- the reply to what runs, where these casts are delivered
 abbrev pub reply_of : State → List Delivered → Option Running → Option Reply
 reply_of s cs None = None
-reply_of s cs (Some (Own stamp op)) = if list_any (λ c. (c.stamp.time == stamp.time) && (c.stamp.process == stamp.process)) cs then Some (reply_after s (casts_before stamp cs) op) else None
+reply_of s cs (Some (Own stamp op)) = if list_any (is_stamp stamp) cs then Some (reply_after s (casts_before stamp cs) op) else None
 reply_of s cs (Some (Held op)) = if count_by (is_own s) cs == unsettled s then Some (reply_after s (up_to_own s cs) op) else None
+
+abbrev pub due : State → Option Reply
+due s = reply_of s (clear_casts s) s.running
 
 abbrev pub still : Option Reply → Option Running → Option Running
 still None running = running
@@ -120,7 +127,7 @@ delivered_state s = record s {
   held = filter (λ c. not (is_clear s c.stamp)) s.held;
   copy = memory_after (ops_of (clear_casts s)) s.copy;
   delivered = s.delivered + length (clear_casts s);
-  running = still (reply_of s (clear_casts s) s.running) s.running;
+  running = still (due s) s.running;
 }
 
 -- What an event does before delivery runs.
@@ -167,7 +174,7 @@ delivering s body frames cast reply = (
     frames = frames;
     cast = cast;
     delivered = clear_casts s;
-    reply = elim reply [ None ↦ reply_of s (clear_casts s) s.running | Some r ↦ Some r ];
+    reply = elim reply [ None ↦ due s | Some r ↦ Some r ];
   },
 )
 

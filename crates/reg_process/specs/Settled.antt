@@ -1,7 +1,7 @@
--- Between events nothing that is clear is held.
-use Rattle.reg_base.specs.declared.stamps.Delivered.{Delivered}
-use Rattle.reg_base.specs.Order.{In}
-use Rattle.reg_process.specs.Process.{State, IsClear}
+-- Between events nothing that is clear is held. Promises cite it.
+use Rattle.std.specs.Prelude.{length}
+use Rattle.reg_base.specs.Order.{NoneClear}
+use Rattle.reg_process.specs.Process.{State, seen_at}
 
 abbrev pub NoneWaits : State → Type 0
-NoneWaits s = (c : Delivered) → In c s.held → IsClear s c.stamp → ⊥
+NoneWaits s = NoneClear s.me (seen_at s) (length s.peers) s.held

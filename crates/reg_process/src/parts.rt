@@ -1,13 +1,14 @@
 //! The parts of a process that has not failed.
 ghost use Rattle.std.specs.Prelude.{◌≡◌, ℕ, ◌<◌, ◌+◌, ◌≤◌, length, IfOk, [], not, None, is_some};
-ghost use Rattle.reg_process.specs.Process.{pending_of, peer_at, next_of, acknowledged, unsettled, called, resent};
+ghost use Rattle.reg_process.specs.Process.{pending_of, peer_at, next_of, unsettled, resent};
 ghost use Rattle.reg_process.specs.Parts.{state_of, first_parts};
 ghost use Rattle.reg_process.specs.Puts.{puts};
 
-use crate::outcomes::Put;
+use crate::outcomes::{Outcome, Put};
 use crate::puts::{new_inboxes, new_outboxes, pending_in, resend_all};
 use crate::running::Current;
-use reg_base::{Clock, Delivered, Registers, Shape};
+use crate::steps::Reply;
+use reg_base::{Clock, Registers, Shape};
 use reg_holdback::Holdback;
 use reg_links::{Inbox, Outboxes};
 use std::alloc::{AllocError, Allocator};
@@ -35,7 +36,9 @@ pub(crate) struct Core<A: Allocator + Copy> {
 
 impl<A: Allocator + Copy> Model for Core<A> {
     ghost use Rattle.reg_process.specs.Process.{State};
-    ghost use Rattle.reg_process.specs.Parts.{Parts, state_of, Good, outs_of};
+    ghost use Rattle.reg_process.specs.Parts.{state_of};
+    ghost use Rattle.reg_process.specs.Inner.{Good};
+    ghost use Rattle.reg_process.specs.Queued.{outs_of};
 
     ghost Value = { State };
 
@@ -52,10 +55,18 @@ impl<A: Allocator + Copy> Core<A> {
     {
         let processes = shape.processes();
         let registers = shape.registers();
-        let waiting = Holdback::new(alloc, me, shape)?;
-        let inboxes = new_inboxes(alloc, processes)?;
-        let outboxes = new_outboxes(alloc, me, processes)?;
-        let copy = Registers::new(alloc, registers as u16)?;
+        let Ok(waiting) = Holdback::new(alloc, me, shape) else {
+            return Err(AllocError);
+        };
+        let Ok(inboxes) = new_inboxes(alloc, processes) else {
+            return Err(AllocError);
+        };
+        let Ok(outboxes) = new_outboxes(alloc, me, processes) else {
+            return Err(AllocError);
+        };
+        let Ok(copy) = Registers::new(alloc, registers as u16) else {
+            return Err(AllocError);
+        };
         let clock = Clock::new();
         Ok(Core {
             alloc,
@@ -122,10 +133,18 @@ impl<A: Allocator + Copy> Core<A> {
         resend_all(self.alloc, &self.outboxes, self.me)
     }
 
-    /// An empty list on the process's allocator.
-    pub(crate) fn none(&self) -> Vec<Delivered, A>
-        ensures { result.items ≡ [] }
+    /// What goes out of an event without a cast or a delivery.
+    pub(crate) fn quiet(&self, frames: Vec<Put, A>, reply: Option<Reply>) -> Outcome<A>
+        ensures put { result.frames.items ≡ frames.items }
+        ensures made { result.cast ≡ None }
+        ensures casts { result.delivered.items ≡ [] }
+        ensures answer { result.reply ≡ reply }
     {
-        Vec::new(self.alloc)
+        Outcome {
+            frames,
+            cast: None,
+            delivered: Vec::new(self.alloc),
+            reply,
+        }
     }
 }

@@ -116,13 +116,7 @@ impl<F: FrontEnd, A: Allocator + Copy> Process<F, A> {
             self.failed = true;
             return Err(ProcessFault::OutOfMemory);
         };
-        let delivered = self.core.none();
-        Ok(Outcome {
-            frames,
-            cast: None,
-            delivered,
-            reply: None,
-        })
+        Ok(self.core.quiet(frames, None))
     }
 
     /// Takes a frame that another process put for it. A data frame out of turn is dropped and answered by the count of those

@@ -1,16 +1,38 @@
 //! Bodies queued for all other processes, and the frames put.
 ghost use Rattle.std.specs.Prelude.{◌≡◌, ◌<◌, ◌≤◌, ◌+◌, ◌++◌, ◌∷◌, [], length, map, replicate, IfOk, OnOk, OnErr, vec_capacity};
 ghost use Rattle.reg_links.specs.Sending.{link_to};
-ghost use Rattle.reg_frames.specs.declared.bodies.Frame.TheVariants.{Got};
 ghost use Rattle.reg_base.specs.declared.limits.TheConstants.{FRAME_NUMBERS, MOST_PROCESSES};
-ghost use Rattle.reg_process.specs.Parts.{nothing, out_to, outs_of};
-ghost use Rattle.reg_process.specs.Puts.{put_to, puts, owed, frame_to, IsNumbered, all_frames, queue_outs, IsGrown, HasNumbers, pending_in as pending_in_all, again_at, again_frames};
+ghost use Rattle.reg_process.specs.Parts.{nothing};
+ghost use Rattle.reg_process.specs.Queued.{out_to, outs_of, owed, sent_frames, IsNumbered, all_frames, queue_outs, IsGrown, HasNumbers, pending_in as pending_in_all, again_at, again_frames};
+ghost use Rattle.reg_process.specs.Puts.{put_to, puts};
 
 use crate::outcomes::Put;
 use reg_base::limits::MOST_RESENT;
 use reg_frames::{Body, Frame};
 use reg_links::{Inbox, LinkFault, Outboxes};
 use std::alloc::{AllocError, Allocator};
+
+/// A body under its number, which goes to all processes but this one, and the count that is owed to one of them.
+#[derive(Clone, Copy)]
+struct Sent {
+    me: u8,
+    number: u64,
+    body: Body,
+    got: Option<(u8, u64)>,
+}
+
+/// Puts one frame. Memory is wanting only where the list has no room.
+pub fn put_frame<A: Allocator + Copy>(
+    frames: &mut Vec<Put, A>,
+    to: u8,
+    frame: Frame,
+) -> Result<(), AllocError>
+    ensures frames { OnOk result (frames.new.items ≡ frames.old.items ++ put_to to frame ∷ []) }
+    ensures memory { OnErr result (vec_capacity frames.old ≤ length frames.old.items) }
+{
+    frames.push(Put { to, frame })?;
+    Ok(())
+}
 
 /// Puts the count that is owed.
 fn put_got<A: Allocator + Copy>(
@@ -20,38 +42,45 @@ fn put_got<A: Allocator + Copy>(
 ) -> Result<(), AllocError>
     ensures { OnOk result (frames.new.items ≡ frames.old.items ++ map (put_to to) (owed got to)) }
 {
-    let Some((peer, count)) = got else {
-        return Ok(());
-    };
-    if to != peer {
-        return Ok(());
+    match got {
+        Some((peer, count)) if peer == to => put_frame(frames, to, Frame::Got { count }),
+        _ => Ok(()),
     }
-    frames.push(Put {
-        to,
-        frame: Frame::Got { count },
-    })?;
-    Ok(())
 }
 
-/// Puts the count that is owed, and the body under its number.
+/// Puts the count that is owed to one process, and the body under its number.
 fn put_one<A: Allocator + Copy>(
     frames: &mut Vec<Put, A>,
     to: u8,
-    me: u8,
-    number: u64,
-    body: Body,
-    got: Option<(u8, u64)>,
+    sent: &Sent,
 ) -> Result<(), AllocError>
-    ensures { OnOk result (frames.new.items ≡ frames.old.items ++ map (put_to to) (owed got to ++ frame_to me number body to)) }
+    ensures { OnOk result (frames.new.items ≡ frames.old.items ++ map (put_to to) (sent_frames sent.now to)) }
 {
+    let Sent {
+        me,
+        number,
+        body,
+        got,
+    } = *sent;
     put_got(frames, to, got)?;
     if to == me {
         return Ok(());
     }
-    frames.push(Put {
-        to,
-        frame: Frame::Numbered { number, body },
-    })?;
+    put_frame(frames, to, Frame::Numbered { number, body })
+}
+
+/// The same for all processes, by rising number.
+fn put_all<A: Allocator + Copy>(
+    frames: &mut Vec<Put, A>,
+    processes: u8,
+    sent: &Sent,
+) -> Result<(), AllocError>
+    requires { frames.old.items ≡ [] }
+    ensures { OnOk result (frames.new.items ≡ puts (sent_frames sent.now) processes) }
+{
+    for r in 0..processes {
+        put_one(frames, r, sent)?;
+    }
     Ok(())
 }
 
@@ -81,46 +110,36 @@ fn queue_for_others<A: Allocator + Copy>(
 
 /// Queues a body for all other processes, and puts it in an empty list. Where memory is wanting, it may be queued.
 pub fn queue_on_all<A: Allocator + Copy>(
-    mut frames: Vec<Put, A>,
+    frames: &mut Vec<Put, A>,
     outboxes: &mut Outboxes<A>,
     me: u8,
     body: Body,
     got: Option<(u8, u64)>,
-) -> Result<Vec<Put, A>, AllocError>
-    requires empty { frames.items ≡ [] }
+) -> Result<(), AllocError>
+    requires empty { frames.old.items ≡ [] }
     requires me { me < length (outs_of me outboxes.old) }
     requires few { length (outs_of me outboxes.old) ≤ MOST_PROCESSES }
     requires numbers { HasNumbers (outs_of me outboxes.old) }
-    ensures frames { IfOk result (λ v. v.items ≡ puts (all_frames got me body (outs_of me outboxes.old)) (length (outs_of me outboxes.old))) }
+    ensures frames { OnOk result (frames.new.items ≡ puts (all_frames got me body (outs_of me outboxes.old)) (length (outs_of me outboxes.old))) }
     ensures queued { OnOk result (outs_of me outboxes.new ≡ queue_outs 0 me body (outs_of me outboxes.old)) }
     ensures grown { IsGrown (outs_of me outboxes.old) (outs_of me outboxes.new) }
     ensures length { length (outs_of me outboxes.new) ≡ length (outs_of me outboxes.old) }
 {
     let processes = outboxes.processes();
     let count = processes.saturating_sub(1) + usize::from(got.is_some());
-    frames.reserve(count)?;
-    let number = queue_for_others(outboxes, me, body)?;
-    for r in 0..processes as u8 {
-        put_one(&mut frames, r, me, number, body, got)?;
-    }
-    Ok(frames)
-}
-
-/// Puts a count alone in an empty list. Memory is wanting only where the list has no room.
-pub fn got_alone<A: Allocator + Copy>(
-    mut frames: Vec<Put, A>,
-    to: u8,
-    count: u64,
-) -> Result<Vec<Put, A>, AllocError>
-    requires { frames.items ≡ [] }
-    ensures frames { IfOk result (λ v. v.items ≡ put_to to (Got count) ∷ []) }
-    ensures memory { OnErr result (vec_capacity frames ≡ 0) }
-{
-    frames.push(Put {
-        to,
-        frame: Frame::Got { count },
-    })?;
-    Ok(frames)
+    let Ok(()) = frames.reserve(count) else {
+        return Err(AllocError);
+    };
+    let Ok(number) = queue_for_others(outboxes, me, body) else {
+        return Err(AllocError);
+    };
+    let sent = Sent {
+        me,
+        number,
+        body,
+        got,
+    };
+    put_all(frames, processes as u8, &sent)
 }
 
 /// Puts the first pending frames for a process again.
@@ -140,7 +159,7 @@ fn resend_one<A: Allocator + Copy>(
         let Some(frame) = outboxes.resend(to, i) else {
             return Ok(());
         };
-        frames.push(Put { to, frame })?;
+        put_frame(frames, to, frame)?;
     }
     Ok(())
 }
@@ -191,7 +210,7 @@ pub fn new_inboxes<A: Allocator + Copy>(alloc: A, count: u32) -> Result<Vec<Inbo
 {
     let mut all = Vec::with_capacity(alloc, count as usize)?;
     for _i in 0..count {
-        all.push(Inbox::new())?;
+        all.push_reserved(Inbox::new());
     }
     Ok(all)
 }

@@ -1,15 +1,13 @@
 //! The calls of a process: how operations start.
 ghost use Rattle.std.specs.Prelude.{◌≡◌, ◌<◌, ◌+◌, [], length, MatchResult, IfOk, OnOk, IfErr, cond, nat_le, Some, None, true, if◌then◌else◌};
 ghost use Rattle.reg_base.specs.Memory.{after, register_of};
-ghost use Rattle.reg_process.specs.Process.{unsettled, look as look_of, called};
-ghost use Rattle.reg_process.specs.Process.{Held};
-ghost use Rattle.reg_process.specs.Faults.{Stops, StopsAt, early_fault, full_at, is_cast};
+ghost use Rattle.reg_process.specs.Process.{unsettled, look as look_of, called, Held};
+ghost use Rattle.reg_process.specs.Steps.{Stops, StopsAt, Goes, cast_start, own_running, MakesCast};
+ghost use Rattle.reg_process.specs.Faults.{early_fault, full_at, is_cast};
 ghost use Rattle.reg_front.specs.Fronts.{MayStart};
 ghost use Rattle.reg_frames.specs.declared.bodies.Body.TheVariants.{Cast};
 ghost use Rattle.reg_base.specs.declared.limits.TheConstants.{LAST_TIME, MOST_OPERATIONS};
 ghost use Rattle.reg_base.specs.declared.memory.Answer.TheVariants.{Done};
-ghost use Rattle.reg_process.specs.Events.{Goes, cast_start};
-ghost use Rattle.reg_process.specs.Steps.{own_running, MakesCast};
 
 use super::Core;
 use crate::faults::ProcessFault;
@@ -92,21 +90,11 @@ impl<A: Allocator + Copy> Core<A> {
             }
             Start::Look => {
                 let reply = self.look(op);
-                Ok(Outcome {
-                    frames: Vec::new(self.alloc),
-                    cast: None,
-                    delivered: Vec::new(self.alloc),
-                    reply: Some(reply),
-                })
+                Ok(self.quiet(Vec::new(self.alloc), Some(reply)))
             }
             Start::Hold => {
                 self.hold(op);
-                Ok(Outcome {
-                    frames: Vec::new(self.alloc),
-                    cast: None,
-                    delivered: Vec::new(self.alloc),
-                    reply: None,
-                })
+                Ok(self.quiet(Vec::new(self.alloc), None))
             }
         }
     }
@@ -141,11 +129,11 @@ impl<A: Allocator + Copy> Core<A> {
     /// Casts an operation with its frames in an empty list, and delivers what is clear.
     fn broadcast(
         &mut self,
-        list: Vec<Put, A>,
+        mut frames: Vec<Put, A>,
         op: Op,
         runs: bool,
     ) -> Result<Outcome<A>, ProcessFault>
-        requires empty { list.items ≡ [] }
+        requires empty { frames.items ≡ [] }
         requires register { register_of op < length self.old.copy }
         requires calls { self.old.calls < MOST_OPERATIONS }
         ensures goes { IfOk result (λ o. Goes (length self.old.peers) (called self.old op (cast_start runs)) o.frames.items o.cast o.delivered.items o.reply self.new) }
@@ -153,29 +141,18 @@ impl<A: Allocator + Copy> Core<A> {
         ensures fault { IfErr result (λ fault. Stops (nat_le LAST_TIME self.old.clock) fault) }
     {
         let place = self.delivered_count();
-        let (stamp, frames) = self.cast(list, op, runs)?;
-        let Ok((delivered, due)) = self.deliver() else {
-            return Err(ProcessFault::OutOfMemory);
-        };
-        Ok(Outcome {
-            frames,
-            cast: Some(stamp),
-            delivered,
-            reply: reply_to(runs, due, place),
-        })
+        let stamp = self.cast(&mut frames, op, runs)?;
+        let mut outcome = self.finish(frames, Some(stamp))?;
+        outcome.reply = reply_to(runs, outcome.reply, place);
+        Ok(outcome)
     }
 
-    /// Makes an own cast, which the operation may run for.
-    fn cast(
-        &mut self,
-        list: Vec<Put, A>,
-        op: Op,
-        runs: bool,
-    ) -> Result<(Stamp, Vec<Put, A>), ProcessFault>
-        requires empty { list.items ≡ [] }
+    /// Makes an own cast, which the operation may run for, with its frames in an empty list.
+    fn cast(&mut self, frames: &mut Vec<Put, A>, op: Op, runs: bool) -> Result<Stamp, ProcessFault>
+        requires empty { frames.old.items ≡ [] }
         requires register { register_of op < length self.old.copy }
         requires calls { self.old.calls < MOST_OPERATIONS }
-        ensures { MatchResult result (λ r. MakesCast self.old op runs r.0 r.1.items self.new) (λ fault. Stops (nat_le LAST_TIME self.old.clock) fault) }
+        ensures { MatchResult result (λ stamp. MakesCast self.old op runs stamp frames.new.items self.new) (λ fault. Stops (nat_le LAST_TIME self.old.clock) fault) }
     {
         let Ok(time) = self.clock.tick() else {
             return Err(ProcessFault::ClockFull);
@@ -185,8 +162,7 @@ impl<A: Allocator + Copy> Core<A> {
             process: self.me,
         };
         let body = Body::Cast { time, op };
-        let queued = queue_on_all(list, &mut self.outboxes, self.me, body, None);
-        let Ok(frames) = queued else {
+        let Ok(()) = queue_on_all(frames, &mut self.outboxes, self.me, body, None) else {
             return Err(ProcessFault::OutOfMemory);
         };
         let Ok(()) = self.waiting.cast(stamp, op) else {
@@ -195,6 +171,6 @@ impl<A: Allocator + Copy> Core<A> {
         self.unsettled += 1;
         self.calls += 1;
         self.running = own(runs, stamp, op);
-        Ok((stamp, frames))
+        Ok(stamp)
     }
 }

@@ -1,15 +1,18 @@
 //! Delivery: one clear cast after another.
-ghost use Rattle.std.specs.Prelude.{◌≡◌, ◌<◌, ◌+◌, ◌^◌, length, MatchOption, IfOk, Some, None, if◌then◌else◌};
+ghost use Rattle.std.specs.Prelude.{◌≡◌, ◌<◌, ◌+◌, ◌^◌, [], length, MatchOption, IfOk, IfErr, Some, None, if◌then◌else◌};
 ghost use Rattle.reg_base.specs.Memory.{after, register_of};
 ghost use Rattle.reg_process.specs.Process.{still};
-ghost use Rattle.reg_process.specs.Parts.{reply_by, RunsWell};
+ghost use Rattle.reg_process.specs.Delivery.{reply_by};
+ghost use Rattle.reg_process.specs.Inner.{RunsWell};
 ghost use Rattle.reg_frames.specs.declared.bodies.Body.TheVariants.{Cast};
 ghost use Rattle.reg_process.specs.Steps.{DeliversOne, DeliversNone, Delivers};
 
 use super::Core;
+use crate::faults::ProcessFault;
+use crate::outcomes::{Outcome, Put};
 use crate::running::{Awaited, Current};
 use crate::steps::Reply;
-use reg_base::{Delivered, Registers};
+use reg_base::{Delivered, Registers, Stamp};
 use std::alloc::{AllocError, Allocator};
 
 /// Applies a cast, and answers the running operation where this is due. So many own casts stay held.
@@ -87,11 +90,11 @@ impl<A: Allocator + Copy> Core<A> {
         Some((cast, reply))
     }
 
-    /// Delivers all clear casts.
-    pub(crate) fn deliver(&mut self) -> Result<(Vec<Delivered, A>, Option<Reply>), AllocError>
-        ensures { IfOk result (λ r. Delivers self.old r.0.items r.1 self.new) }
+    /// Delivers all clear casts into an empty list, and answers what is due.
+    fn deliver(&mut self, delivered: &mut Vec<Delivered, A>) -> Result<Option<Reply>, AllocError>
+        requires { delivered.old.items ≡ [] }
+        ensures { IfOk result (λ reply. Delivers self.old delivered.new.items reply self.new) }
     {
-        let mut delivered = Vec::new(self.alloc);
         let mut reply = None;
         while let Some((cast, due)) = self.deliver_one() {
             delivered.push(cast)?;
@@ -99,6 +102,28 @@ impl<A: Allocator + Copy> Core<A> {
                 reply = due;
             }
         }
-        Ok((delivered, reply))
+        Ok(reply)
+    }
+
+    /// Delivers all clear casts in an event that has put these frames and made this cast.
+    pub(crate) fn finish(
+        &mut self,
+        frames: Vec<Put, A>,
+        cast: Option<Stamp>,
+    ) -> Result<Outcome<A>, ProcessFault>
+        ensures put { IfOk result (λ o. (o.frames.items ≡ frames.items) × (o.cast ≡ cast)) }
+        ensures done { IfOk result (λ o. Delivers self.old o.delivered.items o.reply self.new) }
+        ensures fault { IfErr result (λ fault. fault ≡ ProcessFault.OutOfMemory) }
+    {
+        let mut delivered = Vec::new(self.alloc);
+        let Ok(reply) = self.deliver(&mut delivered) else {
+            return Err(ProcessFault::OutOfMemory);
+        };
+        Ok(Outcome {
+            frames,
+            cast,
+            delivered,
+            reply,
+        })
     }
 }

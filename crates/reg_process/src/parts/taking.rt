@@ -1,20 +1,18 @@
 //! The frames that a process takes.
-ghost use Rattle.std.specs.Prelude.{◌≡◌, ◌<◌, ◌+◌, ◌∷◌, [], length, MatchResult, IfOk, OnOk, OnErr, IfErr, max, not, nat_le, nat_lt, slice_index, slice_set, Some, None, false, true, IsErrOf, if◌then◌else◌};
+ghost use Rattle.std.specs.Prelude.{◌≡◌, ◌<◌, ◌+◌, [], length, MatchResult, IfOk, OnOk, OnErr, IfErr, max, not, nat_le, nat_lt, slice_index, slice_set, Some, None, false, true, IsErrOf, if◌then◌else◌};
 ghost use Rattle.reg_base.specs.Memory.{after, register_of};
 ghost use Rattle.reg_process.specs.Process.{peer_at, seen_at, next_of, acknowledged, accepted, taken, time_of};
-ghost use Rattle.reg_process.specs.Faults.{Stops, StopsAt, early_body, full_by, is_out as is_out_of, is_peer as is_peer_of, frame_fault, FrameRefused, is_numbered, takes_memory, is_stop};
+ghost use Rattle.reg_process.specs.Steps.{Stops, StopsAt, is_peer as is_peer_of, FrameRefused, Goes, TakesCast, TakesAck, TakesBody};
+ghost use Rattle.reg_process.specs.Faults.{early_body, full_by, is_out as is_out_of, frame_fault, is_numbered, takes_memory, is_stop};
 ghost use Rattle.reg_frames.specs.declared.bodies.Body.TheVariants.{Cast, Ack};
 ghost use Rattle.reg_frames.specs.declared.bodies.Frame.TheVariants.{Numbered, Got};
 ghost use Rattle.reg_base.specs.declared.limits.TheConstants.{LAST_TIME, FRAME_NUMBERS};
-ghost use Rattle.reg_process.specs.Events.{Goes};
-ghost use Rattle.reg_process.specs.Puts.{put_to};
 ghost use Rattle.reg_holdback.specs.Waiting.{receive_fault, received};
-ghost use Rattle.reg_process.specs.Steps.{TakesCast, TakesAck};
 
 use super::Core;
 use crate::faults::ProcessFault;
 use crate::outcomes::{Outcome, Put, Spare};
-use crate::puts::{got_alone, queue_on_all};
+use crate::puts::{put_frame, queue_on_all};
 use reg_base::{Op, Stamp};
 use reg_frames::{Body, Frame};
 use reg_holdback::{HoldFault, Holdback};
@@ -121,12 +119,7 @@ impl<A: Allocator + Copy> Core<A> {
         if !self.acknowledge(from, count) {
             return Err(ProcessFault::Ahead);
         }
-        Ok(Outcome {
-            frames: Vec::new(self.alloc),
-            cast: None,
-            delivered: Vec::new(self.alloc),
-            reply: None,
-        })
+        Ok(self.quiet(Vec::new(self.alloc), None))
     }
 
     /// Drops what a process has accepted. False where the count is above what was queued.
@@ -158,16 +151,11 @@ impl<A: Allocator + Copy> Core<A> {
     {
         let expected = self.expected(from);
         if number != expected {
-            let list = spare.take(self.alloc);
-            let Ok(frames) = got_alone(list, from, expected) else {
+            let mut frames = spare.take(self.alloc);
+            let Ok(()) = put_frame(&mut frames, from, Frame::Got { count: expected }) else {
                 return Err(ProcessFault::OutOfMemory);
             };
-            return Ok(Outcome {
-                frames,
-                cast: None,
-                delivered: self.none(),
-                reply: None,
-            });
+            return Ok(self.quiet(frames, None));
         }
         if let Some(fault) = self.refuses_body(from, &body) {
             return Err(fault);
@@ -208,11 +196,11 @@ impl<A: Allocator + Copy> Core<A> {
     /// Accepts an expected body, answers it in an empty list, and delivers what is clear.
     fn accept(
         &mut self,
-        list: Vec<Put, A>,
+        mut frames: Vec<Put, A>,
         from: u8,
         body: Body,
     ) -> Result<Outcome<A>, ProcessFault>
-        requires empty { list.items ≡ [] }
+        requires empty { frames.items ≡ [] }
         requires peer { from < length self.old.peers }
         requires other { from ≡ self.old.me → ⊥ }
         requires early { early_body self.old from body ≡ None }
@@ -220,88 +208,51 @@ impl<A: Allocator + Copy> Core<A> {
         ensures room { OnOk result (full_by self.old body ≡ None) }
         ensures fault { IfErr result (λ fault. StopsAt (full_by self.old body) fault) }
     {
+        self.accept_body(&mut frames, from, body)?;
+        self.finish(frames, None)
+    }
+
+    /// Accepts an expected body, and answers it in an empty list.
+    fn accept_body(
+        &mut self,
+        frames: &mut Vec<Put, A>,
+        from: u8,
+        body: Body,
+    ) -> Result<(), ProcessFault>
+        requires empty { frames.old.items ≡ [] }
+        requires peer { from < length self.old.peers }
+        requires other { from ≡ self.old.me → ⊥ }
+        requires early { early_body self.old from body ≡ None }
+        ensures { MatchResult result (λ _. TakesBody self.old from body frames.new.items self.new) (λ fault. StopsAt (full_by self.old body) fault) }
+    {
         match body {
-            Body::Cast { time, op } => self.take_cast(list, from, time, op),
-            Body::Ack { time } => self.take_ack(list, from, time),
+            Body::Cast { time, op } => self.accept_cast(frames, from, time, op),
+            Body::Ack { time } => self.accept_ack(frames, from, time),
         }
-    }
-
-    fn take_cast(
-        &mut self,
-        list: Vec<Put, A>,
-        from: u8,
-        time: u64,
-        op: Op,
-    ) -> Result<Outcome<A>, ProcessFault>
-        requires empty { list.items ≡ [] }
-        requires peer { from < length self.old.peers }
-        requires other { from ≡ self.old.me → ⊥ }
-        requires register { register_of op < length self.old.copy }
-        requires fresh { seen_at self.old from < time }
-        ensures goes { IfOk result (λ o. Goes (length self.old.peers) (accepted self.old from (Cast time op)) o.frames.items o.cast o.delivered.items o.reply self.new) }
-        ensures room { OnOk result (max self.old.clock time < LAST_TIME) }
-        ensures fault { IfErr result (λ fault. Stops (nat_le LAST_TIME (max self.old.clock time)) fault) }
-    {
-        let frames = self.accept_cast(list, from, time, op)?;
-        let Ok((delivered, reply)) = self.deliver() else {
-            return Err(ProcessFault::OutOfMemory);
-        };
-        Ok(Outcome {
-            frames,
-            cast: None,
-            delivered,
-            reply,
-        })
-    }
-
-    fn take_ack(
-        &mut self,
-        list: Vec<Put, A>,
-        from: u8,
-        time: u64,
-    ) -> Result<Outcome<A>, ProcessFault>
-        requires empty { list.items ≡ [] }
-        requires peer { from < length self.old.peers }
-        requires other { from ≡ self.old.me → ⊥ }
-        requires fresh { seen_at self.old from < time }
-        ensures goes { IfOk result (λ o. Goes (length self.old.peers) (accepted self.old from (Ack time)) o.frames.items o.cast o.delivered.items o.reply self.new) }
-        ensures room { OnOk result (max self.old.clock time < LAST_TIME) }
-        ensures fault { IfErr result (λ fault. Stops (nat_le LAST_TIME (max self.old.clock time)) fault) }
-    {
-        let frames = self.accept_ack(list, from, time)?;
-        let Ok((delivered, reply)) = self.deliver() else {
-            return Err(ProcessFault::OutOfMemory);
-        };
-        Ok(Outcome {
-            frames,
-            cast: None,
-            delivered,
-            reply,
-        })
     }
 
     /// Takes in a cast of another process, and acknowledges it to all.
     fn accept_cast(
         &mut self,
-        list: Vec<Put, A>,
+        frames: &mut Vec<Put, A>,
         from: u8,
         time: u64,
         op: Op,
-    ) -> Result<Vec<Put, A>, ProcessFault>
-        requires empty { list.items ≡ [] }
+    ) -> Result<(), ProcessFault>
+        requires empty { frames.old.items ≡ [] }
         requires peer { from < length self.old.peers }
         requires other { from ≡ self.old.me → ⊥ }
         requires register { register_of op < length self.old.copy }
         requires fresh { seen_at self.old from < time }
-        ensures { MatchResult result (λ frames. TakesCast self.old from time op frames.items self.new) (λ fault. Stops (nat_le LAST_TIME (max self.old.clock time)) fault) }
+        ensures { MatchResult result (λ _. TakesCast self.old from time op frames.new.items self.new) (λ fault. Stops (nat_le LAST_TIME (max self.old.clock time)) fault) }
     {
         let Ok(now) = self.clock.receive(time) else {
             return Err(ProcessFault::ClockFull);
         };
         let count = self.inboxes[from as usize].expected() + 1;
         let ack = Body::Ack { time: now };
-        let queued = queue_on_all(list, &mut self.outboxes, self.me, ack, Some((from, count)));
-        let Ok(frames) = queued else {
+        let got = Some((from, count));
+        let Ok(()) = queue_on_all(frames, &mut self.outboxes, self.me, ack, got) else {
             return Err(ProcessFault::OutOfMemory);
         };
         let stamp = Stamp {
@@ -312,27 +263,27 @@ impl<A: Allocator + Copy> Core<A> {
             return Err(ProcessFault::OutOfMemory);
         };
         expect_next(&mut self.inboxes, from, Body::Cast { time, op });
-        Ok(frames)
+        Ok(())
     }
 
     /// Takes in an acknowledgement of another process.
     fn accept_ack(
         &mut self,
-        list: Vec<Put, A>,
+        frames: &mut Vec<Put, A>,
         from: u8,
         time: u64,
-    ) -> Result<Vec<Put, A>, ProcessFault>
-        requires empty { list.items ≡ [] }
+    ) -> Result<(), ProcessFault>
+        requires empty { frames.old.items ≡ [] }
         requires peer { from < length self.old.peers }
         requires other { from ≡ self.old.me → ⊥ }
         requires fresh { seen_at self.old from < time }
-        ensures { MatchResult result (λ frames. TakesAck self.old from time frames.items self.new) (λ fault. Stops (nat_le LAST_TIME (max self.old.clock time)) fault) }
+        ensures { MatchResult result (λ _. TakesAck self.old from time frames.new.items self.new) (λ fault. Stops (nat_le LAST_TIME (max self.old.clock time)) fault) }
     {
         let Ok(_) = self.clock.receive(time) else {
             return Err(ProcessFault::ClockFull);
         };
         let count = self.inboxes[from as usize].expected() + 1;
-        let Ok(frames) = got_alone(list, from, count) else {
+        let Ok(()) = put_frame(frames, from, Frame::Got { count }) else {
             return Err(ProcessFault::OutOfMemory);
         };
         let stamp = Stamp {
@@ -341,6 +292,6 @@ impl<A: Allocator + Copy> Core<A> {
         };
         hear(&mut self.waiting, stamp);
         expect_next(&mut self.inboxes, from, Body::Ack { time });
-        Ok(frames)
+        Ok(())
     }
 }

@@ -1,7 +1,6 @@
 use Rattle.std.proofs.Common.{◌≡◌, ◌+◌, suc, length, drop, ap, arith, add-one}
 use Rattle.reg_links.specs.Link.{Unacknowledged}
-use Rattle.reg_process.specs.Parts.{outs_of}
-use Rattle.reg_process.specs.Puts.{pending_in}
+use Rattle.reg_process.specs.Queued.{outs_of, pending_in}
 use Rattle.reg_process.proofs.Outs.{length-outs, out_at}
 use Rattle.reg_process.proofs.Pending.{pending_drop, pending_end}
 use Rattle.reg_process.proofs.puts.pending_in.Goals as goal

@@ -1,7 +1,6 @@
 use Rattle.std.proofs.Common.{◌≡◌, ◌≤◌, ◌+◌, ◌*◌, drop}
 use Rattle.reg_base.specs.declared.limits.TheConstants.{FRAME_NUMBERS}
-use Rattle.reg_process.specs.Parts.{outs_of}
-use Rattle.reg_process.specs.Puts.{pending_in}
+use Rattle.reg_process.specs.Queued.{outs_of, pending_in}
 use Rattle.reg_process.proofs.puts.pending_in.Given as goal
 
 -- what is left to count, and a bound on what is counted

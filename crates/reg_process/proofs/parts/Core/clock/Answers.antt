@@ -1,6 +1,7 @@
 use Rattle.std.proofs.Common.{ℕ, ◌≤◌, subst, arith}
 use Rattle.reg_process.specs.Process.{State, peer_at, next_of}
-use Rattle.reg_process.specs.Parts.{Parts, outs_of}
+use Rattle.reg_process.specs.Parts.{Parts}
+use Rattle.reg_process.specs.Queued.{outs_of}
 use Rattle.reg_process.proofs.Pending.{numbered}
 use Rattle.reg_process.proofs.parts.Core.clock.Goals as goal
 

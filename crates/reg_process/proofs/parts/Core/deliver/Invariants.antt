@@ -1,7 +1,6 @@
 use Rattle.std.proofs.Common.{◌≡◌, ◌++◌, length}
-use Rattle.reg_process.specs.Process.{clear_casts, delivered_state}
-use Rattle.reg_process.specs.Delivery.{first_of}
-use Rattle.reg_process.specs.Steps.{due}
+use Rattle.reg_process.specs.Process.{clear_casts, delivered_state, due}
+use Rattle.reg_process.specs.Faults.{first_of}
 use Rattle.reg_process.proofs.parts.Core.deliver.Given as goal
 
 -- what was delivered and what is still to be make up the whole

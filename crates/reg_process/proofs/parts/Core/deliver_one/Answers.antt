@@ -1,7 +1,8 @@
 use Rattle.std.proofs.Common.{◌-◌, ◌+◌, ap, subst, ◌∙◌}
 use Rattle.reg_process.specs.Process.{State}
 use Rattle.reg_holdback.specs.Waiting.{Waiting}
-use Rattle.reg_process.specs.Parts.{Parts, state_of, outs_of}
+use Rattle.reg_process.specs.Parts.{Parts, state_of}
+use Rattle.reg_process.specs.Queued.{outs_of}
 use Rattle.reg_process.specs.Steps.{DeliversOne, DeliversNone}
 use Rattle.reg_process.proofs.Deliveries.{made_good, made_one, delivers_none, ready_well}
 use Rattle.reg_process.proofs.parts.Core.deliver_one.Goals as goal

@@ -1,7 +1,8 @@
 use Rattle.std.proofs.Common.{◌≡◌, ◌<◌, length, sym, ap, subst, ◌∙◌, arith}
 use Rattle.std.proofs.lemmas.List.{get_or_default}
 use Rattle.reg_process.specs.Process.{State, peer_at}
-use Rattle.reg_process.specs.Parts.{Parts, outs_of}
+use Rattle.reg_process.specs.Parts.{Parts}
+use Rattle.reg_process.specs.Queued.{outs_of}
 use Rattle.reg_process.proofs.Deliveries.{length-merged}
 use Rattle.reg_process.proofs.Sends.{merged_expected}
 use Rattle.reg_process.proofs.parts.Core.expected.Goals as goal

@@ -1,8 +1,9 @@
 use Rattle.std.proofs.Common.{◌≡◌, not, length, sym, ap, subst, ◌∙◌, arith}
 use Rattle.std.specs.Prelude.{nat_eq, nat_lt}
 use Rattle.reg_process.specs.Process.{State}
-use Rattle.reg_process.specs.Parts.{Parts, state_of, outs_of}
-use Rattle.reg_process.specs.Faults.{is_peer}
+use Rattle.reg_process.specs.Parts.{Parts, state_of}
+use Rattle.reg_process.specs.Queued.{outs_of}
+use Rattle.reg_process.specs.Steps.{is_peer}
 use Rattle.reg_process.proofs.Deliveries.{length-merged}
 use Rattle.reg_process.proofs.Calls.{within_peer, past_peer}
 use Rattle.reg_process.proofs.parts.Core.is_peer.Goals as goal

@@ -1,6 +1,6 @@
 use Rattle.std.proofs.Common.{◌≡◌, sym, subst, ◌∙◌}
 use Rattle.reg_process.specs.Process.{State, pending_of}
-use Rattle.reg_process.specs.Parts.{outs_of}
+use Rattle.reg_process.specs.Queued.{outs_of}
 use Rattle.reg_process.proofs.Pending.{merged_pending}
 use Rattle.reg_process.proofs.parts.Core.pending.Goals as goal
 

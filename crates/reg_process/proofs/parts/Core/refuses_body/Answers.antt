@@ -1,6 +1,7 @@
 use Rattle.std.proofs.Common.{◌≡◌, ◌<◌, length, sym, ap, ◌∙◌, arith}
 use Rattle.reg_process.specs.Process.{State, seen_at}
-use Rattle.reg_process.specs.Parts.{Parts, outs_of}
+use Rattle.reg_process.specs.Parts.{Parts}
+use Rattle.reg_process.specs.Queued.{outs_of}
 use Rattle.reg_process.proofs.Deliveries.{length-merged}
 use Rattle.reg_process.proofs.Calls.{seen_some, seen_none, late, in_time}
 use Rattle.reg_process.proofs.parts.Core.refuses_body.Goals as goal

@@ -1,6 +1,7 @@
 use Rattle.std.proofs.Common.{◌≡◌, List, length, IfOk, subst}
 use Rattle.reg_process.specs.Process.{State, resent}
-use Rattle.reg_process.specs.Parts.{Parts, outs_of}
+use Rattle.reg_process.specs.Parts.{Parts}
+use Rattle.reg_process.specs.Queued.{outs_of}
 use Rattle.reg_process.specs.declared.outcomes.Put.{Put}
 use Rattle.reg_process.specs.Puts.{puts}
 use Rattle.reg_process.proofs.Again.{again_is}

@@ -1,0 +1,24 @@
+use Rattle.std.proofs.Common.{◌≡◌, ◌≤◌, replicate, sym, ap, subst, ◌∙◌}
+use Rattle.reg_base.specs.Memory.{Memory}
+use Rattle.reg_base.specs.declared.limits.TheConstants.{MOST_PROCESSES}
+use Rattle.reg_process.specs.Parts.{Parts, nothing, first_parts, state_of}
+use Rattle.reg_process.specs.Queued.{outs_of}
+use Rattle.reg_process.specs.Inner.{Good}
+use Rattle.reg_process.proofs.Again.{first_good, same_parts}
+use Rattle.reg_process.proofs.parts.Core.new.Goals as goal
+
+pub invariant_of-result : goal.invariant_of-result
+invariant_of-result g c =
+    let n = c.processes-processes.ensures in
+    let few : c.args.shape.processes ≤ MOST_PROCESSES = subst (λ k. k ≤ MOST_PROCESSES) n.value n.in_range in
+    subst Good
+    (same_parts c.args.me c.args.shape.processes c.args.shape.registers c.new-clock.result c.in-Ok.waiting c.in-Ok-new_inboxes.inboxes.items (outs_of c.args.me c.in-Ok-new_outboxes.outboxes) c.in-Ok-new.copy c.new-clock.ensures c.in-Ok.ensures
+    (c.in-Ok-new_inboxes.ensures ∙ ap (λ k. replicate k 0) n.value) (c.in-Ok-new_outboxes.ensures ∙ ap (λ k. replicate k nothing) n.value) (c.in-Ok-new.ensures ∙ ap (λ k. replicate k 0) c.registers-registers.ensures.value))
+    (first_good c.args.me c.args.shape.processes c.args.shape.registers c.requires few)
+
+pub returns : goal.returns
+returns g c =
+    let n = c.processes-processes.ensures in
+    sym (ap state_of
+    (same_parts c.args.me c.args.shape.processes c.args.shape.registers c.new-clock.result c.in-Ok.waiting c.in-Ok-new_inboxes.inboxes.items (outs_of c.args.me c.in-Ok-new_outboxes.outboxes) c.in-Ok-new.copy c.new-clock.ensures c.in-Ok.ensures
+    (c.in-Ok-new_inboxes.ensures ∙ ap (λ k. replicate k 0) n.value) (c.in-Ok-new_outboxes.ensures ∙ ap (λ k. replicate k nothing) n.value) (c.in-Ok-new.ensures ∙ ap (λ k. replicate k 0) c.registers-registers.ensures.value)))

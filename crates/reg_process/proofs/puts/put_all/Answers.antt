@@ -1,0 +1,10 @@
+use Rattle.std.proofs.Common.{◌++◌, map, sym, ap, ◌∙◌, add-one}
+use Rattle.reg_process.specs.Puts.{puts, put_to}
+use Rattle.reg_process.specs.Queued.{sent_frames}
+use Rattle.reg_process.proofs.puts.put_all.Goals as goal
+
+pub loop-r-preserved : goal.loop-r-preserved
+loop-r-preserved g c =
+    c.in_ok-put_one.ensures
+    ∙ ap (λ x. x ++ map (put_to c.loop-r.r) (sent_frames c.args.sent.now c.loop-r.r)) c.loop-r.invariant
+    ∙ sym (ap (puts (sent_frames c.args.sent.now)) (add-one c.loop-r.r))
