@@ -55,18 +55,10 @@ impl<A: Allocator + Copy> Core<A> {
     {
         let processes = shape.processes();
         let registers = shape.registers();
-        let Ok(waiting) = Holdback::new(alloc, me, shape) else {
-            return Err(AllocError);
-        };
-        let Ok(inboxes) = new_inboxes(alloc, processes) else {
-            return Err(AllocError);
-        };
-        let Ok(outboxes) = new_outboxes(alloc, me, processes) else {
-            return Err(AllocError);
-        };
-        let Ok(copy) = Registers::new(alloc, registers as u16) else {
-            return Err(AllocError);
-        };
+        let waiting = Holdback::new(alloc, me, shape)?;
+        let inboxes = new_inboxes(alloc, processes)?;
+        let outboxes = new_outboxes(alloc, me, processes)?;
+        let copy = Registers::new(alloc, registers as u16)?;
         let clock = Clock::new();
         Ok(Core {
             alloc,

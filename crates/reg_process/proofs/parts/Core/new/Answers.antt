@@ -12,13 +12,13 @@ invariant_of-result g c =
     let n = c.processes-processes.ensures in
     let few : c.args.shape.processes ≤ MOST_PROCESSES = subst (λ k. k ≤ MOST_PROCESSES) n.value n.in_range in
     subst Good
-    (same_parts c.args.me c.args.shape.processes c.args.shape.registers c.new-clock.result c.in-Ok.waiting c.in-Ok-new_inboxes.inboxes.items (outs_of c.args.me c.in-Ok-new_outboxes.outboxes) c.in-Ok-new.copy c.new-clock.ensures c.in-Ok.ensures
-    (c.in-Ok-new_inboxes.ensures ∙ ap (λ k. replicate k 0) n.value) (c.in-Ok-new_outboxes.ensures ∙ ap (λ k. replicate k nothing) n.value) (c.in-Ok-new.ensures ∙ ap (λ k. replicate k 0) c.registers-registers.ensures.value))
+    (same_parts c.args.me c.args.shape.processes c.args.shape.registers c.new-clock.result c.in_ok-waiting.waiting c.in_ok-inboxes.inboxes.items (outs_of c.args.me c.in_ok-outboxes.outboxes) c.in_ok-copy.copy c.new-clock.ensures c.in_ok-waiting.ensures
+    (c.in_ok-inboxes.ensures ∙ ap (λ k. replicate k 0) n.value) (c.in_ok-outboxes.ensures ∙ ap (λ k. replicate k nothing) n.value) (c.in_ok-copy.ensures ∙ ap (λ k. replicate k 0) c.registers-registers.ensures.value))
     (first_good c.args.me c.args.shape.processes c.args.shape.registers c.requires few)
 
 pub returns : goal.returns
 returns g c =
     let n = c.processes-processes.ensures in
     sym (ap state_of
-    (same_parts c.args.me c.args.shape.processes c.args.shape.registers c.new-clock.result c.in-Ok.waiting c.in-Ok-new_inboxes.inboxes.items (outs_of c.args.me c.in-Ok-new_outboxes.outboxes) c.in-Ok-new.copy c.new-clock.ensures c.in-Ok.ensures
-    (c.in-Ok-new_inboxes.ensures ∙ ap (λ k. replicate k 0) n.value) (c.in-Ok-new_outboxes.ensures ∙ ap (λ k. replicate k nothing) n.value) (c.in-Ok-new.ensures ∙ ap (λ k. replicate k 0) c.registers-registers.ensures.value)))
+    (same_parts c.args.me c.args.shape.processes c.args.shape.registers c.new-clock.result c.in_ok-waiting.waiting c.in_ok-inboxes.inboxes.items (outs_of c.args.me c.in_ok-outboxes.outboxes) c.in_ok-copy.copy c.new-clock.ensures c.in_ok-waiting.ensures
+    (c.in_ok-inboxes.ensures ∙ ap (λ k. replicate k 0) n.value) (c.in_ok-outboxes.ensures ∙ ap (λ k. replicate k nothing) n.value) (c.in_ok-copy.ensures ∙ ap (λ k. replicate k 0) c.registers-registers.ensures.value)))
