@@ -7,15 +7,14 @@ use Rattle.reg_base.specs.Names.{names_fault}
 use Rattle.reg_history.specs.declared.entries.Entry.{Entry}
 use Rattle.reg_history.specs.declared.entries.Point.{Point}
 use Rattle.reg_history.specs.Reports.{Contents, head_lines, counted_lines, tail_lines, lines_in, IsReportIn, PointsFit, is_front}
-use Rattle.reg_history.specs.LineForms.{IsCounted, IsBody, Follows, body_lines}
-use Rattle.reg_text.specs.Lines.{AllFit}
+use Rattle.reg_history.specs.LineForms.{IsCounted, Follows}
 use Rattle.reg_history.specs.declared.versions.Version.{Version}
 use Rattle.reg_history.specs.Versions.{most_processes, most_registers}
 use Rattle.reg_history.specs.EntryLines.{entry_text}
 use Rattle.reg_history.specs.IdLines.{id_text, IdFits}
 
 abbrev pub after_head : Contents → List (List ℕ)
-after_head r = body_lines r.names r.entries r.order r.points
+after_head r = counted_lines (codes "history ") (entry_text r.names) r.entries (counted_lines (codes "order ") id_text r.order (tail_lines r.points))
 
 abbrev pub after_history : Contents → List (List ℕ)
 after_history r = counted_lines (codes "order ") id_text r.order (tail_lines r.points)
@@ -35,32 +34,17 @@ pub same_contents : (r : Contents) (front : List ℕ) (shape : Extent) (names : 
     → record { front = front; shape = shape; names = names; entries = entries; order = order; points = points } ≡ r
 same_contents r front shape names entries order points a b d e f g = rw (a, b, d, e, f, g) refl
 
-pub body_of : (version : Version) (p : ℕ) (names : List (List ℕ)) (shape kept : Extent) (entries : List Entry) (order : List OpId) (points : Option (List Point)) (l1 l2 l3 : List (List ℕ))
-    → shape ≡ record { processes = p; registers = length names } → kept ≡ shape
+pub from_parts : (version : Version) (front : List ℕ) (p : ℕ) (names : List (List ℕ)) (shape kept : Extent) (entries : List Entry) (order : List OpId) (points : Option (List Point)) (l0 l1 l2 l3 : List (List ℕ))
+    → l0 ≡ head_lines version front p names l1 → is_front front ≡ true → 0 < p → p ≤ most_processes version → names_fault names ≡ None → length names ≤ most_registers version → shape ≡ record { processes = p; registers = length names } → kept ≡ shape
     → IsCounted (codes "history ") (entry_text names) (Follows version names shape) MOST_ENTRIES l1 l2 entries
     → IsCounted (codes "order ") id_text (λ _ x. IdFits version x) MOST_IDS l2 l3 order
     → l3 ≡ tail_lines points → PointsFit version points
-    → IsBody version p names l1 kept entries order points
-body_of version p names shape kept entries order points l1 l2 l3 s k h o e pf =
-    let F : Extent → Type 0 = λ x. AllFit (Follows version names x) entries in
-    record {
-      shaped = k ∙ s;
-      spelled = h.lines ∙ ap (counted_lines (codes "history ") (entry_text names) entries) (o.lines ∙ ap (counted_lines (codes "order ") id_text order) e);
-      fit = subst F (sym k) h.fit;
-      few = h.few;
-      ids = o.fit;
-      few_ids = o.few;
-      points_fit = pf;
-    }
-
-pub from_body : (version : Version) (front : List ℕ) (p : ℕ) (names : List (List ℕ)) (shape : Extent) (entries : List Entry) (order : List OpId) (points : Option (List Point)) (l0 l1 : List (List ℕ))
-    → l0 ≡ head_lines version front p names l1 → is_front front ≡ true → 0 < p → p ≤ most_processes version → names_fault names ≡ None → length names ≤ most_registers version → IsBody version p names l1 shape entries order points
-    → (l0 ≡ lines_in version (record { front = front; shape = shape; names = names; entries = entries; order = order; points = points })) × IsReportIn version (record { front = front; shape = shape; names = names; entries = entries; order = order; points = points })
-from_body version front p names shape entries order points l0 l1 e0 f some few spelt short b =
-    let F : Extent → Type 0 = λ x. AllFit (Follows version names x) entries in
-    let fit = subst F b.shaped b.fit in
+    → (l0 ≡ lines_in version (record { front = front; shape = kept; names = names; entries = entries; order = order; points = points })) × IsReportIn version (record { front = front; shape = kept; names = names; entries = entries; order = order; points = points })
+from_parts version front p names shape kept entries order points l0 l1 l2 l3 e0 f some few spelt short s k h o e3 pf =
+    let P : Extent → Type 0 = λ x. IsCounted (codes "history ") (entry_text names) (Follows version names x) MOST_ENTRIES l1 l2 entries in
+    let h2 = subst P s h in
     let Q : Extent → Type 0 = λ x. (l0 ≡ lines_in version (record { front = front; shape = x; names = names; entries = entries; order = order; points = points })) × IsReportIn version (record { front = front; shape = x; names = names; entries = entries; order = order; points = points }) in
-    subst Q (sym b.shaped) (
-      e0 ∙ ap (head_lines version front p names) b.spelled,
-      record { front = f; names = spelt; few_names = short; some_process = some; processes = few; registers = refl; history = λ j x q. (fit j x q).1; entries = λ j x q. (fit j x q).0; range = record { few_entries = b.few; ids = b.ids; few_ids = b.few_ids; points_fit = b.points_fit } },
+    subst Q (sym (k ∙ s)) (
+      e0 ∙ ap (head_lines version front p names) (h2.lines ∙ ap (counted_lines (codes "history ") (entry_text names) entries) (o.lines ∙ ap (counted_lines (codes "order ") id_text order) e3)),
+      record { front = f; names = spelt; few_names = short; some_process = some; processes = few; registers = refl; history = λ j x q. (h2.fit j x q).1; entries = λ j x q. (h2.fit j x q).0; range = record { few_entries = h2.few; ids = o.fit; few_ids = o.few; points_fit = pf } },
     )

@@ -1,5 +1,5 @@
 -- The forms of lines, whatever the limits, and lines that are being read. They carry a proof: no promise speaks of them.
-use Rattle.std.specs.Prelude.{ℕ, ◌≡◌, ◌≢◌, ◌≤◌, ◌⊎◌, true, Option, List, [], ◌++◌, codes, length, Some, slice_get, ◌∷◌}
+use Rattle.std.specs.Prelude.{ℕ, ◌≡◌, ◌≢◌, ◌≤◌, ◌⊎◌, true, List, [], ◌++◌, codes, length, Some, slice_get, ◌∷◌}
 use Rattle.std.specs.Fmt.{decimal}
 use Rattle.reg_base.specs.Shape.{Extent}
 use Rattle.reg_text.specs.Inner.{HasValue}
@@ -12,13 +12,9 @@ use Rattle.reg_history.specs.declared.entries.Entry.{Entry}
 use Rattle.reg_history.specs.declared.entries.Entry.TheVariants.{Called, Answered}
 use Rattle.reg_history.specs.declared.versions.Version.{Version}
 use Rattle.reg_history.specs.History.{IsInPlace}
-use Rattle.reg_history.specs.EntryLines.{columns_of, entry_text, AnswerFits, ColumnsFit, EntryFits}
-use Rattle.reg_history.specs.IdLines.{id_text, IdFits}
-use Rattle.reg_history.specs.declared.report_limits.TheConstants.{MOST_ENTRIES, MOST_IDS}
-use Rattle.reg_history.specs.declared.entries.Point.{Point}
-use Rattle.reg_base.specs.declared.memory.OpId.{OpId}
+use Rattle.reg_history.specs.EntryLines.{columns_of, AnswerFits, ColumnsFit, EntryFits}
 use Rattle.reg_text.specs.Lines.{AllFit}
-use Rattle.reg_history.specs.Reports.{counted_lines, tail_lines, PointsFit}
+use Rattle.reg_history.specs.Reports.{counted_lines}
 
 -- the value of its operation or answer has 64 bits
 abbrev pub EntryHasValue : Entry → Type 0
@@ -101,17 +97,3 @@ pub record IsCounted {X : Type 0} (mark : List ℕ) (line_of : X → List ℕ) (
   pub lines : old ≡ counted_lines mark line_of xs rest
   pub fit : AllFit Fits xs
   pub few : length xs ≤ limit
-
--- the lines behind the head of a report
-abbrev pub body_lines : List (List ℕ) → List Entry → List OpId → Option (List Point) → List (List ℕ)
-body_lines names entries order points = counted_lines (codes "history ") (entry_text names) entries (counted_lines (codes "order ") id_text order (tail_lines points))
-
--- these parts stand behind the head of a report with this many processes and these names
-pub record IsBody (version : Version) (processes : ℕ) (names : List (List ℕ)) (lines : List (List ℕ)) (shape : Extent) (entries : List Entry) (order : List OpId) (points : Option (List Point)) : Type 0 where
-  pub shaped : shape ≡ record { processes = processes; registers = length names }
-  pub spelled : lines ≡ body_lines names entries order points
-  pub fit : AllFit (Follows version names shape) entries
-  pub few : length entries ≤ MOST_ENTRIES
-  pub ids : AllFit (λ _ id. IdFits version id) order
-  pub few_ids : length order ≤ MOST_IDS
-  pub points_fit : PointsFit version points

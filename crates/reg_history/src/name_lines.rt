@@ -1,5 +1,5 @@
 //! Readers of the registers of a report.
-ghost use Rattle.std.specs.Prelude.{◌≡◌, ◌≢◌, ◌≤◌, ◌⊎◌, ◌∷◌, ◌++◌, ℕ, List, length, true, None, Some, IfOk, IfErr, IfNone, MatchResult, MatchOption, string_bytes, codes, if◌then◌else◌};
+ghost use Rattle.std.specs.Prelude.{◌≡◌, ◌≢◌, ◌≤◌, ◌++◌, ℕ, List, length, true, None, Some, IfOk, IfNone, MatchResult, MatchOption, string_bytes, codes, if◌then◌else◌};
 ghost use Rattle.reg_base.specs.Names.{is_name as is_name_of, names_fault, texts};
 ghost use Rattle.reg_text.specs.Inner.{IsBlock};
 ghost use Rattle.reg_text.specs.Forms.{is_word as is_word_of};
@@ -43,21 +43,6 @@ fn why_name(line: &[u8]) -> ReadWhy
     }
 }
 
-/// The name of the next line.
-fn read_name<A: Allocator + Copy>(alloc: A, lines: &mut Lines<'_>) -> Result<String<A>, ReadFault>
-    ensures read { IfOk result (λ s. (lines.old.left ≡ string_bytes s ∷ lines.new.left) × (is_name_of (string_bytes s) ≡ true)) }
-    ensures why { IfErr result (λ f. (f ≡ ReadFault.OutOfMemory) ⊎ ((name : List ℕ) (rest : List (List ℕ)) → is_name_of name ≡ true → lines.old.left ≢ name ∷ rest)) }
-{
-    let Some(line) = lines.next() else {
-        return Err(at_line(lines, ReadWhy::End));
-    };
-    match name_of_line(alloc, line) {
-        Ok(Some(name)) => Ok(name),
-        Ok(None) => Err(at_line(lines, why_name(line))),
-        Err(_) => Err(ReadFault::OutOfMemory),
-    }
-}
-
 /// The well spelt names of lines, and why the reading stopped before the last of them.
 #[derive(Drop)]
 struct Spelt<A: Allocator + Copy> {
@@ -73,17 +58,24 @@ fn read_spelt<A: Allocator + Copy>(alloc: A, lines: &mut Lines<'_>, count: u32) 
 {
     let mut names = Vec::new(alloc);
     for _place in 0..count {
-        match read_name(alloc, lines) {
-            Ok(name) => {
-                if names.push(name).is_err() {
-                    let stop = Some(ReadFault::OutOfMemory);
-                    return Spelt { names, stop };
-                }
-            }
-            Err(fault) => {
-                let stop = Some(fault);
+        let Some(line) = lines.next() else {
+            let stop = Some(at_line(lines, ReadWhy::End));
+            return Spelt { names, stop };
+        };
+        let name = match name_of_line(alloc, line) {
+            Ok(Some(name)) => name,
+            Ok(None) => {
+                let stop = Some(at_line(lines, why_name(line)));
                 return Spelt { names, stop };
             }
+            Err(_) => {
+                let stop = Some(ReadFault::OutOfMemory);
+                return Spelt { names, stop };
+            }
+        };
+        if names.push(name).is_err() {
+            let stop = Some(ReadFault::OutOfMemory);
+            return Spelt { names, stop };
         }
     }
     Spelt { names, stop: None }

@@ -1,5 +1,5 @@
 //! The counted parts of a report.
-ghost use Rattle.std.specs.Prelude.{◌≡◌, ◌≢◌, ◌<◌, ◌≤◌, length, ℕ, List, [], ◌∷◌, ◌++◌, None, Some, Ok, IfOk, MatchOption, MatchResult, codes, Option, option_map, string_bytes, true};
+ghost use Rattle.std.specs.Prelude.{◌≡◌, ◌<◌, ◌≤◌, length, ℕ, List, [], ◌∷◌, ◌++◌, None, Some, IfOk, MatchResult, codes, Option, option_map, string_bytes, true};
 ghost use Rattle.std.specs.Fmt.{decimal};
 ghost use Rattle.reg_base.specs.Names.{names_fault};
 ghost use Rattle.reg_base.specs.declared.memory.OpId.{OpId};
@@ -9,7 +9,6 @@ ghost use Rattle.reg_history.specs.EntryLines.{entry_text};
 ghost use Rattle.reg_history.specs.Reports.{is_front as is_front_of};
 ghost use Rattle.reg_history.specs.IdLines.{id_text, IdFits, point_text, PointFits};
 ghost use Rattle.reg_history.specs.LineForms.{Follows, IsCounted};
-ghost use Rattle.reg_text.specs.Inner.{IsBlock};
 ghost use Rattle.reg_history.specs.Reports.{tail_lines, PointsFit, head_lines};
 ghost use Rattle.reg_history.specs.declared.versions.Version.{Version};
 ghost use Rattle.reg_history.specs.Versions.{most_processes, most_registers, version_line};
@@ -138,51 +137,6 @@ pub fn read_order<A: Allocator + Copy>(
     read_block(alloc, lines, count as u32, version)
 }
 
-/// The last line of a report. The text ends behind it.
-fn read_end(lines: &mut Lines<'_>) -> Result<(), ReadFault>
-    ensures { MatchResult result (λ _. lines.old.left ≡ codes "end" ∷ []) (λ _. lines.old.left ≢ codes "end" ∷ []) }
-{
-    expect_line(lines, b"end")?;
-    match lines.next() {
-        None => Ok(()),
-        Some(_) => Err(at_line(lines, ReadWhy::End)),
-    }
-}
-
-/// How many points the line announces, if it isn't the last one.
-fn points_announced(lines: &Lines<'_>, line: &[u8]) -> Result<Option<u32>, ReadFault>
-    ensures read { IfOk result (λ o. MatchOption o (line.now ≡ codes "end") (λ n. (line.now ≡ codes "points " ++ decimal n) × (n ≤ MOST_IDS))) }
-    ensures last { line.now ≡ codes "end" → result ≡ Ok None }
-    ensures count { (n : ℕ) → n ≤ MOST_IDS → line.now ≡ codes "points " ++ decimal n → result ≡ Ok (Some n) }
-{
-    if line == b"end".as_slice() {
-        return Ok(None);
-    }
-    let Some(digits) = skip(line, b"points ") else {
-        return Err(at_line(lines, ReadWhy::Form));
-    };
-    match numeral_within(digits, MOST_IDS as u64) {
-        Some(count) => Ok(Some(count as u32)),
-        None => Err(at_line(lines, ReadWhy::from(why_number(digits)))),
-    }
-}
-
-/// As many points as were announced, and the last line.
-fn read_points<A: Allocator + Copy>(
-    alloc: A,
-    lines: &mut Lines<'_>,
-    count: u32,
-    version: Version,
-) -> Result<Vec<Point, A>, ReadFault>
-    ensures read { IfOk result (λ v. IsBlock point_text (λ _ p. PointFits version p) count lines.old.left (codes "end" ∷ []) v.items) }
-    ensures whole { (points : List Point) → IsBlock point_text (λ _ p. PointFits version p) count lines.old.left (codes "end" ∷ []) points
-        → MatchResult result (λ v. v.items ≡ points) (λ f. f ≡ ReadFault.OutOfMemory) }
-{
-    let points = read_block(alloc, lines, count, version)?;
-    read_end(lines)?;
-    Ok(points)
-}
-
 /// The points of a report, if it has any, and its last line.
 pub fn read_tail<A: Allocator + Copy>(
     alloc: A,
@@ -196,14 +150,22 @@ pub fn read_tail<A: Allocator + Copy>(
     let Some(line) = lines.next() else {
         return Err(at_line(lines, ReadWhy::End));
     };
-    match points_announced(lines, line)? {
-        Some(count) => {
-            let points = read_points(alloc, lines, count, version)?;
-            Ok(Some(points))
+    if line == b"end".as_slice() {
+        if lines.next().is_some() {
+            return Err(at_line(lines, ReadWhy::End));
         }
-        None => match lines.next() {
-            None => Ok(None),
-            Some(_) => Err(at_line(lines, ReadWhy::End)),
-        },
+        return Ok(None);
     }
+    let Some(digits) = skip(line, b"points ") else {
+        return Err(at_line(lines, ReadWhy::Form));
+    };
+    let Some(count) = numeral_within(digits, MOST_IDS as u64) else {
+        return Err(at_line(lines, ReadWhy::from(why_number(digits))));
+    };
+    let points = read_block(alloc, lines, count as u32, version)?;
+    expect_line(lines, b"end")?;
+    if lines.next().is_some() {
+        return Err(at_line(lines, ReadWhy::End));
+    }
+    Ok(Some(points))
 }

@@ -1,13 +1,11 @@
 //! Reports, and their texts.
-ghost use Rattle.std.specs.Prelude.{◌≡◌, ◌↔◌, ◌<◌, ◌≤◌, length, ℕ, Some, None, IfOk, OnOk, MatchOption, MatchResult, IsTrue, option_map, slice_get, string_bytes};
+ghost use Rattle.std.specs.Prelude.{◌≡◌, ◌↔◌, ◌<◌, ◌≤◌, ℕ, Some, IfOk, OnOk, MatchOption, MatchResult, IsTrue, option_map, slice_get, string_bytes};
 ghost use Rattle.std.specs.Io.KnownBytes.{Appends};
-ghost use Rattle.reg_base.specs.Names.{names_fault};
 ghost use Rattle.reg_text.specs.Writing.{AppendsPart, Puts};
 ghost use Rattle.reg_history.specs.declared.entries.Entry.{Entry};
-ghost use Rattle.reg_history.specs.LineForms.{EntryHasValue, IsBody, body_lines};
+ghost use Rattle.reg_history.specs.LineForms.{EntryHasValue};
 ghost use Rattle.reg_history.specs.declared.versions.Version.{Version};
 ghost use Rattle.reg_history.specs.declared.versions.Version.TheVariants.{Two};
-ghost use Rattle.reg_history.specs.Versions.{most_processes, most_registers};
 ghost use Rattle.reg_history.specs.Reports.{lines_in, report_text, IsReport, IsReportIn, IsReportFault, InRange, PointsFit, SpellsReport, Contents};
 
 use crate::entries::{Entry, Point};
@@ -191,54 +189,18 @@ impl<A: Allocator + Copy> Report<A> {
     }
 }
 
-/// What stands behind the head of a report.
-#[derive(Drop)]
-struct Body<A: Allocator + Copy> {
-    history: History<A>,
-    order: Vec<OpId, A>,
-    points: Option<Vec<Point, A>>,
-}
-
-/// The lines behind the head of a report with this many processes and these names.
-fn read_body<A: Allocator + Copy>(
-    alloc: A,
-    lines: &mut Lines<'_>,
-    processes: u32,
-    names: &Names<A>,
-    version: Version,
-) -> Result<Body<A>, ReadFault>
-    requires spelt { names_fault names.now ≡ None }
-    requires few_names { length names.now ≤ most_registers version }
-    requires some_process { 0 < processes }
-    requires few_processes { processes ≤ most_processes version }
-    ensures read { IfOk result (λ b. IsBody version processes names.now lines.old.left b.history.shape b.history.entries b.order.items (option_map (λ v. v.items) b.points)) }
-    ensures whole { (r : Contents) → IsReportIn version r → r.shape.processes ≡ processes → r.names ≡ names.now → lines.old.left ≡ body_lines r.names r.entries r.order r.points
-        → MatchResult result (λ b. (b.history.shape ≡ r.shape) × (b.history.entries ≡ r.entries) × (b.order.items ≡ r.order) × (option_map (λ v. v.items) b.points ≡ r.points)) (λ f. f ≡ ReadFault.OutOfMemory) }
-{
-    let Ok(shape) = Shape::new(processes, names.count() as u32) else {
-        return Err(at_line(lines, ReadWhy::Range));
-    };
-    let history = read_history(alloc, lines, shape, names, version)?;
-    let order = read_order(alloc, lines, version)?;
-    let points = read_tail(alloc, lines, version)?;
-    Ok(Body {
-        history,
-        order,
-        points,
-    })
-}
-
 /// The report of these lines.
 fn read_lines<A: Allocator + Copy>(alloc: A, lines: &mut Lines<'_>) -> Result<Report<A>, ReadFault>
     ensures read { IfOk result (λ r. (version : Version) × IsReportIn version r × (lines.old.left ≡ lines_in version r)) }
     ensures whole { (version : Version) (r : Contents) → IsReportIn version r → lines.old.left ≡ lines_in version r → MatchResult result (λ w. w ≡ r) (λ f. f ≡ ReadFault.OutOfMemory) }
 {
     let (version, front, processes, names) = read_head(alloc, lines)?;
-    let Body {
-        history,
-        order,
-        points,
-    } = read_body(alloc, lines, processes, &names, version)?;
+    let Ok(shape) = Shape::new(processes, names.count() as u32) else {
+        return Err(at_line(lines, ReadWhy::Range));
+    };
+    let history = read_history(alloc, lines, shape, &names, version)?;
+    let order = read_order(alloc, lines, version)?;
+    let points = read_tail(alloc, lines, version)?;
     Ok(Report {
         front,
         names,
