@@ -1,5 +1,5 @@
 -- The report of a play, by what its player and its world answer.
-use Rattle.std.proofs.Common.{◌≡◌, ◌<◌, ℕ, Bool, true, false, List, length, Option, Result, Ok, Err, refl, sym, subst}
+use Rattle.std.proofs.Common.{◌≡◌, ◌<◌, ℕ, Bool, true, false, List, length, Option, Result, Ok, Err, refl, sym, ◌∙◌, subst}
 use Rattle.std.specs.Prelude.{IfOk}
 use Rattle.reg_base.specs.declared.memory.Op.{Op}
 use Rattle.reg_front.specs.declared.named.Front.{Front}
@@ -11,8 +11,8 @@ use Rattle.reg_toml.specs.Loads.{Load}
 use Rattle.reg_workload.specs.Schedules.{Plan}
 use Rattle.reg_workload.specs.Plays.{IsPlay}
 use Rattle.reg_workload.specs.Fair.{TakesInOrder}
-use Rattle.reg_commands.specs.Replays.{plan_in, Shows}
-use Rattle.reg_commands.specs.Plays.{PlaysAs, IsPlayBy, plan_of, ShowsPlay}
+use Rattle.reg_commands.specs.Replays.{plan_in, start_of, Shows, PointsOf}
+use Rattle.reg_commands.specs.Plays.{PlaysAs, IsPlayBy, plan_of, ShowsPlay, IsReportOfPlay}
 
 module _ {P E : Type 0} (world : P → Made) (is_finished : P → Bool) (fair : Bool) (start : Op → ℕ → Start) (work : Load) where
   by_player : (which : Bool) → fair ≡ which → (answer : Result P E) → IfOk answer (λ p. IsPlay start work.shape work.scripts work.budget (world p) (is_finished p))
@@ -49,3 +49,8 @@ play_shown fair start work front names made is_finished AreSo (Ok r) same_front 
       points = subst (λ (p : Plan). AreSo p r.points) same points;
     }
 play_shown fair start work front names made is_finished AreSo (Err e) same_front same_names played shows points = tt
+
+-- the report of a play, by the front end that the workload has
+pub shown_by : {E : Type 0} (fair : Bool) (front kept : Front) (work : Load) (report : Result Contents E) → kept ≡ work.front → kept ≡ front → IfOk report (λ r. ShowsPlay fair (start_of front) work (PointsOf front) r) → IfOk report (λ r. IsReportOfPlay fair work r)
+shown_by fair front kept work report same is shown =
+    subst (λ (f : Front). IfOk report (λ r. ShowsPlay fair (start_of f) work (PointsOf f) r)) (sym is ∙ same) shown

@@ -1,5 +1,5 @@
 -- The report of a run, by what the world answers.
-use Rattle.std.proofs.Common.{◌≡◌, ℕ, List, Option, Some, None, Result, Ok, Err, refl, sym, ap, ◌∙◌, subst}
+use Rattle.std.proofs.Common.{◌≡◌, ℕ, List, Option, Result, Ok, Err, refl, sym, ap, ◌∙◌, subst}
 use Rattle.std.specs.Prelude.{IfOk, IfErr}
 use Rattle.reg_base.specs.declared.memory.Op.{Op}
 use Rattle.reg_base.specs.declared.memory.OpId.{OpId}
@@ -13,7 +13,7 @@ use Rattle.reg_history.specs.Orders.{IsSerial}
 use Rattle.reg_history.specs.Log.{Log}
 use Rattle.reg_history.specs.Reports.{Contents}
 use Rattle.reg_world.specs.World.{run_of}
-use Rattle.reg_world.specs.Keys.{IsWitness, ArePoints}
+use Rattle.reg_world.specs.Keys.{IsWitness}
 use Rattle.reg_world.specs.Worlds.{Made, run_in, after_events}
 use Rattle.reg_workload.specs.Schedules.{Plan}
 use Rattle.reg_commands.specs.declared.faults.Fault.{Fault}
@@ -59,11 +59,14 @@ shows start front names w history ids points (Ok r) told ordered made =
     subst (λ (x : Contents). Shows start (plan_in front names w) x) (sym made) (one_shows start front names w history ids points told ordered)
 shows start front names w history ids points (Err e) told ordered made = tt
 
-pub shows_points : {E : Type 0} (start : Op → ℕ → Start) (front : Front) (names : List (List ℕ)) (w : Made) (history : Log) (ids : List OpId) (ps : List Point) (report : Result Contents E)
-    → ArePoints (run_of w.registers (run_in start w)) ps → IfOk report (λ r. r ≡ parts_of front names history ids (Some ps)) → IfOk report (λ r. ShowsPoints start (plan_in front names w) r.points)
-shows_points start front names w history ids ps (Ok r) are made =
-    subst (λ (x : Contents). ShowsPoints start (plan_in front names w) x.points) (sym made) are
-shows_points start front names w history ids ps (Err e) are made = tt
+-- its points are those of the parts
+pub same_points : {E : Type 0} (parts : Contents) (report : Result Contents E) → IfOk report (λ r. r ≡ parts) → IfOk report (λ r. r.points ≡ parts.points)
+same_points parts (Ok r) made = ap (λ (q : Contents). q.points) made
+same_points parts (Err e) made = tt
+
+pub shows_points : {E : Type 0} (start : Op → ℕ → Start) (p : Plan) (points : Option (List Point)) (report : Result Contents E) → ShowsPoints start p points → IfOk report (λ r. r.points ≡ points) → IfOk report (λ r. ShowsPoints start p r.points)
+shows_points start p points (Ok r) are same = subst (λ (x : Option (List Point)). ShowsPoints start p x) (sym same) are
+shows_points start p points (Err e) are same = tt
 
 -- a run of the events of a plan, under its front end and its names, is that plan
 pub same_plan : (start : Op → ℕ → Start) (p : Plan) (front : Front) (names : List (List ℕ)) (w : Made) → w ≡ after_events start p.shape p.events → names ≡ p.names → front ≡ p.front → plan_in front names w ≡ p
@@ -74,10 +77,6 @@ shows_same start p q report same shown = subst (λ (x : Plan). IfOk report (λ r
 
 pub points_same : {E : Type 0} (start : Op → ℕ → Start) (p q : Plan) (report : Result Contents E) → p ≡ q → IfOk report (λ r. ShowsPoints start p r.points) → IfOk report (λ r. ShowsPoints start q r.points)
 points_same start p q report same shown = subst (λ (x : Plan). IfOk report (λ r. ShowsPoints start x r.points)) same shown
-
-pub no_points : {E : Type 0} (parts : Contents) (report : Result Contents E) → parts.points ≡ None → IfOk report (λ r. r ≡ parts) → IfOk report (λ r. r.points ≡ None)
-no_points parts (Ok r) none made = ap (λ (q : Contents). q.points) made ∙ none
-no_points parts (Err e) none made = tt
 
 -- want of memory blames nothing
 pub memory_blames : {R : Type 0} (start : Op → ℕ → Start) (p : Plan) (report : Result R Fault) → IfErr report (λ f. f ≡ OutOfMemory) → IfErr report (λ f. BlamesRun start p f)

@@ -15,18 +15,18 @@ use Rattle.reg_commands.specs.Inner.{Tells}
 pub serial_told : {A : Type 0} (r : Contents) (registers : ℕ) (h : List Entry) (ids : List OpId) (answer : Result A CheckFault) (v : Verdict) → registers ≡ r.shape.registers → h ≡ r.entries → ids ≡ r.order
     → SerialVerdict registers h ids answer → Tells answer v → SerialSays r v
 serial_told r registers h ids (Ok x) Yes en eh ei verdict told = rw (← en, ← eh, ← ei) verdict
-serial_told r registers h ids (Ok x) (No said) en eh ei verdict told = absurd told
+serial_told r registers h ids (Ok x) (No reason) en eh ei verdict told = absurd told
 serial_told r registers h ids (Err fault) Yes en eh ei verdict told = absurd told
-serial_told r registers h ids (Err fault) (No said) en eh ei verdict told =
-    rw (← en, ← eh, ← ei) (told.0, subst (λ (f : CheckFault). IsSerialFault registers h ids f) told.1 verdict)
+serial_told r registers h ids (Err fault) (No reason) en eh ei verdict told =
+    rw (← en, ← eh, ← ei) (subst (λ (f : CheckFault). IsSerialFault registers h ids f) told verdict)
 
 pub points_told : {A : Type 0} (r : Contents) (registers : ℕ) (h : List Entry) (ps : List Point) (answer : Result A CheckFault) (v : Verdict) → registers ≡ r.shape.registers → h ≡ r.entries
     → PointVerdict registers h ps answer → Tells answer v → PointsSay r ps v
 points_told r registers h ps (Ok x) Yes en eh verdict told = rw (← en, ← eh) verdict
-points_told r registers h ps (Ok x) (No said) en eh verdict told = absurd told
+points_told r registers h ps (Ok x) (No reason) en eh verdict told = absurd told
 points_told r registers h ps (Err fault) Yes en eh verdict told = absurd told
-points_told r registers h ps (Err fault) (No said) en eh verdict told =
-    rw (← en, ← eh) (told.0, subst (λ (f : CheckFault). IsPointFault registers h ps f) told.1 verdict)
+points_told r registers h ps (Err fault) (No reason) en eh verdict told =
+    rw (← en, ← eh) (subst (λ (f : CheckFault). IsPointFault registers h ps f) told verdict)
 
 pub all_serial_told : {A E : Type 0} (r : Contents) (registers : ℕ) (h : List Entry) (ids : List OpId) (answer : Result A CheckFault) (told : Result Verdict E) → registers ≡ r.shape.registers → h ≡ r.entries → ids ≡ r.order
     → SerialVerdict registers h ids answer → IfOk told (λ v. Tells answer v) → IfOk told (λ v. SerialSays r v)

@@ -1,24 +1,37 @@
 -- What a report read is told.
-use Rattle.std.specs.Prelude.{ℕ, ◌≢◌, Bool, true, false, ◌&&◌, List, [], ◌∷◌, ◌++◌, codes, Option, None, Some}
+use Rattle.std.specs.Prelude.{ℕ, Bool, true, false, ◌&&◌, List, [], ◌∷◌, ◌++◌, codes, Option, None, Some}
 use Rattle.std.specs.Fmt.{decimal}
 use Rattle.reg_history.specs.declared.entries.Point.{Point}
-use Rattle.reg_history.specs.declared.faults.CheckFault.TheVariants.{Unknown, Twice, Missing, OwnOrder, Answer, Outside, Falling, OutOfMemory}
+use Rattle.reg_history.specs.declared.faults.CheckFault.{CheckFault}
+use Rattle.reg_history.specs.declared.faults.CheckFault.TheVariants.{Unknown as UnknownFault, Twice as TwiceFault, Missing as MissingFault, OwnOrder as OwnOrderFault, Answer as AnswerFault, Outside as OutsideFault, Falling as FallingFault}
 use Rattle.reg_history.specs.Orders.{IsSerial, IsPointOrder}
 use Rattle.reg_history.specs.Checks.{IsSerialFault, IsPointFault}
 use Rattle.reg_history.specs.Reports.{Contents}
+use Rattle.reg_commands.specs.declared.verdicts.Reason.{Reason}
+use Rattle.reg_commands.specs.declared.verdicts.Reason.TheVariants.{Unknown, Twice, Missing, OwnOrder, Answer, Outside, Falling}
 use Rattle.reg_commands.specs.declared.verdicts.Verdict.{Verdict}
 use Rattle.reg_commands.specs.declared.verdicts.Verdict.TheVariants.{Yes, No}
 use Rattle.reg_commands.specs.declared.verdicts.Verdicts.{Verdicts}
 
--- the order is serial, or this is the first fault that it has, and no want of memory
+-- the fault of a checker that has this reason: each but want of memory
+abbrev pub fault_of : Reason → CheckFault
+fault_of Unknown = UnknownFault
+fault_of Twice = TwiceFault
+fault_of Missing = MissingFault
+fault_of OwnOrder = OwnOrderFault
+fault_of (Answer place) = AnswerFault place
+fault_of (Outside place) = OutsideFault place
+fault_of (Falling place) = FallingFault place
+
+-- the order is serial, or this is the first fault that it has
 abbrev pub SerialSays : Contents → Verdict → Type 0
 SerialSays r Yes = IsSerial r.shape.registers r.entries r.order
-SerialSays r (No fault) = (fault ≢ OutOfMemory) × IsSerialFault r.shape.registers r.entries r.order fault
+SerialSays r (No reason) = IsSerialFault r.shape.registers r.entries r.order (fault_of reason)
 
--- the points are a point order, or this is the first fault that they have, and no want of memory
+-- the points are a point order, or this is the first fault that they have
 abbrev pub PointsSay : Contents → List Point → Verdict → Type 0
 PointsSay r ps Yes = IsPointOrder r.shape.registers r.entries ps
-PointsSay r ps (No fault) = (fault ≢ OutOfMemory) × IsPointFault r.shape.registers r.entries ps fault
+PointsSay r ps (No reason) = IsPointFault r.shape.registers r.entries ps (fault_of reason)
 
 -- points are judged exactly where there are any
 abbrev pub AllPointsSay : Contents → Option (List Point) → Option Verdict → Type 0
@@ -32,7 +45,7 @@ Judges r v = SerialSays r v.serial × AllPointsSay r r.points v.points
 
 abbrev pub is_yes : Verdict → Bool
 is_yes Yes = true
-is_yes (No fault) = false
+is_yes (No reason) = false
 
 abbrev pub is_yes_or_none : Option Verdict → Bool
 is_yes_or_none None = true
@@ -52,7 +65,6 @@ verdict_words (No OwnOrder) = codes " no: own order"
 verdict_words (No (Answer place)) = codes " no: answer at " ++ decimal place
 verdict_words (No (Outside place)) = codes " no: outside at " ++ decimal place
 verdict_words (No (Falling place)) = codes " no: falling at " ++ decimal place
-verdict_words (No OutOfMemory) = codes " no: out of memory"
 
 -- the line of a verdict
 abbrev pub verdict_line : List ℕ → Verdict → List ℕ

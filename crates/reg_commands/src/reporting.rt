@@ -57,6 +57,26 @@ fn report<A: Allocator + Copy>(
     }
 }
 
+/// The report of what a world did, under this front end and these names, with these points or none.
+fn report_world<F: FrontEnd, A: Allocator + Copy>(
+    alloc: A,
+    front: Front,
+    names: Names<A>,
+    world: World<F, A>,
+    points: Option<Vec<Point, A>>,
+) -> Result<Report<A>, Fault>
+    requires names { world.registers ≡ length names }
+    requires points { PointsStand world.registers world.history (option_map (λ v. v.items) points) }
+    ensures shows { IfOk result (λ r. Shows F.start (plan_in front names world) r) }
+    ensures points { IfOk result (λ r. r.points ≡ option_map (λ v. v.items) points) }
+    ensures why { IfErr result (λ f. f ≡ Fault.OutOfMemory) }
+{
+    let Ok((_, order)) = world.serial_order() else {
+        return Err(Fault::OutOfMemory);
+    };
+    report(alloc, front, names, world.into_history(), order, points)
+}
+
 /// The report of what a world did, under this front end and these names, with no points.
 pub fn report_run<F: FrontEnd, A: Allocator + Copy>(
     alloc: A,
@@ -69,10 +89,7 @@ pub fn report_run<F: FrontEnd, A: Allocator + Copy>(
     ensures points { IfOk result (λ r. r.points ≡ None) }
     ensures why { IfErr result (λ f. f ≡ Fault.OutOfMemory) }
 {
-    let Ok((_, order)) = world.serial_order() else {
-        return Err(Fault::OutOfMemory);
-    };
-    report(alloc, front, names, world.into_history(), order, None)
+    report_world(alloc, front, names, world, None)
 }
 
 // Each first delivery is at an event that a run may have. It does nothing: its contract says so.
@@ -108,20 +125,10 @@ pub fn report_run_with_points<F: RealTime, A: Allocator + Copy>(
     ensures points { IfOk result (λ r. ShowsPoints F.start (plan_in front names world) r.points) }
     ensures why { IfErr result (λ f. f ≡ Fault.OutOfMemory) }
 {
-    let Ok((_, order)) = world.serial_order() else {
-        return Err(Fault::OutOfMemory);
-    };
     let Ok(points) = points_of(&world) else {
         return Err(Fault::OutOfMemory);
     };
-    report(
-        alloc,
-        front,
-        names,
-        world.into_history(),
-        order,
-        Some(points),
-    )
+    report_world(alloc, front, names, world, Some(points))
 }
 
 /// Writes the text of a report, all of it or, where the writer fails, a first part.

@@ -1,9 +1,9 @@
 //! Judging a report from its text alone.
-ghost use Rattle.std.specs.Prelude.{◌≡◌, ◌++◌, ◌∷◌, [], Err, IfOk, IfErr, MatchResult};
+ghost use Rattle.std.specs.Prelude.{◌≡◌, ◌++◌, ◌∷◌, [], Err, IfOk, IfErr, MatchOption, MatchResult};
 ghost use Rattle.std.specs.Io.KnownBytes.{Appends};
 ghost use Rattle.std.specs.Fmt.{decimal};
 ghost use Rattle.reg_text.specs.Writing.{AppendsPart, Puts};
-ghost use Rattle.reg_commands.specs.Verdicts.{SerialSays, PointsSay, AllPointsSay, Judges, is_yes as is_yes_of, all_yes as all_yes_of, verdict_line, points_line, verdicts_text};
+ghost use Rattle.reg_commands.specs.Verdicts.{SerialSays, PointsSay, AllPointsSay, Judges, fault_of, is_yes as is_yes_of, all_yes as all_yes_of, verdict_line, points_line, verdicts_text};
 ghost use Rattle.reg_commands.specs.Inner.{Tells};
 
 use crate::faults::Fault;
@@ -13,17 +13,29 @@ use reg_text::Sink;
 use std::alloc::{AllocError, Allocator};
 use std::io::Write;
 
+/// What is wrong with an order. A place counts from 0.
+#[derive(Clone, Copy)]
+pub enum Reason {
+    Unknown,
+    Twice,
+    Missing,
+    OwnOrder,
+    Answer { place: usize },
+    Outside { place: usize },
+    Falling { place: usize },
+}
+
 /// What a checker says of an order.
-#[derive(Clone, Copy, Debug, PartialEq, Eq)]
+#[derive(Clone, Copy)]
 pub enum Verdict {
     /// It is one.
     Yes,
-    /// It is none, for this reason: never want of memory.
-    No(CheckFault),
+    /// It is none, for this reason.
+    No(Reason),
 }
 
 /// What the checkers say of a report: of its order, and of its points where it has any.
-#[derive(Clone, Copy, Debug, PartialEq, Eq)]
+#[derive(Clone, Copy)]
 pub struct Verdicts {
     pub serial: Verdict,
     pub points: Option<Verdict>,
@@ -49,6 +61,22 @@ pub fn all_yes(verdicts: Verdicts) -> bool
     is_yes(verdicts.serial) && points
 }
 
+/// The reason of a checker's fault. None where there was no memory to check.
+fn reason_of(fault: CheckFault) -> Option<Reason>
+    ensures { MatchOption result (fault ≡ CheckFault.OutOfMemory) (λ reason. fault ≡ fault_of reason) }
+{
+    match fault {
+        CheckFault::Unknown => Some(Reason::Unknown),
+        CheckFault::Twice => Some(Reason::Twice),
+        CheckFault::Missing => Some(Reason::Missing),
+        CheckFault::OwnOrder => Some(Reason::OwnOrder),
+        CheckFault::Answer { place } => Some(Reason::Answer { place }),
+        CheckFault::Outside { place } => Some(Reason::Outside { place }),
+        CheckFault::Falling { place } => Some(Reason::Falling { place }),
+        CheckFault::OutOfMemory => None,
+    }
+}
+
 /// The verdict of a check.
 fn verdict_of(answer: Result<(), CheckFault>) -> Result<Verdict, AllocError>
     ensures tells { IfOk result (λ v. Tells answer v) }
@@ -56,8 +84,10 @@ fn verdict_of(answer: Result<(), CheckFault>) -> Result<Verdict, AllocError>
 {
     match answer {
         Ok(()) => Ok(Verdict::Yes),
-        Err(CheckFault::OutOfMemory) => Err(AllocError),
-        Err(fault) => Ok(Verdict::No(fault)),
+        Err(fault) => match reason_of(fault) {
+            Some(reason) => Ok(Verdict::No(reason)),
+            None => Err(AllocError),
+        },
     }
 }
 
@@ -116,18 +146,17 @@ fn put_place<W: Write>(sink: &mut Sink<'_, W>, name: &str, words: &str, place: u
     sink.put(b"\n");
 }
 
-fn put_fault<W: Write>(sink: &mut Sink<'_, W>, name: &str, fault: CheckFault)
-    ensures { Puts W.contents sink.old sink.new (verdict_line name.now (Verdict.No fault)) }
+fn put_reason<W: Write>(sink: &mut Sink<'_, W>, name: &str, reason: Reason)
+    ensures { Puts W.contents sink.old sink.new (verdict_line name.now (Verdict.No reason)) }
 {
-    match fault {
-        CheckFault::Unknown => put_words(sink, name, " no: unknown"),
-        CheckFault::Twice => put_words(sink, name, " no: twice"),
-        CheckFault::Missing => put_words(sink, name, " no: missing"),
-        CheckFault::OwnOrder => put_words(sink, name, " no: own order"),
-        CheckFault::Answer { place } => put_place(sink, name, " no: answer at ", place),
-        CheckFault::Outside { place } => put_place(sink, name, " no: outside at ", place),
-        CheckFault::Falling { place } => put_place(sink, name, " no: falling at ", place),
-        CheckFault::OutOfMemory => put_words(sink, name, " no: out of memory"),
+    match reason {
+        Reason::Unknown => put_words(sink, name, " no: unknown"),
+        Reason::Twice => put_words(sink, name, " no: twice"),
+        Reason::Missing => put_words(sink, name, " no: missing"),
+        Reason::OwnOrder => put_words(sink, name, " no: own order"),
+        Reason::Answer { place } => put_place(sink, name, " no: answer at ", place),
+        Reason::Outside { place } => put_place(sink, name, " no: outside at ", place),
+        Reason::Falling { place } => put_place(sink, name, " no: falling at ", place),
     }
 }
 
@@ -136,7 +165,7 @@ fn put_verdict<W: Write>(sink: &mut Sink<'_, W>, name: &str, verdict: Verdict)
 {
     match verdict {
         Verdict::Yes => put_words(sink, name, " yes"),
-        Verdict::No(fault) => put_fault(sink, name, fault),
+        Verdict::No(reason) => put_reason(sink, name, reason),
     }
 }
 

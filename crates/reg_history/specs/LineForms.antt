@@ -1,11 +1,13 @@
 -- The forms of lines, whatever the limits, and lines that are being read. They carry a proof: no promise speaks of them.
-use Rattle.std.specs.Prelude.{ℕ, ◌≡◌, ◌≤◌, ◌⊎◌, true, List, ◌++◌, codes, length, Some, slice_get, ◌∷◌}
+use Rattle.std.specs.Prelude.{ℕ, ◌≡◌, ◌≢◌, ◌≤◌, ◌⊎◌, true, List, [], ◌++◌, codes, length, Some, slice_get, ◌∷◌}
 use Rattle.std.specs.Fmt.{decimal}
 use Rattle.reg_base.specs.Shape.{Extent}
 use Rattle.reg_text.specs.Inner.{HasValue}
 use Rattle.reg_text.specs.Forms.{is_numeral, HasOpForm, IsReadForm, IsWriteForm, IsSwapForm}
 use Rattle.reg_text.specs.declared.faults.Why.{Why}
 use Rattle.reg_text.specs.declared.faults.Why.TheVariants.{Range, Name}
+use Rattle.reg_history.specs.declared.report_faults.ReadWhy.{ReadWhy}
+use Rattle.reg_history.specs.declared.report_faults.ReadWhy.TheVariants.{Form as Misspelt, Range as BeyondLimit, End as NoLine}
 use Rattle.reg_history.specs.declared.entries.Entry.{Entry}
 use Rattle.reg_history.specs.declared.entries.Entry.TheVariants.{Called, Answered}
 use Rattle.reg_history.specs.declared.versions.Version.{Version}
@@ -78,6 +80,17 @@ IsPointForm line process number at = (is_numeral process ≡ true) × (is_numera
 
 abbrev pub HasPointForm : List ℕ → Type 0
 HasPointForm line = (process : List ℕ) × ((number : List ℕ) × ((at : List ℕ) × IsPointForm line process number at))
+
+-- The line is none of an item's, for this reason: where it has the form of one, a number of it is beyond its limit.
+pub record IsBadLine {X : Type 0} (line_of : X → List ℕ) (Fits : X → Type 0) (HasForm : List ℕ → Type 0) (line : List ℕ) (why : ReadWhy) : Type 0 where
+  pub none : (x : X) → Fits x → line ≢ line_of x
+  pub range : HasForm line → why ≡ BeyondLimit
+  pub form : (¬ HasForm line) → why ≡ Misspelt
+
+-- no line is left, or the next one is none of an item's
+abbrev pub IsBadNext : {X : Type 0} → (X → List ℕ) → (X → Type 0) → (List ℕ → Type 0) → List (List ℕ) → ReadWhy → Type 0
+IsBadNext line_of Fits HasForm [] why = why ≡ NoLine
+IsBadNext line_of Fits HasForm (line ∷ rest) why = IsBadLine line_of Fits HasForm line why
 
 -- the lines are those of a count and of as many elements, each fit, no more than the limit, and then the rest
 pub record IsCounted {X : Type 0} (mark : List ℕ) (line_of : X → List ℕ) (Fits : List X → X → Type 0) (limit : ℕ) (old rest : List (List ℕ)) (xs : List X) : Type 0 where

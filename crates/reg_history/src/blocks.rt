@@ -1,75 +1,56 @@
 //! As many lines as a count announces.
-ghost use Rattle.std.specs.Prelude.{◌≡◌, ℕ, List, [], None, IfOk, OnOk, MatchResult};
-ghost use Rattle.reg_base.specs.declared.memory.OpId.{OpId};
-ghost use Rattle.reg_history.specs.declared.entries.Point.{Point};
+ghost use Rattle.std.specs.Prelude.{◌≡◌, ℕ, List, [], ◌∷◌, None, Ok, IfOk, IfErr, OnOk, MatchResult};
 ghost use Rattle.reg_base.specs.Names.{names_fault};
 ghost use Rattle.reg_history.specs.declared.entries.Entry.{Entry};
-ghost use Rattle.reg_history.specs.IdLines.{id_text, IdFits, point_text, PointFits};
-ghost use Rattle.reg_history.specs.LineForms.{Follows};
+ghost use Rattle.reg_history.specs.declared.report_faults.ReadWhy.{ReadWhy as Why};
+ghost use Rattle.reg_history.specs.LineForms.{Follows, IsBadNext};
 ghost use Rattle.reg_history.specs.EntryLines.{entry_text};
 ghost use Rattle.reg_text.specs.Inner.{IsBlock};
 
-use crate::entries::Point;
 use crate::entry_lines::{read_entry, why_entry};
 use crate::faults::HistoryFault;
-use crate::id_lines::{read_id, read_point, why_id, why_point};
+use crate::items::{Listed, why_unlisted};
 use crate::log::History;
 use crate::report_faults::{ReadFault, ReadWhy, at_line};
 use crate::versions::Version;
-use reg_base::{Names, OpId};
+use reg_base::Names;
 use reg_text::Lines;
 use std::alloc::Allocator;
 
-/// As many operations as the count says.
-pub fn read_ids<A: Allocator + Copy>(
-    alloc: A,
-    lines: &mut Lines<'_>,
-    count: u32,
-    version: Version,
-) -> Result<Vec<OpId, A>, ReadFault>
-    ensures read { IfOk result (λ v. IsBlock id_text (λ _ x. IdFits version x) count lines.old.left lines.new.left v.items) }
-    ensures whole { (ys : List OpId) (rest : List (List ℕ)) → IsBlock id_text (λ _ x. IdFits version x) count lines.old.left rest ys
-        → MatchResult result (λ v. (v.items ≡ ys) × (lines.new.left ≡ rest)) (λ f. f ≡ ReadFault.OutOfMemory) }
+/// The item of the next line.
+fn read_item<T: Listed>(lines: &mut Lines<'_>, version: Version) -> Result<T, ReadFault>
+    ensures read { IfOk result (λ x. T.Fits version x × (lines.old.left ≡ T.line_of x ∷ lines.new.left)) }
+    ensures whole { (x : T) (rest : List (List ℕ)) → T.Fits version x → lines.old.left ≡ T.line_of x ∷ rest → result ≡ Ok x }
+    ensures why { IfErr result (λ f. (why : Why) × (f ≡ ReadFault.Line lines.new.number why) × IsBadNext T.line_of (T.Fits version) T.HasForm lines.old.left why) }
 {
-    let mut ids = Vec::new(alloc);
-    for _place in 0..count {
-        let Some(line) = lines.next() else {
-            return Err(at_line(lines, ReadWhy::End));
-        };
-        let Some(id) = read_id(line, version) else {
-            return Err(at_line(lines, why_id(line)));
-        };
-        if ids.push(id).is_err() {
-            return Err(ReadFault::OutOfMemory);
-        }
+    let Some(line) = lines.next() else {
+        return Err(at_line(lines, ReadWhy::End));
+    };
+    match T::read(line, version) {
+        Some(item) => Ok(item),
+        None => Err(at_line(lines, why_unlisted::<T>(line))),
     }
-    Ok(ids)
 }
 
-/// As many points as the count says.
-pub fn read_points<A: Allocator + Copy>(
+/// As many items as the count says.
+pub fn read_block<T: Listed, A: Allocator + Copy>(
     alloc: A,
     lines: &mut Lines<'_>,
     count: u32,
     version: Version,
-) -> Result<Vec<Point, A>, ReadFault>
-    ensures read { IfOk result (λ v. IsBlock point_text (λ _ x. PointFits version x) count lines.old.left lines.new.left v.items) }
-    ensures whole { (ys : List Point) (rest : List (List ℕ)) → IsBlock point_text (λ _ x. PointFits version x) count lines.old.left rest ys
+) -> Result<Vec<T, A>, ReadFault>
+    ensures read { IfOk result (λ v. IsBlock T.line_of (λ _ x. T.Fits version x) count lines.old.left lines.new.left v.items) }
+    ensures whole { (ys : List T) (rest : List (List ℕ)) → IsBlock T.line_of (λ _ x. T.Fits version x) count lines.old.left rest ys
         → MatchResult result (λ v. (v.items ≡ ys) × (lines.new.left ≡ rest)) (λ f. f ≡ ReadFault.OutOfMemory) }
 {
-    let mut points = Vec::new(alloc);
+    let mut items = Vec::new(alloc);
     for _place in 0..count {
-        let Some(line) = lines.next() else {
-            return Err(at_line(lines, ReadWhy::End));
-        };
-        let Some(point) = read_point(line, version) else {
-            return Err(at_line(lines, why_point(line)));
-        };
-        if points.push(point).is_err() {
+        let item = read_item(lines, version)?;
+        if items.push(item).is_err() {
             return Err(ReadFault::OutOfMemory);
         }
     }
-    Ok(points)
+    Ok(items)
 }
 
 /// As many entries as the count says, added to a history that has none.

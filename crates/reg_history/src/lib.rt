@@ -9,6 +9,7 @@ mod entries;
 mod entry_lines;
 mod faults;
 mod id_lines;
+mod items;
 pub mod laws;
 mod log;
 mod marks;

@@ -13,7 +13,7 @@ ghost use Rattle.reg_history.specs.Reports.{tail_lines, PointsFit, head_lines};
 ghost use Rattle.reg_history.specs.declared.versions.Version.{Version};
 ghost use Rattle.reg_history.specs.Versions.{most_processes, most_registers, version_line};
 
-use crate::blocks::{read_entries, read_ids, read_points};
+use crate::blocks::{read_block, read_entries};
 use crate::entries::Point;
 use crate::log::History;
 use crate::name_lines::read_registers;
@@ -134,7 +134,7 @@ pub fn read_order<A: Allocator + Copy>(
         → MatchResult result (λ v. (v.items ≡ ys) × (lines.new.left ≡ rest)) (λ f. f ≡ ReadFault.OutOfMemory) }
 {
     let count = read_count(lines, b"order ", MOST_IDS as u64)?;
-    read_ids(alloc, lines, count as u32, version)
+    read_block(alloc, lines, count as u32, version)
 }
 
 /// The points of a report, if it has any, and its last line.
@@ -162,7 +162,7 @@ pub fn read_tail<A: Allocator + Copy>(
     let Some(count) = numeral_within(digits, MOST_IDS as u64) else {
         return Err(at_line(lines, ReadWhy::from(why_number(digits))));
     };
-    let points = read_points(alloc, lines, count as u32, version)?;
+    let points = read_block(alloc, lines, count as u32, version)?;
     expect_line(lines, b"end")?;
     if lines.next().is_some() {
         return Err(at_line(lines, ReadWhy::End));

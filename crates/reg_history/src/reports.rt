@@ -1,25 +1,22 @@
 //! Reports, and their texts.
-ghost use Rattle.std.specs.Prelude.{◌≡◌, ◌↔◌, ◌<◌, ◌≤◌, ℕ, Some, IfOk, OnOk, MatchResult, IsTrue, option_map, slice_get, string_bytes};
+ghost use Rattle.std.specs.Prelude.{◌≡◌, ◌↔◌, ◌<◌, ◌≤◌, ℕ, Some, IfOk, OnOk, MatchOption, MatchResult, IsTrue, option_map, slice_get, string_bytes};
 ghost use Rattle.std.specs.Io.KnownBytes.{Appends};
-ghost use Rattle.reg_base.specs.declared.memory.OpId.{OpId};
-ghost use Rattle.reg_text.specs.Lines.{AllFit};
 ghost use Rattle.reg_text.specs.Writing.{AppendsPart, Puts};
 ghost use Rattle.reg_history.specs.declared.entries.Entry.{Entry};
-ghost use Rattle.reg_history.specs.declared.entries.Point.{Point};
 ghost use Rattle.reg_history.specs.LineForms.{EntryHasValue};
 ghost use Rattle.reg_history.specs.declared.versions.Version.{Version};
 ghost use Rattle.reg_history.specs.declared.versions.Version.TheVariants.{Two};
-ghost use Rattle.reg_history.specs.IdLines.{IdFits, PointFits};
 ghost use Rattle.reg_history.specs.Reports.{lines_in, report_text, IsReport, IsReportIn, IsReportFault, InRange, PointsFit, SpellsReport, Contents};
 
 use crate::entries::{Entry, Point};
+use crate::items::all_fit;
 use crate::log::History;
 use crate::parts::{is_front, read_head, read_history, read_order, read_tail};
 use crate::report_faults::{ReadFault, ReadWhy, ReportFault, WriteFault, at_line};
 use crate::report_limits::{MOST_ENTRIES, MOST_IDS};
 use crate::versions::Version;
 use crate::write::{put_count, put_entries, put_head, put_ids, put_tail};
-use reg_base::limits::{LAST_EVENT, MOST_OPERATIONS, MOST_PROCESSES};
+use reg_base::limits::MOST_PROCESSES;
 use reg_base::{Names, OpId, Shape};
 use reg_text::{Lines, Sink};
 use std::alloc::{Allocator, Global};
@@ -47,45 +44,12 @@ impl<A: Allocator + Copy> Model for Report<A> {
     ghost invariant = { λ r. IsReport (record { front = string_bytes r.front; shape = r.history.shape; names = r.names; entries = r.history.entries; order = r.order.items; points = option_map (λ v. v.items) r.points }) };
 }
 
-fn id_fits(id: OpId) -> bool
-    ensures { IsTrue result ↔ IdFits Two id }
-{
-    (id.process as u32) < MOST_PROCESSES && id.number < MOST_OPERATIONS
-}
-
-fn point_fits(point: Point) -> bool
-    ensures { IsTrue result ↔ PointFits Two point }
-{
-    id_fits(point.id) && point.at <= LAST_EVENT
-}
-
-fn ids_fit(ids: &[OpId]) -> bool
-    ensures { IsTrue result ↔ AllFit (λ _ id. IdFits Two id) ids.now }
-{
-    for id in ids {
-        if !id_fits(*id) {
-            return false;
-        }
-    }
-    true
-}
-
-fn all_points_fit(points: &[Point]) -> bool
-    ensures { IsTrue result ↔ AllFit (λ _ p. PointFits Two p) points.now }
-{
-    for point in points {
-        if !point_fits(*point) {
-            return false;
-        }
-    }
-    true
-}
-
 fn points_fit<A: Allocator + Copy>(points: &Option<Vec<Point, A>>) -> bool
     ensures { IsTrue result ↔ PointsFit Two (option_map (λ v. v.items) points.now) }
 {
     match points {
-        Some(points) => points.len() <= MOST_IDS as usize && all_points_fit(points.as_slice()),
+        Some(points) => points.len() <= MOST_IDS as usize
+            && all_fit(points.as_slice(), Version::Two),
         None => true,
     }
 }
@@ -99,7 +63,7 @@ fn is_in_range<A: Allocator + Copy>(
 {
     entries.len() <= MOST_ENTRIES as usize
         && order.len() <= MOST_IDS as usize
-        && ids_fit(order)
+        && all_fit(order, Version::Two)
         && points_fit(points)
 }
 
@@ -122,6 +86,32 @@ fn processes_fit(shape: Shape)
     ensures few { shape.processes ≤ MOST_PROCESSES }
 {}
 
+/// The fault of parts that are no report.
+fn parts_fault<A: Allocator + Copy>(
+    front: &str,
+    names: &Names<A>,
+    history: &History<A>,
+    order: &[OpId],
+    points: &Option<Vec<Point, A>>,
+) -> Option<ReportFault>
+    ensures { let parts : Contents = record { front = front.now; shape = history.now.shape; names = names.now; entries = history.now.entries; order = order.now; points = option_map (λ v. v.items) points.now } in
+        MatchOption result (IsReport parts) (λ fault. IsReportFault parts fault) }
+{
+    if !is_front(front.as_bytes()) {
+        return Some(ReportFault::Front);
+    }
+    let shape = history.shape();
+    if names.count() != shape.registers() as usize {
+        return Some(ReportFault::Names);
+    }
+    if !is_in_range(history.entries(), order, points) {
+        return Some(ReportFault::Range);
+    }
+    processes_fit(shape);
+    values_have_bits(history.entries());
+    None
+}
+
 impl<A: Allocator + Copy> Report<A> {
     /// A report of these parts. It takes no memory.
     ///
@@ -140,18 +130,15 @@ impl<A: Allocator + Copy> Report<A> {
         ensures { let parts : Contents = record { front = string_bytes front; shape = history.shape; names = names; entries = history.entries; order = order.items; points = option_map (λ v. v.items) points } in
             MatchResult result (λ r. (r ≡ parts) × IsReport parts) (λ fault. IsReportFault parts fault) }
     {
-        if !is_front(front.as_str().as_bytes()) {
-            return Err(ReportFault::Front);
+        if let Some(fault) = parts_fault(
+            front.as_str(),
+            &names,
+            &history,
+            order.as_slice(),
+            &points,
+        ) {
+            return Err(fault);
         }
-        let shape = history.shape();
-        if names.count() != shape.registers() as usize {
-            return Err(ReportFault::Names);
-        }
-        if !is_in_range(history.entries(), order.as_slice(), &points) {
-            return Err(ReportFault::Range);
-        }
-        processes_fit(shape);
-        values_have_bits(history.entries());
         Ok(Report {
             front,
             names,

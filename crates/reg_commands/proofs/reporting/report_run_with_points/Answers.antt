@@ -1,19 +1,8 @@
-use Rattle.std.proofs.Common.{◌≡◌, Some, subst}
-use Rattle.reg_world.specs.Worlds.{Made, run_in}
-use Rattle.reg_commands.proofs.Shown.{points_given, serial_given, shows, shows_points}
+use Rattle.std.proofs.Common.{Some}
+use Rattle.reg_commands.specs.Replays.{plan_in}
+use Rattle.reg_commands.proofs.Shown.{shows_points}
 use Rattle.reg_commands.proofs.reporting.report_run_with_points.Goals as goal
-
-pub returns-clause-shows : goal.returns-clause-shows
-returns-clause-shows g c =
-    let P : Made → Type 0 = λ w. (run_in g.F.FrontEnd.start w).accepted ≡ w.accepted in
-    shows g.F.FrontEnd.start c.args.front c.args.names c.args.world c.into_history.result c.in-Ok.order.items (Some c.in-Ok-points_of.points.items) c.report.result
-    (record { accepted = subst P c.world.view_is c.world.invariant.tells.accepted; shape = c.into_history.ensures.shape; entries = c.into_history.ensures.entries; order = c.in-Ok.ensures.keyed })
-    (record {
-      serial = serial_given c.in-Ok.field-0-0.now c.into_history.result c.args.world c.in-Ok.order.items c.in-Ok.ensures.shape c.in-Ok.ensures.value c.into_history.ensures.shape c.into_history.ensures.value c.in-Ok.ensures.serial;
-      points = points_given c.into_history.result c.args.world (Some c.in-Ok-points_of.points.items) c.into_history.ensures.shape c.into_history.ensures.value c.in-Ok-points_of.ensures.stand;
-    })
-    c.report.ensures.made
 
 pub returns-clause-points : goal.returns-clause-points
 returns-clause-points g c =
-    shows_points g.F.FrontEnd.start c.args.front c.args.names c.args.world c.into_history.result c.in-Ok.order.items c.in-Ok-points_of.points.items c.report.result c.in-Ok-points_of.ensures.first c.report.ensures.made
+    shows_points g.F.FrontEnd.start (plan_in c.args.front c.args.names c.args.world) (Some c.in-Ok.points.items) c.report_world.result c.in-Ok.ensures.first c.report_world.ensures.points
