@@ -80,6 +80,10 @@ replicate_at zero i x = refl
 replicate_at (suc n) zero x = refl
 replicate_at (suc n) (suc i) x = replicate_at n i x
 
+pub replicate_more : {X : Type 0} (n : ℕ) (x : X) → replicate n x ++ x ∷ [] ≡ replicate (suc n) x
+replicate_more zero x = refl
+replicate_more (suc n) x = ap (λ l. x ∷ l) (replicate_more n x)
+
 abbrev zeros : ℕ → List ℕ
 zeros n = replicate n 0
 
