@@ -1,4 +1,5 @@
 -- What the checkers answer: yes exactly for a serial order or a point order, and else the first fault of a fixed row.
+-- To be believed: promises speak of it.
 use Rattle.std.specs.Prelude.{ℕ, ◌≡◌, ◌≢◌, ◌<◌, ◌⊎◌, suc, true, List, map, take, Result, MatchResult}
 use Rattle.std.specs.List.{AllZip}
 use Rattle.reg_base.specs.declared.memory.OpId.{OpId}

@@ -1,4 +1,4 @@
--- The lines of a history in a report, and what their fields may be.
+-- The lines of a history in a report, and what their fields may be. To be believed: promises speak of them.
 use Rattle.std.specs.Prelude.{ℕ, ◌^◌, ◌<◌, ◌≤◌, ⊤, List, ◌++◌, codes}
 use Rattle.std.specs.Fmt.{decimal}
 use Rattle.reg_base.specs.declared.limits.TheConstants.{MOST_OPERATIONS, LAST_EVENT}

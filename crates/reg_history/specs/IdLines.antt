@@ -1,4 +1,4 @@
--- The lines of an order and of points.
+-- The lines of an order and of points. To be believed: promises speak of them.
 use Rattle.std.specs.Prelude.{ℕ, ◌<◌, ◌≤◌, List, ◌∷◌, ◌++◌, codes}
 use Rattle.std.specs.Fmt.{decimal}
 use Rattle.reg_base.specs.declared.limits.TheConstants.{MOST_OPERATIONS, LAST_EVENT}

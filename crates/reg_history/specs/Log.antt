@@ -1,4 +1,4 @@
--- What a history holds, and what a push does to it.
+-- What a history holds, and what a push does to it. To be believed: promises speak of it.
 use Rattle.std.specs.Prelude.{ℕ, ◌≡◌, ◌+◌, ◌≤◌, List, [], ◌∷◌, ◌++◌}
 use Rattle.reg_base.specs.Shape.{Extent}
 use Rattle.reg_history.specs.declared.entries.Entry.{Entry}

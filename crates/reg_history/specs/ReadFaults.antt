@@ -1,4 +1,4 @@
--- What a fault of a text is in a report.
+-- What a fault of a text is in a report. To be believed: a promise speaks of it.
 use Rattle.reg_text.specs.declared.faults.Why.{Why}
 use Rattle.reg_text.specs.declared.faults.Why.TheVariants.{Form as TextForm, Range as TextRange, Name as TextName, End as TextEnd}
 use Rattle.reg_text.specs.declared.faults.TextFault.{TextFault}

@@ -1,4 +1,4 @@
--- The versions of the text of a report: how they begin, and their limits.
+-- The versions of the text of a report: how they begin, and their limits. To be believed: promises speak of them.
 use Rattle.std.specs.Prelude.{ℕ, List, codes}
 use Rattle.reg_base.specs.declared.limits.TheConstants.{MOST_PROCESSES, MOST_REGISTERS}
 use Rattle.reg_history.specs.declared.report_limits.TheConstants.{OLDER_PROCESSES, OLDER_REGISTERS}
