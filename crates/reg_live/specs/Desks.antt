@@ -7,7 +7,7 @@ use Rattle.reg_process.specs.Process.{State, step}
 use Rattle.reg_process.specs.Faults.{step_fault}
 use Rattle.reg_process.specs.Parts.{state_of, first_parts}
 use Rattle.reg_process.specs.Events.{Kept, IsGoing}
-use Rattle.reg_live.specs.declared.entries.LogEntry.{LogEntry}
+use Rattle.reg_records.specs.declared.entries.LogEntry.{LogEntry}
 use Rattle.reg_live.specs.declared.faults.LiveFault.{LiveFault}
 use Rattle.reg_live.specs.declared.faults.LiveFault.TheVariants.{NoRegister, Behind}
 

@@ -13,7 +13,7 @@ use reg_front::FrontEnd;
 use std::alloc::{AllocError, Allocator};
 
 /// How often of a hundred times a frame is lost, and how often it can be taken again.
-#[derive(Clone, Copy, Debug, PartialEq, Eq)]
+#[derive(Clone, Copy)]
 pub(crate) struct Odds {
     /// Of a hundred frames that are chosen, so many are lost.
     pub(crate) loss: u32,

@@ -1,5 +1,0 @@
-use Rattle.std.proofs.Common.{arith}
-use Rattle.reg_live.proofs.finding.place_of.Goals as goal
-
-pub loop-place-init : goal.loop-place-init
-loop-place-init c = λ k lt. absurd (omega arith)

@@ -1,5 +1,0 @@
-use Rattle.std.proofs.Common.{arith}
-use Rattle.reg_live.proofs.tallies.is_left.Goals as goal
-
-pub loop-process-init : goal.loop-process-init
-loop-process-init g c = λ p lt. absurd (omega arith)

@@ -1,0 +1,19 @@
+use Rattle.std.proofs.Common.{rules, ◌<◌, ℕ, List, length, sym, subst, arith}
+use Rattle.reg_records.specs.declared.entries.Receipt.{Receipt}
+use Rattle.reg_history.specs.History.{IsAt}
+use Rattle.reg_history.proofs.Noting.{read_at}
+use Rattle.reg_records.specs.Receipts.{AreFinished}
+use Rattle.reg_records.proofs.Tellings.{lists_more, lists_all}
+use Rattle.reg_records.proofs.telling.first_untold.Goals as goal
+
+pub loop-process-preserved : goal.loop-process-preserved
+loop-process-preserved g c =
+    let lt : c.from.result < length c.args.lists.now = let e = c.requires.few in let f = c.from.ensures in omega arith in
+    let here : IsAt c.args.lists.now c.from.result c.index-lists-from.result = read_at c.args.lists.now c.from.result c.index-lists-from.result c.index-lists-from.result (sym c.index-lists-from.is) lt in
+    let there : IsAt c.args.lists.now c.loop-process.process c.index-lists-from.result = subst (λ (k : ℕ). IsAt c.args.lists.now k c.index-lists-from.result) c.from.ensures here in
+    let list : AreFinished c.args.entries.now c.loop-process.process c.deref.result.now = c.is_told.ensures.0 (search rules) in
+    lists_more c.args.entries.now (λ v. v.items) c.args.lists.now c.loop-process.process c.index-lists-from.result there c.loop-process.invariant
+    (subst (λ (l : List Receipt). AreFinished c.args.entries.now c.loop-process.process l) c.deref.ensures.value list)
+
+pub returns : goal.returns
+returns g c = lists_all c.args.entries.now (λ v. v.items) c.args.lists.now c.loop-process.process (let e = c.requires.few in omega arith) c.loop-process.invariant

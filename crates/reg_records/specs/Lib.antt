@@ -1,0 +1,4 @@
+pub mod Records
+pub mod Playing
+pub mod Receipts
+pub mod Telling

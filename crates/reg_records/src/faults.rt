@@ -1,0 +1,17 @@
+//! Why a record is refused.
+use thiserror::Error;
+
+/// Why a record is no run with these receipts: the first of these that applies. Want of memory may stand in place of any
+/// other.
+#[derive(Clone, Copy, Debug, PartialEq, Eq, Error)]
+pub enum CloseFault {
+    /// The order and the logs are no run from this place on.
+    #[error("unfaithful {place}")]
+    Unfaithful { place: u64 },
+    /// The receipts of this process aren't its finished operations.
+    #[error("mismatch {process}")]
+    Mismatch { process: u8 },
+    /// There was no memory.
+    #[error("out of memory")]
+    OutOfMemory,
+}

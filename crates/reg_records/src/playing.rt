@@ -1,0 +1,123 @@
+//! A record played as a run.
+ghost use Rattle.std.specs.Prelude.{◌≡◌, ◌<◌, ◌≤◌, ◌+◌, ◌^◌, ℕ, length, map, slice_index, false, true, vec_len, MatchResult, IfOk, IsTrue, ◌↔◌};
+ghost use Rattle.reg_records.specs.Records.{IsFaithful};
+ghost use Rattle.reg_records.specs.Playing.{AreTallied, IsMade, IsTurn, IsPlayFault};
+
+use crate::entries::LogEntry;
+use crate::faults::CloseFault;
+use crate::finding::event_of;
+use crate::hints::Hints;
+use crate::tallies::{bump, entry_at, is_left, no_counts};
+use reg_base::Shape;
+use reg_front::FrontEnd;
+use reg_process::Reply;
+use reg_world::{World, WorldFault};
+use std::alloc::{AllocError, Allocator};
+
+/// Whether a fault is want of memory.
+fn is_memory(fault: WorldFault) -> bool
+    ensures { IsTrue result ↔ fault ≡ WorldFault.OutOfMemory }
+{
+    matches!(fault, WorldFault::OutOfMemory)
+}
+
+/// Whether two replies are the same.
+fn is_same(reply: Option<Reply>, other: Option<Reply>) -> bool
+    ensures { IsTrue result ↔ reply ≡ other }
+{
+    reply == other
+}
+
+/// Makes the step of an entry, and tells whether it is an event that gives the entry's reply. Where it isn't, nothing is
+/// claimed of the world.
+fn make<F: FrontEnd, A: Allocator + Copy>(
+    world: &mut World<F, A>,
+    hints: &mut Hints<A>,
+    process: u8,
+    entry: &LogEntry,
+) -> Result<bool, AllocError>
+    requires { world.old.failed ≡ false }
+    ensures { IfOk result (λ made. IsMade F.start world.old process entry.now made world.new) }
+{
+    let Some(event) = event_of(hints, world, process, &entry.step)? else {
+        return Ok(false);
+    };
+    match world.step_reply(&event) {
+        Ok(reply) => Ok(is_same(reply, entry.reply)),
+        Err(fault) => {
+            if is_memory(fault) {
+                Err(AllocError)
+            } else {
+                Ok(false)
+            }
+        }
+    }
+}
+
+/// Plays one more mention, and tells whether it stands for an entry that comes next in a run. Where it doesn't, nothing is
+/// claimed of the world.
+fn turn<F: FrontEnd, A: Allocator + Copy>(
+    world: &mut World<F, A>,
+    hints: &mut Hints<A>,
+    counts: &[usize],
+    order: &[u8],
+    place: usize,
+    logs: &[Vec<LogEntry, A>],
+) -> Result<bool, AllocError>
+    requires going { world.old.failed ≡ false }
+    requires within { place < length order.now }
+    requires tallied { AreTallied counts.now order.now place }
+    requires len { length counts.now ≡ length logs.now }
+    ensures { IfOk result (λ made. IsTurn F.start order.now (map (λ v. v.items) logs.now) place world.old made world.new) }
+{
+    let by = order[place];
+    let process = usize::from(by);
+    if process >= counts.len() {
+        return Ok(false);
+    }
+    let Some(entry) = entry_at(logs, process, counts[process]) else {
+        return Ok(false);
+    };
+    let made = make(world, hints, by, &entry)?;
+    Ok(made)
+}
+
+fn unfaithful(place: usize) -> CloseFault
+    ensures { result ≡ CloseFault.Unfaithful place }
+{
+    CloseFault::Unfaithful {
+        place: place as u64,
+    }
+}
+
+/// Plays a record as a run, and gives the world that it ends in.
+pub(crate) fn play<F: FrontEnd, A: Allocator + Copy>(
+    alloc: A,
+    shape: Shape,
+    order: &[u8],
+    logs: &[Vec<LogEntry, A>],
+) -> Result<World<F, A>, CloseFault>
+    requires { length logs.now ≡ shape.processes }
+    ensures { MatchResult result (λ w. IsFaithful F.start shape order.now (map (λ v. v.items) logs.now) w) (λ fault. IsPlayFault F.start shape order.now (map (λ v. v.items) logs.now) fault) }
+{
+    let Ok(mut world) = World::new(alloc, shape) else {
+        return Err(CloseFault::OutOfMemory);
+    };
+    let Ok(mut hints) = Hints::new(alloc) else {
+        return Err(CloseFault::OutOfMemory);
+    };
+    let Ok(mut counts) = no_counts(alloc, logs.len()) else {
+        return Err(CloseFault::OutOfMemory);
+    };
+    for place in 0..order.len() {
+        match turn(&mut world, &mut hints, &counts, order, place, logs) {
+            Ok(true) => bump(&mut counts, order, place),
+            Ok(false) => return Err(unfaithful(place)),
+            Err(_) => return Err(CloseFault::OutOfMemory),
+        }
+    }
+    if is_left(&counts, order, logs) {
+        return Err(unfaithful(order.len()));
+    }
+    Ok(world)
+}

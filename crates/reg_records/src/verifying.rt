@@ -1,0 +1,33 @@
+//! Records checked: that they are runs, and that the callers were told what happened.
+ghost use Rattle.std.specs.Prelude.{◌≡◌, length, map, MatchResult};
+ghost use Rattle.reg_records.specs.Receipts.{IsRecord, IsRecordFault};
+
+use crate::entries::{LogEntry, Receipt};
+use crate::faults::CloseFault;
+use crate::playing::play;
+use crate::telling::first_untold;
+use reg_base::Shape;
+use reg_front::FrontEnd;
+use reg_world::World;
+use std::alloc::Allocator;
+
+/// The run of a record: the order names the processes of its steps, and the k-th mention of a process stands for the k-th
+/// entry of its log. It is Ok exactly where the steps are a run that gives the replies written down, each frame being taken
+/// from its wire, and the receipts are just the finished operations of each process.
+pub fn verify<F: FrontEnd, A: Allocator + Copy>(
+    alloc: A,
+    shape: Shape,
+    order: &[u8],
+    logs: &[Vec<LogEntry, A>],
+    receipts: &[Vec<Receipt, A>],
+) -> Result<World<F, A>, CloseFault>
+    requires logs { length logs.now ≡ shape.processes }
+    requires receipts { length receipts.now ≡ shape.processes }
+    ensures { MatchResult result (λ w. IsRecord F.start shape order.now (map (λ v. v.items) logs.now) (map (λ v. v.items) receipts.now) w) (λ fault. IsRecordFault F.start shape order.now (map (λ v. v.items) logs.now) (map (λ v. v.items) receipts.now) fault) }
+{
+    let world = play::<F, A>(alloc, shape, order, logs)?;
+    match first_untold(shape, world.history().entries(), receipts) {
+        Some(process) => Err(CloseFault::Mismatch { process }),
+        None => Ok(world),
+    }
+}
