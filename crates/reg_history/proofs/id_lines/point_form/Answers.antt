@@ -23,3 +23,6 @@ returns-clause-whole c = λ p n a h.
     let third = c.in_ok-event.ensures.whole a second.1 in
     let good : c.is_numeral-2.result ≡ true = c.is_numeral-2.ensures ∙ ap is_numeral third ∙ h.2 in
     search (rules, good)
+
+pub returns-clause-read : goal.returns-clause-read
+returns-clause-read c = search rules
