@@ -2,6 +2,7 @@
 use crate::figures::{Arrow, Bar, is_taken};
 use crate::layout::{BELOW, LEADING, Label, Layout, TOP};
 use crate::moments::Moment;
+use crate::shapes::{Diamond, Soft, Span, Spot, Stub};
 use crate::words::{cast_text, frame_text};
 use reg_base::Names;
 use reg_frames::{Body, Frame};
@@ -11,7 +12,8 @@ use std::alloc::Allocator;
 use std::fmt;
 use std::io::Write;
 
-const STYLE: &str = "\
+const HEAD: &str = "\
+<title>Space-time diagram of a run</title>
 <style>
 .awshow{font:12px ui-monospace,'DejaVu Sans Mono',Menlo,Consolas,monospace;font-variant-ligatures:none}
 .awshow .page{fill:#ffffff}
@@ -48,6 +50,7 @@ const STYLE: &str = "\
 .awshow .count-tip{fill:#d29922}
 }
 </style>
+<defs>
 ";
 
 /// What is drawn of a run.
@@ -89,48 +92,62 @@ impl<A: Allocator + Copy> Drawing<'_, A> {
             .unwrap_or(0)
     }
 
-    /// Shows the page, the events' numbers and the processes' lines.
-    fn show_frame<W: fmt::Write>(&self, f: &mut fmt::Formatter<W>) -> fmt::Result {
+    /// Where an event stands on a process's line.
+    fn spot(&self, event: usize, process: u8) -> Spot {
+        Spot {
+            x: self.x(event),
+            y: self.y(process),
+        }
+    }
+
+    /// Shows the page, and how arrows end.
+    fn show_page<W: fmt::Write>(&self, f: &mut fmt::Formatter<W>) -> fmt::Result {
         let (width, height) = (self.layout.width, self.layout.height);
         writeln!(
             f,
             "<svg xmlns=\"http://www.w3.org/2000/svg\" class=\"awshow\" width=\"{width}\" height=\"{height}\" viewBox=\"0 0 {width} {height}\" role=\"img\">"
         )?;
-        writeln!(f, "<title>Space-time diagram of a run</title>")?;
-        f.write_str(STYLE)?;
-        f.write_str("<defs>\n")?;
+        f.write_str(HEAD)?;
         for class in ["cast", "ack", "count"] {
             writeln!(
                 f,
                 "<marker id=\"{class}\" viewBox=\"0 0 8 8\" refX=\"11\" refY=\"4\" markerWidth=\"8\" markerHeight=\"8\" markerUnits=\"userSpaceOnUse\" orient=\"auto\"><path class=\"{class}-tip\" d=\"M0 0L8 4L0 8Z\"/></marker>"
             )?;
         }
-        f.write_str("</defs>\n")?;
         writeln!(
             f,
-            "<rect class=\"page\" width=\"{width}\" height=\"{height}\"/>"
-        )?;
-        let bottom = height.saturating_sub(44);
+            "</defs>\n<rect class=\"page\" width=\"{width}\" height=\"{height}\"/>"
+        )
+    }
+
+    /// Shows the events' numbers, with a line each.
+    fn show_events<W: fmt::Write>(&self, f: &mut fmt::Formatter<W>) -> fmt::Result {
+        let bottom = self.layout.height.saturating_sub(44);
         for (number, x) in self.layout.events.iter().enumerate() {
+            let span = Span {
+                from: Spot { x: *x, y: TOP },
+                to: Spot { x: *x, y: bottom },
+            };
             writeln!(
                 f,
-                "<line class=\"event\" x1=\"{x}\" y1=\"{TOP}\" x2=\"{x}\" y2=\"{bottom}\"/>"
-            )?;
-            writeln!(
-                f,
-                "<text class=\"soft\" x=\"{x}\" y=\"24\" text-anchor=\"middle\">{number}</text>"
+                "<line class=\"event\" {span}/>\n<text class=\"soft\" x=\"{x}\" y=\"24\" text-anchor=\"middle\">{number}</text>"
             )?;
         }
-        let right = width.saturating_sub(14);
+        Ok(())
+    }
+
+    /// Shows the processes' lines, with their names.
+    fn show_processes<W: fmt::Write>(&self, f: &mut fmt::Formatter<W>) -> fmt::Result {
+        let right = self.layout.width.saturating_sub(14);
         for (process, y) in self.layout.rows.iter().enumerate() {
+            let span = Span {
+                from: Spot { x: 40, y: *y },
+                to: Spot { x: right, y: *y },
+            };
             let base = y.saturating_add(4);
             writeln!(
                 f,
-                "<line class=\"line\" x1=\"40\" y1=\"{y}\" x2=\"{right}\" y2=\"{y}\"/>"
-            )?;
-            writeln!(
-                f,
-                "<text class=\"name\" x=\"10\" y=\"{base}\">p{process}</text>"
+                "<line class=\"line\" {span}/>\n<text class=\"name\" x=\"10\" y=\"{base}\">p{process}</text>"
             )?;
         }
         Ok(())
@@ -153,11 +170,14 @@ impl<A: Allocator + Copy> Drawing<'_, A> {
                 continue;
             };
             let class = class_of(frame);
-            let (x, y, toward, end) = (self.x(puts), self.y(from), self.x(takes), self.y(to));
+            let span = Span {
+                from: self.spot(puts, from),
+                to: self.spot(takes, to),
+            };
             let words = frame_text(self.names, from, frame);
             writeln!(
                 f,
-                "<line class=\"{class}\" x1=\"{x}\" y1=\"{y}\" x2=\"{toward}\" y2=\"{end}\" marker-end=\"url(#{class})\"><title>take {from} {to} {place}: {words}</title></line>"
+                "<line class=\"{class}\" {span} marker-end=\"url(#{class})\"><title>take {from} {to} {place}: {words}</title></line>"
             )?;
         }
         Ok(())
@@ -166,25 +186,26 @@ impl<A: Allocator + Copy> Drawing<'_, A> {
     /// Shows a stub for each frame that is never taken.
     fn show_stubs<W: fmt::Write>(&self, f: &mut fmt::Formatter<W>) -> fmt::Result {
         for (number, moment) in self.moments.iter().enumerate() {
-            let (from, x, y) = (moment.process, self.x(number), self.y(moment.process));
+            let process = moment.process;
+            let from = self.spot(number, process);
             let mut shift = 12u32;
             for sent in &moment.sent {
-                if is_taken(self.moments, from, sent.to, sent.place) {
+                if is_taken(self.moments, process, sent.to, sent.place) {
                     continue;
                 }
-                let class = class_of(sent.frame);
-                let words = frame_text(self.names, from, sent.frame);
-                let (to, place) = (sent.to, sent.place);
-                let end = if to > from {
-                    y.saturating_add(16)
-                } else {
-                    y.saturating_sub(16)
+                let stub = Stub {
+                    class: class_of(sent.frame),
+                    span: Span {
+                        from,
+                        to: from.beside(shift, sent.to > process),
+                    },
                 };
-                let toward = x.saturating_add(shift);
                 shift = shift.saturating_add(9).min(39);
+                let (to, place) = (sent.to, sent.place);
+                let words = frame_text(self.names, process, sent.frame);
                 writeln!(
                     f,
-                    "<g><title>never taken: take {from} {to} {place}: {words}</title><line class=\"{class}\" x1=\"{x}\" y1=\"{y}\" x2=\"{toward}\" y2=\"{end}\"/><circle class=\"{class}-tip\" cx=\"{toward}\" cy=\"{end}\" r=\"2.5\"/></g>"
+                    "<g><title>never taken: take {process} {to} {place}: {words}</title>{stub}</g>"
                 )?;
             }
         }
@@ -203,12 +224,11 @@ impl<A: Allocator + Copy> Drawing<'_, A> {
             };
             let wide = end.saturating_sub(x).max(8);
             let (process, number) = (bar.id.process, bar.id.number);
+            let text = label.text.as_str();
             writeln!(
                 f,
-                "<rect class=\"{class}\" x=\"{x}\" y=\"{top}\" width=\"{wide}\" height=\"8\" rx=\"2\"><title>p{process} #{number}</title></rect>"
+                "<rect class=\"{class}\" x=\"{x}\" y=\"{top}\" width=\"{wide}\" height=\"8\" rx=\"2\"><title>p{process} #{number}</title></rect>\n<text x=\"{x}\" y=\"{base}\">{text}</text>"
             )?;
-            let text = label.text.as_str();
-            writeln!(f, "<text x=\"{x}\" y=\"{base}\">{text}</text>")?;
         }
         Ok(())
     }
@@ -216,14 +236,16 @@ impl<A: Allocator + Copy> Drawing<'_, A> {
     /// Shows where each operation takes effect.
     fn show_points<W: fmt::Write>(&self, f: &mut fmt::Formatter<W>) -> fmt::Result {
         for point in self.points {
-            let x = self.x(point.at as usize);
-            let y = self.y(point.id.process).saturating_sub(24);
             let (process, number, at) = (point.id.process, point.id.number, point.at);
-            let (left, right) = (x.saturating_sub(6), x.saturating_add(6));
-            let (top, bottom) = (y.saturating_sub(6), y.saturating_add(6));
+            let diamond = Diamond {
+                middle: Spot {
+                    x: self.x(at as usize),
+                    y: self.y(process).saturating_sub(24),
+                },
+            };
             writeln!(
                 f,
-                "<path class=\"point\" d=\"M{left} {y}L{x} {top}L{right} {y}L{x} {bottom}Z\"><title>p{process} #{number} at {at}</title></path>"
+                "<path class=\"point\" d=\"{diamond}\"><title>p{process} #{number} at {at}</title></path>"
             )?;
         }
         Ok(())
@@ -232,7 +254,7 @@ impl<A: Allocator + Copy> Drawing<'_, A> {
     /// Shows the events on their lines, and what they delivered.
     fn show_deliveries<W: fmt::Write>(&self, f: &mut fmt::Formatter<W>) -> fmt::Result {
         for (number, moment) in self.moments.iter().enumerate() {
-            let (x, y) = (self.x(number), self.y(moment.process));
+            let Spot { x, y } = self.spot(number, moment.process);
             let clock = moment.clock;
             writeln!(
                 f,
@@ -249,57 +271,77 @@ impl<A: Allocator + Copy> Drawing<'_, A> {
         Ok(())
     }
 
-    /// Shows what the signs mean.
-    fn show_legend<W: fmt::Write>(&self, f: &mut fmt::Formatter<W>) -> fmt::Result {
-        let y = self.layout.height.saturating_sub(16);
-        let base = y.saturating_add(4);
-        let mut x = 10u32;
-        for (class, words, wide) in [
-            ("cast", "cast", 72u32),
-            ("ack", "acknowledgement", 150),
-            ("count", "count", 80),
+    /// Shows what the lines mean.
+    fn show_lines<W: fmt::Write>(&self, f: &mut fmt::Formatter<W>, y: u32) -> fmt::Result {
+        for (class, words, x) in [
+            ("cast", "cast", 10u32),
+            ("ack", "acknowledgement", 82),
+            ("count", "count", 232),
         ] {
-            let (end, text) = (x.saturating_add(26), x.saturating_add(32));
-            writeln!(
-                f,
-                "<line class=\"{class}\" x1=\"{x}\" y1=\"{y}\" x2=\"{end}\" y2=\"{y}\"/><text class=\"soft\" x=\"{text}\" y=\"{base}\">{words}</text>"
-            )?;
-            x = x.saturating_add(wide);
+            let span = Span {
+                from: Spot { x, y },
+                to: Spot {
+                    x: x.saturating_add(26),
+                    y,
+                },
+            };
+            let text = Soft {
+                at: Spot {
+                    x: x.saturating_add(32),
+                    y: y.saturating_add(4),
+                },
+                words,
+            };
+            writeln!(f, "<line class=\"{class}\" {span}/>{text}")?;
         }
-        let (end, text) = (x.saturating_add(14), x.saturating_add(24));
-        writeln!(
-            f,
-            "<line class=\"cast\" x1=\"{x}\" y1=\"{y}\" x2=\"{end}\" y2=\"{y}\"/><circle class=\"cast-tip\" cx=\"{end}\" cy=\"{y}\" r=\"2.5\"/><text class=\"soft\" x=\"{text}\" y=\"{base}\">never taken</text>"
-        )?;
-        let point = x.saturating_add(124);
-        let (left, right) = (point.saturating_sub(6), point.saturating_add(6));
-        let (top, bottom, words) = (
-            y.saturating_sub(6),
-            y.saturating_add(6),
-            point.saturating_add(12),
-        );
-        writeln!(
-            f,
-            "<path class=\"point\" d=\"M{left} {y}L{point} {top}L{right} {y}L{point} {bottom}Z\"/><text class=\"soft\" x=\"{words}\" y=\"{base}\">point</text>"
-        )?;
-        let under = words.saturating_add(56);
-        writeln!(
-            f,
-            "<text class=\"soft\" x=\"{under}\" y=\"{base}\">(time, process): delivered</text>"
-        )?;
         Ok(())
+    }
+
+    /// Shows what the other signs mean.
+    fn show_signs<W: fmt::Write>(&self, f: &mut fmt::Formatter<W>, y: u32) -> fmt::Result {
+        let base = y.saturating_add(4);
+        let stub = Stub {
+            class: "cast",
+            span: Span {
+                from: Spot { x: 312, y },
+                to: Spot { x: 326, y },
+            },
+        };
+        let never = Soft {
+            at: Spot { x: 336, y: base },
+            words: "never taken",
+        };
+        let diamond = Diamond {
+            middle: Spot { x: 436, y },
+        };
+        let point = Soft {
+            at: Spot { x: 448, y: base },
+            words: "point",
+        };
+        let delivered = Soft {
+            at: Spot { x: 504, y: base },
+            words: "(time, process): delivered",
+        };
+        writeln!(
+            f,
+            "{stub}{never}\n<path class=\"point\" d=\"{diamond}\"/>{point}\n{delivered}"
+        )
     }
 }
 
 impl<A: Allocator + Copy> fmt::Display for Drawing<'_, A> {
     fn fmt<W: fmt::Write>(&self, f: &mut fmt::Formatter<W>) -> fmt::Result {
-        self.show_frame(f)?;
+        let legend = self.layout.height.saturating_sub(16);
+        self.show_page(f)?;
+        self.show_events(f)?;
+        self.show_processes(f)?;
         self.show_arrows(f)?;
         self.show_stubs(f)?;
         self.show_bars(f)?;
         self.show_points(f)?;
         self.show_deliveries(f)?;
-        self.show_legend(f)?;
+        self.show_lines(f, legend)?;
+        self.show_signs(f, legend)?;
         f.write_str("</svg>\n")
     }
 }

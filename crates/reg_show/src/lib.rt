@@ -11,6 +11,7 @@ mod moments;
 mod running;
 mod schedule_text;
 mod scheduling;
+mod shapes;
 mod showing;
 mod telling;
 mod trace_text;
