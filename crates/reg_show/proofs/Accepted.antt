@@ -25,20 +25,11 @@ use Rattle.reg_commands.specs.Plays.{IsPlayBy, plan_of}
 use Rattle.reg_base.specs.Shape.{Extent}
 use Rattle.reg_front.specs.declared.named.Front.{Front}
 use Rattle.reg_world.proofs.code.Ahead.{same_extent}
-use Rattle.reg_show.specs.Schedules.{IsScheduleText, ShowsSchedule, schedule_text}
+use Rattle.reg_moments.specs.ScheduleText.{IsScheduleText, schedule_text}
+use Rattle.reg_show.specs.Schedules.{ShowsSchedule}
 use Rattle.reg_show.specs.Inner.{EventHasBits}
-use Rattle.reg_show.proofs.Spelled.{schedule_spelled}
-
-step_grows : (start : Op → ℕ → Start) (w : World) (e : Event) (m : Option (ℕ × Step)) → length (moved start w e m).accepted ≤ length w.accepted + 1
-step_grows start w e None = omega arith
-step_grows start w e (Some m) = let l : length (w.accepted ++ e ∷ []) ≡ length w.accepted + 1 = length-append w.accepted (e ∷ []) in omega (arith, l)
-
-run_grows : (start : Op → ℕ → Start) (n registers : ℕ) (es : List Event) (w : World) → length (run start n registers es w).accepted ≤ length w.accepted + length es
-run_grows start n registers [] w = omega arith
-run_grows start n registers (e ∷ es) w =
-    let a = step_grows start w e (move_of n registers w e) in
-    let b = run_grows start n registers es (happens start n registers w e) in
-    omega (arith, a, b)
+use Rattle.reg_moments.proofs.Moving.{first_moved}
+use Rattle.reg_moments.proofs.Spelled.{schedule_spelled}
 
 call_known : (n registers : ℕ) (w : Nodes) (p : ℕ) (op : Op) (m : ℕ × Step) → step_of n registers w (Call p op) ≡ Some m → register_of op < registers
 call_known n registers w p op m =
@@ -63,15 +54,6 @@ moved_known n registers w (Tick p) m is = tt
 
 abbrev AllKnown : ℕ → List Event → Type 0
 AllKnown registers es = (k : ℕ) (e : Event) → slice_get es k ≡ Some e → IsKnown registers e
-
--- where a run accepts its first event, and all others, some process makes a step in it
-pub first_moved : (start : Op → ℕ → Start) (n registers : ℕ) (x : Event) (es : List Event) (w : World) (m : Option (ℕ × Step)) → move_of n registers w x ≡ m
-    → (run start n registers es (moved start w x m)).accepted ≡ w.accepted ++ x ∷ es → (s : ℕ × Step) × (m ≡ Some s) × ((run start n registers es (moved start w x m)).accepted ≡ (moved start w x m).accepted ++ es)
-first_moved start n registers x es w None is all =
-    let a : length (run start n registers es w).accepted ≡ length w.accepted + length (x ∷ es) = ap length all ∙ length-append w.accepted (x ∷ es) in
-    let b = run_grows start n registers es w in
-    absurd (omega (arith, a, b))
-first_moved start n registers x es w (Some m) is all = (m, refl, all ∙ sym (append_assoc w.accepted (x ∷ []) es))
 
 all_known : (start : Op → ℕ → Start) (n registers : ℕ) (es : List Event) (w : World) → (run start n registers es w).accepted ≡ w.accepted ++ es → (k : ℕ) (e : Event) → slice_get es k ≡ Some e → IsKnown registers e
 all_known start n registers [] w all k e h = absurd (cc)

@@ -3,10 +3,10 @@ use Rattle.std.proofs.Common.{◌≡◌, ◌∙◌, ℕ, List, ap₂, subst}
 use Rattle.reg_history.specs.declared.entries.Entry.{Entry}
 use Rattle.reg_workload.specs.Schedules.{Plan, IsPlan, Spells}
 use Rattle.reg_commands.specs.Replays.{start_of}
-use Rattle.reg_show.specs.Moments.{Fact}
+use Rattle.reg_moments.specs.Moments.{Fact}
 use Rattle.reg_show.specs.Runs.{TellsRun}
 use Rattle.reg_show.specs.Inner.{IsTold}
-use Rattle.reg_show.specs.Traces.{trace_text}
+use Rattle.reg_moments.specs.Traces.{trace_text}
 
 -- the trace that was written is that of the run
 pub tells_run : (Wrote : List ℕ → Type 0) (text : List ℕ) (names : List (List ℕ)) (moments facts : List Fact) (entries : List Entry) → (p : Plan) × IsPlan p × Spells text p × IsTold (start_of p.front) p names facts entries → moments ≡ facts → Wrote (trace_text names moments) → TellsRun Wrote text

@@ -5,7 +5,7 @@ use Rattle.reg_front.specs.declared.starts.Start.{Start}
 use Rattle.reg_history.specs.declared.entries.Entry.{Entry}
 use Rattle.reg_workload.specs.Schedules.{Plan}
 use Rattle.reg_commands.specs.Replays.{run_by}
-use Rattle.reg_show.specs.Moments.{Fact, moments_of}
+use Rattle.reg_moments.specs.Moments.{Fact, moments_of}
 use Rattle.reg_text.specs.Inner.{HasValue}
 use Rattle.reg_world.specs.declared.events.Event.{Event}
 use Rattle.reg_world.specs.declared.events.Event.TheVariants.{Call, Take, Tick}

@@ -7,8 +7,8 @@ use Rattle.reg_commands.specs.declared.command.Command.TheVariants.{Replay}
 use Rattle.reg_show.specs.declared.commands.TheConstants.{MOST_DRAWN}
 use Rattle.reg_show.specs.declared.faults.ShowFault.{ShowFault}
 use Rattle.reg_show.specs.declared.faults.ShowFault.TheVariants.{Command, TooManyToDraw}
-use Rattle.reg_show.specs.Moments.{moments_of}
-use Rattle.reg_show.specs.Traces.{trace_text}
+use Rattle.reg_moments.specs.Moments.{moments_of}
+use Rattle.reg_moments.specs.Traces.{trace_text}
 
 -- The text is that of a plan, all of whose events are accepted, and the trace of its run was written: `Wrote` says how a text
 -- was.

@@ -1,22 +1,12 @@
--- The text of a schedule, and the schedule of a play.
+-- The schedule of a play.
 use Rattle.std.specs.Prelude.{ℕ, Bool, List}
 use Rattle.reg_base.specs.declared.memory.Op.{Op}
 use Rattle.reg_front.specs.declared.starts.Start.{Start}
-use Rattle.reg_text.specs.Lines.{text_of}
 use Rattle.reg_toml.specs.Loads.{Load}
 use Rattle.reg_world.specs.Worlds.{Made}
-use Rattle.reg_workload.specs.Schedules.{Plan, IsPlan, Spells, plan_lines}
+use Rattle.reg_moments.specs.ScheduleText.{IsScheduleText, schedule_text}
 use Rattle.reg_commands.specs.Replays.{start_of}
 use Rattle.reg_commands.specs.Plays.{Holds, IsPlayBy, plan_of}
-
--- the lines of a schedule, each with its line feed
-abbrev pub schedule_text : Plan → List ℕ
-schedule_text p = text_of (plan_lines p)
-
--- The text is that of a schedule: it is within the limits of one, and `parse_schedule` reads it from the text, and no other.
-pub record IsScheduleText (p : Plan) : Type 0 where
-  pub good : IsPlan p
-  pub spelled : Spells (schedule_text p) p
 
 -- There is a play of the workload whose schedule was written: that of the events which it accepted, under the workload's
 -- front end and names. `Wrote` says how a text was.

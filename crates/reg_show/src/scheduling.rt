@@ -9,13 +9,14 @@ ghost use Rattle.reg_commands.specs.Plays.{IsPlayBy, plan_of};
 ghost use Rattle.reg_commands.specs.Replays.{start_of};
 ghost use Rattle.reg_commands.specs.declared.command.Command.TheVariants.{Play};
 ghost use Rattle.reg_workload.specs.Schedules.{Plan};
-ghost use Rattle.reg_show.specs.Schedules.{IsScheduleText, ShowsSchedule, WritesSchedule, schedule_text};
+ghost use Rattle.reg_moments.specs.ScheduleText.{IsScheduleText, schedule_text};
+ghost use Rattle.reg_show.specs.Schedules.{ShowsSchedule, WritesSchedule};
 ghost use Rattle.reg_show.specs.Inner.{EventHasBits};
 
-use crate::schedule_text::write_schedule;
 use reg_base::{Names, Shape};
 use reg_commands::{Fault, play_by, read_workload};
 use reg_front::{Front, FrontEnd, Linear, LocalRead, LocalWrite};
+use reg_moments::write_schedule;
 use reg_workload::Workload;
 use reg_world::Event as AnyEvent;
 use std::alloc::{Allocator, Global};

@@ -1,26 +1,15 @@
 //! What is told of a schedule's run.
 ghost use Rattle.std.specs.Prelude.{◌≡◌, None, IfOk, IfErr, option_map};
 ghost use Rattle.reg_commands.specs.Replays.{start_of, BlamesRun, PointsOf, ShowsPoints};
-ghost use Rattle.reg_show.specs.Moments.{moments_of};
+ghost use Rattle.reg_moments.specs.Moments.{moments_of};
 ghost use Rattle.reg_show.specs.Inner.{IsTold};
 
-use crate::moments::{Moment, tell_events};
-use reg_base::Names;
 use reg_commands::{Fault, Ran, read_schedule, run_events};
 use reg_front::{Front, FrontEnd, Linear, LocalRead, LocalWrite, RealTime};
-use reg_history::{History, Point};
+use reg_moments::{Moment, Told, tell_events};
 use reg_workload::Schedule;
 use reg_world::World;
 use std::alloc::Allocator;
-
-/// What is told of a schedule's run: its names, what each event did, the history, and the points where there are any.
-#[derive(Drop)]
-pub struct Told<A: Allocator + Copy> {
-    pub names: Names<A>,
-    pub moments: Vec<Moment<A>, A>,
-    pub history: History<A>,
-    pub points: Option<Vec<Point, A>>,
-}
 
 /// What each event of a world did.
 fn moments_in<F: FrontEnd, A: Allocator + Copy>(

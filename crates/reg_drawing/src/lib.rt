@@ -1,0 +1,10 @@
+//! Drawings of runs.
+#![tactic(auto)]
+
+mod drawing;
+mod layout;
+mod pictures;
+mod shapes;
+mod words;
+
+pub use pictures::draw_told;

@@ -1,0 +1,97 @@
+//! Casts, frames and answers in the words of a trace, for the texts of a drawing.
+use reg_base::{Answer, Names};
+use reg_frames::Frame;
+use reg_moments::{put_answer, put_cast, put_frame};
+use reg_process::Delivered;
+use reg_text::Sink;
+use std::alloc::Allocator;
+use std::io::{self, ErrorKind, Write};
+use std::{fmt, str};
+
+/// A formatter as the writer of a sink.
+#[derive(Drop)]
+struct Letters<'a, W> {
+    formatter: &'a mut fmt::Formatter<W>,
+}
+
+impl<W: fmt::Write> Write for Letters<'_, W> {
+    fn write(&mut self, bytes: &[u8]) -> io::Result<usize> {
+        let Ok(text) = str::from_utf8(bytes) else {
+            return Err(io::Error::from(ErrorKind::InvalidData));
+        };
+        self.formatter.write_str(text)?;
+        Ok(bytes.len())
+    }
+
+    fn flush(&mut self) -> io::Result<()> {
+        Ok(())
+    }
+}
+
+/// Whether what was put was shown.
+fn shown<W>(sink: &Sink<'_, W>) -> fmt::Result {
+    if sink.failed { Err(fmt::Error) } else { Ok(()) }
+}
+
+/// Shows an answer as a report does.
+#[derive(Clone, Copy)]
+pub struct AnswerText {
+    pub answer: Answer,
+}
+
+impl fmt::Display for AnswerText {
+    fn fmt<W: fmt::Write>(&self, formatter: &mut fmt::Formatter<W>) -> fmt::Result {
+        let mut letters = Letters { formatter };
+        let mut sink = Sink::new(&mut letters);
+        put_answer(&mut sink, self.answer);
+        shown(&sink)
+    }
+}
+
+/// Shows a cast: its stamp and its operation.
+#[derive(Drop)]
+pub struct CastText<'a, A: Allocator + Copy> {
+    pub names: &'a Names<A>,
+    pub cast: Delivered,
+}
+
+impl<A: Allocator + Copy> fmt::Display for CastText<'_, A> {
+    fn fmt<W: fmt::Write>(&self, formatter: &mut fmt::Formatter<W>) -> fmt::Result {
+        let mut letters = Letters { formatter };
+        let mut sink = Sink::new(&mut letters);
+        put_cast(&mut sink, self.names, self.cast);
+        shown(&sink)
+    }
+}
+
+/// The text of a cast, under these names.
+pub fn cast_text<A: Allocator + Copy>(names: &Names<A>, cast: Delivered) -> CastText<'_, A> {
+    CastText { names, cast }
+}
+
+/// Shows a frame in words.
+#[derive(Drop)]
+pub struct FrameText<'a, A: Allocator + Copy> {
+    pub names: &'a Names<A>,
+    /// The process that put it.
+    pub from: u8,
+    pub frame: Frame,
+}
+
+impl<A: Allocator + Copy> fmt::Display for FrameText<'_, A> {
+    fn fmt<W: fmt::Write>(&self, formatter: &mut fmt::Formatter<W>) -> fmt::Result {
+        let mut letters = Letters { formatter };
+        let mut sink = Sink::new(&mut letters);
+        put_frame(&mut sink, self.names, self.from, self.frame);
+        shown(&sink)
+    }
+}
+
+/// The words of a frame that this process put, under these names.
+pub fn frame_text<A: Allocator + Copy>(
+    names: &Names<A>,
+    from: u8,
+    frame: Frame,
+) -> FrameText<'_, A> {
+    FrameText { names, from, frame }
+}

@@ -1,0 +1,6 @@
+pub mod Spelled
+pub mod Moving
+pub mod Putting
+pub mod Tracing
+pub mod Behind
+pub mod Arrowed

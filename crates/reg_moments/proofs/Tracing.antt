@@ -1,0 +1,81 @@
+-- The lines of a trace as they are put are its text.
+use Rattle.std.proofs.Common.{ℕ, zero, suc, ◌≡◌, ◌+◌, ◌<◌, List, [], ◌∷◌, ◌++◌, length, take, map, get_or, codes, Option, sym, ap, ◌∙◌, arith, append_assoc, append-nil}
+use Rattle.std.specs.Fmt.{decimal}
+use Rattle.std.proofs.lemmas.Grind.{flat_map-append}
+use Rattle.std.proofs.lemmas.List.Folds.{flat_map-map}
+use Rattle.reg_text.specs.declared.writing.Sink.{Sink}
+use Rattle.reg_text.specs.Lines.{text_of}
+use Rattle.reg_text.specs.Writing.{Puts}
+use Rattle.reg_text.proofs.Sent.{puts_two, puts_as}
+use Rattle.reg_history.specs.Written.{lines_by}
+use Rattle.reg_workload.specs.Schedules.{event_text}
+use Rattle.reg_moments.specs.Moments.{Fact}
+use Rattle.reg_moments.specs.Traces.{answers_lines, delivers_line, moment_lines, puts_line, takes_lines, trace_lines, trace_text}
+use Rattle.reg_moments.proofs.Putting.{puts_three, puts_four}
+
+-- the text of one line
+pub one_line : (line : List ℕ) → line ++ 10 ∷ [] ≡ text_of (line ∷ [])
+one_line line = sym (append-nil (line ++ 10 ∷ []))
+
+text_append : (xs ys : List (List ℕ)) → text_of (xs ++ ys) ≡ text_of xs ++ text_of ys
+text_append xs ys = flat_map-append (λ line. line ++ 10 ∷ []) xs ys
+
+text_map : {X : Type 0} (f : X → List ℕ) (xs : List X) → text_of (map f xs) ≡ lines_by f xs
+text_map f xs = flat_map-map (λ line. line ++ 10 ∷ []) f xs
+
+-- the parts of an event, as they are put
+moment_parts : (names : List (List ℕ)) (number : ℕ) (f : Fact)
+    → ((decimal number ++ (codes " " ++ event_text names f.event)) ++ 10 ∷ []) ++ (text_of (takes_lines names f.event f.frame) ++ (((codes "    clock " ++ decimal f.clock) ++ 10 ∷ []) ++ (lines_by (delivers_line names) f.delivered ++ (text_of (answers_lines f.reply) ++ lines_by (puts_line names f.process) f.sent))))
+    ≡ text_of (moment_lines names number f)
+moment_parts names number f =
+    let head : List ℕ = (decimal number ++ (codes " " ++ event_text names f.event)) ++ 10 ∷ [] in
+    let takes : List (List ℕ) = takes_lines names f.event f.frame in
+    let line : List ℕ = codes "    clock " ++ decimal f.clock in
+    let delivers : List (List ℕ) = map (delivers_line names) f.delivered in
+    let answers : List (List ℕ) = answers_lines f.reply in
+    let puts : List (List ℕ) = map (puts_line names f.process) f.sent in
+    sym (
+    ap (λ l. head ++ l) (text_append takes (line ∷ (delivers ++ (answers ++ puts)))
+    ∙ ap (λ l. text_of takes ++ ((line ++ 10 ∷ []) ++ l)) (text_append delivers (answers ++ puts)
+    ∙ ap (λ l. l ++ text_of (answers ++ puts)) (text_map (delivers_line names) f.delivered)
+    ∙ ap (λ l. lines_by (delivers_line names) f.delivered ++ l) (text_append answers puts
+    ∙ ap (λ l. text_of answers ++ l) (text_map (puts_line names f.process) f.sent))))
+    )
+
+pub moment_put : {S : Type 0} (held : S → Option (List ℕ)) (names : List (List ℕ)) (number : ℕ) (f : Fact) (a b c d e h k : Sink S)
+    → Puts held a b ((decimal number ++ (codes " " ++ event_text names f.event)) ++ 10 ∷ []) → Puts held b c (text_of (takes_lines names f.event f.frame)) → Puts held c d ((codes "    clock " ++ decimal f.clock) ++ 10 ∷ [])
+    → Puts held d e (lines_by (delivers_line names) f.delivered) → Puts held e h (text_of (answers_lines f.reply)) → Puts held h k (lines_by (puts_line names f.process) f.sent) → Puts held a k (text_of (moment_lines names number f))
+moment_put held names number f a b c d e h k one two three four five six =
+    let head : List ℕ = (decimal number ++ (codes " " ++ event_text names f.event)) ++ 10 ∷ [] in
+    let takes : List ℕ = text_of (takes_lines names f.event f.frame) in
+    let clock : List ℕ = (codes "    clock " ++ decimal f.clock) ++ 10 ∷ [] in
+    let delivers : List ℕ = lines_by (delivers_line names) f.delivered in
+    let answers : List ℕ = text_of (answers_lines f.reply) in
+    let puts : List ℕ = lines_by (puts_line names f.process) f.sent in
+    puts_as held a k (head ++ (takes ++ (clock ++ (delivers ++ (answers ++ puts))))) (text_of (moment_lines names number f)) (moment_parts names number f)
+    (puts_three held a b c k head takes (clock ++ (delivers ++ (answers ++ puts))) one two (puts_four held c d e h k clock delivers answers puts three four five six))
+
+-- the lines of one more event
+lines_more : (names : List (List ℕ)) (number : ℕ) (facts : List Fact) (i : ℕ) (d : Fact) → i < length facts → trace_lines names number (take (i + 1) facts) ≡ trace_lines names number (take i facts) ++ moment_lines names (number + i) (get_or facts i d)
+lines_more names number [] i d l = absurd (omega (arith, l))
+lines_more names number (f ∷ fs) zero d l =
+    let k : number + 0 ≡ number = omega arith in
+    append-nil (moment_lines names number f) ∙ ap (λ m. moment_lines names m f) (sym k)
+lines_more names number (f ∷ fs) (suc i) d l =
+    let k : number + 1 + i ≡ number + suc i = omega arith in
+    let j : suc i + 1 ≡ suc (i + 1) = omega arith in
+    ap (λ m. trace_lines names number (take m (f ∷ fs))) j
+    ∙ ap (λ lines. moment_lines names number f ++ lines) (lines_more names (number + 1) fs i d (omega (arith, l)) ∙ ap (λ m. trace_lines names (number + 1) (take i fs) ++ moment_lines names m (get_or fs i d)) k)
+    ∙ sym (append_assoc_lines (moment_lines names number f) (trace_lines names (number + 1) (take i fs)) (moment_lines names (number + suc i) (get_or fs i d)))
+  where
+    append_assoc_lines : (xs ys zs : List (List ℕ)) → (xs ++ ys) ++ zs ≡ xs ++ (ys ++ zs)
+    append_assoc_lines xs ys zs = append_assoc xs ys zs
+
+-- one more event was put
+pub trace_more : {S : Type 0} (held : S → Option (List ℕ)) (names : List (List ℕ)) (facts : List Fact) (i : ℕ) (d : Fact) (a b c : Sink S) → i < length facts → Puts held a b (trace_text names (take i facts)) → Puts held b c (text_of (moment_lines names i (get_or facts i d))) → Puts held a c (trace_text names (take (i + 1) facts))
+trace_more held names facts i d a b c l p q =
+    let before : List (List ℕ) = trace_lines names 0 (take i facts) in
+    let k : 0 + i ≡ i = omega arith in
+    let lines : trace_lines names 0 (take (i + 1) facts) ≡ before ++ moment_lines names i (get_or facts i d) = lines_more names 0 facts i d l ∙ ap (λ m. before ++ moment_lines names m (get_or facts i d)) k in
+    puts_as held a c (text_of before ++ text_of (moment_lines names i (get_or facts i d))) (trace_text names (take (i + 1) facts)) (sym (ap text_of lines ∙ text_append before (moment_lines names i (get_or facts i d))))
+    (puts_two held a b c (text_of before) (text_of (moment_lines names i (get_or facts i d))) p q)

@@ -1,0 +1,4 @@
+pub mod Moments
+pub mod Figures
+pub mod Traces
+pub mod ScheduleText

@@ -1,0 +1,238 @@
+//! What each event of a run did.
+ghost use Rattle.std.specs.Prelude.{◌≡◌, ◌<◌, ◌++◌, ℕ, false, drop, length, map, take, slice_index, IfOk, OnOk};
+ghost use Rattle.reg_world.specs.Histories.{process_of};
+ghost use Rattle.reg_world.specs.World.{delivered_of};
+ghost use Rattle.reg_world.specs.Worlds.{run_in, with_event};
+ghost use Rattle.reg_moments.specs.Moments.{frame_taken, moment_of, moments_of, placed, puts_since};
+
+use reg_base::Shape;
+use reg_base::limits::MOST_PROCESSES;
+use reg_frames::Frame;
+use reg_front::FrontEnd;
+use reg_process::{Delivered, Reply};
+use reg_world::{Event, World, WorldFault};
+use std::alloc::{AllocError, Allocator, Global};
+use std::marker::Model;
+
+const WIDTH: usize = MOST_PROCESSES as usize;
+
+/// A frame that an event put, with the process that it is for and its place on that wire.
+#[derive(Clone, Copy, Debug, PartialEq, Eq)]
+pub struct Sent {
+    pub to: u8,
+    pub place: usize,
+    pub frame: Frame,
+}
+
+/// What an event did.
+#[derive(Drop)]
+pub struct Moment<A: Allocator + Copy = Global> {
+    pub event: Event,
+    /// The process that the event is of.
+    pub process: u8,
+    /// The frame that a take took.
+    pub frame: Option<Frame>,
+    /// The clock of the process behind the event.
+    pub clock: u64,
+    /// The casts that the process delivered, in order.
+    pub delivered: Vec<Delivered, A>,
+    /// The reply that the event gave.
+    pub reply: Option<Reply>,
+    /// The frames that the process put, by rising receiver and place.
+    pub sent: Vec<Sent, A>,
+}
+
+impl<A: Allocator + Copy> Model for Moment<A> {
+    ghost use Rattle.reg_moments.specs.Moments.{Fact};
+
+    ghost Value = { Fact };
+
+    ghost view = { λ m. record { event = m.event; process = m.process; frame = m.frame; clock = m.clock; delivered = m.delivered.items; reply = m.reply; sent = m.sent.items } };
+}
+
+/// The process that an event is of.
+fn process_of_event(event: &Event) -> u8
+    ensures { result ≡ process_of event.now }
+{
+    match event {
+        Event::Call { process, .. } => *process,
+        Event::Take { to, .. } => *to,
+        Event::Tick { process } => *process,
+    }
+}
+
+/// The frame that an event takes.
+fn frame_of<F: FrontEnd, A: Allocator + Copy>(world: &World<F, A>, event: &Event) -> Option<Frame>
+    requires { world.now.failed ≡ false }
+    ensures { result ≡ frame_taken world.now.processes (run_in F.start world.now).nodes event.now }
+{
+    match event {
+        Event::Take { from, to, number } => match world.wire(*from, *to) {
+            Some(frames) => frames.get(*number as usize).copied(),
+            None => None,
+        },
+        _ => None,
+    }
+}
+
+/// How many frames stand on the wires of a process, by receiver.
+fn lengths<F: FrontEnd, A: Allocator + Copy>(world: &World<F, A>, process: u8) -> [usize; WIDTH]
+    requires going { world.now.failed ≡ false }
+    requires process { process < world.now.processes }
+    ensures { (to : ℕ) → to < world.now.processes → (to ≡ process → ⊥) → slice_index result to ≡ length (((run_in F.start world.now).nodes process).wire to) }
+{
+    let mut lengths = [0; WIDTH];
+    for to in 0..world.shape().processes() as u8 {
+        if let Some(frames) = world.wire(process, to) {
+            lengths[usize::from(to)] = frames.len();
+        }
+    }
+    lengths
+}
+
+/// Adds the frames of a wire from this place on.
+fn push_sent<A: Allocator + Copy>(
+    sent: &mut Vec<Sent, A>,
+    to: u8,
+    first: usize,
+    frames: &[Frame],
+) -> Result<(), AllocError>
+    ensures { OnOk result (sent.new.items ≡ sent.old.items ++ placed to first (drop first frames.now)) }
+{
+    for place in first..frames.len() {
+        let frame = frames[place];
+        sent.push(Sent { to, place, frame })?;
+    }
+    Ok(())
+}
+
+/// The frames that a process put behind those of these lengths.
+fn sent_since<F: FrontEnd, A: Allocator + Copy>(
+    alloc: A,
+    world: &World<F, A>,
+    process: u8,
+    lengths: &[usize; WIDTH],
+) -> Result<Vec<Sent, A>, AllocError>
+    requires going { world.now.failed ≡ false }
+    requires process { process < world.now.processes }
+    ensures { IfOk result (λ v. v.items ≡ puts_since process (slice_index lengths.now) ((run_in F.start world.now).nodes process).wire world.now.processes) }
+{
+    let mut sent = Vec::new(alloc);
+    for to in 0..world.shape().processes() as u8 {
+        if let Some(frames) = world.wire(process, to) {
+            push_sent(&mut sent, to, lengths[usize::from(to)], frames)?;
+        }
+    }
+    Ok(sent)
+}
+
+/// How many casts a process has delivered.
+fn delivered_count<F: FrontEnd, A: Allocator + Copy>(world: &World<F, A>, process: u8) -> u64
+    requires going { world.now.failed ≡ false }
+    requires process { process < world.now.processes }
+    ensures { result ≡ ((run_in F.start world.now).nodes process).state.delivered }
+{
+    match world.process(process) {
+        Some(process) => process.delivered_count(),
+        None => unreachable!(),
+    }
+}
+
+/// The clock of a process.
+fn clock_of<F: FrontEnd, A: Allocator + Copy>(world: &World<F, A>, process: u8) -> u64
+    requires going { world.now.failed ≡ false }
+    requires process { process < world.now.processes }
+    ensures { result ≡ ((run_in F.start world.now).nodes process).state.clock }
+{
+    match world.process(process) {
+        Some(process) => process.clock(),
+        None => unreachable!(),
+    }
+}
+
+/// The casts of the one order from this place up to that.
+fn casts_between<F: FrontEnd, A: Allocator + Copy>(
+    alloc: A,
+    world: &World<F, A>,
+    first: u64,
+    end: u64,
+) -> Result<Vec<Delivered, A>, AllocError>
+    ensures { IfOk result (λ v. v.items ≡ drop first (take end (map delivered_of (run_in F.start world.now).order))) }
+{
+    let order = world.order();
+    order
+        .iter()
+        .map(|first| Delivered {
+            stamp: first.stamp,
+            op: first.op,
+        })
+        .take(end as usize)
+        .skip(first as usize)
+        .collect(alloc)
+}
+
+/// Makes an event, and tells what it did.
+///
+/// # Errors
+///
+/// The event is refused, or memory is.
+fn tell<F: FrontEnd, A: Allocator + Copy>(
+    alloc: A,
+    world: &mut World<F, A>,
+    event: &Event,
+) -> Result<Moment<A>, WorldFault>
+    requires { world.old.failed ≡ false }
+    ensures made { OnOk result (world.new ≡ with_event F.start world.old event.now) }
+    ensures told { IfOk result (λ m. m ≡ moment_of F.start world.old event.now) }
+{
+    let process = process_of_event(event);
+    if u32::from(process) >= world.shape().processes() {
+        return Err(WorldFault::NoProcess);
+    }
+    let frame = frame_of(world, event);
+    let lengths = lengths(world, process);
+    let before = delivered_count(world, process);
+    let reply = world.step_reply(event)?;
+    let clock = clock_of(world, process);
+    let after = delivered_count(world, process);
+    let Ok(delivered) = casts_between(alloc, world, before, after) else {
+        return Err(WorldFault::OutOfMemory);
+    };
+    let Ok(sent) = sent_since(alloc, world, process, &lengths) else {
+        return Err(WorldFault::OutOfMemory);
+    };
+    Ok(Moment {
+        event: *event,
+        process,
+        frame,
+        clock,
+        delivered,
+        reply,
+        sent,
+    })
+}
+
+/// What each of these events does in a run of them.
+///
+/// # Errors
+///
+/// An event is refused, or memory is.
+pub fn tell_events<F: FrontEnd, A: Allocator + Copy>(
+    alloc: A,
+    shape: Shape,
+    events: &[Event],
+) -> Result<Vec<Moment<A>, A>, WorldFault>
+    ensures { IfOk result (λ v. v.items ≡ moments_of F.start shape events.now) }
+{
+    let Ok(mut world) = World::<F, A>::new(alloc, shape) else {
+        return Err(WorldFault::OutOfMemory);
+    };
+    let mut moments = Vec::new(alloc);
+    for event in events {
+        let moment = tell(alloc, &mut world, event)?;
+        if moments.push(moment).is_err() {
+            return Err(WorldFault::OutOfMemory);
+        }
+    }
+    Ok(moments)
+}

@@ -1,0 +1,14 @@
+//! All that is told of a run.
+use crate::moments::Moment;
+use reg_base::Names;
+use reg_history::{History, Point};
+use std::alloc::Allocator;
+
+/// What is told of a schedule's run: its names, what each event did, the history, and the points where there are any.
+#[derive(Drop)]
+pub struct Told<A: Allocator + Copy> {
+    pub names: Names<A>,
+    pub moments: Vec<Moment<A>, A>,
+    pub history: History<A>,
+    pub points: Option<Vec<Point, A>>,
+}

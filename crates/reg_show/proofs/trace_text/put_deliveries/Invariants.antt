@@ -1,9 +1,0 @@
-use Rattle.std.proofs.Common.{take}
-use Rattle.reg_text.specs.Writing.{Puts}
-use Rattle.reg_history.specs.Written.{lines_by}
-use Rattle.reg_show.specs.Traces.{delivers_line}
-use Rattle.reg_show.proofs.trace_text.put_deliveries.Given as goal
-
--- the sink has the lines so far
-abbrev pub invariant-loop-cast : goal.invariant-loop-cast
-invariant-loop-cast g l = Puts g.W.Write.contents l.initial.sink l.sink (lines_by (delivers_line l.names) (take l.cast-index l.casts))
