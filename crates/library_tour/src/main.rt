@@ -5,9 +5,9 @@ ghost use Rattle.std.specs.Prelude.{◌≡◌, [], length, IfOk};
 ghost use Rattle.library_tour.specs.Firsts.{first_entries};
 
 use anyhow::anyhow;
+use std::alloc::Global;
 use tellwydar::{
-    Entry, Event, History, Linear, Op, OpId, Point, Reply, Shape, World, WorldFault, check_points,
-    check_serial,
+    Entry, Event, History, Linear, Op, Reply, Shape, World, WorldFault, check_points, check_serial,
 };
 
 const WRITE: Op = Op::Write {
@@ -92,22 +92,39 @@ fn tell_history(rt: &impl Print, history: &History) -> anyhow::Result<()> {
     Ok(())
 }
 
-fn tell_order(rt: &impl Print, ids: &[OpId]) -> anyhow::Result<()> {
-    println!(rt; "serial order")?;
-    for id in ids {
-        println!(rt; "  p{} #{}", id.process, id.number)?;
+/// Makes the other events, and tells what came of each.
+fn step_all(rt: &impl Print, world: &mut World<Linear>) -> anyhow::Result<()> {
+    for event in &EVENTS {
+        tell(rt, event, world.step_reply(event))?;
     }
     Ok(())
 }
 
-fn tell_points(rt: &impl Print, points: &[Point]) -> anyhow::Result<()> {
+/// Tells a serial order of the history, and what the checker says of it and of the order turned round.
+fn tell_serial_order(rt: &impl Print, alloc: Global, world: &World<Linear>) -> anyhow::Result<()> {
+    let (history, mut ids) = world.serial_order()?;
+    tell_history(rt, history)?;
+    println!(rt; "serial order")?;
+    for id in &ids {
+        println!(rt; "  p{} #{}", id.process, id.number)?;
+    }
+    println!(rt; "  checked: {:?}", check_serial(alloc, history, &ids))?;
+    ids.reverse();
+    println!(rt; "  reversed: {:?}", check_serial(alloc, history, &ids))?;
+    Ok(())
+}
+
+/// Tells the points of the history, and what the checker says of them.
+fn tell_linearization(rt: &impl Print, alloc: Global, world: &World<Linear>) -> anyhow::Result<()> {
+    let (history, points) = world.linearization()?;
     println!(rt; "linearization")?;
-    for point in points {
+    for point in &points {
         println!(rt;
             "  p{} #{} at {}",
             point.id.process, point.id.number, point.at
         )?;
     }
+    println!(rt; "  checked: {:?}", check_points(alloc, history, &points))?;
     Ok(())
 }
 
@@ -121,20 +138,7 @@ fn main(rt: HostRuntime) -> anyhow::Result<()> {
         op: WRITE,
     };
     tell(&rt, &first, call_first(&mut world, 0, WRITE))?;
-    for event in &EVENTS {
-        tell(&rt, event, world.step_reply(event))?;
-    }
-    let (history, mut ids) = world.serial_order()?;
-    tell_history(&rt, history)?;
-    tell_order(&rt, &ids)?;
-    println!(rt; "  checked: {:?}", check_serial(rt.alloc(), history, &ids))?;
-    ids.reverse();
-    println!(rt; "  reversed: {:?}", check_serial(rt.alloc(), history, &ids))?;
-    let (history, points) = world.linearization()?;
-    tell_points(&rt, &points)?;
-    println!(rt;
-        "  checked: {:?}",
-        check_points(rt.alloc(), history, &points)
-    )?;
-    Ok(())
+    step_all(&rt, &mut world)?;
+    tell_serial_order(&rt, rt.alloc(), &world)?;
+    tell_linearization(&rt, rt.alloc(), &world)
 }
