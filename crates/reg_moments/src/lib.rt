@@ -9,7 +9,7 @@ mod told;
 mod trace_text;
 
 pub use figures::{Arrow, Bar, End, arrows, bars, is_taken};
-pub use moments::{Moment, Sent, tell_events};
+pub use moments::{Moment, Sent, tell_world};
 pub use schedule_text::write_schedule;
 pub use told::Told;
 pub use trace_text::{put_answer, put_cast, put_frame, write_trace};

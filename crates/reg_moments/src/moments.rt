@@ -171,11 +171,7 @@ fn casts_between<F: FrontEnd, A: Allocator + Copy>(
         .collect(alloc)
 }
 
-/// Makes an event, and tells what it did.
-///
-/// # Errors
-///
-/// The event is refused, or memory is.
+/// Makes an event, and tells what it did. The event is refused, or memory is.
 fn tell<F: FrontEnd, A: Allocator + Copy>(
     alloc: A,
     world: &mut World<F, A>,
@@ -212,12 +208,8 @@ fn tell<F: FrontEnd, A: Allocator + Copy>(
     })
 }
 
-/// What each of these events does in a run of them.
-///
-/// # Errors
-///
-/// An event is refused, or memory is.
-pub fn tell_events<F: FrontEnd, A: Allocator + Copy>(
+/// What each of these events does in a run of them. An event is refused, or memory is.
+fn tell_events<F: FrontEnd, A: Allocator + Copy>(
     alloc: A,
     shape: Shape,
     events: &[Event],
@@ -235,4 +227,21 @@ pub fn tell_events<F: FrontEnd, A: Allocator + Copy>(
         }
     }
     Ok(moments)
+}
+
+/// What each event of a world did.
+///
+/// # Errors
+///
+/// Memory is refused.
+pub fn tell_world<F: FrontEnd, A: Allocator + Copy>(
+    alloc: A,
+    world: &World<F, A>,
+) -> Result<Vec<Moment<A>, A>, AllocError>
+    ensures { IfOk result (λ v. v.items ≡ moments_of F.start (record { processes = world.now.processes; registers = world.now.registers }) world.now.accepted) }
+{
+    match tell_events::<F, A>(alloc, world.shape(), world.accepted()) {
+        Ok(moments) => Ok(moments),
+        Err(_) => Err(AllocError),
+    }
 }

@@ -10,7 +10,7 @@ mod telling;
 
 pub use faults::ShowFault;
 pub use reg_moments::{
-    Arrow, Bar, End, Moment, Sent, arrows, bars, is_taken, tell_events, write_schedule, write_trace,
+    Arrow, Bar, End, Moment, Sent, arrows, bars, is_taken, tell_world, write_schedule, write_trace,
 };
 pub use running::show_text;
 pub use showing::Showing;

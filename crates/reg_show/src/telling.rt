@@ -1,29 +1,13 @@
 //! What is told of a schedule's run.
 ghost use Rattle.std.specs.Prelude.{◌≡◌, None, IfOk, IfErr, option_map};
 ghost use Rattle.reg_commands.specs.Replays.{start_of, BlamesRun, PointsOf, ShowsPoints};
-ghost use Rattle.reg_moments.specs.Moments.{moments_of};
 ghost use Rattle.reg_show.specs.Inner.{IsTold};
 
 use reg_commands::{Fault, Ran, read_schedule, run_events};
 use reg_front::{Front, FrontEnd, Linear, LocalRead, LocalWrite, RealTime};
-use reg_moments::{Moment, Told, tell_events};
+use reg_moments::{Told, tell_world};
 use reg_workload::Schedule;
-use reg_world::World;
 use std::alloc::Allocator;
-
-/// What each event of a world did.
-fn moments_in<F: FrontEnd, A: Allocator + Copy>(
-    alloc: A,
-    world: &World<F, A>,
-) -> Result<Vec<Moment<A>, A>, Fault>
-    ensures told { IfOk result (λ v. v.items ≡ moments_of F.start (record { processes = world.now.processes; registers = world.now.registers }) world.now.accepted) }
-    ensures why { IfErr result (λ f. f ≡ Fault.OutOfMemory) }
-{
-    match tell_events::<F, A>(alloc, world.shape(), world.accepted()) {
-        Ok(moments) => Ok(moments),
-        Err(_) => Err(Fault::OutOfMemory),
-    }
-}
 
 /// Runs a schedule whose front end has no points, and tells what happened.
 fn tell_run<F: FrontEnd, A: Allocator + Copy>(
@@ -39,7 +23,9 @@ fn tell_run<F: FrontEnd, A: Allocator + Copy>(
         names,
         front: _front,
     } = run_events::<F, A>(alloc, schedule)?;
-    let moments = moments_in(alloc, &world)?;
+    let Ok(moments) = tell_world(alloc, &world) else {
+        return Err(Fault::OutOfMemory);
+    };
     Ok(Told {
         names,
         moments,
@@ -62,7 +48,9 @@ fn tell_run_with_points<F: RealTime, A: Allocator + Copy>(
         names,
         front: _front,
     } = run_events::<F, A>(alloc, schedule)?;
-    let moments = moments_in(alloc, &world)?;
+    let Ok(moments) = tell_world(alloc, &world) else {
+        return Err(Fault::OutOfMemory);
+    };
     let Ok(points) = world.points() else {
         return Err(Fault::OutOfMemory);
     };

@@ -1,0 +1,8 @@
+use Rattle.std.proofs.Common.{rules}
+use Rattle.reg_show_cli.proofs.words.named.Goals as goal
+
+pub returns-in-draw : goal.returns-in-draw
+returns-in-draw c = search rules
+
+pub returns-in-schedule : goal.returns-in-schedule
+returns-in-schedule c = search rules
