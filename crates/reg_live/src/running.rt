@@ -31,8 +31,12 @@ pub enum RunStop {
 }
 
 impl From<AllocError> for RunStop {
+    ghost use Rattle.reg_live.specs.declared.running.RunStop.TheVariants.{OutOfMemory};
+
+    ghost from_gives = { λ _ stop. stop ≡ OutOfMemory };
+
     fn from(_error: AllocError) -> RunStop {
-        RunStop::OutOfMemory
+        Self::OutOfMemory
     }
 }
 
