@@ -1,19 +1,21 @@
 -- The forms of lines, whatever the limits, and lines that are being read. They carry a proof: no promise speaks of them.
-use Rattle.std.specs.Prelude.{ℕ, ◌≡◌, ◌≢◌, ◌≤◌, ◌⊎◌, true, List, [], ◌++◌, codes, length, Some, slice_get, ◌∷◌}
+use Rattle.std.specs.Prelude.{ℕ, ◌≡◌, ◌≢◌, ◌<◌, ◌≤◌, ◌⊎◌, true, List, [], ◌++◌, codes, length, map, Some, slice_get, ◌∷◌, if◌then◌else◌}
 use Rattle.std.specs.Fmt.{decimal}
 use Rattle.reg_base.specs.Shape.{Extent}
+use Rattle.reg_base.specs.Names.{is_name}
 use Rattle.reg_text.specs.Inner.{HasValue}
-use Rattle.reg_text.specs.Forms.{is_numeral, HasOpForm, IsReadForm, IsWriteForm, IsSwapForm}
+use Rattle.reg_text.specs.Forms.{is_numeral, is_word, HasOpForm, IsReadForm, IsWriteForm, IsSwapForm}
 use Rattle.reg_text.specs.declared.faults.Why.{Why}
 use Rattle.reg_text.specs.declared.faults.Why.TheVariants.{Range, Name}
 use Rattle.reg_history.specs.declared.report_faults.ReadWhy.{ReadWhy}
-use Rattle.reg_history.specs.declared.report_faults.ReadWhy.TheVariants.{Form as Misspelt, Range as BeyondLimit, End as NoLine}
+use Rattle.reg_history.specs.declared.report_faults.ReadWhy.TheVariants.{Form as Misspelt, Range as BeyondLimit, Name as BadName, Place as OutOfPlace, End as NoLine}
 use Rattle.reg_history.specs.declared.entries.Entry.{Entry}
 use Rattle.reg_history.specs.declared.entries.Entry.TheVariants.{Called, Answered}
 use Rattle.reg_history.specs.declared.versions.Version.{Version}
 use Rattle.reg_history.specs.History.{IsInPlace}
-use Rattle.reg_history.specs.EntryLines.{columns_of, AnswerFits, ColumnsFit, EntryFits}
+use Rattle.reg_history.specs.EntryLines.{columns_of, entry_text, AnswerFits, ColumnsFit, EntryFits}
 use Rattle.reg_text.specs.Lines.{AllFit}
+use Rattle.reg_history.specs.ReadFaults.{why_of}
 use Rattle.reg_history.specs.Reports.{counted_lines}
 
 -- the value of its operation or answer has 64 bits
@@ -65,6 +67,52 @@ pub record IsTailWhy (names : List (List ℕ)) (rest : List ℕ) (why : Why) : T
   pub read : (text name : List ℕ) → rest ≡ codes "call    " ++ text → IsReadForm text name → why ≡ Name
   pub known : (text name digits : List ℕ) (i : ℕ) → rest ≡ codes "call    " ++ text → IsUpdateForm text name digits → slice_get names i ≡ Some name → why ≡ Range
   pub unknown : (text name digits : List ℕ) → rest ≡ codes "call    " ++ text → IsUpdateForm text name digits → ((i : ℕ) → ¬ (slice_get names i ≡ Some name)) → why ≡ Name
+
+-- why a line is no entry's: its form is not kept, or a number of its columns is beyond its limit, or what stands behind them tells
+pub record IsEntryWhy (version : Version) (names : List (List ℕ)) (line : List ℕ) (why : ReadWhy) : Type 0 where
+  pub form : (¬ (HasEntryForm line)) → why ≡ Misspelt
+  pub beyond : (at process number rest : List ℕ) → HasColumns line at process number rest → HasTailForm rest → ¬ (AreWithin version at process number) → why ≡ BeyondLimit
+  pub within : (at process number rest : List ℕ) → HasColumns line at process number rest → HasTailForm rest → AreWithin version at process number → (told : Why) × IsTailWhy names rest told × (why ≡ why_of told)
+
+-- it is none of an entry's
+pub record IsNoEntry (version : Version) (names : List (List ℕ)) (line : List ℕ) (why : ReadWhy) : Type 0 where
+  pub none : (e : Entry) → EntryFits version names e → line ≢ entry_text names e
+  pub told : IsEntryWhy version names line why
+
+-- it is that of an entry which may not come after those before it
+pub record IsMisplaced (version : Version) (names : List (List ℕ)) (shape : Extent) (before : List Entry) (line : List ℕ) (why : ReadWhy) : Type 0 where
+  pub entry : Entry
+  pub spelled : line ≡ entry_text names entry
+  pub fits : EntryFits version names entry
+  pub misplaced : ¬ (IsInPlace shape.processes shape.registers before entry)
+  pub told : why ≡ OutOfPlace
+
+-- no line is left; or the next one is refused, and these stand behind it
+abbrev pub IsWrongLine : Version → List (List ℕ) → Extent → List Entry → List (List ℕ) → List (List ℕ) → ReadWhy → Type 0
+IsWrongLine version names shape before [] rest why = why ≡ NoLine
+IsWrongLine version names shape before (line ∷ after) rest why = (after ≡ rest) × (IsNoEntry version names line why ⊎ IsMisplaced version names shape before line why)
+
+-- Fewer lines than the count says are of entries in place, and the next one is wrong.
+pub record IsWrongEntry (version : Version) (names : List (List ℕ)) (shape : Extent) (count : ℕ) (old rest : List (List ℕ)) (why : ReadWhy) : Type 0 where
+  pub before : List Entry
+  pub now : List (List ℕ)
+  pub lines : old ≡ map (entry_text names) before ++ now
+  pub fit : AllFit (Follows version names shape) before
+  pub fewer : length before < count
+  pub wrong : IsWrongLine version names shape before now rest why
+
+-- no line is left; or the next one is no name, though it may be a word, and these stand behind it
+abbrev pub IsNoName : List (List ℕ) → List (List ℕ) → ReadWhy → Type 0
+IsNoName [] rest why = why ≡ NoLine
+IsNoName (line ∷ after) rest why = (after ≡ rest) × (is_name line ≢ true) × (why ≡ (if is_word line then BadName else Misspelt))
+
+-- Fewer lines than the count says are these names, each well spelt, and the next one is wrong.
+pub record IsWrongName (count : ℕ) (old rest : List (List ℕ)) (names : List (List ℕ)) (why : ReadWhy) : Type 0 where
+  pub now : List (List ℕ)
+  pub lines : old ≡ names ++ now
+  pub fit : AllFit (λ _ n. is_name n ≡ true) names
+  pub fewer : length names < count
+  pub wrong : IsNoName now rest why
 
 -- the line has the form of an operation's, whatever the limits: these numerals in their places
 abbrev pub IsIdForm : List ℕ → List ℕ → List ℕ → Type 0

@@ -1,9 +1,9 @@
 //! As many lines as a count announces.
-ghost use Rattle.std.specs.Prelude.{◌≡◌, ℕ, List, [], ◌∷◌, None, Ok, IfOk, IfErr, OnOk, MatchResult};
+ghost use Rattle.std.specs.Prelude.{◌≡◌, ◌⊎◌, ℕ, List, [], ◌∷◌, None, Ok, IfOk, IfErr, OnOk, MatchResult};
 ghost use Rattle.reg_base.specs.Names.{names_fault};
 ghost use Rattle.reg_history.specs.declared.entries.Entry.{Entry};
 ghost use Rattle.reg_history.specs.declared.report_faults.ReadWhy.{ReadWhy as Why};
-ghost use Rattle.reg_history.specs.LineForms.{Follows, IsBadNext};
+ghost use Rattle.reg_history.specs.LineForms.{Follows, IsBadNext, IsWrongEntry};
 ghost use Rattle.reg_history.specs.EntryLines.{entry_text};
 ghost use Rattle.reg_text.specs.Inner.{IsBlock};
 
@@ -67,6 +67,7 @@ pub fn read_entries<A: Allocator + Copy>(
     ensures shape { OnOk result (history.new.shape ≡ history.old.shape) }
     ensures whole { (ys : List Entry) (rest : List (List ℕ)) → IsBlock (entry_text names.now) (Follows version names.now history.old.shape) count lines.old.left rest ys
         → MatchResult result (λ _. (history.new.entries ≡ ys) × (lines.new.left ≡ rest)) (λ f. f ≡ ReadFault.OutOfMemory) }
+    ensures wrong { IfErr result (λ f. (f ≡ ReadFault.OutOfMemory) ⊎ ((why : Why) × (f ≡ ReadFault.Line lines.new.number why) × IsWrongEntry version names.now history.old.shape count lines.old.left lines.new.left why)) }
 {
     for _place in 0..count {
         let Some(line) = lines.next() else {

@@ -1,10 +1,12 @@
 //! Readers of the registers of a report.
-ghost use Rattle.std.specs.Prelude.{◌≡◌, ◌≢◌, ◌≤◌, ◌++◌, ℕ, List, length, true, None, Some, IfOk, IfNone, MatchResult, MatchOption, string_bytes, codes, if◌then◌else◌};
+ghost use Rattle.std.specs.Prelude.{◌≡◌, ◌≢◌, ◌<◌, ◌≤◌, ◌+◌, ◌^◌, ◌⊎◌, ◌++◌, ℕ, List, length, true, None, Some, IfOk, IfNone, IfSome, MatchResult, MatchOption, string_bytes, codes, if◌then◌else◌};
 ghost use Rattle.reg_base.specs.Names.{is_name as is_name_of, names_fault, texts};
 ghost use Rattle.reg_text.specs.Inner.{IsBlock};
 ghost use Rattle.reg_text.specs.Forms.{is_word as is_word_of};
 ghost use Rattle.reg_history.specs.declared.versions.Version.{Version};
 ghost use Rattle.reg_history.specs.declared.versions.Version.TheVariants.{One, Two};
+ghost use Rattle.reg_history.specs.declared.report_faults.ReadWhy.{ReadWhy as Why};
+ghost use Rattle.reg_history.specs.LineForms.{IsWrongName};
 ghost use Rattle.reg_history.specs.Versions.{most_registers};
 ghost use Rattle.reg_history.specs.Reports.{registers_lines};
 
@@ -55,6 +57,7 @@ fn read_spelt<A: Allocator + Copy>(alloc: A, lines: &mut Lines<'_>, count: u32) 
     ensures read { IfNone result.stop (IsBlock (λ n. n) (λ _ n. is_name_of n ≡ true) count lines.old.left lines.new.left (texts result.names.items)) }
     ensures whole { (ys rest : List (List ℕ)) → IsBlock (λ n. n) (λ _ n. is_name_of n ≡ true) count lines.old.left rest ys
         → MatchOption result.stop ((texts result.names.items ≡ ys) × (lines.new.left ≡ rest)) (λ f. f ≡ ReadFault.OutOfMemory) }
+    ensures wrong { IfSome result.stop (λ f. (f ≡ ReadFault.OutOfMemory) ⊎ ((why : Why) × (f ≡ ReadFault.Line lines.new.number why) × IsWrongName count lines.old.left lines.new.left (texts result.names.items) why)) }
 {
     let mut names = Vec::new(alloc);
     for _place in 0..count {
@@ -83,7 +86,10 @@ fn read_spelt<A: Allocator + Copy>(alloc: A, lines: &mut Lines<'_>, count: u32) 
 
 /// The fault of the first name that stands earlier too, by the number of the line before the first name; and else the
 /// other fault.
-fn first_fault(fault: NamesFault, before: u64, other: ReadFault) -> ReadFault {
+fn first_fault(fault: NamesFault, before: u64, other: ReadFault) -> ReadFault
+    ensures same { (place : ℕ) → fault ≡ NamesFault.SameName place → before + place + 1 < 2 ^ 64 → result ≡ ReadFault.Line (before + place + 1) ReadWhy.Name }
+    ensures other { ((place : ℕ) → fault ≢ NamesFault.SameName place) → result ≡ other }
+{
     match fault {
         NamesFault::SameName { place } => ReadFault::Line {
             line: before.saturating_add(place as u64).saturating_add(1),
@@ -100,7 +106,9 @@ fn stopped_at<A: Allocator + Copy>(
     before: u64,
     stop: ReadFault,
 ) -> ReadFault
-    ensures { stop ≡ ReadFault.OutOfMemory → result ≡ ReadFault.OutOfMemory }
+    ensures memory { stop ≡ ReadFault.OutOfMemory → result ≡ ReadFault.OutOfMemory }
+    ensures same { (place : ℕ) → stop ≢ ReadFault.OutOfMemory → names_fault (texts names.items) ≡ Some (NamesFault.SameName place) → before + place + 1 < 2 ^ 64 → result ≡ ReadFault.Line (before + place + 1) ReadWhy.Name }
+    ensures other { ((place : ℕ) → ¬ (names_fault (texts names.items) ≡ Some (NamesFault.SameName place))) → result ≡ stop }
 {
     if stop == ReadFault::OutOfMemory {
         return stop;

@@ -1,5 +1,5 @@
 //! The counted parts of a report.
-ghost use Rattle.std.specs.Prelude.{◌≡◌, ◌<◌, ◌≤◌, length, ℕ, List, [], ◌∷◌, ◌++◌, None, Some, IfOk, MatchResult, codes, Option, option_map, string_bytes, true};
+ghost use Rattle.std.specs.Prelude.{◌≡◌, ◌≢◌, ◌<◌, ◌≤◌, length, ℕ, List, [], ◌∷◌, ◌++◌, None, Some, Err, IfOk, IfErr, MatchResult, codes, Option, option_map, string_bytes, true, false};
 ghost use Rattle.std.specs.Fmt.{decimal};
 ghost use Rattle.reg_base.specs.Names.{names_fault};
 ghost use Rattle.reg_base.specs.declared.memory.OpId.{OpId};
@@ -8,6 +8,7 @@ ghost use Rattle.reg_history.specs.declared.entries.Point.{Point};
 ghost use Rattle.reg_history.specs.EntryLines.{entry_text};
 ghost use Rattle.reg_history.specs.Reports.{is_front as is_front_of};
 ghost use Rattle.reg_history.specs.IdLines.{id_text, IdFits, point_text, PointFits};
+ghost use Rattle.reg_text.specs.Forms.{is_numeral};
 ghost use Rattle.reg_history.specs.LineForms.{Follows, IsCounted};
 ghost use Rattle.reg_history.specs.Reports.{tail_lines, PointsFit, head_lines};
 ghost use Rattle.reg_history.specs.declared.versions.Version.{Version};
@@ -38,6 +39,8 @@ fn read_front<A: Allocator + Copy>(alloc: A, lines: &mut Lines<'_>) -> Result<St
     ensures read { IfOk result (λ s. (lines.old.left ≡ (codes "front " ++ string_bytes s) ∷ lines.new.left) × (is_front_of (string_bytes s) ≡ true)) }
     ensures whole { (front : List ℕ) (rest : List (List ℕ)) → is_front_of front ≡ true → lines.old.left ≡ (codes "front " ++ front) ∷ rest
         → MatchResult result (λ s. (string_bytes s ≡ front) × (lines.new.left ≡ rest)) (λ f. f ≡ ReadFault.OutOfMemory) }
+    ensures end { lines.old.left ≡ [] → result ≡ Err (ReadFault.Line lines.new.number ReadWhy.End) }
+    ensures form { (line : List ℕ) (rest : List (List ℕ)) → lines.old.left ≡ line ∷ rest → ((word : List ℕ) → line ≡ codes "front " ++ word → is_front_of word ≡ false) → result ≡ Err (ReadFault.Line lines.new.number ReadWhy.Form) }
 {
     let Some(line) = lines.next() else {
         return Err(at_line(lines, ReadWhy::End));
@@ -60,6 +63,8 @@ fn read_version(lines: &mut Lines<'_>) -> Result<Version, ReadFault>
     ensures read { IfOk result (λ version. lines.old.left ≡ version_line version ∷ lines.new.left) }
     ensures whole { (version : Version) (rest : List (List ℕ)) → lines.old.left ≡ version_line version ∷ rest
         → MatchResult result (λ v. (v ≡ version) × (lines.new.left ≡ rest)) (λ _. ⊥) }
+    ensures end { lines.old.left ≡ [] → result ≡ Err (ReadFault.Line lines.new.number ReadWhy.End) }
+    ensures form { (line : List ℕ) (rest : List (List ℕ)) → lines.old.left ≡ line ∷ rest → ((version : Version) → line ≢ version_line version) → result ≡ Err (ReadFault.Line lines.new.number ReadWhy.Form) }
 {
     let Some(line) = lines.next() else {
         return Err(at_line(lines, ReadWhy::End));
@@ -75,6 +80,9 @@ fn read_processes(lines: &mut Lines<'_>, version: Version) -> Result<u32, ReadFa
     ensures read { IfOk result (λ n. (lines.old.left ≡ (codes "processes " ++ decimal n) ∷ lines.new.left) × (0 < n) × (n ≤ most_processes version)) }
     ensures whole { (n : ℕ) (rest : List (List ℕ)) → 0 < n → n ≤ most_processes version → lines.old.left ≡ (codes "processes " ++ decimal n) ∷ rest
         → MatchResult result (λ m. (m ≡ n) × (lines.new.left ≡ rest)) (λ _. ⊥) }
+    ensures end { lines.old.left ≡ [] → result ≡ Err (ReadFault.Line lines.new.number ReadWhy.End) }
+    ensures range { (digits : List ℕ) (rest : List (List ℕ)) → is_numeral digits ≡ true → lines.old.left ≡ (codes "processes " ++ digits) ∷ rest → IfErr result (λ f. f ≡ ReadFault.Line lines.new.number ReadWhy.Range) }
+    ensures form { (line : List ℕ) (rest : List (List ℕ)) → lines.old.left ≡ line ∷ rest → ((digits : List ℕ) → line ≡ codes "processes " ++ digits → is_numeral digits ≡ false) → result ≡ Err (ReadFault.Line lines.new.number ReadWhy.Form) }
 {
     let processes = read_count(lines, b"processes ", version.most_processes() as u64)?;
     if processes == 0 {
@@ -146,6 +154,10 @@ pub fn read_tail<A: Allocator + Copy>(
     ensures read { IfOk result (λ o. let points = option_map (λ v. v.items) o in (lines.old.left ≡ tail_lines points) × PointsFit version points) }
     ensures whole { (points : Option (List Point)) → PointsFit version points → lines.old.left ≡ tail_lines points
         → MatchResult result (λ o. option_map (λ v. v.items) o ≡ points) (λ f. f ≡ ReadFault.OutOfMemory) }
+    ensures end { lines.old.left ≡ [] → result ≡ Err (ReadFault.Line lines.new.number ReadWhy.End) }
+    ensures form { (line : List ℕ) (rest : List (List ℕ)) → lines.old.left ≡ line ∷ rest → line ≢ codes "end" → ((digits : List ℕ) → line ≡ codes "points " ++ digits → is_numeral digits ≡ false) → result ≡ Err (ReadFault.Line lines.new.number ReadWhy.Form) }
+    ensures range { (digits : List ℕ) (rest : List (List ℕ)) → is_numeral digits ≡ true → lines.old.left ≡ (codes "points " ++ digits) ∷ rest → ((n : ℕ) → n ≤ MOST_IDS → ¬ (digits ≡ decimal n)) → result ≡ Err (ReadFault.Line lines.new.number ReadWhy.Range) }
+    ensures further { (line : List ℕ) (rest : List (List ℕ)) → lines.old.left ≡ codes "end" ∷ line ∷ rest → result ≡ Err (ReadFault.Line lines.new.number ReadWhy.End) }
 {
     let Some(line) = lines.next() else {
         return Err(at_line(lines, ReadWhy::End));

@@ -1,3 +1,4 @@
+pub mod EventLines
 pub mod Scripts
 pub mod Allowed
 pub mod Loaded

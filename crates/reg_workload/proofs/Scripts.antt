@@ -1,5 +1,5 @@
 -- What the steps of a player keep.
-use Rattle.std.proofs.Common.{length-set, ◌≡◌, ℕ, zero, suc, ◌+◌, ◌<◌, ◌≤◌, Bool, true, false, List, [], ◌∷◌, ◌++◌, length, take, map, refl, sym, ap, subst, ◌∙◌, inl, inr, arith, replicate, get_or-set_same, get_or-set_other}
+use Rattle.std.proofs.Common.{length-set, ◌≡◌, ℕ, suc, ◌+◌, ◌<◌, ◌≤◌, Bool, true, false, List, [], ◌∷◌, ◌++◌, length, take, map, refl, sym, ap, subst, ◌∙◌, inl, inr, arith, replicate, get_or-set_same, get_or-set_other}
 use Rattle.std.specs.Prelude.{None, ◌↔◌, cond, slice_index_or, slice_set}
 use Rattle.std.proofs.lemmas.List.{append-nil, length-map, length-replicate, length-take-le, get_or-map, get_or_default}
 use Rattle.std.proofs.Math.Seq.{take-suc, take-length}
@@ -14,7 +14,6 @@ use Rattle.reg_world.specs.declared.events.Event.TheVariants.{Call}
 use Rattle.reg_world.specs.Worlds.{Made, new_world, with_event}
 use Rattle.reg_front.specs.declared.starts.Start.{Start}
 use Rattle.reg_front.specs.Fronts.{KeepsLaws}
-use Rattle.reg_process.specs.Process.{Peer, no_peer, pending_of}
 use Rattle.reg_world.specs.Laws.{IsQuiescent}
 use Rattle.reg_world.specs.Worlds.{run_in}
 use Rattle.reg_process.proofs.Again.{replicate_at}

@@ -1,4 +1,5 @@
 pub mod Schedules
+pub mod LineForms
 pub mod Plays
 pub mod Fair
 pub mod Seeded

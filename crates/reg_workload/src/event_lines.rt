@@ -1,11 +1,12 @@
 //! Readers of the lines of events.
-ghost use Rattle.std.specs.Prelude.{◌≡◌, ◌≤◌, ℕ, ◌∷◌, ◌++◌, None, Some, IfSome};
+ghost use Rattle.std.specs.Prelude.{◌≡◌, ◌≤◌, ℕ, List, ◌∷◌, ◌++◌, codes, None, Some, IfSome, IsSome};
 ghost use Rattle.std.specs.Fmt.{decimal};
 ghost use Rattle.reg_base.specs.Names.{names_fault};
 ghost use Rattle.reg_base.specs.declared.memory.Op.{Op};
 ghost use Rattle.reg_world.specs.declared.events.Event.{Event};
 ghost use Rattle.reg_text.specs.Ops.{op_text, OpFits};
 ghost use Rattle.reg_workload.specs.Schedules.{event_text, EventFits};
+ghost use Rattle.reg_workload.specs.LineForms.{HasEventForm, IsEventWhy, IsLineWhy, IsFurtherWhy};
 
 use reg_base::{Names, Op};
 use reg_text::{
@@ -61,7 +62,11 @@ pub fn read_event<A: Allocator + Copy>(line: &[u8], names: &Names<A>) -> Option<
     })
 }
 
-fn call_form<A: Allocator + Copy>(text: &[u8], names: &Names<A>) -> Option<Why> {
+/// Why a line of a call, with this behind its first word, is no event. None where its form is not kept.
+fn call_form<A: Allocator + Copy>(text: &[u8], names: &Names<A>) -> Option<Why>
+    ensures read { IfSome result (IsEventWhy names.now (codes "call " ++ text.now)) }
+    ensures whole { HasEventForm (codes "call " ++ text.now) → IsSome result }
+{
     let (process, rest) = cut_at(text, b' ')?;
     form(is_numeral(process))?;
     let why = op_form(rest, names)?;
@@ -72,14 +77,24 @@ fn call_form<A: Allocator + Copy>(text: &[u8], names: &Names<A>) -> Option<Why> 
     }
 }
 
-fn take_form(text: &[u8]) -> Option<Why> {
+/// The same of a take.
+fn take_form(text: &[u8]) -> Option<Why>
+    ensures read { (names : List (List ℕ)) → IfSome result (IsEventWhy names (codes "take " ++ text.now)) }
+    ensures whole { HasEventForm (codes "take " ++ text.now) → IsSome result }
+{
     let (from, rest) = cut_at(text, b' ')?;
     let (to, number) = cut_at(rest, b' ')?;
-    form(is_numeral(from) && is_numeral(to) && is_numeral(number))?;
+    form(is_numeral(from))?;
+    form(is_numeral(to))?;
+    form(is_numeral(number))?;
     Some(Why::Range)
 }
 
-fn event_form<A: Allocator + Copy>(line: &[u8], names: &Names<A>) -> Option<Why> {
+/// Why a line is no event. None where its form is not kept.
+fn event_form<A: Allocator + Copy>(line: &[u8], names: &Names<A>) -> Option<Why>
+    ensures read { IfSome result (IsEventWhy names.now line.now) }
+    ensures whole { HasEventForm line.now → IsSome result }
+{
     if let Some(text) = skip(line, b"call ") {
         return call_form(text, names);
     }
@@ -91,8 +106,10 @@ fn event_form<A: Allocator + Copy>(line: &[u8], names: &Names<A>) -> Option<Why>
     Some(Why::Range)
 }
 
-/// Why a line is no event.
-pub fn why_event<A: Allocator + Copy>(line: &[u8], names: &Names<A>) -> Why {
+/// Why a line is no event: its form is not kept, or its numbers and names tell.
+pub fn why_event<A: Allocator + Copy>(line: &[u8], names: &Names<A>) -> Why
+    ensures { IsLineWhy names.now line.now result }
+{
     match event_form(line, names) {
         Some(why) => why,
         None => Why::Form,
@@ -100,7 +117,9 @@ pub fn why_event<A: Allocator + Copy>(line: &[u8], names: &Names<A>) -> Why {
 }
 
 /// Why a line behind the last event that a schedule may have is refused: its form is judged before its place.
-pub fn why_further<A: Allocator + Copy>(line: &[u8], names: &Names<A>) -> Why {
+pub fn why_further<A: Allocator + Copy>(line: &[u8], names: &Names<A>) -> Why
+    ensures { IsFurtherWhy line.now result }
+{
     match event_form(line, names) {
         Some(_) => Why::Range,
         None => Why::Form,

@@ -1,11 +1,15 @@
 //! Schedules, and their reader.
-ghost use Rattle.std.specs.Prelude.{◌≡◌, ◌<◌, ◌≤◌, ℕ, List, ◌∷◌, ◌++◌, length, map, codes, None, IfOk, MatchResult};
+ghost use Rattle.std.specs.Prelude.{◌≡◌, ◌<◌, ◌≤◌, ◌⊎◌, ℕ, List, [], ◌∷◌, ◌++◌, length, map, codes, true, false, None, Err, IfOk, IfErr, MatchResult, if◌then◌else◌};
+ghost use Rattle.std.specs.Fmt.{decimal};
 ghost use Rattle.reg_base.specs.Names.{names_fault};
 ghost use Rattle.reg_world.specs.declared.events.Event.{Event};
 ghost use Rattle.reg_front.specs.declared.named.Front.{Front};
 ghost use Rattle.reg_front.specs.Table.{front_name};
 ghost use Rattle.reg_text.specs.Lines.{AllFit};
+ghost use Rattle.reg_text.specs.Forms.{is_numeral};
+ghost use Rattle.reg_text.specs.declared.faults.Why.{Why as AnyWhy};
 ghost use Rattle.reg_workload.specs.Schedules.{event_text, EventFits, Plan, IsPlan, Spells, plan_head, plan_lines};
+ghost use Rattle.reg_workload.specs.LineForms.{is_front_form, IsWrongEvent};
 
 use crate::event_lines::{read_event, why_event, why_further};
 use reg_base::limits::{MOST_EVENTS, MOST_PROCESSES, MOST_REGISTERS};
@@ -38,7 +42,9 @@ impl<A: Allocator + Copy> Model for Schedule<A> {
 }
 
 /// Another word of letters and hyphens is a name that is not known.
-fn why_front(word: &[u8]) -> Why {
+fn why_front(word: &[u8]) -> Why
+    ensures { result ≡ (if is_front_form word.now then Why.Name else Why.Form) }
+{
     if !word.is_empty() && are_front_letters(word) {
         Why::Name
     } else {
@@ -50,6 +56,9 @@ fn why_front(word: &[u8]) -> Why {
 fn read_front(lines: &mut Lines<'_>) -> Result<Front, ScheduleFault>
     ensures read { IfOk result (λ f. lines.old.left ≡ (codes "front " ++ front_name f) ∷ lines.new.left) }
     ensures whole { (f : Front) (rest : List (List ℕ)) → lines.old.left ≡ (codes "front " ++ front_name f) ∷ rest → MatchResult result (λ g. (g ≡ f) × (lines.new.left ≡ rest)) (λ _. ⊥) }
+    ensures end { lines.old.left ≡ [] → result ≡ Err (TextFault.Line lines.new.number Why.End) }
+    ensures name { (word : List ℕ) (rest : List (List ℕ)) → is_front_form word ≡ true → lines.old.left ≡ (codes "front " ++ word) ∷ rest → IfErr result (λ f. f ≡ TextFault.Line lines.new.number Why.Name) }
+    ensures form { (line : List ℕ) (rest : List (List ℕ)) → lines.old.left ≡ line ∷ rest → ((word : List ℕ) → line ≡ codes "front " ++ word → is_front_form word ≡ false) → result ≡ Err (TextFault.Line lines.new.number Why.Form) }
 {
     let Some(line) = lines.next() else {
         return Err(lines.fault(Why::End));
@@ -66,6 +75,21 @@ fn read_front(lines: &mut Lines<'_>) -> Result<Front, ScheduleFault>
     }
 }
 
+/// The number of processes of its line.
+fn read_processes(lines: &mut Lines<'_>) -> Result<u32, ScheduleFault>
+    ensures read { IfOk result (λ n. (lines.old.left ≡ (codes "processes " ++ decimal n) ∷ lines.new.left) × (0 < n) × (n ≤ MOST_PROCESSES)) }
+    ensures whole { (n : ℕ) (rest : List (List ℕ)) → 0 < n → n ≤ MOST_PROCESSES → lines.old.left ≡ (codes "processes " ++ decimal n) ∷ rest → MatchResult result (λ m. (m ≡ n) × (lines.new.left ≡ rest)) (λ _. ⊥) }
+    ensures end { lines.old.left ≡ [] → result ≡ Err (TextFault.Line lines.new.number Why.End) }
+    ensures range { (digits : List ℕ) (rest : List (List ℕ)) → is_numeral digits ≡ true → lines.old.left ≡ (codes "processes " ++ digits) ∷ rest → IfErr result (λ f. f ≡ TextFault.Line lines.new.number Why.Range) }
+    ensures form { (line : List ℕ) (rest : List (List ℕ)) → lines.old.left ≡ line ∷ rest → ((digits : List ℕ) → line ≡ codes "processes " ++ digits → is_numeral digits ≡ false) → result ≡ Err (TextFault.Line lines.new.number Why.Form) }
+{
+    let processes = read_count(lines, b"processes ", MOST_PROCESSES as u64)?;
+    if processes == 0 {
+        return Err(lines.fault(Why::Range));
+    }
+    Ok(processes as u32)
+}
+
 /// The three header lines.
 fn read_head<A: Allocator + Copy>(
     alloc: A,
@@ -76,13 +100,10 @@ fn read_head<A: Allocator + Copy>(
         → 0 < processes → processes ≤ MOST_PROCESSES → names_fault names ≡ None → lines.old.left ≡ plan_head processes names front rest
         → MatchResult result (λ h. (h.0 ≡ processes) × (h.1 ≡ names) × (h.2 ≡ front) × (lines.new.left ≡ rest)) (λ f. f ≡ TextFault.OutOfMemory) }
 {
-    let processes = read_count(lines, b"processes ", MOST_PROCESSES as u64)?;
-    if processes == 0 {
-        return Err(lines.fault(Why::Range));
-    }
+    let processes = read_processes(lines)?;
     let names = read_names(alloc, lines, MOST_REGISTERS)?;
     let front = read_front(lines)?;
-    Ok((processes as u32, names, front))
+    Ok((processes, names, front))
 }
 
 /// All events that are left.
@@ -95,6 +116,7 @@ fn read_events<A: Allocator + Copy>(
     ensures read { IfOk result (λ v. (lines.old.left ≡ map (event_text names.now) v.items) × AllFit (λ _ x. EventFits names.now x) v.items × (length v.items ≤ MOST_EVENTS)) }
     ensures whole { (ys : List Event) → AllFit (λ _ x. EventFits names.now x) ys → length ys ≤ MOST_EVENTS → lines.old.left ≡ map (event_text names.now) ys
         → MatchResult result (λ v. v.items ≡ ys) (λ f. f ≡ TextFault.OutOfMemory) }
+    ensures wrong { IfErr result (λ f. (f ≡ TextFault.OutOfMemory) ⊎ ((why : AnyWhy) × (f ≡ TextFault.Line lines.new.number why) × IsWrongEvent names.now lines.old.left lines.new.left why)) }
 {
     let mut events = Vec::new(alloc);
     for _place in 0..MOST_EVENTS {

@@ -1,4 +1,4 @@
-use Rattle.std.proofs.Common.{sym, ◌∙◌, subst, arith, ◌≡◌, ℕ, ◌+◌, List, rules}
+use Rattle.std.proofs.Common.{sym, ap, ◌∙◌, subst, arith, refl, inl, inr, ◌≡◌, ℕ, ◌+◌, List, ◌∷◌, ◌++◌, map, rules}
 use Rattle.reg_base.specs.Shape.{Extent}
 use Rattle.reg_history.specs.declared.entries.Entry.{Entry}
 use Rattle.reg_history.specs.declared.versions.Version.{Version}
@@ -6,6 +6,7 @@ use Rattle.reg_history.specs.History.{IsInPlace}
 use Rattle.reg_history.specs.Log.{Log, IsNextOf}
 use Rattle.reg_text.proofs.Turns.{Taken, steps, ended, refused, only_read}
 use Rattle.reg_history.specs.EntryLines.{entry_text}
+use Rattle.reg_history.specs.declared.report_faults.ReadWhy.TheVariants.{Place}
 use Rattle.reg_history.specs.LineForms.{Follows}
 use Rattle.reg_history.proofs.blocks.read_entries.Goals as goal
 
@@ -57,3 +58,53 @@ returns-clause-whole g c = λ ys rest b.
 
 pub returns-in-Err-OutOfPlace-clause-read : goal.returns-in-Err-OutOfPlace-clause-read
 returns-in-Err-OutOfPlace-clause-read g c = search rules
+
+pub returns-in_default-read_entry-clause-wrong : goal.returns-in_default-read_entry-clause-wrong
+returns-in_default-read_entry-clause-wrong g c =
+    let told = c.loop-place.invariant.1 in
+    let why = c.why_entry.ensures in
+    inr (
+      c.why_entry.result,
+      c.at_line-in_default-read_entry.ensures,
+      record {
+        before = c.loop-place.history.entries;
+        now = c.in-Some.line.now ∷ c.next.new.self.left;
+        lines = told.lines ∙ ap (λ l. map (entry_text c.args.names.now) c.loop-place.history.entries ++ l) c.in-Some.ensures.line;
+        fit = told.fit;
+        fewer = omega (arith, told.count, c.loop-place-test.true);
+        wrong = (
+          refl,
+          inl (record {
+            none = λ e fits same. let bad = c.in_default-read_entry.ensures.whole e fits same in absurd (cc);
+            told = record { form = why.form; beyond = why.beyond; within = why.within };
+          }),
+        );
+      },
+    )
+
+pub returns-in-Err-OutOfPlace-clause-wrong : goal.returns-in-Err-OutOfPlace-clause-wrong
+returns-in-Err-OutOfPlace-clause-wrong g c =
+    let told = c.loop-place.invariant.1 in
+    let bad = (rw c.in-Err-OutOfPlace.field-0-is at c.in-Err-OutOfPlace.ensures) in
+    let P : Extent → Type 0 = λ s. IsInPlace s.processes s.registers c.loop-place.history.entries c.in-Some-read_entry.entry in
+    inr (
+      Place,
+      c.at_line-in-Err-OutOfPlace.ensures,
+      record {
+        before = c.loop-place.history.entries;
+        now = c.in-Some.line.now ∷ c.next.new.self.left;
+        lines = told.lines ∙ ap (λ l. map (entry_text c.args.names.now) c.loop-place.history.entries ++ l) c.in-Some.ensures.line;
+        fit = told.fit;
+        fewer = omega (arith, told.count, c.loop-place-test.true);
+        wrong = (
+          refl,
+          inr (record {
+            entry = c.in-Some-read_entry.entry;
+            spelled = c.in-Some-read_entry.ensures.read.0;
+            fits = c.in-Some-read_entry.ensures.read.1;
+            misplaced = λ p. bad.0 (subst P (sym c.loop-place.invariant.0) p);
+            told = refl;
+          }),
+        );
+      },
+    )

@@ -17,4 +17,4 @@ returns-in-Err-clause-whole g c = λ ns rest ok size e.
 pub returns-in-Some-clause-whole : goal.returns-in-Some-clause-whole
 returns-in-Some-clause-whole g c = λ ns rest ok size e.
     let stopped = (rw c.in-Some.is at (c.read_spelt-names.ensures.whole ns rest (listed ns c.args.lines.now.left rest c.args.count ok size e))) in
-    c.stopped_at.ensures stopped
+    c.stopped_at.ensures.memory stopped

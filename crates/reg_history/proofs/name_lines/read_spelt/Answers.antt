@@ -1,7 +1,9 @@
-use Rattle.std.proofs.Common.{refl, sym, ap, ◌∙◌, subst, arith, rules, ◌≡◌, ℕ, ◌+◌, List, [], ◌∷◌, ◌++◌, true, string_bytes}
+use Rattle.std.proofs.Common.{refl, sym, ap, inr, ◌∙◌, subst, arith, rules, ◌≡◌, ℕ, ◌+◌, List, [], ◌∷◌, ◌++◌, true, string_bytes}
 use Rattle.std.proofs.lemmas.List.{map-append}
 use Rattle.reg_base.specs.Names.{is_name, texts}
 use Rattle.reg_text.proofs.Turns.{Taken, begins, steps, ended, refused, only_read}
+use Rattle.reg_history.specs.declared.report_faults.ReadWhy.TheVariants.{End}
+use Rattle.reg_history.proofs.Listed.{map_same}
 use Rattle.reg_history.proofs.name_lines.read_spelt.Goals as goal
 
 abbrev Spelled : List (List ℕ) → List ℕ → Type 0
@@ -37,3 +39,36 @@ returns-clause-whole g c = λ ys rest b.
     let n : c.loop-place._place ≡ c.args.count = omega arith in
     let P : ℕ → Type 0 = λ i. Taken (λ n. n) Spelled c.args.count c.args.lines.now.left c.loop-place.lines.left (texts c.loop-place.names.items) i in
     only_read (λ n. n) Spelled c.args.count c.args.lines.now.left c.loop-place.lines.left (texts c.loop-place.names.items) (subst P n c.loop-place.invariant) ys rest b
+
+pub returns-in_default-clause-wrong : goal.returns-in_default-clause-wrong
+returns-in_default-clause-wrong g c =
+    let told = c.loop-place.invariant in
+    let names : List (List ℕ) = texts c.loop-place.names.items in
+    inr (
+      End,
+      c.at_line.ensures,
+      record {
+        now = [];
+        lines = told.lines ∙ ap (λ l. l ++ c.loop-place.lines.left) (map_same names) ∙ ap (λ l. names ++ l) c.in_default.ensures.line;
+        fit = told.fit;
+        fewer = omega (arith, told.count, c.loop-place-test.true);
+        wrong = refl;
+      },
+    )
+
+pub returns-in-Ok-None-clause-wrong : goal.returns-in-Ok-None-clause-wrong
+returns-in-Ok-None-clause-wrong g c =
+    let told = c.loop-place.invariant in
+    let names : List (List ℕ) = texts c.loop-place.names.items in
+    let bad = (rw c.in-Ok-None.field-0-is at c.in-Ok-None.ensures) in
+    inr (
+      c.why_name.result,
+      c.at_line-in-Ok-None.ensures,
+      record {
+        now = c.in-Some.line.now ∷ c.next.new.self.left;
+        lines = told.lines ∙ ap (λ l. l ++ c.loop-place.lines.left) (map_same names) ∙ ap (λ l. names ++ l) c.in-Some.ensures.line;
+        fit = told.fit;
+        fewer = omega (arith, told.count, c.loop-place-test.true);
+        wrong = (refl, bad, c.why_name.ensures);
+      },
+    )

@@ -1,4 +1,4 @@
-use Rattle.std.proofs.Common.{sym, subst, rules, ◌≡◌, ◌+◌, List, [], ◌∷◌, ◌++◌}
+use Rattle.std.proofs.Common.{sym, subst, rules, arith, ap, inr, map, ◌∙◌, ◌≡◌, ◌+◌, List, [], ◌∷◌, ◌++◌}
 use Rattle.reg_world.specs.declared.events.Event.{Event}
 use Rattle.reg_workload.specs.Schedules.{event_text, EventFits}
 use Rattle.reg_text.proofs.Turns.{Gathered, gathers_one, gathers_none}
@@ -19,3 +19,21 @@ returns-in_default-read_event-clause-whole g c = λ ys fit few e.
 
 pub returns-in-Some-next-clause-read : goal.returns-in-Some-next-clause-read
 returns-in-Some-next-clause-read g c = search rules
+
+pub returns-in_default-read_event-clause-wrong : goal.returns-in_default-read_event-clause-wrong
+returns-in_default-read_event-clause-wrong g c =
+    let told = c.loop-place.invariant in
+    inr (
+      c.why_event.result,
+      c.fault.ensures,
+      record {
+        before = c.loop-place.events.items;
+        line = c.in-Some.line.now;
+        lines = told.lines ∙ ap (λ l. map (event_text c.args.names.now) c.loop-place.events.items ++ l) c.in-Some.ensures.line;
+        fit = told.fit;
+        few = omega (arith, told.count);
+        none = λ less e fits same. let bad = c.in_default-read_event.ensures.whole e fits same in absurd (cc);
+        why_none = λ less. c.why_event.ensures;
+        why_further = λ full. absurd (omega (arith, told.count, full));
+      },
+    )
