@@ -11,12 +11,15 @@ use std::thread;
 use std::thread::{JoinHandle, Threads};
 use std::time::Clock;
 use tellwydar::{
-    Closed, Courier, Linear, LiveFault, NoGate, Pacer, Parts, Pass, Receipt, Rough, SeedWords,
-    Shape, check_points, close, read, set_up, write,
+    Closed, Cluster, Courier, Linear, LiveFault, NoGate, Pacer, Parts, Pass, Receipt, Rough,
+    SeedWords, Shape, World, check_points, close, read, set_up, write,
 };
 
 /// One parcel of five is lost, and one of five is put twice.
 type Lossy = Arc<Rough<SeedWords>>;
+
+/// What each thread was answered.
+type Receipts = Vec<Vec<Receipt>>;
 
 /// Reads at a place of the journal that is not below the front.
 fn read_from<R: Wait>(
@@ -56,34 +59,28 @@ fn pace<R: Threads + Wait + Clock + Copy + Send + Sync + 'static>(
     Ok(started?)
 }
 
-/// Has one thread write and another one read, and closes the cluster.
-fn share<R: Threads + Wait + Clock + Copy + Send + Sync + 'static>(
+/// Starts all couriers over one road.
+fn carry_all<R: Threads + Wait + Copy + Send + Sync + 'static>(
     rt: R,
     alloc: Global,
-) -> anyhow::Result<Closed<Linear>> {
-    let Ok(shape) = Shape::new(2, 1) else {
-        return Err(anyhow!("no such shape"));
-    };
-    let Ok(parts) = set_up::<Linear, NoGate>(&rt, alloc, shape, NoGate) else {
-        return Err(anyhow!("no memory"));
-    };
-    let Parts {
-        cluster,
-        mut passes,
-        couriers,
-        pacer,
-    } = parts;
+    couriers: Vec<Courier<Linear, NoGate>>,
+) -> anyhow::Result<Vec<JoinHandle<Courier<Linear, NoGate>>>> {
     let road = Arc::new(alloc, Rough::new(SeedWords::new(7), 20, 20))?;
     let mut carriers = Vec::new(alloc);
     for courier in couriers {
         carriers.push(carry(rt, courier, Arc::try_clone(&road)?)?)?;
     }
-    let pacer = pace(rt, pacer)?;
-    let (Some(mut reader), Some(mut writer)) = (passes.pop(), passes.pop()) else {
-        return Err(anyhow!("no passes"));
-    };
-    let written = writer.perform(&rt, write(0, 5));
-    let front = match written {
+    Ok(carriers)
+}
+
+/// Writes, and has another thread read from behind the answer on. That thread gives its pass back.
+fn write_and_read<R: Threads + Wait + Copy + Send + Sync + 'static>(
+    rt: R,
+    writer: &mut Pass<Linear, NoGate>,
+    reader: Pass<Linear, NoGate>,
+) -> anyhow::Result<Pass<Linear, NoGate>> {
+    let mut reader = reader;
+    let front = match writer.perform(&rt, write(0, 5)) {
         Ok(receipt) => receipt.answered.saturating_add(1),
         Err(_) => 0,
     };
@@ -92,16 +89,65 @@ fn share<R: Threads + Wait + Clock + Copy + Send + Sync + 'static>(
         (reader, read.is_ok())
     })?;
     let (reader, _was_answered) = other.join(&rt);
+    Ok(reader)
+}
+
+/// The same with both passes of the list, which holds them again in the end.
+fn perform_both<R: Threads + Wait + Copy + Send + Sync + 'static>(
+    rt: R,
+    passes: &mut Vec<Pass<Linear, NoGate>>,
+) -> anyhow::Result<()> {
+    let (Some(reader), Some(mut writer)) = (passes.pop(), passes.pop()) else {
+        return Err(anyhow!("no passes"));
+    };
+    let reader = write_and_read(rt, &mut writer, reader)?;
     passes.push(writer)?;
     passes.push(reader)?;
+    Ok(())
+}
+
+/// Stops the cluster, and waits for its couriers.
+fn stop_all<R: Threads + Wait>(
+    rt: &R,
+    cluster: &Cluster<Linear, NoGate>,
+    carriers: Vec<JoinHandle<Courier<Linear, NoGate>>>,
+) {
     for _ in rt.forever() {
-        if cluster.stop(&rt).is_ok() {
+        if cluster.stop(rt).is_ok() {
             break;
         }
     }
     for carrier in carriers {
-        drop(carrier.join(&rt));
+        drop(carrier.join(rt));
     }
+}
+
+/// The parts of a cluster of two processes and one register.
+fn make_parts<R: Wait>(rt: &R, alloc: Global) -> anyhow::Result<Parts<Linear, NoGate>> {
+    let Ok(shape) = Shape::new(2, 1) else {
+        return Err(anyhow!("no such shape"));
+    };
+    match set_up(rt, alloc, shape, NoGate) {
+        Ok(parts) => Ok(parts),
+        Err(_) => Err(anyhow!("no memory")),
+    }
+}
+
+/// Has one thread write and another one read, and closes the cluster.
+fn share<R: Threads + Wait + Clock + Copy + Send + Sync + 'static>(
+    rt: R,
+    alloc: Global,
+) -> anyhow::Result<Closed<Linear>> {
+    let Parts {
+        cluster,
+        mut passes,
+        couriers,
+        pacer,
+    } = make_parts(&rt, alloc)?;
+    let carriers = carry_all(rt, alloc, couriers)?;
+    let pacer = pace(rt, pacer)?;
+    perform_both(rt, &mut passes)?;
+    stop_all(&rt, &cluster, carriers);
     let pacer = pacer.join(&rt);
     match close(&rt, alloc, cluster, passes, Vec::new(alloc), pacer) {
         Ok(closed) => Ok(closed),
@@ -109,19 +155,30 @@ fn share<R: Threads + Wait + Clock + Copy + Send + Sync + 'static>(
     }
 }
 
-fn main(rt: HostRuntime) -> anyhow::Result<()> {
-    let alloc = rt.alloc();
-    let closed = share(rt, alloc)?;
-    for receipts in &closed.receipts {
-        for receipt in receipts {
+/// Prints what each thread was answered.
+fn print_receipts(rt: &impl Print, receipts: &Receipts) -> anyhow::Result<()> {
+    for own in receipts {
+        for receipt in own {
             println!(rt;
                 "process {}: {:?}, {:?}",
                 receipt.id.process, receipt.op, receipt.answer
             )?;
         }
     }
-    let (history, points) = closed.world.linearization()?;
+    Ok(())
+}
+
+/// Prints whether the points of the run are a linearization.
+fn print_verdict(rt: &impl Print, alloc: Global, world: &World<Linear>) -> anyhow::Result<()> {
+    let (history, points) = world.linearization()?;
     let verdict = check_points(alloc, history, &points);
     println!(rt; "points of {} operations: {:?}", points.len(), verdict)?;
     Ok(())
+}
+
+fn main(rt: HostRuntime) -> anyhow::Result<()> {
+    let alloc = rt.alloc();
+    let closed = share(rt, alloc)?;
+    print_receipts(&rt, &closed.receipts)?;
+    print_verdict(&rt, alloc, &closed.world)
 }
