@@ -1,3 +1,4 @@
+-- The order of stamps (Lamport 1978).
 use Rattle.std.specs.Ordering.{nat_cmp, ordering_then}
 use Rattle.std.specs.declared.cmp.Ordering.{Ordering}
 use Rattle.reg_base.specs.declared.stamps.Stamp.{Stamp}

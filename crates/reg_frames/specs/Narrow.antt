@@ -1,5 +1,5 @@
 -- What the types of a frame's numbers tell of it. They carry a proof: no promise speaks of them.
-use Rattle.std.specs.Prelude.{ℕ, ◌<◌, ◌^◌}
+use Rattle.std.specs.Prelude.{◌<◌, ◌^◌}
 use Rattle.reg_base.specs.declared.memory.Op.{Op}
 use Rattle.reg_base.specs.declared.memory.Op.TheVariants.{Read, Write, Swap}
 use Rattle.reg_frames.specs.declared.bodies.Body.{Body}

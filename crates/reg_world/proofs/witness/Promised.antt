@@ -20,7 +20,7 @@ use Rattle.reg_world.specs.declared.order.First.{First}
 use Rattle.reg_world.specs.Nodes.{Nodes}
 use Rattle.reg_world.specs.Laws.{DeliveriesAgree, DeliveriesRise, IsMade, DeliveriesMade, UndeliveredAbove, NoRefusal, AllAcknowledged, IsQuiescent}
 use Rattle.reg_world.specs.NodeRuns.{NothingPending}
-use Rattle.reg_world.specs.Runs.{Cast, memory_of}
+use Rattle.reg_world.specs.Runs.{memory_of}
 use Rattle.reg_world.specs.Promises.{OrderIsLongest, OrderIsRight, CastsRight, RepliesRight, AnswersFirst}
 use Rattle.reg_world.specs.World.{World, Replied, delivered_of, run_of, move_of, moved, happens, run, empty_world, whole}
 use Rattle.reg_world.proofs.one_memory.Traced.{Called as PastCall, World as Trace, casts_of, cast_of, whole as traced}
@@ -36,7 +36,6 @@ use Rattle.reg_world.proofs.one_memory.Joined.{Joined}
 use Rattle.reg_world.proofs.one_memory.Added.{cast_of_first, IsPastCall}
 use Rattle.reg_world.proofs.one_memory.Kept.{call_of}
 use Rattle.reg_world.proofs.witness.Premises.{W, V, J, G, K, same_casts, first_at, ordered, told_reply, one_id, from_trace}
-use Rattle.reg_world.proofs.witness.Grounds.{Came, AtDelivery, AtOnce, FromCopy}
 
 -- the accepted events of a longer run begin with those of the shorter
 grown : (start : Op → ℕ → Start) (n registers : ℕ) (es : List Event) (w : World) → (rest : List Event) × ((run start n registers es w).accepted ≡ w.accepted ++ rest)

@@ -1,7 +1,6 @@
-use Rattle.std.proofs.Common.{◌≡◌, ◌≤◌, replicate, sym, ap, subst, ◌∙◌}
-use Rattle.reg_base.specs.Memory.{Memory}
+use Rattle.std.proofs.Common.{◌≤◌, replicate, sym, ap, subst, ◌∙◌}
 use Rattle.reg_base.specs.declared.limits.TheConstants.{MOST_PROCESSES}
-use Rattle.reg_process.specs.Parts.{Parts, nothing, first_parts, state_of}
+use Rattle.reg_process.specs.Parts.{nothing, state_of}
 use Rattle.reg_process.specs.Queued.{outs_of}
 use Rattle.reg_process.specs.Inner.{Good}
 use Rattle.reg_process.proofs.Again.{first_good, same_parts}
