@@ -20,14 +20,13 @@ use Rattle.reg_world.specs.Histories.{process_of}
 use Rattle.reg_world.specs.Nodes.{Node, Nodes, after_step, put, step_of, take_step}
 use Rattle.reg_world.specs.World.{World, move_of, moved, run, whole}
 use Rattle.reg_world.specs.Worlds.{Made, new_world, reply_in, run_in, with_event}
-use Rattle.reg_world.proofs.one_memory.Kept.{move_is}
 use Rattle.reg_world.proofs.one_order.NodeEvents.{put_other}
-use Rattle.reg_world.proofs.one_memory.Refusals.{one_more}
 use Rattle.reg_moments.specs.declared.figures.Arrow.{Arrow}
 use Rattle.reg_moments.specs.declared.moments.Sent.{Sent}
 use Rattle.reg_moments.specs.Figures.{HaveArrows, arrow_from, arrow_of, arrows_in, arrows_of, is_put, putter, takes_in}
 use Rattle.reg_moments.specs.Moments.{Fact, moment_between, moment_of, moments_from, moments_of, placed, puts_since}
 use Rattle.reg_moments.proofs.Moving.{first_moved}
+use Rattle.reg_world.proofs.run.Along.{move_is, one_more}
 
 -- in a list whose front has an element that passes, the first one is there
 passes_first : {X : Type 0} (p : X → Bool) (xs ys : List X) → list_any p xs ≡ true → prefix_len (λ x. not (p x)) (xs ++ ys) < length xs

@@ -12,9 +12,9 @@ use Rattle.reg_world.specs.declared.events.Event.{Event}
 use Rattle.reg_world.specs.Nodes.{put, after_step, step_of, unseen}
 use Rattle.reg_world.specs.World.{World, op_id, calls_in, answers_in, casts_in, first_of, delivered_of, reads_in, replies_in, move_of, moved}
 use Rattle.reg_world.specs.Worlds.{Made, run_in, with_event, reply_in, reply_of_move}
-use Rattle.reg_world.proofs.one_memory.Refusals.{one_more}
 use Rattle.reg_records.specs.declared.entries.LogEntry.{LogEntry}
 use Rattle.reg_records.specs.Records.{Turn, Plays, AreAlike, unlisted, entry_of, mentions}
+use Rattle.reg_world.proofs.run.Along.{one_more}
 
 -- a run after a step, by all but its list of events
 after_move : (Op → ℕ → Start) → ℕ → ℕ × Step → World → World

@@ -1,5 +1,5 @@
 -- The events that a world accepted: each call names a register that there is.
-use Rattle.std.proofs.Common.{ℕ, zero, suc, ◌≡◌, ◌+◌, ◌<◌, ◌≤◌, Bool, List, [], ◌∷◌, ◌++◌, length, Option, None, Some, refl, sym, ap, ◌∙◌, subst, arith, append_assoc, length-append}
+use Rattle.std.proofs.Common.{ℕ, zero, suc, ◌≡◌, ◌+◌, ◌<◌, ◌≤◌, Bool, List, [], ◌∷◌, ◌++◌, length, Option, None, Some, refl, sym, ap, ◌∙◌, subst, arith}
 use Rattle.std.specs.Prelude.{slice_get, nat_lt, not, ◌&&◌}
 use Rattle.std.proofs.lemmas.Bool.{cond_both, ltb-true, and_parts}
 use Rattle.std.proofs.lemmas.Option.{same_Some}
@@ -17,9 +17,8 @@ use Rattle.reg_text.specs.Inner.{HasValue}
 use Rattle.reg_toml.specs.Loads.{Load, IsLoad}
 use Rattle.reg_world.specs.declared.events.Event.{Event}
 use Rattle.reg_world.specs.declared.events.Event.TheVariants.{Call, Take, Tick}
-use Rattle.reg_world.specs.World.{World, empty_world, move_of, moved, happens, run}
+use Rattle.reg_world.specs.World.{World, empty_world, move_of, happens, run}
 use Rattle.reg_world.specs.Worlds.{Made, run_in}
-use Rattle.reg_world.proofs.one_memory.Kept.{move_is}
 use Rattle.reg_workload.specs.Schedules.{EventFits, Plan}
 use Rattle.reg_commands.specs.Plays.{IsPlayBy, plan_of}
 use Rattle.reg_base.specs.Shape.{Extent}
@@ -30,6 +29,7 @@ use Rattle.reg_show.specs.Schedules.{ShowsSchedule}
 use Rattle.reg_show.specs.Inner.{EventHasBits}
 use Rattle.reg_moments.proofs.Moving.{first_moved}
 use Rattle.reg_moments.proofs.Spelled.{schedule_spelled}
+use Rattle.reg_world.proofs.run.Along.{move_is}
 
 call_known : (n registers : ℕ) (w : Nodes) (p : ℕ) (op : Op) (m : ℕ × Step) → step_of n registers w (Call p op) ≡ Some m → register_of op < registers
 call_known n registers w p op m =

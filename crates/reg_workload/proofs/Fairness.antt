@@ -17,27 +17,21 @@ use Rattle.reg_process.specs.declared.steps.Step.{Step}
 use Rattle.reg_process.specs.declared.steps.Step.TheVariants.{Call as CallStep, Take as TakeStep}
 use Rattle.reg_world.specs.declared.events.Event.{Event}
 use Rattle.reg_world.specs.declared.events.Event.TheVariants.{Call, Take}
-use Rattle.reg_world.specs.NodeRuns.{NothingPending}
+use Rattle.reg_world.specs.NodeParts.{NothingPending}
 use Rattle.reg_world.specs.Nodes.{put, after_step, take_step}
-use Rattle.reg_world.specs.World.{World, move_of, moved, world_fault, whole}
+use Rattle.reg_world.specs.World.{World, move_of, moved, world_fault}
 use Rattle.reg_world.specs.Worlds.{Made, Accepts, run_in, with_event, new_world}
 use Rattle.reg_process.specs.Process.{Peer, no_peer}
 use Rattle.reg_process.proofs.Again.{replicate_at}
-use Rattle.reg_world.proofs.one_order.Worlds.{Inv}
-use Rattle.reg_world.proofs.one_order.Wholes.{whole_inv}
-use Rattle.reg_world.proofs.witness.Premises.{K}
-use Rattle.reg_world.proofs.one_memory.Refusals.{refused_by_fault, one_more}
+use Rattle.reg_world.proofs.one_order.NodeLaws.{inv_of}
+use Rattle.reg_world.proofs.one_memory.Refusals.{refused_by_fault}
 use Rattle.reg_workload.specs.Plays.{Playing, cursor_at}
 use Rattle.reg_workload.specs.Fair.{takes_of}
 use Rattle.reg_workload.specs.FairParts.{expected_after, counted_after, InStep, IsFair, IsBehind, Leaves}
 use Rattle.reg_workload.proofs.InOrder.{takes_more, ticks_same, taken_here, taken_other, range_more}
 use Rattle.reg_workload.proofs.Wires.{Takes, moves_on, all_behind, first_left}
 use Rattle.reg_workload.proofs.Moving.{none_got, one_got, called_moves, taken_moves}
-
-run_inv : (start : Op → ℕ → Start) → KeepsLaws start → (n registers : ℕ) (events : List Event) → Inv n registers (length (whole start n registers events).accepted + 0) (whole start n registers events).nodes
-run_inv start laws n registers events =
-    let w = whole start n registers events in
-    subst (Inv n registers (length w.accepted + 0)) (sym (K start n registers laws events).nodes) (whole_inv start n registers w.accepted).inv
+use Rattle.reg_world.proofs.run.Along.{one_more}
 
 -- an event that was accepted made a step
 accepted_moves : (start : Op → ℕ → Start) (m m1 : Made) (e : Event) → Accepts start m e m1 → is_some (move_of m.processes m.registers (run_in start m) e) ≡ true
@@ -116,9 +110,9 @@ call_fair start laws s s1 p op F A c =
     let m = s.made in
     let w = run_in start m in
     let M = call_made m.processes m.registers w p op (accepted_moves start m s1.made (Call p op) A) in
-    let I = run_inv start laws m.processes m.registers m.accepted in
+    let I = inv_of start m.processes m.registers m.accepted in
     let S = moves_on m.processes p w.nodes (after_step start (w.nodes p) (CallStep op)) _ none_got (cursor_at s) (cursor_at s) M.process F.in_step
-    (called_moves m.processes m.registers (length w.accepted + 0) w.nodes I p M.process op _)
+    (called_moves m.processes m.registers (length w.accepted) w.nodes I p M.process op _)
     (record { within = λ b lb ne. F.in_step.within b p lb M.process (λ q. ne (sym q)); taken = λ b _ _. refl; same = λ a b _. refl }) in
     let r = after_step_fair start m s1.made (Call p op) (p, CallStep op) (cursor_at s) A.after M.step S (λ a b. let l = F.few a b in omega (arith, l)) in
     let same : cursor_at s1 ≡ cursor_at s = ap cursors_of c in
@@ -138,7 +132,7 @@ take_fair start laws s s1 s2 a p number F at A c L =
     let n = m.processes in
     let w = run_in start m in
     let M = take_made n m.registers w a p number (accepted_moves start m s1.made (Take a p number) A) in
-    let I = run_inv start laws n m.registers m.accepted in
+    let I = inv_of start n m.registers m.accepted in
     let f = M.frame in
     let same : cursor_at s1 ≡ cursor_at s = ap cursors_of c in
     let at_same : (x y : ℕ) → cursor_at s1 x y ≡ cursor_at s x y = λ x y. ap (λ (f : ℕ → ℕ → ℕ). f x y) same in
@@ -160,7 +154,7 @@ take_fair start laws s s1 s2 a p number F at A c L =
       same = λ x y ne. others x y (λ _ q. ne (sym q));
     } in
     let S = moves_on n p w.nodes (after_step start (w.nodes p) (TakeStep a f)) _ (one_got a f) (cursor_at s) (cursor_at s2) M.to F.in_step
-    (taken_moves n m.registers (length w.accepted + 0) w.nodes I p M.to a M.from _ f) T in
+    (taken_moves n m.registers (length w.accepted) w.nodes I p M.to a M.from _ f) T in
     let few : (x y : ℕ) → cursor_at s2 x y ≤ length w.accepted + 1 = λ x y. elim (cases_eq x a) [
       | inl e ↦ elim (cases_eq y p) [
         | inl g ↦ (let l = F.few a p in let u = ap (cursor_at s2 x) g in let v = ap (λ z. cursor_at s2 z p) e in omega (arith, l, u, v, one, at))
@@ -191,7 +185,7 @@ pub rests : (start : Op → ℕ → Start) → KeepsLaws start → (s : Playing)
 rests start laws s F all =
     let m = s.made in
     let w = run_in start m in
-    all_behind m.processes m.registers (length w.accepted + 0) w.nodes (cursor_at s) (run_inv start laws m.processes m.registers m.accepted) F.in_step (λ p q lp lq ne. all p q lp lq ne)
+    all_behind m.processes m.registers (length w.accepted) w.nodes (cursor_at s) (inv_of start m.processes m.registers m.accepted) F.in_step (λ p q lp lq ne. all p q lp lq ne)
 
 -- nothing happened yet
 pub begins_fair : (start : Op → ℕ → Start) (shape : Extent) (s : Playing) → s.made ≡ new_world shape → ((a b : ℕ) → cursor_at s a b ≡ 0) → IsFair start s

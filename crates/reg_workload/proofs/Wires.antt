@@ -7,7 +7,7 @@ use Rattle.reg_frames.specs.declared.bodies.Body.{Body}
 use Rattle.reg_frames.specs.declared.bodies.Frame.{Frame}
 use Rattle.reg_frames.specs.declared.bodies.Frame.TheVariants.{Numbered, Got}
 use Rattle.reg_process.specs.Process.{peer_at, got_frames}
-use Rattle.reg_world.specs.NodeRuns.{NothingPending}
+use Rattle.reg_world.specs.NodeParts.{NothingPending}
 use Rattle.reg_world.specs.Nodes.{Node, Nodes, put}
 use Rattle.reg_world.proofs.one_order.Acts.{put_cases}
 use Rattle.reg_world.proofs.one_order.Worlds.{Inv}

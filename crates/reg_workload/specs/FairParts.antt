@@ -6,7 +6,7 @@ use Rattle.reg_front.specs.declared.starts.Start.{Start}
 use Rattle.reg_base.specs.declared.memory.Op.{Op}
 use Rattle.reg_process.specs.Process.{peer_at}
 use Rattle.reg_world.specs.Nodes.{Nodes}
-use Rattle.reg_world.specs.NodeRuns.{NothingPending}
+use Rattle.reg_world.specs.NodeParts.{NothingPending}
 use Rattle.std.specs.List.{range_with_len}
 use Rattle.reg_base.specs.declared.limits.TheConstants.{MOST_EVENTS}
 use Rattle.reg_world.specs.Worlds.{run_in}

@@ -1,3 +1,4 @@
+pub mod run
 pub mod one_order
 pub mod one_memory
 pub mod witness

@@ -1,7 +1,6 @@
 -- From one order to one memory: copies, replies, and the past of each process.
 pub mod Replicas
 pub mod Placed
-pub mod Traced
 pub mod Standing
 pub mod Turns
 pub mod History

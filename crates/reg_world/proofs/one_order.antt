@@ -11,7 +11,6 @@ pub mod Worlds
 pub mod NodeLaws
 pub mod Firsts
 pub mod Wholes
-pub mod Theorems
 pub mod Answered
 pub mod Settled
 pub mod Allowed

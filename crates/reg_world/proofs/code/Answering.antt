@@ -32,8 +32,8 @@ use Rattle.reg_world.specs.WorldParts.{IsWorld, made_of, standing_of}
 use Rattle.reg_world.proofs.code.Noted.{at_index}
 use Rattle.reg_world.proofs.code.Tallied.{at_or, points_are, witness_is}
 use Rattle.reg_world.proofs.code.Telling.{at_listed}
-use Rattle.reg_world.proofs.witness.Promised.{few_events}
-use Rattle.reg_world.proofs.one_memory.Refusals.{refused_by_fault, one_more}
+use Rattle.reg_world.proofs.one_memory.Refusals.{refused_by_fault}
+use Rattle.reg_world.proofs.run.Along.{one_more, few_events}
 
 pub if_ok : {T E : Type 0} (r : Result T E) (P Q : T → Type 0) → IfOk r P → ((x : T) → P x → Q x) → IfOk r Q
 if_ok (Ok x) P Q h f = f x h
@@ -45,7 +45,7 @@ module _ (start : Op → ℕ → Start) (laws : KeepsLaws start) (failed : Bool)
 
   pub few_accepted : length b.accepted ≤ MOST_EVENTS
   few_accepted =
-      let l = few_events start b.shape.processes b.shape.registers laws b.accepted in
+      let l = few_events start b.shape.processes b.shape.registers b.accepted in
       let e = ap length I.tells.accepted in
       omega (arith, l, e)
 

@@ -39,10 +39,11 @@ use Rattle.reg_world.proofs.one_memory.Replicas.{any_found}
 use Rattle.reg_world.proofs.one_order.NodeEvents.{put_same, put_other}
 use Rattle.reg_world.proofs.one_order.Allowed.{calls_made}
 use Rattle.reg_world.proofs.one_memory.Added.{cast_found, cast_finds}
-use Rattle.reg_world.proofs.one_memory.Refusals.{one_more}
-use Rattle.reg_world.proofs.witness.Promised.{order_right, casts_right, deliveries_made}
+use Rattle.reg_world.proofs.witness.Promised.{order_right, casts_right}
 use Rattle.reg_world.proofs.witness.Premises.{is_run}
 use Rattle.reg_world.proofs.code.Tallied.{at_or, OwnLater, fresh, casts_rise}
+use Rattle.reg_world.proofs.run.Along.{one_more}
+use Rattle.reg_world.proofs.one_order.NodeLaws.{deliveries_made}
 
 same_bool : (a b : Bool) → (a ≡ true → b ≡ true) → (b ≡ true → a ≡ true) → a ≡ b
 same_bool true b f g = sym (f refl)
@@ -301,7 +302,7 @@ module _ (start : Op → ℕ → Start) (n registers : ℕ) (laws : KeepsLaws st
     pub casters_now : (d : Delivered) → In d r.1.delivered → d.stamp.process < n
     casters_now d i =
         let there : In d (v.nodes p).deliveries = subst (λ (z : Node). In d z.deliveries) (sym node_here) (in_right d (w.nodes p).deliveries r.1.delivered i) in
-        (subst (λ (z : World). (d : Delivered) → In d (z.nodes p).deliveries → d.stamp.process < n) next_is (λ d j. (deliveries_made start n registers laws longer p d l j).0) d there)
+        (subst (λ (z : World). (d : Delivered) → In d (z.nodes p).deliveries → d.stamp.process < n) next_is (λ d j. (deliveries_made start n registers longer p d l j).0) d there)
 
     rising_now : (i j : ℕ) (a b : First) → IsAt v.order i a → IsAt v.order j b → i < j → Below a.stamp b.stamp
     rising_now = subst (λ (z : World). (i j : ℕ) (a b : First) → IsAt z.order i a → IsAt z.order j b → i < j → Below a.stamp b.stamp) next_is (order_right start n registers laws longer).rising

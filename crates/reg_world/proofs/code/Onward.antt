@@ -29,12 +29,12 @@ use Rattle.reg_world.specs.WorldParts.{Tells, Stand, IsWorld, standing_of}
 use Rattle.reg_world.proofs.one_order.Allowed.{Allowed, StepAllowed, allowed}
 use Rattle.reg_world.specs.Histories.{Grows, More}
 use Rattle.reg_world.proofs.code.Recorded.{grows}
-use Rattle.reg_world.proofs.one_memory.Kept.{move_is}
 use Rattle.reg_world.proofs.code.Sending.{sent_all}
 use Rattle.reg_world.proofs.one_order.Acting.{sound}
 use Rattle.reg_world.proofs.witness.Promised.{in_place}
 use Rattle.reg_world.proofs.code.Growing.{next_is, node_here, node_there, tally_is, tallies_now, times_differ, reads_now, casters_now, firsts_now, calls_are}
 use Rattle.reg_world.proofs.lists.Changes.{at_set_same, at_set_other}
+use Rattle.reg_world.proofs.run.Along.{move_is}
 
 calls_fit : (registers : ℕ) (s : State) (st : Step) → StepAllowed registers s st → CallFits st s.calls
 calls_fit registers s (CallStep op) A = A.2

@@ -27,7 +27,6 @@ use Rattle.reg_world.specs.declared.witnesses.Ranked.{Ranked}
 use Rattle.reg_world.specs.Runs.{Run, Cast, IsWaiting}
 use Rattle.reg_world.specs.Keys.{IsKept, Keeps, Nothing, Takes, Leaves, IsWitness, ArePoints}
 use Rattle.reg_world.specs.World.{World, op_id, casts_in, move_of, moved, whole}
-use Rattle.reg_world.specs.Nodes.{Nodes}
 use Rattle.reg_world.specs.Tallies.{Tally, no_calls, finished, is_done}
 use Rattle.reg_world.specs.Books.{note_of, tally_of, AreTallies}
 use Rattle.reg_world.specs.Witnesses.{is_kept, point_of, ranked_read, last_stamp, stamp_in, is_after, ranked_note, is_lost, lost_of, lost_from, IsSortedFrom, IsMerged, all_keyed}
@@ -44,10 +43,10 @@ use Rattle.reg_world.proofs.one_memory.Added.{same_op_id}
 use Rattle.reg_world.proofs.one_memory.Kept.{Known}
 use Rattle.reg_world.proofs.witness.Grounds.{IsRun}
 use Rattle.reg_world.proofs.witness.Once.{cast_of}
-use Rattle.reg_world.proofs.one_memory.Refusals.{one_more}
-use Rattle.reg_world.proofs.witness.Premises.{W, V, R, J, K, G, one_id, is_run}
+use Rattle.reg_world.proofs.witness.Premises.{W, V, R, J, G, one_id, is_run}
 use Rattle.reg_world.proofs.witness.Promised.{replies_right}
 use Rattle.reg_world.proofs.one_memory.Arrivals.{reads_right}
+use Rattle.reg_world.proofs.run.Along.{one_more}
 
 pub at_or : {X : Type 0} (xs : List X) (k : ℕ) (x d : X) → IsAt xs k x → slice_index_or xs k d ≡ x
 at_or [] k x d h = absurd cc
@@ -153,13 +152,11 @@ keeps_filter P p iff (x ∷ xs) =
 module _ (start : Op → ℕ → Start) (n registers : ℕ) (laws : KeepsLaws start) where
   pub fresh : (events : List Event) (c : Cast) → In c (whole start n registers events).casts → c.id.number < ((whole start n registers events).nodes c.id.process).state.calls
   fresh events c i =
-      let w = W start n registers laws events in
       let v = V start n registers laws events in
       let x = (J start n registers laws events).cast c i in
       let count = ((G start n registers laws events).pasts c.id.process x.1.0).0.count in
       let l = place_within (v.pasts c.id.process).calls c.id.number x.0 x.1.1 in
-      let same : (v.nodes c.id.process).state.calls ≡ (w.nodes c.id.process).state.calls = ap (λ (z : Nodes). (z c.id.process).state.calls) (sym (K start n registers laws events).nodes) in
-      omega (arith, count, l, same)
+      omega (arith, count, l)
 
   pub casts_rise : (events : List Event) → RisesBy OwnLater (whole start n registers events).casts
   casts_rise events =
@@ -177,19 +174,15 @@ module _ (start : Op → ℕ → Start) (n registers : ℕ) (laws : KeepsLaws st
   ok : IsRun r
   ok = is_run start n registers laws events
 
-  joined : Joined n w (V start n registers laws events).pasts (V start n registers laws events).order
+  joined : Joined n w (V start n registers laws events).pasts
   joined = J start n registers laws events
 
   known : Known n registers (V start n registers laws events)
   known = G start n registers laws events
 
-  same_nodes : w.nodes ≡ (V start n registers laws events).nodes
-  same_nodes = (K start n registers laws events).nodes
-
   -- how many operations of a process are finished
-  done_at : (p : ℕ) → p < n → finished (slice_index_or tallies p no_calls) ≡ done_calls ((V start n registers laws events).nodes p).state ((V start n registers laws events).nodes p).state.running
-  done_at p l =
-      ap finished (at_or tallies p (tally_of w p) no_calls (T.each p l)) ∙ (done_is (w.nodes p).state (w.nodes p).state.running ∙ ap (λ (z : Nodes). done_calls (z p).state (z p).state.running) same_nodes)
+  done_at : (p : ℕ) → p < n → finished (slice_index_or tallies p no_calls) ≡ done_calls (w.nodes p).state (w.nodes p).state.running
+  done_at p l = ap finished (at_or tallies p (tally_of w p) no_calls (T.each p l)) ∙ done_is (w.nodes p).state (w.nodes p).state.running
 
   none_past : (id : OpId) → length tallies ≤ id.process → is_done tallies id ≡ true → ⊥
   none_past id h e =

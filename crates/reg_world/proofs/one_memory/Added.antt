@@ -19,14 +19,11 @@ use Rattle.reg_world.specs.declared.order.CopyRead.{CopyRead}
 use Rattle.reg_world.specs.Nodes.{unseen}
 use Rattle.reg_world.specs.Runs.{Cast}
 use Rattle.reg_world.specs.World.{Replied, calls_in, answers_in, replies_in, casts_in, has_cast, reads_in, id_of, first_of, delivered_of}
-use Rattle.reg_world.proofs.one_memory.Traced.{Called as PastCall, Answered as PastAnswer, Past, First as PastFirst, called_in, answered_in, casts_of, firsts}
+use Rattle.reg_world.proofs.run.Traced.{Called as PastCall, Answered as PastAnswer, Past, called_in, answered_in, casts_of, firsts, plain}
 use Rattle.reg_base.proofs.Lists.{in_filter}
 use Rattle.reg_world.proofs.lists.Bodies.{place_last}
 use Rattle.reg_world.proofs.one_memory.Replicas.{any_found, any_finds}
 use Rattle.reg_base.proofs.Orders.{same_stamp}
-
-abbrev pub plain : First → PastFirst
-plain f = record { cast = delivered_of f; at = f.at }
 
 abbrev pub cast_of_first : First → Cast
 cast_of_first f = record { stamp = f.stamp; id = f.id; op = f.op }

@@ -24,19 +24,20 @@ use Rattle.reg_world.specs.declared.order.First.{First}
 use Rattle.reg_world.specs.declared.order.CopyRead.{CopyRead}
 use Rattle.reg_world.specs.Nodes.{Node, unseen, after_step}
 use Rattle.reg_world.specs.Runs.{Cast}
-use Rattle.reg_world.specs.World.{World, Replied, op_id, calls_in, answers_in, casts_in, has_cast, reads_in, first_of, delivered_of, move_of, moved, happens, run, empty_world, whole}
+use Rattle.reg_world.specs.World.{World, Replied, op_id, calls_in, answers_in, casts_in, has_cast, reads_in, first_of, delivered_of, move_of, moved, happens, empty_world, whole}
 use Rattle.reg_world.specs.Promises.{OrderIsRight, FirstsRight, ReadsRight}
-use Rattle.reg_world.proofs.one_memory.Traced.{Called as PastCall}
+use Rattle.reg_world.proofs.run.Traced.{Called as PastCall, Past, pasts_after, traced}
 use Rattle.reg_base.proofs.Lists.{in_left, in_right, in_filter}
 use Rattle.reg_world.proofs.lists.Bodies.{place_in, place_back, place_split, place_within}
 use Rattle.reg_world.proofs.one_order.NodeEvents.{put_same}
 use Rattle.reg_world.proofs.one_memory.Replicas.{any_finds}
-use Rattle.reg_world.proofs.lists.Members.{in_at, at_in, in_map, map_in}
+use Rattle.reg_world.proofs.lists.Members.{in_at, at_in, in_map, map_in, from_end}
 use Rattle.reg_world.proofs.one_memory.Added.{IsPastCall}
-use Rattle.reg_world.proofs.one_memory.Kept.{Kept, kept, kept_moved, move_is, call_of}
+use Rattle.reg_world.proofs.one_memory.Kept.{Kept, kept, kept_moved, call_of}
 use Rattle.reg_world.proofs.one_order.Allowed.{Allowed, allowed}
-use Rattle.reg_world.proofs.witness.Promised.{run_parts, order_right}
+use Rattle.reg_world.proofs.witness.Promised.{order_right}
 use Rattle.reg_world.proofs.witness.Premises.{V, J, G, no_cast}
+use Rattle.reg_world.proofs.run.Along.{move_is, run_parts, one_more}
 
 module _ (start : Op → ℕ → Start) (n registers : ℕ) where
   -- a world that its accepted events make
@@ -47,12 +48,10 @@ module _ (start : Op → ℕ → Start) (n registers : ℕ) where
   again_moved w e None is h = h
   again_moved w e (Some m) is h = run_parts start n registers w.accepted (e ∷ []) (empty_world n registers) ∙ (ap (λ z. happens start n registers z e) h ∙ ap (moved start w e) is)
 
-  again_run : (es : List Event) (w : World) → IsAgain w → IsAgain (run start n registers es w)
-  again_run [] w h = h
-  again_run (e ∷ es) w h = again_run es (happens start n registers w e) (again_moved w e (move_of n registers w e) refl h)
-
   pub again : (events : List Event) → IsAgain (whole start n registers events)
-  again events = again_run events (empty_world n registers) refl
+  again =
+      from_end (λ es. IsAgain (whole start n registers es)) refl
+      (λ es e h. let w = whole start n registers es in subst IsAgain (sym (one_more start n registers es e)) (again_moved w e (move_of n registers w e) refl h))
 
 -- reads, in order of their answers
 abbrev InOrder : World → Type 0
@@ -71,8 +70,8 @@ read_once casts id None = omega arith
 read_once casts id (Some r) = cond_both (has_cast casts id) [] (record { id = id; place = r.place } ∷ []) (λ l. length l ≤ 1) (λ e. omega arith) (λ e. omega arith)
 
 module _ (start : Op → ℕ → Start) (n registers : ℕ) (laws : KeepsLaws start) where
-  order_moved : (w : World) (e : Event) (m : ℕ × Step) → Kept start n registers w → Kept start n registers (moved start w e (Some m)) → InOrder w → InOrder (moved start w e (Some m))
-  order_moved w e m K K' h i k p q s t x y at bt less ans bns =
+  order_moved : (w : World) (e : Event) (m : ℕ × Step) (pasts pasts' : ℕ → Past) → Kept n registers w pasts → Kept n registers (moved start w e (Some m)) pasts' → InOrder w → InOrder (moved start w e (Some m))
+  order_moved w e m pasts pasts' K K' h i k p q s t x y at bt less ans bns =
       let st = m.1 in
       let S : State = (w.nodes m.0).state in
       let R : State × Outcome = step start S st in
@@ -110,13 +109,17 @@ module _ (start : Op → ℕ → Start) (n registers : ℕ) (laws : KeepsLaws st
             omega (arith, z, when, then_)
       ]
 
-  order_step : (w : World) (e : Event) (m : Option (ℕ × Step)) → move_of n registers w e ≡ m → Kept start n registers w → InOrder w → InOrder (moved start w e m)
-  order_step w e None is K h = h
-  order_step w e (Some m) is K h = order_moved w e m K (kept_moved start n registers laws w e (Some m) K is) h
+  order_step : (events : List Event) (e : Event) (m : Option (ℕ × Step)) → move_of n registers (whole start n registers events) e ≡ m → InOrder (whole start n registers events) → InOrder (moved start (whole start n registers events) e m)
+  order_step events e None is h = h
+  order_step events e (Some m) is h =
+      let v = traced start n registers events in
+      let K = kept start n registers laws events in
+      order_moved (whole start n registers events) e m v.pasts (pasts_after start v (Some m)) K (kept_moved start n registers laws events e (Some m) K is) h
 
-  order_run : (es : List Event) (w : World) → Kept start n registers w → InOrder w → InOrder (run start n registers es w)
-  order_run [] w K h = h
-  order_run (e ∷ es) w K h = order_run es (happens start n registers w e) (kept_moved start n registers laws w e (move_of n registers w e) K refl) (order_step w e (move_of n registers w e) refl K h)
+  reads_in_order : (events : List Event) → InOrder (whole start n registers events)
+  reads_in_order =
+      from_end (λ es. InOrder (whole start n registers es)) (λ i j p q s t x y h. absurd (none-some p h))
+      (λ es e h. subst InOrder (sym (one_more start n registers es e)) (order_step es e (move_of n registers (whole start n registers es) e) refl h))
 
   uncast : (events : List Event) (id : OpId) (d : PastCall) → IsPastCall n (V start n registers laws events).pasts id d → ((c : Cast) → ((k : ℕ) × IsAt (whole start n registers events).casts k c) → c.id ≡ id → ⊥) → (o : Option Stamp) → d.cast ≡ o → d.cast ≡ None
   uncast events id d call never None none = none
@@ -139,7 +142,7 @@ module _ (start : Op → ℕ → Start) (n registers : ℕ) (laws : KeepsLaws st
             let d = call_of n registers (V start n registers laws events) (G start n registers laws events).right y.id r.0 r.1 in
             let q = j.reads y.id r.0 d.0 r.1 d.1 (uncast events y.id d.0 d.1 none d.0.cast refl) in
             in_at _ w.reads (subst (λ (z : Reply). In (record { id = y.id; place = z.place }) w.reads) r.3 q);
-        in_order = order_run events (empty_world n registers) (kept start n registers laws []) (λ i j p q s t x y h. absurd (none-some p h));
+        in_order = reads_in_order events;
       }
 
   -- what is told of first deliveries
@@ -211,9 +214,8 @@ module _ (start : Op → ℕ → Start) (n registers : ℕ) (laws : KeepsLaws st
   arrived_step w e None is same A = A
   arrived_step w e (Some m) is same A = arrived_moved w e m is same A
 
-  arrived_run : (es : List Event) (w : World) → whole start n registers w.accepted ≡ w → Arrived w → Arrived (run start n registers es w)
-  arrived_run [] w same A = A
-  arrived_run (e ∷ es) w same A = arrived_run es (happens start n registers w e) (again_moved start n registers w e (move_of n registers w e) refl same) (arrived_step w e (move_of n registers w e) refl same A)
-
   pub firsts_right : (events : List Event) → FirstsRight start n registers (whole start n registers events)
-  firsts_right events = (arrived_run events (empty_world n registers) refl (record { bound = λ k f h. absurd (none-some f h); right = record { before = λ k f q h. absurd (none-some f h); then_there = λ k f h. absurd (none-some f h) } })).right
+  firsts_right events = (from_end (λ es. Arrived (whole start n registers es))
+      (record { bound = λ k f h. absurd (none-some f h); right = record { before = λ k f q h. absurd (none-some f h); then_there = λ k f h. absurd (none-some f h) } })
+      (λ es e A. let w = whole start n registers es in subst Arrived (sym (one_more start n registers es e)) (arrived_step w e (move_of n registers w e) refl (again start n registers es) A))
+      events).right

@@ -1,5 +1,5 @@
 -- A call with no cast changes nothing; where every operation is cast there is none.
-use Rattle.std.proofs.Common.{◌≡◌, ℕ, false, List, [], ◌∷◌, Option, Some, None, sym, ap, ◌∙◌, inl, inr}
+use Rattle.std.proofs.Common.{◌≡◌, ℕ, false, List, Option, Some, None, sym, ap, ◌∙◌, inl, inr}
 use Rattle.std.specs.Prelude.{slice_get}
 use Rattle.std.proofs.lemmas.Option.{none-some}
 use Rattle.reg_base.specs.declared.memory.Op.{Op}
@@ -12,17 +12,18 @@ use Rattle.reg_base.specs.Order.{In}
 use Rattle.reg_base.specs.Memory.{updates}
 use Rattle.reg_process.specs.Process.{State, called, unsettled, step}
 use Rattle.reg_front.specs.Fronts.{MayStart, KeepsLaws}
-use Rattle.reg_world.proofs.one_memory.Traced.{World, Called, Past, called_in, past_after, pasts_after, world_after, run_world, empty_world, whole}
-use Rattle.reg_world.specs.Nodes.{step_of}
+use Rattle.reg_world.proofs.run.Traced.{Trace, Called, Past, called_in, past_after, pasts_after, traced}
 use Rattle.reg_world.proofs.lists.Bodies.{place_split}
 use Rattle.reg_world.proofs.one_order.Acts.{put_cases}
+use Rattle.reg_world.specs.World.{move_of, whole}
+use Rattle.reg_world.proofs.run.Along.{along}
 
 -- what holds of each call, if it holds of what each step calls
 module _ (Q : Called → Type 0) (start : Op → ℕ → Start) (new : (at : ℕ) (s : State) (e : Step) (d : Called) → In d (called_in at e (step start s e).1.cast) → Q d) where
   abbrev pub EachCall : (ℕ → Past) → Type 0
   EachCall pasts = (p number : ℕ) (d : Called) → slice_get (pasts p).calls number ≡ Some d → Q d
 
-  after_each : (w : World) (m : Option (ℕ × Step)) → EachCall w.pasts → EachCall (pasts_after start w m)
+  after_each : (w : Trace) (m : Option (ℕ × Step)) → EachCall w.pasts → EachCall (pasts_after start w m)
   after_each w None A = A
   after_each w (Some m) A = λ q number d.
       let s = (w.nodes m.0).state in
@@ -30,9 +31,10 @@ module _ (Q : Called → Type 0) (start : Op → ℕ → Start) (new : (at : ℕ
       (λ _ at. elim (place_split (w.pasts m.0).calls (called_in w.count m.1 (step start s m.1).1.cast) number d at) [ inl k ↦ A m.0 number d k | inr k ↦ new w.count s m.1 d k.1 ])
       (λ _ at. A q number d at)
 
-  pub each_call : (n registers : ℕ) (events : List Event) (w : World) → EachCall w.pasts → EachCall (run_world start n registers events w).pasts
-  each_call n registers [] w A = A
-  each_call n registers (e ∷ es) w A = each_call n registers es (world_after start n registers w e) (after_each w (step_of n registers w.nodes e) A)
+  pub each_call : (n registers : ℕ) (events : List Event) → EachCall (traced start n registers events).pasts
+  each_call n registers =
+      along start n registers (λ v. EachCall v.pasts) (λ p number d h. absurd (none-some d h))
+      (λ es e A. after_each (traced start n registers es) (move_of n registers (whole start n registers es) e) A)
 
 abbrev pub ChangesNothing : Called → Type 0
 ChangesNothing d = d.cast ≡ None → updates d.op ≡ false
@@ -52,5 +54,5 @@ step_changes start laws at s (Call op) = called_changes at s op (start op (unset
 step_changes start laws at s (Take a f) = λ d i. absurd i
 step_changes start laws at s Tick = λ d i. absurd i
 
-pub copies_change_nothing : (start : Op → ℕ → Start) (n registers : ℕ) (events : List Event) → KeepsLaws start → (p number : ℕ) (d : Called) → slice_get ((whole start n registers events).pasts p).calls number ≡ Some d → d.cast ≡ None → updates d.op ≡ false
-copies_change_nothing start n registers events laws = each_call ChangesNothing start (step_changes start laws) n registers events (empty_world n registers) (λ p number d h. absurd (none-some d h))
+pub copies_change_nothing : (start : Op → ℕ → Start) (n registers : ℕ) (events : List Event) → KeepsLaws start → (p number : ℕ) (d : Called) → slice_get ((traced start n registers events).pasts p).calls number ≡ Some d → d.cast ≡ None → updates d.op ≡ false
+copies_change_nothing start n registers events laws = each_call ChangesNothing start (step_changes start laws) n registers events

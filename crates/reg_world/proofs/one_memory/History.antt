@@ -1,5 +1,5 @@
 -- Each answer is to its call, and stands at its place of the list of deliveries.
-use Rattle.std.proofs.Common.{◌≡◌, ℕ, suc, ◌+◌, ◌-◌, ◌<◌, ◌≤◌, ◌⊎◌, max, true, List, [], ◌∷◌, ◌++◌, length, take, replicate, Option, Some, None, refl, sym, ap, ◌∙◌, subst, inl, inr, arith, length-append}
+use Rattle.std.proofs.Common.{◌≡◌, ℕ, ◌+◌, ◌-◌, ◌<◌, ◌≤◌, ◌⊎◌, max, true, List, [], ◌∷◌, ◌++◌, length, take, replicate, Option, Some, None, refl, sym, ap, ◌∙◌, subst, inl, inr, arith, length-append}
 use Rattle.std.specs.Prelude.{◌==◌, slice_get}
 use Rattle.std.proofs.lemmas.Bool.{cond_both, eq-eqb}
 use Rattle.std.proofs.lemmas.List.{append-nil, take_all}
@@ -19,23 +19,25 @@ use Rattle.reg_base.specs.Order.{In, Rising, insert}
 use Rattle.reg_base.specs.Memory.{answer_of, memory_after}
 use Rattle.reg_process.specs.Process.{State, ops_of, Running, Own, Held, is_own, stamp_at, cast_at, clear_casts, reply_of, still, look, done_at_once, cast_made, called, taken, accepted, accepts, acknowledged, queues, quiet, got_frames, peer_at, delivered_state, unsettled, step}
 use Rattle.reg_front.specs.Fronts.{MayStart, KeepsLaws}
-use Rattle.reg_world.specs.Nodes.{Node, put, step_of, said, op_in, running_op, after_result, after_step}
-use Rattle.reg_world.specs.NodeRuns.{nodes_after}
-use Rattle.reg_world.proofs.one_memory.Traced.{World, casts_of, Called, Answered, Past, answered_in, past_after, pasts_after, world_after, run_world, empty_world, cast_of, Stands, HistoryRight, whole}
+use Rattle.reg_world.specs.Nodes.{Node, put, said, op_in, running_op, after_result, after_step}
+use Rattle.reg_world.specs.NodeParts.{nodes_after}
+use Rattle.reg_world.proofs.run.Traced.{Trace, casts_of, Called, Answered, Past, answered_in, past_after, pasts_after, cast_of, Stands, HistoryRight, traced}
 use Rattle.reg_world.specs.declared.events.Event.{Event}
 use Rattle.reg_world.proofs.one_order.Worlds.{Inv}
 use Rattle.reg_world.proofs.one_order.Acts.{put_cases}
-use Rattle.reg_world.proofs.one_order.Runs.{StepKept, step_ok, inv_happens}
-use Rattle.reg_world.proofs.one_order.NodeLaws.{empty_inv}
+use Rattle.reg_world.proofs.one_order.Runs.{StepKept}
+use Rattle.reg_world.proofs.one_order.NodeLaws.{inv_of, run_ok}
 use Rattle.reg_world.proofs.one_order.Firsts.{deliveries_prefix, rising_end}
-use Rattle.reg_world.proofs.one_order.Wholes.{whole_inv, Replicas, replicas_after, replies_right}
+use Rattle.reg_world.proofs.one_order.Wholes.{whole_inv, Replicas, replies_right, whole_replicas}
 use Rattle.reg_base.proofs.Lists.{in_left, in_right, in_cases, insert_old, insert_new}
 use Rattle.std.proofs.lemmas.Option.{same_Some, none-some}
 use Rattle.reg_world.proofs.lists.Bodies.{place_back, place_last, place_split, place_within}
 use Rattle.reg_world.proofs.one_order.Local.{delivery_keeps}
 use Rattle.reg_world.proofs.one_memory.Replicas.{IsReplica}
-use Rattle.reg_world.proofs.one_order.Settled.{IsRunning, runs_after, Runs, longer}
+use Rattle.reg_world.proofs.one_order.Settled.{IsRunning, Runs, longer, whole_runs}
 use Rattle.reg_world.proofs.one_memory.Standing.{RunsAs, AnswerOk, PastOk, stands_later, answer_later, answer_call, none_counted, ReplyStands, reply_stands}
+use Rattle.reg_world.specs.World.{move_of, whole}
+use Rattle.reg_world.proofs.run.Along.{along}
 
 -- with an answer more
 with_answer : (p at number : ℕ) (op : Op) (s : State) (deliveries : List Delivered) (calls : List Called) (answers : List Answered) (o : Option Reply) → PastOk p s deliveries (record { calls = calls; answers = answers }) → ReplyStands p deliveries calls number op o → PastOk p s deliveries (record { calls = calls; answers = answers ++ answered_in at number op o })
@@ -227,10 +229,10 @@ answers_replied start at x h e A a i =
     new op number (Some r) a (inl q) = inl (ap (λ (z : Answered). record { op = z.op; reply = z.reply }) q)
     new op number (Some r) a (inr f) = inr f
 
-abbrev pub PastsOk : ℕ → World → Type 0
+abbrev pub PastsOk : ℕ → Trace → Type 0
 PastsOk n w = (p : ℕ) → p < n → PastOk p (w.nodes p).state (w.nodes p).deliveries (w.pasts p) × AnswersReplied (w.nodes p) (w.pasts p)
 
-pub pasts_step : (start : Op → ℕ → Start) (n registers k : ℕ) (w : World) (m : Option (ℕ × Step)) → KeepsLaws start → Inv n registers k w.nodes → StepKept start n registers k w.nodes m → Replicas n registers w.nodes → ((p : ℕ) → IsRunning (w.nodes p)) → PastsOk n w → (q : ℕ) → q < n → PastOk q (nodes_after start w.nodes m q).state (nodes_after start w.nodes m q).deliveries (pasts_after start w m q) × AnswersReplied (nodes_after start w.nodes m q) (pasts_after start w m q)
+pub pasts_step : (start : Op → ℕ → Start) (n registers k : ℕ) (w : Trace) (m : Option (ℕ × Step)) → KeepsLaws start → Inv n registers k w.nodes → StepKept start n registers k w.nodes m → Replicas n registers w.nodes → ((p : ℕ) → IsRunning (w.nodes p)) → PastsOk n w → (q : ℕ) → q < n → PastOk q (nodes_after start w.nodes m q).state (nodes_after start w.nodes m q).deliveries (pasts_after start w m q) × AnswersReplied (nodes_after start w.nodes m q) (pasts_after start w m q)
 pasts_step start n registers k w None laws I K R W P q l = P q l
 pasts_step start n registers k w (Some m) laws I K R W P q l =
     let x = w.nodes m.0 in
@@ -245,25 +247,20 @@ pasts_step start n registers k w (Some m) laws I K R W P q l =
     (λ ne. absurd (ne e)))
     (λ ne. put_cases (λ (g : Past). PastOk q (w.nodes q).state (w.nodes q).deliveries g × AnswersReplied (w.nodes q) g) w.pasts m.0 h' q (λ e. absurd (ne e)) (λ _. P q l))
 
-pasts_run : (start : Op → ℕ → Start) (n registers k : ℕ) (events : List Event) (w : World) → KeepsLaws start → Inv n registers k w.nodes → Replicas n registers w.nodes → ((p : ℕ) → IsRunning (w.nodes p)) → PastsOk n w → PastsOk n (run_world start n registers events w)
-pasts_run start n registers k [] w laws I R W P = P
-pasts_run start n registers k (e ∷ es) w laws I R W P =
-    let K = step_ok start n registers k w.nodes e I in
-    let m = step_of n registers w.nodes e in
-    pasts_run start n registers (suc k) es (world_after start n registers w e) laws (inv_happens start n registers k w.nodes e I)
-    (replicas_after start n registers k w.nodes m laws K R) (runs_after start w.nodes m laws W) (pasts_step start n registers k w m laws I K R W P)
-
-pub whole_pasts : (start : Op → ℕ → Start) (n registers : ℕ) (events : List Event) → KeepsLaws start → PastsOk n (whole start n registers events)
+pub whole_pasts : (start : Op → ℕ → Start) (n registers : ℕ) (events : List Event) → KeepsLaws start → PastsOk n (traced start n registers events)
 whole_pasts start n registers events laws =
-    pasts_run start n registers 0 events (empty_world n registers) laws (empty_inv n registers) (λ p l. record { copy = refl; count = refl; right = λ r h. absurd h }) (λ p. tt)
+    along start n registers (PastsOk n)
     (λ p l. (record { count = refl; running = tt; casts = λ i d stamp h. absurd (let bad : ⊥ = cc in bad); rises = λ i j d e a b h. absurd (let bad : ⊥ = cc in bad); past = λ i d stamp h. absurd (let bad : ⊥ = cc in bad); answers = λ a h. absurd h }, λ a h. absurd h))
+    (λ es e P. let v = traced start n registers es in
+    pasts_step start n registers v.count v (move_of n registers (whole start n registers es) e) laws (inv_of start n registers es) (run_ok start n registers es e) (whole_replicas start n registers es laws) (whole_runs start n registers es laws) P)
+    events
 
-pub history_right : (start : Op → ℕ → Start) (n registers : ℕ) (events : List Event) → KeepsLaws start → HistoryRight n registers (whole start n registers events)
+pub history_right : (start : Op → ℕ → Start) (n registers : ℕ) (events : List Event) → KeepsLaws start → HistoryRight n registers (traced start n registers events)
 history_right start n registers events laws p a l i =
-    let w = whole start n registers events in
+    let w = traced start n registers events in
     let P = whole_pasts start n registers events laws p l in
     let A = P.0.answers a i in
-    let f = deliveries_prefix n registers (length events + 0) w (whole_inv start n registers events) p l in
+    let f = deliveries_prefix n registers w.count w (whole_inv start n registers events) p l in
     let r = replies_right start n registers events laws p (record { op = a.op; reply = a.reply }) l (P.1 a i) in
     let stands : Stands (casts_of w.order) (w.pasts p).calls a.number a.reply.place A.1.0 A.1.0.cast =
     subst (λ order. Stands order (w.pasts p).calls a.number a.reply.place A.1.0 A.1.0.cast) f.1 (stands_later (w.nodes p).deliveries f.0 (w.pasts p).calls a.number a.reply.place A.1.0 A.1.0.cast A.0 A.1.3) in

@@ -18,9 +18,9 @@ use Rattle.reg_history.specs.History.{IsHistory, IsFinished, WasCalled, IsAt, Is
 use Rattle.reg_history.proofs.Places.{element_at}
 use Rattle.reg_history.proofs.Pushing.{history_more}
 use Rattle.reg_world.specs.declared.events.Event.{Event}
-use Rattle.reg_world.specs.Nodes.{Nodes, op_in}
+use Rattle.reg_world.specs.Nodes.{op_in}
 use Rattle.reg_world.specs.World.{World, op_id, calls_in, answers_in}
-use Rattle.reg_world.proofs.one_memory.Traced.{Called as PastCall, Answered as PastAnswer, World as Trace, answered_in}
+use Rattle.reg_world.proofs.run.Traced.{Called as PastCall, Answered as PastAnswer, Past, traced_by, answered_in}
 use Rattle.reg_base.proofs.Lists.{in_cases}
 use Rattle.reg_world.proofs.lists.Bodies.{place_in, place_within}
 use Rattle.reg_world.proofs.lists.Members.{in_at, at_in}
@@ -56,13 +56,13 @@ given_in : (at number : ℕ) (op : Op) (o : Option Reply) (y : Reply) → o ≡ 
 given_in at number op None y e = absurd (let bad : ⊥ = cc in bad)
 given_in at number op (Some r) y e = inl (let q : r ≡ y = cc in ap (λ z. record { number = number; at = at; op = op; reply = z }) (sym q))
 
-module _ (start : Op → ℕ → Start) (n registers : ℕ) (t : World) (v : Trace) (e : Event) (p : ℕ) (st : Step) (nodes : Nodes) (l : p < n) (count : length t.accepted ≡ v.count) (numbers : length (v.pasts p).calls ≡ (v.nodes p).state.calls) (J : Joined n t v.pasts v.order)
-    (A : StepAllowed registers (v.nodes p).state st) (few : length t.accepted < MOST_EVENTS) (good : IsHistory n registers t.history)
-    (done : AllAnswered n v) (below_done : (a : PastAnswer) → In a (v.pasts p).answers → a.number < done_calls (v.nodes p).state (v.nodes p).state.running)
-    (fits : StepFits (v.nodes p).state (step start (v.nodes p).state st))
-    (right : (id : OpId) (a : PastAnswer) → IsPastAnswer n (pasts_now start n t v e p st nodes l count numbers J) id a → (d : PastCall) × IsPastCall n (pasts_now start n t v e p st nodes l count numbers J) id d × ((m : Memory) × (a.reply.answer ≡ answer_of d.op m))) where
+module _ (start : Op → ℕ → Start) (n registers : ℕ) (t : World) (pasts : ℕ → Past) (e : Event) (p : ℕ) (st : Step) (l : p < n) (numbers : length (pasts p).calls ≡ (t.nodes p).state.calls) (J : Joined n t pasts)
+    (A : StepAllowed registers (t.nodes p).state st) (few : length t.accepted < MOST_EVENTS) (good : IsHistory n registers t.history)
+    (done : AllAnswered n (traced_by t pasts)) (below_done : (a : PastAnswer) → In a (pasts p).answers → a.number < done_calls (t.nodes p).state (t.nodes p).state.running)
+    (fits : StepFits (t.nodes p).state (step start (t.nodes p).state st))
+    (right : (id : OpId) (a : PastAnswer) → IsPastAnswer n (pasts_now start n t pasts e p st l numbers J) id a → (d : PastCall) × IsPastCall n (pasts_now start n t pasts e p st l numbers J) id d × ((m : Memory) × (a.reply.answer ≡ answer_of d.op m))) where
   abbrev S : State
-  S = (v.nodes p).state
+  S = (t.nodes p).state
 
   abbrev R : State × Outcome
   R = step start S st
@@ -79,23 +79,23 @@ module _ (start : Op → ℕ → Start) (n registers : ℕ) (t : World) (v : Tra
   next : IsNext t.history Old
   next k = (
     λ less.
-        let d = element_at (v.pasts p).calls k (omega (arith, less, numbers)) in
+        let d = element_at (pasts p).calls k (omega (arith, less, numbers)) in
         let i = in_at _ t.history (J.calls (op_id p k) d.0 (l, d.1)) in
         (d.0.at, d.0.op, i),
     λ was.
         let r = J.called was.0 (op_id p k) was.1 (at_in _ t.history was.2) in
-        let z = place_within (v.pasts p).calls k r.0 r.1.1 in
+        let z = place_within (pasts p).calls k r.0 r.1.1 in
         omega (arith, z, numbers),
   )
 
   idle : S.running ≡ None → IsIdle t.history p
   idle free id same was =
       let r = J.called was.0 id was.1 (at_in _ t.history was.2) in
-      let at : slice_get (v.pasts p).calls id.number ≡ Some r.0 = subst (λ z. slice_get (v.pasts z).calls id.number ≡ Some r.0) same r.1.1 in
-      let z = place_within (v.pasts p).calls id.number r.0 at in
+      let at : slice_get (pasts p).calls id.number ≡ Some r.0 = subst (λ z. slice_get (pasts z).calls id.number ≡ Some r.0) same r.1.1 in
+      let z = place_within (pasts p).calls id.number r.0 at in
       let all : done_calls S S.running ≡ S.calls = ap (done_calls S) free in
       let a = done p id.number l (omega (arith, z, numbers, all)) in
-      let given : IsPastAnswer n v.pasts id a.0 = (r.1.0, subst (λ z. In a.0 (v.pasts z).answers) (sym same) a.1, a.2) in
+      let given : IsPastAnswer n pasts id a.0 = (r.1.0, subst (λ z. In a.0 (pasts z).answers) (sym same) a.1, a.2) in
       (a.0.at, a.0.reply.answer, in_at _ t.history (J.answers id a.0 given))
 
   may_call : (op : Op) → st ≡ Call op → MayCall n registers t.history At Old op
@@ -116,15 +116,15 @@ module _ (start : Op → ℕ → Start) (n registers : ℕ) (t : World) (v : Tra
 
   may_answer : (y : Reply) → R.1.reply ≡ Some y → MayAnswer (t.history ++ calls_in At Old st) At New y.answer
   may_answer y is =
-      let a : PastAnswer = record { number = R.0.calls - 1; at = v.count; op = op_in S st; reply = y } in
-      let given : IsPastAnswer n (pasts_now start n t v e p st nodes l count numbers J) New a = answer_added start n t v e p st nodes l count numbers J a (given_in v.count (R.0.calls - 1) (op_in S st) R.1.reply y is) refl in
+      let a : PastAnswer = record { number = R.0.calls - 1; at = At; op = op_in S st; reply = y } in
+      let given : IsPastAnswer n (pasts_now start n t pasts e p st l numbers J) New a = answer_added start n t pasts e p st l numbers J a (given_in At (R.0.calls - 1) (op_in S st) R.1.reply y is) refl in
       let d = right New a given in
       let f = fits_at S R.0 R.1.reply y is fits.reply in
       record {
         event = omega (arith, few);
         called_at = d.0.at;
         op = d.0.op;
-        called = in_at _ (t.history ++ calls_in At Old st) (calls_now start n t v e p st nodes l count numbers J New d.0 d.1);
+        called = in_at _ (t.history ++ calls_in At Old st) (calls_now start n t pasts e p st l numbers J New d.0 d.1);
         running = λ fin. elim (in_cases _ t.history (calls_in At Old st) (at_in _ (t.history ++ calls_in At Old st) fin.2)) [
           | inl i ↦
               let r = J.answered fin.0 New fin.1 i in
@@ -138,14 +138,14 @@ module _ (start : Op → ℕ → Start) (n registers : ℕ) (t : World) (v : Tra
         later = answer_later t.history At Old st (Called At New d.0.op) J.below (λ op call.
             let made : R.0.calls ≡ S.calls + 1 = subst (λ z. CallsMade S z R) call (calls_made start S st) in
             let number : R.0.calls - 1 ≡ S.calls = omega (arith, made) in
-            elim (call_cases start n t v e p st nodes l count numbers J New d.0 d.1) [
-              | inl old ↦ let z = place_within (v.pasts p).calls (R.0.calls - 1) d.0 old.1 in absurd (omega (arith, z, numbers, number))
+            elim (call_cases start n t pasts e p st l numbers J New d.0 d.1) [
+              | inl old ↦ let z = place_within (pasts p).calls (R.0.calls - 1) d.0 old.1 in absurd (omega (arith, z, numbers, number))
               | inr new ↦
-                  let i = called_new v.count New st R.1.cast d.0 new.1 in
-                  let j : In (Called d.0.at New d.0.op) (calls_in At Old st) = subst (λ k. In (Called d.0.at New d.0.op) (calls_in At (op_id p k) st)) number (subst (λ c. In (Called d.0.at New d.0.op) (calls_in c New st)) (sym count) i) in
-                  subst (λ k. In (Called k New d.0.op) (calls_in At Old st)) (new_at v.count st R.1.cast d.0 new.1 ∙ sym count) j
+                  let i = called_new At New st R.1.cast d.0 new.1 in
+                  let j : In (Called d.0.at New d.0.op) (calls_in At Old st) = subst (λ k. In (Called d.0.at New d.0.op) (calls_in At (op_id p k) st)) number i in
+                  subst (λ k. In (Called k New d.0.op) (calls_in At Old st)) (new_at At st R.1.cast d.0 new.1) j
             ]);
       }
 
-  pub history_now : IsHistory n registers (told_now start n t v e p st nodes l count numbers J).history
+  pub history_now : IsHistory n registers (told_now start n t pasts e p st l numbers J).history
   history_now = answers_in_place n registers At (t.history ++ calls_in At Old st) New R.1.reply mid may_answer

@@ -20,17 +20,17 @@ use Rattle.reg_history.specs.History.{event_of}
 use Rattle.reg_world.specs.declared.events.Event.{Event}
 use Rattle.reg_world.specs.declared.order.First.{First}
 use Rattle.reg_world.specs.declared.order.CopyRead.{CopyRead}
-use Rattle.reg_world.specs.Nodes.{Nodes, op_in, unseen}
+use Rattle.reg_world.specs.Nodes.{op_in, put, after_step, unseen}
 use Rattle.reg_world.specs.Runs.{Cast}
 use Rattle.reg_world.specs.World.{World, Replied, op_id, calls_in, answers_in, replies_in, casts_in, has_cast, reads_in, first_of, delivered_of, told}
-use Rattle.reg_world.proofs.one_memory.Traced.{Called as PastCall, Answered as PastAnswer, Past, First as PastFirst, World as Trace, called_in, answered_in, past_after, pasts_after, casts_of, firsts, order_after}
+use Rattle.reg_world.proofs.run.Traced.{Called as PastCall, Answered as PastAnswer, Past, called_in, answered_in, past_after, pasts_after, traced_by}
 use Rattle.reg_base.proofs.Lists.{in_left, in_right, in_cases}
 use Rattle.reg_world.proofs.lists.Bodies.{place_first, place_split, place_within}
 use Rattle.reg_world.proofs.one_order.Acts.{put_cases}
-use Rattle.reg_world.proofs.lists.Members.{map_append, map_in}
-use Rattle.reg_world.proofs.one_memory.Added.{plain, cast_of_first, IsPastCall, IsPastAnswer, new_called, called_new, no_answer, no_call, new_answered, answered_new, new_replied, new_cast, cast_new, called_once, last_new, same_op_id, cast_found, cast_finds, id_found, plain_firsts, plain_casts, new_read, read_new, unseen_in}
+use Rattle.reg_world.proofs.lists.Members.{map_in}
+use Rattle.reg_world.proofs.one_memory.Added.{cast_of_first, IsPastCall, IsPastAnswer, new_called, called_new, no_answer, no_call, new_answered, answered_new, new_replied, new_cast, cast_new, called_once, last_new, same_op_id, cast_found, cast_finds, id_found, new_read, read_new, unseen_in}
 
-pub record Joined (n : ℕ) (t : World) (pasts : ℕ → Past) (traced : List PastFirst) : Type 0 where
+pub record Joined (n : ℕ) (t : World) (pasts : ℕ → Past) : Type 0 where
   pub called : (at : ℕ) (id : OpId) (op : Op) → In (Called at id op) t.history → (d : PastCall) × IsPastCall n pasts id d × (d.op ≡ op) × (d.at ≡ at)
   pub calls : (id : OpId) (d : PastCall) → IsPastCall n pasts id d → In (Called d.at id d.op) t.history
   pub answered : (at : ℕ) (id : OpId) (x : Answer) → In (Answered at id x) t.history → (a : PastAnswer) × IsPastAnswer n pasts id a × (a.at ≡ at) × (a.reply.answer ≡ x)
@@ -39,33 +39,32 @@ pub record Joined (n : ℕ) (t : World) (pasts : ℕ → Past) (traced : List Pa
   pub replies : (id : OpId) (a : PastAnswer) → IsPastAnswer n pasts id a → In (record { id = id; at = a.at; reply = a.reply }) t.replies
   pub cast : (c : Cast) → In c t.casts → (d : PastCall) × IsPastCall n pasts c.id d × (d.cast ≡ Some c.stamp) × (d.op ≡ c.op)
   pub casts : (id : OpId) (d : PastCall) (stamp : Stamp) → IsPastCall n pasts id d → d.cast ≡ Some stamp → In (record { stamp = stamp; id = id; op = d.op }) t.casts
-  pub order : map plain t.order ≡ traced
   pub first : (f : First) → In f t.order → In (cast_of_first f) t.casts
   pub read : (q : CopyRead) → In q t.reads → (a : PastAnswer) × (d : PastCall) × IsPastAnswer n pasts q.id a × IsPastCall n pasts q.id d × (a.reply.place ≡ q.place) × (d.cast ≡ None)
   pub reads : (id : OpId) (a : PastAnswer) (d : PastCall) → IsPastAnswer n pasts id a → IsPastCall n pasts id d → d.cast ≡ None → In (record { id = id; place = a.reply.place }) t.reads
   pub below : (e : Entry) → In e t.history → event_of e < length t.accepted
 
-module _ (start : Op → ℕ → Start) (n : ℕ) (t : World) (v : Trace) (e : Event) (p : ℕ) (st : Step) (nodes : Nodes) (l : p < n) (count : length t.accepted ≡ v.count) (numbers : length (v.pasts p).calls ≡ (v.nodes p).state.calls) (J : Joined n t v.pasts v.order) where
+module _ (start : Op → ℕ → Start) (n : ℕ) (t : World) (pasts : ℕ → Past) (e : Event) (p : ℕ) (st : Step) (l : p < n) (numbers : length (pasts p).calls ≡ (t.nodes p).state.calls) (J : Joined n t pasts) where
   abbrev pub S : State
-  S = (v.nodes p).state
+  S = (t.nodes p).state
 
   abbrev pub R : State × Outcome
   R = step start S st
 
   abbrev pub pasts_now : ℕ → Past
-  pasts_now = pasts_after start v (Some (p, st))
+  pasts_now = pasts_after start (traced_by t pasts) (Some (p, st))
 
   abbrev pub told_now : World
-  told_now = told t e p S st R nodes
+  told_now = told t e p S st R (put t.nodes p (after_step start (t.nodes p) st))
 
   abbrev pub Asked : List PastCall
-  Asked = called_in v.count st R.1.cast
+  Asked = called_in (length t.accepted) st R.1.cast
 
   abbrev pub Given : List PastAnswer
-  Given = answered_in v.count (R.0.calls - 1) (op_in S st) R.1.reply
+  Given = answered_in (length t.accepted) (R.0.calls - 1) (op_in S st) R.1.reply
 
   abbrev pub This : Past
-  This = past_after v.count S (v.pasts p) st R
+  This = past_after (length t.accepted) S (pasts p) st R
 
   abbrev pub Old : OpId
   Old = op_id p S.calls
@@ -73,39 +72,39 @@ module _ (start : Op → ℕ → Start) (n : ℕ) (t : World) (v : Trace) (e : E
   abbrev pub New : OpId
   New = op_id p (R.0.calls - 1)
 
-  pub call_stays : (id : OpId) (d : PastCall) → IsPastCall n v.pasts id d → IsPastCall n pasts_now id d
+  pub call_stays : (id : OpId) (d : PastCall) → IsPastCall n pasts id d → IsPastCall n pasts_now id d
   call_stays id d h = (
     h.0,
-    put_cases (λ (g : Past). slice_get g.calls id.number ≡ Some d) v.pasts p This id.process
-        (λ q. place_first (v.pasts p).calls Asked id.number d (subst (λ z. slice_get (v.pasts z).calls id.number ≡ Some d) q h.1)) (λ ne. h.1),
+    put_cases (λ (g : Past). slice_get g.calls id.number ≡ Some d) pasts p This id.process
+        (λ q. place_first (pasts p).calls Asked id.number d (subst (λ z. slice_get (pasts z).calls id.number ≡ Some d) q h.1)) (λ ne. h.1),
   )
 
-  pub answer_stays : (id : OpId) (a : PastAnswer) → IsPastAnswer n v.pasts id a → IsPastAnswer n pasts_now id a
+  pub answer_stays : (id : OpId) (a : PastAnswer) → IsPastAnswer n pasts id a → IsPastAnswer n pasts_now id a
   answer_stays id a h = (
     h.0,
-    put_cases (λ (g : Past). In a g.answers) v.pasts p This id.process (λ q. in_left a (v.pasts p).answers Given (subst (λ z. In a (v.pasts z).answers) q h.1)) (λ ne. h.1),
+    put_cases (λ (g : Past). In a g.answers) pasts p This id.process (λ q. in_left a (pasts p).answers Given (subst (λ z. In a (pasts z).answers) q h.1)) (λ ne. h.1),
     h.2,
   )
 
   pub call_added : (d : PastCall) → In d Asked → IsPastCall n pasts_now Old d
   call_added d i = (
     l,
-    put_cases (λ (g : Past). slice_get g.calls S.calls ≡ Some d) v.pasts p This p
-        (λ _. ap (slice_get ((v.pasts p).calls ++ Asked)) (sym numbers) ∙ last_new (v.pasts p).calls v.count st R.1.cast d i) (λ ne. absurd (ne refl)),
+    put_cases (λ (g : Past). slice_get g.calls S.calls ≡ Some d) pasts p This p
+        (λ _. ap (slice_get ((pasts p).calls ++ Asked)) (sym numbers) ∙ last_new (pasts p).calls (length t.accepted) st R.1.cast d i) (λ ne. absurd (ne refl)),
   )
 
   pub answer_added : (a : PastAnswer) → In a Given → a.number ≡ R.0.calls - 1 → IsPastAnswer n pasts_now New a
-  answer_added a i k = (l, put_cases (λ (g : Past). In a g.answers) v.pasts p This p (λ _. in_right a (v.pasts p).answers Given i) (λ ne. absurd (ne refl)), k)
+  answer_added a i k = (l, put_cases (λ (g : Past). In a g.answers) pasts p This p (λ _. in_right a (pasts p).answers Given i) (λ ne. absurd (ne refl)), k)
 
-  pub call_cases : (id : OpId) (d : PastCall) → IsPastCall n pasts_now id d → IsPastCall n v.pasts id d ⊎ ((id ≡ Old) × In d Asked)
+  pub call_cases : (id : OpId) (d : PastCall) → IsPastCall n pasts_now id d → IsPastCall n pasts id d ⊎ ((id ≡ Old) × In d Asked)
   call_cases id d h =
-      put_cases (λ (g : Past). slice_get g.calls id.number ≡ Some d → IsPastCall n v.pasts id d ⊎ ((id ≡ Old) × In d Asked)) v.pasts p This id.process
-      (λ q at. elim (place_split (v.pasts p).calls Asked id.number d at) [
-        | inl k ↦ inl (h.0, subst (λ z. slice_get (v.pasts z).calls id.number ≡ Some d) (sym q) k)
+      put_cases (λ (g : Past). slice_get g.calls id.number ≡ Some d → IsPastCall n pasts id d ⊎ ((id ≡ Old) × In d Asked)) pasts p This id.process
+      (λ q at. elim (place_split (pasts p).calls Asked id.number d at) [
+        | inl k ↦ inl (h.0, subst (λ z. slice_get (pasts z).calls id.number ≡ Some d) (sym q) k)
         | inr k ↦
-            let z = place_within ((v.pasts p).calls ++ Asked) id.number d at in
-            let u = length-append (v.pasts p).calls Asked in
-            let one = called_once v.count st R.1.cast in
+            let z = place_within ((pasts p).calls ++ Asked) id.number d at in
+            let u = length-append (pasts p).calls Asked in
+            let one = called_once (length t.accepted) st R.1.cast in
             let least = k.0 in
             let is : id.number ≡ S.calls = omega (arith, z, u, one, least, numbers) in
             inr (same_op_id id Old q is, k.1)
@@ -113,12 +112,12 @@ module _ (start : Op → ℕ → Start) (n : ℕ) (t : World) (v : Trace) (e : E
       (λ ne at. inl (h.0, at))
       h.1
 
-  pub answer_cases : (id : OpId) (a : PastAnswer) → IsPastAnswer n pasts_now id a → IsPastAnswer n v.pasts id a ⊎ ((id ≡ New) × In a Given)
+  pub answer_cases : (id : OpId) (a : PastAnswer) → IsPastAnswer n pasts_now id a → IsPastAnswer n pasts id a ⊎ ((id ≡ New) × In a Given)
   answer_cases id a h =
-      put_cases (λ (g : Past). In a g.answers → IsPastAnswer n v.pasts id a ⊎ ((id ≡ New) × In a Given)) v.pasts p This id.process
-      (λ q i. elim (in_cases a (v.pasts p).answers Given i) [
-        | inl k ↦ inl (h.0, subst (λ z. In a (v.pasts z).answers) (sym q) k, h.2)
-        | inr k ↦ inr (same_op_id id New q (sym h.2 ∙ (answered_new v.count (R.0.calls - 1) (op_in S st) New R.1.reply a k).0), k)
+      put_cases (λ (g : Past). In a g.answers → IsPastAnswer n pasts id a ⊎ ((id ≡ New) × In a Given)) pasts p This id.process
+      (λ q i. elim (in_cases a (pasts p).answers Given i) [
+        | inl k ↦ inl (h.0, subst (λ z. In a (pasts z).answers) (sym q) k, h.2)
+        | inr k ↦ inr (same_op_id id New q (sym h.2 ∙ (answered_new (length t.accepted) (R.0.calls - 1) (op_in S st) New R.1.reply a k).0), k)
       ])
       (λ ne i. inl (h.0, i, h.2))
       h.1
@@ -128,8 +127,8 @@ module _ (start : Op → ℕ → Start) (n : ℕ) (t : World) (v : Trace) (e : E
     | inl j ↦ elim (in_cases (Called at id op) t.history (calls_in (length t.accepted) Old st) j) [
       | inl k ↦ let r = J.called at id op k in (r.0, call_stays id r.0 r.1, r.2, r.3)
       | inr k ↦
-          let r = new_called v.count Old st R.1.cast at id op (subst (λ c. In (Called at id op) (calls_in c Old st)) count k) in
-          (record { op = op; at = v.count; cast = R.1.cast }, subst (λ z. IsPastCall n pasts_now z (record { op = op; at = v.count; cast = R.1.cast })) (sym r.1) (call_added _ r.2), refl, sym r.0)
+          let r = new_called (length t.accepted) Old st R.1.cast at id op k in
+          (record { op = op; at = length t.accepted; cast = R.1.cast }, subst (λ z. IsPastCall n pasts_now z (record { op = op; at = length t.accepted; cast = R.1.cast })) (sym r.1) (call_added _ r.2), refl, sym r.0)
     ]
     | inr j ↦ absurd (no_call (length t.accepted) New R.1.reply at id op j)
   ]
@@ -138,7 +137,7 @@ module _ (start : Op → ℕ → Start) (n : ℕ) (t : World) (v : Trace) (e : E
   calls_now id d h = elim (call_cases id d h) [
     | inl k ↦ in_left (Called d.at id d.op) t.history (calls_in (length t.accepted) Old st) (J.calls id d k)
     | inr k ↦ in_right (Called d.at id d.op) t.history (calls_in (length t.accepted) Old st)
-        (subst (λ z. In (Called d.at id d.op) (calls_in (length t.accepted) z st)) k.0 (subst (λ c. In (Called d.at id d.op) (calls_in c id st)) (sym count) (called_new v.count id st R.1.cast d k.1)))
+        (subst (λ z. In (Called d.at id d.op) (calls_in (length t.accepted) z st)) k.0 (called_new (length t.accepted) id st R.1.cast d k.1))
   ]
 
   pub answered_now : (at : ℕ) (id : OpId) (x : Answer) → In (Answered at id x) told_now.history → (a : PastAnswer) × IsPastAnswer n pasts_now id a × (a.at ≡ at) × (a.reply.answer ≡ x)
@@ -148,7 +147,7 @@ module _ (start : Op → ℕ → Start) (n : ℕ) (t : World) (v : Trace) (e : E
       | inr k ↦ absurd (no_answer (length t.accepted) Old st at id x k)
     ]
     | inr j ↦
-        let r = new_answered v.count (R.0.calls - 1) (op_in S st) New R.1.reply at id x (subst (λ c. In (Answered at id x) (answers_in c New R.1.reply)) count j) in
+        let r = new_answered (length t.accepted) (R.0.calls - 1) (op_in S st) New R.1.reply at id x j in
         (r.1.0, subst (λ z. IsPastAnswer n pasts_now z r.1.0) (sym r.0) (answer_added r.1.0 r.1.1 r.1.2), r.1.3, r.1.4)
   ]
 
@@ -156,14 +155,14 @@ module _ (start : Op → ℕ → Start) (n : ℕ) (t : World) (v : Trace) (e : E
   answers_now id a h = elim (answer_cases id a h) [
     | inl k ↦ in_left _ (t.history ++ calls_in (length t.accepted) Old st) (answers_in (length t.accepted) New R.1.reply) (in_left _ t.history (calls_in (length t.accepted) Old st) (J.answers id a k))
     | inr k ↦ in_right _ (t.history ++ calls_in (length t.accepted) Old st) (answers_in (length t.accepted) New R.1.reply)
-        (subst (λ z. In (Answered a.at id a.reply.answer) (answers_in (length t.accepted) z R.1.reply)) k.0 (subst (λ c. In (Answered a.at id a.reply.answer) (answers_in c id R.1.reply)) (sym count) (answered_new v.count (R.0.calls - 1) (op_in S st) id R.1.reply a k.1).1))
+        (subst (λ z. In (Answered a.at id a.reply.answer) (answers_in (length t.accepted) z R.1.reply)) k.0 (answered_new (length t.accepted) (R.0.calls - 1) (op_in S st) id R.1.reply a k.1).1)
   ]
 
   replied_now : (y : Replied) → In y told_now.replies → (a : PastAnswer) × IsPastAnswer n pasts_now y.id a × (a.at ≡ y.at) × (a.reply ≡ y.reply)
   replied_now y i = elim (in_cases y t.replies (replies_in (length t.accepted) New R.1.reply) i) [
     | inl k ↦ let r = J.replied y k in (r.0, answer_stays y.id r.0 r.1, r.2, r.3)
     | inr j ↦
-        let r = new_replied v.count (R.0.calls - 1) (op_in S st) New R.1.reply y (subst (λ c. In y (replies_in c New R.1.reply)) count j) in
+        let r = new_replied (length t.accepted) (R.0.calls - 1) (op_in S st) New R.1.reply y j in
         (r.1.0, subst (λ z. IsPastAnswer n pasts_now z r.1.0) (sym r.0) (answer_added r.1.0 r.1.1 r.1.2), r.1.3, r.1.4)
   ]
 
@@ -171,31 +170,24 @@ module _ (start : Op → ℕ → Start) (n : ℕ) (t : World) (v : Trace) (e : E
   replies_now id a h = elim (answer_cases id a h) [
     | inl k ↦ in_left _ t.replies (replies_in (length t.accepted) New R.1.reply) (J.replies id a k)
     | inr k ↦ in_right _ t.replies (replies_in (length t.accepted) New R.1.reply)
-        (subst (λ z. In (record { id = id; at = a.at; reply = a.reply }) (replies_in (length t.accepted) z R.1.reply)) k.0 (subst (λ c. In (record { id = id; at = a.at; reply = a.reply }) (replies_in c id R.1.reply)) (sym count) (answered_new v.count (R.0.calls - 1) (op_in S st) id R.1.reply a k.1).2))
+        (subst (λ z. In (record { id = id; at = a.at; reply = a.reply }) (replies_in (length t.accepted) z R.1.reply)) k.0 (answered_new (length t.accepted) (R.0.calls - 1) (op_in S st) id R.1.reply a k.1).2)
   ]
 
   pub cast_now : (c : Cast) → In c told_now.casts → (d : PastCall) × IsPastCall n pasts_now c.id d × (d.cast ≡ Some c.stamp) × (d.op ≡ c.op)
   cast_now c i = elim (in_cases c t.casts (casts_in Old st R.1.cast) i) [
     | inl k ↦ let r = J.cast c k in (r.0, call_stays c.id r.0 r.1, r.2, r.3)
     | inr k ↦
-        let r = new_cast v.count Old st R.1.cast c k in
+        let r = new_cast (length t.accepted) Old st R.1.cast c k in
         (r.1.0, subst (λ z. IsPastCall n pasts_now z r.1.0) (sym r.0) (call_added r.1.0 r.1.1), r.1.2, r.1.3)
   ]
 
   pub casts_now : (id : OpId) (d : PastCall) (stamp : Stamp) → IsPastCall n pasts_now id d → d.cast ≡ Some stamp → In (record { stamp = stamp; id = id; op = d.op }) told_now.casts
   casts_now id d stamp h c = elim (call_cases id d h) [
     | inl k ↦ in_left _ t.casts (casts_in Old st R.1.cast) (J.casts id d stamp k c)
-    | inr k ↦ in_right _ t.casts (casts_in Old st R.1.cast) (subst (λ z. In (record { stamp = stamp; id = id; op = d.op }) (casts_in z st R.1.cast)) k.0 (cast_new v.count id st R.1.cast d stamp k.1 c))
+    | inr k ↦ in_right _ t.casts (casts_in Old st R.1.cast) (subst (λ z. In (record { stamp = stamp; id = id; op = d.op }) (casts_in z st R.1.cast)) k.0 (cast_new (length t.accepted) id st R.1.cast d stamp k.1 c))
   ]
 
-  order_now : map plain told_now.order ≡ order_after start v (Some (p, st))
-  order_now =
-      let known : map delivered_of t.order ≡ casts_of v.order = sym (plain_casts t.order) ∙ ap casts_of J.order in
-      map_append plain t.order _
-      ∙ ((λ i. J.order i ++ map plain (map (first_of told_now.casts (length t.accepted)) (unseen (known i) R.1.delivered)))
-      ∙ ap (λ r. v.order ++ r) (plain_firsts told_now.casts (length t.accepted) (unseen (casts_of v.order) R.1.delivered) ∙ ap (λ c. firsts c (unseen (casts_of v.order) R.1.delivered)) count))
-
-  module _ (made : (c : Delivered) → In c R.1.delivered → (id : OpId) × (d : PastCall) × IsPastCall n pasts_now id d × (d.cast ≡ Some c.stamp) × (d.op ≡ c.op)) (one : (a b : OpId) (d f : PastCall) (stamp : Stamp) → IsPastCall n pasts_now a d → IsPastCall n pasts_now b f → d.cast ≡ Some stamp → f.cast ≡ Some stamp → a ≡ b) (has : (id : OpId) (a : PastAnswer) → IsPastAnswer n v.pasts id a → (d : PastCall) × IsPastCall n v.pasts id d) (has_now : (id : OpId) (a : PastAnswer) → IsPastAnswer n pasts_now id a → (d : PastCall) × IsPastCall n pasts_now id d) where
+  module _ (made : (c : Delivered) → In c R.1.delivered → (id : OpId) × (d : PastCall) × IsPastCall n pasts_now id d × (d.cast ≡ Some c.stamp) × (d.op ≡ c.op)) (one : (a b : OpId) (d f : PastCall) (stamp : Stamp) → IsPastCall n pasts_now a d → IsPastCall n pasts_now b f → d.cast ≡ Some stamp → f.cast ≡ Some stamp → a ≡ b) (has : (id : OpId) (a : PastAnswer) → IsPastAnswer n pasts id a → (d : PastCall) × IsPastCall n pasts id d) (has_now : (id : OpId) (a : PastAnswer) → IsPastAnswer n pasts_now id a → (d : PastCall) × IsPastCall n pasts_now id d) where
     same_call : (id : OpId) (d f : PastCall) → IsPastCall n pasts_now id d → IsPastCall n pasts_now id f → d ≡ f
     same_call id d f a b = same_Some d f (sym a.1 ∙ b.1)
 
@@ -223,7 +215,7 @@ module _ (start : Op → ℕ → Start) (n : ℕ) (t : World) (v : Trace) (e : E
     read_now q i = elim (in_cases q t.reads (reads_in told_now.casts New R.1.reply) i) [
       | inl k ↦ let r = J.read q k in (r.0, r.1, answer_stays q.id r.0 r.2, call_stays q.id r.1 r.3, r.4, r.5)
       | inr k ↦
-          let r = new_read told_now.casts v.count (R.0.calls - 1) (op_in S st) New R.1.reply q k in
+          let r = new_read told_now.casts (length t.accepted) (R.0.calls - 1) (op_in S st) New R.1.reply q k in
           let a = r.2.0 in
           let given : IsPastAnswer n pasts_now q.id a = subst (λ z. IsPastAnswer n pasts_now z a) (sym r.0) (answer_added a r.2.1 r.2.2) in
           let d = has_now q.id a given in
@@ -240,7 +232,7 @@ module _ (start : Op → ℕ → Start) (n : ℕ) (t : World) (v : Trace) (e : E
           let old = has id a k in
           let same : old.0 ≡ d = same_call id old.0 d (call_stays id old.0 old.1) c in
           in_left _ t.reads (reads_in told_now.casts New R.1.reply) (J.reads id a old.0 k old.1 (ap (λ (z : PastCall). z.cast) same ∙ none))
-      | inr k ↦ in_right _ t.reads (reads_in told_now.casts New R.1.reply) (subst (λ z. In (record { id = id; place = a.reply.place }) (reads_in told_now.casts z R.1.reply)) k.0 (read_new told_now.casts v.count (R.0.calls - 1) (op_in S st) id R.1.reply a k.1 not_cast))
+      | inr k ↦ in_right _ t.reads (reads_in told_now.casts New R.1.reply) (subst (λ z. In (record { id = id; place = a.reply.place }) (reads_in told_now.casts z R.1.reply)) k.0 (read_new told_now.casts (length t.accepted) (R.0.calls - 1) (op_in S st) id R.1.reply a k.1 not_cast))
     ]
       where
         not_cast : has_cast told_now.casts id ≡ false
@@ -275,7 +267,7 @@ module _ (start : Op → ℕ → Start) (n : ℕ) (t : World) (v : Trace) (e : E
         answer_event at id (Some r) x (inl e) = ap event_of e
         answer_event at id (Some r) x (inr f) = absurd f
 
-    pub joined_now : Joined n told_now pasts_now (order_after start v (Some (p, st)))
+    pub joined_now : Joined n told_now pasts_now
     joined_now = record {
       called = called_now;
       calls = λ id d h. in_left _ (t.history ++ calls_in (length t.accepted) Old st) (answers_in (length t.accepted) New R.1.reply) (calls_now id d h);
@@ -285,7 +277,6 @@ module _ (start : Op → ℕ → Start) (n : ℕ) (t : World) (v : Trace) (e : E
       replies = replies_now;
       cast = cast_now;
       casts = casts_now;
-      order = order_now;
       first = first_now;
       read = read_now;
       reads = reads_now;

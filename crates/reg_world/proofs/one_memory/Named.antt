@@ -16,14 +16,16 @@ use Rattle.reg_process.specs.declared.steps.Step.TheVariants.{Call, Take, Tick}
 use Rattle.reg_world.specs.declared.events.Event.{Event}
 use Rattle.reg_base.specs.Order.{In}
 use Rattle.reg_process.specs.Process.{State, Outcome, stamp_at, called, taken, accepted, quiet, got_frames, peer_at, unsettled, step}
-use Rattle.reg_world.specs.Nodes.{Node, put, step_of, after_step}
-use Rattle.reg_world.specs.NodeRuns.{nodes_after}
-use Rattle.reg_world.proofs.one_memory.Traced.{World, Called, Past, called_in, past_after, pasts_after, world_after, run_world, empty_world, whole, IsCalled, CastsCalled}
+use Rattle.reg_world.specs.Nodes.{Node, put, after_step}
+use Rattle.reg_world.specs.NodeParts.{nodes_after}
+use Rattle.reg_world.proofs.run.Traced.{Trace, Called, Past, called_in, past_after, pasts_after, IsCalled, CastsCalled, traced}
 use Rattle.reg_world.proofs.lists.Bodies.{place_first, place_split}
 use Rattle.reg_world.proofs.one_order.Worlds.{Inv}
 use Rattle.reg_world.proofs.one_order.Acts.{put_cases}
-use Rattle.reg_world.proofs.one_order.Runs.{StepKept, step_ok, inv_happens}
-use Rattle.reg_world.proofs.one_order.NodeLaws.{empty_inv}
+use Rattle.reg_world.proofs.one_order.Runs.{StepKept}
+use Rattle.reg_world.proofs.one_order.NodeLaws.{inv_of, run_ok}
+use Rattle.reg_world.specs.World.{move_of, whole}
+use Rattle.reg_world.proofs.run.Along.{along}
 
 abbrev pub AllCalled : ℕ → List Body → List Called → Type 0
 AllCalled p queued calls = (i t : ℕ) (op : Op) → slice_get queued i ≡ Some (Cast t op) → IsCalled calls (stamp_at t p) op
@@ -72,10 +74,10 @@ calls_step start p at x h e me A i t op q =
       | inr k ↦ called_back h.calls (called_in at e r.1.cast) (stamp_at t p) op (step_new p at x.state me start e t op k.1)
     ]
 
-abbrev pub NamesOk : ℕ → World → Type 0
+abbrev pub NamesOk : ℕ → Trace → Type 0
 NamesOk n w = (p : ℕ) → p < n → AllCalled p (w.nodes p).queued (w.pasts p).calls
 
-names_step : (start : Op → ℕ → Start) (n registers k : ℕ) (w : World) (m : Option (ℕ × Step)) → Inv n registers k w.nodes → StepKept start n registers k w.nodes m → NamesOk n w → (q : ℕ) → q < n → AllCalled q (nodes_after start w.nodes m q).queued (pasts_after start w m q).calls
+names_step : (start : Op → ℕ → Start) (n registers k : ℕ) (w : Trace) (m : Option (ℕ × Step)) → Inv n registers k w.nodes → StepKept start n registers k w.nodes m → NamesOk n w → (q : ℕ) → q < n → AllCalled q (nodes_after start w.nodes m q).queued (pasts_after start w m q).calls
 names_step start n registers k w None I K A q l = A q l
 names_step start n registers k w (Some m) I K A q l =
     let x = w.nodes m.0 in
@@ -87,11 +89,8 @@ names_step start n registers k w (Some m) I K A q l =
     (λ ne. absurd (ne e)))
     (λ ne. put_cases (λ (g : Past). AllCalled q (w.nodes q).queued g.calls) w.pasts m.0 h' q (λ e. absurd (ne e)) (λ _. A q l))
 
-names_run : (start : Op → ℕ → Start) (n registers k : ℕ) (events : List Event) (w : World) → Inv n registers k w.nodes → NamesOk n w → NamesOk n (run_world start n registers events w)
-names_run start n registers k [] w I A = A
-names_run start n registers k (e ∷ es) w I A =
-    names_run start n registers (suc k) es (world_after start n registers w e) (inv_happens start n registers k w.nodes e I) (names_step start n registers k w (step_of n registers w.nodes e) I (step_ok start n registers k w.nodes e I) A)
-
-pub casts_called : (start : Op → ℕ → Start) (n registers : ℕ) (events : List Event) → CastsCalled n (whole start n registers events)
+pub casts_called : (start : Op → ℕ → Start) (n registers : ℕ) (events : List Event) → CastsCalled n (traced start n registers events)
 casts_called start n registers events c m =
-    names_run start n registers 0 events (empty_world n registers) (empty_inv n registers) (λ p l i t op h. absurd (let bad : ⊥ = cc in bad)) c.stamp.process m.0 m.1.0 c.stamp.time c.op m.1.1
+    along start n registers (NamesOk n) (λ p l i t op h. absurd (let bad : ⊥ = cc in bad))
+    (λ es e A. let v = traced start n registers es in names_step start n registers v.count v (move_of n registers (whole start n registers es) e) (inv_of start n registers es) (run_ok start n registers es e) A)
+    events c.stamp.process m.0 m.1.0 c.stamp.time c.op m.1.1

@@ -1,5 +1,5 @@
 -- A reply stands at its own cast, unless the front end gives it before the delivery.
-use Rattle.std.proofs.Common.{◌≡◌, ℕ, suc, ◌+◌, ◌-◌, ◌<◌, ◌⊎◌, max, List, [], ◌∷◌, ◌++◌, length, Option, Some, None, refl, sym, ap, ◌∙◌, subst, inl, inr, arith}
+use Rattle.std.proofs.Common.{◌≡◌, ℕ, ◌+◌, ◌-◌, ◌<◌, ◌⊎◌, max, List, [], ◌∷◌, ◌++◌, length, Option, Some, None, refl, sym, ap, ◌∙◌, subst, inl, inr, arith}
 use Rattle.std.specs.Prelude.{◌==◌, ◌&&◌, slice_get}
 use Rattle.std.specs.List.{list_any}
 use Rattle.std.proofs.lemmas.Bool.{cond_both}
@@ -21,23 +21,24 @@ use Rattle.reg_process.specs.declared.steps.Step.{Step}
 use Rattle.reg_process.specs.declared.steps.Step.TheVariants.{Call, Take, Tick}
 use Rattle.reg_process.specs.Process.{State, Outcome, Running, Own, Held, cast_at, clear_casts, casts_before, reply_after, reply_of, taken, accepted, accepts, queues, quiet, got_frames, peer_at, step, called, cast_made, stamp_at, unsettled}
 use Rattle.reg_world.specs.declared.events.Event.{Event}
-use Rattle.reg_world.specs.Nodes.{Node, put, op_in, after_step, step_of}
-use Rattle.reg_world.specs.NodeRuns.{nodes_after}
-use Rattle.reg_world.proofs.one_memory.Traced.{Called, Answered, Past, World, cast_of, called_in, answered_in, past_after, pasts_after, world_after, run_world, empty_world, whole}
+use Rattle.reg_world.specs.Nodes.{Node, put, op_in, after_step}
+use Rattle.reg_world.specs.NodeParts.{nodes_after}
+use Rattle.reg_world.proofs.run.Traced.{Called, Answered, Past, Trace, cast_of, called_in, answered_in, past_after, pasts_after, traced}
 use Rattle.reg_world.specs.Promises.{AnswersFirst}
 use Rattle.reg_base.proofs.Lists.{in_cases, insert_new}
 use Rattle.reg_world.proofs.lists.Bodies.{place_first, place_last}
 use Rattle.reg_world.proofs.one_order.Acts.{put_cases}
-use Rattle.reg_world.proofs.one_order.Worlds.{Inv}
-use Rattle.reg_world.proofs.one_order.Runs.{StepKept, step_ok, inv_happens}
-use Rattle.reg_world.proofs.one_order.NodeLaws.{empty_inv}
+use Rattle.reg_world.proofs.one_order.Runs.{StepKept}
+use Rattle.reg_world.proofs.one_order.NodeLaws.{run_ok}
 use Rattle.reg_world.proofs.one_order.Firsts.{rising_end}
-use Rattle.reg_world.proofs.one_order.Wholes.{Replicas, replicas_after}
-use Rattle.reg_world.proofs.one_order.Settled.{IsRunning, runs_after, Runs, longer}
-use Rattle.reg_world.proofs.one_memory.History.{PastsOk, pasts_step}
+use Rattle.reg_world.proofs.one_order.Wholes.{Replicas, whole_replicas}
+use Rattle.reg_world.proofs.one_order.Settled.{IsRunning, Runs, longer, whole_runs}
+use Rattle.reg_world.proofs.one_memory.History.{PastsOk, whole_pasts}
 use Rattle.reg_world.proofs.one_memory.Standing.{RunsAs, PastOk, own_placed}
 use Rattle.reg_world.proofs.one_memory.Turns.{answered_one}
 use Rattle.reg_world.proofs.one_order.Allowed.{calls_made}
+use Rattle.reg_world.specs.World.{move_of, whole}
+use Rattle.reg_world.proofs.run.Along.{along}
 
 reply_placed : (s : State) (deliveries : List Delivered) → s.delivered ≡ length deliveries → Rising (clear_casts s) → (running : Option Running) (k : ℕ) (calls : List Called) (r : Reply) (d : Called) (stamp : Stamp) → Runs s running → RunsAs k calls running → reply_of s (clear_casts s) running ≡ Some r → slice_get calls (k - 1) ≡ Some d → d.cast ≡ Some stamp → slice_get (deliveries ++ clear_casts s) r.place ≡ Some (cast_of stamp d.op)
 reply_placed s deliveries count rising None k calls r d stamp runs last e at c = absurd (let bad : ⊥ = cc in bad)
@@ -101,7 +102,7 @@ module _ (p at : ℕ) (x : Node) (h : Past) (W : Runs x.state x.state.running) (
 abbrev pub AreSeated : (Op → ℕ → Start) → List Delivered → Past → Type 0
 AreSeated start deliveries h = (a : Answered) (d : Called) (stamp : Stamp) → In a h.answers → slice_get h.calls a.number ≡ Some d → d.cast ≡ Some stamp → ((a.at ≡ d.at) × AnswersFirst start d.op) ⊎ (slice_get deliveries a.reply.place ≡ Some (cast_of stamp d.op))
 
-abbrev pub AllSeated : (Op → ℕ → Start) → ℕ → World → Type 0
+abbrev pub AllSeated : (Op → ℕ → Start) → ℕ → Trace → Type 0
 AllSeated start n w = (p : ℕ) → p < n → AreSeated start (w.nodes p).deliveries (w.pasts p)
 
 seated_here : (start : Op → ℕ → Start) (p at : ℕ) (x : Node) (h : Past) (e : Step) → Runs x.state x.state.running → PastOk p x.state x.deliveries h → x.state.delivered ≡ length x.deliveries → Rising (after_step start x e).deliveries → AreSeated start x.deliveries h → AreSeated start (after_step start x e).deliveries (past_after at x.state h e (step start x.state e))
@@ -122,7 +123,7 @@ seated_here start p at x h e W P count rises A a d stamp i q c =
           elim z [ inl y ↦ inl (ap (λ (z : Answered). z.at) o.2 ∙ sym y.0, y.1) | inr y ↦ inr (ap (slice_get (x.deliveries ++ r.1.delivered)) place ∙ y) ]
     ]
 
-seated_step : (start : Op → ℕ → Start) (n registers k : ℕ) (w : World) (m : Option (ℕ × Step)) → StepKept start n registers k w.nodes m → Replicas n registers w.nodes → ((p : ℕ) → IsRunning (w.nodes p)) → PastsOk n w → AllSeated start n w → (q : ℕ) → q < n → AreSeated start (nodes_after start w.nodes m q).deliveries (pasts_after start w m q)
+seated_step : (start : Op → ℕ → Start) (n registers k : ℕ) (w : Trace) (m : Option (ℕ × Step)) → StepKept start n registers k w.nodes m → Replicas n registers w.nodes → ((p : ℕ) → IsRunning (w.nodes p)) → PastsOk n w → AllSeated start n w → (q : ℕ) → q < n → AreSeated start (nodes_after start w.nodes m q).deliveries (pasts_after start w m q)
 seated_step start n registers k w None K R W P A q l = A q l
 seated_step start n registers k w (Some m) K R W P A q l =
     let x = w.nodes m.0 in
@@ -134,16 +135,9 @@ seated_step start n registers k w (Some m) K R W P A q l =
     (λ ne. absurd (ne e)))
     (λ ne. put_cases (λ (g : Past). AreSeated start (w.nodes q).deliveries g) w.pasts m.0 h' q (λ e. absurd (ne e)) (λ _. A q l))
 
-seated_run : (start : Op → ℕ → Start) (n registers k : ℕ) (events : List Event) (w : World) → KeepsLaws start → Inv n registers k w.nodes → Replicas n registers w.nodes → ((p : ℕ) → IsRunning (w.nodes p)) → PastsOk n w → AllSeated start n w → AllSeated start n (run_world start n registers events w)
-seated_run start n registers k [] w laws I R W P A = A
-seated_run start n registers k (e ∷ es) w laws I R W P A =
-    let K = step_ok start n registers k w.nodes e I in
-    let m = step_of n registers w.nodes e in
-    seated_run start n registers (suc k) es (world_after start n registers w e) laws (inv_happens start n registers k w.nodes e I)
-    (replicas_after start n registers k w.nodes m laws K R) (runs_after start w.nodes m laws W) (pasts_step start n registers k w m laws I K R W P) (seated_step start n registers k w m K R W P A)
-
-pub all_seated : (start : Op → ℕ → Start) (n registers : ℕ) (events : List Event) → KeepsLaws start → AllSeated start n (whole start n registers events)
+pub all_seated : (start : Op → ℕ → Start) (n registers : ℕ) (events : List Event) → KeepsLaws start → AllSeated start n (traced start n registers events)
 all_seated start n registers events laws =
-    seated_run start n registers 0 events (empty_world n registers) laws (empty_inv n registers) (λ p l. record { copy = refl; count = refl; right = λ r h. absurd h }) (λ p. tt)
-    (λ p l. (record { count = refl; running = tt; casts = λ i d stamp h. absurd (let bad : ⊥ = cc in bad); rises = λ i j d e a b h. absurd (let bad : ⊥ = cc in bad); past = λ i d stamp h. absurd (let bad : ⊥ = cc in bad); answers = λ a h. absurd h }, λ a h. absurd h))
-    (λ p l a d stamp i. absurd i)
+    along start n registers (AllSeated start n) (λ p l a d stamp i. absurd i)
+    (λ es e A. let v = traced start n registers es in
+    seated_step start n registers v.count v (move_of n registers (whole start n registers es) e) (run_ok start n registers es e) (whole_replicas start n registers es laws) (whole_runs start n registers es laws) (whole_pasts start n registers es laws) A)
+    events

@@ -1,12 +1,10 @@
--- Where an event is refused, and one more event.
-use Rattle.std.proofs.Common.{◌≡◌, ℕ, Bool, true, false, not, List, [], ◌∷◌, ◌++◌, length, Option, Some, None, refl}
+-- Where an event is refused.
+use Rattle.std.proofs.Common.{◌≡◌, ℕ, Bool, true, false, not, length, Option, Some, None, refl}
 use Rattle.reg_base.specs.declared.limits.TheConstants.{MOST_EVENTS, MOST_OPERATIONS}
 use Rattle.std.specs.Prelude.{cond, ◌==◌, ◌&&◌, nat_lt, slice_get}
 use Rattle.std.specs.Option.{is_some}
-use Rattle.reg_base.specs.declared.memory.Op.{Op}
 use Rattle.reg_base.specs.Memory.{register_of}
 use Rattle.reg_frames.specs.declared.bodies.Frame.{Frame}
-use Rattle.reg_front.specs.declared.starts.Start.{Start}
 use Rattle.reg_process.specs.declared.steps.Step.{Step}
 use Rattle.reg_process.specs.declared.steps.Step.TheVariants.{Call as CallStep, Tick as TickStep}
 use Rattle.reg_world.specs.declared.events.Event.{Event}
@@ -14,8 +12,7 @@ use Rattle.reg_world.specs.declared.events.Event.TheVariants.{Call, Take, Tick}
 use Rattle.reg_world.specs.declared.faults.WorldFault.{WorldFault}
 use Rattle.reg_world.specs.declared.faults.WorldFault.TheVariants.{TooManyEvents, NoProcess, Busy, NoRegister, TooManyOperations, NoFrame}
 use Rattle.reg_world.specs.Nodes.{Nodes, take_step, step_of}
-use Rattle.reg_world.specs.World.{World, empty_world, move_of, moved, frame_fault, event_fault, world_fault, whole}
-use Rattle.reg_world.proofs.witness.Promised.{run_parts}
+use Rattle.reg_world.specs.World.{World, move_of, frame_fault, event_fault, world_fault}
 
 abbrev Agrees : Option (ℕ × Step) → Option WorldFault → Type 0
 Agrees m f = is_some m ≡ not (is_some f)
@@ -49,6 +46,3 @@ few_agrees m f false h = refl
 
 pub refused_by_fault : (n registers : ℕ) (w : World) (e : Event) → is_some (move_of n registers w e) ≡ not (is_some (world_fault n registers w e))
 refused_by_fault n registers w e = few_agrees (step_of n registers w.nodes e) (event_fault n registers w.nodes e) (nat_lt (length w.accepted) MOST_EVENTS) (event_agrees n registers w.nodes e)
-
-pub one_more : (start : Op → ℕ → Start) (n registers : ℕ) (events : List Event) (e : Event) → whole start n registers (events ++ e ∷ []) ≡ moved start (whole start n registers events) e (move_of n registers (whole start n registers events) e)
-one_more start n registers events e = run_parts start n registers events (e ∷ []) (empty_world n registers)

@@ -11,7 +11,7 @@ use Rattle.reg_process.specs.declared.steps.Reply.{Reply}
 use Rattle.reg_base.specs.Order.{Below, AtMost, below, at_most, In, Rising}
 use Rattle.reg_process.specs.Process.{State, Running, Own, Held, is_clear, is_own, clear_casts, casts_before, up_to_own, reply_after, reply_of, called, delivered_state, unsettled}
 use Rattle.reg_world.specs.Nodes.{running_op}
-use Rattle.reg_world.proofs.one_memory.Traced.{Called, Answered, Past, cast_of, Stands}
+use Rattle.reg_world.proofs.run.Traced.{Called, Answered, Past, cast_of, Stands}
 use Rattle.reg_base.proofs.Orders.{Decides-below, Decides-at_most, below_irrefl}
 use Rattle.reg_base.proofs.Lists.{in_left, in_right, in_cases, in_filter, filter_in, rising_filter, front_filter}
 use Rattle.reg_world.proofs.lists.Bodies.{place_first, place_split, place_within}

@@ -1,5 +1,5 @@
 -- The answers of a process: one to each call, at places that never fall.
-use Rattle.std.proofs.Common.{◌≡◌, ℕ, suc, ◌+◌, ◌-◌, ◌<◌, ◌≤◌, max, List, [], ◌∷◌, ◌++◌, length, Option, Some, None, refl, sym, ap, ◌∙◌, subst, inl, inr, arith}
+use Rattle.std.proofs.Common.{◌≡◌, ℕ, ◌+◌, ◌-◌, ◌<◌, ◌≤◌, max, List, ◌++◌, length, Option, Some, None, refl, sym, ap, ◌∙◌, subst, inl, inr, arith}
 use Rattle.std.specs.Prelude.{◌==◌, ◌&&◌, count_by}
 use Rattle.std.specs.List.{list_any}
 use Rattle.std.proofs.lemmas.Bool.{cond_both}
@@ -20,18 +20,19 @@ use Rattle.reg_world.specs.declared.events.Event.{Event}
 use Rattle.reg_base.specs.Order.{In, insert}
 use Rattle.reg_process.specs.Process.{State, Outcome, Running, Own, Held, is_own, stamp_at, cast_at, clear_casts, casts_before, up_to_own, reply_after, reply_of, still, called, taken, accepted, accepts, queues, cast_made, quiet, got_frames, peer_at, unsettled, step}
 use Rattle.reg_front.specs.Fronts.{KeepsLaws}
-use Rattle.reg_world.specs.Nodes.{Node, Nodes, put, step_of, op_in, after_step}
-use Rattle.reg_world.specs.NodeRuns.{nodes_after}
-use Rattle.reg_world.proofs.one_memory.Traced.{World, Called, Answered, Past, answered_in, past_after, pasts_after, world_after, run_world, empty_world, whole, AnswersInOrder}
+use Rattle.reg_world.specs.Nodes.{Node, Nodes, put, op_in, after_step}
+use Rattle.reg_world.specs.NodeParts.{nodes_after}
+use Rattle.reg_world.proofs.run.Traced.{Trace, Called, Answered, Past, answered_in, past_after, pasts_after, AnswersInOrder, traced}
 use Rattle.reg_base.proofs.Lists.{in_cases}
-use Rattle.reg_world.proofs.one_order.Worlds.{Inv}
 use Rattle.reg_world.proofs.one_order.Acts.{put_cases}
-use Rattle.reg_world.proofs.one_order.Runs.{StepKept, step_ok, inv_happens}
-use Rattle.reg_world.proofs.one_order.NodeLaws.{empty_inv}
-use Rattle.reg_world.proofs.one_order.Settled.{IsRunning, runs_after}
-use Rattle.reg_world.proofs.one_order.Wholes.{Replicas, replicas_after}
-use Rattle.reg_world.proofs.one_memory.History.{PastsOk, pasts_step}
+use Rattle.reg_world.proofs.one_order.Runs.{StepKept}
+use Rattle.reg_world.proofs.one_order.NodeLaws.{inv_of, run_ok}
+use Rattle.reg_world.proofs.one_order.Settled.{whole_runs}
+use Rattle.reg_world.proofs.one_order.Wholes.{Replicas, whole_replicas}
+use Rattle.reg_world.proofs.one_memory.History.{PastsOk, pasts_step, whole_pasts}
 use Rattle.reg_world.proofs.one_memory.Standing.{RunsAs, PastOk}
+use Rattle.reg_world.specs.World.{move_of, whole}
+use Rattle.reg_world.proofs.run.Along.{along}
 
 -- the calls that have their answer
 abbrev pub done_calls : State → Option Running → ℕ
@@ -167,10 +168,10 @@ places_step s deliveries deliveries' answers at op r count F O within =
       };
     }
 
-abbrev pub AllPlaces : ℕ → World → Type 0
+abbrev pub AllPlaces : ℕ → Trace → Type 0
 AllPlaces n w = (p : ℕ) → p < n → PlacesOk (w.nodes p).state (w.nodes p).deliveries (w.pasts p).answers
 
-all_places_step : (start : Op → ℕ → Start) (n registers k : ℕ) (w : World) (e : Event) (m : Option (ℕ × Step)) → StepKept start n registers k w.nodes m → Replicas n registers w.nodes → PastsOk n w → ((q : ℕ) → q < n → PastOk q (nodes_after start w.nodes m q).state (nodes_after start w.nodes m q).deliveries (pasts_after start w m q)) → AllPlaces n w → (q : ℕ) → q < n → PlacesOk (nodes_after start w.nodes m q).state (nodes_after start w.nodes m q).deliveries (pasts_after start w m q).answers
+all_places_step : (start : Op → ℕ → Start) (n registers k : ℕ) (w : Trace) (e : Event) (m : Option (ℕ × Step)) → StepKept start n registers k w.nodes m → Replicas n registers w.nodes → PastsOk n w → ((q : ℕ) → q < n → PastOk q (nodes_after start w.nodes m q).state (nodes_after start w.nodes m q).deliveries (pasts_after start w m q)) → AllPlaces n w → (q : ℕ) → q < n → PlacesOk (nodes_after start w.nodes m q).state (nodes_after start w.nodes m q).deliveries (pasts_after start w m q).answers
 all_places_step start n registers k w e None K R P P' A q l = A q l
 all_places_step start n registers k w e (Some m) K R P P' A q l =
     let x = w.nodes m.0 in
@@ -187,20 +188,17 @@ all_places_step start n registers k w e (Some m) K R P P' A q l =
     put_self : (nodes : Nodes) (pasts : ℕ → Past) (p : ℕ) (y : Node) (g : Past) → PastOk p (put nodes p y p).state (put nodes p y p).deliveries (put pasts p g p) → PastOk p y.state y.deliveries g
     put_self nodes pasts p y g h = subst (λ (z : Past). PastOk p y.state y.deliveries z) (put_same pasts p g p refl) (subst (λ (z : Node). PastOk p z.state z.deliveries (put pasts p g p)) (put_same nodes p y p refl) h)
 
-places_run : (start : Op → ℕ → Start) (n registers k : ℕ) (events : List Event) (w : World) → KeepsLaws start → Inv n registers k w.nodes → Replicas n registers w.nodes → ((p : ℕ) → IsRunning (w.nodes p)) → PastsOk n w → AllPlaces n w → AllPlaces n (run_world start n registers events w)
-places_run start n registers k [] w laws I R W P A = A
-places_run start n registers k (e ∷ es) w laws I R W P A =
-    let K = step_ok start n registers k w.nodes e I in
-    let m = step_of n registers w.nodes e in
-    let P' = pasts_step start n registers k w m laws I K R W P in
-    places_run start n registers (suc k) es (world_after start n registers w e) laws (inv_happens start n registers k w.nodes e I)
-    (replicas_after start n registers k w.nodes m laws K R) (runs_after start w.nodes m laws W) P' (all_places_step start n registers k w e m K R P (λ q l. (P' q l).0) A)
-
-pub all_places : (start : Op → ℕ → Start) (n registers : ℕ) (events : List Event) → KeepsLaws start → AllPlaces n (whole start n registers events)
+pub all_places : (start : Op → ℕ → Start) (n registers : ℕ) (events : List Event) → KeepsLaws start → AllPlaces n (traced start n registers events)
 all_places start n registers events laws =
-    places_run start n registers 0 events (empty_world n registers) laws (empty_inv n registers) (λ p l. record { copy = refl; count = refl; right = λ r h. absurd h }) (λ p. tt)
-    (λ p l. (record { count = refl; running = tt; casts = λ i d stamp h. absurd (let bad : ⊥ = cc in bad); rises = λ i j d e a b h. absurd (let bad : ⊥ = cc in bad); past = λ i d stamp h. absurd (let bad : ⊥ = cc in bad); answers = λ a h. absurd h }, λ a h. absurd h))
-    (λ p l. record { below = λ a h. absurd h; within = λ a h. absurd h; order = record { once = λ a b i. absurd i; places = λ a b i. absurd i } })
+    along start n registers (AllPlaces n) (λ p l. record { below = λ a h. absurd h; within = λ a h. absurd h; order = record { once = λ a b i. absurd i; places = λ a b i. absurd i } })
+    (λ es e A.
+    let v = traced start n registers es in
+    let m = move_of n registers (whole start n registers es) e in
+    let K = run_ok start n registers es e in
+    let R = whole_replicas start n registers es laws in
+    let P = whole_pasts start n registers es laws in
+    all_places_step start n registers v.count v e m K R P (λ q l. (pasts_step start n registers v.count v m laws (inv_of start n registers es) K R (whole_runs start n registers es laws) P q l).0) A)
+    events
 
-pub answers_in_order : (start : Op → ℕ → Start) (n registers : ℕ) (events : List Event) → KeepsLaws start → (p : ℕ) → p < n → AnswersInOrder ((whole start n registers events).pasts p).answers
+pub answers_in_order : (start : Op → ℕ → Start) (n registers : ℕ) (events : List Event) → KeepsLaws start → (p : ℕ) → p < n → AnswersInOrder ((traced start n registers events).pasts p).answers
 answers_in_order start n registers events laws p l = (all_places start n registers events laws p l).order

@@ -25,19 +25,18 @@ use Rattle.reg_process.specs.Delivery.{first_of}
 use Rattle.reg_process.specs.Faults.{full_at, early_fault, call_fault, is_out, early_body, full_by, body_fault, frame_fault, take_fault, step_fault}
 use Rattle.reg_world.specs.declared.events.Event.{Event}
 use Rattle.reg_world.specs.declared.events.Event.TheVariants.{Call, Take, Tick}
-use Rattle.reg_world.specs.Nodes.{Nodes, step_of, take_step}
+use Rattle.reg_world.specs.Nodes.{step_of, take_step}
 use Rattle.reg_world.specs.Laws.{IsAhead, IsStale, IsFull, names_register}
 use Rattle.reg_world.specs.World.{World, move_of, whole}
 use Rattle.reg_world.specs.Stations.{MayAct}
 use Rattle.reg_world.specs.WorldParts.{standing_of}
 use Rattle.reg_world.proofs.lists.Bodies.{place_in}
-use Rattle.reg_world.proofs.one_order.Wholes.{whole_inv, whole_replicas}
+use Rattle.reg_world.proofs.one_order.Wholes.{whole_replicas}
 use Rattle.reg_world.proofs.one_order.Allowed.{Allowed, allowed}
 use Rattle.reg_world.proofs.code.Sending.{length-listed}
 use Rattle.reg_world.proofs.code.Found.{differ_false}
-use Rattle.reg_world.proofs.one_memory.Kept.{move_is}
-use Rattle.reg_world.proofs.witness.Promised.{none_refused}
-use Rattle.reg_world.proofs.witness.Premises.{V, K}
+use Rattle.reg_world.proofs.run.Along.{move_is}
+use Rattle.reg_world.proofs.one_order.NodeLaws.{inv_of, no_refusal}
 
 length-memory : (ops : List Op) (m : Memory) → length (memory_after ops m) ≡ length m
 length-memory [] m = refl
@@ -102,15 +101,13 @@ module _ (start : Op → ℕ → Start) (n registers : ℕ) (laws : KeepsLaws st
 
   pub sound : (p : ℕ) → p < n → Sound n registers p (w.nodes p).state
   sound p l =
-      let v = V start n registers laws events in
-      let same : v.nodes ≡ w.nodes = sym (K start n registers laws events).nodes in
-      let L = (whole_inv start n registers w.accepted).inv.local p l in
-      let R = whole_replicas start n registers w.accepted laws p l in
-      subst (λ (z : Nodes). Sound n registers p (z p).state) same (record {
+      let L = (inv_of start n registers events).local p l in
+      let R = whole_replicas start n registers events laws p l in
+      record {
         me = L.me;
         size = L.size;
-        copy = ap length R.copy ∙ (length-memory (ops_of (v.nodes p).deliveries) (replicate registers 0) ∙ length-replicate registers 0);
-      })
+        copy = ap length R.copy ∙ (length-memory (ops_of (w.nodes p).deliveries) (replicate registers 0) ∙ length-replicate registers 0);
+      }
 
   no_step_fault : (e : Event) (p : ℕ) (st : Step) → step_of n registers w.nodes e ≡ Some (p, st) → step_fault start (w.nodes p).state st ≡ None
   no_step_fault (Call q op) p st e =
@@ -123,7 +120,7 @@ module _ (start : Op → ℕ → Start) (n registers : ℕ) (laws : KeepsLaws st
       let l = ltb-true q n a.0 in
       let S = sound q l in
       let s = (w.nodes q).state in
-      let fits = (none_refused start n registers laws events).call_fits q l in
+      let fits = (no_refusal start n registers events).call_fits q l in
       let early = no_early s op s.running (idle s.running b.0) (let x = ltb-true (register_of op) registers c.0 in let y = S.copy in omega (arith, x, y)) (ltb-true s.calls MOST_OPERATIONS c.1) in
       let none : call_fault start s op ≡ None = ap (λ o. first_of o (full_at s.clock (start op (unsettled s)))) early ∙ no_full s.clock (start op (unsettled s)) fits in
       subst (λ (z : ℕ × Step). step_fault start (w.nodes z.0).state z.1 ≡ None) same none)
@@ -142,7 +139,7 @@ module _ (start : Op → ℕ → Start) (n registers : ℕ) (laws : KeepsLaws st
       let lf = ltb-true from n a.0 in
       let lt = ltb-true to n b.0 in
       let ne = λ (q : from ≡ to). apart from to b.1 q in
-      let N = none_refused start n registers laws events in
+      let N = no_refusal start n registers events in
       let here = place_in ((w.nodes from).wire to) number told.0 told.1 in
       let s = (w.nodes to).state in
       let frame = no_frame n registers to from s told.0 (sound to lt) (λ i body q. N.in_range from to i body lf lt ne (subst (λ z. In z ((w.nodes from).wire to)) q here)) (N.not_ahead from to told.0 lf lt ne here) (N.not_stale from to told.0 lf lt ne here) (N.not_full from to told.0 lf lt ne here) in

@@ -1,5 +1,5 @@
 -- What an accepted event keeps, and that what doesn't run is answered.
-use Rattle.std.proofs.Common.{◌≡◌, ℕ, ◌+◌, ◌-◌, ◌<◌, ◌≤◌, ◌⊎◌, max, List, [], ◌∷◌, Option, Some, None, refl, sym, ap, ◌∙◌, inl, inr, arith}
+use Rattle.std.proofs.Common.{◌≡◌, ℕ, ◌+◌, ◌-◌, ◌<◌, ◌≤◌, ◌⊎◌, max, List, Option, Some, None, refl, sym, ap, ◌∙◌, inl, inr, arith}
 use Rattle.reg_base.specs.declared.limits.TheConstants.{MOST_OPERATIONS}
 use Rattle.std.specs.Prelude.{◌==◌, ◌&&◌, not, nat_lt, slice_get}
 use Rattle.std.specs.Option.{is_some}
@@ -21,11 +21,13 @@ use Rattle.reg_process.specs.Process.{State, Outcome, Running, Own, stamp_at, ca
 use Rattle.reg_world.specs.declared.events.Event.{Event}
 use Rattle.reg_world.specs.declared.events.Event.TheVariants.{Call, Take, Tick}
 use Rattle.reg_world.specs.Nodes.{Node, Nodes, put, take_step, step_of, after_step, op_in}
-use Rattle.reg_world.specs.NodeRuns.{nodes_after}
-use Rattle.reg_world.proofs.one_memory.Traced.{Answered, Past, World, answered_in, past_after, pasts_after, world_after, run_world, empty_world, whole}
+use Rattle.reg_world.specs.NodeParts.{nodes_after}
+use Rattle.reg_world.proofs.run.Traced.{Answered, Past, Trace, answered_in, past_after, pasts_after, traced}
 use Rattle.reg_base.proofs.Lists.{in_left, in_right}
 use Rattle.reg_world.proofs.one_order.Acts.{put_cases}
 use Rattle.reg_world.proofs.one_memory.Turns.{done_calls}
+use Rattle.reg_world.specs.World.{move_of, whole}
+use Rattle.reg_world.proofs.run.Along.{along, moves}
 
 abbrev pub StepAllowed : ℕ → State → Step → Type 0
 StepAllowed registers s (CallStep op) = (s.running ≡ None) × (register_of op < registers) × (s.calls < MOST_OPERATIONS)
@@ -155,14 +157,14 @@ step_answers start registers s (TakeStep a f) h = taken_answers s a f
 step_answers start registers s TickStep h = quiet_answers s s (step start s TickStep) refl refl refl
 
 -- each call that is done has its answer
-abbrev pub AllAnswered : ℕ → World → Type 0
+abbrev pub AllAnswered : ℕ → Trace → Type 0
 AllAnswered n w = (p number : ℕ) → p < n → number < done_calls (w.nodes p).state (w.nodes p).state.running → (a : Answered) × In a (w.pasts p).answers × (a.number ≡ number)
 
 reply_answered : (at number : ℕ) (op : Op) (o : Option Reply) (y : Reply) → o ≡ Some y → (a : Answered) × In a (answered_in at number op o) × (a.number ≡ number)
 reply_answered at number op None y e = absurd (let bad : ⊥ = cc in bad)
 reply_answered at number op (Some r) y e = (record { number = number; at = at; op = op; reply = r }, inl refl, refl)
 
-pub answered_after : (start : Op → ℕ → Start) (n registers : ℕ) (w : World) (m : Option (ℕ × Step)) → Allowed n registers w.nodes m → AllAnswered n w → (q number : ℕ) → q < n → number < done_calls (nodes_after start w.nodes m q).state (nodes_after start w.nodes m q).state.running → (a : Answered) × In a (pasts_after start w m q).answers × (a.number ≡ number)
+pub answered_after : (start : Op → ℕ → Start) (n registers : ℕ) (w : Trace) (m : Option (ℕ × Step)) → Allowed n registers w.nodes m → AllAnswered n w → (q number : ℕ) → q < n → number < done_calls (nodes_after start w.nodes m q).state (nodes_after start w.nodes m q).state.running → (a : Answered) × In a (pasts_after start w m q).answers × (a.number ≡ number)
 answered_after start n registers w None K A q number l h = A q number l h
 answered_after start n registers w (Some m) K A q number l h =
     let x = w.nodes m.0 in
@@ -181,9 +183,7 @@ answered_after start n registers w (Some m) K A q number l h =
     (λ ne b. put_cases (λ (g : Past). (a : Answered) × In a g.answers × (a.number ≡ number)) w.pasts m.0 h' q (λ e. absurd (ne e)) (λ _. A q number l b))
     h
 
-answered_run : (start : Op → ℕ → Start) (n registers : ℕ) (events : List Event) (w : World) → AllAnswered n w → AllAnswered n (run_world start n registers events w)
-answered_run start n registers [] w A = A
-answered_run start n registers (e ∷ es) w A = answered_run start n registers es (world_after start n registers w e) (answered_after start n registers w (step_of n registers w.nodes e) (allowed n registers w.nodes e) A)
-
-pub all_answered : (start : Op → ℕ → Start) (n registers : ℕ) (events : List Event) → AllAnswered n (whole start n registers events)
-all_answered start n registers events = answered_run start n registers events (empty_world n registers) (λ p number l h. absurd (omega (arith, h)))
+pub all_answered : (start : Op → ℕ → Start) (n registers : ℕ) (events : List Event) → AllAnswered n (traced start n registers events)
+all_answered start n registers =
+    along start n registers (AllAnswered n) (λ p number l h. absurd (omega (arith, h)))
+    (λ es e h. let w = whole start n registers es in answered_after start n registers (traced start n registers es) (move_of n registers w e) (moves n registers w e (Allowed n registers w.nodes) (allowed n registers w.nodes e) tt) h)

@@ -1,5 +1,5 @@
 -- Each cast that a process knows of another is followed by a later body of its own.
-use Rattle.std.proofs.Common.{◌≡◌, ℕ, suc, ◌+◌, ◌<◌, ◌≤◌, ◌⊎◌, max, List, [], ◌∷◌, ◌++◌, length, Option, Some, None, refl, sym, ap, ◌∙◌, subst, inl, inr, arith, length-drop}
+use Rattle.std.proofs.Common.{◌≡◌, ℕ, ◌+◌, ◌<◌, ◌≤◌, ◌⊎◌, max, List, [], ◌∷◌, ◌++◌, length, Option, Some, None, refl, sym, ap, ◌∙◌, subst, inl, inr, arith, length-drop}
 use Rattle.std.specs.Prelude.{slice_get, ◌==◌}
 use Rattle.std.proofs.lemmas.Bool.{cond_both, cases_eq}
 use Rattle.std.proofs.lemmas.List.{append-nil}
@@ -16,18 +16,18 @@ use Rattle.reg_process.specs.declared.steps.Step.TheVariants.{Call, Take, Tick}
 use Rattle.reg_world.specs.declared.events.Event.{Event}
 use Rattle.reg_base.specs.Order.{AtMost, In, insert}
 use Rattle.reg_process.specs.Process.{State, Running, Own, Held, peer_at, seen_at, stamp_at, cast_at, time_of, clear_casts, delivered_state, called, taken, accepted, accepts, acknowledged, queues, cast_made, quiet, got_frames, unsettled}
-use Rattle.reg_world.specs.Nodes.{Node, Nodes, running_op, after_result, after_step, step_of}
-use Rattle.reg_world.specs.NodeRuns.{nodes_after, NothingPending}
-use Rattle.reg_world.proofs.one_memory.Traced.{World, world_after, run_world, empty_world, whole}
+use Rattle.reg_world.specs.Nodes.{Node, Nodes, running_op, after_result, after_step}
+use Rattle.reg_world.specs.NodeParts.{nodes_after, NothingPending}
 use Rattle.reg_world.specs.Laws.{DeliveriesFull}
 use Rattle.reg_base.proofs.Lists.{in_left, in_right, in_cases, in_insert}
 use Rattle.reg_world.proofs.lists.Bodies.{place_first, place_last, place_within}
 use Rattle.reg_world.proofs.one_order.Local.{delivery_adds_none}
 use Rattle.reg_world.proofs.one_order.Worlds.{Inv, count_other, clear_is_delivered}
 use Rattle.reg_world.proofs.one_order.Acts.{put_cases}
-use Rattle.reg_world.proofs.one_order.Runs.{StepKept, step_ok, inv_happens}
-use Rattle.reg_world.proofs.one_order.NodeLaws.{empty_inv}
-use Rattle.reg_world.proofs.one_order.Wholes.{whole_inv}
+use Rattle.reg_world.proofs.one_order.Runs.{StepKept}
+use Rattle.reg_world.proofs.one_order.NodeLaws.{inv_of, run_ok}
+use Rattle.reg_world.specs.World.{move_of, whole}
+use Rattle.reg_world.proofs.run.Along.{along}
 
 abbrev pub Later : List Body → ℕ → Type 0
 Later queued t = (j : ℕ) × (b : Body) × (slice_get queued j ≡ Some b) × (t < time_of b)
@@ -100,12 +100,6 @@ answered_after start n registers k w (Some m) I K A = λ q l.
     (λ e. subst (λ r. IsAnswered r (after_step start (w m.0) m.1)) (sym e) (step_answered m.0 (w m.0) (I.local m.0 K.0).me (A m.0 K.0) start m.1))
     (λ _. A q l)
 
-answered_run : (start : Op → ℕ → Start) (n registers k : ℕ) (events : List Event) (w : World) → Inv n registers k w.nodes → AllAnswered n w.nodes → AllAnswered n (run_world start n registers events w).nodes
-answered_run start n registers k [] w I A = A
-answered_run start n registers k (e ∷ es) w I A =
-    answered_run start n registers (suc k) es (world_after start n registers w e) (inv_happens start n registers k w.nodes e I)
-    (answered_after start n registers k w.nodes (step_of n registers w.nodes e) I (step_ok start n registers k w.nodes e I) A)
-
 -- where nothing is pending, all was accepted
 all_accepted : (n registers k : ℕ) (w : Nodes) → Inv n registers k w → NothingPending n w → (a b : ℕ) → a < n → b < n → (a ≡ b → ⊥) → (peer_at (w b).state a).expected ≡ length (w a).queued
 all_accepted n registers k w I none a b la lb ne =
@@ -142,8 +136,10 @@ deliveries_full n registers k w I A none q c l m =
           inl (let z = b.3 in omega (arith, z, old))
     ])
 
-pub all_delivered : (start : Op → ℕ → Start) (n registers : ℕ) (events : List Event) → NothingPending n (whole start n registers events).nodes → DeliveriesFull n (whole start n registers events).nodes
+pub all_delivered : (start : Op → ℕ → Start) (n registers : ℕ) (events : List Event) → let w = (whole start n registers events).nodes in NothingPending n w → DeliveriesFull n w
 all_delivered start n registers events none =
-    let w = (whole start n registers events).nodes in
-    deliveries_full n registers (length events + 0) w (whole_inv start n registers events).inv
-    (answered_run start n registers 0 events (empty_world n registers) (empty_inv n registers) (λ p l. record { later = λ c h. absurd h })) none
+    let w = whole start n registers events in
+    deliveries_full n registers (length w.accepted) w.nodes (inv_of start n registers events)
+    (along start n registers (λ v. AllAnswered n v.nodes) (λ p l. record { later = λ c h. absurd h })
+    (λ es e h. let x = whole start n registers es in answered_after start n registers (length x.accepted) x.nodes (move_of n registers x e) (inv_of start n registers es) (run_ok start n registers es e) h)
+    events) none

@@ -9,12 +9,11 @@ use Rattle.reg_base.specs.declared.memory.Op.{Op}
 use Rattle.reg_base.specs.declared.stamps.Delivered.{Delivered}
 use Rattle.reg_front.specs.declared.starts.Start.{Start}
 use Rattle.reg_process.specs.declared.steps.Step.{Step}
-use Rattle.reg_world.specs.declared.events.Event.{Event}
 use Rattle.reg_base.specs.Order.{Below, In, Rising, IsPrefixOf}
 use Rattle.reg_process.specs.Process.{step}
-use Rattle.reg_world.specs.Nodes.{Node, Nodes, put, after_step, step_of, unseen}
-use Rattle.reg_world.specs.NodeRuns.{nodes_after}
-use Rattle.reg_world.proofs.one_memory.Traced.{World, First, casts_of, firsts, order_after, world_after}
+use Rattle.reg_world.specs.Nodes.{Node, Nodes, put, after_step, unseen}
+use Rattle.reg_world.specs.NodeParts.{nodes_after}
+use Rattle.reg_world.proofs.run.Traced.{Trace, First, casts_of, firsts, order_after}
 use Rattle.reg_world.specs.Laws.{IsMade}
 use Rattle.reg_base.proofs.Orders.{same_stamp, below_irrefl}
 use Rattle.reg_base.proofs.Lists.{in_left, in_right, in_cases, in_filter, filter_in, rising_filter, rising_append, Closed, prefixes}
@@ -22,7 +21,7 @@ use Rattle.reg_process.proofs.Peers.{clear_below}
 use Rattle.reg_world.proofs.one_order.Worlds.{Inv, made_once, delivered_made, undelivered_above, clear_is_delivered}
 use Rattle.reg_world.proofs.one_order.Acts.{put_cases, inv_act}
 use Rattle.reg_world.proofs.one_order.NodeEvents.{put_same, put_other}
-use Rattle.reg_world.proofs.one_order.Runs.{StepKept, step_ok, inv_happens}
+use Rattle.reg_world.proofs.one_order.Runs.{StepKept}
 
 same_test : Delivered → Delivered → Bool
 same_test c d = (d.stamp.time == c.stamp.time) && (d.stamp.process == c.stamp.process)
@@ -108,25 +107,20 @@ casts_firsts k [] [] = refl
 casts_firsts k [] (c ∷ cs) = ap (λ l. c ∷ l) (casts_firsts k [] cs)
 casts_firsts k (f ∷ order) cs = ap (λ l. f.cast ∷ l) (casts_firsts k order cs)
 
-pub ordered_after : (start : Op → ℕ → Start) (n registers k : ℕ) (w : World) (m : Option (ℕ × Step)) → Inv n registers k w.nodes → StepKept start n registers k w.nodes m → Ordered n w.nodes (casts_of w.order) → Ordered n (nodes_after start w.nodes m) (casts_of (order_after start w m))
+pub ordered_after : (start : Op → ℕ → Start) (n registers k : ℕ) (w : Trace) (m : Option (ℕ × Step)) → Inv n registers k w.nodes → StepKept start n registers k w.nodes m → Ordered n w.nodes (casts_of w.order) → Ordered n (nodes_after start w.nodes m) (casts_of (order_after start w m))
 ordered_after start n registers k w None I K O = O
 ordered_after start n registers k w (Some m) I K O =
     let ds = (step start (w.nodes m.0).state m.1).1.delivered in
     subst (Ordered n (nodes_after start w.nodes (Some m))) (sym (casts_firsts w.count w.order (unseen (casts_of w.order) ds)))
     (ordered_acts n registers k w.nodes m.0 (after_step start (w.nodes m.0) m.1) ds (casts_of w.order) K.0 I (inv_act n registers k m.0 w.nodes _ K.0 I K.1) refl O)
 
-pub record WorldInv (n registers k : ℕ) (w : World) : Type 0 where
+-- of a run so far: k bounds its clocks
+pub record WorldInv (n registers k : ℕ) (w : Trace) : Type 0 where
   pub inv : Inv n registers k w.nodes
   pub ordered : Ordered n w.nodes (casts_of w.order)
 
-pub world_happens : (start : Op → ℕ → Start) (n registers k : ℕ) (w : World) (e : Event) → WorldInv n registers k w → WorldInv n registers (suc k) (world_after start n registers w e)
-world_happens start n registers k w e W = record {
-  inv = inv_happens start n registers k w.nodes e W.inv;
-  ordered = ordered_after start n registers k w (step_of n registers w.nodes e) W.inv (step_ok start n registers k w.nodes e W.inv) W.ordered;
-}
-
 -- the casts of one of two rising lists with the same members
-pub deliveries_prefix : (n registers k : ℕ) (w : World) → WorldInv n registers k w → (q : ℕ) → q < n → IsPrefixOf (w.nodes q).deliveries (casts_of w.order)
+pub deliveries_prefix : (n registers k : ℕ) (w : Trace) → WorldInv n registers k w → (q : ℕ) → q < n → IsPrefixOf (w.nodes q).deliveries (casts_of w.order)
 deliveries_prefix n registers k w W q l =
     let I = W.inv in
     let O = W.ordered in

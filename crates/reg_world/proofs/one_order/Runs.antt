@@ -1,5 +1,5 @@
 -- Every event of a run keeps what holds of all nodes.
-use Rattle.std.proofs.Common.{◌≡◌, ℕ, suc, ◌+◌, ◌-◌, ◌<◌, ◌≤◌, max, [], length, take, drop, Option, Some, None, refl, sym, ap, ◌∙◌, subst, inl, inr, arith}
+use Rattle.std.proofs.Common.{◌≡◌, ℕ, ◌+◌, ◌-◌, ◌<◌, ◌≤◌, max, [], length, take, drop, Option, Some, None, refl, sym, ap, ◌∙◌, subst, inl, inr, arith}
 use Rattle.reg_base.specs.declared.limits.TheConstants.{MOST_OPERATIONS, MOST_RESENT}
 use Rattle.std.specs.Prelude.{slice_get, ◌==◌, nat_lt, not, ◌&&◌}
 use Rattle.std.proofs.lemmas.Bool.{cases_eq, cond_both, eqb-true, eqb-false, ltb-true, and_parts, not-true}
@@ -12,9 +12,8 @@ use Rattle.reg_frames.specs.declared.bodies.Frame.TheVariants.{Numbered, Got}
 use Rattle.reg_base.specs.Order.{In}
 use Rattle.reg_process.specs.Process.{State, Peer, no_peer, peer_at, seen_at, stamp_at, got_frames, numbered_from, Own, Held, called, taken, accepted, acknowledged, resent, quiet, no_frames}
 use Rattle.reg_world.specs.Nodes.{Nodes, op_in, after_result, after_step, take_step, step_of}
-use Rattle.reg_world.specs.NodeRuns.{nodes_after, happens}
 use Rattle.reg_world.proofs.one_order.Worlds.{Inv}
-use Rattle.reg_world.proofs.one_order.Acts.{Kept, inv_act}
+use Rattle.reg_world.proofs.one_order.Acts.{Kept}
 use Rattle.reg_world.proofs.one_order.Frames.{got_no_numbered, got_count, numbered_in, numbered_no_got, place_take, place_drop}
 use Rattle.std.specs.Option.{is_some}
 use Rattle.reg_front.specs.declared.starts.Start.{Start}
@@ -110,9 +109,6 @@ module _ (n registers k : ℕ) (w : Nodes) (I : Inv n registers k w) (p : ℕ) (
       (λ r lr nr c m. let z = got_count a _ r c m in let v = ap (λ r. (peer_at (w p).state r).expected) z.1 in let u = z.0 in omega (arith, u, v)))
   taken_kept op a la ne (Got count) h = got_kept op a la ne count ((I.link p a l la (λ q. ne (sym q))).counts count h)
 
-pub inv_later : (n registers k : ℕ) (w : Nodes) → Inv n registers k w → Inv n registers (suc k) w
-inv_later n registers k w I = record { local = I.local; sent = I.sent; link = I.link; known = I.known; clocks = λ p l. let z = I.clocks p l in omega (arith, z) }
-
 -- what a step of an accepted event owes
 abbrev pub StepKept : (Op → ℕ → Start) → ℕ → ℕ → ℕ → Nodes → Option (ℕ × Step) → Type 0
 StepKept start n registers k w None = Unit {0}
@@ -143,10 +139,3 @@ step_ok start n registers k w (Tick p) I =
     cond_both (nat_lt p n) (Some (p, TickStep)) None (StepKept start n registers k w)
     (λ e. let l = ltb-true p n e in (l, tick_kept n registers k w I p l (op_in (w p).state TickStep)))
     (λ e. tt)
-
-after_ok : (start : Op → ℕ → Start) (n registers k : ℕ) (w : Nodes) (m : Option (ℕ × Step)) → Inv n registers k w → StepKept start n registers k w m → Inv n registers (suc k) (nodes_after start w m)
-after_ok start n registers k w None I K = inv_later n registers k w I
-after_ok start n registers k w (Some m) I K = inv_act n registers k m.0 w _ K.0 I K.1
-
-pub inv_happens : (start : Op → ℕ → Start) (n registers k : ℕ) (w : Nodes) (e : Event) → Inv n registers k w → Inv n registers (suc k) (happens start n registers w e)
-inv_happens start n registers k w e I = after_ok start n registers k w (step_of n registers w e) I (step_ok start n registers k w e I)

@@ -20,19 +20,21 @@ use Rattle.reg_base.specs.Order.{below, In, Rising, insert}
 use Rattle.reg_base.specs.Memory.{memory_after}
 use Rattle.reg_process.specs.Process.{Peer, no_peer, pending_of, State, Running, Own, Held, is_clear, is_own, peer_at, stamp_at, cast_at, clear_casts, casts_before, up_to_own, reply_after, reply_of, still, delivered_state, called, taken, accepted, accepts, queues, cast_made, quiet, got_frames, unsettled, ops_of}
 use Rattle.reg_front.specs.Fronts.{MayStart, KeepsLaws}
-use Rattle.reg_world.specs.Nodes.{Node, Nodes, after_step, step_of}
-use Rattle.reg_world.specs.NodeRuns.{nodes_after, NothingPending}
-use Rattle.reg_world.proofs.one_memory.Traced.{World, world_after, run_world, empty_world, whole}
-use Rattle.reg_world.specs.Laws.{IsQuiescent}
+use Rattle.reg_world.specs.Nodes.{Node, Nodes, after_step}
+use Rattle.reg_world.specs.NodeParts.{nodes_after, NothingPending}
+use Rattle.reg_world.specs.Laws.{DeliveriesFull, IsQuiescent}
 use Rattle.reg_base.proofs.Orders.{below_irrefl}
 use Rattle.reg_base.proofs.Lists.{in_right, filter_in, insert_new, insert_old}
 use Rattle.reg_world.proofs.one_order.Local.{held_above}
-use Rattle.reg_world.proofs.one_order.Worlds.{held_made, delivered_made, one_order}
+use Rattle.reg_world.proofs.one_order.Worlds.{Inv, held_made, delivered_made, one_order}
 use Rattle.reg_world.proofs.one_order.Acts.{put_cases}
 use Rattle.reg_world.proofs.one_order.Firsts.{rising_cut}
 use Rattle.reg_world.proofs.one_memory.Replicas.{any_finds}
-use Rattle.reg_world.proofs.one_order.Wholes.{whole_inv, whole_replicas}
+use Rattle.reg_world.proofs.one_order.Wholes.{whole_replicas}
 use Rattle.reg_world.proofs.one_order.Answered.{all_delivered}
+use Rattle.reg_world.specs.World.{move_of, whole}
+use Rattle.reg_world.proofs.one_order.NodeLaws.{inv_of}
+use Rattle.reg_world.proofs.run.Along.{along}
 
 -- what runs has its cast among the held, or waits for one
 abbrev pub Runs : State → Option Running → Type 0
@@ -120,9 +122,10 @@ pub runs_after : (start : Op → ℕ → Start) (w : Nodes) (m : Option (ℕ × 
 runs_after start w None laws R = R
 runs_after start w (Some m) laws R = λ q. put_cases IsRunning w m.0 (after_step start (w m.0) m.1) q (λ _. step_runs (w m.0) (R m.0) start m.1 laws) (λ _. R q)
 
-runs_run : (start : Op → ℕ → Start) (n registers : ℕ) (events : List Event) (w : World) → KeepsLaws start → ((p : ℕ) → IsRunning (w.nodes p)) → (p : ℕ) → IsRunning ((run_world start n registers events w).nodes p)
-runs_run start n registers [] w laws R = R
-runs_run start n registers (e ∷ es) w laws R = runs_run start n registers es (world_after start n registers w e) laws (runs_after start w.nodes (step_of n registers w.nodes e) laws R)
+pub whole_runs : (start : Op → ℕ → Start) (n registers : ℕ) (events : List Event) → KeepsLaws start → (p : ℕ) → IsRunning ((whole start n registers events).nodes p)
+whole_runs start n registers events laws =
+    along start n registers (λ v. (p : ℕ) → IsRunning (v.nodes p)) (λ p. tt)
+    (λ es e h. let w = whole start n registers es in runs_after start w.nodes (move_of n registers w e) laws h) events
 
 none_in : (xs : List Delivered) → ((c : Delivered) → In c xs → ⊥) → xs ≡ []
 none_in [] h = refl
@@ -138,36 +141,38 @@ same_deliveries xs ys [] r e h = sym (append-nil xs) ∙ e
 same_deliveries xs ys (z ∷ rest) r e h =
     absurd (below_irrefl z.stamp (rising_cut xs (z ∷ rest) z z (subst Rising (sym e) r) (h z (subst (In z) e (in_right z xs (z ∷ rest) (inl refl)))) (inl refl)))
 
-pub settled : (start : Op → ℕ → Start) (n registers : ℕ) (events : List Event) → KeepsLaws start → NothingPending n (whole start n registers events).nodes → (p : ℕ) → p < n → ((whole start n registers events).nodes p).state.running ≡ None
-settled start n registers events laws none p l =
-    let w = (whole start n registers events).nodes in
-    let I = (whole_inv start n registers events).inv in
-    let full = all_delivered start n registers events none in
-    let empty_held : (w p).state.held ≡ [] = none_in (w p).state.held (λ c h.
-    let f = full p c l (held_made n registers (length events + 0) w I p l c h) in
-    below_irrefl c.stamp (held_above n p (w p).state (w p).deliveries (I.local p l) c c f h)) in
-    not_running (w p).state (w p).state.running (runs_run start n registers events (empty_world n registers) laws (λ q. tt) p) empty_held
+module _ (start : Op → ℕ → Start) (n registers : ℕ) (events : List Event) (laws : KeepsLaws start) (none : NothingPending n (whole start n registers events).nodes) where
+  abbrev w : Nodes
+  w = (whole start n registers events).nodes
 
-pub copies_equal : (start : Op → ℕ → Start) (n registers : ℕ) (events : List Event) → KeepsLaws start → NothingPending n (whole start n registers events).nodes → (p q : ℕ) → p < n → q < n → ((whole start n registers events).nodes p).state.copy ≡ ((whole start n registers events).nodes q).state.copy
-copies_equal start n registers events laws none p q l m =
-    let w = (whole start n registers events).nodes in
-    let k = length events + 0 in
-    let I = (whole_inv start n registers events).inv in
-    let full = all_delivered start n registers events none in
-    let into : (a b : ℕ) → a < n → b < n → (c : Delivered) → In c (w a).deliveries → In c (w b).deliveries = λ a b la lb c h. full b c lb (delivered_made n registers k w I a la c h) in
-    let same : (w p).deliveries ≡ (w q).deliveries = elim (one_order n registers k w I p q l m) [
-      | inl h ↦ same_deliveries (w p).deliveries (w q).deliveries h.0 (I.local q m).deliveries_rise h.1 (into q p m l)
-      | inr h ↦ sym (same_deliveries (w q).deliveries (w p).deliveries h.0 (I.local p l).deliveries_rise h.1 (into p q l m))
-    ] in
-    let R = whole_replicas start n registers events laws in
-    (R p l).copy ∙ (ap (λ f. memory_after (ops_of f) (replicate registers 0)) same ∙ sym (R q m).copy)
+  abbrev k : ℕ
+  k = length (whole start n registers events).accepted
 
-pub quiescent : (start : Op → ℕ → Start) (n registers : ℕ) (events : List Event) → KeepsLaws start → NothingPending n (whole start n registers events).nodes → IsQuiescent n (whole start n registers events).nodes
-quiescent start n registers events laws none = record {
-  full = all_delivered start n registers events none;
-  idle = settled start n registers events laws none;
-  equal = copies_equal start n registers events laws none;
-}
+  I : Inv n registers k w
+  I = inv_of start n registers events
+
+  full : DeliveriesFull n w
+  full = all_delivered start n registers events none
+
+  settled : (p : ℕ) → p < n → (w p).state.running ≡ None
+  settled p l =
+      let empty_held : (w p).state.held ≡ [] = none_in (w p).state.held (λ c h.
+      let f = full p c l (held_made n registers k w I p l c h) in
+      below_irrefl c.stamp (held_above n p (w p).state (w p).deliveries (I.local p l) c c f h)) in
+      not_running (w p).state (w p).state.running (whole_runs start n registers events laws p) empty_held
+
+  copies_equal : (p q : ℕ) → p < n → q < n → (w p).state.copy ≡ (w q).state.copy
+  copies_equal p q l m =
+      let into : (a b : ℕ) → a < n → b < n → (c : Delivered) → In c (w a).deliveries → In c (w b).deliveries = λ a b la lb c h. full b c lb (delivered_made n registers k w I a la c h) in
+      let same : (w p).deliveries ≡ (w q).deliveries = elim (one_order n registers k w I p q l m) [
+        | inl h ↦ same_deliveries (w p).deliveries (w q).deliveries h.0 (I.local q m).deliveries_rise h.1 (into q p m l)
+        | inr h ↦ sym (same_deliveries (w q).deliveries (w p).deliveries h.0 (I.local p l).deliveries_rise h.1 (into p q l m))
+      ] in
+      let R = whole_replicas start n registers events laws in
+      (R p l).copy ∙ (ap (λ f. memory_after (ops_of f) (replicate registers 0)) same ∙ sym (R q m).copy)
+
+  pub quiescent : IsQuiescent n w
+  quiescent = record { full = full; idle = settled; equal = copies_equal }
 
 -- no pending frames over all links, so none on one
 pub none_on_link : (peers : List Peer) (q : ℕ) → pending_of peers ≡ 0 → (slice_index_or peers q no_peer).pending ≡ []

@@ -1,5 +1,5 @@
 -- The laws of a run's order and replies.
-use Rattle.std.proofs.Common.{◌≡◌, ℕ, suc, ◌+◌, ◌<◌, ◌⊎◌, List, [], ◌∷◌, ◌++◌, length, Option, Some, None, refl, sym, ◌∙◌, subst, inl, inr, arith}
+use Rattle.std.proofs.Common.{◌≡◌, ℕ, ◌<◌, ◌⊎◌, List, [], ◌∷◌, ◌++◌, length, Option, Some, None, refl, sym, ◌∙◌, subst, inl, inr}
 use Rattle.reg_base.specs.declared.memory.Op.{Op}
 use Rattle.reg_base.specs.declared.stamps.Delivered.{Delivered}
 use Rattle.reg_front.specs.declared.starts.Start.{Start}
@@ -7,17 +7,18 @@ use Rattle.reg_process.specs.declared.steps.Step.{Step}
 use Rattle.reg_world.specs.declared.events.Event.{Event}
 use Rattle.reg_base.specs.Order.{Below, In, Rising}
 use Rattle.reg_front.specs.Fronts.{KeepsLaws}
-use Rattle.reg_world.specs.Nodes.{Nodes, after_step, step_of}
-use Rattle.reg_world.specs.NodeRuns.{nodes_after, run}
-use Rattle.reg_world.proofs.one_memory.Traced.{World, casts_of, world_after, run_world, empty_world, whole, OrderIsLongest, RepliesRight}
+use Rattle.reg_world.specs.Nodes.{Nodes, after_step}
+use Rattle.reg_world.specs.NodeParts.{nodes_after}
+use Rattle.reg_world.specs.World.{move_of, whole}
+use Rattle.reg_world.proofs.run.Traced.{Trace, casts_of, OrderIsLongest, RepliesRight, traced}
+use Rattle.reg_world.proofs.run.Along.{along}
 use Rattle.reg_base.proofs.Orders.{below_irrefl, below_asym}
 use Rattle.std.proofs.lemmas.List.{append-nil}
 use Rattle.reg_base.proofs.Lists.{in_right}
-use Rattle.reg_world.proofs.one_order.Worlds.{Inv}
 use Rattle.reg_world.proofs.one_order.Acts.{put_cases}
-use Rattle.reg_world.proofs.one_order.Runs.{StepKept, step_ok, inv_happens}
-use Rattle.reg_world.proofs.one_order.NodeLaws.{empty_inv}
-use Rattle.reg_world.proofs.one_order.Firsts.{WorldInv, world_happens, deliveries_prefix, rising_cut}
+use Rattle.reg_world.proofs.one_order.Runs.{StepKept}
+use Rattle.reg_world.proofs.one_order.NodeLaws.{inv_of, run_ok}
+use Rattle.reg_world.proofs.one_order.Firsts.{Ordered, WorldInv, ordered_after, deliveries_prefix, rising_cut}
 use Rattle.reg_world.proofs.one_memory.Replicas.{IsReplica, IsRight, right_later, step_replica}
 
 -- the greatest of a rising list
@@ -43,7 +44,7 @@ whole_prefix xs ys (z ∷ rest) c r e i h =
       | inr k ↦ below_asym c.stamp z.stamp b k
     ])
 
-longest : (n registers k : ℕ) (w : World) → WorldInv n registers k w → (order : List Delivered) → casts_of w.order ≡ order → 0 < n → (p : ℕ) × (p < n) × ((w.nodes p).deliveries ≡ order)
+longest : (n registers k : ℕ) (w : Trace) → WorldInv n registers k w → (order : List Delivered) → casts_of w.order ≡ order → 0 < n → (p : ℕ) × (p < n) × ((w.nodes p).deliveries ≡ order)
 longest n registers k w W [] e l =
     let f = deliveries_prefix n registers k w W 0 l in
     (0, l, nothing (w.nodes 0).deliveries f.0 (f.1 ∙ e))
@@ -58,19 +59,19 @@ longest n registers k w W (x ∷ xs) e l =
     let f = deliveries_prefix n registers k w W s.0 s.1 in
     (s.0, s.1, whole_prefix (w.nodes s.0).deliveries (x ∷ xs) f.0 m.0 R (f.1 ∙ e) s.2 m.2)
 
-world_run : (start : Op → ℕ → Start) (n registers k : ℕ) (events : List Event) (w : World) → WorldInv n registers k w → WorldInv n registers (length events + k) (run_world start n registers events w)
-world_run start n registers k [] w W = subst (λ m. WorldInv n registers m w) (let e : k ≡ 0 + k = omega arith in e) W
-world_run start n registers k (e ∷ es) w W =
-    let m : length es + suc k ≡ length (e ∷ es) + k = omega arith in
-    subst (λ m. WorldInv n registers m (run_world start n registers es (world_after start n registers w e))) m (world_run start n registers (suc k) es (world_after start n registers w e) (world_happens start n registers k w e W))
+pub whole_inv : (start : Op → ℕ → Start) (n registers : ℕ) (events : List Event) → let v = traced start n registers events in WorldInv n registers v.count v
+whole_inv start n registers events = record {
+  inv = inv_of start n registers events;
+  ordered = along start n registers (λ v. Ordered n v.nodes (casts_of v.order)) (record { rises = tt; some = λ c h. absurd h; all = λ q c l h. absurd h })
+      (λ es e h. let v = traced start n registers es in ordered_after start n registers v.count v (move_of n registers (whole start n registers es) e) (inv_of start n registers es) (run_ok start n registers es e) h)
+      events;
+}
 
-pub whole_inv : (start : Op → ℕ → Start) (n registers : ℕ) (events : List Event) → WorldInv n registers (length events + 0) (whole start n registers events)
-whole_inv start n registers events = world_run start n registers 0 events (empty_world n registers) (record { inv = empty_inv n registers; ordered = record { rises = tt; some = λ c h. absurd h; all = λ q c l h. absurd h } })
-
-pub order_is_longest : (start : Op → ℕ → Start) (n registers : ℕ) (events : List Event) → OrderIsLongest n (whole start n registers events)
+pub order_is_longest : (start : Op → ℕ → Start) (n registers : ℕ) (events : List Event) → OrderIsLongest n (traced start n registers events)
 order_is_longest start n registers events =
-    let W = whole_inv start n registers events in
-    record { each = λ p l. deliveries_prefix n registers (length events + 0) (whole start n registers events) W p l; one = λ l. longest n registers (length events + 0) (whole start n registers events) W _ refl l }
+    let v = traced start n registers events in
+    let V = whole_inv start n registers events in
+    record { each = λ p l. deliveries_prefix n registers v.count v V p l; one = λ l. longest n registers v.count v V _ refl l }
 
 -- every node's replies are right
 abbrev pub Replicas : ℕ → ℕ → Nodes → Type 0
@@ -81,22 +82,14 @@ replicas_after start n registers k w None laws K R = R
 replicas_after start n registers k w (Some m) laws K R = λ q l.
     put_cases (IsReplica registers) w m.0 (after_step start (w m.0) m.1) q (λ _. step_replica registers (w m.0) (R m.0 K.0) start m.1 laws K.1.local.deliveries_rise) (λ _. R q l)
 
-replicas_run : (start : Op → ℕ → Start) (n registers k : ℕ) (events : List Event) (w : World) → KeepsLaws start → Inv n registers k w.nodes → Replicas n registers w.nodes → Replicas n registers (run_world start n registers events w).nodes
-replicas_run start n registers k [] w laws I R = R
-replicas_run start n registers k (e ∷ es) w laws I R =
-    replicas_run start n registers (suc k) es (world_after start n registers w e) laws (inv_happens start n registers k w.nodes e I)
-    (replicas_after start n registers k w.nodes (step_of n registers w.nodes e) laws (step_ok start n registers k w.nodes e I) R)
+pub whole_replicas : (start : Op → ℕ → Start) (n registers : ℕ) (events : List Event) → KeepsLaws start → Replicas n registers (traced start n registers events).nodes
+whole_replicas start n registers events laws =
+    along start n registers (λ v. Replicas n registers v.nodes) (λ p l. record { copy = refl; count = refl; right = λ r h. absurd h })
+    (λ es e h. let w = whole start n registers es in replicas_after start n registers (length w.accepted) w.nodes (move_of n registers w e) laws (run_ok start n registers es e) h)
+    events
 
-pub whole_replicas : (start : Op → ℕ → Start) (n registers : ℕ) (events : List Event) → KeepsLaws start → Replicas n registers (whole start n registers events).nodes
-whole_replicas start n registers events laws = replicas_run start n registers 0 events (empty_world n registers) laws (empty_inv n registers) (λ p l. record { copy = refl; count = refl; right = λ r h. absurd h })
-
-pub replies_right : (start : Op → ℕ → Start) (n registers : ℕ) (events : List Event) → KeepsLaws start → RepliesRight n registers (whole start n registers events)
+pub replies_right : (start : Op → ℕ → Start) (n registers : ℕ) (events : List Event) → KeepsLaws start → RepliesRight n registers (traced start n registers events)
 replies_right start n registers events laws p r l h =
-    let w = whole start n registers events in
-    let f = deliveries_prefix n registers (length events + 0) w (whole_inv start n registers events) p l in
-    subst (λ order. IsRight registers order r) f.1 (right_later registers (w.nodes p).deliveries f.0 r ((whole_replicas start n registers events laws p l).right r h))
-
--- the nodes of a run are those of the run of nodes
-pub whole_nodes : (start : Op → ℕ → Start) (n registers : ℕ) (events : List Event) (w : World) → (run_world start n registers events w).nodes ≡ run start n registers events w.nodes
-whole_nodes start n registers [] w = refl
-whole_nodes start n registers (e ∷ es) w = whole_nodes start n registers es (world_after start n registers w e)
+    let v = traced start n registers events in
+    let f = deliveries_prefix n registers v.count v (whole_inv start n registers events) p l in
+    subst (λ order. IsRight registers order r) f.1 (right_later registers (v.nodes p).deliveries f.0 r ((whole_replicas start n registers events laws p l).right r h))

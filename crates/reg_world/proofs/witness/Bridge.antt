@@ -1,5 +1,5 @@
 -- The facts by places in the order, from the laws.
-use Rattle.std.proofs.Common.{◌≡◌, ℕ, zero, suc, ◌+◌, ◌<◌, List, [], ◌∷◌, length, take, Option, Some, None, sym, ap, ◌∙◌, subst, inl, inr, arith}
+use Rattle.std.proofs.Common.{◌≡◌, ℕ, zero, suc, ◌<◌, List, [], ◌∷◌, take, Option, Some, None, sym, ap, ◌∙◌, subst, inl, inr, arith}
 use Rattle.std.specs.Prelude.{slice_get}
 use Rattle.std.proofs.lemmas.Option.{same_Some, none-some}
 use Rattle.std.proofs.lemmas.Bool.{cases_lt, cases_order}
@@ -11,7 +11,7 @@ use Rattle.reg_world.specs.declared.events.Event.{Event}
 use Rattle.reg_base.specs.Order.{Below, In, Rising}
 use Rattle.reg_base.specs.Memory.{answer_of}
 use Rattle.reg_front.specs.Fronts.{KeepsLaws}
-use Rattle.reg_world.proofs.one_memory.Traced.{Called, Answered, casts_of, whole, cast_of, Stands, HistoryRight}
+use Rattle.reg_world.proofs.run.Traced.{Called, Answered, casts_of, cast_of, Stands, HistoryRight, traced}
 use Rattle.reg_world.specs.Laws.{IsMade}
 use Rattle.reg_world.proofs.witness.Facts.{IsCastAt, memory_at, RunFacts}
 use Rattle.reg_base.proofs.Orders.{below_irrefl}
@@ -47,10 +47,10 @@ take_at_in x zero (y ∷ xs) k l e = absurd (omega arith)
 take_at_in x (suc m) (y ∷ xs) zero l e = inl (sym (same_Some y x e))
 take_at_in x (suc m) (y ∷ xs) (suc k) l e = inr (take_at_in x m xs k (omega arith) e)
 
-pub run_facts : (start : Op → ℕ → Start) (n registers : ℕ) (events : List Event) → KeepsLaws start → RunFacts n registers (whole start n registers events)
+pub run_facts : (start : Op → ℕ → Start) (n registers : ℕ) (events : List Event) → KeepsLaws start → RunFacts n registers (traced start n registers events)
 run_facts start n registers events laws =
-    let w = whole start n registers events in
-    let k0 = length events + 0 in
+    let w = traced start n registers events in
+    let k0 = w.count in
     let V = whole_inv start n registers events in
     let I = V.inv in
     let O = V.ordered in

@@ -4,21 +4,21 @@ use Rattle.reg_base.specs.declared.stamps.Delivered.{Delivered}
 use Rattle.reg_base.specs.Order.{Below, In}
 use Rattle.reg_base.specs.Memory.{Memory, updates, answer_of, memory_after}
 use Rattle.reg_process.specs.Process.{ops_of}
-use Rattle.reg_world.proofs.one_memory.Traced.{World, Called, Answered, casts_of}
+use Rattle.reg_world.proofs.run.Traced.{Trace, Called, Answered, casts_of}
 
 -- the call of this number at p made this cast
-abbrev pub IsCastAt : World → ℕ → ℕ → Delivered → Type 0
+abbrev pub IsCastAt : Trace → ℕ → ℕ → Delivered → Type 0
 IsCastAt w p number c = (d : Called) × (slice_get (w.pasts p).calls number ≡ Some d) × (d.cast ≡ Some c.stamp) × (d.op ≡ c.op)
 
 -- it is delivered nowhere
-abbrev pub IsWaiting : World → Delivered → Type 0
+abbrev pub IsWaiting : Trace → Delivered → Type 0
 IsWaiting w c = (k : ℕ) → slice_get (casts_of w.order) k ≡ Some c → ⊥
 
 -- the memory after the first k casts of the order
-abbrev pub memory_at : ℕ → World → ℕ → Memory
+abbrev pub memory_at : ℕ → Trace → ℕ → Memory
 memory_at registers w k = memory_after (ops_of (take k (casts_of w.order))) (replicate registers 0)
 
-pub record RunFacts (n registers : ℕ) (w : World) : Type 0 where
+pub record RunFacts (n registers : ℕ) (w : Trace) : Type 0 where
   pub rising : (i j : ℕ) (a b : Delivered) → slice_get (casts_of w.order) i ≡ Some a → slice_get (casts_of w.order) j ≡ Some b → i < j → Below a.stamp b.stamp
   pub delivered : (k : ℕ) (c : Delivered) → slice_get (casts_of w.order) k ≡ Some c → (c.stamp.process < n) × ((number : ℕ) × IsCastAt w c.stamp.process number c)
   pub waiting : (p number : ℕ) (c : Delivered) → p < n → IsCastAt w p number c → IsWaiting w c → (k : ℕ) (o : Delivered) → slice_get (casts_of w.order) k ≡ Some o → Below o.stamp c.stamp

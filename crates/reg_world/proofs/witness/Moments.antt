@@ -18,13 +18,13 @@ use Rattle.reg_world.specs.declared.events.Event.{Event}
 use Rattle.reg_world.specs.declared.order.First.{First}
 use Rattle.reg_world.specs.Runs.{Cast}
 use Rattle.reg_world.specs.World.{World}
-use Rattle.reg_world.proofs.one_memory.Traced.{Called as PastCall, Answered as PastAnswer, First as PastFirst, World as Trace, called_in, empty_world as empty_trace, NeverFalls, TimesRight}
+use Rattle.reg_world.proofs.run.Traced.{Called as PastCall, Answered as PastAnswer, First as PastFirst, Trace, called_in, NeverFalls, TimesRight, plain}
 use Rattle.reg_world.proofs.witness.Times.{laws_of, times_right}
 use Rattle.reg_world.proofs.one_memory.Copied.{each_call}
 use Rattle.reg_world.proofs.lists.Bodies.{place_in}
 use Rattle.reg_world.proofs.lists.Members.{in_at, at_in, in_map, map_in}
 use Rattle.reg_world.proofs.one_memory.Joined.{Joined}
-use Rattle.reg_world.proofs.one_memory.Added.{IsPastCall, IsPastAnswer, plain, cast_of_first}
+use Rattle.reg_world.proofs.one_memory.Added.{IsPastCall, IsPastAnswer, cast_of_first}
 use Rattle.reg_world.proofs.one_memory.Kept.{call_of}
 use Rattle.reg_world.proofs.witness.Once.{order_once}
 use Rattle.reg_world.proofs.witness.Premises.{W, V, R, J, G, first_at, one_id, is_run}
@@ -63,13 +63,13 @@ module _ (start : Op → ℕ → Start) (n registers : ℕ) (all : CastsAll star
   v = V start n registers laws events
 
   T : TimesRight n v.order v.pasts
-  T = times_right start n registers w.accepted all
+  T = times_right start n registers events all
 
-  j : Joined n w v.pasts v.order
+  j : Joined n w v.pasts
   j = J start n registers laws events
 
   has_cast : (id : OpId) (d : PastCall) → IsPastCall n v.pasts id d → (o : Option Stamp) → d.cast ≡ o → (stamp : Stamp) × (d.cast ≡ Some stamp)
-  has_cast id d h None none = absurd (each_call MadeCast start (step_casts start all) n registers w.accepted (empty_trace n registers) (λ p number d h. absurd (none-some d h)) id.process id.number d h.1 none)
+  has_cast id d h None none = absurd (each_call MadeCast start (step_casts start all) n registers events id.process id.number d h.1 none)
   has_cast id d h (Some stamp) made = (stamp, made)
 
   -- the first delivery of an answered operation's cast, not after the answer
@@ -79,7 +79,7 @@ module _ (start : Op → ℕ → Start) (n registers : ℕ) (all : CastsAll star
       let s = has_cast id d.0 d.1 d.0.cast refl in
       let at : slice_get (v.pasts id.process).calls a.number ≡ Some d.0 = subst (λ k. slice_get (v.pasts id.process).calls k ≡ Some d.0) (sym h.2) d.1.1 in
       let f = T.before_answer id.process a d.0 s.0 h.0 h.1 at s.1 in
-      let g = map_in plain f.0 w.order (subst (In f.0) (sym j.order) f.1) in
+      let g = map_in plain f.0 w.order f.1 in
       let c = g.0 in
       let place = in_at c w.order g.1 in
       let its : Cast = record { stamp = s.0; id = id; op = d.0.op } in
@@ -98,7 +98,7 @@ module _ (start : Op → ℕ → Start) (n registers : ℕ) (all : CastsAll star
         let x = j.called at c.id op (at_in (Called at c.id op) w.history call) in
         let m = j.cast (cast_of_first c) (j.first c (place_in w.order k c here)) in
         let same : m.0 ≡ x.0 = same_Some m.0 x.0 (sym m.1.1 ∙ x.1.1) in
-        let z = T.after_call c.id.process c.id.number x.0 (plain c) x.1.0 x.1.1 (subst (In (plain c)) j.order (in_map plain c w.order (place_in w.order k c here))) (sym (ap (λ (d : PastCall). d.cast) same) ∙ m.2) in
+        let z = T.after_call c.id.process c.id.number x.0 (plain c) x.1.0 x.1.1 (in_map plain c w.order (place_in w.order k c here)) (sym (ap (λ (d : PastCall). d.cast) same) ∙ m.2) in
         let u = x.3 in
         omega (arith, z, u);
     before_answer = λ k c at answer here answered.
@@ -112,5 +112,5 @@ module _ (start : Op → ℕ → Start) (n registers : ℕ) (all : CastsAll star
         omega (arith, z, u, s);
     never_falls = λ i k a b at bt less.
         falls_never v.order i k (plain a) (plain b) T.never_falls
-        (ap (λ l. slice_get l i) (sym j.order) ∙ plain_at w.order i a at) (ap (λ l. slice_get l k) (sym j.order) ∙ plain_at w.order k b bt) less;
+        (plain_at w.order i a at) (plain_at w.order k b bt) less;
   }

@@ -22,16 +22,17 @@ use Rattle.reg_world.specs.declared.order.First.{First}
 use Rattle.reg_world.specs.declared.order.CopyRead.{CopyRead}
 use Rattle.reg_world.specs.Runs.{Cast, Run, IsWaiting, memory_of}
 use Rattle.reg_world.specs.World.{World, delivered_of, run_of, whole}
-use Rattle.reg_world.proofs.one_memory.Traced.{Called as PastCall, Answered as PastAnswer, World as Trace, casts_of, cast_of, Stands}
+use Rattle.reg_world.proofs.run.Traced.{Called as PastCall, Answered as PastAnswer, Trace, casts_of, cast_of, Stands, traced}
 use Rattle.reg_world.proofs.witness.Facts.{IsCastAt, IsWaiting as WaitsInTrace, memory_at, RunFacts}
 use Rattle.reg_world.proofs.witness.Bridge.{run_facts}
 use Rattle.reg_world.proofs.lists.Bodies.{place_in}
 use Rattle.reg_world.proofs.lists.Members.{in_at, at_in}
 use Rattle.reg_world.proofs.one_memory.Joined.{Joined}
-use Rattle.reg_world.proofs.one_memory.Added.{IsPastCall, IsPastAnswer, cast_of_first, plain_casts}
-use Rattle.reg_world.proofs.one_memory.Kept.{Known, known, one_stamp, trace_of, Kept, kept}
+use Rattle.reg_world.proofs.one_memory.Added.{IsPastCall, IsPastAnswer, cast_of_first}
+use Rattle.reg_world.proofs.one_memory.Kept.{Known, known, one_stamp, Kept, kept}
 use Rattle.reg_world.proofs.witness.Replies.{ordered_is_run}
 use Rattle.reg_world.proofs.witness.Grounds.{IsRun, Came, AtDelivery, AtOnce, FromCopy, IsCopyRead, IsOrdered}
+use Rattle.reg_world.proofs.run.Along.{plain_casts}
 
 ops_take : (k : ℕ) (fs : List First) → ops_of (take k (map delivered_of fs)) ≡ map (λ c. c.op) (take k fs)
 ops_take zero [] = refl
@@ -47,25 +48,25 @@ module _ (start : Op → ℕ → Start) (n registers : ℕ) (laws : KeepsLaws st
   W = whole start n registers events
 
   abbrev pub V : Trace
-  V = trace_of start n registers W
+  V = traced start n registers events
 
   abbrev pub R : Run
   R = run_of registers W
 
-  pub K : Kept start n registers W
+  pub K : Kept n registers W V.pasts
   K = kept start n registers laws events
 
-  pub J : Joined n W V.pasts V.order
+  pub J : Joined n W V.pasts
   J = K.joined
 
   pub F : RunFacts n registers V
-  F = run_facts start n registers W.accepted laws
+  F = run_facts start n registers events laws
 
   pub G : Known n registers V
-  G = known start n registers laws W.accepted
+  G = known start n registers laws events
 
   pub same_casts : map delivered_of W.order ≡ casts_of V.order
-  same_casts = sym (plain_casts W.order) ∙ ap casts_of J.order
+  same_casts = sym (plain_casts W.order)
 
   pub in_trace : (k : ℕ) (c : First) → IsAt W.order k c → slice_get (casts_of V.order) k ≡ Some (delivered_of c)
   in_trace k c at = ap (λ l. slice_get l k) (sym same_casts) ∙ IsAt-map delivered_of W.order k c at

@@ -1,7 +1,5 @@
 -- The promises of every run.
-use Rattle.std.proofs.Common.{◌≡◌, ℕ, ◌+◌, ◌≤◌, ◌⊎◌, List, [], ◌∷◌, ◌++◌, length, map, Option, Some, None, refl, sym, ap, ◌∙◌, subst, inl, inr, append_assoc}
-use Rattle.reg_base.specs.declared.limits.TheConstants.{MOST_EVENTS}
-use Rattle.std.proofs.lemmas.List.{append-nil}
+use Rattle.std.proofs.Common.{◌≡◌, ℕ, ◌≤◌, ◌⊎◌, List, [], ◌∷◌, length, map, Some, refl, sym, ap, ◌∙◌, subst, inl, inr}
 use Rattle.std.specs.Prelude.{slice_get}
 use Rattle.std.proofs.lemmas.Option.{same_Some}
 use Rattle.reg_base.specs.declared.memory.Op.{Op}
@@ -11,20 +9,17 @@ use Rattle.reg_base.specs.Memory.{answer_of}
 use Rattle.reg_base.specs.Order.{In, IsPrefixOf}
 use Rattle.reg_front.specs.declared.starts.Start.{Start}
 use Rattle.reg_front.specs.Fronts.{KeepsLaws}
-use Rattle.reg_process.specs.declared.steps.Step.{Step}
 use Rattle.reg_process.specs.declared.steps.Reply.{Reply}
 use Rattle.reg_history.specs.declared.entries.Entry.TheVariants.{Called, Answered}
 use Rattle.reg_history.specs.History.{IsAt, IsHistory}
 use Rattle.reg_world.specs.declared.events.Event.{Event}
 use Rattle.reg_world.specs.declared.order.First.{First}
-use Rattle.reg_world.specs.Nodes.{Nodes}
-use Rattle.reg_world.specs.Laws.{DeliveriesAgree, DeliveriesRise, IsMade, DeliveriesMade, UndeliveredAbove, NoRefusal, AllAcknowledged, IsQuiescent}
-use Rattle.reg_world.specs.NodeRuns.{NothingPending}
+use Rattle.reg_world.specs.Laws.{IsMade, NoRefusal, AllAcknowledged, IsQuiescent}
+use Rattle.reg_world.specs.NodeParts.{NothingPending}
 use Rattle.reg_world.specs.Runs.{memory_of}
 use Rattle.reg_world.specs.Promises.{OrderIsLongest, OrderIsRight, CastsRight, RepliesRight, AnswersFirst}
-use Rattle.reg_world.specs.World.{World, Replied, delivered_of, run_of, move_of, moved, happens, run, empty_world, whole}
-use Rattle.reg_world.proofs.one_memory.Traced.{Called as PastCall, World as Trace, casts_of, cast_of, whole as traced}
-use Rattle.reg_world.proofs.one_order.Theorems.{agree, rise, made, refused, above}
+use Rattle.reg_world.specs.World.{World, Replied, delivered_of, run_of}
+use Rattle.reg_world.proofs.run.Traced.{Called as PastCall, Trace, casts_of, cast_of}
 use Rattle.reg_world.proofs.one_order.Wholes.{whole_inv, order_is_longest}
 use Rattle.reg_world.proofs.one_memory.Placed.{all_seated}
 use Rattle.reg_world.proofs.one_order.Settled.{quiescent, none_on_link}
@@ -36,22 +31,7 @@ use Rattle.reg_world.proofs.one_memory.Joined.{Joined}
 use Rattle.reg_world.proofs.one_memory.Added.{cast_of_first, IsPastCall}
 use Rattle.reg_world.proofs.one_memory.Kept.{call_of}
 use Rattle.reg_world.proofs.witness.Premises.{W, V, J, G, K, same_casts, first_at, ordered, told_reply, one_id, from_trace}
-
--- the accepted events of a longer run begin with those of the shorter
-grown : (start : Op → ℕ → Start) (n registers : ℕ) (es : List Event) (w : World) → (rest : List Event) × ((run start n registers es w).accepted ≡ w.accepted ++ rest)
-grown start n registers [] w = ([], sym (append-nil w.accepted))
-grown start n registers (e ∷ es) w =
-    let r = grown start n registers es (happens start n registers w e) in
-    let o = one w e (move_of n registers w e) in
-    (o.0 ++ r.0, r.1 ∙ (ap (λ l. l ++ r.0) o.1 ∙ append_assoc w.accepted o.0 r.0))
-  where
-    one : (w : World) (e : Event) (m : Option (ℕ × Step)) → (rest : List Event) × ((moved start w e m).accepted ≡ w.accepted ++ rest)
-    one w e None = ([], sym (append-nil w.accepted))
-    one w e (Some m) = (e ∷ [], refl)
-
-pub run_parts : (start : Op → ℕ → Start) (n registers : ℕ) (es more : List Event) (w : World) → run start n registers (es ++ more) w ≡ run start n registers more (run start n registers es w)
-run_parts start n registers [] more w = refl
-run_parts start n registers (e ∷ es) more w = run_parts start n registers es more (happens start n registers w e)
+use Rattle.reg_world.proofs.one_order.NodeLaws.{inv_of, no_refusal}
 
 module _ (start : Op → ℕ → Start) (n registers : ℕ) (laws : KeepsLaws start) (events : List Event) where
   abbrev w : World
@@ -60,23 +40,11 @@ module _ (start : Op → ℕ → Start) (n registers : ℕ) (laws : KeepsLaws st
   abbrev v : Trace
   v = V start n registers laws events
 
-  same : v.nodes ≡ w.nodes
-  same = sym (K start n registers laws events).nodes
-
-  pub deliveries_agree : DeliveriesAgree n w.nodes
-  deliveries_agree = subst (DeliveriesAgree n) same (agree start n registers w.accepted)
-
-  pub all_deliveries_rise : DeliveriesRise n w.nodes
-  all_deliveries_rise = subst (DeliveriesRise n) same (rise start n registers w.accepted)
-
-  pub deliveries_made : DeliveriesMade n w.nodes
-  deliveries_made = subst (DeliveriesMade n) same (made start n registers w.accepted)
-
   pub none_refused : NoRefusal n registers w.nodes
-  none_refused = subst (NoRefusal n registers) same (refused start n registers w.accepted (K start n registers laws events).few)
+  none_refused = no_refusal start n registers events
 
   pub settled : NothingPending n w.nodes → IsQuiescent n w.nodes
-  settled none = subst (IsQuiescent n) same (quiescent start n registers w.accepted laws (subst (NothingPending n) (sym same) none))
+  settled none = quiescent start n registers events laws none
 
   pub rests : AllAcknowledged n w.nodes → IsQuiescent n w.nodes
   rests all = settled (λ p q a b ne. none_on_link (w.nodes p).state.peers q (all p a))
@@ -84,30 +52,27 @@ module _ (start : Op → ℕ → Start) (n registers : ℕ) (laws : KeepsLaws st
   pub in_place : IsHistory n registers w.history
   in_place = (K start n registers laws events).history
 
-  pub few_events : length w.accepted ≤ MOST_EVENTS
-  few_events = (K start n registers laws events).few
-
   pub longest : OrderIsLongest n w
   longest =
-      let L = order_is_longest start n registers w.accepted in
+      let L = order_is_longest start n registers events in
       let casts = sym (same_casts start n registers laws events) in
       record {
-        each = λ p l. subst (IsPrefixOf (w.nodes p).deliveries) casts (subst (λ (z : Nodes). IsPrefixOf (z p).deliveries (casts_of v.order)) same (L.each p l));
-        one = λ l. let r = L.one l in (r.0, r.1, sym (ap (λ (z : Nodes). (z r.0).deliveries) same) ∙ (r.2 ∙ casts));
+        each = λ p l. subst (IsPrefixOf (w.nodes p).deliveries) casts (L.each p l);
+        one = λ l. let r = L.one l in (r.0, r.1, r.2 ∙ casts);
       }
 
   pub order_right : OrderIsRight n w
   order_right =
-      let O = (whole_inv start n registers w.accepted).ordered in
+      let O = (whole_inv start n registers events).ordered in
       let casts = same_casts start n registers laws events in
       record {
         rising = (ordered start n registers laws events).rising;
         some = λ k f at.
             let i : In (delivered_of f) (map delivered_of w.order) = in_mapped f w.order (place_in w.order k f at) in
             let r = O.some (delivered_of f) (subst (In (delivered_of f)) casts i) in
-            (r.0, r.1, subst (λ (z : Nodes). In (delivered_of f) (z r.0).deliveries) same r.2);
+            (r.0, r.1, r.2);
         all = λ q c l i.
-            let j = subst (In c) (sym casts) (O.all q c l (subst (λ (z : Nodes). In c (z q).deliveries) (sym same) i)) in
+            let j = subst (In c) (sym casts) (O.all q c l i) in
             let r = map_in delivered_of c w.order j in
             let place = in_at r.0 w.order r.1 in
             (place.0, r.0, place.1, sym r.2);
@@ -122,8 +87,8 @@ module _ (start : Op → ℕ → Start) (n registers : ℕ) (laws : KeepsLaws st
 
   pub casts_right : CastsRight n w
   casts_right =
-      let I = (whole_inv start n registers w.accepted).inv in
-      let k0 = length w.accepted + 0 in
+      let I = inv_of start n registers events in
+      let k0 = length w.accepted in
       let j = J start n registers laws events in
       let P = (G start n registers laws events).pasts in
       record {
@@ -133,14 +98,14 @@ module _ (start : Op → ℕ → Start) (n registers : ℕ) (laws : KeepsLaws st
             let l = x.1.0 in
             let r = (P p l).0.casts c.id.number x.0 c.stamp x.1.1 x.2 in
             let is : cast_of c.stamp x.0.op ≡ record { stamp = c.stamp; op = c.op } = ap (cast_of c.stamp) x.3 in (
-              subst (λ (z : Nodes). IsMade n z (record { stamp = c.stamp; op = c.op })) same (subst (IsMade n v.nodes) is (elim (in_cases (cast_of c.stamp x.0.op) (v.nodes p).deliveries (v.nodes p).state.held r.1) [
+              subst (IsMade n v.nodes) is (elim (in_cases (cast_of c.stamp x.0.op) (v.nodes p).deliveries (v.nodes p).state.held r.1) [
                 | inl h ↦ delivered_made n registers k0 v.nodes I p l (cast_of c.stamp x.0.op) h
                 | inr h ↦ held_made n registers k0 v.nodes I p l (cast_of c.stamp x.0.op) h
-              ])),
+              ]),
               r.0,
             );
         all = λ d m.
-            let r = (G start n registers laws events).called d (subst (λ (z : Nodes). IsMade n z d) (sym same) m) in
+            let r = (G start n registers laws events).called d m in
             let id : OpId = record { process = d.stamp.process; number = r.0 } in
             let i = j.casts id r.1 d.stamp (m.0, r.2) r.3 in
             (id, in_at (record { stamp = d.stamp; id = id; op = d.op }) w.casts (subst (λ o. In (record { stamp = d.stamp; id = id; op = o }) w.casts) r.4 i));
@@ -175,12 +140,12 @@ module _ (start : Op → ℕ → Start) (n registers : ℕ) (laws : KeepsLaws st
         let one : u.0 ≡ x.0 = same_Some u.0 x.0 (sym u.1.1 ∙ asked.1) in
         let when : x.0.at ≡ at = sym (ap (λ (z : PastCall). z.at) one) ∙ u.3 in
         let slot : slice_get (v.pasts y.id.process).calls r.0.number ≡ Some x.0 = subst (λ m. slice_get (v.pasts y.id.process).calls m ≡ Some x.0) (sym r.1.2) asked.1 in
-        let s = all_seated start n registers w.accepted laws y.id.process r.1.0 r.0 x.0 c.stamp r.1.1 slot x.2 in
+        let s = all_seated start n registers events laws y.id.process r.1.0 r.0 x.0 c.stamp r.1.1 slot x.2 in
         subst (λ (z : Reply). ((y.at ≡ at) × AnswersFirst start c.op) ⊎ ((f : First) × IsAt w.order z.place f × (f.id ≡ y.id))) r.3
         (elim s [
           | inl here ↦ inl (sym r.2 ∙ (here.0 ∙ when), subst (AnswersFirst start) x.3 here.1)
           | inr there ↦
-              let L = (order_is_longest start n registers w.accepted).each y.id.process r.1.0 in
+              let L = (order_is_longest start n registers events).each y.id.process r.1.0 in
               let whole_at : slice_get (casts_of v.order) r.0.reply.place ≡ Some (cast_of c.stamp x.0.op) =
               ap (λ l. slice_get l r.0.reply.place) (sym L.1) ∙ place_first (v.nodes y.id.process).deliveries L.0 r.0.reply.place (cast_of c.stamp x.0.op) there in
               let g = from_trace start n registers laws events r.0.reply.place (cast_of c.stamp x.0.op) whole_at in
@@ -188,16 +153,5 @@ module _ (start : Op → ℕ → Start) (n registers : ℕ) (laws : KeepsLaws st
         ]);
   }
     where
-      j : Joined n w v.pasts v.order
+      j : Joined n w v.pasts
       j = J start n registers laws events
-
-module _ (start : Op → ℕ → Start) (n registers : ℕ) (laws : KeepsLaws start) (events more : List Event) where
-  pub undelivered_above : UndeliveredAbove n (whole start n registers events).nodes (whole start n registers (events ++ more)).nodes
-  undelivered_above =
-      let a = whole start n registers events in
-      let b = whole start n registers (events ++ more) in
-      let g = grown start n registers more a in
-      let longer : b.accepted ≡ a.accepted ++ g.0 = ap (λ (z : World). z.accepted) (run_parts start n registers events more (empty_world n registers)) ∙ g.1 in
-      let x = (K start n registers laws events).nodes in
-      let y : b.nodes ≡ (traced start n registers (a.accepted ++ g.0)).nodes = (K start n registers laws (events ++ more)).nodes ∙ ap (λ l. (traced start n registers l).nodes) longer in
-      subst (λ z. UndeliveredAbove n z b.nodes) (sym x) (subst (UndeliveredAbove n (traced start n registers a.accepted).nodes) (sym y) (above start n registers a.accepted g.0))

@@ -1,5 +1,5 @@
 -- First deliveries lie between call and answer, where every operation is cast.
-use Rattle.std.proofs.Common.{◌≡◌, ℕ, suc, ◌+◌, ◌-◌, ◌<◌, ◌≤◌, max, List, [], ◌∷◌, ◌++◌, length, Option, Some, None, refl, sym, ap, ◌∙◌, subst, inl, inr, arith}
+use Rattle.std.proofs.Common.{◌≡◌, ℕ, ◌+◌, ◌-◌, ◌<◌, ◌≤◌, max, List, [], ◌∷◌, ◌++◌, length, Option, Some, None, refl, sym, ap, ◌∙◌, subst, inl, inr, arith}
 use Rattle.std.specs.Prelude.{◌==◌, ◌&&◌, slice_get}
 use Rattle.std.specs.List.{list_any}
 use Rattle.std.proofs.lemmas.Bool.{cond_both, eqb-true, and_parts}
@@ -19,25 +19,27 @@ use Rattle.reg_process.specs.declared.steps.Step.TheVariants.{Call, Take, Tick}
 use Rattle.reg_base.specs.Order.{In, insert}
 use Rattle.reg_process.specs.Process.{State, Running, Own, Held, is_clear, stamp_at, cast_at, clear_casts, casts_before, reply_after, reply_of, cast_made, called, taken, accepted, accepts, queues, quiet, got_frames, peer_at, unsettled, step, Outcome}
 use Rattle.reg_front.specs.Fronts.{MayStart, KeepsLaws, CastsAll}
-use Rattle.reg_world.specs.Nodes.{Node, step_of, op_in, after_step, unseen}
-use Rattle.reg_world.specs.NodeRuns.{nodes_after}
-use Rattle.reg_world.proofs.one_memory.Traced.{World, casts_of, Called, Answered, Past, answered_in, past_after, pasts_after, world_after, run_world, empty_world, cast_of, whole, NeverFalls, TimesRight, First, firsts, order_after, count_after, called_in}
+use Rattle.reg_world.specs.Nodes.{Node, op_in, after_step, unseen}
+use Rattle.reg_world.specs.NodeParts.{nodes_after}
+use Rattle.reg_world.proofs.run.Traced.{Trace, casts_of, Called, Answered, Past, answered_in, past_after, pasts_after, cast_of, NeverFalls, TimesRight, First, firsts, order_after, count_after, called_in, traced}
 use Rattle.reg_world.specs.declared.events.Event.{Event}
 use Rattle.reg_world.proofs.one_order.Acts.{put_cases}
-use Rattle.reg_world.proofs.one_order.Runs.{StepKept, step_ok}
-use Rattle.reg_world.proofs.one_order.NodeLaws.{empty_inv}
-use Rattle.reg_world.proofs.one_order.Wholes.{Replicas, replicas_after}
+use Rattle.reg_world.proofs.one_order.Runs.{StepKept}
+use Rattle.reg_world.proofs.one_order.NodeLaws.{run_ok}
+use Rattle.reg_world.proofs.one_order.Wholes.{whole_inv}
 use Rattle.reg_base.proofs.Lists.{in_left, in_right, in_cases, in_filter, filter_in, insert_new}
 use Rattle.std.proofs.lemmas.Option.{same_Some, none-some}
 use Rattle.reg_world.proofs.lists.Bodies.{place_back, place_last, place_split, place_within}
 use Rattle.reg_world.proofs.one_memory.Replicas.{any_found}
-use Rattle.reg_world.proofs.one_order.Settled.{IsRunning, runs_after, Runs, longer}
+use Rattle.reg_world.proofs.one_order.Settled.{IsRunning, Runs, longer, whole_runs}
 use Rattle.reg_world.proofs.one_order.NodeEvents.{put_same}
-use Rattle.reg_world.proofs.one_order.Firsts.{Ordered, ordered_after, world_happens, WorldInv}
+use Rattle.reg_world.proofs.one_order.Firsts.{Ordered, ordered_after, WorldInv}
 use Rattle.reg_world.proofs.one_order.Worlds.{delivered_made}
 use Rattle.reg_world.proofs.one_memory.Turns.{answered_one}
-use Rattle.reg_world.proofs.one_memory.History.{PastsOk, pasts_step}
+use Rattle.reg_world.proofs.one_memory.History.{PastsOk, whole_pasts}
 use Rattle.reg_world.proofs.one_memory.Standing.{RunsAs, PastOk}
+use Rattle.reg_world.specs.World.{move_of, whole}
+use Rattle.reg_world.proofs.run.Along.{along}
 
 pub laws_of : (start : Op → ℕ → Start) → CastsAll start → KeepsLaws start
 laws_of start all op u = subst (MayStart op u) (sym (all op u)) tt
@@ -143,7 +145,7 @@ pub record TimesOk (n count : ℕ) (order : List First) (pasts : ℕ → Past) :
   pub order_below : (f : First) → In f order → f.at < count
   pub calls_below : (p number : ℕ) (d : Called) → p < n → slice_get (pasts p).calls number ≡ Some d → d.at < count
 
-times_after : (start : Op → ℕ → Start) (n registers k : ℕ) (w : World) (m : Option (ℕ × Step)) → CastsAll start → WorldInv n registers k w → StepKept start n registers k w.nodes m → ((p : ℕ) → IsRunning (w.nodes p)) → PastsOk n w → Ordered n (nodes_after start w.nodes m) (casts_of (order_after start w m)) → TimesOk n w.count w.order w.pasts → TimesOk n (count_after w.count m) (order_after start w m) (pasts_after start w m)
+times_after : (start : Op → ℕ → Start) (n registers k : ℕ) (w : Trace) (m : Option (ℕ × Step)) → CastsAll start → WorldInv n registers k w → StepKept start n registers k w.nodes m → ((p : ℕ) → IsRunning (w.nodes p)) → PastsOk n w → Ordered n (nodes_after start w.nodes m) (casts_of (order_after start w m)) → TimesOk n w.count w.order w.pasts → TimesOk n (count_after w.count m) (order_after start w m) (pasts_after start w m)
 times_after start n registers k w None all V K W P O T = T
 times_after start n registers k w (Some m) all V K W P O T =
     let p = m.0 in
@@ -218,22 +220,19 @@ times_after start n registers k w (Some m) all V K W P O T =
           at;
     }
 
-times_run : (start : Op → ℕ → Start) (n registers k : ℕ) (events : List Event) (w : World) → CastsAll start → WorldInv n registers k w → Replicas n registers w.nodes → ((p : ℕ) → IsRunning (w.nodes p)) → PastsOk n w → TimesOk n w.count w.order w.pasts → let w' = run_world start n registers events w in TimesOk n w'.count w'.order w'.pasts
-times_run start n registers k [] w all V R W P T = T
-times_run start n registers k (e ∷ es) w all V R W P T =
-    let laws = laws_of start all in
-    let K = step_ok start n registers k w.nodes e V.inv in
-    let m = step_of n registers w.nodes e in
-    times_run start n registers (suc k) es (world_after start n registers w e) all (world_happens start n registers k w e V)
-    (replicas_after start n registers k w.nodes m laws K R) (runs_after start w.nodes m laws W) (pasts_step start n registers k w m laws V.inv K R W P)
-    (times_after start n registers k w m all V K W P (ordered_after start n registers k w m V.inv K V.ordered) T)
-
-pub times_right : (start : Op → ℕ → Start) (n registers : ℕ) (events : List Event) → CastsAll start → TimesRight n (whole start n registers events).order (whole start n registers events).pasts
+pub times_right : (start : Op → ℕ → Start) (n registers : ℕ) (events : List Event) → CastsAll start → let v = traced start n registers events in TimesRight n v.order v.pasts
 times_right start n registers events all =
-    (times_run start n registers 0 events (empty_world n registers) all (record { inv = empty_inv n registers; ordered = record { rises = tt; some = λ c h. absurd h; all = λ q c l h. absurd h } }) (λ p l. record { copy = refl; count = refl; right = λ r h. absurd h }) (λ p. tt)
-    (λ p l. (record { count = refl; running = tt; casts = λ i d stamp h. absurd (let bad : ⊥ = cc in bad); rises = λ i j d e a b h. absurd (let bad : ⊥ = cc in bad); past = λ i d stamp h. absurd (let bad : ⊥ = cc in bad); answers = λ a h. absurd h }, λ a h. absurd h))
+    (along start n registers (λ v. TimesOk n v.count v.order v.pasts)
     (record {
       right = record { never_falls = tt; after_call = λ p number d f l h. absurd (let bad : ⊥ = cc in bad); before_answer = λ p a d stamp l h. absurd h };
       order_below = λ f h. absurd h;
       calls_below = λ p number d l h. absurd (let bad : ⊥ = cc in bad);
-    })).right
+    })
+    (λ es e T.
+    let v = traced start n registers es in
+    let m = move_of n registers (whole start n registers es) e in
+    let laws = laws_of start all in
+    let K = run_ok start n registers es e in
+    let V = whole_inv start n registers es in
+    times_after start n registers v.count v m all V K (whole_runs start n registers es laws) (whole_pasts start n registers es laws) (ordered_after start n registers v.count v m V.inv K V.ordered) T)
+    events).right

@@ -1,18 +1,19 @@
-use Rattle.reg_world.proofs.witness.Promised.{deliveries_agree, all_deliveries_rise, deliveries_made, undelivered_above, longest, order_right, casts_right}
+use Rattle.reg_world.proofs.witness.Promised.{longest, order_right, casts_right}
 use Rattle.reg_world.proofs.one_memory.Arrivals.{firsts_right}
+use Rattle.reg_world.proofs.one_order.NodeLaws.{deliveries_agree, all_deliveries_rise, deliveries_made, undelivered_later}
 use Rattle.reg_world.proofs.laws.one_order.Goals as goal
 
 pub returns-clause-agree : goal.returns-clause-agree
-returns-clause-agree c = λ start n registers events laws. deliveries_agree start n registers laws events
+returns-clause-agree c = λ start n registers events laws. deliveries_agree start n registers events
 
 pub returns-clause-rise : goal.returns-clause-rise
-returns-clause-rise c = λ start n registers events laws. all_deliveries_rise start n registers laws events
+returns-clause-rise c = λ start n registers events laws. all_deliveries_rise start n registers events
 
 pub returns-clause-made : goal.returns-clause-made
-returns-clause-made c = λ start n registers events laws. deliveries_made start n registers laws events
+returns-clause-made c = λ start n registers events laws. deliveries_made start n registers events
 
 pub returns-clause-above : goal.returns-clause-above
-returns-clause-above c = λ start n registers events more laws. undelivered_above start n registers laws events more
+returns-clause-above c = λ start n registers events more laws. undelivered_later start n registers events more
 
 pub returns-clause-longest : goal.returns-clause-longest
 returns-clause-longest c = λ start n registers events laws. longest start n registers laws events

@@ -1,4 +1,4 @@
--- The world as the proofs see it: with the past of each process.
+-- A run as the proofs see it: with the past of each process beside it.
 use Rattle.std.specs.Prelude.{ℕ, ◌+◌, ◌-◌, List, [], ◌∷◌, ◌++◌, map, replicate, Option, Some, None, slice_get, take, ◌≡◌, ◌<◌, ◌≤◌, ◌⊎◌, length}
 use Rattle.reg_base.specs.declared.stamps.Stamp.{Stamp}
 use Rattle.reg_base.specs.declared.stamps.Delivered.{Delivered}
@@ -13,8 +13,10 @@ use Rattle.reg_process.specs.Process.{State, Outcome, step, ops_of}
 -- The laws of a run.
 use Rattle.reg_base.specs.declared.memory.Answer.TheVariants.{Done}
 use Rattle.reg_base.specs.Order.{In, IsPrefixOf}
-use Rattle.reg_world.specs.Nodes.{unseen, Said, Nodes, empty, put, op_in, step_of}
-use Rattle.reg_world.specs.NodeRuns.{run, happens}
+use Rattle.reg_world.specs.declared.order.First.{First as Arrival}
+use Rattle.reg_world.specs.Nodes.{unseen, Said, Nodes, put, op_in}
+use Rattle.reg_world.specs.NodeParts.{nodes_after}
+use Rattle.reg_world.specs.World.{World, delivered_of, move_of, happens, empty_world, whole}
 use Rattle.reg_world.specs.Laws.{IsMade}
 
 -- A cast with the number of the event that first delivered it anywhere.
@@ -57,7 +59,7 @@ past_after at s h e r = record {
 }
 
 -- The nodes, the number of events so far, each cast's first delivery, and the history by process.
-pub record World : Type 0 where
+pub record Trace : Type 0 where
   pub pasts : ℕ → Past
   pub nodes : Nodes
   pub count : ℕ
@@ -69,48 +71,49 @@ casts_of order = map (λ (f : First). f.cast) order
 abbrev pub firsts : ℕ → List Delivered → List First
 firsts at casts = map (λ (c : Delivered). record { cast = c; at = at }) casts
 
-abbrev pub order_after : (Op → ℕ → Start) → World → Option (ℕ × Step) → List First
-order_after start w None = w.order
-order_after start w (Some m) = w.order ++ firsts w.count (unseen (casts_of w.order) (step start (w.nodes m.0).state m.1).1.delivered)
+-- what one move makes of each part
+abbrev pub order_after : (Op → ℕ → Start) → Trace → Option (ℕ × Step) → List First
+order_after start v None = v.order
+order_after start v (Some m) = v.order ++ firsts v.count (unseen (casts_of v.order) (step start (v.nodes m.0).state m.1).1.delivered)
 
 abbrev pub count_after : ℕ → Option (ℕ × Step) → ℕ
 count_after k None = k
 count_after k (Some m) = k + 1
 
-abbrev pub pasts_after : (Op → ℕ → Start) → World → Option (ℕ × Step) → ℕ → Past
-pasts_after start w None = w.pasts
-pasts_after start w (Some m) = put w.pasts m.0 (past_after w.count (w.nodes m.0).state (w.pasts m.0) m.1 (step start (w.nodes m.0).state m.1))
+abbrev pub pasts_after : (Op → ℕ → Start) → Trace → Option (ℕ × Step) → ℕ → Past
+pasts_after start v None = v.pasts
+pasts_after start v (Some m) = put v.pasts m.0 (past_after v.count (v.nodes m.0).state (v.pasts m.0) m.1 (step start (v.nodes m.0).state m.1))
 
-abbrev pub world_after : (Op → ℕ → Start) → ℕ → ℕ → World → Event → World
-world_after start n registers w e = record {
-  nodes = happens start n registers w.nodes e;
-  count = count_after w.count (step_of n registers w.nodes e);
-  order = order_after start w (step_of n registers w.nodes e);
-  pasts = pasts_after start w (step_of n registers w.nodes e);
-}
+abbrev pub after : (Op → ℕ → Start) → Trace → Option (ℕ × Step) → Trace
+after start v m = record { nodes = nodes_after start v.nodes m; count = count_after v.count m; order = order_after start v m; pasts = pasts_after start v m }
 
-abbrev pub run_world : (Op → ℕ → Start) → ℕ → ℕ → List Event → World → World
-run_world start n registers [] w = w
-run_world start n registers (e ∷ es) w = run_world start n registers es (world_after start n registers w e)
+-- a first delivery without the operation's id
+abbrev pub plain : Arrival → First
+plain f = record { cast = delivered_of f; at = f.at }
 
-abbrev pub empty_world : ℕ → ℕ → World
-empty_world n registers = record { nodes = empty n registers; count = 0; order = []; pasts = λ p. record { calls = []; answers = [] } }
+-- a world, with these pasts beside it
+abbrev pub traced_by : World → (ℕ → Past) → Trace
+traced_by w pasts = record { pasts = pasts; nodes = w.nodes; count = length w.accepted; order = map plain w.order }
 
--- a list of events from the empty world
-abbrev pub world_of : (Op → ℕ → Start) → ℕ → ℕ → List Event → Nodes
-world_of start n registers events = run start n registers events (empty n registers)
+-- the pasts, noted along a run
+abbrev pub pasts_along : (Op → ℕ → Start) → ℕ → ℕ → List Event → World → (ℕ → Past) → ℕ → Past
+pasts_along start n registers [] w pasts = pasts
+pasts_along start n registers (e ∷ es) w pasts = pasts_along start n registers es (happens start n registers w e) (pasts_after start (traced_by w pasts) (move_of n registers w e))
 
--- the world after these events
-abbrev pub whole : (Op → ℕ → Start) → ℕ → ℕ → List Event → World
-whole start n registers events = run_world start n registers events (empty_world n registers)
+abbrev pub no_pasts : ℕ → Past
+no_pasts p = record { calls = []; answers = [] }
+
+-- the run of these events
+abbrev pub traced : (Op → ℕ → Start) → ℕ → ℕ → List Event → Trace
+traced start n registers events = traced_by (whole start n registers events) (pasts_along start n registers events (empty_world n registers) no_pasts)
 
 -- The casts in the order of their first deliveries are the longest list of deliveries: each list of deliveries is a prefix of it, and one list of deliveries is it.
-pub record OrderIsLongest (n : ℕ) (w : World) : Type 0 where
+pub record OrderIsLongest (n : ℕ) (w : Trace) : Type 0 where
   pub each : (p : ℕ) → p < n → IsPrefixOf (w.nodes p).deliveries (casts_of w.order)
   pub one : 0 < n → (p : ℕ) × (p < n) × ((w.nodes p).deliveries ≡ casts_of w.order)
 
 -- A reply is what the memory answers after the first casts of the order, as many as its place says.
-abbrev pub RepliesRight : ℕ → ℕ → World → Type 0
+abbrev pub RepliesRight : ℕ → ℕ → Trace → Type 0
 RepliesRight n registers w =
     (p : ℕ) (r : Said) → p < n → In r (w.nodes p).replies →
     (r.reply.place ≤ length (casts_of w.order)) × (r.reply.answer ≡ answer_of r.op (memory_after (ops_of (take r.reply.place (casts_of w.order))) (replicate registers 0)))
@@ -128,7 +131,7 @@ Stands deliveries calls number place d None =
     ((j < number → In (cast_of stamp e.op) (take place deliveries)) × (number < j → In (cast_of stamp e.op) (take place deliveries) → ⊥))
 
 -- Each answer is to its call, is the memory's after the first casts of the order, as many as its place says, and stands there.
-abbrev pub HistoryRight : ℕ → ℕ → World → Type 0
+abbrev pub HistoryRight : ℕ → ℕ → Trace → Type 0
 HistoryRight n registers w =
     (p : ℕ) (a : Answered) → p < n → In a (w.pasts p).answers →
     (d : Called) × (slice_get (w.pasts p).calls a.number ≡ Some d)
@@ -141,7 +144,7 @@ abbrev pub IsCalled : List Called → Stamp → Op → Type 0
 IsCalled calls stamp op = (number : ℕ) × (d : Called) × (slice_get calls number ≡ Some d) × (d.cast ≡ Some stamp) × (d.op ≡ op)
 
 -- Each cast made was called at its process, with its operation.
-abbrev pub CastsCalled : ℕ → World → Type 0
+abbrev pub CastsCalled : ℕ → Trace → Type 0
 CastsCalled n w = (c : Delivered) → IsMade n w.nodes c → IsCalled (w.pasts c.stamp.process).calls c.stamp c.op
 
 -- The answers of a process are one to each call, at places that never fall.

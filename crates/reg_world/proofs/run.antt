@@ -1,0 +1,3 @@
+-- A run as the proofs see it, and induction over its events.
+pub mod Traced
+pub mod Along
