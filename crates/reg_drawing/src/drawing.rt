@@ -2,10 +2,10 @@
 use crate::layout::{BELOW, LEADING, Label, Layout, TOP};
 use crate::shapes::{Diamond, Soft, Span, Spot, Stub};
 use crate::words::{cast_text, frame_text};
-use reg_base::Names;
+use reg_base::{Delivered, Names};
 use reg_frames::{Body, Frame};
 use reg_history::Point;
-use reg_moments::{Arrow, Bar, Moment, is_taken};
+use reg_moments::{Arrow, Bar, Moment, Sent, is_taken};
 use reg_text::Unwritten;
 use std::alloc::Allocator;
 use std::fmt;
@@ -76,6 +76,84 @@ fn class_of(frame: Frame) -> &'static str {
     }
 }
 
+/// Shows how arrows end.
+fn show_tips<W: fmt::Write>(f: &mut fmt::Formatter<W>) -> fmt::Result {
+    for class in ["cast", "ack", "count"] {
+        writeln!(
+            f,
+            "<marker id=\"{class}\" viewBox=\"0 0 8 8\" refX=\"11\" refY=\"4\" markerWidth=\"8\" markerHeight=\"8\" markerUnits=\"userSpaceOnUse\" orient=\"auto\"><path class=\"{class}-tip\" d=\"M0 0L8 4L0 8Z\"/></marker>"
+        )?;
+    }
+    Ok(())
+}
+
+/// Shows what a line means.
+fn show_line<W: fmt::Write>(
+    f: &mut fmt::Formatter<W>,
+    at: Spot,
+    class: &str,
+    words: &str,
+) -> fmt::Result {
+    let span = Span {
+        from: at,
+        to: Spot {
+            x: at.x.saturating_add(26),
+            y: at.y,
+        },
+    };
+    let text = Soft {
+        at: Spot {
+            x: at.x.saturating_add(32),
+            y: at.y.saturating_add(4),
+        },
+        words,
+    };
+    writeln!(f, "<line class=\"{class}\" {span}/>{text}")
+}
+
+/// Shows what the lines mean.
+fn show_lines<W: fmt::Write>(f: &mut fmt::Formatter<W>, y: u32) -> fmt::Result {
+    for (class, words, x) in [
+        ("cast", "cast", 10u32),
+        ("ack", "acknowledgement", 82),
+        ("count", "count", 232),
+    ] {
+        show_line(f, Spot { x, y }, class, words)?;
+    }
+    Ok(())
+}
+
+/// Shows what the other signs mean.
+fn show_signs<W: fmt::Write>(f: &mut fmt::Formatter<W>, y: u32) -> fmt::Result {
+    let base = y.saturating_add(4);
+    let stub = Stub {
+        class: "cast",
+        span: Span {
+            from: Spot { x: 312, y },
+            to: Spot { x: 326, y },
+        },
+    };
+    let never = Soft {
+        at: Spot { x: 336, y: base },
+        words: "never taken",
+    };
+    let diamond = Diamond {
+        middle: Spot { x: 436, y },
+    };
+    let point = Soft {
+        at: Spot { x: 448, y: base },
+        words: "point",
+    };
+    let delivered = Soft {
+        at: Spot { x: 504, y: base },
+        words: "(time, process): delivered",
+    };
+    writeln!(
+        f,
+        "{stub}{never}\n<path class=\"point\" d=\"{diamond}\"/>{point}\n{delivered}"
+    )
+}
+
 impl<A: Allocator + Copy> Drawing<'_, A> {
     /// The x of an event.
     fn x(&self, event: usize) -> u32 {
@@ -99,7 +177,7 @@ impl<A: Allocator + Copy> Drawing<'_, A> {
         }
     }
 
-    /// Shows the page, and how arrows end.
+    /// Shows the page.
     fn show_page<W: fmt::Write>(&self, f: &mut fmt::Formatter<W>) -> fmt::Result {
         let (width, height) = (self.layout.width, self.layout.height);
         writeln!(
@@ -107,12 +185,7 @@ impl<A: Allocator + Copy> Drawing<'_, A> {
             "<svg xmlns=\"http://www.w3.org/2000/svg\" class=\"awshow\" width=\"{width}\" height=\"{height}\" viewBox=\"0 0 {width} {height}\" role=\"img\">"
         )?;
         f.write_str(HEAD)?;
-        for class in ["cast", "ack", "count"] {
-            writeln!(
-                f,
-                "<marker id=\"{class}\" viewBox=\"0 0 8 8\" refX=\"11\" refY=\"4\" markerWidth=\"8\" markerHeight=\"8\" markerUnits=\"userSpaceOnUse\" orient=\"auto\"><path class=\"{class}-tip\" d=\"M0 0L8 4L0 8Z\"/></marker>"
-            )?;
-        }
+        show_tips(f)?;
         writeln!(
             f,
             "</defs>\n<rect class=\"page\" width=\"{width}\" height=\"{height}\"/>"
@@ -152,34 +225,65 @@ impl<A: Allocator + Copy> Drawing<'_, A> {
         Ok(())
     }
 
+    /// The frame that an event takes.
+    fn frame_taken(&self, event: usize) -> Option<Frame> {
+        self.moments.get(event)?.frame
+    }
+
+    /// Shows the arrow of a frame.
+    fn show_arrow<W: fmt::Write>(
+        &self,
+        f: &mut fmt::Formatter<W>,
+        arrow: &Arrow,
+        frame: Frame,
+    ) -> fmt::Result {
+        let Arrow {
+            from,
+            to,
+            place,
+            puts,
+            takes,
+        } = *arrow;
+        let class = class_of(frame);
+        let span = Span {
+            from: self.spot(puts, from),
+            to: self.spot(takes, to),
+        };
+        let words = frame_text(self.names, from, frame);
+        writeln!(
+            f,
+            "<line class=\"{class}\" {span} marker-end=\"url(#{class})\"><title>take {from} {to} {place}: {words}</title></line>"
+        )
+    }
+
     /// Shows an arrow for each frame that is taken.
     fn show_arrows<W: fmt::Write>(&self, f: &mut fmt::Formatter<W>) -> fmt::Result {
         for arrow in self.arrows {
-            let Arrow {
-                from,
-                to,
-                place,
-                puts,
-                takes,
-            } = *arrow;
-            let Some(moment) = self.moments.get(takes) else {
-                continue;
-            };
-            let Some(frame) = moment.frame else {
-                continue;
-            };
-            let class = class_of(frame);
-            let span = Span {
-                from: self.spot(puts, from),
-                to: self.spot(takes, to),
-            };
-            let words = frame_text(self.names, from, frame);
-            writeln!(
-                f,
-                "<line class=\"{class}\" {span} marker-end=\"url(#{class})\"><title>take {from} {to} {place}: {words}</title></line>"
-            )?;
+            if let Some(frame) = self.frame_taken(arrow.takes) {
+                self.show_arrow(f, arrow, frame)?;
+            }
         }
         Ok(())
+    }
+
+    /// Shows that a frame is never taken.
+    fn show_stub<W: fmt::Write>(
+        &self,
+        f: &mut fmt::Formatter<W>,
+        process: u8,
+        sent: &Sent,
+        span: Span,
+    ) -> fmt::Result {
+        let stub = Stub {
+            class: class_of(sent.frame),
+            span,
+        };
+        let (to, place) = (sent.to, sent.place);
+        let words = frame_text(self.names, process, sent.frame);
+        writeln!(
+            f,
+            "<g><title>never taken: take {process} {to} {place}: {words}</title>{stub}</g>"
+        )
     }
 
     /// Shows a stub for each frame that is never taken.
@@ -192,42 +296,45 @@ impl<A: Allocator + Copy> Drawing<'_, A> {
                 if is_taken(self.moments, process, sent.to, sent.place) {
                     continue;
                 }
-                let stub = Stub {
-                    class: class_of(sent.frame),
-                    span: Span {
-                        from,
-                        to: from.beside(shift, sent.to > process),
-                    },
-                };
+                let to = from.beside(shift, sent.to > process);
+                self.show_stub(f, process, sent, Span { from, to })?;
                 shift = shift.saturating_add(9).min(39);
-                let (to, place) = (sent.to, sent.place);
-                let words = frame_text(self.names, process, sent.frame);
-                writeln!(
-                    f,
-                    "<g><title>never taken: take {process} {to} {place}: {words}</title>{stub}</g>"
-                )?;
             }
         }
         Ok(())
     }
 
-    /// Shows a bar for each operation, with its text.
+    /// Where a bar ends, and its class.
+    fn end_of(&self, bar: &Bar) -> (u32, &'static str) {
+        match bar.end {
+            Some(end) => (self.x(end.at as usize), "bar"),
+            None => (self.layout.width.saturating_sub(14), "bar open"),
+        }
+    }
+
+    /// Shows the bar of an operation, with its text.
+    fn show_bar<W: fmt::Write>(
+        &self,
+        f: &mut fmt::Formatter<W>,
+        bar: &Bar,
+        text: &str,
+    ) -> fmt::Result {
+        let Spot { x, y } = self.spot(bar.call as usize, bar.id.process);
+        let (top, base) = (y.saturating_sub(28), y.saturating_sub(34));
+        let (end, class) = self.end_of(bar);
+        let wide = end.saturating_sub(x).max(8);
+        let (process, number) = (bar.id.process, bar.id.number);
+        writeln!(
+            f,
+            "<rect class=\"{class}\" x=\"{x}\" y=\"{top}\" width=\"{wide}\" height=\"8\" rx=\"2\"><title>p{process} #{number}</title></rect>"
+        )?;
+        writeln!(f, "<text x=\"{x}\" y=\"{base}\">{text}</text>")
+    }
+
+    /// Shows a bar for each operation.
     fn show_bars<W: fmt::Write>(&self, f: &mut fmt::Formatter<W>) -> fmt::Result {
         for (bar, label) in self.bars.iter().zip(self.labels) {
-            let x = self.x(bar.call as usize);
-            let y = self.y(bar.id.process);
-            let (top, base) = (y.saturating_sub(28), y.saturating_sub(34));
-            let (end, class) = match bar.end {
-                Some(end) => (self.x(end.at as usize), "bar"),
-                None => (self.layout.width.saturating_sub(14), "bar open"),
-            };
-            let wide = end.saturating_sub(x).max(8);
-            let (process, number) = (bar.id.process, bar.id.number);
-            let text = label.text.as_str();
-            writeln!(
-                f,
-                "<rect class=\"{class}\" x=\"{x}\" y=\"{top}\" width=\"{wide}\" height=\"8\" rx=\"2\"><title>p{process} #{number}</title></rect>\n<text x=\"{x}\" y=\"{base}\">{text}</text>"
-            )?;
+            self.show_bar(f, bar, label.text.as_str())?;
         }
         Ok(())
     }
@@ -250,81 +357,44 @@ impl<A: Allocator + Copy> Drawing<'_, A> {
         Ok(())
     }
 
+    /// Shows what an event delivered, below it.
+    fn show_delivered<W: fmt::Write>(
+        &self,
+        f: &mut fmt::Formatter<W>,
+        at: Spot,
+        delivered: &[Delivered],
+    ) -> fmt::Result {
+        let left = at.x.saturating_sub(3);
+        let mut base = at.y.saturating_add(BELOW).saturating_sub(4);
+        for cast in delivered {
+            let cast = cast_text(self.names, *cast);
+            writeln!(f, "<text x=\"{left}\" y=\"{base}\">{cast}</text>")?;
+            base = base.saturating_add(LEADING);
+        }
+        Ok(())
+    }
+
     /// Shows the events on their lines, and what they delivered.
     fn show_deliveries<W: fmt::Write>(&self, f: &mut fmt::Formatter<W>) -> fmt::Result {
         for (number, moment) in self.moments.iter().enumerate() {
-            let Spot { x, y } = self.spot(number, moment.process);
-            let clock = moment.clock;
+            let at = self.spot(number, moment.process);
+            let (x, y, clock) = (at.x, at.y, moment.clock);
             writeln!(
                 f,
                 "<circle class=\"dot\" cx=\"{x}\" cy=\"{y}\" r=\"3.5\"><title>event {number}, clock {clock}</title></circle>"
             )?;
-            let left = x.saturating_sub(3);
-            let mut base = y.saturating_add(BELOW).saturating_sub(4);
-            for cast in &moment.delivered {
-                let cast = cast_text(self.names, *cast);
-                writeln!(f, "<text x=\"{left}\" y=\"{base}\">{cast}</text>")?;
-                base = base.saturating_add(LEADING);
-            }
+            self.show_delivered(f, at, &moment.delivered)?;
         }
         Ok(())
     }
 
-    /// Shows what the lines mean.
-    fn show_lines<W: fmt::Write>(&self, f: &mut fmt::Formatter<W>, y: u32) -> fmt::Result {
-        for (class, words, x) in [
-            ("cast", "cast", 10u32),
-            ("ack", "acknowledgement", 82),
-            ("count", "count", 232),
-        ] {
-            let span = Span {
-                from: Spot { x, y },
-                to: Spot {
-                    x: x.saturating_add(26),
-                    y,
-                },
-            };
-            let text = Soft {
-                at: Spot {
-                    x: x.saturating_add(32),
-                    y: y.saturating_add(4),
-                },
-                words,
-            };
-            writeln!(f, "<line class=\"{class}\" {span}/>{text}")?;
-        }
-        Ok(())
-    }
-
-    /// Shows what the other signs mean.
-    fn show_signs<W: fmt::Write>(&self, f: &mut fmt::Formatter<W>, y: u32) -> fmt::Result {
-        let base = y.saturating_add(4);
-        let stub = Stub {
-            class: "cast",
-            span: Span {
-                from: Spot { x: 312, y },
-                to: Spot { x: 326, y },
-            },
-        };
-        let never = Soft {
-            at: Spot { x: 336, y: base },
-            words: "never taken",
-        };
-        let diamond = Diamond {
-            middle: Spot { x: 436, y },
-        };
-        let point = Soft {
-            at: Spot { x: 448, y: base },
-            words: "point",
-        };
-        let delivered = Soft {
-            at: Spot { x: 504, y: base },
-            words: "(time, process): delivered",
-        };
-        writeln!(
-            f,
-            "{stub}{never}\n<path class=\"point\" d=\"{diamond}\"/>{point}\n{delivered}"
-        )
+    /// Shows what happened: frames, operations and deliveries.
+    fn show_run<W: fmt::Write>(&self, f: &mut fmt::Formatter<W>) -> fmt::Result {
+        self.show_arrows(f)?;
+        self.show_stubs(f)?;
+        self.show_bars(f)?;
+        self.show_points(f)?;
+        self.show_deliveries(f)
     }
 }
 
@@ -334,13 +404,9 @@ impl<A: Allocator + Copy> fmt::Display for Drawing<'_, A> {
         self.show_page(f)?;
         self.show_events(f)?;
         self.show_processes(f)?;
-        self.show_arrows(f)?;
-        self.show_stubs(f)?;
-        self.show_bars(f)?;
-        self.show_points(f)?;
-        self.show_deliveries(f)?;
-        self.show_lines(f, legend)?;
-        self.show_signs(f, legend)?;
+        self.show_run(f)?;
+        show_lines(f, legend)?;
+        show_signs(f, legend)?;
         f.write_str("</svg>\n")
     }
 }

@@ -108,6 +108,43 @@ fn rows_of<A: Allocator + Copy>(
     Ok((rows, y))
 }
 
+/// Up to where the room above and below each process's line is filled, and the whole drawing.
+#[derive(Drop)]
+struct Filled {
+    above: [u32; 256],
+    below: [u32; 256],
+    right: u32,
+}
+
+impl Filled {
+    /// Nothing stands anywhere.
+    fn new() -> Filled {
+        Filled {
+            above: [0; 256],
+            below: [0; 256],
+            right: LEAST,
+        }
+    }
+
+    /// Puts a text above the line of a process, from x or where that line is free: tells from where.
+    fn put_above(&mut self, process: u8, x: u32, wide: u32) -> u32 {
+        let free = &mut self.above[usize::from(process)];
+        let x = x.max(*free);
+        *free = x.saturating_add(wide).saturating_add(GAP);
+        self.right = self.right.max(*free);
+        x
+    }
+
+    /// The same below it, where a text stands a little to the left.
+    fn put_below(&mut self, process: u8, x: u32, wide: u32) -> u32 {
+        let free = &mut self.below[usize::from(process)];
+        let x = x.max(*free);
+        *free = x.saturating_add(wide).saturating_add(GAP).saturating_add(8);
+        self.right = self.right.max(*free);
+        x
+    }
+}
+
 /// The layout of these moments and bars, with the text of each bar.
 pub fn lay_out<A: Allocator + Copy>(
     alloc: A,
@@ -117,37 +154,28 @@ pub fn lay_out<A: Allocator + Copy>(
     bars: &[Bar],
     labels: &[Label<A>],
 ) -> Result<Layout<A>, AllocError> {
+    let mut filled = Filled::new();
     let mut events = Vec::new(alloc);
-    let mut above = [0u32; 256];
-    let mut below = [0u32; 256];
     let mut x = LEFT;
-    let mut right = LEAST;
     for (number, moment) in moments.iter().enumerate() {
-        let row = usize::from(moment.process);
         for (bar, label) in bars.iter().zip(labels) {
             if bar.call as usize == number {
-                x = x.max(above[row]);
-                above[row] = x
-                    .saturating_add(width_of(label.text.len()))
-                    .saturating_add(GAP);
-                right = right.max(above[row]);
+                x = filled.put_above(moment.process, x, width_of(label.text.len()));
             }
         }
         if !moment.delivered.is_empty() {
-            x = x.max(below[row]);
             let wide = width_of(longest(alloc, names, moment)?);
-            below[row] = x.saturating_add(wide).saturating_add(GAP).saturating_add(8);
-            right = right.max(below[row]);
+            x = filled.put_below(moment.process, x, wide);
         }
         events.push(x)?;
         x = x.saturating_add(STEP);
-        right = right.max(x);
+        filled.right = filled.right.max(x);
     }
     let (rows, bottom) = rows_of(alloc, processes, moments)?;
     Ok(Layout {
         events,
         rows,
-        width: right.saturating_add(GAP),
+        width: filled.right.saturating_add(GAP),
         height: bottom.saturating_add(LEGEND),
     })
 }
