@@ -9,11 +9,32 @@ use crate::words::{Asked, choose};
 use reg_commands::run_text;
 use reg_live_command::run_live;
 use reg_words::{WordsFault, tell, words_of};
-use std::io::{self, BufWriter, Write};
+use std::io::{self, BufWriter, Read, Write};
 use std::rt::Env;
 use std::sync::Wait;
 use std::thread::Threads;
 use std::time::Clock;
+
+/// Runs what is asked for, and gives its status.
+fn obey<R, I: Read, O: Write, E: Write>(
+    rt: &R,
+    asked: Asked,
+    reader: &mut I,
+    writer: &mut O,
+    errors: &mut E,
+) -> u8
+where
+    R: AllocGlobal + Threads + Wait + Clock + Copy + Send + Sync + 'static,
+    ensures range { result ≤ 1 }
+    ensures quiet { result ≡ 0 → errors.new ≡ errors.old }
+{
+    match asked {
+        Asked::Live => run_live(*rt, rt.alloc(), reader, writer, errors),
+        Asked::Text { command } => {
+            run_text(rt.alloc(), rt.alloc(), command, reader, writer, errors)
+        }
+    }
+}
 
 /// Runs the command that the words ask for, and gives its status.
 fn obey_words<R, E>(rt: &R, words: &[String], errors: &mut E) -> Result<u8, WordsFault>
@@ -29,18 +50,7 @@ where
     let Ok(mut writer) = BufWriter::new(rt.alloc(), io::writer(rt)) else {
         return Err(WordsFault::OutOfMemory);
     };
-    let (alloc, global) = (rt.alloc(), rt.alloc());
-    match asked {
-        Asked::Live => Ok(run_live(*rt, global, &mut reader, &mut writer, errors)),
-        Asked::Text { command } => Ok(run_text(
-            alloc,
-            global,
-            command,
-            &mut reader,
-            &mut writer,
-            errors,
-        )),
-    }
+    Ok(obey(rt, asked, &mut reader, &mut writer, errors))
 }
 
 /// Tells why the words ask for nothing, and gives the status.

@@ -12,7 +12,7 @@ use reg_commands::{Fault, write_fault};
 use reg_show::show_text;
 use reg_text::write_bytes;
 use reg_words::{WordsFault, tell, words_of};
-use std::io::{self, BufWriter, Write};
+use std::io::{self, BufWriter, Read, Write};
 use std::rt::Env;
 
 /// Writes how the program is used. Where the writer fails, that is told.
@@ -29,6 +29,25 @@ fn help<W: Write, E: Write>(text: &str, writer: &mut W, errors: &mut E) -> u8
     1
 }
 
+/// Shows what is asked for, or helps, and gives the status.
+fn obey<R: AllocGlobal, I: Read, O: Write, E: Write>(
+    rt: &R,
+    asked: Asked,
+    reader: &mut I,
+    writer: &mut O,
+    errors: &mut E,
+) -> u8
+    ensures range { result ≤ 1 }
+    ensures quiet { result ≡ 0 → errors.new ≡ errors.old }
+{
+    match asked {
+        Asked::Help => help(HELP, writer, errors),
+        Asked::Show { showing } => {
+            show_text(rt.alloc(), rt.alloc(), showing, reader, writer, errors)
+        }
+    }
+}
+
 /// Does what the words ask for, and gives the status.
 fn obey_words<R, E>(rt: &R, words: &[String], errors: &mut E) -> Result<u8, WordsFault>
 where
@@ -43,18 +62,7 @@ where
     let Ok(mut writer) = BufWriter::new(rt.alloc(), io::writer(rt)) else {
         return Err(WordsFault::OutOfMemory);
     };
-    let (alloc, global) = (rt.alloc(), rt.alloc());
-    match asked {
-        Asked::Help => Ok(help(HELP, &mut writer, errors)),
-        Asked::Show { showing } => Ok(show_text(
-            alloc,
-            global,
-            showing,
-            &mut reader,
-            &mut writer,
-            errors,
-        )),
-    }
+    Ok(obey(rt, asked, &mut reader, &mut writer, errors))
 }
 
 /// Tells why the words ask for nothing, and gives the status.
