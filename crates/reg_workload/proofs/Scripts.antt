@@ -5,7 +5,7 @@ use Rattle.std.proofs.lemmas.List.{append-nil, length-map, length-replicate, len
 use Rattle.std.proofs.Math.Seq.{take-suc, take-length}
 use Rattle.std.proofs.lemmas.Bool.{cases_eq, ne_eqb, eq-eqb}
 use Rattle.std.proofs.lemmas.Grind.{flat_map-append}
-use Rattle.reg_base.specs.declared.limits.TheConstants.{MOST_PROCESSES}
+use Rattle.reg_base.specs.declared.limits.TheConstants.{MOST_PROCESSES, MOST_OPERATIONS}
 use Rattle.reg_base.specs.declared.memory.Op.{Op}
 use Rattle.reg_base.specs.declared.memory.Op.TheVariants.{Read}
 use Rattle.reg_base.specs.Shape.{Extent}
@@ -19,7 +19,7 @@ use Rattle.reg_world.specs.Worlds.{run_in}
 use Rattle.reg_process.proofs.Again.{replicate_at}
 use Rattle.reg_world.proofs.witness.Promised.{settled}
 use Rattle.reg_world.proofs.one_order.Settled.{none_on_link}
-use Rattle.reg_workload.specs.Plays.{call_at, calls_of, script_of, Playing, next_at, next_op, IsFinished, IsPlay, FollowsScript}
+use Rattle.reg_workload.specs.Plays.{call_at, calls_of, script_of, Playing, next_at, next_op, calls_next, IsFinished, IsPlay, FollowsScript}
 use Rattle.reg_workload.specs.PlayParts.{Follows, IsPlayable, ArePlayable, IsPlaying, AllStill}
 use Rattle.reg_workload.specs.FairParts.{AtRest}
 
@@ -159,6 +159,32 @@ next_in items vs s q place n dn dv op d e good l p b k o =
     sym (get_or-map items vs place dv [] lv) ∙ ap (λ (xs : List (List Op)). slice_index_or xs place []) (sym e) ∙ ap (λ i. slice_index_or s.scripts i []) p in
     let at : n ≡ next_at s q = b ∙ get_or_default s.next place dn 0 ln ∙ ap (λ i. slice_index_or s.next i 0) p in
     (at, o ∙ ap (λ x. slice_index_or x n d) script ∙ ap (λ i. slice_index_or (script_of s.scripts q) i d) at ∙ get_or_default (script_of s.scripts q) (next_at s q) d (Read 0) k)
+
+-- the number of that operation is within the script
+pub number_in : {V : Type 0} (items : V → List Op) (vs : List V) (s : Playing) (q place n dn : ℕ) (dv : V) → s.scripts ≡ map items vs → IsPlaying s → q < s.made.processes → place ≡ q
+    → n ≡ slice_index_or s.next place dn → next_at s q < length (script_of s.scripts q) → n < length (items (slice_index_or vs place dv))
+number_in items vs s q place n dn dv e good l p b k =
+    let z : length s.scripts ≡ length vs = ap length e ∙ length-map vs items in
+    let g = good.scripts in let h = good.next in
+    let lv : place < length vs = omega (arith, z, g, l, p) in
+    let ln : place < length s.next = omega (arith, h, l, p) in
+    let script : items (slice_index_or vs place dv) ≡ script_of s.scripts q =
+    sym (get_or-map items vs place dv [] lv) ∙ ap (λ (xs : List (List Op)). slice_index_or xs place []) (sym e) ∙ ap (λ i. slice_index_or s.scripts i []) p in
+    let at : n ≡ next_at s q = b ∙ get_or_default s.next place dn 0 ln ∙ ap (λ i. slice_index_or s.next i 0) p in
+    let same = ap length script in
+    omega (arith, at, same, k)
+
+pub number_few : (s : Playing) (q place n dn : ℕ) → IsPlaying s → q < s.made.processes → place ≡ q → n ≡ slice_index_or s.next place dn → next_at s q < length (script_of s.scripts q) → n < MOST_OPERATIONS
+number_few s q place n dn good l p b k =
+    let g = good.scripts in let h = good.next in
+    let ln : place < length s.next = omega (arith, h, l, p) in
+    let at : n ≡ next_at s q = b ∙ get_or_default s.next place dn 0 ln ∙ ap (λ i. slice_index_or s.next i 0) p in
+    let few = (good.playable q (omega (arith, g, l))).few in
+    omega (arith, at, few, k)
+
+-- the play after that call
+pub is_next : (start : Op → ℕ → Start) (s t : Playing) (q place n : ℕ) (op : Op) (m : Made) → n ≡ next_at s q → op ≡ next_op s q → place ≡ q → m ≡ with_event start s.made (Call q op) → s ≡ t → record s { made = m; next = slice_set s.next place (n + 1) } ≡ calls_next start t q
+is_next start s t q place n op m a b p is e = rw (is, a, b, p) (ap (λ r. calls_next start r q) e)
 
 -- where nothing is left of its script, a process has called all of it
 pub all_called : (s : Playing) (p : ℕ) → Follows s p → (next_at s p < length (script_of s.scripts p) → ⊥) → calls_of p s.made.accepted ≡ script_of s.scripts p

@@ -81,10 +81,10 @@ impl<'w, F: FrontEnd, A: Allocator + Copy> Player<'w, F, A> {
         ensures scripts { IfOk result (λ p. p.scripts ≡ map (λ v. v.items) scripts.now) }
         ensures cursors { IfOk result (λ p. (a b : ℕ) → cursor_at p a b ≡ 0) }
     {
-        let world = World::new(alloc, shape)?;
         let count = shape.processes() as usize;
         let next = vec![in alloc; 0usize; count]?;
         let cursors = vec![in alloc; [0u32; WIDTH]; count]?;
+        let world = World::new(alloc, shape)?;
         Ok(Player {
             world,
             scripts,

@@ -48,7 +48,8 @@ fn take_or_lose<F: FrontEnd, R: Words, A: Allocator + Copy>(
     ensures value { OnOk result ((player.new, words.new) ≡ takes_or_loses F.start R.next_word odds.loss odds.repeat player.old from to number words.old) }
     ensures turns { OnOk result (Turns odds.loss player.old player.new) }
 {
-    if happens(words, odds.loss) {
+    let lost = happens(words, odds.loss);
+    if lost {
         player.leave(from, to);
         return Ok(());
     }
