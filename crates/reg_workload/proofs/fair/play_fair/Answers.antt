@@ -1,11 +1,17 @@
-use Rattle.std.proofs.Common.{◌≡◌, ◌∙◌, ap, sym, subst, map, List, length, arith}
+use Rattle.std.proofs.Common.{ℕ, ◌≡◌, ◌∙◌, ap, sym, subst, map, List, length, arith}
 use Rattle.reg_base.specs.declared.memory.Op.{Op}
+use Rattle.reg_base.specs.Shape.{Extent}
+use Rattle.reg_front.specs.declared.starts.Start.{Start}
 use Rattle.reg_world.specs.Worlds.{Made}
-use Rattle.reg_workload.specs.Plays.{IsPlay}
+use Rattle.reg_workload.specs.Plays.{Playing, IsPlay, new_play}
+use Rattle.reg_workload.specs.Rounds.{rounds, fair_play}
 use Rattle.reg_workload.specs.Fair.{TakesInOrder}
 use Rattle.reg_workload.proofs.InOrder.{in_order}
 use Rattle.reg_workload.proofs.Fairness.{begins_fair}
 use Rattle.reg_workload.proofs.fair.play_fair.Goals as goal
+
+played : (start : Op → ℕ → Start) (shape : Extent) (scripts : List (List Op)) (budget : ℕ) (first last : Playing) (w : Made) → w ≡ last.made → last ≡ rounds start budget budget first → first ≡ new_play shape scripts → w ≡ (fair_play start shape scripts budget).made
+played start shape scripts budget first last w made went new = made ∙ ap Playing.made (went ∙ ap (rounds start budget budget) new)
 
 pub play_rounds-requires-clause-fair : goal.play_rounds-requires-clause-fair
 play_rounds-requires-clause-fair g c = begins_fair g.F.FrontEnd.start c.args.shape c.in_ok-player.player c.in_ok-player.ensures.made c.in_ok-player.ensures.cursors
@@ -24,3 +30,15 @@ pub returns-clause-finished : goal.returns-clause-finished
 returns-clause-finished g c = λ less.
     let w = ap (λ (m : Made). length m.accepted) c.end.ensures.world in
     c.end.ensures.rest (c.in_ok-play_rounds.ensures.rest (omega (arith, w, less)))
+
+pub new-requires-clause-playable : goal.new-requires-clause-playable
+new-requires-clause-playable g c = c.requires.playable
+
+pub play_rounds-requires-clause-going : goal.play_rounds-requires-clause-going
+play_rounds-requires-clause-going g c = ap Made.failed c.in_ok-player.ensures.made
+
+pub play_rounds-requires-clause-few : goal.play_rounds-requires-clause-few
+play_rounds-requires-clause-few g c = let none = ap (λ (m : Made). length m.accepted) c.in_ok-player.ensures.made in omega (arith, none)
+
+pub returns-clause-rounds : goal.returns-clause-rounds
+returns-clause-rounds g c = played g.F.FrontEnd.start c.args.shape (map (λ v. v.items) c.args.scripts.now) c.args.budget c.in_ok-player.player c.play_rounds.new.player c.end.result.world c.end.ensures.world c.in_ok-play_rounds.ensures.value c.in_ok-player.ensures.value

@@ -1,4 +1,4 @@
-use Rattle.std.proofs.Common.{◌≡◌, false, sym, subst}
+use Rattle.std.proofs.Common.{◌≡◌, false, sym, subst, rules}
 use Rattle.std.proofs.lemmas.Result.{IfOk-weaker, on_ok_weaker}
 use Rattle.reg_workload.specs.Plays.{Playing}
 use Rattle.reg_workload.specs.FairParts.{RoundPart, NoneMayCall, AllBehind, AtRest}
@@ -37,3 +37,6 @@ returns-clause-value g c =
     on_ok_weaker c.take_each.result
     (λ (e : c.take_each.new.player ≡ takes_in_round start c.args.budget c.call_each.new.player.made.processes c.call_each.new.player). round_is start c.args.budget c.args.player.now c.call_each.new.player c.take_each.new.player c.in_ok-call_each.ensures.value part.goes.on.processes e)
     c.take_each.ensures.value
+
+pub returns-then-branch-clause-part : goal.returns-then-branch-clause-part
+returns-then-branch-clause-part g c = search rules

@@ -1,4 +1,4 @@
-use Rattle.std.proofs.Common.{arith, ◌≡◌, ◌≤◌, ◌+◌, ◌∙◌, false, refl, ap, subst}
+use Rattle.std.proofs.Common.{rules, arith, ◌≡◌, ◌≤◌, ◌+◌, ◌∙◌, false, refl, ap, subst}
 use borrow.Author.Count.{below_more}
 use Rattle.std.proofs.lemmas.Grind.{common_steps}
 use Rattle.reg_workload.specs.Plays.{Playing}
@@ -37,3 +37,12 @@ pub returns-clause-value : goal.returns-clause-value
 returns-clause-value g c =
     let all : c.loop-from.from ≡ c.args.player.now.made.processes = let b = c.processes-from-end.ensures.value in omega (arith, b) in
     c.loop-from.invariant.value ∙ ap (λ k. takes_in_round g.F.FrontEnd.start c.args.budget k c.args.player.now) all
+
+pub take_from-requires-clause-from : goal.take_from-requires-clause-from
+take_from-requires-clause-from g c = search rules
+
+pub returns-then-branch-clause-part : goal.returns-then-branch-clause-part
+returns-then-branch-clause-part g c = search rules
+
+pub returns-clause-part : goal.returns-clause-part
+returns-clause-part g c = search rules

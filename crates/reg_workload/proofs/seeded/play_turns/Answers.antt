@@ -1,4 +1,4 @@
-use Rattle.std.proofs.Common.{arith, ◌≤◌, ◌∙◌, refl}
+use Rattle.std.proofs.Common.{rules, arith, ◌≤◌, ◌∙◌, refl}
 use Rattle.reg_workload.proofs.Turning.{goes_more, turn_none, turns_more, turns_end, few_behind}
 use Rattle.reg_workload.proofs.seeded.play_turns.Goals as goal
 
@@ -36,3 +36,22 @@ returns-then-branch-clause-value g c =
     c.in_ok-play_turn.ensures.value
     ∙ (turn_none start next_word loss repeat c.loop-turn.player c.loop-turn.words none
     ∙ turns_end start next_word loss repeat c.loop-turn._turn c.args.budget (c.args.player.now, c.args.words.now) c.loop-turn.player c.loop-turn.words c.loop-turn.invariant.value within none)
+
+pub play_turn-requires-clause-room : goal.play_turn-requires-clause-room
+play_turn-requires-clause-room g c =
+    let few = c.loop-turn.invariant.on.few in
+    let more = c.loop-turn-test.true in
+    let most = c.requires.budget in
+    omega (arith, few, more, most)
+
+pub returns-clause-value : goal.returns-clause-value
+returns-clause-value g c = search rules
+
+pub returns-clause-on : goal.returns-clause-on
+returns-clause-on g c = search rules
+
+pub returns-clause-ended : goal.returns-clause-ended
+returns-clause-ended g c = search rules
+
+pub returns-then-branch-clause-on : goal.returns-then-branch-clause-on
+returns-then-branch-clause-on g c = search rules
