@@ -4,3 +4,4 @@ pub mod Lists
 pub mod Spelled
 pub mod Loaded
 pub mod Whole
+pub mod Refused
