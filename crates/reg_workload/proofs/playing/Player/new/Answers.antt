@@ -1,4 +1,4 @@
-use Rattle.std.proofs.Common.{rules, ◌≡◌, ◌∙◌, ◌≤◌, ℕ, List, [], ap, slice_index_or, map, length, replicate, refl, arith}
+use Rattle.std.proofs.Common.{◌≡◌, ◌∙◌, ◌≤◌, ℕ, List, [], ap, slice_index_or, map, length, replicate, refl, arith}
 use Rattle.std.specs.List.{each_same}
 use Rattle.std.proofs.lemmas.List.{length-map, length-replicate}
 use Rattle.reg_base.specs.declared.limits.TheConstants.{MOST_PROCESSES}
