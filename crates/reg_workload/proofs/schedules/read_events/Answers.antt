@@ -1,7 +1,7 @@
 use Rattle.std.proofs.Common.{sym, subst, rules, arith, ap, inr, map, ◌∙◌, ◌≡◌, ◌+◌, List, [], ◌∷◌, ◌++◌}
 use Rattle.reg_world.specs.declared.events.Event.{Event}
 use Rattle.reg_workload.specs.Schedules.{event_text, EventFits}
-use Rattle.reg_text.proofs.Turns.{Gathered, gathers_one, gathers_none}
+use Rattle.reg_text.proofs.Turns.{Gathered, gathers_one, gathers_none, gathers_more}
 use Rattle.reg_workload.proofs.schedules.read_events.Goals as goal
 
 pub loop-place-preserved : goal.loop-place-preserved
@@ -37,3 +37,9 @@ returns-in_default-read_event-clause-wrong g c =
         why_further = λ full. absurd (omega (arith, told.count, full));
       },
     )
+
+pub returns-in-Some-next-clause-whole : goal.returns-in-Some-next-clause-whole
+returns-in-Some-next-clause-whole g c = λ ys fit few e.
+    let last = c.loop-place-test.false in
+    absurd (gathers_more (event_text c.args.names.now) (λ _ x. EventFits c.args.names.now x) c.args.lines.now.left c.loop-place.lines.left c.loop-place.events.items c.loop-place._place c.loop-place.invariant
+    c.in-Some-next.line.now _ c.in-Some-next.ensures.line ys fit (omega (arith, few, last)) e)
