@@ -22,4 +22,5 @@ pub mod Writing
 pub mod WithinLimits
 pub mod Columned
 mod Numerals
-mod Tails
+mod Counted
+pub mod Tails

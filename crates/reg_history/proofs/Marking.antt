@@ -3,6 +3,9 @@ use Rattle.std.proofs.Common.{◌≡◌, ◌≢◌, ℕ, ◌+◌, ◌<◌, ◌�
 use Rattle.std.proofs.lemmas.Option.{same_Some, slice_get_within}
 use Rattle.std.proofs.lemmas.Bool.{cases_order}
 use Rattle.reg_base.specs.declared.memory.OpId.{OpId}
+use Rattle.reg_base.specs.declared.memory.Answer.{Answer}
+use Rattle.reg_history.specs.declared.entries.Entry.{Entry}
+use Rattle.reg_history.specs.declared.entries.Entry.TheVariants.{Answered}
 use Rattle.reg_history.specs.History.{IsAt}
 use Rattle.reg_history.specs.Orders.{IsDistinct}
 use Rattle.reg_history.specs.Checks.{HasTwice}
@@ -120,3 +123,20 @@ unmarked_are rows none id = (λ h. absurd (none id h), λ r. absurd (empty r.0 r
   where
     empty : (k : ℕ) → IsAt [] k id → ⊥
     empty k h = cc
+
+-- the operations that the first i entries answer are marked
+abbrev pub FinishedUpTo : {A : Type 0} → Rows A → List Entry → ℕ → Type 0
+FinishedUpTo rows es i = (j t : ℕ) (id : OpId) (a : Answer) → j < i → IsAt es j (Answered t id a) → Marked rows id
+
+pub finished_more : {A : Type 0} (rows : Rows A) (es : List Entry) (i : ℕ) → FinishedUpTo rows es i
+    → ((t : ℕ) (id : OpId) (a : Answer) → IsAt es i (Answered t id a) → Marked rows id) → FinishedUpTo rows es (i + 1)
+finished_more rows es i before here j t id a less at = go (cases_order j i)
+  where
+    go : (j ≡ i) ⊎ ((j < i) ⊎ (i < j)) → Marked rows id
+    go (inl e) = here t id a (subst (λ (k : ℕ). IsAt es k (Answered t id a)) e at)
+    go (inr (inl h)) = before j t id a h at
+    go (inr (inr h)) = absurd (omega arith)
+
+-- an answer of a marked operation
+pub same_marked : {A : Type 0} (rows : Rows A) (at t : ℕ) (id x : OpId) (answer a : Answer) → Marked rows id → Answered at id answer ≡ Answered t x a → Marked rows x
+same_marked rows at t id x answer a marked e = let same : id ≡ x = cc in subst (λ (y : OpId). Marked rows y) same marked

@@ -5,6 +5,7 @@ use Rattle.std.proofs.lemmas.List.{length-append, length-replicate, length-drop}
 use Rattle.reg_text.specs.Columns.{to_right, to_left}
 use Rattle.reg_text.specs.Forms.{is_numeral}
 use Rattle.reg_text.specs.Parts.{Lacks}
+use Rattle.reg_history.specs.LineForms.{FitsColumn}
 use Rattle.reg_text.proofs.NamesLack.{both_true}
 use Rattle.reg_text.proofs.Formed.{numeral_lacks}
 use Rattle.reg_text.proofs.Spaces.{is_space, split_spaces, past_spaces, past}
@@ -40,3 +41,12 @@ length_left places ds short = omega (arith, short, length-append ds (replicate (
 
 pub length_right : (places : ℕ) (ds : List ℕ) → length ds ≤ places → length (to_right places ds) ≡ places
 length_right places ds short = omega (arith, short, length-append (replicate (places - length ds) 32) ds, length-replicate {A = ℕ} (places - length ds) 32)
+
+-- a numeral at the right of a column that stands first
+pub right_column : (places : ℕ) (bytes column after digits behind : List ℕ) → bytes ≡ column ++ after → length column ≡ places → is_numeral digits ≡ true → column ≡ to_right (length column) digits → after ≡ behind
+    → FitsColumn places digits × (bytes ≡ to_right places digits ++ behind)
+right_column places bytes column after digits behind cut long numeral is rest =
+    let size : length column ≡ length (to_right (length column) digits) = ap length is in (
+      record { numeral_is = numeral; short = omega (arith, size, long, length-append (replicate (length column - length digits) 32) digits, length-replicate {A = ℕ} (length column - length digits) 32) },
+      cut ∙ ap (λ l. l ++ after) (is ∙ ap (λ m. to_right m digits) long) ∙ ap (λ l. to_right places digits ++ l) rest,
+    )

@@ -1,11 +1,11 @@
--- What a push into a row leaves.
-use Rattle.std.proofs.Common.{◌≡◌, ◌≢◌, ℕ, zero, suc, ◌<◌, ◌⊎◌, inl, inr, ◌↔◌, IsSome, List, [], ◌∷◌, ◌++◌, length, set, Option, Some, Vec, option_and_then, slice_get, ap, ap₂, sym, ◌∙◌, subst, arith, rules}
+-- Rows without facts, and what a push into a row leaves.
+use Rattle.std.proofs.Common.{◌≡◌, ◌≢◌, ℕ, zero, suc, ◌<◌, ◌⊎◌, inl, inr, ◌↔◌, IsSome, List, [], ◌∷◌, ◌++◌, length, set, Option, None, Some, Vec, option_and_then, slice_get, refl, ap, ap₂, sym, ◌∙◌, subst, arith, rules}
 use Rattle.std.proofs.lemmas.Option.{slice_get_within}
 use Rattle.std.proofs.lemmas.Bool.{cases_order, cases_eq}
 use Rattle.reg_base.specs.declared.memory.OpId.{OpId}
 use Rattle.reg_history.specs.declared.answers.Fact.{Fact}
 use Rattle.reg_history.proofs.Places.{get_set_same, get_set_other, get_push_same, get_push_other}
-use Rattle.reg_history.specs.Table.{Rows, cell, IsChangedAt}
+use Rattle.reg_history.specs.Table.{Rows, cell, IsChangedAt, IsTable, IsUnmarked}
 
 some_within : {X : Type 0} (xs : List X) (k : ℕ) → IsSome (slice_get xs k) → k < length xs
 some_within [] k h = search rules
@@ -18,7 +18,7 @@ within_some (x ∷ xs) zero h = search rules
 within_some (x ∷ xs) (suc k) h = within_some xs k (omega arith)
 
 -- the fact of an operation of a process whose row is known
-cell_of : {A : Type 0} (rows : Rows A) (id : OpId) (row : Vec Fact A) → slice_get rows id.process ≡ Some row → cell rows id ≡ slice_get row.items id.number
+pub cell_of : {A : Type 0} (rows : Rows A) (id : OpId) (row : Vec Fact A) → slice_get rows id.process ≡ Some row → cell rows id ≡ slice_get row.items id.number
 cell_of {A = A} rows id row e = ap (λ (o : Option (Vec Fact A)). option_and_then (λ (r : Vec Fact A). slice_get r.items id.number) o) e
 
 row_length : {A : Type 0} (rows : Rows A) (id : OpId) (row : Vec Fact A) → slice_get rows id.process ≡ Some row
@@ -59,3 +59,24 @@ changed_by_push {A = A} rows id f row new e items next = record { here = here; o
             let was : slice_get rows x.process ≡ Some row = ap (λ (p : ℕ). slice_get rows p) same ∙ e in
             cell_of (set rows id.process new) x new now ∙ (ap (λ (xs : List Fact). slice_get xs x.number) items ∙ (get_push_other row.items x.number f number ∙ sym (cell_of rows x row was)))
         go (inr away) = ap (λ (o : Option (Vec Fact A)). option_and_then (λ (r : Vec Fact A). slice_get r.items x.number) o) (get_set_other rows id.process x.process new away)
+
+-- one more row without facts brings none
+pub none_more : {A : Type 0} (rows : Rows A) (row : Vec Fact A) → row.items ≡ [] → ((id : OpId) → cell rows id ≡ None) → (id : OpId) → cell (rows ++ row ∷ []) id ≡ None
+none_more {A = A} rows row empty none id = go rows id.process (none id)
+  where
+    go : (rs : Rows A) (p : ℕ) → option_and_then (λ (r : Vec Fact A). slice_get r.items id.number) (slice_get rs p) ≡ None
+        → option_and_then (λ (r : Vec Fact A). slice_get r.items id.number) (slice_get (rs ++ row ∷ []) p) ≡ None
+    go [] zero h = ap (λ (xs : List Fact). slice_get xs id.number) empty
+    go [] (suc p) h = refl
+    go (r ∷ rs) zero h = h
+    go (r ∷ rs) (suc p) h = go rs p h
+
+not_both : {X : Type 0} (x : X) → None ≡ Some x → ⊥
+not_both x h = cc
+
+-- rows without facts are the table of no entries
+pub table_of_none : {A : Type 0} (rows : Rows A) → ((id : OpId) → cell rows id ≡ None) → IsTable [] rows
+table_of_none rows none = record { facts = λ id f is. absurd (not_both f (sym (none id) ∙ is)); all = λ id was. absurd (not_both _ was.2.1) }
+
+pub none_marked : {A : Type 0} (rows : Rows A) → ((id : OpId) → cell rows id ≡ None) → IsUnmarked rows
+none_marked rows none id marked = not_both marked.0 (sym (none id) ∙ marked.1)

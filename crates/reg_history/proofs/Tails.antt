@@ -8,7 +8,7 @@ use Rattle.reg_history.specs.LineForms.{HasTailForm, IsTailWhy}
 no_answer : (rest text other : List ℕ) → rest ≡ codes "call    " ++ text → rest ≡ codes "answer  " ++ other → ⊥
 no_answer rest text other e f = let clash = sym e ∙ f in search (rules, clash)
 
-of_some : (a b : Why) → Some a ≡ Some b → a ≡ b
+pub of_some : (a b : Why) → Some a ≡ Some b → a ≡ b
 of_some a b h = cc
 
 -- what is told of the operation of a call
@@ -20,11 +20,11 @@ pub record Told (names : List (List ℕ)) (text : List ℕ) (r : Option Why) : T
   pub known_swap : (name digits : List ℕ) (i : ℕ) → IsSwapForm text name digits → slice_get names i ≡ Some name → r ≡ Some Range
   pub unknown_swap : (name digits : List ℕ) → IsSwapForm text name digits → ((i : ℕ) → ¬ (slice_get names i ≡ Some name)) → r ≡ Some Name
 
-known_as : (names : List (List ℕ)) (text : List ℕ) (why : Why) (name digits : List ℕ) (i : ℕ) → Told names text (Some why) → IsWriteForm text name digits ⊎ IsSwapForm text name digits → slice_get names i ≡ Some name → why ≡ Range
+pub known_as : (names : List (List ℕ)) (text : List ℕ) (why : Why) (name digits : List ℕ) (i : ℕ) → Told names text (Some why) → IsWriteForm text name digits ⊎ IsSwapForm text name digits → slice_get names i ≡ Some name → why ≡ Range
 known_as names text why name digits i t (inl h) here = of_some why Range (t.known name digits i h here)
 known_as names text why name digits i t (inr h) here = of_some why Range (t.known_swap name digits i h here)
 
-unknown_as : (names : List (List ℕ)) (text : List ℕ) (why : Why) (name digits : List ℕ) → Told names text (Some why) → IsWriteForm text name digits ⊎ IsSwapForm text name digits → ((i : ℕ) → ¬ (slice_get names i ≡ Some name)) → why ≡ Name
+pub unknown_as : (names : List (List ℕ)) (text : List ℕ) (why : Why) (name digits : List ℕ) → Told names text (Some why) → IsWriteForm text name digits ⊎ IsSwapForm text name digits → ((i : ℕ) → ¬ (slice_get names i ≡ Some name)) → why ≡ Name
 unknown_as names text why name digits t (inl h) none = of_some why Name (t.unknown name digits h none)
 unknown_as names text why name digits t (inr h) none = of_some why Name (t.unknown_swap name digits h none)
 

@@ -1,6 +1,6 @@
 use Rattle.std.proofs.Common.{sym, subst, arith, rules, ◌≡◌, ◌<◌, ℕ, ◌+◌, List, [], ◌∷◌, ◌++◌, refl, ap, ◌∙◌}
 use Rattle.reg_text.specs.Inner.{IsBlock}
-use Rattle.reg_text.proofs.Turns.{Taken, steps, ended, refused, only_read}
+use Rattle.reg_text.proofs.Turns.{Taken, begins, steps, ended, refused, all_read, only_read}
 use Rattle.reg_history.specs.declared.report_faults.ReadWhy.{ReadWhy}
 use Rattle.reg_history.specs.LineForms.{IsBadNext}
 use Rattle.reg_history.proofs.blocks.read_block.Goals as goal
@@ -14,6 +14,17 @@ not_next line_of Fits HasForm n old (line ∷ after) xs i why l t bad ys rest b 
 pub returns-in_err-item-clause-whole : goal.returns-in_err-item-clause-whole
 returns-in_err-item-clause-whole g c = λ ys rest b.
     absurd (not_next g.T.Listed.line_of (g.T.Listed.Fits c.args.version) g.T.Listed.HasForm c.args.count c.args.lines.now.left c.loop-place.lines.left c.loop-place.items.items c.loop-place._place c.in_err-item.ensures.why.0 c.loop-place-test.true c.loop-place.invariant c.in_err-item.ensures.why.2 ys rest b)
+
+pub loop-place-init : goal.loop-place-init
+loop-place-init g c =
+    let P : List _ → Type 0 = λ l. Taken g.T.Listed.line_of (λ _ x. g.T.Listed.Fits c.args.version x) c.args.count c.args.lines.now.left c.args.lines.now.left l 0 in
+    subst P (sym c.new-items.ensures.items) (begins g.T.Listed.line_of (λ _ x. g.T.Listed.Fits c.args.version x) c.args.count c.args.lines.now.left)
+
+pub returns-clause-read : goal.returns-clause-read
+returns-clause-read g c =
+    let n : c.loop-place._place ≡ c.args.count = omega arith in
+    let P : ℕ → Type 0 = λ i. Taken g.T.Listed.line_of (λ _ x. g.T.Listed.Fits c.args.version x) c.args.count c.args.lines.now.left c.loop-place.lines.left c.loop-place.items.items i in
+    all_read g.T.Listed.line_of (λ _ x. g.T.Listed.Fits c.args.version x) c.args.count c.args.lines.now.left c.loop-place.lines.left c.loop-place.items.items (subst P n c.loop-place.invariant)
 
 pub loop-place-preserved : goal.loop-place-preserved
 loop-place-preserved g c =

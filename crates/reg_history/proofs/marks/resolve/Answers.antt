@@ -1,4 +1,4 @@
-use Rattle.std.proofs.Common.{◌≡◌, ◌+◌, List, take, get_or, Some, subst, sym, arith}
+use Rattle.std.proofs.Common.{◌≡◌, ◌+◌, List, [], take, get_or, Some, subst, sym, ◌∙◌, arith}
 use Rattle.std.specs.List.{AllZip}
 use Rattle.std.proofs.lemmas.Option.{slice_get-get_or, slice_get_within}
 use Rattle.reg_base.specs.declared.memory.OpId.{OpId}
@@ -9,6 +9,17 @@ use Rattle.reg_history.proofs.marks.resolve.Goals as goal
 
 no_id : OpId
 no_id = record { process = 0; number = 0 }
+
+pub loop-k-init : goal.loop-k-init
+loop-k-init g c = record {
+  each = subst (λ (xs : List Fact). AllZip (λ (id : OpId) (f : Fact). cell c.args.rows.now id ≡ Some f) [] xs) (sym (c.in_ok-reserve.ensures.items ∙ c.new-facts.ensures.items)) tt;
+  stand = λ k id less at. absurd (omega arith);
+}
+
+pub returns-in-None : goal.returns-in-None
+unfolding no_id
+returns-in-None g c =
+    (c.loop-k.k, get_or c.args.ids.now c.loop-k.k no_id, slice_get-get_or c.args.ids.now c.loop-k.k no_id c.loop-k-test.true, c.in-None.ensures)
 
 pub loop-k-preserved : goal.loop-k-preserved
 unfolding no_id

@@ -1,4 +1,4 @@
-use Rattle.std.proofs.Common.{rules, arith, ◌≡◌, ◌≤◌, ℕ, List, ◌∷◌, ◌++◌, length, map, codes, sym, ap, ◌∙◌, subst}
+use Rattle.std.proofs.Common.{rules, ◌≡◌, ◌≤◌, ℕ, List, ◌∷◌, ◌++◌, codes, sym, subst}
 use Rattle.std.specs.Fmt.{decimal}
 use Rattle.reg_base.specs.Shape.{Extent}
 use Rattle.reg_history.specs.declared.entries.Entry.{Entry}
@@ -7,6 +7,7 @@ use Rattle.reg_history.specs.LineForms.{IsCounted, Follows}
 use Rattle.reg_history.specs.EntryLines.{entry_text}
 use Rattle.reg_history.specs.declared.versions.Version.{Version}
 use Rattle.reg_history.specs.declared.report_limits.TheConstants.{MOST_ENTRIES}
+use Rattle.reg_history.proofs.Counted.{block_of, counted_of}
 use Rattle.reg_history.proofs.parts.read_history.Goals as goal
 
 -- the block behind a count
@@ -14,15 +15,14 @@ block : (version : Version) (names : List (List ℕ)) (shape s : Extent) (old mi
     → ((k : ℕ) (r : List (List ℕ)) → k ≤ MOST_ENTRIES → old ≡ (codes "history " ++ decimal k) ∷ r → (n ≡ k) × (mid ≡ r))
     → IsCounted (codes "history ") (entry_text names) (Follows version names shape) MOST_ENTRIES old rest ys → IsBlock (entry_text names) (Follows version names s) n mid rest ys
 block version names shape s old mid rest n ys same count b =
-    let both = count (length ys) (map (entry_text names) ys ++ rest) b.few b.lines in
     let P : Extent → Type 0 = λ x. IsBlock (entry_text names) (Follows version names x) n mid rest ys in
-    subst P (sym same) (record { lines = both.1; fit = b.fit; count = sym both.0 })
+    subst P (sym same) (block_of (codes "history ") (entry_text names) (Follows version names shape) MOST_ENTRIES n old mid rest ys count b)
 
 counted : (version : Version) (names : List (List ℕ)) (shape s : Extent) (old mid rest : List (List ℕ)) (n : ℕ) (ys : List Entry) → s ≡ shape → n ≤ MOST_ENTRIES → old ≡ (codes "history " ++ decimal n) ∷ mid
     → IsBlock (entry_text names) (Follows version names s) n mid rest ys → IsCounted (codes "history ") (entry_text names) (Follows version names shape) MOST_ENTRIES old rest ys
 counted version names shape s old mid rest n ys same few e b =
     let P : Extent → Type 0 = λ x. IsCounted (codes "history ") (entry_text names) (Follows version names x) MOST_ENTRIES old rest ys in
-    subst P same (record { lines = e ∙ ap (λ l. (codes "history " ++ decimal n) ∷ l) b.lines ∙ ap (λ k. (codes "history " ++ decimal k) ∷ (map (entry_text names) ys ++ rest)) (sym b.count); fit = b.fit; few = omega (arith, b.count, few) })
+    subst P same (counted_of (codes "history ") (entry_text names) (Follows version names s) MOST_ENTRIES n old mid rest ys few e b)
 
 pub returns-in_err-read_entries-clause-whole : goal.returns-in_err-read_entries-clause-whole
 returns-in_err-read_entries-clause-whole g c = λ ys rest b.

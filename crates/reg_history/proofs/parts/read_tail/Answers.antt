@@ -6,32 +6,31 @@ use Rattle.reg_history.specs.declared.report_limits.TheConstants.{MOST_IDS}
 use Rattle.reg_history.proofs.parts.read_tail.Goals as goal
 
 -- the line of a count has its form
-no_form : (line digits : List ℕ) (count : ℕ) → line ≡ codes "points " ++ digits → digits ≡ decimal count → count ≤ MOST_IDS → ((ds : List ℕ) → line ≡ codes "points " ++ ds → is_numeral ds ≡ false) → ⊥
-no_form line digits count e spelled few none =
-    let is = number_form digits count (omega (arith, few)) spelled in
-    let not = none digits e in
+had_form : (old left : List (List ℕ)) (now digits : List ℕ) (count : ℕ) → old ≡ now ∷ left → now ≡ codes "points " ++ digits → digits ≡ decimal count → count ≤ MOST_IDS
+    → (line : List ℕ) (rest : List (List ℕ)) → old ≡ line ∷ rest → ((ds : List ℕ) → line ≡ codes "points " ++ ds → is_numeral ds ≡ false) → ⊥
+had_form old left now digits count is marked spelled few line rest e none =
+    let both : now ∷ left ≡ line ∷ rest = sym is ∙ e in
+    let first : now ≡ line = cc in
+    let numeral = number_form digits count (omega (arith, few)) spelled in
+    let not = none digits (sym first ∙ marked) in
     absurd (cc)
 
 pub returns-in_err-points-clause-form : goal.returns-in_err-points-clause-form
 returns-in_err-points-clause-form g c = λ line rest e other none.
-    let both : c.in-Some.line.now ∷ c.next.new.self.left ≡ line ∷ rest = sym c.in-Some.ensures.line ∙ e in
-    let first : c.in-Some.line.now ≡ line = cc in
-    absurd (no_form line c.in-Some-skip.digits.now c.in-Some-numeral_within.count (sym first ∙ c.in-Some-skip.ensures.read) c.in-Some-numeral_within.ensures.read.0 c.in-Some-numeral_within.ensures.read.1 none)
+    absurd (had_form c.args.lines.now.left c.next.new.self.left c.in-Some.line.now c.in-Some-skip.digits.now c.in-Some-numeral_within.count
+    c.in-Some.ensures.line c.in-Some-skip.ensures.read c.in-Some-numeral_within.ensures.read.0 c.in-Some-numeral_within.ensures.read.1 line rest e none)
 
 pub returns-in_err-expect_line-clause-form : goal.returns-in_err-expect_line-clause-form
 returns-in_err-expect_line-clause-form g c = λ line rest e other none.
-    let both : c.in-Some.line.now ∷ c.next.new.self.left ≡ line ∷ rest = sym c.in-Some.ensures.line ∙ e in
-    let first : c.in-Some.line.now ≡ line = cc in
-    absurd (no_form line c.in-Some-skip.digits.now c.in-Some-numeral_within.count (sym first ∙ c.in-Some-skip.ensures.read) c.in-Some-numeral_within.ensures.read.0 c.in-Some-numeral_within.ensures.read.1 none)
+    absurd (had_form c.args.lines.now.left c.next.new.self.left c.in-Some.line.now c.in-Some-skip.digits.now c.in-Some-numeral_within.count
+    c.in-Some.ensures.line c.in-Some-skip.ensures.read c.in-Some-numeral_within.ensures.read.0 c.in-Some-numeral_within.ensures.read.1 line rest e none)
 
 pub returns-then-is_some-2-clause-form : goal.returns-then-is_some-2-clause-form
 returns-then-is_some-2-clause-form g c = λ line rest e other none.
-    let both : c.in-Some.line.now ∷ c.next.new.self.left ≡ line ∷ rest = sym c.in-Some.ensures.line ∙ e in
-    let first : c.in-Some.line.now ≡ line = cc in
-    absurd (no_form line c.in-Some-skip.digits.now c.in-Some-numeral_within.count (sym first ∙ c.in-Some-skip.ensures.read) c.in-Some-numeral_within.ensures.read.0 c.in-Some-numeral_within.ensures.read.1 none)
+    absurd (had_form c.args.lines.now.left c.next.new.self.left c.in-Some.line.now c.in-Some-skip.digits.now c.in-Some-numeral_within.count
+    c.in-Some.ensures.line c.in-Some-skip.ensures.read c.in-Some-numeral_within.ensures.read.0 c.in-Some-numeral_within.ensures.read.1 line rest e none)
 
 pub returns-clause-form : goal.returns-clause-form
 returns-clause-form g c = λ line rest e other none.
-    let both : c.in-Some.line.now ∷ c.next.new.self.left ≡ line ∷ rest = sym c.in-Some.ensures.line ∙ e in
-    let first : c.in-Some.line.now ≡ line = cc in
-    absurd (no_form line c.in-Some-skip.digits.now c.in-Some-numeral_within.count (sym first ∙ c.in-Some-skip.ensures.read) c.in-Some-numeral_within.ensures.read.0 c.in-Some-numeral_within.ensures.read.1 none)
+    absurd (had_form c.args.lines.now.left c.next.new.self.left c.in-Some.line.now c.in-Some-skip.digits.now c.in-Some-numeral_within.count
+    c.in-Some.ensures.line c.in-Some-skip.ensures.read c.in-Some-numeral_within.ensures.read.0 c.in-Some-numeral_within.ensures.read.1 line rest e none)
