@@ -23,4 +23,5 @@ pub mod WithinLimits
 pub mod Columned
 mod Numerals
 mod Counted
+mod PassedOn
 pub mod Tails

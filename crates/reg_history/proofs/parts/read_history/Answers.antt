@@ -1,4 +1,4 @@
-use Rattle.std.proofs.Common.{rules, ◌≡◌, ◌≤◌, ℕ, List, ◌∷◌, ◌++◌, codes, sym, subst}
+use Rattle.std.proofs.Common.{◌≡◌, ◌≤◌, ℕ, List, ◌∷◌, ◌++◌, codes, sym, subst}
 use Rattle.std.specs.Fmt.{decimal}
 use Rattle.reg_base.specs.Shape.{Extent}
 use Rattle.reg_history.specs.declared.entries.Entry.{Entry}
@@ -8,6 +8,7 @@ use Rattle.reg_history.specs.EntryLines.{entry_text}
 use Rattle.reg_history.specs.declared.versions.Version.{Version}
 use Rattle.reg_history.specs.declared.report_limits.TheConstants.{MOST_ENTRIES}
 use Rattle.reg_history.proofs.Counted.{block_of, counted_of}
+use Rattle.reg_history.proofs.PassedOn.{memory_passed_on}
 use Rattle.reg_history.proofs.parts.read_history.Goals as goal
 
 -- the block behind a count
@@ -28,7 +29,7 @@ pub returns-in_err-read_entries-clause-whole : goal.returns-in_err-read_entries-
 returns-in_err-read_entries-clause-whole g c = λ ys rest b.
     let k = block c.args.version c.args.names.now c.args.shape c.in-Ok.history.shape c.args.lines.now.left c.read_count.new.lines.left rest c.in_ok-count.count ys c.in-Ok.ensures.0 c.in_ok-count.ensures.whole b in
     let none = c.in_err-read_entries.ensures.whole ys rest k in
-    search rules
+    memory_passed_on c.from_residual-in_err-read_entries.result _ _ c.from_residual-in_err-read_entries.ensures.1 none
 
 pub returns-clause-read : goal.returns-clause-read
 returns-clause-read g c =

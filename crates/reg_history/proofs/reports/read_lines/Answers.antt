@@ -1,15 +1,16 @@
-use Rattle.std.proofs.Common.{rules, ◌≡◌, ◌∙◌, ap, sym, length, subst}
+use Rattle.std.proofs.Common.{◌≡◌, ◌∙◌, ap, sym, length, subst}
 use Rattle.reg_text.proofs.Shaped.{shape_is}
 use Rattle.reg_history.proofs.Whole.{after_head, after_history, history_part, order_part, same_contents, from_parts}
 use Rattle.reg_history.specs.declared.versions.Version.{Version}
 use Rattle.reg_history.proofs.Older.{widened}
 use Rattle.reg_history.specs.Reports.{tail_lines, IsReportIn}
+use Rattle.reg_history.proofs.PassedOn.{memory_passed_on}
 use Rattle.reg_history.proofs.reports.read_lines.Goals as goal
 
 pub returns-in_err-version-clause-whole : goal.returns-in_err-version-clause-whole
 returns-in_err-version-clause-whole g c = λ version r ok e.
     let head = c.in_err-version.ensures.whole version r.front r.shape.processes r.names (after_head r) ok.front ok.some_process ok.processes ok.names ok.few_names e in
-    search rules
+    memory_passed_on c.from_residual.result _ _ c.from_residual.ensures.1 head
 
 pub returns-in_err-history-clause-whole : goal.returns-in_err-history-clause-whole
 returns-in_err-history-clause-whole g c = λ version r ok e.
@@ -19,7 +20,7 @@ returns-in_err-history-clause-whole g c = λ version r ok e.
     let n : c.count.result ≡ r.shape.registers = c.count.ensures.value ∙ ap length head.3 ∙ sym ok.registers in
     let t : c.in-Ok.shape ≡ r.shape = s ∙ ap (λ x. record { processes = x; registers = c.count.result }) head.2 ∙ ap (λ x. record { processes = r.shape.processes; registers = x }) n in
     let history = c.in_err-history.ensures.whole r.entries (after_history r) (history_part c.in_ok-version.version r c.in_ok-version.names c.in-Ok.shape c.read_head.new.lines.left head.3 t head.4 held) in
-    search rules
+    memory_passed_on c.from_residual-in_err-history.result _ _ c.from_residual-in_err-history.ensures.1 history
 
 pub returns-in_err-order-clause-whole : goal.returns-in_err-order-clause-whole
 returns-in_err-order-clause-whole g c = λ version r ok e.
@@ -30,7 +31,7 @@ returns-in_err-order-clause-whole g c = λ version r ok e.
     let t : c.in-Ok.shape ≡ r.shape = s ∙ ap (λ x. record { processes = x; registers = c.count.result }) head.2 ∙ ap (λ x. record { processes = r.shape.processes; registers = x }) n in
     let history = c.in_ok-history.ensures.whole r.entries (after_history r) (history_part c.in_ok-version.version r c.in_ok-version.names c.in-Ok.shape c.read_head.new.lines.left head.3 t head.4 held) in
     let order = c.in_err-order.ensures.whole r.order (tail_lines r.points) (order_part c.in_ok-version.version r c.read_history.new.lines.left history.1 held) in
-    search rules
+    memory_passed_on c.from_residual-in_err-order.result _ _ c.from_residual-in_err-order.ensures.1 order
 
 pub returns-in_err-points-clause-whole : goal.returns-in_err-points-clause-whole
 returns-in_err-points-clause-whole g c = λ version r ok e.
@@ -42,7 +43,7 @@ returns-in_err-points-clause-whole g c = λ version r ok e.
     let history = c.in_ok-history.ensures.whole r.entries (after_history r) (history_part c.in_ok-version.version r c.in_ok-version.names c.in-Ok.shape c.read_head.new.lines.left head.3 t head.4 held) in
     let order = c.in_ok-order.ensures.whole r.order (tail_lines r.points) (order_part c.in_ok-version.version r c.read_history.new.lines.left history.1 held) in
     let points = c.in_err-points.ensures.whole r.points held.range.points_fit order.1 in
-    search rules
+    memory_passed_on c.from_residual-in_err-points.result _ _ c.from_residual-in_err-points.ensures.1 points
 
 pub returns-clause-read : goal.returns-clause-read
 returns-clause-read g c =
