@@ -17,16 +17,9 @@ use std::alloc::{AllocError, Allocator};
 fn standing<A: Allocator + Copy>(rows: &[Vec<Fact, A>], id: OpId) -> Option<Fact>
     ensures { MatchOption result (¬ Stands rows.now id) (λ f. (cell rows.now id ≡ Some f) × Stands rows.now id) }
 {
-    match fact_of(rows, id) {
-        Some(fact) => {
-            if fact.answered.is_some() || fact.op.updates() {
-                Some(fact)
-            } else {
-                None
-            }
-        }
-        None => None,
-    }
+    let fact = fact_of(rows, id)?;
+    let stands = fact.answered.is_some() || fact.op.updates();
+    stands.then_some(fact)
 }
 
 /// Marks an operation, if it is not yet marked.
