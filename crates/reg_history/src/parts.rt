@@ -132,7 +132,7 @@ pub fn read_history<A: Allocator + Copy>(
 }
 
 /// The order of a report.
-pub fn read_order<A: Allocator + Copy>(
+fn read_order<A: Allocator + Copy>(
     alloc: A,
     lines: &mut Lines<'_>,
     version: Version,
@@ -146,7 +146,7 @@ pub fn read_order<A: Allocator + Copy>(
 }
 
 /// The points of a report, if it has any, and its last line.
-pub fn read_tail<A: Allocator + Copy>(
+fn read_tail<A: Allocator + Copy>(
     alloc: A,
     lines: &mut Lines<'_>,
     version: Version,
@@ -180,4 +180,19 @@ pub fn read_tail<A: Allocator + Copy>(
         return Err(at_line(lines, ReadWhy::End));
     }
     Ok(Some(points))
+}
+
+/// The lists of a report: its order, and its points, if it has any. The last line is behind them.
+pub fn read_lists<A: Allocator + Copy>(
+    alloc: A,
+    lines: &mut Lines<'_>,
+    version: Version,
+) -> Result<(Vec<OpId, A>, Option<Vec<Point, A>>), ReadFault>
+    ensures read { IfOk result (λ p. let points = option_map (λ v. v.items) p.1 in (mid : List (List ℕ)) × IsCounted (codes "order ") id_text (λ _ x. IdFits version x) MOST_IDS lines.old.left mid p.0.items × (mid ≡ tail_lines points) × PointsFit version points) }
+    ensures whole { (order : List OpId) (points : Option (List Point)) → IsCounted (codes "order ") id_text (λ _ x. IdFits version x) MOST_IDS lines.old.left (tail_lines points) order → PointsFit version points
+        → MatchResult result (λ p. (p.0.items ≡ order) × (option_map (λ v. v.items) p.1 ≡ points)) (λ f. f ≡ ReadFault.OutOfMemory) }
+{
+    let order = read_order(alloc, lines, version)?;
+    let points = read_tail(alloc, lines, version)?;
+    Ok((order, points))
 }

@@ -11,7 +11,7 @@ ghost use Rattle.reg_history.specs.Reports.{lines_in, report_text, IsReport, IsR
 use crate::entries::{Entry, Point};
 use crate::items::all_fit;
 use crate::log::History;
-use crate::parts::{is_front, read_head, read_history, read_order, read_tail};
+use crate::parts::{is_front, read_head, read_history, read_lists};
 use crate::report_faults::{ReadFault, ReadWhy, ReportFault, WriteFault, at_line};
 use crate::report_limits::{MOST_ENTRIES, MOST_IDS};
 use crate::versions::Version;
@@ -199,8 +199,7 @@ fn read_lines<A: Allocator + Copy>(alloc: A, lines: &mut Lines<'_>) -> Result<Re
         return Err(at_line(lines, ReadWhy::Range));
     };
     let history = read_history(alloc, lines, shape, &names, version)?;
-    let order = read_order(alloc, lines, version)?;
-    let points = read_tail(alloc, lines, version)?;
+    let (order, points) = read_lists(alloc, lines, version)?;
     Ok(Report {
         front,
         names,

@@ -3,7 +3,7 @@ use Rattle.reg_text.proofs.Shaped.{shape_is}
 use Rattle.reg_history.proofs.Whole.{after_head, after_history, history_part, order_part, same_contents, from_parts}
 use Rattle.reg_history.specs.declared.versions.Version.{Version}
 use Rattle.reg_history.proofs.Older.{widened}
-use Rattle.reg_history.specs.Reports.{tail_lines, IsReportIn}
+use Rattle.reg_history.specs.Reports.{IsReportIn}
 use Rattle.reg_history.proofs.PassedOn.{memory_passed_on}
 use Rattle.reg_history.proofs.reports.read_lines.Goals as goal
 
@@ -30,27 +30,15 @@ returns-in_err-order-clause-whole g c = λ version r ok e.
     let n : c.count.result ≡ r.shape.registers = c.count.ensures.value ∙ ap length head.3 ∙ sym ok.registers in
     let t : c.in-Ok.shape ≡ r.shape = s ∙ ap (λ x. record { processes = x; registers = c.count.result }) head.2 ∙ ap (λ x. record { processes = r.shape.processes; registers = x }) n in
     let history = c.in_ok-history.ensures.whole r.entries (after_history r) (history_part c.in_ok-version.version r c.in_ok-version.names c.in-Ok.shape c.read_head.new.lines.left head.3 t head.4 held) in
-    let order = c.in_err-order.ensures.whole r.order (tail_lines r.points) (order_part c.in_ok-version.version r c.read_history.new.lines.left history.1 held) in
-    memory_passed_on c.from_residual-in_err-order.result _ _ c.from_residual-in_err-order.ensures.1 order
-
-pub returns-in_err-points-clause-whole : goal.returns-in_err-points-clause-whole
-returns-in_err-points-clause-whole g c = λ version r ok e.
-    let head = c.in_ok-version.ensures.whole version r.front r.shape.processes r.names (after_head r) ok.front ok.some_process ok.processes ok.names ok.few_names e in
-    let held : IsReportIn c.in_ok-version.version r = subst (λ (v : Version). IsReportIn v r) (sym head.0) ok in
-    let s : c.in-Ok.shape ≡ record { processes = c.in_ok-version.processes; registers = c.count.result } = shape_is c.new.result c.in_ok-version.processes c.count.result c.in-Ok.shape c.in-Ok.is c.new.ensures in
-    let n : c.count.result ≡ r.shape.registers = c.count.ensures.value ∙ ap length head.3 ∙ sym ok.registers in
-    let t : c.in-Ok.shape ≡ r.shape = s ∙ ap (λ x. record { processes = x; registers = c.count.result }) head.2 ∙ ap (λ x. record { processes = r.shape.processes; registers = x }) n in
-    let history = c.in_ok-history.ensures.whole r.entries (after_history r) (history_part c.in_ok-version.version r c.in_ok-version.names c.in-Ok.shape c.read_head.new.lines.left head.3 t head.4 held) in
-    let order = c.in_ok-order.ensures.whole r.order (tail_lines r.points) (order_part c.in_ok-version.version r c.read_history.new.lines.left history.1 held) in
-    let points = c.in_err-points.ensures.whole r.points held.range.points_fit order.1 in
-    memory_passed_on c.from_residual-in_err-points.result _ _ c.from_residual-in_err-points.ensures.1 points
+    let lists = c.in_err-order.ensures.whole r.order r.points (order_part c.in_ok-version.version r c.read_history.new.lines.left history.1 held) held.range.points_fit in
+    memory_passed_on c.from_residual-in_err-order.result _ _ c.from_residual-in_err-order.ensures.1 lists
 
 pub returns-clause-read : goal.returns-clause-read
 returns-clause-read g c =
     let head = c.in_ok-version.ensures.read in
     let s : c.in-Ok.shape ≡ record { processes = c.in_ok-version.processes; registers = c.count.result } = shape_is c.new.result c.in_ok-version.processes c.count.result c.in-Ok.shape c.in-Ok.is c.new.ensures in
-    let parts = from_parts c.in_ok-version.version _ c.in_ok-version.processes c.in_ok-version.names c.in-Ok.shape _ _ _ _ c.args.lines.now.left c.read_head.new.lines.left c.read_history.new.lines.left c.read_order.new.lines.left
-    head.0 head.1 head.2 head.3 head.4 head.5 (s ∙ ap (λ x. record { processes = c.in_ok-version.processes; registers = x }) c.count.ensures.value) c.in_ok-history.ensures.shape c.in_ok-history.ensures.read c.in_ok-order.ensures.read c.in_ok-points.ensures.read.0 c.in_ok-points.ensures.read.1 in
+    let parts = from_parts c.in_ok-version.version _ c.in_ok-version.processes c.in_ok-version.names c.in-Ok.shape _ _ _ _ c.args.lines.now.left c.read_head.new.lines.left c.read_history.new.lines.left c.in_ok-order.ensures.read.0
+    head.0 head.1 head.2 head.3 head.4 head.5 (s ∙ ap (λ x. record { processes = c.in_ok-version.processes; registers = x }) c.count.ensures.value) c.in_ok-history.ensures.shape c.in_ok-history.ensures.read c.in_ok-order.ensures.read.1 c.in_ok-order.ensures.read.2 c.in_ok-order.ensures.read.3 in
     (c.in_ok-version.version, parts.1, parts.0)
 
 pub returns-clause-whole : goal.returns-clause-whole
@@ -61,13 +49,12 @@ returns-clause-whole g c = λ version r ok e.
     let n : c.count.result ≡ r.shape.registers = c.count.ensures.value ∙ ap length head.3 ∙ sym ok.registers in
     let t : c.in-Ok.shape ≡ r.shape = s ∙ ap (λ x. record { processes = x; registers = c.count.result }) head.2 ∙ ap (λ x. record { processes = r.shape.processes; registers = x }) n in
     let history = c.in_ok-history.ensures.whole r.entries (after_history r) (history_part c.in_ok-version.version r c.in_ok-version.names c.in-Ok.shape c.read_head.new.lines.left head.3 t head.4 held) in
-    let order = c.in_ok-order.ensures.whole r.order (tail_lines r.points) (order_part c.in_ok-version.version r c.read_history.new.lines.left history.1 held) in
-    let points = c.in_ok-points.ensures.whole r.points held.range.points_fit order.1 in
-    same_contents r _ _ _ _ _ _ head.1 (c.in_ok-history.ensures.shape ∙ t) head.3 history.0 order.0 points
+    let lists = c.in_ok-order.ensures.whole r.order r.points (order_part c.in_ok-version.version r c.read_history.new.lines.left history.1 held) held.range.points_fit in
+    same_contents r _ _ _ _ _ _ head.1 (c.in_ok-history.ensures.shape ∙ t) head.3 history.0 lists.0 lists.1
 
 pub invariant_of-result : goal.invariant_of-result
 invariant_of-result g c =
     let head = c.in_ok-version.ensures.read in
     let s : c.in-Ok.shape ≡ record { processes = c.in_ok-version.processes; registers = c.count.result } = shape_is c.new.result c.in_ok-version.processes c.count.result c.in-Ok.shape c.in-Ok.is c.new.ensures in
-    widened c.in_ok-version.version _ (from_parts c.in_ok-version.version _ c.in_ok-version.processes c.in_ok-version.names c.in-Ok.shape _ _ _ _ c.args.lines.now.left c.read_head.new.lines.left c.read_history.new.lines.left c.read_order.new.lines.left
-    head.0 head.1 head.2 head.3 head.4 head.5 (s ∙ ap (λ x. record { processes = c.in_ok-version.processes; registers = x }) c.count.ensures.value) c.in_ok-history.ensures.shape c.in_ok-history.ensures.read c.in_ok-order.ensures.read c.in_ok-points.ensures.read.0 c.in_ok-points.ensures.read.1).1
+    widened c.in_ok-version.version _ (from_parts c.in_ok-version.version _ c.in_ok-version.processes c.in_ok-version.names c.in-Ok.shape _ _ _ _ c.args.lines.now.left c.read_head.new.lines.left c.read_history.new.lines.left c.in_ok-order.ensures.read.0
+    head.0 head.1 head.2 head.3 head.4 head.5 (s ∙ ap (λ x. record { processes = c.in_ok-version.processes; registers = x }) c.count.ensures.value) c.in_ok-history.ensures.shape c.in_ok-history.ensures.read c.in_ok-order.ensures.read.1 c.in_ok-order.ensures.read.2 c.in_ok-order.ensures.read.3).1
