@@ -1,12 +1,12 @@
 -- Lines of events by their form, and why they are refused.
-use Rattle.std.proofs.Common.{ℕ, ◌≡◌, ◌≤◌, true, List, ◌∷◌, ◌++◌, codes, inl, inr, Some, slice_get, refl, sym, ap, ◌∙◌, subst, arith, rules}
+use Rattle.std.proofs.Common.{ℕ, ◌≡◌, ◌≤◌, true, List, ◌∷◌, ◌++◌, codes, inl, inr, Some, refl, sym, ap, ◌∙◌, subst, arith, rules}
 use Rattle.std.specs.Fmt.{decimal}
 use Rattle.reg_text.specs.declared.faults.Why.{Why}
 use Rattle.reg_text.specs.declared.faults.Why.TheVariants.{Range, Name}
-use Rattle.reg_text.specs.Forms.{is_numeral, HasOpForm, IsReadForm, IsWriteForm, IsSwapForm}
+use Rattle.reg_text.specs.Forms.{is_numeral, HasOpForm}
 use Rattle.reg_text.specs.Parts.{Lacks}
 use Rattle.reg_text.proofs.Formed.{numeral_lacks}
-use Rattle.reg_history.specs.LineForms.{IsUpdateForm}
+use Rattle.reg_history.proofs.Tails.{Told, of_some, known_as, unknown_as}
 use Rattle.reg_workload.specs.LineForms.{HasEventForm, IsCallForm, IsTakeForm, IsTickForm, IsOpWhy, IsEventWhy}
 
 -- what stands before the first mark of a text, and what behind it
@@ -26,26 +26,7 @@ call_parts text front behind process rest cut h =
     let same : text ≡ process ++ 32 ∷ rest = cc in
     cut process rest (numeral_lacks 32 process (omega arith) h.0) same
 
-of_some : (a b : Why) → Some a ≡ Some b → a ≡ b
-of_some a b h = cc
-
--- what is told of the operation of a call
-pub record Told (names : List (List ℕ)) (text : List ℕ) (why : Why) : Type 0 where
-  pub read : (name : List ℕ) → IsReadForm text name → Some why ≡ Some Name
-  pub known : (name digits : List ℕ) (i : ℕ) → IsWriteForm text name digits → slice_get names i ≡ Some name → Some why ≡ Some Range
-  pub unknown : (name digits : List ℕ) → IsWriteForm text name digits → ((i : ℕ) → ¬ (slice_get names i ≡ Some name)) → Some why ≡ Some Name
-  pub known_swap : (name digits : List ℕ) (i : ℕ) → IsSwapForm text name digits → slice_get names i ≡ Some name → Some why ≡ Some Range
-  pub unknown_swap : (name digits : List ℕ) → IsSwapForm text name digits → ((i : ℕ) → ¬ (slice_get names i ≡ Some name)) → Some why ≡ Some Name
-
-known_as : (names : List (List ℕ)) (text : List ℕ) (why : Why) (name digits : List ℕ) (i : ℕ) → Told names text why → IsUpdateForm text name digits → slice_get names i ≡ Some name → why ≡ Range
-known_as names text why name digits i t (inl h) here = of_some why Range (t.known name digits i h here)
-known_as names text why name digits i t (inr h) here = of_some why Range (t.known_swap name digits i h here)
-
-unknown_as : (names : List (List ℕ)) (text : List ℕ) (why : Why) (name digits : List ℕ) → Told names text why → IsUpdateForm text name digits → ((i : ℕ) → ¬ (slice_get names i ≡ Some name)) → why ≡ Name
-unknown_as names text why name digits t (inl h) none = of_some why Name (t.unknown name digits h none)
-unknown_as names text why name digits t (inr h) none = of_some why Name (t.unknown_swap name digits h none)
-
-op_why : (names : List (List ℕ)) (text : List ℕ) (why : Why) → Told names text why → IsOpWhy names text why
+op_why : (names : List (List ℕ)) (text : List ℕ) (why : Why) → Told names text (Some why) → IsOpWhy names text why
 op_why names text why t = record {
   read = λ name h. of_some why Name (t.read name h);
   known = λ name digits i h here. known_as names text why name digits i t h here;
@@ -59,7 +40,7 @@ no_tick : (text process : List ℕ) → IsTickForm (codes "call " ++ text) proce
 no_tick text process h = let e = h.1 in search (rules, e)
 
 -- the process of a call is within its range
-pub why_within : (names : List (List ℕ)) (text process rest : List ℕ) (why : Why) (n : ℕ) → n ≤ 255 → process ≡ decimal n → is_numeral process ≡ true → HasOpForm rest → text ≡ process ++ 32 ∷ rest → IsCut text process rest → Told names rest why
+pub why_within : (names : List (List ℕ)) (text process rest : List ℕ) (why : Why) (n : ℕ) → n ≤ 255 → process ≡ decimal n → is_numeral process ≡ true → HasOpForm rest → text ≡ process ++ 32 ∷ rest → IsCut text process rest → Told names rest (Some why)
     → IsEventWhy names (codes "call " ++ text) why
 why_within names text process rest why n small e numeral form split cut t = record {
   formed = inl (process, rest, (numeral, form, ap (λ l. codes "call " ++ l) split));
