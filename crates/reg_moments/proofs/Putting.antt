@@ -1,13 +1,14 @@
 -- What is put in several parts.
-use Rattle.std.proofs.Common.{ℕ, ◌≡◌, ◌+◌, ◌<◌, List, [], ◌∷◌, ◌++◌, length, take, get_or, codes, Option, sym, ap, ◌∙◌, append-nil}
+use Rattle.std.proofs.Common.{ℕ, Bool, true, false, ◌≡◌, ◌+◌, ◌<◌, List, [], ◌∷◌, ◌++◌, length, take, get_or, codes, Option, sym, ap, subst, ◌∙◌, append-nil}
 use Rattle.std.specs.Fmt.{decimal}
+use Rattle.std.specs.Io.KnownBytes.{Appends}
 use Rattle.std.proofs.lemmas.Grind.{flat_map-append}
 use Rattle.std.proofs.lemmas.List.{take_more}
 use Rattle.std.proofs.lemmas.List.Folds.{flat_map-map}
 use Rattle.reg_front.specs.Table.{front_name}
 use Rattle.reg_text.specs.declared.writing.Sink.{Sink}
 use Rattle.reg_text.specs.Words.{names_text}
-use Rattle.reg_text.specs.Writing.{Puts}
+use Rattle.reg_text.specs.Writing.{AppendsPart, Puts, Sends}
 use Rattle.reg_text.proofs.Sent.{puts_two, puts_as}
 use Rattle.reg_history.specs.Written.{lines_by}
 use Rattle.reg_workload.specs.Schedules.{Plan, event_text}
@@ -39,3 +40,13 @@ schedule_put held p a b c d e h i j k =
     let v : List ℕ = lines_by (event_text p.names) p.events in
     let whole : s ++ (t ++ (u ++ v)) ≡ schedule_text p = ap (λ l. s ++ (t ++ (u ++ l))) (sym (flat_map-map (λ line. line ++ 10 ∷ []) (event_text p.names) p.events)) in
     puts_as held a e (s ++ (t ++ (u ++ v))) (schedule_text p) whole (puts_four held a b c d e s t u v h i j k)
+
+sent_from : {S : Type 0} (held : S → Option (List ℕ)) (a b : Sink S) (old : S) (bs : List ℕ) → a.failed ≡ false → a.writer.now ≡ old → Puts held a b bs → Sends false b.failed (held old) (held b.writer.now) bs
+sent_from held a b old bs begun from p = rw (begun, from) at p.sent
+
+-- what was put into a new sink went out, all of it or, where the writer failed, a first part
+pub all_out : {S : Type 0} (held : S → Option (List ℕ)) (a b : Sink S) (old new : S) (bs : List ℕ) → a.failed ≡ false → a.writer.now ≡ old → b.failed ≡ false → b.writer.now ≡ new → Puts held a b bs → Appends (held old) (held new) bs
+all_out held a b old new bs begun from going to p = subst (λ s. Appends (held old) (held s) bs) to (subst (λ f. Sends false f (held old) (held b.writer.now) bs) going (sent_from held a b old bs begun from p))
+
+pub part_out : {S : Type 0} (held : S → Option (List ℕ)) (a b : Sink S) (old new : S) (bs : List ℕ) → a.failed ≡ false → a.writer.now ≡ old → b.failed ≡ true → b.writer.now ≡ new → Puts held a b bs → AppendsPart (held old) (held new) bs
+part_out held a b old new bs begun from failed to p = subst (λ s. AppendsPart (held old) (held s) bs) to (subst (λ f. Sends false f (held old) (held b.writer.now) bs) failed (sent_from held a b old bs begun from p))
