@@ -3,7 +3,7 @@ ghost use Rattle.std.specs.Prelude.{◌≡◌, ◌<◌, ◌++◌, ℕ, false, dr
 ghost use Rattle.reg_world.specs.Histories.{process_of};
 ghost use Rattle.reg_world.specs.World.{delivered_of};
 ghost use Rattle.reg_world.specs.Worlds.{run_in, with_event};
-ghost use Rattle.reg_moments.specs.Moments.{frame_taken, moment_of, moments_of, placed, puts_since};
+ghost use Rattle.reg_moments.specs.Moments.{frame_taken, moment_of, moments_from, moments_of, placed, puts_since};
 
 use reg_base::Shape;
 use reg_base::limits::MOST_PROCESSES;
@@ -208,6 +208,25 @@ fn tell<F: FrontEnd, A: Allocator + Copy>(
     })
 }
 
+/// Makes these events, and adds what each did. An event is refused, or memory is.
+fn tell_all<F: FrontEnd, A: Allocator + Copy>(
+    alloc: A,
+    world: &mut World<F, A>,
+    moments: &mut Vec<Moment<A>, A>,
+    events: &[Event],
+) -> Result<(), WorldFault>
+    requires { world.old.failed ≡ false }
+    ensures { OnOk result (moments.new.items ≡ moments.old.items ++ moments_from F.start world.old events.now) }
+{
+    for event in events {
+        let moment = tell(alloc, world, event)?;
+        if moments.push(moment).is_err() {
+            return Err(WorldFault::OutOfMemory);
+        }
+    }
+    Ok(())
+}
+
 /// What each of these events does in a run of them. An event is refused, or memory is.
 fn tell_events<F: FrontEnd, A: Allocator + Copy>(
     alloc: A,
@@ -220,12 +239,7 @@ fn tell_events<F: FrontEnd, A: Allocator + Copy>(
         return Err(WorldFault::OutOfMemory);
     };
     let mut moments = Vec::new(alloc);
-    for event in events {
-        let moment = tell(alloc, &mut world, event)?;
-        if moments.push(moment).is_err() {
-            return Err(WorldFault::OutOfMemory);
-        }
-    }
+    tell_all(alloc, &mut world, &mut moments, events)?;
     Ok(moments)
 }
 

@@ -1,15 +1,10 @@
-use Rattle.std.proofs.Common.{◌≡◌, ◌++◌, ◌∷◌, [], ◌∙◌, ap, arith, rules}
+use Rattle.std.proofs.Common.{List, ◌++◌, ◌∙◌, ap, ap₂}
 use Rattle.reg_world.specs.Worlds.{Made}
-use Rattle.reg_moments.specs.Moments.{moments_of}
-use Rattle.reg_moments.proofs.Behind.{one_told, all_told}
+use Rattle.reg_moments.specs.Moments.{Fact, moments_from}
 use Rattle.reg_moments.proofs.moments.tell_events.Goals as goal
 
-pub loop-event-preserved : goal.loop-event-preserved
-loop-event-preserved g c =
-    let pushed : c.push.new.self.items ≡ c.loop-event.moments.items ++ c.in_ok-moment.moment ∷ [] = search rules in (
-      ap (λ (w : Made). w.failed) c.in_ok-moment.ensures.made ∙ c.loop-event.invariant.0,
-      one_told g.F.FrontEnd.start c.loop-event.world c.tell.new.world c.loop-event.moments.items c.push.new.self.items (moments_of g.F.FrontEnd.start c.args.shape c.args.events.now) c.in_ok-moment.moment c.args.events.now c.loop-event.event-index _ c.loop-event-test.true c.in_ok-moment.ensures.made c.in_ok-moment.ensures.told pushed c.loop-event.invariant.1,
-    )
+pub tell_all-requires : goal.tell_all-requires
+tell_all-requires g c = ap (λ (w : Made). w.failed) c.in-Ok.ensures
 
 pub returns : goal.returns
-returns g c = all_told g.F.FrontEnd.start c.loop-event.world c.loop-event.moments.items (moments_of g.F.FrontEnd.start c.args.shape c.args.events.now) c.args.events.now c.loop-event.event-index (omega arith) c.loop-event.invariant.1
+returns g c = c.in_ok-tell_all.ensures ∙ ap₂ (λ (l : List Fact) (w : Made). l ++ moments_from g.F.FrontEnd.start w c.args.events.now) c.new-moments.ensures.items c.in-Ok.ensures

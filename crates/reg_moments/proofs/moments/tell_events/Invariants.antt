@@ -1,7 +1,0 @@
-use Rattle.std.proofs.Common.{◌≡◌, ◌++◌, drop, false}
-use Rattle.reg_moments.specs.Moments.{moments_from, moments_of}
-use Rattle.reg_moments.proofs.moments.tell_events.Given as goal
-
--- with those of the events that are left, all moments
-abbrev pub invariant-loop-event : goal.invariant-loop-event
-invariant-loop-event g l = (l.world.failed ≡ false) × (l.moments.items ++ moments_from g.F.FrontEnd.start l.world (drop l.event-index l.events) ≡ moments_of g.F.FrontEnd.start l.fn.shape l.events)
