@@ -105,6 +105,37 @@ fn call<F: FrontEnd + Send + Sync + 'static, R: Threads + Wait + Copy + Send + S
     started.map_err(|_| AllocError)
 }
 
+/// Starts each courier.
+fn start_couriers<
+    F: FrontEnd + Send + Sync + 'static,
+    R: Threads + Wait + Copy + Send + Sync + 'static,
+>(
+    rt: R,
+    handles: &mut Vec<JoinHandle<Courier<F, NoGate>>>,
+    couriers: Vec<Courier<F, NoGate>>,
+) -> Result<(), AllocError> {
+    for courier in couriers {
+        handles.push(carry(rt, courier)?)?;
+    }
+    Ok(())
+}
+
+/// Starts the caller of each script.
+fn start_callers<
+    F: FrontEnd + Send + Sync + 'static,
+    R: Threads + Wait + Copy + Send + Sync + 'static,
+>(
+    rt: R,
+    handles: &mut Vec<JoinHandle<Caller<F>>>,
+    passes: Vec<Pass<F, NoGate>>,
+    scripts: Vec<Vec<Op>>,
+) -> Result<(), AllocError> {
+    for (pass, script) in passes.into_iter().zip(scripts) {
+        handles.push(call(rt, pass, script)?)?;
+    }
+    Ok(())
+}
+
 /// Starts the couriers and the pacer, and then the callers, so that no caller waits for a thread that was never made.
 fn start<
     F: FrontEnd + Send + Sync + 'static,
@@ -117,14 +148,9 @@ fn start<
     pacer: Pacer<F, NoGate>,
     scripts: Vec<Vec<Op>>,
 ) -> Result<(), AllocError> {
-    for courier in couriers {
-        crew.couriers.push(carry(rt, courier)?)?;
-    }
+    start_couriers(rt, &mut crew.couriers, couriers)?;
     crew.pacer = Some(pace(rt, pacer)?);
-    for (pass, script) in passes.into_iter().zip(scripts) {
-        crew.callers.push(call(rt, pass, script)?)?;
-    }
-    Ok(())
+    start_callers(rt, &mut crew.callers, passes, scripts)
 }
 
 /// Sends Stop until memory is there for it.
@@ -133,6 +159,14 @@ fn halt<F: FrontEnd, R: Wait>(rt: &R, cluster: &Cluster<F, NoGate>) {
         if cluster.stop(rt).is_ok() {
             return;
         }
+    }
+}
+
+/// How a script ended.
+fn script_end(process: u8, fault: Option<LiveFault>) -> Result<(), RunStop> {
+    match fault {
+        Some(fault) => Err(RunStop::Pass { process, fault }),
+        None => Ok(()),
     }
 }
 
@@ -146,15 +180,41 @@ fn join_callers<F: FrontEnd, R: Threads + Wait>(
     let mut process = 0u8;
     for handle in callers {
         let Caller { pass, fault } = handle.join(rt);
-        if let (true, Some(fault)) = (told.is_ok(), fault) {
-            told = Err(RunStop::Pass { process, fault });
-        }
-        if passes.push(pass).is_err() && told.is_ok() {
-            told = Err(RunStop::OutOfMemory);
+        told = told.and(script_end(process, fault));
+        if passes.push(pass).is_err() {
+            told = told.and(Err(RunStop::OutOfMemory));
         }
         process = process.wrapping_add(1);
     }
     told
+}
+
+/// Waits until the couriers are done.
+fn join_couriers<F: FrontEnd, R: Threads + Wait>(
+    rt: &R,
+    couriers: Vec<JoinHandle<Courier<F, NoGate>>>,
+) {
+    for courier in couriers {
+        drop(courier.join(rt));
+    }
+}
+
+/// Closes a cluster whose threads have ended.
+fn close_ended<F: FrontEnd, R: Wait>(
+    rt: &R,
+    alloc: Global,
+    cluster: Cluster<F, NoGate>,
+    passes: Vec<Pass<F, NoGate>>,
+    pacer: Pacer<F, NoGate>,
+) -> Result<Closed<F>, RunStop>
+    ensures lived { IfOk result (λ c. IsLived F.start cluster (map (λ v. v.items) c.receipts.items) c.world) }
+    ensures time { IfOk result (λ c. RespectTime c.world.registers c.world.history (map (λ v. v.items) c.receipts.items)) }
+{
+    match close(rt, alloc, cluster, passes, Vec::new(alloc), pacer) {
+        Ok(closed) => Ok(closed),
+        Err(CloseFault::OutOfMemory) => Err(RunStop::OutOfMemory),
+        Err(fault) => Err(RunStop::Close { fault }),
+    }
 }
 
 /// Waits for all threads, and closes the cluster.
@@ -171,9 +231,7 @@ fn end<F: FrontEnd, R: Threads + Wait>(
     let mut passes = Vec::new(alloc);
     let told = join_callers(rt, &mut passes, crew.callers);
     halt(rt, &cluster);
-    for courier in crew.couriers {
-        drop(courier.join(rt));
-    }
+    join_couriers(rt, crew.couriers);
     let Some(pacer) = crew.pacer else {
         return Err(RunStop::OutOfMemory);
     };
@@ -182,11 +240,7 @@ fn end<F: FrontEnd, R: Threads + Wait>(
         return Err(RunStop::OutOfMemory);
     }
     told?;
-    match close(rt, alloc, cluster, passes, Vec::new(alloc), pacer) {
-        Ok(closed) => Ok(closed),
-        Err(CloseFault::OutOfMemory) => Err(RunStop::OutOfMemory),
-        Err(fault) => Err(RunStop::Close { fault }),
-    }
+    close_ended(rt, alloc, cluster, passes, pacer)
 }
 
 /// Performs each script in a thread of its own, over a cluster with an honest road, and closes the cluster: the k-th script by
