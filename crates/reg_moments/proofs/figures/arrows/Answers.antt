@@ -1,4 +1,4 @@
-use Rattle.std.proofs.Common.{ℕ, ◌≡◌, ◌+◌, ◌<◌, List, [], ◌∷◌, ◌++◌, length, drop, get_or, Option, None, Some, refl, sym, ap, ◌∙◌, append_assoc, append-nil, arith}
+use Rattle.std.proofs.Common.{ℕ, ◌≡◌, ◌+◌, ◌<◌, List, [], ◌++◌, length, drop, get_or, Option, None, Some, refl, sym, ap, ◌∙◌, append_assoc, append-nil, arith}
 use Rattle.std.proofs.lemmas.List.{at_drop_more, at_drop_all}
 use Rattle.reg_world.specs.declared.events.Event.{Event}
 use Rattle.reg_world.specs.declared.events.Event.TheVariants.{Call, Take, Tick}
@@ -33,19 +33,19 @@ loop-takes-preserved g c =
     let same : f.event ≡ c.moment.inside.event = ap (λ (x : Fact). x.event) (sym c.moment.view_is) in
     elim c.match-moment.branch [
       | in-Take+in-Some+in_ok-push w ↦
-        let t = w.in-Take in
-        one_more all k f old new (arrow_from k t.from t.to t.number (Some w.in-Some.puts)) c.loop-takes-test.true c.index-moments-takes.is
-        (taken all k f.event t.from t.to t.number w.putter_of.result (Some w.in-Some.puts) (same ∙ t.is) w.putter_of.ensures w.in-Some.is)
-        (ap (λ v. v.items) w.arrows-is ∙ w.in_ok-push.ensures.items) c.loop-takes.invariant
+          let t = w.in-Take in
+          one_more all k f old new (arrow_from k t.from t.to t.number (Some w.in-Some.puts)) c.loop-takes-test.true c.index-moments-takes.is
+          (taken all k f.event t.from t.to t.number w.putter_of.result (Some w.in-Some.puts) (same ∙ t.is) w.putter_of.ensures w.in-Some.is)
+          (ap (λ v. v.items) w.arrows-is ∙ w.in_ok-push.ensures.items) c.loop-takes.invariant
       | in-Take+in_default-putter_of w ↦
-        let t = w.in-Take in
-        one_more all k f old new [] c.loop-takes-test.true c.index-moments-takes.is
-        (taken all k f.event t.from t.to t.number w.putter_of.result None (same ∙ t.is) w.putter_of.ensures w.in_default-putter_of.is)
-        (ap (λ v. v.items) w.arrows-is ∙ sym (append-nil old)) c.loop-takes.invariant
+          let t = w.in-Take in
+          one_more all k f old new [] c.loop-takes-test.true c.index-moments-takes.is
+          (taken all k f.event t.from t.to t.number w.putter_of.result None (same ∙ t.is) w.putter_of.ensures w.in_default-putter_of.is)
+          (ap (λ v. v.items) w.arrows-is ∙ sym (append-nil old)) c.loop-takes.invariant
       | in_default w ↦
-        one_more all k f old new [] c.loop-takes-test.true c.index-moments-takes.is
-        (no_take all k f.event (λ from to place h. w.in_default.not-Take from to place (sym same ∙ h)))
-        (ap (λ v. v.items) w.arrows-is ∙ sym (append-nil old)) c.loop-takes.invariant
+          one_more all k f old new [] c.loop-takes-test.true c.index-moments-takes.is
+          (no_take all k f.event (λ from to place h. w.in_default.not-Take from to place (sym same ∙ h)))
+          (ap (λ v. v.items) w.arrows-is ∙ sym (append-nil old)) c.loop-takes.invariant
     ]
 
 pub loop-takes-init : goal.loop-takes-init
