@@ -100,13 +100,13 @@ pub(crate) fn play<F: FrontEnd, A: Allocator + Copy>(
     requires { length logs.now ≡ shape.processes }
     ensures { MatchResult result (λ w. IsFaithful F.start shape order.now (map (λ v. v.items) logs.now) w) (λ fault. IsPlayFault F.start shape order.now (map (λ v. v.items) logs.now) fault) }
 {
-    let Ok(mut world) = World::new(alloc, shape) else {
-        return Err(CloseFault::OutOfMemory);
-    };
     let Ok(mut hints) = Hints::new(alloc) else {
         return Err(CloseFault::OutOfMemory);
     };
     let Ok(mut counts) = no_counts(alloc, logs.len()) else {
+        return Err(CloseFault::OutOfMemory);
+    };
+    let Ok(mut world) = World::new(alloc, shape) else {
         return Err(CloseFault::OutOfMemory);
     };
     for place in 0..order.len() {

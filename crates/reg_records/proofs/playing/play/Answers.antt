@@ -8,8 +8,8 @@ use Rattle.reg_records.proofs.playing.play.Goals as goal
 
 pub loop-place-init : goal.loop-place-init
 loop-place-init g c = record {
-  plays = c.in-Ok.ensures;
-  going = ap (λ (w : Made). w.failed) c.in-Ok.ensures;
+  plays = c.in-Ok-new.ensures;
+  going = ap (λ (w : Made). w.failed) c.in-Ok-new.ensures;
   tallied = λ p lt. c.in-Ok-no_counts.ensures.zero p;
   len = c.in-Ok-no_counts.ensures.len;
 }
