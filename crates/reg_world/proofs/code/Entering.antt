@@ -2,7 +2,7 @@
 use Rattle.std.proofs.Common.{◌≡◌, ℕ, ◌+◌, ◌-◌, ◌<◌, ◌≤◌, Bool, true, false, cond, List, [], ◌∷◌, ◌++◌, map, length, drop, get_or, Option, refl, sym, ap, ◌∙◌, subst, arith, Vec}
 use Rattle.std.specs.Prelude.{vec_len, vec_capacity}
 use Rattle.std.specs.List.{filter}
-use Rattle.std.proofs.lemmas.List.{append_assoc, append-nil, drop_more, drop_all, take_at, take-append-le, get_or_default}
+use Rattle.std.proofs.lemmas.List.{append_assoc, drop_more, take_at, take-append-le, get_or_default}
 use Rattle.reg_base.specs.declared.stamps.Stamp.{Stamp}
 use Rattle.reg_base.specs.declared.stamps.Delivered.{Delivered}
 use Rattle.reg_base.specs.Order.{In}
@@ -70,9 +70,6 @@ first_more at last ds before ts now now1 i d order order1 l S same more room =
     one : (b : Bool) → is_after last (get_or ds i d).stamp ≡ b → cond b (first_in ts at (get_or ds i d) ∷ []) [] ++ firsts_in ts at last (drop (i + 1) ds) ≡ firsts_in ts at last (get_or ds i d ∷ drop (i + 1) ds)
     one true e = ap (λ b. map (first_in ts at) (cond b (get_or ds i d ∷ filter (λ (d : Delivered). is_after last d.stamp) (drop (i + 1) ds)) (filter (λ (d : Delivered). is_after last d.stamp) (drop (i + 1) ds)))) (sym e)
     one false e = ap (λ b. map (first_in ts at) (cond b (get_or ds i d ∷ filter (λ (d : Delivered). is_after last d.stamp) (drop (i + 1) ds)) (filter (λ (d : Delivered). is_after last d.stamp) (drop (i + 1) ds)))) (sym e)
-
-pub firsts_all : {A : Type 0} (at : ℕ) (last : Option Stamp) (ds : List Delivered) (before : List First) (ts now : List Tally) (i : ℕ) (order : Vec First A) → length ds ≤ i → IsSoFar at last ds before ts now i order → order.items ≡ before ++ firsts_in ts at last ds
-firsts_all at last ds before ts now i order l S = sym (append-nil order.items) ∙ (ap (λ z. order.items ++ firsts_in ts at last z) (sym (drop_all i ds l)) ∙ S.left)
 
 -- the beginning of a history is a history
 pub history_front : (n registers : ℕ) (xs ys : List Entry) → IsHistory n registers (xs ++ ys) → IsHistory n registers xs

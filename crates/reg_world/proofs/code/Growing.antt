@@ -317,9 +317,6 @@ module _ (start : Op → ℕ → Start) (n registers : ℕ) (laws : KeepsLaws st
     new_after : (c : Delivered) → In c r.1.delivered → is_new c ≡ true → is_after (last_stamp w.order) c.stamp ≡ true
     new_after c i e = go (slice_get w.order (length w.order - 1)) refl
       where
-        news : List First
-        news = map (first_of v.casts (length w.accepted)) (unseen known_casts r.1.delivered)
-
         go : (o : Option First) → slice_get w.order (length w.order - 1) ≡ o → is_after (stamp_in o) c.stamp ≡ true
         go None at = refl
         go (Some f) at =

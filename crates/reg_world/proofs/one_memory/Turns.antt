@@ -199,6 +199,3 @@ all_places start n registers events laws =
     let P = whole_pasts start n registers es laws in
     all_places_step start n registers v.count v e m K R P (λ q l. (pasts_step start n registers v.count v m laws (inv_of start n registers es) K R (whole_runs start n registers es laws) P q l).0) A)
     events
-
-pub answers_in_order : (start : Op → ℕ → Start) (n registers : ℕ) (events : List Event) → KeepsLaws start → (p : ℕ) → p < n → AnswersInOrder ((traced start n registers events).pasts p).answers
-answers_in_order start n registers events laws p l = (all_places start n registers events laws p l).order

@@ -1,8 +1,7 @@
 -- A run, event by event: what holds at its start, and is kept by each event, holds of every run.
-use Rattle.std.proofs.Common.{◌≡◌, ℕ, ◌+◌, ◌<◌, ◌≤◌, List, [], ◌∷◌, ◌++◌, length, map, Option, Some, None, refl, sym, ap, ◌∙◌, subst, arith, append_assoc, length-append}
+use Rattle.std.proofs.Common.{◌≡◌, ℕ, ◌+◌, ◌<◌, ◌≤◌, List, [], ◌∷◌, ◌++◌, length, map, Option, Some, None, refl, sym, ap, ◌∙◌, subst, arith, length-append}
 use Rattle.std.specs.Prelude.{nat_lt}
 use Rattle.std.proofs.lemmas.Bool.{cond_both, ltb-true}
-use Rattle.std.proofs.lemmas.List.{append-nil}
 use Rattle.std.proofs.lemmas.Option.{none-some}
 use Rattle.reg_base.specs.declared.limits.TheConstants.{MOST_EVENTS}
 use Rattle.reg_base.specs.declared.memory.Op.{Op}
@@ -34,18 +33,6 @@ move_is n registers w e m =
 
 pub moves : (n registers : ℕ) (w : World) (e : Event) (P : Option (ℕ × Step) → Type 0) → P (step_of n registers w.nodes e) → P None → P (move_of n registers w e)
 moves n registers w e P some none = cond_both (nat_lt (length w.accepted) MOST_EVENTS) (step_of n registers w.nodes e) None P (λ b. some) (λ b. none)
-
--- the accepted events of a longer run begin with those of the shorter
-pub grown : (start : Op → ℕ → Start) (n registers : ℕ) (es : List Event) (w : World) → (rest : List Event) × ((run start n registers es w).accepted ≡ w.accepted ++ rest)
-grown start n registers [] w = ([], sym (append-nil w.accepted))
-grown start n registers (e ∷ es) w =
-    let r = grown start n registers es (happens start n registers w e) in
-    let o = one w e (move_of n registers w e) in
-    (o.0 ++ r.0, r.1 ∙ (ap (λ l. l ++ r.0) o.1 ∙ append_assoc w.accepted o.0 r.0))
-  where
-    one : (w : World) (e : Event) (m : Option (ℕ × Step)) → (rest : List Event) × ((moved start w e m).accepted ≡ w.accepted ++ rest)
-    one w e None = ([], sym (append-nil w.accepted))
-    one w e (Some m) = (e ∷ [], refl)
 
 pub run_parts : (start : Op → ℕ → Start) (n registers : ℕ) (es more : List Event) (w : World) → run start n registers (es ++ more) w ≡ run start n registers more (run start n registers es w)
 run_parts start n registers [] more w = refl

@@ -30,9 +30,6 @@ more_is x y h = grind (arith, nat_tests)
 pub lower_trans : (a b c : Ranked) → Lower a b → Lower b c → Lower a c
 lower_trans a b c h g = grind arith
 
-pub lower_irrefl : (a : Ranked) → Lower a a → ⊥
-lower_irrefl a h = grind arith
-
 lower_is : (a b : Ranked) → Lower a b → (lower a b ≡ true) × (lower b a ≡ false)
 lower_is a b (inl h) = (rw (less_is a.rank b.rank h), rw (more_is b.rank a.rank h))
 lower_is a b (inr (e, inl h)) = (rw (same_is a.rank b.rank e, less_is a.id.process b.id.process h), rw (same_is b.rank a.rank (sym e), more_is b.id.process a.id.process h))
