@@ -3,7 +3,7 @@ use crate::crews::{end, last_of, parts_of, start};
 use crate::values::{read, write};
 use reg_base::Answer;
 use reg_front::{FrontEnd, Linear, LocalRead, LocalWrite};
-use reg_history::{check_points, check_serial};
+use reg_orders::{check_points, check_serial};
 use reg_live::{Closed, LiveFault, NoGate, Pass, Rough};
 use reg_workload::SeedWords;
 use std::alloc::Global;

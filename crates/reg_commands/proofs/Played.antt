@@ -4,7 +4,7 @@ use Rattle.std.specs.Prelude.{IfOk}
 use Rattle.reg_base.specs.declared.memory.Op.{Op}
 use Rattle.reg_front.specs.declared.named.Front.{Front}
 use Rattle.reg_front.specs.declared.starts.Start.{Start}
-use Rattle.reg_history.specs.declared.entries.Point.{Point}
+use Rattle.reg_orders.specs.declared.entries.Point.{Point}
 use Rattle.reg_history.specs.Reports.{Contents}
 use Rattle.reg_world.specs.Worlds.{Made}
 use Rattle.reg_toml.specs.Loads.{Load}

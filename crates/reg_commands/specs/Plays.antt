@@ -4,7 +4,7 @@ use Rattle.toml.specs.Data.{Members}
 use Rattle.toml.specs.Parse.{parse_document}
 use Rattle.reg_base.specs.declared.memory.Op.{Op}
 use Rattle.reg_front.specs.declared.starts.Start.{Start}
-use Rattle.reg_history.specs.declared.entries.Point.{Point}
+use Rattle.reg_orders.specs.declared.entries.Point.{Point}
 use Rattle.reg_history.specs.Reports.{Contents, report_text}
 use Rattle.reg_world.specs.Worlds.{Made}
 use Rattle.reg_toml.specs.declared.faults.WorkloadFault.{WorkloadFault}

@@ -3,9 +3,9 @@ ghost use Rattle.std.specs.Prelude.{◌≡◌, ◌≤◌, ℕ, Some, None, IfOk,
 ghost use Rattle.std.specs.Io.KnownBytes.{Appends};
 ghost use Rattle.reg_base.specs.declared.limits.TheConstants.{LAST_EVENT, MOST_PROCESSES};
 ghost use Rattle.reg_front.specs.Table.{front_name};
-ghost use Rattle.reg_history.specs.History.{IsAt};
-ghost use Rattle.reg_history.specs.Log.{IsLog};
-ghost use Rattle.reg_history.specs.Orders.{IsSerial};
+ghost use Rattle.reg_orders.specs.History.{IsAt};
+ghost use Rattle.reg_orders.specs.Log.{IsLog};
+ghost use Rattle.reg_orders.specs.Orders.{IsSerial};
 ghost use Rattle.reg_history.specs.Reports.{Contents, report_text};
 ghost use Rattle.reg_text.specs.Writing.{AppendsPart};
 ghost use Rattle.reg_world.specs.declared.order.First.{First};

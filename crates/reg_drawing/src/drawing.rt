@@ -4,7 +4,7 @@ use crate::shapes::{Diamond, Soft, Span, Spot, Stub};
 use crate::words::{cast_text, frame_text};
 use reg_base::{Delivered, Names};
 use reg_frames::{Body, Frame};
-use reg_history::Point;
+use reg_orders::Point;
 use reg_moments::{Arrow, Bar, Moment, Sent, is_taken};
 use reg_text::Unwritten;
 use std::alloc::Allocator;

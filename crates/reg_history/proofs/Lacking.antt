@@ -10,11 +10,11 @@ use Rattle.reg_base.specs.declared.memory.OpId.{OpId}
 use Rattle.reg_base.specs.declared.memory.Answer.{Answer}
 use Rattle.reg_base.specs.declared.memory.Answer.TheVariants.{Done, Value}
 use Rattle.reg_base.specs.Names.{is_name, names_fault}
-use Rattle.reg_history.specs.declared.entries.Entry.{Entry}
-use Rattle.reg_history.specs.declared.entries.Entry.TheVariants.{Called, Answered}
+use Rattle.reg_orders.specs.declared.entries.Entry.{Entry}
+use Rattle.reg_orders.specs.declared.entries.Entry.TheVariants.{Called, Answered}
 use Rattle.reg_text.specs.Columns.{to_right, to_left}
 use Rattle.reg_text.specs.Parts.{Lacks}
-use Rattle.reg_history.specs.declared.entries.Point.{Point}
+use Rattle.reg_orders.specs.declared.entries.Point.{Point}
 use Rattle.reg_text.specs.Lines.{text_of, lines_of}
 use Rattle.reg_history.specs.Reports.{Contents, counted_lines, tail_lines, lines_in, registers_lines, IsReportIn, PointsFit, is_front}
 use Rattle.reg_text.proofs.NamesLack.{both_true, name_lacks, well_spelt}

@@ -2,9 +2,9 @@
 use Rattle.std.proofs.Common.{ℕ, ◌≡◌, ◌≤◌, inl, inr, List, ◌∷◌, ◌++◌, [], Option, None, Some, arith, refl, sym, ap, get_or, ◌∙◌}
 use Rattle.reg_base.specs.declared.limits.TheConstants.{MOST_PROCESSES, MOST_REGISTERS}
 use Rattle.reg_base.specs.declared.memory.OpId.{OpId}
-use Rattle.reg_history.specs.declared.entries.Entry.{Entry}
-use Rattle.reg_history.specs.declared.entries.Entry.TheVariants.{Called, Answered}
-use Rattle.reg_history.specs.declared.entries.Point.{Point}
+use Rattle.reg_orders.specs.declared.entries.Entry.{Entry}
+use Rattle.reg_orders.specs.declared.entries.Entry.TheVariants.{Called, Answered}
+use Rattle.reg_orders.specs.declared.entries.Point.{Point}
 use Rattle.reg_history.specs.declared.versions.Version.{Version}
 use Rattle.reg_history.specs.declared.versions.Version.TheVariants.{One, Two}
 use Rattle.reg_history.specs.Versions.{most_processes, most_registers}

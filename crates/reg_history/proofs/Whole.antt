@@ -4,8 +4,8 @@ use Rattle.reg_base.specs.declared.memory.OpId.{OpId}
 use Rattle.reg_base.specs.Shape.{Extent}
 use Rattle.reg_history.specs.declared.report_limits.TheConstants.{MOST_ENTRIES, MOST_IDS}
 use Rattle.reg_base.specs.Names.{names_fault}
-use Rattle.reg_history.specs.declared.entries.Entry.{Entry}
-use Rattle.reg_history.specs.declared.entries.Point.{Point}
+use Rattle.reg_orders.specs.declared.entries.Entry.{Entry}
+use Rattle.reg_orders.specs.declared.entries.Point.{Point}
 use Rattle.reg_history.specs.Reports.{Contents, head_lines, counted_lines, tail_lines, lines_in, IsReportIn, PointsFit, is_front}
 use Rattle.reg_history.specs.LineForms.{IsCounted, Follows}
 use Rattle.reg_history.specs.declared.versions.Version.{Version}

@@ -10,8 +10,8 @@ use Rattle.std.proofs.lemmas.List.Folds.{flat_map-map}
 use Rattle.reg_base.specs.declared.memory.OpId.{OpId}
 use Rattle.reg_text.specs.Columns.{to_right}
 use Rattle.reg_text.specs.Lines.{text_of}
-use Rattle.reg_history.specs.declared.entries.Point.{Point}
-use Rattle.reg_history.specs.declared.entries.Entry.{Entry}
+use Rattle.reg_orders.specs.declared.entries.Point.{Point}
+use Rattle.reg_orders.specs.declared.entries.Entry.{Entry}
 use Rattle.reg_history.specs.Written.{lines_by}
 use Rattle.reg_history.specs.Reports.{Contents, counted_lines, head_lines, tail_lines, report_text}
 use Rattle.reg_history.specs.declared.versions.Version.TheVariants.{Two}

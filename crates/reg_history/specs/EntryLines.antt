@@ -6,8 +6,8 @@ use Rattle.reg_base.specs.declared.memory.Answer.{Answer}
 use Rattle.reg_base.specs.declared.memory.Answer.TheVariants.{Done, Value}
 use Rattle.reg_text.specs.Columns.{to_right, to_left}
 use Rattle.reg_text.specs.Ops.{op_text, OpFits}
-use Rattle.reg_history.specs.declared.entries.Entry.{Entry}
-use Rattle.reg_history.specs.declared.entries.Entry.TheVariants.{Called, Answered}
+use Rattle.reg_orders.specs.declared.entries.Entry.{Entry}
+use Rattle.reg_orders.specs.declared.entries.Entry.TheVariants.{Called, Answered}
 use Rattle.reg_history.specs.declared.versions.Version.{Version}
 use Rattle.reg_history.specs.Versions.{most_processes}
 

@@ -9,10 +9,10 @@ use Rattle.reg_text.specs.declared.faults.Why.{Why}
 use Rattle.reg_text.specs.declared.faults.Why.TheVariants.{Range, Name}
 use Rattle.reg_history.specs.declared.report_faults.ReadWhy.{ReadWhy}
 use Rattle.reg_history.specs.declared.report_faults.ReadWhy.TheVariants.{Form as Misspelt, Range as BeyondLimit, Name as BadName, Place as OutOfPlace, End as NoLine}
-use Rattle.reg_history.specs.declared.entries.Entry.{Entry}
-use Rattle.reg_history.specs.declared.entries.Entry.TheVariants.{Called, Answered}
+use Rattle.reg_orders.specs.declared.entries.Entry.{Entry}
+use Rattle.reg_orders.specs.declared.entries.Entry.TheVariants.{Called, Answered}
 use Rattle.reg_history.specs.declared.versions.Version.{Version}
-use Rattle.reg_history.specs.History.{IsInPlace}
+use Rattle.reg_orders.specs.History.{IsInPlace}
 use Rattle.reg_history.specs.EntryLines.{columns_of, entry_text, AnswerFits, ColumnsFit, EntryFits}
 use Rattle.reg_text.specs.Lines.{AllFit}
 use Rattle.reg_history.specs.ReadFaults.{why_of}

@@ -7,15 +7,15 @@ use Rattle.reg_base.specs.Shape.{Extent}
 use Rattle.reg_base.specs.Names.{names_fault}
 use Rattle.reg_text.specs.Words.{names_text, is_front_letter}
 use Rattle.reg_text.specs.Lines.{AllFit, text_of}
-use Rattle.reg_history.specs.declared.entries.Entry.{Entry}
-use Rattle.reg_history.specs.declared.entries.Point.{Point}
+use Rattle.reg_orders.specs.declared.entries.Entry.{Entry}
+use Rattle.reg_orders.specs.declared.entries.Point.{Point}
 use Rattle.reg_history.specs.declared.report_faults.ReportFault.{ReportFault}
 use Rattle.reg_history.specs.declared.report_faults.ReportFault.TheVariants.{Front, Names, Range}
 use Rattle.reg_history.specs.declared.versions.Version.{Version}
 use Rattle.reg_history.specs.declared.versions.Version.TheVariants.{One, Two}
 use Rattle.reg_history.specs.Versions.{most_processes, most_registers, version_line}
 use Rattle.reg_history.specs.declared.report_limits.TheConstants.{MOST_ENTRIES, MOST_IDS, LONGEST_FRONT}
-use Rattle.reg_history.specs.History.{IsHistory}
+use Rattle.reg_orders.specs.History.{IsHistory}
 use Rattle.reg_history.specs.EntryLines.{entry_text, EntryFits}
 use Rattle.reg_history.specs.IdLines.{id_text, IdFits, point_text, PointFits}
 

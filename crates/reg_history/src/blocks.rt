@@ -1,16 +1,16 @@
 //! As many lines as a count announces.
 ghost use Rattle.std.specs.Prelude.{◌≡◌, ◌⊎◌, ℕ, List, [], ◌∷◌, None, Ok, IfOk, IfErr, OnOk, MatchResult};
 ghost use Rattle.reg_base.specs.Names.{names_fault};
-ghost use Rattle.reg_history.specs.declared.entries.Entry.{Entry};
+ghost use Rattle.reg_orders.specs.declared.entries.Entry.{Entry};
 ghost use Rattle.reg_history.specs.declared.report_faults.ReadWhy.{ReadWhy as Why};
 ghost use Rattle.reg_history.specs.LineForms.{Follows, IsBadNext, IsWrongEntry};
 ghost use Rattle.reg_history.specs.EntryLines.{entry_text};
 ghost use Rattle.reg_text.specs.Inner.{IsBlock};
 
 use crate::entry_lines::{read_entry, why_entry};
-use crate::faults::HistoryFault;
+use reg_orders::HistoryFault;
 use crate::items::{Listed, why_unlisted};
-use crate::log::History;
+use reg_orders::History;
 use crate::report_faults::{ReadFault, ReadWhy, at_line};
 use crate::versions::Version;
 use reg_base::Names;

@@ -2,7 +2,7 @@
 ghost use Rattle.std.specs.Prelude.{◌≡◌, ◌↔◌, ◌⊎◌, ◌++◌, ℕ, List, true, codes, None, Some, IfSome, IsSome, IsSomeAnd, IsTrue};
 ghost use Rattle.reg_base.specs.Names.{names_fault};
 ghost use Rattle.reg_base.specs.declared.memory.Answer.{Answer};
-ghost use Rattle.reg_history.specs.declared.entries.Entry.{Entry};
+ghost use Rattle.reg_orders.specs.declared.entries.Entry.{Entry};
 ghost use Rattle.reg_text.specs.declared.faults.Why.{Why as AnyWhy};
 ghost use Rattle.reg_history.specs.EntryLines.{answer_text, AnswerFits, columns_text, ColumnsFit, entry_text, EntryFits};
 ghost use Rattle.reg_history.specs.LineForms.{AreWithin, HasAnswerForm, HasColumns, HasEntryForm, HasTailForm, IsTailWhy};
@@ -10,7 +10,7 @@ ghost use Rattle.reg_history.specs.ReadFaults.{why_of};
 ghost use Rattle.reg_text.specs.Forms.{is_numeral as is_numeral_of};
 
 use crate::column_forms::columns_form;
-use crate::entries::Entry;
+use reg_orders::Entry;
 use crate::report_faults::ReadWhy;
 use crate::versions::Version;
 use reg_base::limits::{LAST_EVENT, MOST_OPERATIONS};

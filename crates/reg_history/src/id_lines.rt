@@ -5,7 +5,7 @@ ghost use Rattle.reg_text.specs.Forms.{is_numeral as is_numeral_of};
 ghost use Rattle.reg_history.specs.Versions.{most_processes};
 ghost use Rattle.reg_history.specs.LineForms.{IsIdForm, HasIdForm, IsPointForm, HasPointForm};
 
-use crate::entries::Point;
+use reg_orders::Point;
 use crate::items::Listed;
 use crate::versions::Version;
 use reg_base::OpId;

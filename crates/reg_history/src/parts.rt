@@ -3,8 +3,8 @@ ghost use Rattle.std.specs.Prelude.{◌≡◌, ◌≢◌, ◌<◌, ◌≤◌, le
 ghost use Rattle.std.specs.Fmt.{decimal};
 ghost use Rattle.reg_base.specs.Names.{names_fault};
 ghost use Rattle.reg_base.specs.declared.memory.OpId.{OpId};
-ghost use Rattle.reg_history.specs.declared.entries.Entry.{Entry};
-ghost use Rattle.reg_history.specs.declared.entries.Point.{Point};
+ghost use Rattle.reg_orders.specs.declared.entries.Entry.{Entry};
+ghost use Rattle.reg_orders.specs.declared.entries.Point.{Point};
 ghost use Rattle.reg_history.specs.EntryLines.{entry_text};
 ghost use Rattle.reg_history.specs.Reports.{is_front as is_front_of};
 ghost use Rattle.reg_history.specs.IdLines.{id_text, IdFits, point_text, PointFits};
@@ -15,8 +15,8 @@ ghost use Rattle.reg_history.specs.declared.versions.Version.{Version};
 ghost use Rattle.reg_history.specs.Versions.{most_processes, most_registers, version_line};
 
 use crate::blocks::{read_block, read_entries};
-use crate::entries::Point;
-use crate::log::History;
+use reg_orders::Point;
+use reg_orders::History;
 use crate::name_lines::read_registers;
 use crate::report_faults::{ReadFault, ReadWhy, at_line};
 use crate::report_limits::{LONGEST_FRONT, MOST_ENTRIES, MOST_IDS};

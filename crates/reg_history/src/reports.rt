@@ -2,15 +2,15 @@
 ghost use Rattle.std.specs.Prelude.{◌≡◌, ◌↔◌, ◌<◌, ◌≤◌, ℕ, Some, IfOk, OnOk, MatchOption, MatchResult, IsTrue, option_map, slice_get, string_bytes};
 ghost use Rattle.std.specs.Io.KnownBytes.{Appends};
 ghost use Rattle.reg_text.specs.Writing.{AppendsPart, Puts};
-ghost use Rattle.reg_history.specs.declared.entries.Entry.{Entry};
+ghost use Rattle.reg_orders.specs.declared.entries.Entry.{Entry};
 ghost use Rattle.reg_history.specs.LineForms.{EntryHasValue};
 ghost use Rattle.reg_history.specs.declared.versions.Version.{Version};
 ghost use Rattle.reg_history.specs.declared.versions.Version.TheVariants.{Two};
 ghost use Rattle.reg_history.specs.Reports.{lines_in, report_text, IsReport, IsReportIn, IsReportFault, InRange, PointsFit, SpellsReport, Contents};
 
-use crate::entries::{Entry, Point};
+use reg_orders::{Entry, Point};
 use crate::items::all_fit;
-use crate::log::History;
+use reg_orders::History;
 use crate::parts::{is_front, read_head, read_history, read_lists};
 use crate::report_faults::{ReadFault, ReadWhy, ReportFault, WriteFault, at_line};
 use crate::report_limits::{MOST_ENTRIES, MOST_IDS};

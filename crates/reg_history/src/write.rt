@@ -11,7 +11,7 @@ ghost use Rattle.reg_text.specs.Writing.{Puts};
 ghost use Rattle.reg_history.specs.declared.versions.Version.TheVariants.{Two};
 ghost use Rattle.reg_history.specs.Reports.{head_lines, tail_lines};
 
-use crate::entries::{Entry, Point};
+use reg_orders::{Entry, Point};
 use itoa::{Buffer, write_digits};
 use reg_base::{Answer, Names, Op, OpId};
 use reg_text::{Sink, name_at, put_op};

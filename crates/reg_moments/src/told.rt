@@ -1,7 +1,7 @@
 //! All that is told of a run.
 use crate::moments::Moment;
 use reg_base::Names;
-use reg_history::{History, Point};
+use reg_orders::{History, Point};
 use std::alloc::Allocator;
 
 /// What is told of a schedule's run: its names, what each event did, the history, and the points where there are any.

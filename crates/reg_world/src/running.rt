@@ -1,8 +1,8 @@
 //! All processes and wires of a run, one event after another.
 ghost use Rattle.std.specs.Prelude.{◌≡◌, ◌<◌, ◌≤◌, ◌⊎◌, ◌++◌, ◌∷◌, List, false, length, take, drop, Option, Some, IfOk, OnOk, [], MatchOption, MatchResult};
 ghost use Rattle.reg_base.specs.declared.limits.TheConstants.{MOST_PROCESSES};
-ghost use Rattle.reg_history.specs.History.{IsHistory};
-ghost use Rattle.reg_history.specs.Orders.{IsSerial, IsPointOrder};
+ghost use Rattle.reg_orders.specs.History.{IsHistory};
+ghost use Rattle.reg_orders.specs.Orders.{IsSerial, IsPointOrder};
 ghost use Rattle.reg_process.specs.declared.steps.Reply.{Reply};
 ghost use Rattle.reg_world.specs.declared.events.Event.{Event};
 ghost use Rattle.reg_world.specs.Histories.{Grows, Makes};
@@ -25,7 +25,7 @@ use reg_base::limits::MOST_EVENTS;
 use reg_base::{OpId, Shape};
 use reg_frames::Frame;
 use reg_front::{FrontEnd, RealTime};
-use reg_history::{History, Point};
+use reg_orders::{History, Point};
 use reg_process::{Process, Reply, Step};
 use std::alloc::{AllocError, Allocator, Global};
 use std::marker::Model;

@@ -13,8 +13,8 @@ use Rattle.reg_process.specs.declared.steps.Step.{Step}
 use Rattle.reg_process.specs.declared.steps.Step.TheVariants.{Call as CallStep, Take as TakeStep, Tick as TickStep}
 use Rattle.reg_process.specs.Process.{State, Outcome, step}
 use Rattle.reg_process.specs.Puts.{puts}
-use Rattle.reg_history.specs.declared.entries.Entry.{Entry}
-use Rattle.reg_history.specs.History.{IsAt, IsHistory}
+use Rattle.reg_orders.specs.declared.entries.Entry.{Entry}
+use Rattle.reg_orders.specs.History.{IsAt, IsHistory}
 use Rattle.reg_world.specs.declared.events.Event.{Event}
 use Rattle.reg_world.specs.declared.order.First.{First}
 use Rattle.reg_world.specs.declared.order.CopyRead.{CopyRead}

@@ -1,9 +1,9 @@
 use Rattle.std.proofs.Common.{sym, ap, ◌∙◌, subst, arith, refl, inl, inr, ◌≡◌, ℕ, ◌+◌, List, ◌∷◌, ◌++◌, map, rules}
 use Rattle.reg_base.specs.Shape.{Extent}
-use Rattle.reg_history.specs.declared.entries.Entry.{Entry}
+use Rattle.reg_orders.specs.declared.entries.Entry.{Entry}
 use Rattle.reg_history.specs.declared.versions.Version.{Version}
-use Rattle.reg_history.specs.History.{IsInPlace}
-use Rattle.reg_history.specs.Log.{Log, IsNextOf}
+use Rattle.reg_orders.specs.History.{IsInPlace}
+use Rattle.reg_orders.specs.Log.{Log, IsNextOf}
 use Rattle.reg_text.proofs.Turns.{Taken, steps, ended, refused, only_read}
 use Rattle.reg_history.specs.EntryLines.{entry_text}
 use Rattle.reg_history.specs.declared.report_faults.ReadWhy.TheVariants.{Place}

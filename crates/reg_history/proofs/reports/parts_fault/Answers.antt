@@ -2,8 +2,8 @@ use Rattle.std.proofs.Common.{◌≡◌, ◌≤◌, ◌<◌, true, List, length,
 use Rattle.reg_base.specs.declared.limits.TheConstants.{MOST_PROCESSES}
 use Rattle.reg_base.specs.Shape.{Extent}
 use Rattle.reg_base.specs.Names.{names_fault}
-use Rattle.reg_history.specs.declared.entries.Entry.{Entry}
-use Rattle.reg_history.specs.History.{IsHistory}
+use Rattle.reg_orders.specs.declared.entries.Entry.{Entry}
+use Rattle.reg_orders.specs.History.{IsHistory}
 use Rattle.reg_history.specs.Reports.{Contents, IsReport, InRange, is_front}
 use Rattle.reg_history.specs.declared.versions.Version.TheVariants.{Two}
 use Rattle.reg_text.proofs.Worded.{few}

@@ -1,6 +1,0 @@
-use Rattle.std.proofs.Common.{◌≡◌, take}
-use Rattle.reg_history.specs.Checks.{ids_of}
-use Rattle.reg_history.proofs.points.ids_of_points.Given as goal
-
-abbrev pub invariant-loop-point : goal.invariant-loop-point
-invariant-loop-point g l = l.ids.items ≡ ids_of (take l.point-index l.points)
