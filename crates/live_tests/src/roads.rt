@@ -5,7 +5,7 @@ use reg_base::Answer;
 use reg_front::{FrontEnd, Linear, LocalRead, LocalWrite};
 use reg_orders::{check_points, check_serial};
 use reg_live::{Closed, LiveFault, NoGate, Pass, Rough};
-use reg_workload::SeedWords;
+use reg_random::SeedWords;
 use std::alloc::Global;
 use std::process::Abort;
 use std::sync::Wait;

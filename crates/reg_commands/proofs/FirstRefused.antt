@@ -8,7 +8,7 @@ use Rattle.reg_world.specs.declared.events.Event.{Event}
 use Rattle.reg_world.specs.declared.faults.WorldFault.{WorldFault}
 use Rattle.reg_world.specs.declared.faults.WorldFault.TheVariants.{Failed, TooManyEvents, NoProcess, Busy, NoRegister, TooManyOperations, NoFrame, OutOfMemory}
 use Rattle.reg_world.specs.Worlds.{RunRefuses, refusal, run_in, after_events}
-use Rattle.reg_workload.specs.Schedules.{Plan}
+use Rattle.reg_schedules.specs.Schedules.{Plan}
 use Rattle.reg_commands.specs.Replays.{run_before, IsFirstRefused}
 
 module _ (start : Op → ℕ → Start) (p : Plan) (at : ℕ) where

@@ -8,7 +8,7 @@ use Rattle.reg_orders.specs.declared.entries.Point.{Point}
 use Rattle.reg_history.specs.Reports.{Contents}
 use Rattle.reg_world.specs.Worlds.{Made}
 use Rattle.reg_toml.specs.Loads.{Load}
-use Rattle.reg_workload.specs.Schedules.{Plan}
+use Rattle.reg_schedules.specs.Schedules.{Plan}
 use Rattle.reg_workload.specs.Plays.{IsPlay}
 use Rattle.reg_workload.specs.Fair.{TakesInOrder}
 use Rattle.reg_commands.specs.Replays.{plan_in, start_of, Shows, PointsOf}

@@ -12,7 +12,7 @@ use Rattle.reg_commands.specs.declared.verdicts.Verdicts.{Verdicts}
 use Rattle.reg_world.specs.declared.faults.WorldFault.{WorldFault}
 use Rattle.reg_toml.specs.declared.faults.WorkloadFault.{WorkloadFault}
 use Rattle.reg_toml.specs.Loads.{Load}
-use Rattle.reg_workload.specs.Schedules.{Plan, IsPlan, Spells}
+use Rattle.reg_schedules.specs.Schedules.{Plan, IsPlan, Spells}
 use Rattle.reg_commands.specs.Replays.{start_of, run_by, Replays, RefusesAt}
 use Rattle.reg_commands.specs.Plays.{Holds, RefusesDocument, Plays}
 use Rattle.reg_commands.specs.Verdicts.{Judges, all_yes, verdicts_text}

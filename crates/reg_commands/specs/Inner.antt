@@ -1,7 +1,7 @@
 -- Plays without points, and what the answers of a checker tell. They carry a proof: no promise speaks of them.
 use Rattle.std.specs.Prelude.{◌≡◌, List, Option, None, Result, Ok, Err}
 use Rattle.reg_orders.specs.declared.entries.Point.{Point}
-use Rattle.reg_workload.specs.Schedules.{Plan}
+use Rattle.reg_schedules.specs.Schedules.{Plan}
 use Rattle.reg_orders.specs.declared.faults.CheckFault.{CheckFault}
 use Rattle.reg_commands.specs.declared.verdicts.Verdict.{Verdict}
 use Rattle.reg_commands.specs.declared.verdicts.Verdict.TheVariants.{Yes, No}

@@ -11,7 +11,7 @@ use Rattle.reg_toml.specs.declared.faults.WorkloadFault.{WorkloadFault}
 use Rattle.reg_toml.specs.declared.faults.WorkloadFault.TheVariants.{Toml}
 use Rattle.reg_toml.specs.Loads.{Load, IsLoad, Says}
 use Rattle.reg_toml.specs.Judged.{IsFault}
-use Rattle.reg_workload.specs.Schedules.{Plan}
+use Rattle.reg_schedules.specs.Schedules.{Plan}
 use Rattle.reg_workload.specs.Plays.{IsPlay}
 use Rattle.reg_workload.specs.Fair.{TakesInOrder}
 use Rattle.reg_commands.specs.Replays.{start_of, plan_in, Shows, PointsOf}

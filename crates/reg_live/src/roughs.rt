@@ -1,6 +1,6 @@
 //! A road that loses, repeats and reorders parcels.
 use crate::roads::{Parcel, Posts, Road};
-use reg_workload::Words;
+use reg_random::Words;
 use std::sync::{Mutex, Wait};
 
 /// The words that decide, and the parcel that is kept back.

@@ -6,7 +6,7 @@ use Rattle.reg_orders.specs.declared.entries.Point.{Point}
 use Rattle.reg_history.specs.Reports.{Contents, report_text}
 use Rattle.reg_world.specs.Worlds.{Made}
 use Rattle.reg_toml.specs.Loads.{Load}
-use Rattle.reg_workload.specs.Schedules.{Plan}
+use Rattle.reg_schedules.specs.Schedules.{Plan}
 use Rattle.reg_records.specs.declared.entries.Receipt.{Receipt}
 use Rattle.reg_live.specs.Passes.{IsLived}
 use Rattle.reg_commands.specs.Replays.{start_of, Shows, PointsOf}

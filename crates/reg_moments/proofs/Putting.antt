@@ -11,7 +11,7 @@ use Rattle.reg_text.specs.Words.{names_text}
 use Rattle.reg_text.specs.Writing.{AppendsPart, Puts, Sends}
 use Rattle.reg_text.proofs.Sent.{puts_two, puts_as}
 use Rattle.reg_history.specs.Written.{lines_by}
-use Rattle.reg_workload.specs.Schedules.{Plan, event_text}
+use Rattle.reg_schedules.specs.Schedules.{Plan, event_text}
 use Rattle.reg_moments.specs.ScheduleText.{schedule_text}
 
 pub puts_three : {S : Type 0} (held : S → Option (List ℕ)) (a b c d : Sink S) (xs ys zs : List ℕ) → Puts held a b xs → Puts held b c ys → Puts held c d zs → Puts held a d (xs ++ (ys ++ zs))

@@ -16,7 +16,7 @@ use Rattle.reg_text.proofs.Joining.{joined, number, op_lacks}
 use Rattle.reg_text.proofs.Split.{AllLack, lines_text, none_left, kept_line, none_kept}
 use Rattle.reg_world.specs.declared.events.Event.{Event}
 use Rattle.reg_world.specs.declared.events.Event.TheVariants.{Call, Take, Tick}
-use Rattle.reg_workload.specs.Schedules.{Plan, IsPlan, EventFits, event_text, plan_lines}
+use Rattle.reg_schedules.specs.Schedules.{Plan, IsPlan, EventFits, event_text, plan_lines}
 use Rattle.reg_moments.specs.ScheduleText.{IsScheduleText}
 
 names_lack : (ns : List (List ℕ)) → ((r : ℕ) → r < length ns → is_name (slice_index_or ns r []) ≡ true) → Lacks 10 (names_text ns)

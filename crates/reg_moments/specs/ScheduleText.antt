@@ -1,7 +1,7 @@
 -- The text of a schedule.
 use Rattle.std.specs.Prelude.{ℕ, List}
 use Rattle.reg_text.specs.Lines.{text_of}
-use Rattle.reg_workload.specs.Schedules.{Plan, IsPlan, Spells, plan_lines}
+use Rattle.reg_schedules.specs.Schedules.{Plan, IsPlan, Spells, plan_lines}
 
 -- the lines of a schedule, each with its line feed
 abbrev pub schedule_text : Plan → List ℕ

@@ -13,7 +13,7 @@ use Rattle.reg_text.specs.Ops.{op_text}
 use Rattle.reg_history.specs.EntryLines.{answer_text}
 use Rattle.reg_world.specs.declared.events.Event.{Event}
 use Rattle.reg_world.specs.declared.events.Event.TheVariants.{Call, Take, Tick}
-use Rattle.reg_workload.specs.Schedules.{event_text}
+use Rattle.reg_schedules.specs.Schedules.{event_text}
 use Rattle.reg_moments.specs.declared.moments.Sent.{Sent}
 use Rattle.reg_moments.specs.Moments.{Fact}
 

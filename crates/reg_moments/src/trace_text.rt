@@ -6,7 +6,7 @@ ghost use Rattle.reg_text.specs.Lines.{text_of};
 ghost use Rattle.reg_text.specs.Writing.{AppendsPart, Puts};
 ghost use Rattle.reg_history.specs.EntryLines.{answer_text};
 ghost use Rattle.reg_history.specs.Written.{lines_by};
-ghost use Rattle.reg_workload.specs.Schedules.{event_text};
+ghost use Rattle.reg_schedules.specs.Schedules.{event_text};
 ghost use Rattle.reg_moments.specs.Traces.{answers_lines, body_text, cast_text, delivers_line, frame_text, moment_lines, puts_line, stamp_text, taken_lines, takes_lines, trace_text};
 
 use crate::moments::{Moment, Sent};

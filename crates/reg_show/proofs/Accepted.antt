@@ -19,7 +19,7 @@ use Rattle.reg_world.specs.declared.events.Event.{Event}
 use Rattle.reg_world.specs.declared.events.Event.TheVariants.{Call, Take, Tick}
 use Rattle.reg_world.specs.World.{World, empty_world, move_of, happens, run}
 use Rattle.reg_world.specs.Worlds.{Made, run_in}
-use Rattle.reg_workload.specs.Schedules.{EventFits, Plan}
+use Rattle.reg_schedules.specs.Schedules.{EventFits, Plan}
 use Rattle.reg_commands.specs.Plays.{IsPlayBy, plan_of}
 use Rattle.reg_base.specs.Shape.{Extent}
 use Rattle.reg_front.specs.declared.named.Front.{Front}

@@ -1,6 +1,6 @@
 -- What is told of the run of a schedule.
 use Rattle.std.specs.Prelude.{ℕ, ◌≡◌, ◌≤◌, ◌<◌, List, length}
-use Rattle.reg_workload.specs.Schedules.{Plan, IsPlan, Spells}
+use Rattle.reg_schedules.specs.Schedules.{Plan, IsPlan, Spells}
 use Rattle.reg_commands.specs.Replays.{start_of, run_by}
 use Rattle.reg_commands.specs.Answers.{Blames}
 use Rattle.reg_commands.specs.declared.command.Command.TheVariants.{Replay}

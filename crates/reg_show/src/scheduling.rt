@@ -8,7 +8,7 @@ ghost use Rattle.reg_commands.specs.Answers.{Blames};
 ghost use Rattle.reg_commands.specs.Plays.{IsPlayBy, plan_of};
 ghost use Rattle.reg_commands.specs.Replays.{start_of};
 ghost use Rattle.reg_commands.specs.declared.command.Command.TheVariants.{Play};
-ghost use Rattle.reg_workload.specs.Schedules.{Plan};
+ghost use Rattle.reg_schedules.specs.Schedules.{Plan};
 ghost use Rattle.reg_moments.specs.ScheduleText.{IsScheduleText, schedule_text};
 ghost use Rattle.reg_show.specs.Schedules.{ShowsSchedule, WritesSchedule};
 ghost use Rattle.reg_show.specs.Inner.{EventHasBits};

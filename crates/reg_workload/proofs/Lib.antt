@@ -1,4 +1,3 @@
-pub mod EventLines
 pub mod Scripts
 pub mod Allowed
 pub mod Loaded

@@ -1,5 +1,3 @@
-pub mod Schedules
-pub mod LineForms
 pub mod Plays
 pub mod Fair
 pub mod Seeded

@@ -7,7 +7,7 @@ ghost use Rattle.reg_workload.specs.Seeded.{says, picked, takes_or_loses, choose
 
 use crate::choices::{Choice, list};
 use crate::playing::{Play, Player};
-use crate::words::Words;
+use reg_random::Words;
 use reg_base::{Op, Shape};
 use reg_front::FrontEnd;
 use std::alloc::{AllocError, Allocator};

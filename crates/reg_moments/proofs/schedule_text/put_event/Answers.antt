@@ -2,7 +2,7 @@ use Rattle.std.proofs.Common.{◌∷◌, ◌++◌, [], codes, ap, sym}
 use Rattle.std.specs.Fmt.{decimal}
 use Rattle.reg_text.specs.Ops.{op_text}
 use Rattle.reg_text.proofs.Sent.{puts_as}
-use Rattle.reg_workload.specs.Schedules.{event_text}
+use Rattle.reg_schedules.specs.Schedules.{event_text}
 use Rattle.reg_moments.proofs.Putting.{puts_three}
 use Rattle.reg_moments.proofs.schedule_text.put_event.Goals as goal
 

@@ -1,6 +1,6 @@
 use Rattle.std.proofs.Common.{◌∷◌, []}
 use Rattle.reg_text.proofs.Sent.{puts_two}
-use Rattle.reg_workload.specs.Schedules.{event_text}
+use Rattle.reg_schedules.specs.Schedules.{event_text}
 use Rattle.reg_moments.proofs.schedule_text.put_event_line.Goals as goal
 
 pub returns : goal.returns

@@ -1,4 +1,4 @@
-use Rattle.reg_workload.specs.Schedules.{event_text}
+use Rattle.reg_schedules.specs.Schedules.{event_text}
 use Rattle.reg_history.proofs.Writing.{puts_line}
 use Rattle.reg_moments.proofs.schedule_text.put_events.Goals as goal
 

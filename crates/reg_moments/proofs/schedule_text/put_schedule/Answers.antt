@@ -1,7 +1,7 @@
 use Rattle.std.proofs.Common.{ℕ, ◌∷◌, ◌++◌, [], codes, subst}
 use Rattle.std.specs.Fmt.{decimal}
 use Rattle.reg_text.specs.Writing.{Puts}
-use Rattle.reg_workload.specs.Schedules.{Plan}
+use Rattle.reg_schedules.specs.Schedules.{Plan}
 use Rattle.reg_moments.proofs.Putting.{schedule_put}
 use Rattle.reg_moments.proofs.schedule_text.put_schedule.Goals as goal
 

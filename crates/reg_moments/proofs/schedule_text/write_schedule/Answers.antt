@@ -1,5 +1,5 @@
 use Rattle.std.proofs.Common.{rules}
-use Rattle.reg_workload.specs.Schedules.{Plan}
+use Rattle.reg_schedules.specs.Schedules.{Plan}
 use Rattle.reg_moments.specs.ScheduleText.{schedule_text}
 use Rattle.reg_moments.proofs.Putting.{all_out, part_out}
 use Rattle.reg_moments.proofs.schedule_text.write_schedule.Goals as goal

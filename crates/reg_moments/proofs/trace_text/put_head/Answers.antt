@@ -1,7 +1,7 @@
 use Rattle.std.proofs.Common.{◌∷◌, ◌++◌, [], codes, sym, append_assoc}
 use Rattle.std.specs.Fmt.{decimal}
 use Rattle.reg_text.proofs.Sent.{puts_as}
-use Rattle.reg_workload.specs.Schedules.{event_text}
+use Rattle.reg_schedules.specs.Schedules.{event_text}
 use Rattle.reg_moments.proofs.Putting.{puts_four}
 use Rattle.reg_moments.proofs.trace_text.put_head.Goals as goal
 

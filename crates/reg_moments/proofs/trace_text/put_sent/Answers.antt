@@ -1,7 +1,7 @@
 use Rattle.std.proofs.Common.{◌≡◌, ◌∷◌, ◌++◌, [], codes, ap, sym, ◌∙◌, append_assoc}
 use Rattle.reg_text.proofs.Sent.{puts_two, puts_as}
 use Rattle.reg_world.specs.declared.events.Event.TheVariants.{Take}
-use Rattle.reg_workload.specs.Schedules.{event_text}
+use Rattle.reg_schedules.specs.Schedules.{event_text}
 use Rattle.reg_moments.specs.Traces.{frame_text, puts_line}
 use Rattle.reg_moments.proofs.Putting.{puts_four}
 use Rattle.reg_moments.proofs.trace_text.put_sent.Goals as goal

@@ -1,0 +1,73 @@
+-- The forms of the lines of a schedule, whatever their numbers and names, and why such a line is refused. They carry a proof: no promise speaks of them.
+use Rattle.std.specs.Prelude.{ℕ, ◌≡◌, ◌≢◌, ◌<◌, ◌≤◌, ◌⊎◌, ◌==◌, ◌&&◌, Bool, true, not, List, ◌∷◌, ◌++◌, length, map, codes, Some, slice_get}
+use Rattle.std.specs.Fmt.{decimal}
+use Rattle.std.specs.List.{list_all}
+use Rattle.reg_base.specs.declared.limits.TheConstants.{MOST_EVENTS}
+use Rattle.reg_text.specs.Lines.{AllFit}
+use Rattle.reg_text.specs.Words.{is_front_letter}
+use Rattle.reg_text.specs.Forms.{is_numeral, HasOpForm, IsReadForm}
+use Rattle.reg_history.specs.LineForms.{IsUpdateForm}
+use Rattle.reg_world.specs.declared.events.Event.{Event}
+use Rattle.reg_schedules.specs.Schedules.{event_text, EventFits}
+use Rattle.reg_text.specs.declared.faults.Why.{Why}
+use Rattle.reg_text.specs.declared.faults.Why.TheVariants.{Form, Range, Name}
+
+-- letters and hyphens, one or more
+abbrev pub is_front_form : List ℕ → Bool
+is_front_form word = not (length word == 0) && list_all is_front_letter word
+
+-- `call`, a numeral and the form of an operation
+abbrev pub IsCallForm : List ℕ → List ℕ → List ℕ → Type 0
+IsCallForm line process text = (is_numeral process ≡ true) × HasOpForm text × (line ≡ codes "call " ++ (process ++ 32 ∷ text))
+
+-- `take` and three numerals
+abbrev pub IsTakeForm : List ℕ → List ℕ → List ℕ → List ℕ → Type 0
+IsTakeForm line from to number = (is_numeral from ≡ true) × (is_numeral to ≡ true) × (is_numeral number ≡ true)
+    × (line ≡ codes "take " ++ (from ++ 32 ∷ (to ++ 32 ∷ number)))
+
+-- `tick` and a numeral
+abbrev pub IsTickForm : List ℕ → List ℕ → Type 0
+IsTickForm line process = (is_numeral process ≡ true) × (line ≡ codes "tick " ++ process)
+
+-- any of them
+abbrev pub HasEventForm : List ℕ → Type 0
+HasEventForm line =
+    ((process text : List ℕ) × IsCallForm line process text)
+    ⊎ (((from to number : List ℕ) × IsTakeForm line from to number) ⊎ ((process : List ℕ) × IsTickForm line process))
+
+-- Why a text that has the form of an operation is none: an update of a register with a name has a value beyond its range; what
+-- another operation names is no register's name.
+pub record IsOpWhy (names : List (List ℕ)) (text : List ℕ) (why : Why) : Type 0 where
+  pub read : (name : List ℕ) → IsReadForm text name → why ≡ Name
+  pub known : (name digits : List ℕ) (i : ℕ) → IsUpdateForm text name digits → slice_get names i ≡ Some name → why ≡ Range
+  pub unknown : (name digits : List ℕ) → IsUpdateForm text name digits → ((i : ℕ) → ¬ (slice_get names i ≡ Some name)) → why ≡ Name
+
+-- Why a line that has the form of an event's is none: a process, or the number of a frame, is beyond its range, and of a call within
+-- it the operation tells.
+pub record IsEventWhy (names : List (List ℕ)) (line : List ℕ) (why : Why) : Type 0 where
+  pub formed : HasEventForm line
+  pub call : (process : ℕ) (text : List ℕ) → process ≤ 255 → IsCallForm line (decimal process) text → IsOpWhy names text why
+  pub beyond : (process text : List ℕ) → ((p : ℕ) → p ≤ 255 → ¬ (process ≡ decimal p)) → IsCallForm line process text → why ≡ Range
+  pub take : (from to number : List ℕ) → IsTakeForm line from to number → why ≡ Range
+  pub tick : (process : List ℕ) → IsTickForm line process → why ≡ Range
+
+-- why a line is no event's: its form is not kept, or its numbers and names tell
+pub record IsLineWhy (names : List (List ℕ)) (line : List ℕ) (why : Why) : Type 0 where
+  pub form : (¬ HasEventForm line) → why ≡ Form
+  pub within : HasEventForm line → IsEventWhy names line why
+
+-- why a line is refused behind the last event that a schedule may have: its form is judged before its place
+pub record IsFurtherWhy (line : List ℕ) (why : Why) : Type 0 where
+  pub form : (¬ HasEventForm line) → why ≡ Form
+  pub further : HasEventForm line → why ≡ Range
+
+-- Of the lines, those before this one are of events, and it is refused: it is none of an event's, or there may be no more events.
+pub record IsWrongEvent (names : List (List ℕ)) (old rest : List (List ℕ)) (why : Why) : Type 0 where
+  pub before : List Event
+  pub line : List ℕ
+  pub lines : old ≡ map (event_text names) before ++ line ∷ rest
+  pub fit : AllFit (λ _ e. EventFits names e) before
+  pub few : length before ≤ MOST_EVENTS
+  pub none : length before < MOST_EVENTS → (e : Event) → EventFits names e → line ≢ event_text names e
+  pub why_none : length before < MOST_EVENTS → IsLineWhy names line why
+  pub why_further : length before ≡ MOST_EVENTS → IsFurtherWhy line why
