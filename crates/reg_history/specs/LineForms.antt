@@ -4,9 +4,9 @@ use Rattle.std.specs.Fmt.{decimal}
 use Rattle.reg_base.specs.Shape.{Extent}
 use Rattle.reg_base.specs.Names.{is_name}
 use Rattle.reg_text.specs.Inner.{HasValue}
-use Rattle.reg_text.specs.Forms.{is_numeral, is_word, HasOpForm, IsReadForm, IsWriteForm, IsSwapForm}
+use Rattle.reg_text.specs.Forms.{is_numeral, is_word, HasOpForm, IsOpWhy}
 use Rattle.reg_text.specs.declared.faults.Why.{Why}
-use Rattle.reg_text.specs.declared.faults.Why.TheVariants.{Range, Name}
+use Rattle.reg_text.specs.declared.faults.Why.TheVariants.{Range}
 use Rattle.reg_history.specs.declared.report_faults.ReadWhy.{ReadWhy}
 use Rattle.reg_history.specs.declared.report_faults.ReadWhy.TheVariants.{Form as Misspelt, Range as BeyondLimit, Name as BadName, Place as OutOfPlace, End as NoLine}
 use Rattle.reg_orders.specs.declared.entries.Entry.{Entry}
@@ -56,17 +56,11 @@ AreWithin version at process number =
 abbrev pub HasEntryForm : List ℕ → Type 0
 HasEntryForm line = (at process number rest : List ℕ) × HasColumns line at process number rest × HasTailForm rest
 
--- the form of a write or a swap
-abbrev pub IsUpdateForm : List ℕ → List ℕ → List ℕ → Type 0
-IsUpdateForm text name digits = IsWriteForm text name digits ⊎ IsSwapForm text name digits
-
--- Why what stands behind the columns is not read, though it has its form: an answer, and an update of a register with a name,
--- has a value beyond its range; what another operation names is no register's name.
+-- Why what stands behind the columns is not read, though it has its form: the value of an answer is beyond its range, or the
+-- operation of a call tells.
 pub record IsTailWhy (names : List (List ℕ)) (rest : List ℕ) (why : Why) : Type 0 where
   pub answer : (text : List ℕ) → rest ≡ codes "answer  " ++ text → why ≡ Range
-  pub read : (text name : List ℕ) → rest ≡ codes "call    " ++ text → IsReadForm text name → why ≡ Name
-  pub known : (text name digits : List ℕ) (i : ℕ) → rest ≡ codes "call    " ++ text → IsUpdateForm text name digits → slice_get names i ≡ Some name → why ≡ Range
-  pub unknown : (text name digits : List ℕ) → rest ≡ codes "call    " ++ text → IsUpdateForm text name digits → ((i : ℕ) → ¬ (slice_get names i ≡ Some name)) → why ≡ Name
+  pub call : (text : List ℕ) → rest ≡ codes "call    " ++ text → IsOpWhy names text why
 
 -- why a line is no entry's: its form is not kept, or a number of its columns is beyond its limit, or what stands behind them tells
 pub record IsEntryWhy (version : Version) (names : List (List ℕ)) (line : List ℕ) (why : ReadWhy) : Type 0 where

@@ -3,11 +3,11 @@ use Rattle.std.proofs.Common.{ℕ, ◌≡◌, ◌≤◌, true, List, ◌∷◌, 
 use Rattle.std.specs.Fmt.{decimal}
 use Rattle.reg_text.specs.declared.faults.Why.{Why}
 use Rattle.reg_text.specs.declared.faults.Why.TheVariants.{Range, Name}
-use Rattle.reg_text.specs.Forms.{is_numeral, HasOpForm}
+use Rattle.reg_text.specs.Forms.{is_numeral, HasOpForm, IsOpWhy}
 use Rattle.reg_text.specs.Parts.{Lacks}
 use Rattle.reg_text.proofs.Formed.{numeral_lacks}
-use Rattle.reg_history.proofs.Tails.{Told, of_some, known_as, unknown_as}
-use Rattle.reg_schedules.specs.LineForms.{HasEventForm, IsCallForm, IsTakeForm, IsTickForm, IsOpWhy, IsEventWhy}
+use Rattle.reg_text.proofs.OpWhys.{Told, op_why}
+use Rattle.reg_schedules.specs.LineForms.{HasEventForm, IsCallForm, IsTakeForm, IsTickForm, IsEventWhy}
 
 -- what stands before the first mark of a text, and what behind it
 abbrev pub IsCut : List ℕ → List ℕ → List ℕ → Type 0
@@ -25,13 +25,6 @@ call_parts text front behind process rest cut h =
     let e = h.2 in
     let same : text ≡ process ++ 32 ∷ rest = cc in
     cut process rest (numeral_lacks 32 process (omega arith) h.0) same
-
-op_why : (names : List (List ℕ)) (text : List ℕ) (why : Why) → Told names text (Some why) → IsOpWhy names text why
-op_why names text why t = record {
-  read = λ name h. of_some why Name (t.read name h);
-  known = λ name digits i h here. known_as names text why name digits i t h here;
-  unknown = λ name digits h none. unknown_as names text why name digits t h none;
-}
 
 no_take : (text from to number : List ℕ) → IsTakeForm (codes "call " ++ text) from to number → ⊥
 no_take text from to number h = let e = h.3 in search (rules, e)

@@ -5,8 +5,7 @@ use Rattle.std.specs.List.{list_all}
 use Rattle.reg_base.specs.declared.limits.TheConstants.{MOST_EVENTS}
 use Rattle.reg_text.specs.Lines.{AllFit}
 use Rattle.reg_text.specs.Words.{is_front_letter}
-use Rattle.reg_text.specs.Forms.{is_numeral, HasOpForm, IsReadForm}
-use Rattle.reg_history.specs.LineForms.{IsUpdateForm}
+use Rattle.reg_text.specs.Forms.{is_numeral, HasOpForm, IsOpWhy}
 use Rattle.reg_world.specs.declared.events.Event.{Event}
 use Rattle.reg_schedules.specs.Schedules.{event_text, EventFits}
 use Rattle.reg_text.specs.declared.faults.Why.{Why}
@@ -34,13 +33,6 @@ abbrev pub HasEventForm : List ℕ → Type 0
 HasEventForm line =
     ((process text : List ℕ) × IsCallForm line process text)
     ⊎ (((from to number : List ℕ) × IsTakeForm line from to number) ⊎ ((process : List ℕ) × IsTickForm line process))
-
--- Why a text that has the form of an operation is none: an update of a register with a name has a value beyond its range; what
--- another operation names is no register's name.
-pub record IsOpWhy (names : List (List ℕ)) (text : List ℕ) (why : Why) : Type 0 where
-  pub read : (name : List ℕ) → IsReadForm text name → why ≡ Name
-  pub known : (name digits : List ℕ) (i : ℕ) → IsUpdateForm text name digits → slice_get names i ≡ Some name → why ≡ Range
-  pub unknown : (name digits : List ℕ) → IsUpdateForm text name digits → ((i : ℕ) → ¬ (slice_get names i ≡ Some name)) → why ≡ Name
 
 -- Why a line that has the form of an event's is none: a process, or the number of a frame, is beyond its range, and of a call within
 -- it the operation tells.

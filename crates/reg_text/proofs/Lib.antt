@@ -16,6 +16,7 @@ pub mod Joining
 pub mod Shorts
 pub mod Found
 pub mod Formed
+pub mod OpWhys
 pub mod Counting
 pub mod Seen
 pub mod Sent

@@ -1,7 +1,9 @@
 -- Forms of words, of numerals and of operations, whatever the limits and the names.
-use Rattle.std.specs.Prelude.{ℕ, ◌≡◌, ◌==◌, ◌&&◌, Bool, true, false, not, List, [], ◌∷◌, ◌++◌, ◌⊎◌, length, codes, if◌then◌else◌}
+use Rattle.std.specs.Prelude.{ℕ, ◌≡◌, ◌==◌, ◌&&◌, Bool, true, false, not, List, [], ◌∷◌, ◌++◌, ◌⊎◌, length, codes, Some, slice_get, if◌then◌else◌}
 use Rattle.std.specs.Char.{is_ascii, is_ascii_digit}
 use Rattle.std.specs.List.{list_all}
+use Rattle.reg_text.specs.declared.faults.Why.{Why}
+use Rattle.reg_text.specs.declared.faults.Why.TheVariants.{Range, Name}
 
 -- `0`, or digits that do not begin with 0
 abbrev pub is_numeral : List ℕ → Bool
@@ -33,3 +35,14 @@ abbrev pub HasOpForm : List ℕ → Type 0
 HasOpForm text =
     ((name : List ℕ) × IsReadForm text name)
     ⊎ (((name : List ℕ) × ((digits : List ℕ) × IsWriteForm text name digits)) ⊎ ((name : List ℕ) × ((digits : List ℕ) × IsSwapForm text name digits)))
+
+-- a write or a swap
+abbrev pub IsUpdateForm : List ℕ → List ℕ → List ℕ → Type 0
+IsUpdateForm text name digits = IsWriteForm text name digits ⊎ IsSwapForm text name digits
+
+-- Why a text that has the form of an operation is none: an update of a register with a name has a value beyond its range; what
+-- another operation names is no register's name.
+pub record IsOpWhy (names : List (List ℕ)) (text : List ℕ) (why : Why) : Type 0 where
+  pub read : (name : List ℕ) → IsReadForm text name → why ≡ Name
+  pub known : (name digits : List ℕ) (i : ℕ) → IsUpdateForm text name digits → slice_get names i ≡ Some name → why ≡ Range
+  pub unknown : (name digits : List ℕ) → IsUpdateForm text name digits → ((i : ℕ) → ¬ (slice_get names i ≡ Some name)) → why ≡ Name
