@@ -1,0 +1,5 @@
+use Rattle.std.proofs.Common.{rules}
+use Rattle.reg_front.proofs.ends.LocalWriteFrontEnd.start.Goals as goal
+
+pub returns-in-Swap : goal.returns-in-Swap
+returns-in-Swap c = search rules
