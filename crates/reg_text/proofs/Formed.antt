@@ -87,3 +87,6 @@ unpadded bs front a after (suc m) cut other lacks e =
 -- the parts of a name and a value
 pub valued_parts : (text name digits w d : List ℕ) → ((f r : List ℕ) → Lacks 32 f → text ≡ f ++ 32 ∷ r → (name ≡ f) × (digits ≡ r)) → IsValuedForm text w d → (name ≡ w) × (digits ≡ d)
 valued_parts text name digits w d cut h = cut w d (word_lacks w h.0) h.2
+
+pub no_truth : {A : Type 0} → false ≡ true → A
+no_truth e = absurd (cc)

@@ -1,5 +1,5 @@
 -- Reading an operation back.
-use Rattle.std.proofs.Common.{ℕ, zero, suc, ◌≡◌, ◌<◌, ◌^◌, ◌↔◌, List, [], ◌∷◌, ◌++◌, length, get_or, refl, sym, ap, ◌∙◌, arith, Option, None, Some, slice_get, codes}
+use Rattle.std.proofs.Common.{ℕ, zero, suc, ◌≡◌, ◌<◌, ◌^◌, ◌↔◌, List, [], ◌∷◌, ◌++◌, length, drop, get_or, refl, sym, ap, ◌∙◌, arith, Option, None, Some, slice_get, codes}
 use Rattle.std.specs.Fmt.{decimal}
 use Rattle.reg_base.specs.Names.{names_fault}
 use Rattle.reg_base.specs.declared.memory.Op.{Op}
@@ -22,6 +22,60 @@ read_same names text name reg (Read r) F s fits e =
     ap (λ x. Some (Read x)) n
 read_same names text name reg (Write r v) F s fits e = absurd (omega (arith, ap (λ l. get_or l 0 0) (sym s ∙ e)))
 read_same names text name reg (Swap r v) F s fits e = absurd (omega (arith, ap (λ l. get_or l 0 0) (sym s ∙ e)))
+
+first_same : {a b : ℕ} {xs ys : List ℕ} → a ∷ xs ≡ b ∷ ys → a ≡ b
+first_same e = ap (λ l. get_or l 0 0) e
+
+pub unread : (names : List (List ℕ)) (text name : List ℕ) (op : Op) → Finds names name None → text ≡ codes "read " ++ name → OpFits names op → text ≡ op_text names op → ⊥
+unread names text name (Read r) F s fits e =
+    let same : name ≡ get_or names r [] = ap (drop 5) (sym s ∙ e) in
+    let k : None ≡ Some r = (F r).1 (is_got names r fits ∙ ap Some (sym same)) in
+    absurd (cc)
+unread names text name (Write r v) F s fits e = omega (arith, first_same (sym s ∙ e))
+unread names text name (Swap r v) F s fits e = omega (arith, first_same (sym s ∙ e))
+
+-- what is read of a register and a value, where the text is theirs
+abbrev pub Gives : List (List ℕ) → List ℕ → Option (ℕ × ℕ) → Type 0
+Gives names rest found = (r v : ℕ) → r < length names → v < 2 ^ 64 → rest ≡ valued names r v → found ≡ Some (r, v)
+
+pub unwritten : (names : List (List ℕ)) (text rest : List ℕ) (op : Op) → Gives names rest None → text ≡ codes "write " ++ rest → OpFits names op → text ≡ op_text names op → ⊥
+unwritten names text rest (Read r) G s fits e = omega (arith, first_same (sym s ∙ e))
+unwritten names text rest (Write r v) G s fits e =
+    let none = G r v fits.0 fits.1 (ap (drop 6) (sym s ∙ e)) in
+    absurd (cc)
+unwritten names text rest (Swap r v) G s fits e = omega (arith, first_same (sym s ∙ e))
+
+pub unswapped : (names : List (List ℕ)) (text rest : List ℕ) (op : Op) → Gives names rest None → text ≡ codes "swap " ++ rest → OpFits names op → text ≡ op_text names op → ⊥
+unswapped names text rest (Read r) G s fits e = omega (arith, first_same (sym s ∙ e))
+unswapped names text rest (Write r v) G s fits e = omega (arith, first_same (sym s ∙ e))
+unswapped names text rest (Swap r v) G s fits e =
+    let none = G r v fits.0 fits.1 (ap (drop 5) (sym s ∙ e)) in
+    absurd (cc)
+
+pub write_same : (names : List (List ℕ)) (text rest : List ℕ) (reg value : ℕ) (op : Op) → Gives names rest (Some (reg, value)) → text ≡ codes "write " ++ rest → OpFits names op → text ≡ op_text names op
+    → Some (Write reg value) ≡ Some op
+write_same names text rest reg value (Read r) G s fits e = absurd (omega (arith, first_same (sym s ∙ e)))
+write_same names text rest reg value (Write r v) G s fits e =
+    let k = G r v fits.0 fits.1 (ap (drop 6) (sym s ∙ e)) in
+    let same : ◌≡◌ {A = ℕ × ℕ} (reg, value) (r, v) = cc in
+    ap (λ (p : ℕ × ℕ). Some (Write p.0 p.1)) same
+write_same names text rest reg value (Swap r v) G s fits e = absurd (omega (arith, first_same (sym s ∙ e)))
+
+pub swap_same : (names : List (List ℕ)) (text rest : List ℕ) (reg value : ℕ) (op : Op) → Gives names rest (Some (reg, value)) → text ≡ codes "swap " ++ rest → OpFits names op → text ≡ op_text names op
+    → Some (Swap reg value) ≡ Some op
+swap_same names text rest reg value (Read r) G s fits e = absurd (omega (arith, first_same (sym s ∙ e)))
+swap_same names text rest reg value (Write r v) G s fits e = absurd (omega (arith, first_same (sym s ∙ e)))
+swap_same names text rest reg value (Swap r v) G s fits e =
+    let k = G r v fits.0 fits.1 (ap (drop 5) (sym s ∙ e)) in
+    let same : ◌≡◌ {A = ℕ × ℕ} (reg, value) (r, v) = cc in
+    ap (λ (p : ℕ × ℕ). Some (Swap p.0 p.1)) same
+
+-- a text that begins with no operation's word
+pub unspelt : (names : List (List ℕ)) (text : List ℕ) (op : Op) → ((rest : List ℕ) → text ≡ codes "read " ++ rest → ⊥) → ((rest : List ℕ) → text ≡ codes "write " ++ rest → ⊥) → ((rest : List ℕ) → text ≡ codes "swap " ++ rest → ⊥)
+    → text ≡ op_text names op → ⊥
+unspelt names text (Read r) read write swap e = read (get_or names r []) e
+unspelt names text (Write r v) read write swap e = write (valued names r v) e
+unspelt names text (Swap r v) read write swap e = swap (valued names r v) e
 
 -- a name and a value that are cut at the space between them
 abbrev pub IsCut : List ℕ → List ℕ → List ℕ → Type 0
