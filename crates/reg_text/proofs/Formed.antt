@@ -90,3 +90,7 @@ valued_parts text name digits w d cut h = cut w d (word_lacks w h.0) h.2
 
 pub no_truth : {A : Type 0} → false ≡ true → A
 no_truth e = absurd (cc)
+
+-- texts that are equal begin with the same byte
+pub first_same : {a b : ℕ} {xs ys : List ℕ} → a ∷ xs ≡ b ∷ ys → a ≡ b
+first_same e = ap (λ l. get_or l 0 0) e

@@ -4,6 +4,7 @@ use Rattle.std.specs.Fmt.{decimal}
 use Rattle.reg_base.specs.Names.{names_fault}
 use Rattle.reg_base.specs.declared.memory.Op.{Op}
 use Rattle.reg_base.specs.declared.memory.Op.TheVariants.{Read, Write, Swap}
+use Rattle.reg_text.proofs.Formed.{first_same}
 use Rattle.reg_text.specs.Parts.{Lacks}
 use Rattle.reg_base.specs.Memory.{register_of}
 use Rattle.reg_text.specs.Ops.{op_text, valued, OpFits}
@@ -22,9 +23,6 @@ read_same names text name reg (Read r) F s fits e =
     ap (λ x. Some (Read x)) n
 read_same names text name reg (Write r v) F s fits e = absurd (omega (arith, ap (λ l. get_or l 0 0) (sym s ∙ e)))
 read_same names text name reg (Swap r v) F s fits e = absurd (omega (arith, ap (λ l. get_or l 0 0) (sym s ∙ e)))
-
-first_same : {a b : ℕ} {xs ys : List ℕ} → a ∷ xs ≡ b ∷ ys → a ≡ b
-first_same e = ap (λ l. get_or l 0 0) e
 
 pub unread : (names : List (List ℕ)) (text name : List ℕ) (op : Op) → Finds names name None → text ≡ codes "read " ++ name → OpFits names op → text ≡ op_text names op → ⊥
 unread names text name (Read r) F s fits e =

@@ -1,5 +1,5 @@
 -- The parts of lines that are being read. They carry a proof: no promise speaks of them.
-use Rattle.std.specs.Prelude.{ℕ, ◌≡◌, true, List, ◌∷◌, ◌++◌, ◌+◌, map, length, ◌^◌, ◌<◌, ⊤, [], ◌⊎◌}
+use Rattle.std.specs.Prelude.{ℕ, ◌≡◌, true, List, ◌∷◌, ◌++◌, map, length, ◌^◌, ◌<◌, ⊤, [], ◌⊎◌}
 use Rattle.reg_text.specs.Forms.{is_numeral, is_word}
 use Rattle.reg_text.specs.Lines.{AllFit}
 use Rattle.reg_base.specs.declared.memory.Op.{Op}

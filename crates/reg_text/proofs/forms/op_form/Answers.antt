@@ -1,11 +1,8 @@
-use Rattle.std.proofs.Common.{ℕ, ◌≡◌, true, List, ◌∷◌, ◌++◌, codes, drop, get_or, ap, sym, ◌∙◌, inl, inr, arith}
+use Rattle.std.proofs.Common.{ℕ, ◌≡◌, true, List, ◌∷◌, ◌++◌, codes, drop, ap, sym, ◌∙◌, inl, inr, arith}
 use Rattle.reg_text.specs.Forms.{HasOpForm, is_word}
 use Rattle.reg_text.specs.Inner.{IsValuedForm}
-use Rattle.reg_text.proofs.Formed.{no_truth}
+use Rattle.reg_text.proofs.Formed.{no_truth, first_same}
 use Rattle.reg_text.proofs.forms.op_form.Goals as goal
-
-first_same : {a b : ℕ} {xs ys : List ℕ} → a ∷ xs ≡ b ∷ ys → a ≡ b
-first_same e = ap (λ l. get_or l 0 0) e
 
 only_read : (text name : List ℕ) → text ≡ codes "read " ++ name → HasOpForm text → is_word name ≡ true
 only_read text name e (inl (n, (word, here))) =
