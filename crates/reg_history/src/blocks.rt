@@ -8,12 +8,11 @@ ghost use Rattle.reg_history.specs.EntryLines.{entry_text};
 ghost use Rattle.reg_text.specs.Inner.{IsBlock};
 
 use crate::entry_lines::{read_entry, why_entry};
-use reg_orders::HistoryFault;
 use crate::items::{Listed, why_unlisted};
-use reg_orders::History;
 use crate::report_faults::{ReadFault, ReadWhy, at_line};
 use crate::versions::Version;
 use reg_base::Names;
+use reg_orders::{History, HistoryFault};
 use reg_text::Lines;
 use std::alloc::Allocator;
 

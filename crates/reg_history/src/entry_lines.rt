@@ -10,11 +10,11 @@ ghost use Rattle.reg_history.specs.ReadFaults.{why_of};
 ghost use Rattle.reg_text.specs.Forms.{is_numeral as is_numeral_of};
 
 use crate::column_forms::columns_form;
-use reg_orders::Entry;
 use crate::report_faults::ReadWhy;
 use crate::versions::Version;
 use reg_base::limits::{LAST_EVENT, MOST_OPERATIONS};
 use reg_base::{Answer, Names, OpId};
+use reg_orders::Entry;
 use reg_text::{
     Why, form, is_numeral, left_field, numeral, op_form, read_op, right_field, skip, within,
 };

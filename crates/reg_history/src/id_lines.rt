@@ -5,11 +5,11 @@ ghost use Rattle.reg_text.specs.Forms.{is_numeral as is_numeral_of};
 ghost use Rattle.reg_history.specs.Versions.{most_processes};
 ghost use Rattle.reg_history.specs.LineForms.{IsIdForm, HasIdForm, IsPointForm, HasPointForm};
 
-use reg_orders::Point;
 use crate::items::Listed;
 use crate::versions::Version;
 use reg_base::OpId;
 use reg_base::limits::{LAST_EVENT, MOST_OPERATIONS};
+use reg_orders::Point;
 use reg_text::{cut_at, field_within, form, is_numeral, numeral_within, skip};
 
 /// The numeral of the process of a line, and what stands behind the sign of the number.

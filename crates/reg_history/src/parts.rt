@@ -15,13 +15,12 @@ ghost use Rattle.reg_history.specs.declared.versions.Version.{Version};
 ghost use Rattle.reg_history.specs.Versions.{most_processes, most_registers, version_line};
 
 use crate::blocks::{read_block, read_entries};
-use reg_orders::Point;
-use reg_orders::History;
 use crate::name_lines::read_registers;
 use crate::report_faults::{ReadFault, ReadWhy, at_line};
 use crate::report_limits::{LONGEST_FRONT, MOST_ENTRIES, MOST_IDS};
 use crate::versions::Version;
 use reg_base::{Names, OpId, Shape};
+use reg_orders::{History, Point};
 use reg_text::{
     Lines, are_front_letters, expect_line, numeral_within, owned, read_count, skip, why_number,
 };

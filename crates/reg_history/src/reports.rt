@@ -8,9 +8,7 @@ ghost use Rattle.reg_history.specs.declared.versions.Version.{Version};
 ghost use Rattle.reg_history.specs.declared.versions.Version.TheVariants.{Two};
 ghost use Rattle.reg_history.specs.Reports.{lines_in, report_text, IsReport, IsReportIn, IsReportFault, InRange, PointsFit, SpellsReport, Contents};
 
-use reg_orders::{Entry, Point};
 use crate::items::all_fit;
-use reg_orders::History;
 use crate::parts::{is_front, read_head, read_history, read_lists};
 use crate::report_faults::{ReadFault, ReadWhy, ReportFault, WriteFault, at_line};
 use crate::report_limits::{MOST_ENTRIES, MOST_IDS};
@@ -18,6 +16,7 @@ use crate::versions::Version;
 use crate::write::{put_count, put_entries, put_head, put_ids, put_tail};
 use reg_base::limits::MOST_PROCESSES;
 use reg_base::{Names, OpId, Shape};
+use reg_orders::{Entry, History, Point};
 use reg_text::{Lines, Sink};
 use std::alloc::{Allocator, Global};
 use std::io::Write;

@@ -11,9 +11,9 @@ ghost use Rattle.reg_text.specs.Writing.{Puts};
 ghost use Rattle.reg_history.specs.declared.versions.Version.TheVariants.{Two};
 ghost use Rattle.reg_history.specs.Reports.{head_lines, tail_lines};
 
-use reg_orders::{Entry, Point};
 use itoa::{Buffer, write_digits};
 use reg_base::{Answer, Names, Op, OpId};
+use reg_orders::{Entry, Point};
 use reg_text::{Sink, name_at, put_op};
 use std::alloc::Allocator;
 use std::io::Write;

@@ -8,8 +8,8 @@ ghost use Rattle.reg_workload.specs.Seeded.{seeded_play};
 use crate::fair;
 use crate::playing::Play;
 use crate::seeded::{self, Odds};
-use reg_random::Words;
 use reg_front::FrontEnd;
+use reg_random::Words;
 use reg_toml::Workload;
 use std::alloc::{AllocError, Allocator};
 

@@ -7,9 +7,9 @@ ghost use Rattle.reg_workload.specs.Seeded.{says, picked, takes_or_loses, choose
 
 use crate::choices::{Choice, list};
 use crate::playing::{Play, Player};
-use reg_random::Words;
 use reg_base::{Op, Shape};
 use reg_front::FrontEnd;
+use reg_random::Words;
 use std::alloc::{AllocError, Allocator};
 
 /// How often of a hundred times a frame is lost, and how often it can be taken again.
