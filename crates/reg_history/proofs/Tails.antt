@@ -1,5 +1,5 @@
 -- What stands behind the columns of a history line.
-use Rattle.std.proofs.Common.{ℕ, ◌≡◌, ◌++◌, ◌⊎◌, List, codes, inl, inr, Option, None, Some, IfSome, IsSome, slice_get, sym, ◌∙◌, subst, rules}
+use Rattle.std.proofs.Common.{ℕ, ◌≡◌, ◌++◌, ◌⊎◌, List, codes, inl, inr, Option, None, Some, IfSome, IsSome, sym, ◌∙◌, subst, rules}
 use Rattle.reg_text.specs.declared.faults.Why.{Why}
 use Rattle.reg_text.specs.declared.faults.Why.TheVariants.{Range, Name}
 use Rattle.reg_text.specs.Forms.{HasOpForm, IsOpWhy}
