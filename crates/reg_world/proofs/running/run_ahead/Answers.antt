@@ -1,6 +1,7 @@
-use Rattle.std.proofs.Common.{sym, subst, false}
+use Rattle.std.proofs.Common.{◌≡◌, List, take, sym, ap, ◌∙◌, subst, false, arith}
+use Rattle.std.proofs.lemmas.List.{take_all}
 use Rattle.reg_world.specs.declared.events.Event.{Event}
-use Rattle.reg_world.specs.Worlds.{Accepts, Refuses}
+use Rattle.reg_world.specs.Worlds.{Accepts, Refuses, after_events, run_in}
 use Rattle.reg_world.specs.WorldParts.{made_of}
 use Rattle.reg_world.proofs.code.Ahead.{first_ahead, next_ahead}
 use Rattle.reg_world.proofs.code.Answering.{run_refuses, run_goes_on}
@@ -26,3 +27,24 @@ loop-at-preserved g c =
           (subst (λ (e : Event). Accepts g.F.FrontEnd.start (made_of false c.loop-at.book) e (made_of false c.step_parts.new.book)) (sym next.1) on.accepts),
       next_ahead c.loop-at.at b.ahead c.loop-at.book.ahead c.step_parts.new.book.ahead went.2 on.ahead,
     )
+
+pub step_parts-requires : goal.step_parts-requires
+step_parts-requires g c = c.loop-at.invariant.0
+
+pub returns-in-Err-clause-accepted : goal.returns-in-Err-clause-accepted
+returns-in-Err-clause-accepted g c = c.loop-at.invariant.1.all
+
+pub returns-clause-world : goal.returns-clause-world
+returns-clause-world g c = c.loop-at.invariant.0
+
+pub returns-clause-made : goal.returns-clause-made
+returns-clause-made g c =
+    let b = c.args.book.now in
+    let whole : take c.loop-at.at b.ahead ≡ b.ahead = take_all c.loop-at.at b.ahead (omega (arith, c.loop-at-test.false, c.requires.count)) in
+    c.loop-at.invariant.1.made ∙ ap (after_events g.F.FrontEnd.start b.shape) whole
+
+pub returns-clause-accepted : goal.returns-clause-accepted
+returns-clause-accepted g c =
+    let b = c.args.book.now in
+    let whole : take c.loop-at.at b.ahead ≡ b.ahead = take_all c.loop-at.at b.ahead (omega (arith, c.loop-at-test.false, c.requires.count)) in
+    subst (λ (z : List Event). (run_in g.F.FrontEnd.start (after_events g.F.FrontEnd.start b.shape z)).accepted ≡ z) whole c.loop-at.invariant.1.all
