@@ -1,4 +1,5 @@
 //! Shapes, clocks, registers and names, as worked by hand.
+use crate::demands::demand;
 use reg_base::limits::{LAST_TIME, MOST_PROCESSES, MOST_REGISTERS};
 use reg_base::{
     Answer, Clock, ClockFull, Names, NamesFault, Op, Registers, Shape, ShapeFault, Stamp, is_name,
@@ -26,7 +27,7 @@ fn name_of(alloc: Global, number: u32) -> Result<String, AllocError> {
 }
 
 /// So many names of four letters, all different.
-fn many_names(rt: &impl Abort, alloc: Global, count: u32) -> Vec<String> {
+pub(crate) fn many_names(rt: &impl Abort, alloc: Global, count: u32) -> Vec<String> {
     let mut names = Vec::new(alloc);
     for number in 0..count {
         let name = name_of(alloc, number).expect(rt, "memory");
@@ -220,11 +221,8 @@ fn names_and_their_faults(rt: HostRuntime) {
 
 /// Whether these are the names x and y.
 fn are_x_and_y(names: &Names) -> bool {
-    names.count() == 2
-        && names.number("y") == Some(1)
-        && names.number("z").is_none()
-        && names.name(0) == Some("x")
-        && names.name(2).is_none()
+    let numbers = (names.count(), names.number("y"), names.number("z"));
+    numbers == (2, Some(1), None) && names.name(0) == Some("x") && names.name(2).is_none()
 }
 
 #[test]
@@ -256,6 +254,6 @@ fn names_within_the_limits(rt: HostRuntime) {
         assert!(rt; Names::new(names).err() == *fault, "{count}");
     }
     for (word, is_one) in &WORDS {
-        assert!(rt; is_name(word) == *is_one, "{word}");
+        demand(&rt, word, is_name(word) == *is_one);
     }
 }

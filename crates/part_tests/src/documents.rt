@@ -1,6 +1,7 @@
 //! Workloads that are read, and that are refused.
 use crate::bases::push_name;
-use reg_base::Shape;
+use crate::demands::demand;
+use reg_base::{Op, Shape};
 use reg_front::Front;
 use reg_toml::{Key, Workload, WorkloadFault};
 use std::alloc::{AllocError, Global};
@@ -43,46 +44,62 @@ const READ: [(&str, &str); 3] = [
     ),
 ];
 
-fn names_told(alloc: Global, work: &Workload) -> Result<String, Fail> {
+fn push_names(text: &mut String, work: &Workload) -> Result<(), AllocError> {
     let (first, second) = (work.names.name(0), work.names.name(1));
     let count = work.names.count();
-    Ok(format!(in alloc; "{:?}, {first:?} {second:?} of {count}, ", work.front)?)
+    write!(text, "{:?}, {first:?} {second:?} of {count}, ", work.front)
 }
 
-fn numbers_told(alloc: Global, work: &Workload) -> Result<String, Fail> {
-    Ok(format!(in alloc;
+fn push_numbers(text: &mut String, work: &Workload) -> Result<(), AllocError> {
+    write!(
+        text,
         "seed {}, loss {}, repeat {}, budget {}\n",
         work.seed, work.loss, work.repeat, work.budget
-    )?)
+    )
 }
 
-fn shape_told(alloc: Global, shape: Shape) -> Result<String, Fail> {
-    let (processes, registers) = (shape.processes(), shape.registers());
-    Ok(format!(in alloc; "{processes} processes, {registers} registers\n")?)
-}
-
-fn told(alloc: Global, work: &Workload) -> Result<String, Fail> {
-    let mut text = names_told(alloc, work)?;
-    text.push_str(numbers_told(alloc, work)?.as_str())?;
-    for script in &work.scripts {
-        text.push_str(format!(in alloc; "{:?}\n", script.as_slice())?.as_str())?;
-    }
-    text.push_str(shape_told(alloc, work.shape)?.as_str())?;
-    Ok(text)
-}
-
-#[test]
-fn documents_are_read(rt: HostRuntime) -> Result<(), Fail> {
-    for (document, says) in &READ {
-        let work = Workload::from_toml(rt.alloc(), document)?;
-        assert!(rt; told(rt.alloc(), &work)?.as_str() == *says, "{document}");
+fn push_scripts(text: &mut String, scripts: &[Vec<Op>]) -> Result<(), AllocError> {
+    for script in scripts {
+        write!(text, "{:?}\n", script.as_slice())?;
     }
     Ok(())
 }
 
+fn push_shape(text: &mut String, shape: Shape) -> Result<(), AllocError> {
+    let (processes, registers) = (shape.processes(), shape.registers());
+    write!(text, "{processes} processes, {registers} registers\n")
+}
+
+fn push_work(text: &mut String, work: &Workload) -> Result<(), AllocError> {
+    push_names(text, work)?;
+    push_numbers(text, work)?;
+    push_scripts(text, work.scripts.as_slice())?;
+    push_shape(text, work.shape)
+}
+
+fn is_told(alloc: Global, work: &Workload, told: &str) -> bool {
+    let mut text = String::new(alloc);
+    push_work(&mut text, work).is_ok() && text.as_str() == told
+}
+
+/// Whether the document is read, and says this.
+fn says(alloc: Global, document: &str, told: &str) -> bool {
+    match Workload::from_toml(alloc, document) {
+        Ok(work) => is_told(alloc, &work, told),
+        Err(_) => false,
+    }
+}
+
+#[test]
+fn documents_are_read(rt: HostRuntime) {
+    for (document, told) in &READ {
+        demand(&rt, document, says(rt.alloc(), document, told));
+    }
+}
+
 fn refused(rt: &(impl AllocGlobal + Abort), text: &str, fault: WorkloadFault) {
     let found = Workload::from_toml(rt.alloc(), text).err();
-    assert!(rt; found == Some(fault), "{text}");
+    demand(rt, text, found == Some(fault));
 }
 
 /// A part of a document, and the fault.
@@ -294,25 +311,30 @@ fn wide(alloc: Global, names: u32, scripts: u32) -> Result<String, AllocError> {
     Ok(text)
 }
 
-/// How many names and scripts a document has, and the key that is out of range.
-const WIDE: [(u32, u32, Option<Key>); 4] = [
+/// How many names and scripts a document has, and the fault.
+const WIDE: [(u32, u32, Option<WorkloadFault>); 4] = [
     (4_096, 1, None),
-    (4_097, 1, Some(Key::Registers)),
+    (4_097, 1, Some(range!(Key::Registers))),
     (1, 64, None),
-    (1, 65, Some(Key::Scripts)),
+    (1, 65, Some(range!(Key::Scripts))),
 ];
 
+/// Why such a document is refused.
+fn wide_fault(
+    alloc: Global,
+    names: u32,
+    scripts: u32,
+) -> Result<Option<WorkloadFault>, AllocError> {
+    let text = wide(alloc, names, scripts)?;
+    Ok(Workload::from_toml(alloc, text.as_str()).err())
+}
+
 #[test]
-fn a_document_has_as_many_names_and_scripts_as_it_may(rt: HostRuntime) -> Result<(), Fail> {
-    for (names, scripts, key) in &WIDE {
-        let text = wide(rt.alloc(), *names, *scripts)?;
-        let found = Workload::from_toml(rt.alloc(), text.as_str()).err();
-        assert!(rt;
-            found == key.map(|key| WorkloadFault::Range { key }),
-            "{names} {scripts}"
-        );
+fn a_document_has_as_many_names_and_scripts_as_it_may(rt: HostRuntime) {
+    for (names, scripts, fault) in &WIDE {
+        let found = wide_fault(rt.alloc(), *names, *scripts);
+        assert!(rt; found == Ok(*fault), "{names} {scripts}");
     }
-    Ok(())
 }
 
 /// Keys, and how each is spelled.
@@ -329,6 +351,6 @@ const KEYS: [(Key, &str); 7] = [
 #[test]
 fn keys_are_spelled(rt: HostRuntime) {
     for (key, name) in &KEYS {
-        assert!(rt; key.name() == *name, "{name}");
+        demand(&rt, name, key.name() == *name);
     }
 }

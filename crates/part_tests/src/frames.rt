@@ -201,33 +201,39 @@ fn is_only_spelling(rt: &(impl Abort + AllocGlobal), bytes: &[u8]) -> bool {
     }
 }
 
+/// Why so many of the first bytes of a frame are refused.
+fn fault_of_prefix(size: usize) -> FrameFault {
+    if size < 12 {
+        FrameFault::Short
+    } else {
+        FrameFault::Length
+    }
+}
+
 /// What every prefix is refused for.
 fn demand_prefixes(rt: &impl Abort, bytes: &[u8]) {
     for size in 0..bytes.len() {
-        let fault = if size < 12 {
-            FrameFault::Short
-        } else {
-            FrameFault::Length
-        };
-        assert!(rt; decode(&bytes[..size]) == Err(fault), "of {size}");
+        let read = decode(&bytes[..size]);
+        assert!(rt; read == Err(fault_of_prefix(size)), "of {size}");
     }
+}
+
+/// The byte at the place changed to every other one.
+fn demand_changes(rt: &(impl Abort + AllocGlobal), bytes: &mut [u8], place: usize) {
+    assert!(rt; place < bytes.len());
+    let before = bytes[place];
+    for change in 0..=255u8 {
+        bytes[place] = before ^ change;
+        assert!(rt; is_only_spelling(rt, bytes), "{change} at {place}");
+    }
+    bytes[place] = before;
 }
 
 /// Each byte changed to every other one.
 fn demand_changed_bytes(rt: &(impl Abort + AllocGlobal), bytes: &[u8]) {
     let mut copy = bytes.to_vec(rt.alloc()).expect(rt, "memory");
-    for place in 0..copy.len() {
-        for change in 0..=255u8 {
-            assert!(rt; place < copy.len());
-            let before = copy[place];
-            copy[place] = before ^ change;
-            assert!(rt;
-                is_only_spelling(rt, copy.as_slice()),
-                "{change} at {place}"
-            );
-            assert!(rt; place < copy.len());
-            copy[place] = before;
-        }
+    for place in 0..bytes.len() {
+        demand_changes(rt, copy.as_mut_slice(), place);
     }
 }
 

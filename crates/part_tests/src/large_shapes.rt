@@ -1,9 +1,11 @@
 //! The largest shapes, and reports of version 2.
-use crate::bases::push_name;
+use crate::bases::{many_names, push_name};
+use crate::demands::demand;
 use crate::values::{cast, id};
 use reg_base::{Names, Op, Shape};
 use reg_frames::{Frame, FrameFault, decode, encode};
 use reg_history::{History, ReadFault, ReadWhy, Report, read_report, write_report};
+use std::alloc::AllocError;
 use std::process::Abort;
 use std::test::Fail;
 
@@ -15,14 +17,19 @@ const NEWER: &str = "awreg report 2\nfront linear\nPROCESSES\nREGISTERS\nhistory
 
 /// What a report with these lines is refused for: the line and the cause.
 fn refusal(
-    rt: &HostRuntime,
+    rt: &(impl Abort + AllocGlobal),
     text: &str,
     processes: &str,
     registers: &str,
-) -> Result<Option<ReadFault>, Fail> {
-    let text = text.replacen(rt.alloc(), "PROCESSES", processes, 1)?;
-    let text = text.replacen(rt.alloc(), "REGISTERS", registers, 1)?;
-    Ok(read_report(rt.alloc(), text.as_str()).err())
+) -> Option<ReadFault> {
+    let text = with(rt, text, "PROCESSES", processes);
+    let text = with(rt, text.as_str(), "REGISTERS", registers);
+    read_report(rt.alloc(), text.as_str()).err()
+}
+
+/// The text with a word replaced once.
+fn with(rt: &(impl Abort + AllocGlobal), text: &str, word: &str, by: &str) -> String {
+    text.replacen(rt.alloc(), word, by, 1).expect(rt, "memory")
 }
 
 /// What is refused at this line.
@@ -138,12 +145,11 @@ const HEADERS: [Header; 21] = [
 ];
 
 #[test]
-fn each_version_has_its_own_header(rt: HostRuntime) -> Result<(), Fail> {
+fn each_version_has_its_own_header(rt: HostRuntime) {
     for (text, processes, registers, found) in &HEADERS {
-        let told = refusal(&rt, text, processes, registers)?;
+        let told = refusal(&rt, text, processes, registers);
         assert!(rt; told == *found, "{processes} {registers}");
     }
-    Ok(())
 }
 
 /// A text with too few names, and what is refused.
@@ -161,7 +167,7 @@ const ENDED: [(&str, Option<ReadFault>); 2] = [
 #[test]
 fn too_few_names_are_told_last(rt: HostRuntime) {
     for (text, found) in &ENDED {
-        assert!(rt; read_report(rt.alloc(), text).err() == *found, "{text}");
+        demand(&rt, text, read_report(rt.alloc(), text).err() == *found);
     }
 }
 
@@ -173,30 +179,33 @@ const LAST_PROCESSES: [(&str, &str, &str, Option<ReadFault>); 4] = [
     (NEWER, "registers 1\nx", "p64 #0", at!(8, ReadWhy::Range)),
 ];
 
-/// The text with this line as its order.
-fn with_order(rt: &HostRuntime, text: &str, line: &str) -> Result<String, Fail> {
-    let text = text.replacen(rt.alloc(), "order 0", "order 1\nLINE", 1)?;
-    Ok(text.as_str().replacen(rt.alloc(), "LINE", line, 1)?)
+/// What the text with this line as its order is refused for.
+fn order_refusal(
+    rt: &(impl Abort + AllocGlobal),
+    text: &str,
+    registers: &str,
+    line: &str,
+) -> Option<ReadFault> {
+    let text = with(rt, text, "order 0", "order 1\nLINE");
+    let text = with(rt, text.as_str(), "LINE", line);
+    refusal(rt, text.as_str(), "processes 2", registers)
 }
 
 #[test]
-fn each_version_has_its_own_processes(rt: HostRuntime) -> Result<(), Fail> {
+fn each_version_has_its_own_processes(rt: HostRuntime) {
     for (text, registers, line, found) in &LAST_PROCESSES {
-        let text = with_order(&rt, text, line)?;
-        let told = refusal(&rt, text.as_str(), "processes 2", registers)?;
-        assert!(rt; told == *found, "{line}");
+        let told = order_refusal(&rt, text, registers, line);
+        demand(&rt, line, told == *found);
     }
-    Ok(())
 }
 
 /// So many names of four letters, each behind this mark.
-fn many_names(rt: &HostRuntime, count: u32, mark: char) -> Result<String, Fail> {
-    let mut text = String::new(rt.alloc());
+fn push_names(text: &mut String, count: u32, mark: char) -> Result<(), AllocError> {
     for number in 0..count {
         text.push(mark)?;
-        push_name(&mut text, number)?;
+        push_name(text, number)?;
     }
-    Ok(text)
+    Ok(())
 }
 
 /// A text, what stands before its names, the mark before each, how many there are, and what is refused.
@@ -207,30 +216,32 @@ const MANY: [(&str, &str, char, u32, Option<ReadFault>); 3] = [
 ];
 
 /// The lines of so many registers.
-fn registers_of(rt: &HostRuntime, head: &str, mark: char, count: u32) -> Result<String, Fail> {
-    let mut text = String::from_str(rt.alloc(), head)?;
-    text.push_str(many_names(rt, count, mark)?.as_str())?;
-    Ok(text)
+fn registers_of(rt: &(impl Abort + AllocGlobal), head: &str, mark: char, count: u32) -> String {
+    let mut text = String::from_str(rt.alloc(), head).expect(rt, "memory");
+    push_names(&mut text, count, mark).expect(rt, "memory");
+    text
+}
+
+/// What the text with so many registers is refused for.
+fn many_refusal(
+    rt: &(impl Abort + AllocGlobal),
+    row: &(&str, &str, char, u32, Option<ReadFault>),
+) -> Option<ReadFault> {
+    let (text, head, mark, count, _) = row;
+    let registers = registers_of(rt, head, *mark, *count);
+    refusal(rt, text, "processes 1", registers.as_str())
 }
 
 #[test]
-fn each_version_has_as_many_names_as_it_may(rt: HostRuntime) -> Result<(), Fail> {
-    for (text, head, mark, count, found) in &MANY {
-        let registers = registers_of(&rt, head, *mark, *count)?;
-        let told = refusal(&rt, text, "processes 1", registers.as_str())?;
-        assert!(rt; told == *found, "{head} {count}");
+fn each_version_has_as_many_names_as_it_may(rt: HostRuntime) {
+    for row in &MANY {
+        assert!(rt; many_refusal(&rt, row) == row.4, "{} {}", row.1, row.3);
     }
-    Ok(())
 }
 
 /// As many names as there may be.
-fn most_names(rt: &HostRuntime) -> Result<Names, Fail> {
-    let text = many_names(rt, 4096, ' ')?;
-    let mut names = Vec::new(rt.alloc());
-    for name in text.as_str().split(' ').skip(1) {
-        names.push(String::from_str(rt.alloc(), name)?)?;
-    }
-    Ok(Names::new(names)?)
+fn most_names(rt: &(impl Abort + AllocGlobal)) -> Names {
+    Names::new(many_names(rt, rt.alloc(), 4096)).expect(rt, "names")
 }
 
 /// Some of the words, and the number of each name.
@@ -245,54 +256,55 @@ fn has_its_number(names: &Names, number: u16) -> bool {
     names.number(name) == Some(number)
 }
 
+fn have_their_numbers(names: &Names) -> bool {
+    (0..4096u16).all(|number| has_its_number(names, number))
+}
+
 #[test]
-fn each_of_the_most_names_has_its_number(rt: HostRuntime) -> Result<(), Fail> {
-    let names = most_names(&rt)?;
+fn each_of_the_most_names_has_its_number(rt: HostRuntime) {
+    let names = most_names(&rt);
     for (name, number) in &OF_MOST_NAMES {
-        assert!(rt; names.number(name) == *number, "{name}");
+        demand(&rt, name, names.number(name) == *number);
     }
-    for number in 0..4096u16 {
-        assert!(rt; has_its_number(&names, number), "{number}");
-    }
-    Ok(())
+    assert!(rt; have_their_numbers(&names));
 }
 
 /// A report of the largest shape, with the last process in its order.
-fn largest(rt: &HostRuntime) -> Result<Report, Fail> {
-    let names = most_names(rt)?;
-    let history = History::new(rt.alloc(), Shape::new(64, 4096)?)?;
-    let front = String::from_str(rt.alloc(), "linear")?;
-    let order = [id(63, 0)].to_vec(rt.alloc())?;
-    Ok(Report::new(front, names, history, order, None)?)
+fn largest(rt: &(impl Abort + AllocGlobal)) -> Report {
+    let names = most_names(rt);
+    let shape = Shape::new(64, 4096).expect(rt, "a shape");
+    let history = History::new(rt.alloc(), shape).expect(rt, "memory");
+    let front = String::from_str(rt.alloc(), "linear").expect(rt, "memory");
+    let order = [id(63, 0)].to_vec(rt.alloc()).expect(rt, "memory");
+    Report::new(front, names, history, order, None).expect(rt, "a report")
 }
 
-/// The report that is read where this one was written.
-fn read_again(rt: &HostRuntime, report: &Report) -> Result<Report, Fail> {
+/// The text of the report.
+fn text_of(rt: &(impl Abort + AllocGlobal), report: &Report) -> String {
     let mut out = Vec::new(rt.alloc());
-    write_report(&mut out, report)?;
-    Ok(read_report(rt.alloc(), std::str::from_utf8(out.as_slice())?)?)
+    assert!(rt; write_report(&mut out, report).is_ok());
+    String::from_utf8(out).expect(rt, "a text")
 }
 
 /// The largest report, as it is read where it was written.
-fn largest_again(rt: &HostRuntime) -> Result<Report, Fail> {
-    let report = largest(rt)?;
-    read_again(rt, &report)
+fn largest_again(rt: &(impl Abort + AllocGlobal)) -> Report {
+    let report = largest(rt);
+    let text = text_of(rt, &report);
+    read_report(rt.alloc(), text.as_str()).expect(rt, "a report")
 }
 
 /// Whether the last name, the shape and the order are those of the largest report.
 fn is_largest(report: &Report) -> bool {
     let shape = report.history().shape();
-    report.names().name(4095) == Some("ngbn")
-        && shape.processes() == 64
-        && shape.registers() == 4096
-        && report.order() == [id(63, 0)].as_slice()
+    let size = (shape.processes(), shape.registers());
+    let last = report.names().name(4095);
+    size == (64, 4096) && last == Some("ngbn") && report.order() == [id(63, 0)].as_slice()
 }
 
 #[test]
-fn the_largest_report_is_read_as_it_was_written(rt: HostRuntime) -> Result<(), Fail> {
-    let again = largest_again(&rt)?;
+fn the_largest_report_is_read_as_it_was_written(rt: HostRuntime) {
+    let again = largest_again(&rt);
     assert!(rt; is_largest(&again));
-    Ok(())
 }
 
 /// A write of 5 to the register.

@@ -9,6 +9,8 @@ mod bases;
 #[cfg(test)]
 mod changed_reports;
 #[cfg(test)]
+mod demands;
+#[cfg(test)]
 mod documents;
 #[cfg(test)]
 mod frames;

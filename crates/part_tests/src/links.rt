@@ -3,9 +3,8 @@ use refusing::Refusing;
 use reg_base::limits::FRAME_NUMBERS;
 use reg_frames::{Body, Frame};
 use reg_links::{Ahead, Inbox, LinkFault, Outbox, Outboxes};
-use std::alloc::Global;
+use std::alloc::{AllocError, Allocator, Global};
 use std::process::Abort;
-use std::test::Fail;
 
 const TWO: Body = Body::Ack { time: 2 };
 
@@ -104,40 +103,53 @@ const OF_TWO: [(Use, &str, u64); 9] = [
     ),
 ];
 
-fn used_alone(alloc: Global, out: &mut Outbox, step: &Use) -> Result<String, Fail> {
-    Ok(match *step {
-        Use::Queue { body } => format!(in alloc; "{:?}", out.queue(body))?,
-        Use::Got { from: _, count } => format!(in alloc; "{:?}", out.got(count))?,
-        Use::Resend { to: _, place } => format!(in alloc; "{:?}", out.resend(place))?,
-    })
+fn push_used_alone(text: &mut String, out: &mut Outbox, step: &Use) -> Result<(), AllocError> {
+    match *step {
+        Use::Queue { body } => write!(text, "{:?}", out.queue(body)),
+        Use::Got { from: _, count } => write!(text, "{:?}", out.got(count)),
+        Use::Resend { to: _, place } => write!(text, "{:?}", out.resend(place)),
+    }
+}
+
+/// Whether the link alone answers so.
+fn answers_alone(alloc: Global, out: &mut Outbox, step: &Use, told: &str) -> bool {
+    let mut text = String::new(alloc);
+    push_used_alone(&mut text, out, step).is_ok() && text.as_str() == told
 }
 
 #[test]
-fn outbox_keeps_what_is_not_acknowledged(rt: HostRuntime) -> Result<(), Fail> {
+fn outbox_keeps_what_is_not_acknowledged(rt: HostRuntime) {
     let mut out = Outbox::new(rt.alloc());
     for (row, (step, told, pending)) in OF_TWO.iter().enumerate() {
-        let answer = used_alone(rt.alloc(), &mut out, step)?;
-        assert!(rt;
-            answer.as_str() == *told && out.pending() == *pending,
-            "{row}"
-        );
+        let answers = answers_alone(rt.alloc(), &mut out, step, told);
+        assert!(rt; answers && out.pending() == *pending, "{row}");
     }
-    Ok(())
 }
 
-fn used(rt: &impl Abort, alloc: Global, out: &mut Outboxes, step: &Use) -> Result<String, Fail> {
+fn push_used(
+    rt: &impl Abort,
+    text: &mut String,
+    out: &mut Outboxes,
+    step: &Use,
+) -> Result<(), AllocError> {
     assert!(rt; out.processes() == 3);
-    Ok(match *step {
-        Use::Queue { body } => format!(in alloc; "{:?}", out.queue(1, body))?,
+    match *step {
+        Use::Queue { body } => write!(text, "{:?}", out.queue(1, body)),
         Use::Got { from, count } => {
             assert!(rt; from < 3);
-            format!(in alloc; "{:?}", out.got(from, count))?
+            write!(text, "{:?}", out.got(from, count))
         }
         Use::Resend { to, place } => {
             assert!(rt; to < 3);
-            format!(in alloc; "{:?}", out.resend(to, place))?
+            write!(text, "{:?}", out.resend(to, place))
         }
-    })
+    }
+}
+
+/// Whether the links answer so.
+fn answers(rt: &(impl Abort + AllocGlobal), out: &mut Outboxes, step: &Use, told: &str) -> bool {
+    let mut text = String::new(rt.alloc());
+    push_used(rt, &mut text, out, step).is_ok() && text.as_str() == told
 }
 
 /// What is pending to each of three processes.
@@ -147,17 +159,16 @@ fn pending(rt: &impl Abort, out: &Outboxes) -> [u64; 3] {
 }
 
 #[test]
-fn links_keep_what_is_not_acknowledged_by_all(rt: HostRuntime) -> Result<(), Fail> {
-    let mut out = Outboxes::new(rt.alloc(), 3)?;
+fn links_keep_what_is_not_acknowledged_by_all(rt: HostRuntime) {
+    let mut out = Outboxes::new(rt.alloc(), 3).expect(&rt, "memory");
     for (row, (step, told, first, last)) in OF_THREE.iter().enumerate() {
-        let answer = used(&rt, rt.alloc(), &mut out, step)?;
+        let answers = answers(&rt, &mut out, step, told);
         assert!(rt;
-            answer.as_str() == *told && pending(&rt, &out) == [*first, 0, *last],
+            answers && pending(&rt, &out) == [*first, 0, *last],
             "{row}"
         );
     }
     assert!(rt; out.processes() == 3 && out.next() == 3);
-    Ok(())
 }
 
 /// What the only process answers to a body, where nothing is pending to it then.
@@ -254,14 +265,28 @@ const ONCE_REFUSED: [(Result<u64, LinkFault>, u64); 3] = [
     (Ok(1), 2),
 ];
 
+/// Whether three processes answer a body so, and this is the next number then.
+fn queues_so<A: Allocator + Copy>(
+    rt: &impl Abort,
+    out: &mut Outboxes<A>,
+    row: &(Result<u64, LinkFault>, u64),
+) -> bool {
+    assert!(rt; out.processes() == 3);
+    out.queue(1, TWO) == row.0 && out.next() == row.1
+}
+
+/// Demands the answers to three bodies, and what is pending to the first process then.
+fn demand_once_refused<A: Allocator + Copy>(rt: &impl Abort, out: &mut Outboxes<A>) {
+    for row in &ONCE_REFUSED {
+        assert!(rt; queues_so(rt, out, row));
+    }
+    assert!(rt; out.processes() == 3);
+    assert!(rt; out.pending(0) == 2);
+}
+
 #[test]
 fn a_refused_body_is_queued_for_none(rt: HostRuntime) {
     let heap = Refusing::new(rt.alloc(), 1);
     let mut out = Outboxes::new(&heap, 3).expect(&rt, "the counts");
-    for (answer, next) in &ONCE_REFUSED {
-        assert!(rt; out.processes() == 3);
-        assert!(rt; out.queue(1, TWO) == *answer && out.next() == *next);
-    }
-    assert!(rt; out.processes() == 3);
-    assert!(rt; out.pending(0) == 2);
+    demand_once_refused(&rt, &mut out);
 }

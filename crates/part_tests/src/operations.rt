@@ -1,7 +1,8 @@
 //! Operations as text.
+use crate::demands::demand;
 use reg_base::{Names, Op};
 use reg_text::{Lines, OpLine, Why, name_of_op, op_form, read_names, read_op};
-use std::alloc::Global;
+use std::alloc::{AllocError, Global};
 use std::test::Fail;
 
 const MOST: u64 = 18_446_744_073_709_551_615;
@@ -35,20 +36,25 @@ fn op_of(text: &[u8], names: &Names) -> Option<Op> {
 }
 
 /// The operation as a text.
-fn op_text(alloc: Global, names: &Names, op: Op) -> Result<String, Fail> {
+fn op_text(alloc: Global, names: &Names, op: Op) -> Result<String, AllocError> {
     let name = name_of_op(names, op);
-    Ok(format!(in alloc; "{}", OpLine { name, op })?)
+    format!(in alloc; "{}", OpLine { name, op })
+}
+
+/// Whether the operation is spelled as this text.
+fn is_spelled(alloc: Global, names: &Names, op: Op, text: &str) -> bool {
+    match op_text(alloc, names, op) {
+        Ok(spelled) => spelled.as_str() == text,
+        Err(_) => false,
+    }
 }
 
 #[test]
 fn operations(rt: HostRuntime) -> Result<(), Fail> {
     let names = two_names(rt.alloc())?;
     for (text, op) in &OPERATIONS {
-        assert!(rt; op_of(text.as_bytes(), &names) == Some(*op), "{text}");
-        assert!(rt;
-            op_text(rt.alloc(), &names, *op)?.as_str() == *text,
-            "{text}"
-        );
+        demand(&rt, text, op_of(text.as_bytes(), &names) == Some(*op));
+        demand(&rt, text, is_spelled(rt.alloc(), &names, *op, text));
     }
     Ok(())
 }
@@ -76,7 +82,7 @@ const NO_OPERATIONS: [&str; 16] = [
 fn texts_that_are_no_operation(rt: HostRuntime) -> Result<(), Fail> {
     let names = two_names(rt.alloc())?;
     for text in &NO_OPERATIONS {
-        assert!(rt; op_of(text.as_bytes(), &names).is_none(), "{text}");
+        demand(&rt, text, op_of(text.as_bytes(), &names).is_none());
     }
     Ok(())
 }
@@ -108,7 +114,7 @@ const OPERATION_FORMS: [(&str, Option<Why>); 19] = [
 fn why_a_text_is_no_operation(rt: HostRuntime) -> Result<(), Fail> {
     let names = two_names(rt.alloc())?;
     for (text, why) in &OPERATION_FORMS {
-        assert!(rt; op_form(text.as_bytes(), &names) == *why, "{text}");
+        demand(&rt, text, op_form(text.as_bytes(), &names) == *why);
     }
     Ok(())
 }

@@ -1,11 +1,12 @@
+use crate::demands::demand;
 use crate::values::id;
 use reg_base::limits::MOST_PROCESSES;
 use reg_base::{Answer, Names, Op, OpId, Shape};
 use reg_history::{
     Entry, History, Point, ReadFault, ReadWhy, Report, ReportFault, read_report, write_report,
 };
-use std::alloc::Global;
-use std::test::Fail;
+use std::alloc::{AllocError, Global};
+use std::process::Abort;
 
 pub(crate) const ONE_PROCESS: &str =
     "awreg report 1\nfront linear\nprocesses 1\nregisters x\nhistory 4\n       0  p0    #0       call    write x 5\n       0  p0    #0       answer  done\n       1  p0    #1       call    read x\n       1  p0    #1       answer  value 5\norder 2\np0 #0\np0 #1\npoints 2\np0 #0 at 0\np0 #1 at 1\nend\n";
@@ -65,59 +66,68 @@ fn points() -> [Point; 2] {
     ]
 }
 
-fn history(alloc: Global) -> Result<History, Fail> {
-    let mut history = History::new(alloc, Shape::new(1, 1)?)?;
+fn history(rt: &(impl Abort + AllocGlobal)) -> History {
+    let shape = Shape::new(1, 1).expect(rt, "a shape");
+    let mut history = History::new(rt.alloc(), shape).expect(rt, "memory");
     for entry in entries() {
-        history.push(entry)?;
+        history.push(entry).expect(rt, "in place");
     }
-    Ok(history)
+    history
 }
 
-fn names_of(alloc: Global, words: &[&str]) -> Result<Names, Fail> {
-    let mut names = Vec::new(alloc);
+fn names_of(rt: &(impl Abort + AllocGlobal), words: &[&str]) -> Names {
+    let mut names = Vec::new(rt.alloc());
     for word in words {
-        names.push(String::from_str(alloc, *word)?)?;
+        let name = String::from_str(rt.alloc(), *word).expect(rt, "memory");
+        names.push(name).expect(rt, "memory");
     }
-    Ok(Names::new(names)?)
+    Names::new(names).expect(rt, "names")
 }
 
 fn made(
-    rt: &HostRuntime,
+    rt: &(impl Abort + AllocGlobal),
     front: &str,
     names: &[&str],
     ids: &[OpId],
     points: &[Point],
-) -> Result<Result<Report, ReportFault>, Fail> {
-    let alloc = rt.alloc();
-    let front = String::from_str(alloc, front)?;
-    let names = names_of(alloc, names)?;
-    let history = history(alloc)?;
-    let order = ids.to_vec(alloc)?;
-    let points = points.to_vec(alloc)?;
-    Ok(Report::new(front, names, history, order, Some(points)))
+) -> Result<Report, ReportFault> {
+    let front = String::from_str(rt.alloc(), front).expect(rt, "memory");
+    let names = names_of(rt, names);
+    let history = history(rt);
+    let order = ids.to_vec(rt.alloc()).expect(rt, "memory");
+    let points = points.to_vec(rt.alloc()).expect(rt, "memory");
+    Report::new(front, names, history, order, Some(points))
 }
 
 /// What the getters of a report give.
-fn told(alloc: Global, report: &Report) -> Result<String, Fail> {
-    Ok(format!(in alloc;
+fn push_parts(text: &mut String, report: &Report) -> Result<(), AllocError> {
+    write!(
+        text,
         "{}, {} names\n{:?}\n{:?}\n{:?}\n",
         report.front(),
         report.names().count(),
         report.history().entries(),
         report.order(),
         report.points()
-    )?)
+    )
 }
 
-fn written(alloc: Global, report: &Report) -> Result<String, Fail> {
+/// Whether the getters of a report give this.
+fn tells(alloc: Global, report: &Report, parts: &str) -> bool {
+    let mut text = String::new(alloc);
+    push_parts(&mut text, report).is_ok() && text.as_str() == parts
+}
+
+/// Whether the report is written, as this text.
+pub(crate) fn is_written_as(alloc: Global, report: &Report, text: &str) -> bool {
     let mut out = Vec::new(alloc);
-    write_report(&mut out, report)?;
-    Ok(String::from_utf8(out)?)
+    write_report(&mut out, report).is_ok() && out.as_slice() == text.as_bytes()
 }
 
 /// The report of one process, of its parts.
-fn one_process(rt: &HostRuntime) -> Result<Report, Fail> {
-    Ok(made(rt, "linear", &["x"], &[id(0, 0), id(0, 1)], &points())??)
+fn one_process(rt: &(impl Abort + AllocGlobal)) -> Report {
+    let order = [id(0, 0), id(0, 1)];
+    made(rt, "linear", &["x"], &order, &points()).expect(rt, "a report")
 }
 
 const PARTS: &str = "linear, 1 names
@@ -127,17 +137,15 @@ Some([Point { id: OpId { process: 0, number: 0 }, at: 0 }, Point { id: OpId { pr
 ";
 
 #[test]
-fn a_report_tells_its_parts(rt: HostRuntime) -> Result<(), Fail> {
-    let report = one_process(&rt)?;
-    assert!(rt; told(rt.alloc(), &report)?.as_str() == PARTS);
-    Ok(())
+fn a_report_tells_its_parts(rt: HostRuntime) {
+    let report = one_process(&rt);
+    assert!(rt; tells(rt.alloc(), &report, PARTS));
 }
 
 #[test]
-fn a_report_is_written(rt: HostRuntime) -> Result<(), Fail> {
-    let report = one_process(&rt)?;
-    assert!(rt; written(rt.alloc(), &report)?.as_str() == ONE_PROCESS_NOW);
-    Ok(())
+fn a_report_is_written(rt: HostRuntime) {
+    let report = one_process(&rt);
+    assert!(rt; is_written_as(rt.alloc(), &report, ONE_PROCESS_NOW));
 }
 
 const FAR: [OpId; 1] = [OpId {
@@ -203,20 +211,19 @@ const CASES: [Parts; 9] = [
 ];
 
 #[test]
-fn parts_that_are_no_report_are_refused(rt: HostRuntime) -> Result<(), Fail> {
+fn parts_that_are_no_report_are_refused(rt: HostRuntime) {
     for (front, names, ids, points, fault) in &CASES {
-        assert!(rt;
-            made(&rt, front, names, ids, points)?.err() == *fault,
-            "{front}"
-        );
+        let found = made(&rt, front, names, ids, points).err();
+        demand(&rt, front, found == *fault);
     }
-    Ok(())
 }
 
-/// The report that is read, as it is written.
-fn written_again(alloc: Global, text: &str) -> Result<String, Fail> {
-    let report = read_report(alloc, text)?;
-    written(alloc, &report)
+/// Whether the text is read, and written as the other.
+fn is_written_again(alloc: Global, text: &str, now: &str) -> bool {
+    match read_report(alloc, text) {
+        Ok(report) => is_written_as(alloc, &report, now),
+        Err(_) => false,
+    }
 }
 
 /// Reports of both versions, and each as it is written.
@@ -228,38 +235,32 @@ const WRITTEN: [(&str, &str); 4] = [
 ];
 
 #[test]
-fn reports_are_written_in_version_2(rt: HostRuntime) -> Result<(), Fail> {
+fn reports_are_written_in_version_2(rt: HostRuntime) {
     for (text, now) in &WRITTEN {
-        let again = written_again(rt.alloc(), text)?;
-        assert!(rt; again.as_str() == *now, "{text}");
+        demand(&rt, text, is_written_again(rt.alloc(), text, now));
     }
-    Ok(())
 }
 
-fn is_refused_at_a_line(rt: &HostRuntime, bytes: &[u8]) -> Result<bool, Fail> {
-    let text = std::str::from_utf8(bytes)?;
-    Ok(matches!(
-        read_report(rt.alloc(), text).err(),
-        Some(ReadFault::Line { .. })
-    ))
+fn is_refused_at_a_line(alloc: Global, bytes: &[u8]) -> bool {
+    match std::str::from_utf8(bytes) {
+        Ok(text) => matches!(read_report(alloc, text), Err(ReadFault::Line { .. })),
+        Err(_) => false,
+    }
 }
 
 #[test]
-fn every_shorter_text_is_refused(rt: HostRuntime) -> Result<(), Fail> {
+fn every_shorter_text_is_refused(rt: HostRuntime) {
     let bytes = ONE_PROCESS_NOW.as_bytes();
     for length in 0..bytes.len() {
         let whole = length + 1 == bytes.len();
-        assert!(rt;
-            is_refused_at_a_line(&rt, &bytes[..length])? == !whole,
-            "{length}"
-        );
+        let refused = is_refused_at_a_line(rt.alloc(), &bytes[..length]);
+        assert!(rt; refused == !whole, "{length}");
     }
-    Ok(())
 }
 
-fn refusal(rt: &HostRuntime, text: &str, old: &str, new: &str) -> Result<Option<ReadFault>, Fail> {
-    let changed = text.replacen(rt.alloc(), old, new, 1)?;
-    Ok(read_report(rt.alloc(), changed.as_str()).err())
+fn refusal(rt: &(impl Abort + AllocGlobal), text: &str, old: &str, new: &str) -> Option<ReadFault> {
+    let changed = text.replacen(rt.alloc(), old, new, 1).expect(rt, "memory");
+    read_report(rt.alloc(), changed.as_str()).err()
 }
 
 /// What is put in the place of a part of the first report, and the line and cause of the refusal.
@@ -327,12 +328,11 @@ const CHANGED: [(&str, &str, u64, ReadWhy); 35] = [
 ];
 
 #[test]
-fn a_report_is_refused_at_its_line(rt: HostRuntime) -> Result<(), Fail> {
+fn a_report_is_refused_at_its_line(rt: HostRuntime) {
     for (old, new, line, why) in &CHANGED {
-        let found = refusal(&rt, ONE_PROCESS, old, new)?;
-        assert!(rt; found == fault(*line, *why), "{new}");
+        let found = refusal(&rt, ONE_PROCESS, old, new);
+        demand(&rt, new, found == fault(*line, *why));
     }
-    Ok(())
 }
 
 /// The same at the limits, where the report is still read.
@@ -351,19 +351,17 @@ const AT_LIMITS: [(&str, &str); 8] = [
 ];
 
 #[test]
-fn a_report_is_read_at_its_limits(rt: HostRuntime) -> Result<(), Fail> {
+fn a_report_is_read_at_its_limits(rt: HostRuntime) {
     for (old, new) in &AT_LIMITS {
-        assert!(rt; refusal(&rt, ONE_PROCESS, old, new)?.is_none(), "{new}");
+        demand(&rt, new, refusal(&rt, ONE_PROCESS, old, new).is_none());
     }
-    Ok(())
 }
 
 #[test]
-fn processes_in_the_order_and_in_the_history(rt: HostRuntime) -> Result<(), Fail> {
-    assert!(rt; refusal(&rt, NO_POINTS, "p1 #0\n", "p15 #0\n")?.is_none());
-    let called = refusal(&rt, NO_POINTS, "p1    #0       call", "p3    #0       call")?;
+fn processes_in_the_order_and_in_the_history(rt: HostRuntime) {
+    assert!(rt; refusal(&rt, NO_POINTS, "p1 #0\n", "p15 #0\n").is_none());
+    let called = refusal(&rt, NO_POINTS, "p1    #0       call", "p3    #0       call");
     assert!(rt; called == fault(8, ReadWhy::Place));
-    Ok(())
 }
 
 #[test]

@@ -1,5 +1,6 @@
 //! Lines and parts of lines, as the formats have them.
 use crate::bases::letter;
+use crate::demands::demand;
 use crate::operations::two_names;
 use reg_text::{
     Lines, TextFault, Why, expect_line, field_within, in_front, is_numeral, left_field, numeral,
@@ -90,7 +91,7 @@ fn lines_of(text: &str, skips: bool) -> Lines<'_> {
 fn demand_lines(rt: &(impl Abort + AllocGlobal), walks: &[Walk]) -> Result<(), Fail> {
     for (text, skips, why, told) in walks {
         let found = walked(rt.alloc(), lines_of(text, *skips), *why)?;
-        assert!(rt; found.as_str() == *told, "{text}");
+        demand(rt, text, found.as_str() == *told);
     }
     Ok(())
 }
@@ -131,11 +132,9 @@ fn numerals(rt: HostRuntime) {
     for (text, number, has_form) in &NUMERALS {
         let bytes = text.as_bytes();
         let why = if *has_form { Why::Range } else { Why::Form };
-        assert!(rt; numeral(bytes) == *number, "{text}");
-        assert!(rt;
-            is_numeral(bytes) == *has_form && why_number(bytes) == why,
-            "{text}"
-        );
+        demand(&rt, text, numeral(bytes) == *number);
+        let found = (is_numeral(bytes), why_number(bytes));
+        demand(&rt, text, found == (*has_form, why));
     }
 }
 
@@ -149,12 +148,12 @@ const FIELDS: [(&str, Option<(u64, &str)>); 3] = [
 #[test]
 fn numbers_up_to_a_limit(rt: HostRuntime) {
     for (text, is_one) in [("16", true), ("17", false)] {
-        assert!(rt; within(text.as_bytes(), 16) == is_one, "{text}");
+        demand(&rt, text, within(text.as_bytes(), 16) == is_one);
     }
     for (text, wanted) in &FIELDS {
         let field = field_within(text.as_bytes(), 16, b' ');
         let wanted = wanted.map(|(number, rest)| (number, rest.as_bytes()));
-        assert!(rt; field == wanted, "{text}");
+        demand(&rt, text, field == wanted);
     }
 }
 
@@ -186,7 +185,7 @@ const FRONTS: [(&str, &str); 4] = [("1  ", "1"), ("123", "123"), (" 1 ", " 1 "),
 fn columns_at_the_right(rt: HostRuntime) {
     for (text, number) in &RIGHT {
         let field = right_field(text.as_bytes(), 8, b"  p");
-        assert!(rt; field.map(|(found, _)| found) == *number, "{text}");
+        demand(&rt, text, field.map(|(found, _)| found) == *number);
     }
 }
 
@@ -195,14 +194,14 @@ fn columns_at_the_left(rt: HostRuntime) {
     for (text, wanted) in &LEFT {
         let field = left_field(text.as_bytes(), 3, b"  #");
         let wanted = wanted.map(|(number, rest)| (number, rest.as_bytes()));
-        assert!(rt; field == wanted, "{text}");
+        demand(&rt, text, field == wanted);
     }
 }
 
 #[test]
 fn fronts_of_columns(rt: HostRuntime) {
     for (text, front) in &FRONTS {
-        assert!(rt; in_front(text.as_bytes()) == front.as_bytes(), "{text}");
+        demand(&rt, text, in_front(text.as_bytes()) == front.as_bytes());
     }
 }
 
@@ -232,7 +231,7 @@ fn names_of_their_line(rt: HostRuntime) -> Result<(), Fail> {
     let names = two_names(rt.alloc())?;
     assert!(rt; names.number("x") == Some(0) && names.number("y") == Some(1));
     for (text, why) in &NO_NAMES {
-        assert!(rt; names_fault(rt.alloc(), text) == fault(1, *why), "{text}");
+        demand(&rt, text, names_fault(rt.alloc(), text) == fault(1, *why));
     }
     Ok(())
 }
@@ -264,15 +263,17 @@ const BEHIND_NAMES: [(&str, Option<Why>); 6] = [
     (" x  y", Some(Why::Form)),
 ];
 
+/// Why a line of 256 names with this behind them has no names.
+fn behind_fault(alloc: Global, last: &str) -> Result<Option<TextFault>, Fail> {
+    let line = many_names(alloc, last)?;
+    Ok(names_fault(alloc, line.as_str()))
+}
+
 #[test]
 fn the_first_name_over_is_beyond_the_limit(rt: HostRuntime) -> Result<(), Fail> {
     for (last, why) in &BEHIND_NAMES {
-        let line = many_names(rt.alloc(), last)?;
-        let found = names_fault(rt.alloc(), line.as_str());
-        assert!(rt;
-            found == why.map(|why| TextFault::Line { line: 1, why }),
-            "{last}"
-        );
+        let wanted = why.map(|why| TextFault::Line { line: 1, why });
+        demand(&rt, last, behind_fault(rt.alloc(), last)? == wanted);
     }
     Ok(())
 }

@@ -1,10 +1,11 @@
 //! What steps of processes give, a line for each.
-use reg_base::{Answer, Delivered, Op, Shape};
+use crate::demands::demand;
+use reg_base::{Answer, Delivered, Op, Shape, Stamp};
 use reg_frames::{Body, Frame};
 use reg_front::FrontEnd;
 use reg_process::{Outcome, Process, ProcessFault, Put, Reply, Step};
 use reg_text::OpLine;
-use std::alloc::Global;
+use std::alloc::{AllocError, Global};
 use std::process::Abort;
 use std::test::Fail;
 
@@ -17,59 +18,60 @@ fn op_line(op: Op) -> OpLine<'static> {
     OpLine { name, op }
 }
 
-fn frame_text(alloc: Global, frame: &Frame) -> Result<String, Fail> {
-    Ok(match *frame {
-        Frame::Got { count } => format!(in alloc; "got {count}")?,
+fn push_frame(text: &mut String, frame: &Frame) -> Result<(), AllocError> {
+    match *frame {
+        Frame::Got { count } => write!(text, "got {count}"),
         Frame::Numbered { number, body } => match body {
-            Body::Ack { time } => format!(in alloc; "#{number} ack {time}")?,
-            Body::Cast { time, op } => {
-                let op = op_line(op);
-                format!(in alloc; "#{number} cast {time} {op}")?
-            }
+            Body::Ack { time } => write!(text, "#{number} ack {time}"),
+            Body::Cast { time, op } => write!(text, "#{number} cast {time} {}", op_line(op)),
         },
-    })
+    }
 }
 
-fn push_puts(alloc: Global, text: &mut String, puts: &[Put]) -> Result<(), Fail> {
+fn push_puts(text: &mut String, puts: &[Put]) -> Result<(), AllocError> {
     for put in puts {
-        let frame = frame_text(alloc, &put.frame)?;
-        text.push_str(format!(in alloc; "puts {frame} to p{}, ", put.to)?.as_str())?;
+        text.push_str("puts ")?;
+        push_frame(text, &put.frame)?;
+        write!(text, " to p{}, ", put.to)?;
     }
     Ok(())
 }
 
-fn cast_text(alloc: Global, cast: &Delivered) -> Result<String, Fail> {
-    let op = op_line(cast.op);
-    let stamp = cast.stamp;
-    Ok(format!(in alloc; "delivers {op} at {} of p{}, ", stamp.time, stamp.process)?)
-}
-
-fn push_casts(alloc: Global, text: &mut String, casts: &[Delivered]) -> Result<(), Fail> {
+fn push_casts(text: &mut String, casts: &[Delivered]) -> Result<(), AllocError> {
     for cast in casts {
-        text.push_str(cast_text(alloc, cast)?.as_str())?;
+        let op = op_line(cast.op);
+        let stamp = cast.stamp;
+        write!(
+            text,
+            "delivers {op} at {} of p{}, ",
+            stamp.time, stamp.process
+        )?;
     }
     Ok(())
 }
 
-fn reply_text(alloc: Global, reply: Reply) -> Result<String, Fail> {
+fn push_reply(text: &mut String, reply: Reply) -> Result<(), AllocError> {
     let place = reply.place;
-    Ok(match reply.answer {
-        Answer::Done => format!(in alloc; "done at place {place}, ")?,
-        Answer::Value(value) => format!(in alloc; "value {value} at place {place}, ")?,
-    })
+    match reply.answer {
+        Answer::Done => write!(text, "done at place {place}, "),
+        Answer::Value(value) => write!(text, "value {value} at place {place}, "),
+    }
 }
 
-fn push_told(alloc: Global, text: &mut String, out: &Outcome) -> Result<(), Fail> {
+fn push_cast(text: &mut String, stamp: Stamp) -> Result<(), AllocError> {
+    write!(text, "casts at {} of p{}, ", stamp.time, stamp.process)
+}
+
+fn push_told(text: &mut String, out: &Outcome) -> Result<(), AllocError> {
     if let Some(stamp) = out.cast {
-        let part = format!(in alloc; "casts at {} of p{}, ", stamp.time, stamp.process)?;
-        text.push_str(part.as_str())?;
+        push_cast(text, stamp)?;
     }
-    push_puts(alloc, text, out.frames.as_slice())?;
-    push_casts(alloc, text, out.delivered.as_slice())?;
-    if let Some(reply) = out.reply {
-        text.push_str(reply_text(alloc, reply)?.as_str())?;
+    push_puts(text, out.frames.as_slice())?;
+    push_casts(text, out.delivered.as_slice())?;
+    match out.reply {
+        Some(reply) => push_reply(text, reply),
+        None => Ok(()),
     }
-    Ok(())
 }
 
 fn step_of<F: FrontEnd>(process: &mut Process<F>, step: &Step) -> Result<Outcome, ProcessFault> {
@@ -80,50 +82,82 @@ fn step_of<F: FrontEnd>(process: &mut Process<F>, step: &Step) -> Result<Outcome
     }
 }
 
-fn counts_text<F: FrontEnd>(alloc: Global, process: &Process<F>) -> Result<String, Fail> {
-    let (clock, pending) = (process.clock(), process.pending());
-    let (unsettled, delivered) = (process.unsettled(), process.delivered_count());
-    Ok(format!(in alloc;
-        "clock {clock}, pending {pending}, unsettled {unsettled}, delivered {delivered}, "
-    )?)
+/// Why a step is refused, with a comma where the process goes on.
+fn push_fault(text: &mut String, fault: &ProcessFault) -> Result<(), AllocError> {
+    match fault {
+        ProcessFault::ClockFull | ProcessFault::Failed => write!(text, "{fault:?}"),
+        _ => write!(text, "{fault:?}, "),
+    }
 }
 
-fn value_text<F: FrontEnd>(alloc: Global, process: &Process<F>) -> Result<String, Fail> {
-    let word = if process.busy() { "busy" } else { "free" };
-    let x = process.registers().get(0).unwrap_or(0);
-    Ok(format!(in alloc; "{word}, x {x}")?)
+/// What a step gives, or why it is refused.
+fn push_made(text: &mut String, made: &Result<Outcome, ProcessFault>) -> Result<(), AllocError> {
+    match made {
+        Ok(out) => push_told(text, out),
+        Err(fault) => push_fault(text, fault),
+    }
+}
+
+/// Whether the process has stopped at the step.
+fn has_stopped(made: &Result<Outcome, ProcessFault>) -> bool {
+    matches!(made, Err(ProcessFault::ClockFull | ProcessFault::Failed))
+}
+
+fn push_counts<F: FrontEnd>(text: &mut String, process: &Process<F>) -> Result<(), AllocError> {
+    let (clock, pending) = (process.clock(), process.pending());
+    let (unsettled, delivered) = (process.unsettled(), process.delivered_count());
+    write!(
+        text,
+        "clock {clock}, pending {pending}, unsettled {unsettled}, delivered {delivered}, "
+    )
 }
 
 /// What the process answers.
-fn push_state<F: FrontEnd>(
-    alloc: Global,
-    text: &mut String,
-    process: &Process<F>,
-) -> Result<(), Fail> {
-    text.push_str(counts_text(alloc, process)?.as_str())?;
-    text.push_str(value_text(alloc, process)?.as_str())?;
-    Ok(())
+fn push_state<F: FrontEnd>(text: &mut String, process: &Process<F>) -> Result<(), AllocError> {
+    push_counts(text, process)?;
+    let word = if process.busy() { "busy" } else { "free" };
+    let x = process.registers().get(0).unwrap_or(0);
+    write!(text, "{word}, x {x}")
 }
 
 /// What the step gives, or why it is refused, and then what the process answers where it hasn't stopped.
-fn line_of<F: FrontEnd>(
-    alloc: Global,
+fn push_line<F: FrontEnd>(
+    text: &mut String,
     process: &mut Process<F>,
     step: &Step,
-) -> Result<String, Fail> {
-    let mut text = String::new(alloc);
-    match step_of(process, step) {
-        Ok(out) => push_told(alloc, &mut text, &out)?,
-        Err(fault) => {
-            text.push_str(format!(in alloc; "{fault:?}")?.as_str())?;
-            if matches!(fault, ProcessFault::ClockFull | ProcessFault::Failed) {
-                return Ok(text);
-            }
-            text.push_str(", ")?;
-        }
+) -> Result<(), AllocError> {
+    let made = step_of(process, step);
+    push_made(text, &made)?;
+    if has_stopped(&made) {
+        return Ok(());
     }
-    push_state(alloc, &mut text, process)?;
-    Ok(text)
+    push_state(text, process)
+}
+
+/// Whether the step gives this line.
+fn tells<F: FrontEnd>(alloc: Global, process: &mut Process<F>, step: &Step, told: &str) -> bool {
+    let mut text = String::new(alloc);
+    push_line(&mut text, process, step).is_ok() && text.as_str() == told
+}
+
+/// Has the processes make the steps, and demands the line of each.
+fn demand_rows<F: FrontEnd>(rt: &(impl Abort + AllocGlobal), all: &mut [Process<F>], rows: &[Row]) {
+    for (at, step, told) in rows {
+        let process = all
+            .get_mut(*at as usize)
+            .expect(rt, "a process of the shape");
+        demand(rt, told, tells(rt.alloc(), process, step, told));
+    }
+}
+
+/// So many processes of one register.
+fn all_of<F: FrontEnd>(alloc: Global, processes: u8) -> Result<Vec<Process<F>>, Fail> {
+    let shape = Shape::new(u32::from(processes), 1)?;
+    let mut all = Vec::new(alloc);
+    for me in 0..processes {
+        all.push(Process::<F>::new(alloc, shape, me)?)?;
+    }
+    Ok(all)
 }
 
 /// Has processes of one shape make the steps, and demands the line of each.
@@ -132,17 +166,7 @@ pub(crate) fn follow<F: FrontEnd>(
     processes: u8,
     rows: &[Row],
 ) -> Result<(), Fail> {
-    let shape = Shape::new(u32::from(processes), 1)?;
-    let mut all = Vec::new(rt.alloc());
-    for me in 0..processes {
-        all.push(Process::<F>::new(rt.alloc(), shape, me)?)?;
-    }
-    for (at, step, told) in rows {
-        let process = all
-            .get_mut(*at as usize)
-            .expect(rt, "a process of the shape");
-        let line = line_of(rt.alloc(), process, step)?;
-        assert!(rt; line.as_str() == *told, "p{at} {step:?}");
-    }
+    let mut all = all_of::<F>(rt.alloc(), processes)?;
+    demand_rows(rt, all.as_mut_slice(), rows);
     Ok(())
 }
