@@ -2,7 +2,7 @@ use Rattle.std.proofs.Common.{◌≡◌, ◌<◌, ◌++◌, ◌∷◌, [], List,
 use Rattle.std.proofs.lemmas.List.{length-map}
 use Rattle.reg_frames.specs.declared.bodies.Frame.{Frame}
 use Rattle.reg_world.specs.Wires.{frames_in}
-use Rattle.reg_world.proofs.code.Strands.{put_on_one}
+use Rattle.reg_world.proofs.code.Strands.{put_on_one, still_shared}
 use Rattle.reg_world.proofs.wires.Wires.put.Goals as goal
 
 pub returns : goal.returns
@@ -20,3 +20,18 @@ returns g c =
     ∙ subst (λ (z : List (List Frame)). map (frames_in new) (set strands r c.put.new.self) ≡ set z r (get_or z r [] ++ f ∷ [])) c.self.view_is
     (put_on_one old new strands r c.put.new.self d f c.in_ok-put.ensures.longer c.self.invariant l
     (c.in_ok-put.ensures.frames ∙ ap (λ s. frames_in old s ++ f ∷ []) is))
+
+pub index_mut-requires : goal.index_mut-requires
+index_mut-requires g c =
+    let a = ap length c.self.view_is in let b = length-map c.self.inside.wires.items (frames_in c.self.inside.common.items) in let e = c.requires in let from = c.from.ensures in
+    omega (arith, a, b, e, from)
+
+pub invariant_of-self : goal.invariant_of-self
+invariant_of-self g c =
+    let a = ap length c.self.view_is in let b = length-map c.self.inside.wires.items (frames_in c.self.inside.common.items) in let e = c.requires in let from = c.from.ensures in
+    still_shared c.self.inside.common.items c.put.new.common.items c.self.inside.wires.items c.from.result c.put.new.self c.put.ensures.longer c.self.invariant (omega (arith, a, b, e, from)) c.put.ensures.shared
+
+pub invariant_of-self-2 : goal.invariant_of-self-2
+invariant_of-self-2 g c =
+    let a = ap length c.self.view_is in let b = length-map c.self.inside.wires.items (frames_in c.self.inside.common.items) in let e = c.requires in let from = c.from.ensures in
+    still_shared c.self.inside.common.items c.put.new.common.items c.self.inside.wires.items c.from.result c.put.new.self c.put.ensures.longer c.self.invariant (omega (arith, a, b, e, from)) c.put.ensures.shared
