@@ -69,15 +69,19 @@ const FRAMES: [(Frame, &[u8]); 5] = [
     ),
 ];
 
+/// Whether these are the bytes of the frame.
+fn is_spelled(rt: &(impl Abort + AllocGlobal), frame: &Frame, bytes: &[u8]) -> bool {
+    encode(rt.alloc(), frame).expect(rt, "in range").as_slice() == bytes
+}
+
 #[test]
 fn each_form_there_and_back(rt: HostRuntime) {
     for (frame, bytes) in &FRAMES {
         assert!(rt; decode(bytes) == Ok(*frame));
-        let spelled = encode(rt.alloc(), frame).expect(&rt, "in range");
-        assert!(rt; spelled.as_slice() == *bytes);
+        assert!(rt; is_spelled(&rt, frame, bytes));
     }
     let early = cast(0, 0, READ_FIRST);
-    assert!(rt; matches!(encode(rt.alloc(), &early), Err(FrameFault::Range)));
+    assert!(rt; encode(rt.alloc(), &early).err() == Some(FrameFault::Range));
 }
 
 /// The bytes of a frame, of which the one at a place is changed, and the fault.
@@ -196,7 +200,7 @@ fn the_last_numbers_times_and_counts(rt: HostRuntime) {
 /// Whether no other bytes are read as the frame of these, where they are read.
 fn is_only_spelling(rt: &(impl Abort + AllocGlobal), bytes: &[u8]) -> bool {
     match decode(bytes) {
-        Ok(frame) => encode(rt.alloc(), &frame).expect(rt, "in range").as_slice() == bytes,
+        Ok(frame) => is_spelled(rt, &frame, bytes),
         Err(_) => true,
     }
 }

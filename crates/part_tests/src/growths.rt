@@ -3,7 +3,7 @@ use crate::documents::SMALL;
 use crate::reports::{NO_POINTS, NO_POINTS_NOW, ONE_PROCESS};
 use crate::values::{READ, WRITE_FIVE};
 use refusing::{Trial, refusals};
-use reg_base::{Op, OpId, Shape};
+use reg_base::{OpId, Shape};
 use reg_frames::{Body, Frame};
 use reg_front::LocalWrite;
 use reg_history::{
@@ -12,7 +12,7 @@ use reg_history::{
 use reg_process::{Outcome, Process, ProcessFault, Put, Step};
 use reg_text::{Lines, TextFault, read_names};
 use reg_toml::{Workload, WorkloadFault, read_table};
-use std::alloc::{Allocator, Global};
+use std::alloc::{AllocError, Allocator, Global};
 use std::str::from_utf8;
 use std::test::Fail;
 
@@ -70,24 +70,24 @@ fn has_stopped<A: Allocator + Copy>(process: &mut Process<LocalWrite, A>) -> boo
     STEPS.iter().all(|step| matches!(event(process, step), Err(ProcessFault::Failed)))
 }
 
-fn line_of<A: Allocator + Copy>(ample: Global, out: &Outcome<A>) -> Result<String, Fail> {
+fn push_out<A: Allocator + Copy>(text: &mut String, out: &Outcome<A>) -> Result<(), AllocError> {
     let frames = out.frames.as_slice();
     let delivered = out.delivered.as_slice();
-    Ok(format!(in ample; "{frames:?} {delivered:?} {:?}\n", out.reply)?)
+    write!(text, "{frames:?} {delivered:?} {:?}\n", out.reply)
 }
 
-/// What an event gives. None where memory is wanted; the process has stopped then.
-fn told<A: Allocator + Copy>(
-    ample: Global,
+/// What an event gives, and whether memory is wanted at it; the process has stopped then.
+fn push_told<A: Allocator + Copy>(
+    text: &mut String,
     process: &mut Process<LocalWrite, A>,
     step: &Step,
-) -> Result<Option<String>, Fail> {
-    Ok(match event(process, step) {
-        Ok(out) => Some(line_of(ample, &out)?),
-        Err(ProcessFault::OutOfMemory) if has_stopped(process) => None,
-        Err(ProcessFault::OutOfMemory) => Some(String::from_str(ample, "goes on\n")?),
-        Err(fault) => Some(format!(in ample; "{fault:?}\n")?),
-    })
+) -> (Result<(), AllocError>, bool) {
+    match event(process, step) {
+        Ok(out) => (push_out(text, &out), false),
+        Err(ProcessFault::OutOfMemory) if has_stopped(process) => (Ok(()), true),
+        Err(ProcessFault::OutOfMemory) => (text.push_str("goes on\n"), false),
+        Err(fault) => (write!(text, "{fault:?}\n"), false),
+    }
 }
 
 /// What each event gives. None where one of them wants memory.
@@ -97,16 +97,21 @@ fn all_told<A: Allocator + Copy>(
 ) -> Result<Option<String>, Fail> {
     let mut text = String::new(ample);
     for step in &STEPS {
-        let Some(line) = told(ample, process, step)? else {
+        let (told, wants_memory) = push_told(&mut text, process, step);
+        told?;
+        if wants_memory {
             return Ok(None);
-        };
-        text.push_str(line.as_str())?;
+        }
     }
     Ok(Some(text))
 }
 
-fn followed<A: Allocator + Copy>(alloc: A, ample: Global) -> Result<Option<String>, Fail> {
-    match Process::<LocalWrite, A>::new(alloc, Shape::new(2, 1)?, 0) {
+fn followed<A: Allocator + Copy>(
+    alloc: A,
+    ample: Global,
+    shape: Shape,
+) -> Result<Option<String>, Fail> {
+    match Process::<LocalWrite, A>::new(alloc, shape, 0) {
         Ok(mut process) => all_told(ample, &mut process),
         Err(ProcessFault::OutOfMemory) => Ok(None),
         Err(fault) => Err(fault)?,
@@ -115,7 +120,7 @@ fn followed<A: Allocator + Copy>(alloc: A, ample: Global) -> Result<Option<Strin
 
 impl Trial for Events {
     fn answer<A: Allocator + Copy>(&self, alloc: A, ample: Global) -> Result<Option<String>, Fail> {
-        followed(alloc, ample)
+        followed(alloc, ample, Shape::new(2, 1)?)
     }
 }
 
@@ -253,20 +258,18 @@ fn second_number<A: Allocator + Copy>(alloc: A, ample: Global) -> Result<Option<
     }
 }
 
-fn head_told<A: Allocator + Copy>(ample: Global, work: &Workload<A>) -> Result<String, Fail> {
-    Ok(format!(in ample; " {:?} {:?}", work.names.name(0), work.front)?)
-}
-
-fn script_told(ample: Global, script: &[Op]) -> Result<String, Fail> {
-    Ok(format!(in ample; " {script:?}")?)
+fn push_work<A: Allocator + Copy>(text: &mut String, work: &Workload<A>) -> Result<(), AllocError> {
+    write!(text, " {:?} {:?}", work.names.name(0), work.front)?;
+    for script in &work.scripts {
+        write!(text, " {:?}", script.as_slice())?;
+    }
+    Ok(())
 }
 
 /// The first name, the front end and the scripts of a workload.
 fn work_told<A: Allocator + Copy>(ample: Global, work: &Workload<A>) -> Result<String, Fail> {
-    let mut text = head_told(ample, work)?;
-    for script in &work.scripts {
-        text.push_str(script_told(ample, script.as_slice())?.as_str())?;
-    }
+    let mut text = String::new(ample);
+    push_work(&mut text, work)?;
     Ok(text)
 }
 

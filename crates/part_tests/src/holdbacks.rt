@@ -4,7 +4,7 @@ ghost use Rattle.std.specs.Prelude.{◌≡◌};
 use refusing::Refusing;
 use reg_base::{Op, Shape, Stamp};
 use reg_holdback::{HoldFault, Holdback};
-use std::alloc::{AllocError, Global};
+use std::alloc::{AllocError, Allocator, Global};
 use std::process::Abort;
 
 const WRITE: Op = Op::Write {
@@ -134,16 +134,39 @@ fn one_process_waits_for_none(rt: HostRuntime) {
     assert!(rt; held.pop() == Some((stamp(1, 0), read)));
 }
 
+/// What is done with the queue of process 1 of 2, which holds a cast of its own at the first time.
+const EQUAL_TIMES: [Use; 5] = [
+    Use::Receive {
+        stamp: FIRST,
+        held: true,
+        answer: Ok(()),
+    },
+    Use::Pop { first: Some(FIRST) },
+    Use::Pop { first: None },
+    Use::Receive {
+        stamp: Stamp {
+            time: 2,
+            process: 0,
+        },
+        held: false,
+        answer: Ok(()),
+    },
+    Use::Pop {
+        first: Some(Stamp {
+            time: 1,
+            process: 1,
+        }),
+    },
+];
+
 #[test]
 fn equal_times_go_by_process(rt: HostRuntime) {
     let shape = Shape::new(2, 1).expect(&rt, "a shape of two");
     let mut held = Holdback::new(rt.alloc(), 1, shape).expect(&rt, "memory");
     assert!(rt; held.cast(stamp(1, 1), WRITE).is_ok());
-    assert!(rt; held.receive(stamp(1, 0), Some(WRITE)) == Ok(()));
-    assert!(rt; held.pop() == Some((stamp(1, 0), WRITE)));
-    assert!(rt; held.pop() == None);
-    assert!(rt; held.receive(stamp(2, 0), None) == Ok(()));
-    assert!(rt; held.pop() == Some((stamp(1, 1), WRITE)));
+    for (row, step) in EQUAL_TIMES.iter().enumerate() {
+        assert!(rt; answers_so(&mut held, step), "{row}");
+    }
 }
 
 /// A queue as a plain list, in which the least is searched for.
@@ -253,14 +276,19 @@ fn agrees_with_a_plain_list(rt: HostRuntime) {
     assert!(rt; popped > 50);
 }
 
+/// Demands that a cast that comes is refused for want of memory, and not held, and that it is held when it comes again.
+fn demand_held_later<A: Allocator + Copy>(rt: &impl Abort, held: &mut Holdback<A>) {
+    assert!(rt; held.receive(FIRST, Some(WRITE)) == Err(HoldFault::OutOfMemory));
+    assert!(rt; held.len() == 0 && held.seen(0) == Some(0));
+    assert!(rt; held.receive(FIRST, Some(WRITE)) == Ok(()));
+}
+
 #[test]
 fn a_refused_growth_holds_no_cast(rt: HostRuntime) {
     let shape = Shape::new(2, 1).expect(&rt, "a shape of two");
     let heap = Refusing::new(rt.alloc(), 1);
     let mut held = Holdback::new(&heap, 1, shape).expect(&rt, "memory for the times");
-    assert!(rt; held.receive(stamp(1, 0), Some(WRITE)) == Err(HoldFault::OutOfMemory));
-    assert!(rt; held.len() == 0 && held.seen(0) == Some(0));
-    assert!(rt; held.receive(stamp(1, 0), Some(WRITE)) == Ok(()));
+    demand_held_later(&rt, &mut held);
 }
 
 #[test]

@@ -136,16 +136,20 @@ fn own_order_is_kept(rt: HostRuntime) {
     assert!(rt; check_points(rt.alloc(), &history, &points) == Ok(()));
 }
 
-#[test]
-fn entries_in_place(rt: HostRuntime) {
-    let alloc = rt.alloc();
-    let shape = Shape::new(1, 1).expect(&rt, "a shape");
-    let mut history = History::new(alloc, shape).expect(&rt, "memory");
-    let done = answered(0, id(0, 0), Answer::Done);
+/// Demands that an answer is out of place before its call, and in place after it.
+fn demand_places(rt: &impl Abort, history: &mut History) {
+    let done = answered(0, P, Answer::Done);
     assert!(rt; history.push(done) == Err(HistoryFault::OutOfPlace));
-    history.reserve(2).expect(&rt, "memory");
-    assert!(rt; history.push(called(0, id(0, 0), WRITE_FIVE)) == Ok(()));
+    assert!(rt; history.reserve(2).is_ok());
+    assert!(rt; history.push(called(0, P, WRITE_FIVE)) == Ok(()));
     assert!(rt; history.push(done) == Ok(()));
     assert!(rt; history.entries().len() == 2);
+}
+
+#[test]
+fn entries_in_place(rt: HostRuntime) {
+    let shape = Shape::new(1, 1).expect(&rt, "a shape");
+    let mut history = History::new(rt.alloc(), shape).expect(&rt, "memory");
+    demand_places(&rt, &mut history);
     assert!(rt; history.shape() == shape);
 }

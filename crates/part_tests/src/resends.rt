@@ -25,24 +25,30 @@ fn are_first(puts: &[Put]) -> bool {
         .all(|(place, put)| *put == nth_put(place))
 }
 
+/// Whether so many frames are put, which are the first.
+fn puts_first(out: &Outcome, count: usize) -> bool {
+    out.frames.len() == count && are_first(out.frames.as_slice())
+}
+
 /// One write more, and then a tick, which puts so many frames again.
 fn demand_again(rt: &impl Abort, process: &mut Process<LocalWrite>, count: usize) {
-    assert!(rt; process.call(WRITE_FIVE).is_ok());
+    assert!(rt; process.call(WRITE_FIVE).err().is_none());
     let again = process.tick().expect(rt, "a tick");
-    assert!(rt;
-        again.frames.len() == count && are_first(again.frames.as_slice()),
-        "{count}"
-    );
+    assert!(rt; puts_first(&again, count), "{count}");
+}
+
+fn demand_the_first_sixteen(rt: &impl Abort, process: &mut Process<LocalWrite>) {
+    for count in 1..=16 {
+        demand_again(rt, process, count);
+    }
+    demand_again(rt, process, 16);
+    assert!(rt; MOST_RESENT == 16 && process.pending() == 17);
 }
 
 #[test]
 fn tick_puts_the_first_sixteen(rt: HostRuntime) {
     let mut process = started::<LocalWrite>(&rt, rt.alloc(), 2);
-    for count in 1..=16 {
-        demand_again(&rt, &mut process, count);
-    }
-    demand_again(&rt, &mut process, 16);
-    assert!(rt; MOST_RESENT == 16 && process.pending() == 17);
+    demand_the_first_sixteen(&rt, &mut process);
 }
 
 /// How many frames are put and how many casts are delivered, where the step is made.
@@ -53,12 +59,16 @@ fn puts_and_casts(made: Result<Outcome, ProcessFault>) -> Option<(usize, usize)>
     }
 }
 
-#[test]
-fn process_alone_puts_nothing(rt: HostRuntime) {
-    let mut process = started::<LocalWrite>(&rt, rt.alloc(), 1);
+fn demand_nothing_put(rt: &impl Abort, process: &mut Process<LocalWrite>) {
     for _number in 0..17 {
         assert!(rt; puts_and_casts(process.call(WRITE_FIVE)) == Some((0, 1)));
     }
     let again = puts_and_casts(process.tick());
-    assert!(rt; process.pending() == 0 && again.is_some_and(|counts| counts.0 == 0));
+    assert!(rt; process.pending() == 0 && matches!(again, Some((0, _))));
+}
+
+#[test]
+fn process_alone_puts_nothing(rt: HostRuntime) {
+    let mut process = started::<LocalWrite>(&rt, rt.alloc(), 1);
+    demand_nothing_put(&rt, &mut process);
 }

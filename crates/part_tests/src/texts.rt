@@ -49,35 +49,49 @@ const KEPT_LINES: &str = "0
 ends at 8, Line { line: 8, why: End }
 ";
 
-fn line_told(alloc: Global, number: u64, fault: TextFault, line: &[u8]) -> Result<String, Fail> {
-    let text = from_utf8(line)?;
-    Ok(format!(in alloc; "{number}, {fault:?} [{text}]\n")?)
+fn push_line(
+    told: &mut String,
+    number: u64,
+    fault: TextFault,
+    line: &[u8],
+) -> Result<(), AllocError> {
+    let text = from_utf8(line).unwrap_or("no text");
+    write!(told, "{number}, {fault:?} [{text}]\n")
 }
 
-fn end_told(alloc: Global, number: u64, fault: TextFault) -> Result<String, Fail> {
-    Ok(format!(in alloc; "ends at {number}, {fault:?}\n")?)
+fn push_end(told: &mut String, number: u64, fault: TextFault) -> Result<(), AllocError> {
+    write!(told, "ends at {number}, {fault:?}\n")
 }
 
-/// The number of the next line, a fault of it, and the line itself.
-fn next_told(alloc: Global, lines: &mut Lines<'_>, why: Why) -> Result<String, Fail> {
+/// The number of the next line, a fault of it, and the line itself. Gives whether there was one.
+fn push_next(told: &mut String, lines: &mut Lines<'_>, why: Why) -> Result<bool, AllocError> {
     match lines.next() {
-        Some(line) => line_told(alloc, lines.number(), lines.fault(why), line),
-        None => end_told(alloc, lines.number(), lines.fault(Why::End)),
+        Some(line) => {
+            push_line(told, lines.number(), lines.fault(why), line)?;
+            Ok(true)
+        }
+        None => {
+            push_end(told, lines.number(), lines.fault(Why::End))?;
+            Ok(false)
+        }
     }
 }
 
-/// What the cursor tells of each line up to the end.
-fn walked(alloc: Global, lines: Lines<'_>, why: Why) -> Result<String, Fail> {
-    let mut lines = lines;
-    let mut text = format!(in alloc; "{}\n", lines.number())?;
+fn push_walk(told: &mut String, lines: &mut Lines<'_>, why: Why) -> Result<(), AllocError> {
+    write!(told, "{}\n", lines.number())?;
     for _ in 0..9u32 {
-        let told = next_told(alloc, &mut lines, why)?;
-        text.push_str(told.as_str())?;
-        if told.as_str().starts_with("ends") {
+        if !push_next(told, lines, why)? {
             break;
         }
     }
-    Ok(text)
+    Ok(())
+}
+
+/// Whether this is what the cursor tells of each line up to the end.
+fn tells(alloc: Global, lines: Lines<'_>, why: Why, told: &str) -> bool {
+    let mut lines = lines;
+    let mut text = String::new(alloc);
+    push_walk(&mut text, &mut lines, why).is_ok() && text.as_str() == told
 }
 
 fn lines_of(text: &str, skips: bool) -> Lines<'_> {
@@ -88,22 +102,21 @@ fn lines_of(text: &str, skips: bool) -> Lines<'_> {
     }
 }
 
-fn demand_lines(rt: &(impl Abort + AllocGlobal), walks: &[Walk]) -> Result<(), Fail> {
+fn demand_lines(rt: &(impl Abort + AllocGlobal), walks: &[Walk]) {
     for (text, skips, why, told) in walks {
-        let found = walked(rt.alloc(), lines_of(text, *skips), *why)?;
-        demand(rt, text, found.as_str() == *told);
+        let lines = lines_of(text, *skips);
+        demand(rt, text, tells(rt.alloc(), lines, *why, told));
     }
-    Ok(())
 }
 
 #[test]
-fn the_last_line_feed_may_be_missing(rt: HostRuntime) -> Result<(), Fail> {
-    demand_lines(&rt, LAST_LINE_FEED.as_slice())
+fn the_last_line_feed_may_be_missing(rt: HostRuntime) {
+    demand_lines(&rt, LAST_LINE_FEED.as_slice());
 }
 
 #[test]
-fn skipped_lines_are_counted(rt: HostRuntime) -> Result<(), Fail> {
-    demand_lines(&rt, SKIPPED.as_slice())
+fn skipped_lines_are_counted(rt: HostRuntime) {
+    demand_lines(&rt, SKIPPED.as_slice());
 }
 
 /// A text, the number that it spells, and whether it has a numeral's form.
@@ -139,8 +152,8 @@ fn numerals(rt: HostRuntime) {
 }
 
 /// A text, and the number up to 16 that stands in front of its first space, with what comes behind it.
-const FIELDS: [(&str, Option<(u64, &str)>); 3] = [
-    ("16 x", Some((16, "x"))),
+const FIELDS: [(&str, Option<(u64, &[u8])>); 3] = [
+    ("16 x", Some((16, b"x"))),
     ("17 x", None),
     ("16", None),
 ];
@@ -152,8 +165,7 @@ fn numbers_up_to_a_limit(rt: HostRuntime) {
     }
     for (text, wanted) in &FIELDS {
         let field = field_within(text.as_bytes(), 16, b' ');
-        let wanted = wanted.map(|(number, rest)| (number, rest.as_bytes()));
-        demand(&rt, text, field == wanted);
+        demand(&rt, text, field == *wanted);
     }
 }
 
@@ -169,13 +181,13 @@ const RIGHT: [(&str, Option<u64>); 7] = [
 ];
 
 /// A text, and the number at the left of its first 3 places in front of a mark, with what comes behind it.
-const LEFT: [(&str, Option<(u64, &str)>); 6] = [
-    ("1    #0", Some((1, "0"))),
-    ("123  #0", Some((123, "0"))),
+const LEFT: [(&str, Option<(u64, &[u8])>); 6] = [
+    ("1    #0", Some((1, b"0"))),
+    ("123  #0", Some((123, b"0"))),
     (" 1   #0", None),
     ("1 2  #0", None),
     ("1   #0", None),
-    ("1    #27", Some((1, "27"))),
+    ("1    #27", Some((1, b"27"))),
 ];
 
 /// A text, and what stands in front of its spaces, where they stand at its end alone.
@@ -193,8 +205,7 @@ fn columns_at_the_right(rt: HostRuntime) {
 fn columns_at_the_left(rt: HostRuntime) {
     for (text, wanted) in &LEFT {
         let field = left_field(text.as_bytes(), 3, b"  #");
-        let wanted = wanted.map(|(number, rest)| (number, rest.as_bytes()));
-        demand(&rt, text, field == wanted);
+        demand(&rt, text, field == *wanted);
     }
 }
 
@@ -243,14 +254,12 @@ fn push_name(line: &mut String, number: u32) -> Result<(), AllocError> {
     line.push(letter(number))
 }
 
-/// A line of 256 different names, and a word behind them.
-fn many_names(alloc: Global, last: &str) -> Result<String, Fail> {
-    let mut line = String::from_str(alloc, "registers")?;
+fn push_names(line: &mut String, last: &str) -> Result<(), AllocError> {
+    line.push_str("registers")?;
     for number in 0..256u32 {
-        push_name(&mut line, number)?;
+        push_name(line, number)?;
     }
-    line.push_str(last)?;
-    Ok(line)
+    line.push_str(last)
 }
 
 /// What stands behind 256 names, and why there are no names.
@@ -263,19 +272,19 @@ const BEHIND_NAMES: [(&str, Option<Why>); 6] = [
     (" x  y", Some(Why::Form)),
 ];
 
-/// Why a line of 256 names with this behind them has no names.
-fn behind_fault(alloc: Global, last: &str) -> Result<Option<TextFault>, Fail> {
-    let line = many_names(alloc, last)?;
-    Ok(names_fault(alloc, line.as_str()))
+/// Why a line of 256 different names with this behind them has no names.
+fn behind_fault(rt: &(impl Abort + AllocGlobal), last: &str) -> Option<TextFault> {
+    let mut line = String::new(rt.alloc());
+    push_names(&mut line, last).expect(rt, "memory");
+    names_fault(rt.alloc(), line.as_str())
 }
 
 #[test]
-fn the_first_name_over_is_beyond_the_limit(rt: HostRuntime) -> Result<(), Fail> {
+fn the_first_name_over_is_beyond_the_limit(rt: HostRuntime) {
     for (last, why) in &BEHIND_NAMES {
         let wanted = why.map(|why| TextFault::Line { line: 1, why });
-        demand(&rt, last, behind_fault(rt.alloc(), last)? == wanted);
+        demand(&rt, last, behind_fault(&rt, last) == wanted);
     }
-    Ok(())
 }
 
 /// What is asked of the next line of a head.
