@@ -4,7 +4,7 @@ ghost use Rattle.std.specs.Prelude.{◌≡◌};
 use refusing::Refusing;
 use reg_base::{Op, Shape, Stamp};
 use reg_holdback::{HoldFault, Holdback};
-use std::alloc::{AllocError, Allocator, Global};
+use std::alloc::{AllocError, Global};
 use std::process::Abort;
 
 const WRITE: Op = Op::Write {
@@ -276,19 +276,21 @@ fn agrees_with_a_plain_list(rt: HostRuntime) {
     assert!(rt; popped > 50);
 }
 
-/// Demands that a cast that comes is refused for want of memory, and not held, and that it is held when it comes again.
-fn demand_held_later<A: Allocator + Copy>(rt: &impl Abort, held: &mut Holdback<A>) {
-    assert!(rt; held.receive(FIRST, Some(WRITE)) == Err(HoldFault::OutOfMemory));
-    assert!(rt; held.len() == 0 && held.seen(0) == Some(0));
-    assert!(rt; held.receive(FIRST, Some(WRITE)) == Ok(()));
-}
+/// A cast that comes is refused for want of memory, and not held, and it is held when it comes again.
+const ONCE_REFUSED: [(Result<(), HoldFault>, usize, u64); 2] = [
+    (Err(HoldFault::OutOfMemory), 0, 0),
+    (Ok(()), 1, 1),
+];
 
 #[test]
 fn a_refused_growth_holds_no_cast(rt: HostRuntime) {
     let shape = Shape::new(2, 1).expect(&rt, "a shape of two");
     let heap = Refusing::new(rt.alloc(), 1);
     let mut held = Holdback::new(&heap, 1, shape).expect(&rt, "memory for the times");
-    demand_held_later(&rt, &mut held);
+    for (answer, count, time) in &ONCE_REFUSED {
+        assert!(rt; held.receive(FIRST, Some(WRITE)) == *answer);
+        assert!(rt; held.len() == *count && held.seen(0) == Some(*time));
+    }
 }
 
 #[test]

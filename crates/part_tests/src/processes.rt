@@ -360,17 +360,12 @@ fn no_process_past_the_last(rt: HostRuntime) {
     assert!(rt; fault == Some(ProcessFault::NoProcess));
 }
 
-/// Has the process read as often as it may, and once more.
-fn demand_an_end(rt: &impl Abort, process: &mut Process<LocalRead>) {
+#[test]
+fn operations_end(rt: HostRuntime) {
+    let mut process = started::<LocalRead>(&rt, rt.alloc(), 1);
     for _number in 0..MOST_OPERATIONS {
         assert!(rt; process.call(READ).err().is_none());
     }
     assert!(rt; process.call(READ).err() == Some(ProcessFault::TooManyOperations));
     assert!(rt; process.tick().err().is_none());
-}
-
-#[test]
-fn operations_end(rt: HostRuntime) {
-    let mut process = started::<LocalRead>(&rt, rt.alloc(), 1);
-    demand_an_end(&rt, &mut process);
 }

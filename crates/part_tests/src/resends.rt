@@ -59,16 +59,12 @@ fn puts_and_casts(made: Result<Outcome, ProcessFault>) -> Option<(usize, usize)>
     }
 }
 
-fn demand_nothing_put(rt: &impl Abort, process: &mut Process<LocalWrite>) {
+#[test]
+fn process_alone_puts_nothing(rt: HostRuntime) {
+    let mut process = started::<LocalWrite>(&rt, rt.alloc(), 1);
     for _number in 0..17 {
         assert!(rt; puts_and_casts(process.call(WRITE_FIVE)) == Some((0, 1)));
     }
     let again = puts_and_casts(process.tick());
     assert!(rt; process.pending() == 0 && matches!(again, Some((0, _))));
-}
-
-#[test]
-fn process_alone_puts_nothing(rt: HostRuntime) {
-    let mut process = started::<LocalWrite>(&rt, rt.alloc(), 1);
-    demand_nothing_put(&rt, &mut process);
 }
