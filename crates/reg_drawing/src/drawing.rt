@@ -55,13 +55,13 @@ const HEAD: &str = "\
 /// What is drawn of a run.
 #[derive(Drop)]
 pub struct Drawing<'a, A: Allocator + Copy> {
-    pub names: &'a Names<A>,
-    pub moments: &'a [Moment<A>],
-    pub bars: &'a [Bar],
-    pub labels: &'a [Label<A>],
-    pub arrows: &'a [Arrow],
-    pub points: &'a [Point],
-    pub layout: &'a Layout<A>,
+    pub(crate) names: &'a Names<A>,
+    pub(crate) moments: &'a [Moment<A>],
+    pub(crate) points: &'a [Point],
+    pub(crate) bars: Vec<Bar, A>,
+    pub(crate) labels: Vec<Label<A>, A>,
+    pub(crate) arrows: Vec<Arrow, A>,
+    pub(crate) layout: Layout<A>,
 }
 
 /// The class of a frame's lines.
@@ -258,7 +258,7 @@ impl<A: Allocator + Copy> Drawing<'_, A> {
 
     /// Shows an arrow for each frame that is taken.
     fn show_arrows<W: fmt::Write>(&self, f: &mut fmt::Formatter<W>) -> fmt::Result {
-        for arrow in self.arrows {
+        for arrow in &self.arrows {
             if let Some(frame) = self.frame_taken(arrow.takes) {
                 self.show_arrow(f, arrow, frame)?;
             }
@@ -333,7 +333,7 @@ impl<A: Allocator + Copy> Drawing<'_, A> {
 
     /// Shows a bar for each operation.
     fn show_bars<W: fmt::Write>(&self, f: &mut fmt::Formatter<W>) -> fmt::Result {
-        for (bar, label) in self.bars.iter().zip(self.labels) {
+        for (bar, label) in self.bars.iter().zip(&self.labels) {
             self.show_bar(f, bar, label.text.as_str())?;
         }
         Ok(())

@@ -7,4 +7,5 @@ mod pictures;
 mod shapes;
 mod words;
 
+pub use drawing::{Drawing, write_drawing};
 pub use pictures::draw_told;

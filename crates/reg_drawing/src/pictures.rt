@@ -1,12 +1,9 @@
 //! What is told of a run, as a drawing.
-ghost use Rattle.std.specs.Prelude.{◌≡◌, OnErr};
-
-use crate::drawing::{Drawing, write_drawing};
+use crate::drawing::Drawing;
 use crate::layout::{Label, bar_label, lay_out};
 use reg_base::Names;
 use reg_moments::{Bar, Moment, Told, arrows, bars};
 use std::alloc::{AllocError, Allocator};
-use std::io::Write;
 
 /// The place of the reply of an operation that is answered.
 fn place_of<A: Allocator + Copy>(moments: &[Moment<A>], bar: &Bar) -> Option<u64> {
@@ -36,15 +33,15 @@ fn labels_of<A: Allocator + Copy>(
     Ok(labels)
 }
 
-/// Draws what is told of a run, and writes the space-time diagram: tells whether all of it went out. Nothing is written where
-/// memory is refused.
-pub fn draw_told<A: Allocator + Copy, W: Write>(
+/// Draws what is told of a run, as a space-time diagram.
+///
+/// # Errors
+///
+/// Where memory is refused.
+pub fn draw_told<A: Allocator + Copy>(
     alloc: A,
     told: &Told<A>,
-    writer: &mut W,
-) -> Result<bool, AllocError>
-    ensures { OnErr result (writer.new ≡ writer.old) }
-{
+) -> Result<Drawing<'_, A>, AllocError> {
     let moments = told.moments.as_slice();
     let bars = bars(alloc, told.history.entries())?;
     let arrows = arrows(alloc, moments)?;
@@ -55,14 +52,13 @@ pub fn draw_told<A: Allocator + Copy, W: Write>(
         Some(points) => points.as_slice(),
         None => &[],
     };
-    let drawing = Drawing {
+    Ok(Drawing {
         names: &told.names,
         moments,
-        bars: &bars,
-        labels: &labels,
-        arrows: &arrows,
         points,
-        layout: &layout,
-    };
-    Ok(write_drawing(writer, &drawing).is_ok() && writer.flush().is_ok())
+        bars,
+        labels,
+        arrows,
+        layout,
+    })
 }

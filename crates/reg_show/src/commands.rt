@@ -14,7 +14,7 @@ use crate::faults::ShowFault;
 use crate::telling::tell_schedule;
 use reg_base::Names;
 use reg_commands::{Fault, read_schedule};
-use reg_drawing::draw_told;
+use reg_drawing::{Drawing, draw_told, write_drawing};
 use reg_moments::{Moment, Told, write_trace};
 use std::alloc::Allocator;
 use std::io::Write;
@@ -62,6 +62,40 @@ pub(crate) fn trace<A: Allocator + Copy, W: Write>(
     Ok(())
 }
 
+/// What is told of the schedule that a text spells, where it is drawn.
+fn told_to_draw<A: Allocator + Copy>(alloc: A, text: &str) -> Result<Told<A>, ShowFault>
+    ensures ok { IfOk result (λ _. DrawsRun text.now) }
+    ensures why { IfErr result (λ f. BlamesDrawn f text.now) }
+    ensures kind { IfErr result (λ f. f ≢ ShowFault.Command Fault.Output) }
+{
+    let schedule = match read_schedule(alloc, text) {
+        Ok(schedule) => schedule,
+        Err(fault) => return Err(ShowFault::Command { fault }),
+    };
+    if schedule.events.len() > MOST_DRAWN {
+        return Err(ShowFault::TooManyToDraw);
+    }
+    match tell_schedule(alloc, schedule) {
+        Ok(told) => Ok(told),
+        Err(fault) => Err(ShowFault::Command { fault }),
+    }
+}
+
+/// Writes a drawing, to the last byte.
+fn send_drawing<A: Allocator + Copy, W: Write>(
+    writer: &mut W,
+    drawing: &Drawing<'_, A>,
+) -> Result<(), ShowFault>
+    ensures { IfErr result (λ f. f ≡ ShowFault.Command Fault.Output) }
+{
+    if write_drawing(writer, drawing).is_err() || writer.flush().is_err() {
+        return Err(ShowFault::Command {
+            fault: Fault::Output,
+        });
+    }
+    Ok(())
+}
+
 /// Reads a schedule, and writes the space-time diagram of its run.
 pub(crate) fn draw<A: Allocator + Copy, W: Write>(
     alloc: A,
@@ -73,24 +107,11 @@ pub(crate) fn draw<A: Allocator + Copy, W: Write>(
     ensures silent { IfErr result (λ f. f ≢ ShowFault.Command Fault.Output → writer.new ≡ writer.old) }
     ensures part { IsErrOf result (ShowFault.Command Fault.Output) → DrawsRun text.now }
 {
-    let schedule = match read_schedule(alloc, text) {
-        Ok(schedule) => schedule,
-        Err(fault) => return Err(ShowFault::Command { fault }),
-    };
-    if schedule.events.len() > MOST_DRAWN {
-        return Err(ShowFault::TooManyToDraw);
-    }
-    let told = match tell_schedule(alloc, schedule) {
-        Ok(told) => told,
-        Err(fault) => return Err(ShowFault::Command { fault }),
-    };
-    match draw_told(alloc, &told, writer) {
-        Ok(true) => Ok(()),
-        Ok(false) => Err(ShowFault::Command {
-            fault: Fault::Output,
-        }),
-        Err(_) => Err(ShowFault::Command {
+    let told = told_to_draw(alloc, text)?;
+    let Ok(drawing) = draw_told(alloc, &told) else {
+        return Err(ShowFault::Command {
             fault: Fault::OutOfMemory,
-        }),
-    }
+        });
+    };
+    send_drawing(writer, &drawing)
 }

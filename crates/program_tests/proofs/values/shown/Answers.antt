@@ -1,0 +1,12 @@
+use Rattle.std.proofs.Common.{ℕ, List, Some, Vec, Global, subst, ap, ◌∙◌}
+use Rattle.std.specs.Io.KnownBytes.{Appends}
+use Rattle.reg_show.specs.Showings.{Shows}
+use Rattle.program_tests.proofs.values.shown.Goals as goal
+
+pub returns-clause-shown : goal.returns-clause-shown
+returns-clause-shown c = λ zero.
+    let P : List ℕ → Type 0 = λ start. Shows c.args.showing (Appends (Some start) (Some c.show_text-status.new.writer.items)) c.args.text.now in
+    subst P c.new-output.ensures.items (c.show_text-status.ensures.shown zero)
+
+pub returns-clause-quiet : goal.returns-clause-quiet
+returns-clause-quiet c = λ zero. ap (λ (v : Vec ℕ Global). v.items) (c.show_text-status.ensures.quiet zero) ∙ c.new-errors.ensures.items

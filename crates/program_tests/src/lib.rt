@@ -1,0 +1,19 @@
+//! Tests of what the programs add to whole runs, over their public calls: running clusters, the words of the command lines, the
+//! lines that tell stops, and what is shown of a text. Each ends by itself, whatever the schedule.
+//!
+//! They stand in a crate of their own since a crate with tests is proved twice.
+#![tactic(auto)]
+
+#[cfg(test)]
+mod lines;
+#[cfg(test)]
+mod live;
+#[cfg(test)]
+mod show_words;
+#[cfg(test)]
+mod shown;
+#[cfg(test)]
+mod stop_lines;
+pub mod values;
+#[cfg(test)]
+mod words;

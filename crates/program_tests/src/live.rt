@@ -1,0 +1,11 @@
+//! Tests of running clusters: passes and records worked by hand, stations that are held, that stop and that are lied to, rough
+//! roads, and limits.
+mod closes;
+mod crews;
+mod gates;
+mod limits;
+mod passes;
+mod records;
+mod roads;
+mod scripts;
+mod stops;
