@@ -1,5 +1,4 @@
 pub mod Gathered
-pub mod Told
 pub mod Shown
 pub mod Played
 pub mod FirstRefused

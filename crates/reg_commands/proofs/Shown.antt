@@ -16,8 +16,8 @@ use Rattle.reg_world.specs.World.{run_of}
 use Rattle.reg_world.specs.Keys.{IsWitness}
 use Rattle.reg_world.specs.Worlds.{Made, run_in, after_events}
 use Rattle.reg_schedules.specs.Schedules.{Plan}
-use Rattle.reg_commands.specs.declared.faults.Fault.{Fault}
-use Rattle.reg_commands.specs.declared.faults.Fault.TheVariants.{OutOfMemory}
+use Rattle.reg_messages.specs.declared.faults.Fault.{Fault}
+use Rattle.reg_messages.specs.declared.faults.Fault.TheVariants.{OutOfMemory}
 use Rattle.reg_commands.specs.Replays.{plan_in, PointsStand, IsOrdered, Shows, ShowsPoints, BlamesRun}
 
 -- what the world tells of its run

@@ -6,16 +6,16 @@ use Rattle.reg_base.specs.declared.limits.TheConstants.{LONGEST_INPUT}
 use Rattle.reg_history.specs.Reports.{Contents, IsReport, SpellsReport}
 use Rattle.reg_commands.specs.declared.command.Command.{Command}
 use Rattle.reg_commands.specs.declared.command.Command.TheVariants.{Replay, Check, Play}
-use Rattle.reg_commands.specs.declared.faults.Fault.{Fault}
-use Rattle.reg_commands.specs.declared.faults.Fault.TheVariants.{Unread, TooLong, NotText, Output, Line, Event, Workload, OutOfMemory}
-use Rattle.reg_commands.specs.declared.verdicts.Verdicts.{Verdicts}
+use Rattle.reg_messages.specs.declared.faults.Fault.{Fault}
+use Rattle.reg_messages.specs.declared.faults.Fault.TheVariants.{Unread, TooLong, NotText, Output, Line, Event, Workload, OutOfMemory}
+use Rattle.reg_messages.specs.declared.verdicts.Verdicts.{Verdicts}
 use Rattle.reg_world.specs.declared.faults.WorldFault.{WorldFault}
 use Rattle.reg_toml.specs.declared.faults.WorkloadFault.{WorkloadFault}
 use Rattle.reg_toml.specs.Loads.{Load}
 use Rattle.reg_schedules.specs.Schedules.{Plan, IsPlan, Spells}
 use Rattle.reg_commands.specs.Replays.{start_of, run_by, Replays, RefusesAt}
 use Rattle.reg_commands.specs.Plays.{Holds, RefusesDocument, Plays}
-use Rattle.reg_commands.specs.Verdicts.{Judges, all_yes, verdicts_text}
+use Rattle.reg_messages.specs.Verdicts.{Judges, all_yes, verdicts_text}
 
 -- The text is that of a report, and the verdicts on it were written: `Wrote` says how a text was.
 pub record Checks (agrees : Bool) (Wrote : List ℕ → Type 0) (text : List ℕ) : Type 0 where

@@ -17,8 +17,8 @@ use Rattle.reg_world.specs.declared.faults.WorldFault.{WorldFault}
 use Rattle.reg_world.specs.Keys.{IsWitness, ArePoints}
 use Rattle.reg_world.specs.Worlds.{Made}
 use Rattle.reg_schedules.specs.Schedules.{Plan, IsPlan, Spells}
-use Rattle.reg_commands.specs.declared.faults.Fault.{Fault}
-use Rattle.reg_commands.specs.declared.faults.Fault.TheVariants.{Event as EventFault, OutOfMemory}
+use Rattle.reg_messages.specs.declared.faults.Fault.{Fault}
+use Rattle.reg_messages.specs.declared.faults.Fault.TheVariants.{Event as EventFault, OutOfMemory}
 
 -- how the front end of a plan starts an operation
 abbrev pub start_of : Front → Op → ℕ → Start

@@ -3,20 +3,16 @@
 
 mod checking;
 mod command;
-mod fault_lines;
-mod faults;
 mod input;
 mod playing;
 mod replaying;
 mod reporting;
 mod running;
-mod verdicts;
 
 pub use command::Command;
-pub use fault_lines::{put_fault_text, put_numbered, write_fault};
-pub use faults::Fault;
 pub use input::read_input;
 pub use playing::{play_by, read_workload};
+pub use reg_messages::{Fault, put_fault_text, put_numbered, write_fault};
 pub use replaying::{Ran, read_schedule, run_events};
 pub use reporting::{report_run, report_run_with_points, write_out};
 pub use running::run_text;

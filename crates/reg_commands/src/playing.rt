@@ -9,10 +9,10 @@ ghost use Rattle.reg_commands.specs.Plays.{Holds, RefusesDocument, IsPlayBy, Sho
 ghost use Rattle.reg_commands.specs.Inner.{HasNoPoints};
 
 use crate::command::Command;
-use crate::faults::Fault;
 use crate::reporting::{report_run, report_run_with_points, write_out};
 use reg_front::{Front, FrontEnd, Linear, LocalRead, LocalWrite, RealTime};
 use reg_history::Report;
+use reg_messages::Fault;
 use reg_workload::{Play, SeedWords, Workload, WorkloadFault, play_fair, play_seeded, read_table};
 use std::alloc::{AllocError, Allocator, Global};
 use std::io::Write;

@@ -7,11 +7,11 @@ ghost use Rattle.reg_commands.specs.Answers.{AnswersInPart, Blames};
 ghost use Rattle.reg_commands.specs.Replays.{start_of, Shows, ShowsPoints, IsReportOf, Replays, BlamesRun};
 
 use crate::command::Command;
-use crate::faults::Fault;
 use crate::reporting::{report_run, report_run_with_points, write_out};
 use reg_base::Names;
 use reg_front::{Front, FrontEnd, Linear, LocalRead, LocalWrite, RealTime};
 use reg_history::{ReadWhy, Report};
+use reg_messages::Fault;
 use reg_workload::{Schedule, ScheduleFault, parse_schedule};
 use reg_world::{RunFault, World, WorldFault};
 use std::alloc::Allocator;

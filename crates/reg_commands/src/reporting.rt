@@ -14,10 +14,10 @@ ghost use Rattle.reg_world.specs.World.{run_of};
 ghost use Rattle.reg_world.specs.Worlds.{run_in};
 ghost use Rattle.reg_commands.specs.Replays.{plan_in, Shows, ShowsPoints, PointsStand};
 
-use crate::faults::Fault;
 use reg_base::{Names, OpId};
 use reg_front::{Front, FrontEnd, RealTime};
 use reg_history::{History, Point, Report, write_report};
+use reg_messages::Fault;
 use reg_world::World;
 use std::alloc::{AllocError, Allocator};
 use std::io::Write;

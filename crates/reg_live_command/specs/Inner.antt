@@ -1,6 +1,6 @@
 -- The stops that are told of threads. They carry a proof: no promise speaks of them.
 use Rattle.std.specs.Prelude.{⊤}
-use Rattle.reg_commands.specs.declared.faults.Fault.TheVariants.{OutOfMemory}
+use Rattle.reg_messages.specs.declared.faults.Fault.TheVariants.{OutOfMemory}
 use Rattle.reg_live_command.specs.declared.faults.Stop.{Stop}
 use Rattle.reg_live_command.specs.declared.faults.Stop.TheVariants.{Command}
 

@@ -1,7 +1,7 @@
 -- The line of each stop on the error stream.
 use Rattle.std.specs.Prelude.{ℕ, List, [], ◌∷◌, ◌++◌, codes}
 use Rattle.std.specs.Fmt.{decimal}
-use Rattle.reg_commands.specs.FaultLines.{fault_text}
+use Rattle.reg_messages.specs.FaultLines.{fault_text}
 use Rattle.reg_live_command.specs.declared.faults.Stop.{Stop}
 use Rattle.reg_live_command.specs.declared.faults.Stop.TheVariants.{Command, Failed, NoRegister, Behind, Full, Unfaithful, Mismatch}
 

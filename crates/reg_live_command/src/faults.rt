@@ -2,7 +2,8 @@
 ghost use Rattle.reg_live_command.specs.Inner.{IsOfThreads};
 
 use reg_commands::Fault;
-use reg_live::{CloseFault, LiveFault, RunStop};
+use reg_live::{CloseFault, LiveFault};
+use reg_scripts::RunStop;
 use thiserror::Error;
 
 /// Why the threads' scripts give no report. As text, the line of it on standard error.

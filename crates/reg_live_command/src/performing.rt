@@ -11,7 +11,7 @@ ghost use Rattle.reg_live_command.specs.declared.faults.Stop.TheVariants.{Comman
 ghost use Rattle.reg_live_command.specs.Lives.{ShowsLive, IsReportOfLive, Lives, BlamesStop};
 ghost use Rattle.reg_live_command.specs.Inner.{IsOfThreads};
 ghost use Rattle.reg_live_command.specs.StopLines.{stop_line};
-ghost use Rattle.reg_commands.specs.declared.faults.Fault.TheVariants.{Output};
+ghost use Rattle.reg_messages.specs.declared.faults.Fault.TheVariants.{Output};
 
 use crate::faults::{Stop, stopped};
 use crate::stop_lines::write_stop;
@@ -20,7 +20,7 @@ use reg_commands::{
 };
 use reg_front::{Front, FrontEnd, Linear, LocalRead, LocalWrite, RealTime};
 use reg_history::Report;
-use reg_live::run_scripts;
+use reg_scripts::run_scripts;
 use reg_workload::Workload;
 use std::alloc::Global;
 use std::io::{Read, Write};

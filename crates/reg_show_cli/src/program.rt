@@ -2,7 +2,7 @@
 ghost use Rattle.std.specs.Prelude.{◌≡◌, ◌≤◌, IfErr, IfOk, MatchResult, Err};
 ghost use Rattle.std.specs.Io.KnownBytes.{Appends};
 ghost use Rattle.reg_text.specs.Writing.{AppendsPart};
-ghost use Rattle.reg_commands.specs.FaultLines.{fault_line};
+ghost use Rattle.reg_messages.specs.FaultLines.{fault_line};
 ghost use Rattle.reg_words.specs.Faults.{status_of};
 ghost use Rattle.reg_words.specs.Lines.{behind_name};
 ghost use Rattle.reg_show_cli.specs.Lines.{IsAnswer, IsCommandLine, IsHelpLine, refused_line};

@@ -13,9 +13,10 @@ pub use reg_history::{
 };
 pub use reg_live::{
     CloseFault, Closed, Cluster, Courier, Gate, Honest, LiveFault, LogEntry, NoGate, Pacer, Parcel,
-    Parts, Pass, Posts, Receipt, Road, Rough, RunStop, close, run_scripts, set_up, verify,
+    Parts, Pass, Posts, Receipt, Road, Rough, close, set_up, verify,
 };
 pub use reg_process::Reply;
+pub use reg_scripts::{RunStop, run_scripts};
 pub use reg_workload::{
     Key, Play, Schedule, ScheduleFault, SeedWords, Words, Workload, WorkloadFault, parse_schedule,
     play_fair, play_seeded,

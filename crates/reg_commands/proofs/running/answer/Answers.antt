@@ -2,7 +2,7 @@ use Rattle.std.proofs.Common.{refl, sym, subst}
 use Rattle.std.specs.Prelude.{true, IfOk, IfErr, IsErrOf}
 use Rattle.std.specs.Io.KnownBytes.{Appends}
 use Rattle.reg_commands.specs.Answers.{Answers, AnswersInPart, Blames}
-use Rattle.reg_commands.specs.declared.faults.Fault.TheVariants.{Output}
+use Rattle.reg_messages.specs.declared.faults.Fault.TheVariants.{Output}
 use Rattle.reg_commands.proofs.running.answer.Goals as goal
 
 pub returns-in_ok-replay-in-Replay-clause-ok : goal.returns-in_ok-replay-in-Replay-clause-ok

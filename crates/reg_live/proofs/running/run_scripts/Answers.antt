@@ -1,5 +1,0 @@
-use Rattle.std.proofs.Common.{rules}
-use Rattle.reg_live.proofs.running.run_scripts.Goals as goal
-
-pub returns-clause-lived : goal.returns-clause-lived
-returns-clause-lived g c = search rules

@@ -1,0 +1,3 @@
+pub mod Verdicts
+pub mod FaultLines
+pub mod Inner

@@ -1,0 +1,129 @@
+//! The line of each fault on the error stream.
+ghost use Rattle.std.specs.Prelude.{◌≡◌, ◌++◌, codes, MatchResult};
+ghost use Rattle.std.specs.Fmt.{decimal};
+ghost use Rattle.std.specs.Io.KnownBytes.{Appends};
+ghost use Rattle.reg_text.specs.Writing.{AppendsPart, Puts};
+ghost use Rattle.reg_toml.specs.Keys.{key_name};
+ghost use Rattle.reg_messages.specs.FaultLines.{why_text, refusal_text, workload_text, fault_text, fault_line};
+
+use crate::faults::Fault;
+use itoa::Buffer;
+use reg_history::ReadWhy;
+use reg_text::{Sink, Unwritten};
+use reg_toml::{Key, WorkloadFault};
+use reg_world::WorldFault;
+use std::io::Write;
+
+/// What is wrong with a line of the input.
+fn why_words(why: ReadWhy) -> &'static str
+    ensures { result.now ≡ why_text why }
+{
+    match why {
+        ReadWhy::Form => "form",
+        ReadWhy::Range => "range",
+        ReadWhy::Name => "name",
+        ReadWhy::Place => "place",
+        ReadWhy::End => "end",
+    }
+}
+
+/// Why an event is refused.
+fn refusal_words(fault: WorldFault) -> &'static str
+    ensures { result.now ≡ refusal_text fault }
+{
+    match fault {
+        WorldFault::Failed => "failed",
+        WorldFault::TooManyEvents => "too many events",
+        WorldFault::NoProcess => "no process",
+        WorldFault::Busy => "busy",
+        WorldFault::NoRegister => "no register",
+        WorldFault::TooManyOperations => "too many operations",
+        WorldFault::NoFrame => "no frame",
+        WorldFault::OutOfMemory => "out of memory",
+    }
+}
+
+/// Puts words, and a number behind them.
+pub fn put_numbered<W: Write>(sink: &mut Sink<'_, W>, words: &str, number: u64)
+    ensures { Puts W.contents sink.old sink.new (words.now ++ decimal number) }
+{
+    let mut digits = Buffer::new();
+    sink.put(words.as_bytes());
+    sink.put(digits.format(number).as_bytes());
+}
+
+/// Puts what is wrong at a line or an event of this number.
+fn put_place<W: Write>(sink: &mut Sink<'_, W>, name: &str, number: u64, words: &str)
+    ensures { Puts W.contents sink.old sink.new (name.now ++ decimal number ++ codes ": " ++ words.now) }
+{
+    put_numbered(sink, name, number);
+    sink.put(b": ");
+    sink.put(words.as_bytes());
+}
+
+/// Puts what is wrong with a key.
+fn put_key<W: Write>(sink: &mut Sink<'_, W>, words: &str, key: Key)
+    ensures { Puts W.contents sink.old sink.new (words.now ++ key_name key) }
+{
+    sink.put(words.as_bytes());
+    sink.put(key.name().as_bytes());
+}
+
+/// Puts which operation of the scripts is none.
+fn put_script<W: Write>(sink: &mut Sink<'_, W>, process: u8, place: u32)
+    ensures { Puts W.contents sink.old sink.new (codes "script " ++ decimal process ++ codes " " ++ decimal place) }
+{
+    put_numbered(sink, "script ", process as u64);
+    put_numbered(sink, " ", place as u64);
+}
+
+/// Puts why a document says no workload.
+fn put_workload<W: Write>(sink: &mut Sink<'_, W>, fault: WorkloadFault)
+    ensures { Puts W.contents sink.old sink.new (workload_text fault) }
+{
+    match fault {
+        WorkloadFault::Toml => sink.put(b"toml"),
+        WorkloadFault::UnknownKey => sink.put(b"unknown key"),
+        WorkloadFault::Missing { key } => put_key(sink, "missing ", key),
+        WorkloadFault::Kind { key } => put_key(sink, "kind ", key),
+        WorkloadFault::Range { key } => put_key(sink, "range ", key),
+        WorkloadFault::Script { process, place } => put_script(sink, process, place),
+        WorkloadFault::OutOfMemory => sink.put(b"out of memory"),
+    }
+}
+
+/// Puts a fault as text: its line without the line feed.
+pub fn put_fault_text<W: Write>(sink: &mut Sink<'_, W>, fault: Fault)
+    ensures { Puts W.contents sink.old sink.new (fault_text fault) }
+{
+    match fault {
+        Fault::Unread => sink.put(b"input: read"),
+        Fault::TooLong => sink.put(b"input: too long"),
+        Fault::NotText => sink.put(b"input: not text"),
+        Fault::Output => sink.put(b"output: write"),
+        Fault::Line { line, why } => put_place(sink, "line ", line, why_words(why)),
+        Fault::Event { at, fault } => put_place(sink, "event ", at as u64, refusal_words(fault)),
+        Fault::Workload { fault } => put_workload(sink, fault),
+        Fault::OutOfMemory => sink.put(b"out of memory"),
+    }
+}
+
+/// Puts the line of a fault.
+fn put_fault<W: Write>(sink: &mut Sink<'_, W>, fault: Fault)
+    ensures { Puts W.contents sink.old sink.new (fault_line fault) }
+{
+    put_fault_text(sink, fault);
+    sink.put(b"\n");
+}
+
+/// Writes the line of a fault, all of it or, where the writer fails, a first part.
+pub fn write_fault<W: Write>(errors: &mut W, fault: Fault) -> Result<(), Unwritten>
+    ensures { MatchResult result (λ _. Appends (W.contents errors.old) (W.contents errors.new) (fault_line fault)) (λ _. AppendsPart (W.contents errors.old) (W.contents errors.new) (fault_line fault)) }
+{
+    let mut sink = Sink::new(errors);
+    put_fault(&mut sink, fault);
+    if sink.failed {
+        return Err(Unwritten);
+    }
+    Ok(())
+}

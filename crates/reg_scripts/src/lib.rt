@@ -1,0 +1,6 @@
+//! The scripts of a workload, performed by the threads of a running cluster.
+#![tactic(auto)]
+
+mod running;
+
+pub use running::{RunStop, run_scripts};
