@@ -3,3 +3,4 @@ pub mod Members
 pub mod Rises
 pub mod Changes
 pub mod Bodies
+pub mod Pushed

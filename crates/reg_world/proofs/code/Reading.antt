@@ -1,6 +1,8 @@
 -- The loops that merge the reads with the order.
 use Rattle.std.proofs.Common.{◌≡◌, ℕ, ◌+◌, ◌-◌, ◌<◌, ◌≤◌, Bool, true, false, cond, List, [], ◌∷◌, ◌++◌, map, length, take, drop, get_or, refl, sym, ap, ◌∙◌, subst, arith, length-drop}
-use Rattle.std.proofs.lemmas.List.{append_assoc, append-nil, take_rest, get_or_default, drop_more, drop_all, map-append, drop-drop}
+use Rattle.std.specs.Prelude.{nat_le}
+use Rattle.std.proofs.lemmas.Bool.Decides.{nat_tests}
+use Rattle.std.proofs.lemmas.List.{append_assoc, append-nil, take_rest, get_or_default, drop_more, drop_all, take_more, map-append, drop-drop}
 use Rattle.reg_base.specs.declared.memory.OpId.{OpId}
 use Rattle.reg_world.specs.declared.order.First.{First}
 use Rattle.reg_world.specs.declared.witnesses.Ranked.{Ranked}
@@ -21,6 +23,45 @@ pub record IsReadSoFar (place : ℕ) (reads : List Ranked) (before : List OpId) 
 pub record IsMergedSoFar (kept : First → Bool) (reads : List Ranked) (order : List First) (before : List OpId) (k next : ℕ) (ids : List OpId) : Type 0 where
   pub within : next ≤ length reads
   pub added : ids ++ ids_of (merge kept k (drop next reads) (drop k order)) ≡ before ++ ids_of (merge kept 0 reads order)
+
+most_true : (a b : ℕ) → a ≤ b → nat_le a b ≡ true
+most_true a b h = grind (arith, nat_tests)
+
+most_false : (a b : ℕ) → b < a → nat_le a b ≡ false
+most_false a b h = grind (arith, nat_tests)
+
+-- the first of the reads, and how many they are
+abbrev pub AreFirst : ℕ → List Ranked → List OpId → ℕ → List OpId → Type 0
+AreFirst place reads before n ids = (n ≤ length reads) × (drop n reads ≡ later place reads) × (ids ≡ before ++ ids_read (upto place reads))
+
+-- a read of a later place: nothing more is added
+pub reads_stop : (place : ℕ) (reads : List Ranked) (before : List OpId) (i : ℕ) (ids : List OpId) (d : Ranked) → i < length reads → place < (get_or reads i d).rank → IsReadSoFar place reads before i ids → AreFirst place reads before i ids
+reads_stop place reads before i ids d l over I =
+    let q = get_or reads i d in
+    let left = drop (i + 1) reads in
+    let here : drop i reads ≡ q ∷ left = drop_more reads i d l in
+    let is = most_false q.rank place over in
+    let none : upto place (drop i reads) ≡ [] = ap (upto place) here ∙ ap (λ b. cond b (q ∷ upto place left) []) is in
+    let all : later place (drop i reads) ≡ drop i reads = ap (later place) here ∙ (ap (λ b. cond b (later place left) (q ∷ left)) is ∙ sym here) in
+    (omega (arith, l), sym all ∙ I.rest, sym (append-nil ids) ∙ (ap (λ z. ids ++ ids_read z) (sym none) ∙ I.added))
+
+pub reads_more : (place : ℕ) (reads : List Ranked) (before : List OpId) (i : ℕ) (ids ids1 : List OpId) (d : Ranked) → i < length reads → (get_or reads i d).rank ≤ place → ids1 ≡ ids ++ (get_or reads i d).id ∷ [] → IsReadSoFar place reads before i ids → IsReadSoFar place reads before (i + 1) ids1
+reads_more place reads before i ids ids1 d l most grown I =
+    let q = get_or reads i d in
+    let left = drop (i + 1) reads in
+    let here : drop i reads ≡ q ∷ left = drop_more reads i d l in
+    let is = most_true q.rank place most in
+    let more : upto place (drop i reads) ≡ q ∷ upto place left = ap (upto place) here ∙ ap (λ b. cond b (q ∷ upto place left) []) is in
+    let same : later place (drop i reads) ≡ later place left = ap (later place) here ∙ ap (λ b. cond b (later place left) (q ∷ left)) is in
+    record {
+      rest = sym same ∙ I.rest;
+      added = ap (λ z. z ++ ids_read (upto place left)) grown ∙ (append_assoc ids (q.id ∷ []) (ids_read (upto place left)) ∙ (ap (λ z. ids ++ ids_read z) (sym more) ∙ I.added));
+    }
+
+pub reads_all : (place : ℕ) (reads : List Ranked) (before : List OpId) (i : ℕ) (ids : List OpId) → length reads ≤ i → IsReadSoFar place reads before i ids → AreFirst place reads before (length reads) ids
+reads_all place reads before i ids all I =
+    let none : drop i reads ≡ [] = drop_all i reads all in
+    (omega arith, drop_all (length reads) reads (omega arith) ∙ (ap (later place) (sym none) ∙ I.rest), sym (append-nil ids) ∙ (ap (λ z. ids ++ ids_read (upto place z)) (sym none) ∙ I.added))
 
 ids_reads : (qs : List Ranked) → ids_of (map keyed_read qs) ≡ ids_read qs
 ids_reads [] = refl
@@ -61,6 +102,13 @@ lost_step last ts i t whole lost lost1 lt at grown so =
 
 pub lost_all : (last : Option Stamp) (ts : List Tally) (i : ℕ) (whole lost : List Ranked) → length ts ≤ i → lost ++ lost_from last i (drop i ts) ≡ whole → lost ≡ whole
 lost_all last ts i whole lost all so = sym (append-nil lost) ∙ (ap (λ l. lost ++ lost_from last i l) (sym (drop_all i ts all)) ∙ so)
+
+-- one more read is added, or cast that was lost
+pub read_more : (qs : List Ranked) (i : ℕ) (d : Ranked) (before ids ids1 : List OpId) → i < length qs → ids ≡ before ++ ids_read (take i qs) → ids1 ≡ ids ++ (get_or qs i d).id ∷ [] → ids1 ≡ before ++ ids_read (take (i + 1) qs)
+read_more qs i d before ids ids1 l so grown =
+    let q = get_or qs i d in
+    let more : ids_read (take (i + 1) qs) ≡ ids_read (take i qs) ++ q.id ∷ [] = ap ids_read (take_more qs i d l) ∙ map-append (λ (z : Ranked). z.id) (take i qs) (q ∷ []) in
+    grown ∙ (ap (λ z. z ++ q.id ∷ []) so ∙ (append_assoc before (ids_read (take i qs)) (q.id ∷ []) ∙ ap (λ z. before ++ z) (sym more)))
 
 -- in the form that a loop gives
 pub merged_more : (kept : First → Bool) (reads : List Ranked) (order : List First) (before : List OpId) (k next n : ℕ) (ids ids1 ids2 : List OpId) (d : First) → k < length order → IsMergedSoFar kept reads order before k next ids

@@ -1,7 +1,7 @@
 -- Frames that stand on several wires at the same place are kept once.
-use Rattle.std.proofs.Common.{◌≡◌, ℕ, zero, suc, ◌<◌, ◌≤◌, List, [], ◌∷◌, ◌++◌, map, length, take, get_or, set, replicate, refl, sym, ap, ◌∙◌, inl, inr, arith}
+use Rattle.std.proofs.Common.{◌≡◌, ℕ, zero, suc, ◌+◌, ◌<◌, ◌≤◌, List, [], ◌∷◌, ◌++◌, map, length, take, get_or, set, replicate, refl, sym, ap, ◌∙◌, inl, inr, arith}
 use Rattle.std.proofs.lemmas.Bool.{cases_eq}
-use Rattle.std.proofs.lemmas.List.{take-take, length-take, map-set, get_or-map, get_or-set_same, get_or-set_other}
+use Rattle.std.proofs.lemmas.List.{take-take, take_all, take_at, take_more, get_or_default, length-take, map-set, get_or-map, get_or-set_same, get_or-set_other}
 use Rattle.reg_frames.specs.declared.bodies.Frame.{Frame}
 use Rattle.reg_world.specs.Wires.{Strand, no_frames, own_or, frames_in, AreShared, IsLonger}
 
@@ -18,6 +18,37 @@ all_longer old new [] longer shared = refl
 all_longer old new (s ∷ ss) longer shared =
     ap (λ f. f ∷ map (frames_in new) ss) (frames_longer old new s longer (shared 0))
     ∙ ap (λ fs. frames_in old s ∷ fs) (all_longer old new ss longer (λ r. shared (suc r)))
+
+pub longer_more : (old new more : List Frame) → new ≡ old ++ more → IsLonger old new
+longer_more old new more grown = ap (take (length old)) grown ∙ take_at old more (length old) refl
+
+pub longer_same : (old new : List Frame) → new ≡ old → IsLonger old new
+longer_same old new same = ap (take (length old)) same ∙ take_all (length old) old (omega arith)
+
+pub none_own : (own : List Frame) → length own ≡ 0 → own ≡ []
+none_own [] none = refl
+none_own (g ∷ gs) none = absurd (omega arith)
+
+-- a frame goes to the end of a wire's own
+pub put_own : (shared own own1 : List Frame) (f : Frame) → 0 < length own → own1 ≡ own ++ f ∷ [] → own_or own1 shared ≡ own_or own shared ++ f ∷ []
+put_own shared [] own1 f some grown = absurd (omega arith)
+put_own shared (g ∷ gs) own1 f some grown = ap (λ l. own_or l shared) grown
+
+-- to the end of the common frames
+pub put_next : (old new own : List Frame) (m n : ℕ) (f : Frame) → length own ≡ 0 → m ≡ length old → n ≡ length new → new ≡ old ++ f ∷ [] → own_or own (take n new) ≡ own_or own (take m old) ++ f ∷ []
+put_next old new [] m n f none all whole grown = take_all n new (omega (arith, whole)) ∙ (grown ∙ ap (λ l. l ++ f ∷ []) (sym (take_all m old (omega (arith, all)))))
+put_next old new (g ∷ gs) m n f none all whole grown = absurd (omega arith)
+
+-- and where it is the next of them
+pub put_same : (common own : List Frame) (n : ℕ) (d f : Frame) → length own ≡ 0 → n < length common → get_or common n d ≡ f → own_or own (take (n + 1) common) ≡ own_or own (take n common) ++ f ∷ []
+put_same common [] n d f none l same = take_more common n d l ∙ ap (λ z. take n common ++ z ∷ []) same
+put_same common (g ∷ gs) n d f none l same = absurd (omega arith)
+
+pub shared_at : (common : List Frame) (strands : List Strand) (r : ℕ) (s : Strand) → r < length strands → s ≡ get_or strands r s → AreShared common strands → s.shared ≤ length common
+shared_at common strands r s l at shared = let is = ap (λ (z : Strand). z.shared) (at ∙ get_or_default strands r s no_frames l) in let few = shared r in omega (arith, is, few)
+
+pub frames_at : (common : List Frame) (strands : List Strand) (r : ℕ) (s : Strand) → r < length strands → s ≡ get_or strands r s → frames_in common s ≡ get_or (map (frames_in common) strands) r []
+frames_at common strands r s l at = ap (frames_in common) at ∙ sym (get_or-map (frames_in common) strands r s [] l)
 
 -- a frame is put on one wire
 pub put_on_one : (old new : List Frame) (strands : List Strand) (r : ℕ) (s d : Strand) (f : Frame) → IsLonger old new → AreShared old strands → r < length strands

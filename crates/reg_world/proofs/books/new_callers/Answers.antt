@@ -1,14 +1,11 @@
-use Rattle.std.proofs.Common.{ℕ, ◌≡◌, ◌+◌, List, [], ◌∷◌, ◌++◌, replicate, ap, ◌∙◌, arith}
-use Rattle.std.proofs.lemmas.List.{replicate-append-replicate}
+use Rattle.std.proofs.Common.{◌≡◌, ◌∙◌, replicate, ap, arith}
+use Rattle.std.proofs.lemmas.List.{replicate_more}
 use Rattle.reg_world.specs.Tallies.{no_calls}
+use Rattle.reg_world.proofs.lists.Pushed.{one_more}
 use Rattle.reg_world.proofs.books.new_callers.Goals as goal
 
-one_more : {X : Type 0} (n : ℕ) (x y : X) (old new : List X) → old ≡ replicate n x → y ≡ x → new ≡ old ++ y ∷ [] → new ≡ replicate (n + 1) x
-one_more n x y old new so_far same pushed =
-    pushed ∙ ap (λ l. l ++ y ∷ []) so_far ∙ ap (λ z. replicate n x ++ z ∷ []) same ∙ replicate-append-replicate n 1 x
-
 pub loop-i-preserved : goal.loop-i-preserved
-loop-i-preserved g c = one_more c.loop-i._i no_calls _ c.loop-i.callers.items c.push.new.self.items c.loop-i.invariant c.new.ensures c.in_ok-push.ensures.items
+loop-i-preserved g c = one_more (λ k. replicate k no_calls) c.loop-i._i no_calls _ c.loop-i.callers.items c.push.new.self.items (replicate_more c.loop-i._i no_calls) c.loop-i.invariant c.new.ensures c.in_ok-push.ensures.items
 
 pub returns : goal.returns
 returns g c =

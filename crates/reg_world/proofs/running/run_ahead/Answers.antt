@@ -48,3 +48,6 @@ returns-clause-accepted g c =
     let b = c.args.book.now in
     let whole : take c.loop-at.at b.ahead ≡ b.ahead = take_all c.loop-at.at b.ahead (omega (arith, c.loop-at-test.false, c.requires.count)) in
     subst (λ (z : List Event). (run_in g.F.FrontEnd.start (after_events g.F.FrontEnd.start b.shape z)).accepted ≡ z) whole c.loop-at.invariant.1.all
+
+pub loop-at-smaller : goal.loop-at-smaller
+loop-at-smaller g c = omega (arith, c.loop-at-test.true)

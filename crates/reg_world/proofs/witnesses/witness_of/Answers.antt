@@ -1,7 +1,7 @@
-use Rattle.std.proofs.Common.{◌≡◌, ◌++◌, ◌∙◌, ap}
-use Rattle.std.proofs.lemmas.List.{take_all}
+use Rattle.std.proofs.Common.{◌≡◌, ◌++◌, ◌∙◌, sym, ap}
+use Rattle.std.proofs.lemmas.List.{take_all, append-nil}
 use Rattle.reg_world.specs.Witnesses.{is_kept, ids_of, merge}
-use Rattle.reg_world.proofs.code.Reading.{all_ids, ids_read}
+use Rattle.reg_world.proofs.code.Reading.{all_ids, ids_read, read_more}
 use Rattle.reg_world.proofs.witnesses.witness_of.Goals as goal
 
 pub returns : goal.returns
@@ -22,3 +22,9 @@ returns g c =
       lost_sorted = c.in_ok-lost.ensures;
       merged = all_ids kept reads lost order ids c.loop-cast.ids.items first rest;
     }
+
+pub loop-cast-init : goal.loop-cast-init
+loop-cast-init g c = sym (append-nil c.push_merged.new.ids.items)
+
+pub loop-cast-preserved : goal.loop-cast-preserved
+loop-cast-preserved g c = read_more c.deref-cast-items.result.now c.loop-cast.cast-index _ c.push_merged.new.ids.items c.loop-cast.ids.items c.push.new.self.items c.loop-cast-test.true c.loop-cast.invariant c.in_ok-push.ensures.items

@@ -1,7 +1,9 @@
-use Rattle.std.proofs.Common.{◌∙◌, ◌++◌, ◌-◌, length, ap, subst, arith, length-set}
+use Rattle.std.proofs.Common.{◌∙◌, ◌++◌, ◌-◌, length, List, ℕ, ap, sym, subst, arith, length-set}
 use Rattle.reg_base.specs.Order.{In}
+use Rattle.reg_orders.specs.History.{IsAt}
+use Rattle.reg_world.specs.Tallies.{Tally}
 use Rattle.reg_world.specs.World.{op_id, calls_in}
-use Rattle.reg_world.specs.Pages.{Pages, tally_at, calls_after}
+use Rattle.reg_world.specs.Pages.{Pages, tally_at, tallies_after, calls_after, CallFits, TimesDiffer}
 use Rattle.reg_world.proofs.code.Entering.{call_good, answer_good}
 use Rattle.reg_world.proofs.books.Book.enter.Goals as goal
 
@@ -33,3 +35,29 @@ push_firsts-requires-clause-casters g c = λ d i.
     let size = ap length c.in_ok-ids.ensures.callers in
     let same = simp length-set at size in
     omega (arith, h, tallies, same)
+
+pub push_call-requires-clause-room : goal.push_call-requires-clause-room
+push_call-requires-clause-room g c = let room = c.in_ok-reserve_all.ensures.entries_room in omega (arith, room)
+
+pub push_answer-requires-clause-room : goal.push_answer-requires-clause-room
+push_answer-requires-clause-room g c = let room = c.in_ok-reserve_all.ensures.entries_room in let left = c.push_call.ensures.room in omega (arith, room, left)
+
+pub push_read-requires : goal.push_read-requires
+push_read-requires g c = let room = c.in_ok-reserve_all.ensures.reads_room in omega (arith, room)
+
+pub push_firsts-requires-clause-room : goal.push_firsts-requires-clause-room
+push_firsts-requires-clause-room g c = let room = c.in_ok-reserve_all.ensures.order_room in let size = c.len.ensures in let same = c.deref.ensures.len in omega (arith, room, size, same)
+
+pub add-requires : goal.add-requires
+add-requires g c = c.in_ok-reserve_all.ensures.accepted_room
+
+pub enter_caller-requires-clause-process : goal.enter_caller-requires-clause-process
+enter_caller-requires-clause-process g c = let l = c.requires.process in let view = ap (λ (x : Pages). length x.tallies) c.self.view_is in omega (arith, l, view)
+
+pub enter_caller-requires-clause-calls : goal.enter_caller-requires-clause-calls
+enter_caller-requires-clause-calls g c = subst (λ (x : Pages). CallFits c.args.step.now (tally_at x.tallies c.args.process).calls) (sym c.self.view_is) c.requires.calls
+
+pub push_firsts-requires-clause-differ : goal.push_firsts-requires-clause-differ
+push_firsts-requires-clause-differ g c =
+    let same = c.in_ok-ids.ensures.callers ∙ ap (λ (x : Pages). tallies_after x.tallies c.args.process c.args.step.now c.args.runs c.args.outcome.now.cast) c.self.view_is in
+    subst (λ (l : List Tally). (q : ℕ) (t : Tally) → IsAt l q t → TimesDiffer t.casts) (sym same) c.requires.once

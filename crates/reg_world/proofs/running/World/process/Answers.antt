@@ -17,3 +17,12 @@ returns-in-Some-clause-process g c =
     let stations = c.deref.ensures.value in
     process_told g.F.FrontEnd.start g.met.F.FrontEnd.lawful c.self.inside.failed c.self.inside.book c.self.inside.stations.items c.self.invariant c.args.self.now c.self.view_is c.args.process c.from.result c.in-Some.station.now c.process.result.now c.from.ensures
     (let l = found.3.0 in let z = ap length stations in omega (arith, l, z)) (subst (λ (l : List Standing). c.in-Some.station.now ≡ get_or l c.from.result c.in-Some.station.now) stations found.1) c.process.ensures.failed c.process.ensures.state
+
+pub returns-in-None-clause-process : goal.returns-in-None-clause-process
+returns-in-None-clause-process g c =
+    let past = c.in-None.ensures.lookup.3 in
+    let stations = ap length c.deref.ensures.value in
+    let size = c.self.invariant.size in
+    let view = ap (λ (m : Made). m.processes) c.self.view_is in
+    let from = c.from.ensures in
+    omega (arith, past, stations, size, view, from)

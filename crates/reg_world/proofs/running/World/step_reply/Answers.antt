@@ -1,7 +1,8 @@
-use Rattle.std.proofs.Common.{◌∙◌, ap, sym}
+use Rattle.std.proofs.Common.{◌∙◌, Bool, refl, ap, sym, subst}
 use Rattle.std.proofs.lemmas.Result.{err_from_is_err_and}
 use Rattle.reg_world.specs.Worlds.{Made}
-use Rattle.reg_world.specs.WorldParts.{found}
+use Rattle.reg_world.specs.Pages.{Pages}
+use Rattle.reg_world.specs.WorldParts.{IsWorld, found}
 use Rattle.reg_world.proofs.code.Stepping.{refuses_is, move_found, none_is, accepts_is, grows_is, stopped_is, stopped_world}
 use Rattle.reg_world.proofs.running.World.step_reply.Goals as goal
 
@@ -38,3 +39,21 @@ returns-in-Err-clause-made g c = (
       (ap (λ l. found l c.self.inside.book c.args.event.now) (sym c.deref.ensures.value) ∙ (sym c.found.ensures ∙ c.in_ok-process.was)),
   stopped_is g.F.FrontEnd.start c.self.inside.failed c.self.inside.book c.self.inside.stations.items c.self.invariant c.if-self.false c.args.event.now c.args.self.now c.self.view_is c.advance.new.book c.in-Err.ensures.made.0,
 )
+
+pub advance-requires-clause-world : goal.advance-requires-clause-world
+advance-requires-clause-world g c = subst (λ (b : Bool). IsWorld g.F.FrontEnd.start b c.self.inside.stations.items c.self.inside.book) c.if-self.false c.self.invariant
+
+pub invariant_of-self : goal.invariant_of-self
+invariant_of-self g c = subst (λ (b : Bool). IsWorld g.F.FrontEnd.start b c.advance.new.stations.items c.advance.new.book) (sym c.if-self.false) c.in-Ok.ensures.made.world
+
+pub returns-in-Err-clause-history : goal.returns-in-Err-clause-history
+returns-in-Err-clause-history g c = ap (λ (b : Pages). b.entries) c.in-Err.ensures.made.0 ∙ ap Made.history c.self.view_is
+
+pub returns-in-Err-clause-accepted : goal.returns-in-Err-clause-accepted
+returns-in-Err-clause-accepted g c = ap (λ (b : Pages). b.accepted) c.in-Err.ensures.made.0 ∙ ap Made.accepted c.self.view_is
+
+pub returns-in_err-process-clause-history : goal.returns-in_err-process-clause-history
+returns-in_err-process-clause-history g c = let p = err_from_is_err_and c.from_residual.result c.from_residual.ensures.1 in rw p.1 refl
+
+pub returns-in_err-process-clause-accepted : goal.returns-in_err-process-clause-accepted
+returns-in_err-process-clause-accepted g c = let p = err_from_is_err_and c.from_residual.result c.from_residual.ensures.1 in rw p.1 refl
