@@ -1,4 +1,5 @@
-use Rattle.std.proofs.Common.{◌≡◌, List, take, sym, ap, ◌∙◌, subst, false, arith}
+use Rattle.std.proofs.Common.{◌≡◌, ◌<◌, ℕ, zero, suc, List, [], ◌∷◌, None, length, take, drop, sym, ap, ◌∙◌, subst, false, arith}
+use Rattle.std.specs.Prelude.{slice_get}
 use Rattle.std.proofs.lemmas.List.{take_all}
 use Rattle.reg_world.specs.declared.events.Event.{Event}
 use Rattle.reg_world.specs.Worlds.{Accepts, Refuses, after_events, run_in}
@@ -6,6 +7,13 @@ use Rattle.reg_world.specs.WorldParts.{made_of}
 use Rattle.reg_world.proofs.code.Ahead.{first_ahead, next_ahead}
 use Rattle.reg_world.proofs.code.Answering.{run_refuses, run_goes_on}
 use Rattle.reg_world.proofs.running.run_ahead.Goals as goal
+
+-- an event is left
+not_none : (at : ℕ) (events : List Event) → None ≡ slice_get (drop at events) 0 → at < length events → ⊥
+not_none zero [] none l = omega arith
+not_none zero (x ∷ xs) none l = cc
+not_none (suc at) [] none l = omega arith
+not_none (suc at) (x ∷ xs) none l = not_none at xs none (omega arith)
 
 pub returns-in-Err-clause-made : goal.returns-in-Err-clause-made
 returns-in-Err-clause-made g c =
@@ -51,3 +59,8 @@ returns-clause-accepted g c =
 
 pub loop-at-smaller : goal.loop-at-smaller
 loop-at-smaller g c = omega (arith, c.loop-at-test.true)
+
+pub unreachable-requires : goal.unreachable-requires
+unreachable-requires g c =
+    let b = c.args.book.now in
+    not_none c.loop-at.at b.ahead (subst (λ (l : List Event). None ≡ slice_get l 0) c.loop-at.invariant.2 c.in_default.ensures) (omega (arith, c.loop-at-test.true, c.requires.count))
