@@ -1,4 +1,4 @@
-use Rattle.std.proofs.Common.{refl, arith}
+use Rattle.std.proofs.Common.{refl}
 use Rattle.reg_world.proofs.code.Reading.{reads_stop, reads_more, reads_all}
 use Rattle.reg_world.proofs.witnesses.push_reads.Goals as goal
 
