@@ -1,5 +1,6 @@
 //! The bytes of a frame.
-ghost use Rattle.std.specs.Prelude.{◌≡◌, ◌+◌, ◌++◌, length, OnOk, IfOk, MatchResult};
+ghost use Rattle.std.specs.Prelude.{◌≡◌, ◌+◌, ◌∷◌, ◌++◌, length, OnOk, IfOk, MatchResult};
+ghost use Rattle.std.specs.Int.{w16, w64, to_be_bytes};
 ghost use Rattle.reg_frames.specs.Spelling.{op_bytes, body_bytes, payload, version_of as version_of_frame, spelling, Spells, Refuses};
 
 use crate::bodies::{Body, Frame};
@@ -54,26 +55,32 @@ fn version_of(frame: Frame) -> u8
     }
 }
 
+/// The byte of the operation, its register and its value.
+fn put_valued<A: Allocator + Copy>(
+    bytes: &mut Vec<u8, A>,
+    kind: u8,
+    register: u16,
+    value: u64,
+) -> Result<(), AllocError>
+    ensures { OnOk result (bytes.new.items ≡ bytes.old.items ++ kind ∷ (to_be_bytes w16 register ++ to_be_bytes w64 value)) }
+{
+    bytes.push(kind)?;
+    bytes.extend_from_slice(&register.to_be_bytes())?;
+    bytes.extend_from_slice(&value.to_be_bytes())?;
+    Ok(())
+}
+
 fn put_op<A: Allocator + Copy>(bytes: &mut Vec<u8, A>, op: Op) -> Result<(), AllocError>
     ensures { OnOk result (bytes.new.items ≡ bytes.old.items ++ op_bytes op) }
 {
     match op {
         Op::Read { register } => {
             bytes.push(1)?;
-            bytes.extend_from_slice(&register.to_be_bytes())?;
+            bytes.extend_from_slice(&register.to_be_bytes())
         }
-        Op::Write { register, value } => {
-            bytes.push(2)?;
-            bytes.extend_from_slice(&register.to_be_bytes())?;
-            bytes.extend_from_slice(&value.to_be_bytes())?;
-        }
-        Op::Swap { register, value } => {
-            bytes.push(3)?;
-            bytes.extend_from_slice(&register.to_be_bytes())?;
-            bytes.extend_from_slice(&value.to_be_bytes())?;
-        }
+        Op::Write { register, value } => put_valued(bytes, 2, register, value),
+        Op::Swap { register, value } => put_valued(bytes, 3, register, value),
     }
-    Ok(())
 }
 
 fn put_body<A: Allocator + Copy>(bytes: &mut Vec<u8, A>, body: Body) -> Result<(), AllocError>
