@@ -1,5 +1,5 @@
 //! Operations, their names and answers, and one memory.
-ghost use Rattle.std.specs.Prelude.{◌≡◌, ◌<◌, ◌↔◌, ℕ, List, IsTrue, IfOk, SomeIff, length, slice_get};
+ghost use Rattle.std.specs.Prelude.{◌≡◌, ◌<◌, ◌↔◌, ℕ, List, IsTrue, IfOk, SomeIff, length, slice_get, slice_set};
 ghost use Rattle.reg_base.specs.Memory.{register_of, updates, answer_of, after, blank};
 
 use std::alloc::{AllocError, Allocator, Global};
@@ -141,6 +141,15 @@ impl<A: Allocator + Copy> Registers<A> {
         }
     }
 
+    /// Replaces a register's value, and gives the old one. None past the last.
+    fn replace(&mut self, register: u16, value: u64) -> Option<u64>
+        ensures old { result ≡ slice_get self.old register }
+        ensures memory { self.new ≡ slice_set self.old register value }
+    {
+        let kept = self.values.get_mut(register as usize)?;
+        Some(mem::replace(kept, value))
+    }
+
     /// Applies an operation and answers it. None comes only for a register past the last, and nothing has changed then.
     pub fn apply(&mut self, op: &Op) -> Option<Answer>
         ensures answer { SomeIff result (register_of op.now < length self.old) (answer_of op.now self.old) }
@@ -149,14 +158,10 @@ impl<A: Allocator + Copy> Registers<A> {
         match *op {
             Op::Read { register } => Some(Answer::Value(self.get(register)?)),
             Op::Write { register, value } => {
-                let kept = self.values.get_mut(register as usize)?;
-                *kept = value;
+                self.replace(register, value)?;
                 Some(Answer::Done)
             }
-            Op::Swap { register, value } => {
-                let kept = self.values.get_mut(register as usize)?;
-                Some(Answer::Value(mem::replace(kept, value)))
-            }
+            Op::Swap { register, value } => Some(Answer::Value(self.replace(register, value)?)),
         }
     }
 }

@@ -1,5 +1,6 @@
 use Rattle.std.proofs.Common.{Some, None, ◌≡◌, arith, refl, ap, sym, ◌∙◌, subst}
 use Rattle.std.proofs.lemmas.Bool.Decides.{nat_tests}
+use Rattle.std.proofs.lemmas.Grind.{common_steps}
 use Rattle.reg_base.specs.Names.{texts, first_repeat}
 use Rattle.reg_base.specs.Chains.{AreChains}
 use Rattle.reg_base.proofs.NamesLaws.{fault_is}
@@ -24,3 +25,9 @@ pub returns-in-Ok : goal.returns-in-Ok
 returns-in-Ok g c =
     let none : None ≡ first_repeat (texts c.args.names.items) = sym c.in-Ok.ensures.1 ∙ ap (λ names. first_repeat (texts names)) c.deref-2.ensures.value in
     (refl, fault_is c.args.names.items None None (grind (arith, nat_tests)) (omega arith) (cc) none)
+
+pub returns-then-is_empty : goal.returns-then-is_empty
+returns-then-is_empty g c = grind (arith, common_steps)
+
+pub returns-then-len : goal.returns-then-len
+returns-then-len g c = grind (arith, common_steps)
