@@ -1,4 +1,5 @@
 use Rattle.std.proofs.Common.{◌≡◌, ◌∷◌, ◌++◌, [], replicate, sym, ap, ◌∙◌, arith, add-one}
+use Rattle.std.proofs.lemmas.Grind.{common_steps}
 use Rattle.reg_process.proofs.Again.{replicate_more}
 use Rattle.reg_process.proofs.puts.new_inboxes.Goals as goal
 
@@ -20,3 +21,6 @@ pub returns : goal.returns
 returns g c =
     let end : c.loop-i._i ≡ c.args.count = let t = c.loop-i-test.false in omega (arith, t) in
     c.loop-i.invariant.items ∙ ap (λ n. replicate n 0) end
+
+pub push_reserved-requires : goal.push_reserved-requires
+push_reserved-requires g c = grind (arith, common_steps)
