@@ -81,19 +81,9 @@ fn told_to_draw<A: Allocator + Copy>(alloc: A, text: &str) -> Result<Told<A>, Sh
     }
 }
 
-/// Writes a drawing, to the last byte.
-fn send_drawing<A: Allocator + Copy, W: Write>(
-    writer: &mut W,
-    drawing: &Drawing<'_, A>,
-) -> Result<(), ShowFault>
-    ensures { IfErr result (λ f. f ≡ ShowFault.Command Fault.Output) }
-{
-    if write_drawing(writer, drawing).is_err() || writer.flush().is_err() {
-        return Err(ShowFault::Command {
-            fault: Fault::Output,
-        });
-    }
-    Ok(())
+/// Writes a drawing, and tells whether all of it went out.
+fn is_sent<A: Allocator + Copy, W: Write>(writer: &mut W, drawing: &Drawing<'_, A>) -> bool {
+    write_drawing(writer, drawing).is_ok() && writer.flush().is_ok()
 }
 
 /// Reads a schedule, and writes the space-time diagram of its run.
@@ -113,5 +103,10 @@ pub(crate) fn draw<A: Allocator + Copy, W: Write>(
             fault: Fault::OutOfMemory,
         });
     };
-    send_drawing(writer, &drawing)
+    if !is_sent(writer, &drawing) {
+        return Err(ShowFault::Command {
+            fault: Fault::Output,
+        });
+    }
+    Ok(())
 }

@@ -23,9 +23,9 @@ type Receipts = Vec<Vec<Receipt>>;
 fn carry<R: Threads + Wait + Copy + Send + Sync + 'static>(
     rt: R,
     courier: Courier<Linear, NoGate>,
-    road: Lossy,
+    road: &Lossy,
 ) -> anyhow::Result<JoinHandle<Courier<Linear, NoGate>>> {
-    let mut courier = courier;
+    let (mut courier, road) = (courier, Arc::try_clone(road)?);
     let started = thread::spawn(&rt, move || {
         courier.run(&rt, &road);
         courier
@@ -51,11 +51,11 @@ fn carry_all<R: Threads + Wait + Copy + Send + Sync + 'static>(
     rt: R,
     alloc: Global,
     couriers: Vec<Courier<Linear, NoGate>>,
+    road: &Lossy,
 ) -> anyhow::Result<Vec<JoinHandle<Courier<Linear, NoGate>>>> {
-    let road = Arc::new(alloc, Rough::new(SeedWords::new(7), 20, 20))?;
     let mut carriers = Vec::new(alloc);
     for courier in couriers {
-        carriers.push(carry(rt, courier, Arc::try_clone(&road)?)?)?;
+        carriers.push(carry(rt, courier, road)?)?;
     }
     Ok(carriers)
 }
@@ -120,7 +120,25 @@ fn make_parts<R: Wait>(rt: &R, alloc: Global) -> anyhow::Result<Parts<Linear, No
     }
 }
 
-/// Has one thread write and another one read, and closes the cluster.
+/// Has one thread write and another one read while the couriers and the pacer run, and gives the pacer back.
+fn run<R: Threads + Wait + Clock + Copy + Send + Sync + 'static>(
+    rt: R,
+    alloc: Global,
+    cluster: &Cluster<Linear, NoGate>,
+    passes: &mut Vec<Pass<Linear, NoGate>>,
+    couriers: Vec<Courier<Linear, NoGate>>,
+    pacer: Pacer<Linear, NoGate>,
+) -> anyhow::Result<Pacer<Linear, NoGate>> {
+    let road = Arc::new(alloc, Rough::new(SeedWords::new(7), 20, 20))?;
+    let pacer = pace(rt, pacer)?;
+    let carriers = carry_all(rt, alloc, couriers, &road)?;
+    let shared = perform_both(rt, passes);
+    stop_all(&rt, cluster, carriers);
+    shared?;
+    Ok(pacer.join(&rt))
+}
+
+/// Runs a cluster, and closes it.
 fn share<R: Threads + Wait + Clock + Copy + Send + Sync + 'static>(
     rt: R,
     alloc: Global,
@@ -131,11 +149,7 @@ fn share<R: Threads + Wait + Clock + Copy + Send + Sync + 'static>(
         couriers,
         pacer,
     } = make_parts(&rt, alloc)?;
-    let carriers = carry_all(rt, alloc, couriers)?;
-    let pacer = pace(rt, pacer)?;
-    perform_both(rt, &mut passes)?;
-    stop_all(&rt, &cluster, carriers);
-    let pacer = pacer.join(&rt);
+    let pacer = run(rt, alloc, &cluster, &mut passes, couriers, pacer)?;
     match close(&rt, alloc, cluster, passes, Vec::new(alloc), pacer) {
         Ok(closed) => Ok(closed),
         Err(_) => Err(anyhow!("not closed")),
