@@ -1,5 +1,5 @@
 //! The counted parts of a report.
-ghost use Rattle.std.specs.Prelude.{◌≡◌, ◌≢◌, ◌<◌, ◌≤◌, length, ℕ, List, [], ◌∷◌, ◌++◌, None, Some, Err, IfOk, IfErr, MatchResult, codes, Option, option_map, string_bytes, true, false};
+ghost use Rattle.std.specs.Prelude.{◌≡◌, ◌≢◌, ◌<◌, ◌≤◌, length, ℕ, List, [], ◌∷◌, ◌++◌, None, Some, Ok, Err, IfOk, IfErr, OnOk, MatchResult, codes, Option, option_map, string_bytes, true, false};
 ghost use Rattle.std.specs.Fmt.{decimal};
 ghost use Rattle.reg_base.specs.Names.{names_fault};
 ghost use Rattle.reg_base.specs.declared.memory.OpId.{OpId};
@@ -9,6 +9,7 @@ ghost use Rattle.reg_history.specs.EntryLines.{entry_text};
 ghost use Rattle.reg_history.specs.Reports.{is_front as is_front_of};
 ghost use Rattle.reg_history.specs.IdLines.{id_text, IdFits, point_text, PointFits};
 ghost use Rattle.reg_text.specs.Forms.{is_numeral};
+ghost use Rattle.reg_text.specs.Inner.{IsBlock};
 ghost use Rattle.reg_history.specs.LineForms.{Follows, IsCounted};
 ghost use Rattle.reg_history.specs.Reports.{tail_lines, PointsFit, head_lines};
 ghost use Rattle.reg_history.specs.declared.versions.Version.{Version};
@@ -144,6 +145,59 @@ fn read_order<A: Allocator + Copy>(
     read_block(alloc, lines, count as u32, version)
 }
 
+/// That no line is left.
+fn expect_none(lines: &mut Lines<'_>) -> Result<(), ReadFault>
+    ensures read { OnOk result (lines.old.left ≡ []) }
+    ensures whole { lines.old.left ≡ [] → result ≡ Ok tt }
+    ensures further { (line : List ℕ) (rest : List (List ℕ)) → lines.old.left ≡ line ∷ rest → result ≡ Err (ReadFault.Line lines.new.number ReadWhy.End) }
+{
+    if lines.next().is_some() {
+        return Err(at_line(lines, ReadWhy::End));
+    }
+    Ok(())
+}
+
+/// The last line, with none behind it.
+fn read_end(lines: &mut Lines<'_>) -> Result<(), ReadFault>
+    ensures read { OnOk result (lines.old.left ≡ codes "end" ∷ []) }
+    ensures whole { lines.old.left ≡ codes "end" ∷ [] → result ≡ Ok tt }
+{
+    expect_line(lines, b"end")?;
+    expect_none(lines)
+}
+
+/// How many points a line announces.
+fn points_count(lines: &Lines<'_>, line: &[u8]) -> Result<u32, ReadFault>
+    ensures read { IfOk result (λ n. (line.now ≡ codes "points " ++ decimal n) × (n ≤ MOST_IDS)) }
+    ensures whole { (n : ℕ) → n ≤ MOST_IDS → line.now ≡ codes "points " ++ decimal n → result ≡ Ok n }
+    ensures form { ((digits : List ℕ) → line.now ≡ codes "points " ++ digits → is_numeral digits ≡ false) → result ≡ Err (ReadFault.Line lines.now.number ReadWhy.Form) }
+    ensures range { (digits : List ℕ) → is_numeral digits ≡ true → line.now ≡ codes "points " ++ digits → ((n : ℕ) → n ≤ MOST_IDS → ¬ (digits ≡ decimal n)) → result ≡ Err (ReadFault.Line lines.now.number ReadWhy.Range) }
+{
+    let Some(digits) = skip(line, b"points ") else {
+        return Err(at_line(lines, ReadWhy::Form));
+    };
+    match numeral_within(digits, MOST_IDS as u64) {
+        Some(count) => Ok(count as u32),
+        None => Err(at_line(lines, ReadWhy::from(why_number(digits)))),
+    }
+}
+
+/// As many points as the count says, and the last line.
+fn read_points<A: Allocator + Copy>(
+    alloc: A,
+    lines: &mut Lines<'_>,
+    count: u32,
+    version: Version,
+) -> Result<Vec<Point, A>, ReadFault>
+    ensures read { IfOk result (λ v. IsBlock point_text (λ _ p. PointFits version p) count lines.old.left (codes "end" ∷ []) v.items) }
+    ensures whole { (ys : List Point) → IsBlock point_text (λ _ p. PointFits version p) count lines.old.left (codes "end" ∷ []) ys
+        → MatchResult result (λ v. v.items ≡ ys) (λ f. f ≡ ReadFault.OutOfMemory) }
+{
+    let points = read_block(alloc, lines, count, version)?;
+    read_end(lines)?;
+    Ok(points)
+}
+
 /// The points of a report, if it has any, and its last line.
 fn read_tail<A: Allocator + Copy>(
     alloc: A,
@@ -162,22 +216,13 @@ fn read_tail<A: Allocator + Copy>(
         return Err(at_line(lines, ReadWhy::End));
     };
     if line == b"end".as_slice() {
-        if lines.next().is_some() {
-            return Err(at_line(lines, ReadWhy::End));
-        }
-        return Ok(None);
+        return match expect_none(lines) {
+            Ok(()) => Ok(None),
+            Err(fault) => Err(fault),
+        };
     }
-    let Some(digits) = skip(line, b"points ") else {
-        return Err(at_line(lines, ReadWhy::Form));
-    };
-    let Some(count) = numeral_within(digits, MOST_IDS as u64) else {
-        return Err(at_line(lines, ReadWhy::from(why_number(digits))));
-    };
-    let points = read_block(alloc, lines, count as u32, version)?;
-    expect_line(lines, b"end")?;
-    if lines.next().is_some() {
-        return Err(at_line(lines, ReadWhy::End));
-    }
+    let count = points_count(lines, line)?;
+    let points = read_points(alloc, lines, count, version)?;
     Ok(Some(points))
 }
 
