@@ -8,4 +8,6 @@ pub mod Columned
 mod Numerals
 mod Counted
 mod PassedOn
+mod Firsts
+mod Formed
 pub mod Tails

@@ -1,8 +1,10 @@
 -- Names on lines of their own.
-use Rattle.std.proofs.Common.{ℕ, zero, suc, ◌≡◌, ◌<◌, List, [], ◌∷◌, ◌++◌, length, map, get_or, None, Some, slice_get, true, refl, sym, ap, ◌∙◌, subst, arith}
+use Rattle.std.proofs.Common.{ℕ, zero, suc, ◌≡◌, ◌<◌, List, [], ◌∷◌, ◌++◌, codes, length, map, get_or, None, Some, slice_get, true, refl, sym, ap, ◌∙◌, subst, arith}
+use Rattle.std.specs.Fmt.{decimal}
 use Rattle.reg_base.specs.Names.{is_name, names_fault}
 use Rattle.reg_text.specs.Inner.{IsBlock}
 use Rattle.reg_text.proofs.NamesLack.{well_spelt}
+use Rattle.reg_history.specs.Reports.{counted_lines}
 
 each : (ns : List (List ℕ)) → ((r : ℕ) → r < length ns → is_name (get_or ns r []) ≡ true) → (k : ℕ) (x : List ℕ) → slice_get ns k ≡ Some x → is_name x ≡ true
 each [] h k x e = absurd (cc)
@@ -25,3 +27,8 @@ listed ns old rest count ok size e = record { lines = e ∙ ap (λ l. l ++ rest)
 pub some_name : (ns : List (List ℕ)) → names_fault ns ≡ None → 0 < length ns
 some_name [] ok = absurd (cc)
 some_name (n ∷ ns) ok = omega arith
+
+-- the count of names, and a line for each
+pub counted_names : (old mid rest ns : List (List ℕ)) (count : ℕ) → old ≡ (codes "registers " ++ decimal count) ∷ mid → mid ≡ ns ++ rest → length ns ≡ count → old ≡ counted_lines (codes "registers ") (λ name. name) ns rest
+counted_names old mid rest ns count e f size =
+    e ∙ ap (λ l. (codes "registers " ++ decimal count) ∷ l) (f ∙ ap (λ l. l ++ rest) (sym (map_same ns))) ∙ ap (λ k. (codes "registers " ++ decimal k) ∷ (map (λ name. name) ns ++ rest)) (sym size)

@@ -1,6 +1,7 @@
-use Rattle.std.proofs.Common.{◌≡◌, true, ap, ◌∙◌, arith, rules}
+use Rattle.std.proofs.Common.{refl, ap, sym, ◌∙◌, arith}
 use Rattle.reg_text.specs.Forms.{is_numeral}
-use Rattle.reg_text.proofs.Formed.{numeral_lacks}
+use Rattle.reg_text.proofs.Formed.{numeral_lacks, no_truth}
+use Rattle.reg_history.proofs.Formed.{point_formed}
 use Rattle.reg_history.proofs.id_lines.point_form.Goals as goal
 
 pub returns-in_err-event-clause-whole : goal.returns-in_err-event-clause-whole
@@ -13,16 +14,16 @@ pub returns-in_err-form-clause-whole : goal.returns-in_err-form-clause-whole
 returns-in_err-form-clause-whole c = λ p n a h.
     let first = c.in_ok-rest.ensures.whole p _ h.0 h.3 in
     let second = c.in_ok-number.ensures.whole n _ (numeral_lacks 32 n (omega arith) h.1) first.1 in
-    let good : c.is_numeral.result ≡ true = c.is_numeral.ensures ∙ ap is_numeral second.0 ∙ h.1 in
-    search (rules, good)
+    no_truth (c.in_err-form.ensures.1 (c.is_numeral.ensures ∙ ap is_numeral second.0 ∙ h.1))
 
 pub returns-clause-whole : goal.returns-clause-whole
 returns-clause-whole c = λ p n a h.
     let first = c.in_ok-rest.ensures.whole p _ h.0 h.3 in
     let second = c.in_ok-number.ensures.whole n _ (numeral_lacks 32 n (omega arith) h.1) first.1 in
     let third = c.in_ok-event.ensures.whole a second.1 in
-    let good : c.is_numeral-2.result ≡ true = c.is_numeral-2.ensures ∙ ap is_numeral third ∙ h.2 in
-    search (rules, good)
+    c.form-2.ensures.1 (c.is_numeral-2.ensures ∙ ap is_numeral third ∙ h.2)
 
 pub returns-clause-read : goal.returns-clause-read
-returns-clause-read c = search rules
+returns-clause-read c = λ h.
+    point_formed c.args.line.now _ c.in_ok-rest.rest.now c.in_ok-number.number.now c.in_ok-number.last.now c.in_ok-event.event.now c.in_ok-rest.ensures.read.0 c.in_ok-rest.ensures.read.1 c.in_ok-number.ensures.read.0 c.in_ok-event.ensures.read
+    (sym c.is_numeral.ensures ∙ c.in_ok-form.ensures.0 refl) (sym c.is_numeral-2.ensures ∙ c.form-2.ensures.0 h)

@@ -1,6 +1,7 @@
 use Rattle.std.proofs.Common.{◌≡◌, ℕ, ◌+◌, ◌<◌, ◌⊎◌, inl, inr, List, Some, slice_get, refl, sym, ◌∙◌, ap, subst, arith}
 use Rattle.std.proofs.lemmas.Bool.{cases_order}
 use Rattle.std.proofs.lemmas.Option.{same_Some, slice_get_read, slice_get_within}
+use Rattle.reg_text.proofs.Formed.{no_truth}
 use Rattle.reg_history.proofs.items.all_fit.Goals as goal
 
 -- one more fits
@@ -23,3 +24,8 @@ loop-item-preserved g c =
 
 pub returns : goal.returns
 returns g c = (λ yes k x is. c.loop-item.invariant k x (let inside = slice_get_within c.args.items.now k x is in omega (arith, inside, c.loop-item-test.false)) is, λ all. refl)
+
+pub returns-then-not-fits : goal.returns-then-not-fits
+returns-then-not-fits g c =
+    let here = slice_get_read c.args.items.now _ c.loop-item.item-index c.item-item.result refl c.loop-item-test.true c.item-item.is in
+    (λ yes. no_truth yes, λ all. sym c.if-not-fits.true ∙ c.fits.ensures.1 (all c.loop-item.item-index c.item-item.result here))

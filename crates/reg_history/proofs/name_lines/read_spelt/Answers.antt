@@ -1,7 +1,7 @@
-use Rattle.std.proofs.Common.{refl, sym, ap, inr, ◌∙◌, subst, arith, rules, ◌≡◌, ℕ, ◌+◌, List, [], ◌∷◌, ◌++◌, true, string_bytes}
+use Rattle.std.proofs.Common.{refl, sym, ap, inl, inr, ◌∙◌, subst, arith, rules, ◌≡◌, ℕ, ◌+◌, List, [], ◌∷◌, ◌++◌, true, string_bytes}
 use Rattle.std.proofs.lemmas.List.{map-append}
 use Rattle.reg_base.specs.Names.{is_name, texts}
-use Rattle.reg_text.proofs.Turns.{Taken, begins, steps, ended, refused, only_read}
+use Rattle.reg_text.proofs.Turns.{Taken, begins, steps, ended, refused, all_read, only_read}
 use Rattle.reg_history.specs.declared.report_faults.ReadWhy.TheVariants.{End}
 use Rattle.reg_history.proofs.Listed.{map_same}
 use Rattle.reg_history.proofs.name_lines.read_spelt.Goals as goal
@@ -72,3 +72,15 @@ returns-in-Ok-None-clause-wrong g c =
         wrong = (refl, bad, c.why_name.ensures);
       },
     )
+
+pub returns-clause-read : goal.returns-clause-read
+returns-clause-read g c =
+    let n : c.loop-place._place ≡ c.args.count = omega arith in
+    let P : ℕ → Type 0 = λ i. Taken (λ n. n) Spelled c.args.count c.args.lines.now.left c.loop-place.lines.left (texts c.loop-place.names.items) i in
+    all_read (λ n. n) Spelled c.args.count c.args.lines.now.left c.loop-place.lines.left (texts c.loop-place.names.items) (subst P n c.loop-place.invariant)
+
+pub returns-in-Err-clause-wrong : goal.returns-in-Err-clause-wrong
+returns-in-Err-clause-wrong g c = inl refl
+
+pub returns-then-is_err-clause-wrong : goal.returns-then-is_err-clause-wrong
+returns-then-is_err-clause-wrong g c = inl refl

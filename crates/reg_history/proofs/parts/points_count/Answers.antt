@@ -1,8 +1,5 @@
-use Rattle.std.proofs.Common.{ℕ, ◌≡◌, ◌≤◌, List, ◌++◌, codes, true, false, Result, Ok, Err, sym, ◌∙◌, arith}
-use Rattle.std.specs.Fmt.{decimal}
-use Rattle.reg_text.specs.Forms.{is_numeral}
+use Rattle.std.proofs.Common.{sym, ◌∙◌, arith}
 use Rattle.reg_text.proofs.Formed.{number_form, no_truth}
-use Rattle.reg_history.specs.declared.report_limits.TheConstants.{MOST_IDS}
 use Rattle.reg_history.proofs.parts.points_count.Goals as goal
 
 pub returns-in-Some-numeral_within-clause-form : goal.returns-in-Some-numeral_within-clause-form

@@ -1,4 +1,4 @@
-use Rattle.std.proofs.Common.{◌≡◌, ◌≤◌, ℕ, List, ◌∷◌, ◌++◌, codes, sym, subst}
+use Rattle.std.proofs.Common.{◌≡◌, ◌≤◌, ℕ, List, ◌∷◌, ◌++◌, codes, refl, sym, subst, ◌∙◌, arith}
 use Rattle.std.specs.Fmt.{decimal}
 use Rattle.reg_base.specs.Shape.{Extent}
 use Rattle.reg_orders.specs.declared.entries.Entry.{Entry}
@@ -8,7 +8,7 @@ use Rattle.reg_history.specs.EntryLines.{entry_text}
 use Rattle.reg_history.specs.declared.versions.Version.{Version}
 use Rattle.reg_history.specs.declared.report_limits.TheConstants.{MOST_ENTRIES}
 use Rattle.reg_history.proofs.Counted.{block_of, counted_of}
-use Rattle.reg_history.proofs.PassedOn.{memory_passed_on}
+use Rattle.reg_history.proofs.PassedOn.{memory_passed_on, nothing_read}
 use Rattle.reg_history.proofs.parts.read_history.Goals as goal
 
 -- the block behind a count
@@ -39,3 +39,27 @@ pub returns-clause-whole : goal.returns-clause-whole
 returns-clause-whole g c = λ ys rest b.
     let k = block c.args.version c.args.names.now c.args.shape c.in-Ok.history.shape c.args.lines.now.left c.read_count.new.lines.left rest c.in_ok-count.count ys c.in-Ok.ensures.0 c.in_ok-count.ensures.whole b in
     c.in_ok-read_entries.ensures.whole ys rest k
+
+pub returns-in_err-count-clause-shape : goal.returns-in_err-count-clause-shape
+returns-in_err-count-clause-shape g c = nothing_read c.from_residual.result _ _ c.from_residual.ensures.1
+
+pub returns-in_err-count-clause-read : goal.returns-in_err-count-clause-read
+returns-in_err-count-clause-read g c = nothing_read c.from_residual.result _ _ c.from_residual.ensures.1
+
+pub returns-in_err-count-clause-whole : goal.returns-in_err-count-clause-whole
+returns-in_err-count-clause-whole g c = λ ys rest b. absurd (c.in_err-count.ensures.whole _ _ b.few b.lines)
+
+pub returns-in_default-clause-whole : goal.returns-in_default-clause-whole
+returns-in_default-clause-whole g c = λ ys rest b. refl
+
+pub overflow_cast-count : goal.overflow_cast-count
+overflow_cast-count g c = omega (arith, c.in_ok-count.ensures.read.1)
+
+pub returns-in_err-read_entries-clause-shape : goal.returns-in_err-read_entries-clause-shape
+returns-in_err-read_entries-clause-shape g c = nothing_read c.from_residual-in_err-read_entries.result _ _ c.from_residual-in_err-read_entries.ensures.1
+
+pub returns-in_err-read_entries-clause-read : goal.returns-in_err-read_entries-clause-read
+returns-in_err-read_entries-clause-read g c = nothing_read c.from_residual-in_err-read_entries.result _ _ c.from_residual-in_err-read_entries.ensures.1
+
+pub returns-clause-shape : goal.returns-clause-shape
+returns-clause-shape g c = c.in_ok-read_entries.ensures.shape ∙ c.in-Ok.ensures.0
