@@ -24,11 +24,8 @@ fn name_of_line<A: Allocator + Copy>(alloc: A, line: &[u8]) -> Result<Option<Str
 {
     match owned(alloc, line)? {
         Some(name) => {
-            if is_name(name.as_str()) {
-                Ok(Some(name))
-            } else {
-                Ok(None)
-            }
+            let is_spelt = is_name(name.as_str());
+            if is_spelt { Ok(Some(name)) } else { Ok(None) }
         }
         None => Ok(None),
     }

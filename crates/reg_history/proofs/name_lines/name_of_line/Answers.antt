@@ -9,12 +9,12 @@ returns-in-None g c = λ good.
     let bad = (rw c.in-None.is at c.in_ok-name.ensures) in
     absurd (bad (name_text c.args.line.now good))
 
-pub returns-then-is_name : goal.returns-then-is_name
-returns-then-is_name g c =
+pub returns-then-is_spelt : goal.returns-then-is_spelt
+returns-then-is_spelt g c =
     let text = (rw c.in-Some.is at c.in_ok-name.ensures) in
-    (text, ap is_name (sym text ∙ sym c.as_str.ensures.value) ∙ sym c.is_name.ensures ∙ c.if-is_name.true)
+    (text, ap is_name (sym text ∙ sym c.as_str.ensures.value) ∙ sym c.is_name-is_spelt.ensures ∙ c.if-is_spelt.true)
 
-pub returns-else-is_name : goal.returns-else-is_name
-returns-else-is_name g c = λ good.
+pub returns-else-is_spelt : goal.returns-else-is_spelt
+returns-else-is_spelt g c = λ good.
     let text = (rw c.in-Some.is at c.in_ok-name.ensures) in
-    no_truth (sym c.if-is_name.false ∙ c.is_name.ensures ∙ ap is_name (c.as_str.ensures.value ∙ text) ∙ good)
+    no_truth (sym c.if-is_spelt.false ∙ c.is_name-is_spelt.ensures ∙ ap is_name (c.as_str.ensures.value ∙ text) ∙ good)
