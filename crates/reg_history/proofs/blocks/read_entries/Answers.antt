@@ -1,4 +1,4 @@
-use Rattle.std.proofs.Common.{sym, ap, ◌∙◌, subst, arith, refl, inl, inr, ◌≡◌, ℕ, ◌+◌, List, ◌∷◌, ◌++◌, map, rules}
+use Rattle.std.proofs.Common.{sym, ap, ◌∙◌, subst, arith, refl, inl, inr, ◌≡◌, ℕ, ◌+◌, List, ◌∷◌, ◌++◌, map}
 use Rattle.reg_base.specs.Shape.{Extent}
 use Rattle.reg_orders.specs.declared.entries.Entry.{Entry}
 use Rattle.reg_history.specs.declared.versions.Version.{Version}
@@ -57,7 +57,7 @@ returns-clause-whole g c = λ ys rest b.
     only_read (entry_text c.args.names.now) (Follows c.args.version c.args.names.now c.args.history.now.shape) c.args.count c.args.lines.now.left c.loop-place.lines.left c.loop-place.history.entries (subst P n c.loop-place.invariant.1) ys rest b
 
 pub returns-in-Err-OutOfPlace-clause-read : goal.returns-in-Err-OutOfPlace-clause-read
-returns-in-Err-OutOfPlace-clause-read g c = search rules
+returns-in-Err-OutOfPlace-clause-read g c = tt
 
 pub returns-in_default-read_entry-clause-wrong : goal.returns-in_default-read_entry-clause-wrong
 returns-in_default-read_entry-clause-wrong g c =
