@@ -44,10 +44,7 @@ pub fn read_block<T: Listed, A: Allocator + Copy>(
 {
     let mut items = Vec::new(alloc);
     for _place in 0..count {
-        let item = match read_item(lines, version) {
-            Ok(item) => item,
-            Err(fault) => return Err(fault),
-        };
+        let item = read_item(lines, version)?;
         if items.push(item).is_err() {
             return Err(ReadFault::OutOfMemory);
         }

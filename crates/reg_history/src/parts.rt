@@ -216,10 +216,8 @@ fn read_tail<A: Allocator + Copy>(
         return Err(at_line(lines, ReadWhy::End));
     };
     if line == b"end".as_slice() {
-        return match expect_none(lines) {
-            Ok(()) => Ok(None),
-            Err(fault) => Err(fault),
-        };
+        expect_none(lines)?;
+        return Ok(None);
     }
     let count = points_count(lines, line)?;
     let points = read_points(alloc, lines, count, version)?;

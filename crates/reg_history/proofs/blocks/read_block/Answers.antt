@@ -11,9 +11,9 @@ not_next : {X : Type 0} (line_of : X → List ℕ) (Fits : X → Type 0) (HasFor
 not_next line_of Fits HasForm n old [] xs i why l t bad ys rest b = ended line_of (λ _ x. Fits x) n old [] xs i l t refl ys rest b
 not_next line_of Fits HasForm n old (line ∷ after) xs i why l t bad ys rest b = refused line_of (λ _ x. Fits x) n old (line ∷ after) xs i l t line after refl bad.none ys rest b
 
-pub returns-in-Err-clause-whole : goal.returns-in-Err-clause-whole
-returns-in-Err-clause-whole g c = λ ys rest b.
-    absurd (not_next g.T.Listed.line_of (g.T.Listed.Fits c.args.version) g.T.Listed.HasForm c.args.count c.args.lines.now.left c.loop-place.lines.left c.loop-place.items.items c.loop-place._place c.in-Err.ensures.why.0 c.loop-place-test.true c.loop-place.invariant c.in-Err.ensures.why.2 ys rest b)
+pub returns-in_err-item-clause-whole : goal.returns-in_err-item-clause-whole
+returns-in_err-item-clause-whole g c = λ ys rest b.
+    absurd (not_next g.T.Listed.line_of (g.T.Listed.Fits c.args.version) g.T.Listed.HasForm c.args.count c.args.lines.now.left c.loop-place.lines.left c.loop-place.items.items c.loop-place._place c.in_err-item.ensures.why.0 c.loop-place-test.true c.loop-place.invariant c.in_err-item.ensures.why.2 ys rest b)
 
 pub loop-place-init : goal.loop-place-init
 loop-place-init g c =
@@ -28,11 +28,11 @@ returns-clause-read g c =
 
 pub loop-place-preserved : goal.loop-place-preserved
 loop-place-preserved g c =
-    let grown : c.push.new.self.items ≡ c.loop-place.items.items ++ c.in-Ok.item ∷ [] = search rules in
+    let grown : c.push.new.self.items ≡ c.loop-place.items.items ++ c.in_ok-item.item ∷ [] = search rules in
     let P : List _ → Type 0 = λ l. Taken g.T.Listed.line_of (λ _ x. g.T.Listed.Fits c.args.version x) c.args.count c.args.lines.now.left c.read_item.new.lines.left l (c.loop-place._place + 1) in
     subst P (sym grown) (steps g.T.Listed.line_of (λ _ x. g.T.Listed.Fits c.args.version x) c.args.count c.args.lines.now.left c.loop-place.lines.left c.loop-place.items.items c.loop-place._place c.loop-place-test.true c.loop-place.invariant
-    (g.T.Listed.line_of c.in-Ok.item) c.read_item.new.lines.left c.in-Ok.item c.in-Ok.ensures.read.1 refl c.in-Ok.ensures.read.0
-    (λ y fits e. let one = c.in-Ok.ensures.whole y c.read_item.new.lines.left fits (c.in-Ok.ensures.read.1 ∙ ap (λ l. l ∷ c.read_item.new.lines.left) e) in cc))
+    (g.T.Listed.line_of c.in_ok-item.item) c.read_item.new.lines.left c.in_ok-item.item c.in_ok-item.ensures.read.1 refl c.in_ok-item.ensures.read.0
+    (λ y fits e. let one = c.in_ok-item.ensures.whole y c.read_item.new.lines.left fits (c.in_ok-item.ensures.read.1 ∙ ap (λ l. l ∷ c.read_item.new.lines.left) e) in cc))
 
 pub returns-clause-whole : goal.returns-clause-whole
 returns-clause-whole g c = λ ys rest b.
@@ -40,10 +40,7 @@ returns-clause-whole g c = λ ys rest b.
     let P : ℕ → Type 0 = λ i. Taken g.T.Listed.line_of (λ _ x. g.T.Listed.Fits c.args.version x) c.args.count c.args.lines.now.left c.loop-place.lines.left c.loop-place.items.items i in
     only_read g.T.Listed.line_of (λ _ x. g.T.Listed.Fits c.args.version x) c.args.count c.args.lines.now.left c.loop-place.lines.left c.loop-place.items.items (subst P n c.loop-place.invariant) ys rest b
 
--- a fault says nothing of a block that was read
-pub returns-in-Err-clause-read : goal.returns-in-Err-clause-read
-returns-in-Err-clause-read g c = tt
-
+-- want of memory says nothing of a block that was read
 pub returns-then-is_err-clause-read : goal.returns-then-is_err-clause-read
 returns-then-is_err-clause-read g c = tt
 

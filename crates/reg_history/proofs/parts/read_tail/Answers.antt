@@ -34,17 +34,17 @@ returns-in_default-clause-further g c = λ line rest e. none_first (sym c.in_def
 
 pub returns-in_err-count-clause-form : goal.returns-in_err-count-clause-form
 returns-in_err-count-clause-form g c = λ line rest e other none.
-    fault_passed_on c.from_residual.result _ _ c.from_residual.ensures.1 (c.in_err-count.ensures.form (λ ds f. none ds (sym (first_line (sym c.in-Some.ensures.line ∙ e)) ∙ f)))
+    fault_passed_on c.from_residual-in_err-count.result _ _ c.from_residual-in_err-count.ensures.1 (c.in_err-count.ensures.form (λ ds f. none ds (sym (first_line (sym c.in-Some.ensures.line ∙ e)) ∙ f)))
 
 pub returns-in_err-count-clause-range : goal.returns-in_err-count-clause-range
 returns-in_err-count-clause-range g c = λ digits rest numeral e none.
-    fault_passed_on c.from_residual.result _ _ c.from_residual.ensures.1 (c.in_err-count.ensures.range digits numeral (first_line (sym c.in-Some.ensures.line ∙ e)) none)
+    fault_passed_on c.from_residual-in_err-count.result _ _ c.from_residual-in_err-count.ensures.1 (c.in_err-count.ensures.range digits numeral (first_line (sym c.in-Some.ensures.line ∙ e)) none)
 
-pub returns-in-Ok-clause-end : goal.returns-in-Ok-clause-end
-returns-in-Ok-clause-end g c = λ e. none_first (sym e ∙ c.in-Some.ensures.line)
+pub returns-then-eq-clause-end : goal.returns-then-eq-clause-end
+returns-then-eq-clause-end g c = λ e. none_first (sym e ∙ c.in-Some.ensures.line)
 
-pub returns-in-Err-clause-end : goal.returns-in-Err-clause-end
-returns-in-Err-clause-end g c = λ e. none_first (sym e ∙ c.in-Some.ensures.line)
+pub returns-in_err-expect_none-clause-end : goal.returns-in_err-expect_none-clause-end
+returns-in_err-expect_none-clause-end g c = λ e. none_first (sym e ∙ c.in-Some.ensures.line)
 
 pub returns-in_err-count-clause-end : goal.returns-in_err-count-clause-end
 returns-in_err-count-clause-end g c = λ e. none_first (sym e ∙ c.in-Some.ensures.line)
@@ -72,7 +72,7 @@ returns-clause-range g c = λ digits rest numeral e none.
     had_room c.args.lines.now.left c.next.new.self.left c.in-Some.line.now c.in_ok-count.count c.in-Some.ensures.line c.in_ok-count.ensures.read.0 c.in_ok-count.ensures.read.1 digits rest e none
 
 pub returns-in_err-count-clause-read : goal.returns-in_err-count-clause-read
-returns-in_err-count-clause-read g c = nothing_read c.from_residual.result _ _ c.from_residual.ensures.1
+returns-in_err-count-clause-read g c = nothing_read c.from_residual-in_err-count.result _ _ c.from_residual-in_err-count.ensures.1
 
 pub returns-in_err-points-clause-read : goal.returns-in_err-points-clause-read
 returns-in_err-points-clause-read g c = nothing_read c.from_residual-in_err-points.result _ _ c.from_residual-in_err-points.ensures.1
