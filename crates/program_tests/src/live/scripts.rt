@@ -3,7 +3,7 @@ use crate::live::crews::{end, last_of, parts_of, shape_of, start, told};
 use crate::values::{read, write};
 use reg_base::{Answer, Op};
 use reg_front::{Linear, LocalWrite};
-use reg_live::{Honest, LiveFault, NoGate, Parts, Pass};
+use reg_live::{Honest, LiveFault, NoGate, Pass};
 use reg_scripts::{RunStop, run_scripts};
 use std::alloc::Global;
 use std::process::Abort;
