@@ -2,6 +2,8 @@
 //! other reads from there on, so it reads what was written. It prints the same whatever the schedule.
 #![tactic(auto)]
 
+ghost use Rattle.std.specs.Prelude.{◌≤◌, IfOk};
+
 use anyhow::anyhow;
 use std::alloc::Global;
 use std::sync::{Arc, Wait};
@@ -9,8 +11,8 @@ use std::thread;
 use std::thread::{JoinHandle, Threads};
 use std::time::Clock;
 use tellwydar::{
-    Closed, Cluster, Courier, Linear, NoGate, Pacer, Parts, Pass, Receipt, Rough, SeedWords, Shape,
-    World, check_points, close, read, set_up, write,
+    Closed, Cluster, Courier, Linear, LiveFault, NoGate, Pacer, Parts, Pass, Receipt, Rough,
+    SeedWords, Shape, World, check_points, close, read, set_up, write,
 };
 
 /// One parcel of five is lost, and one of five is put twice.
@@ -18,6 +20,17 @@ type Lossy = Arc<Rough<SeedWords>>;
 
 /// What each thread was answered.
 type Receipts = Vec<Vec<Receipt>>;
+
+/// Reads at a place of the journal that is not below the front.
+fn read_from<R: Wait>(
+    rt: &R,
+    pass: &mut Pass<Linear, NoGate>,
+    front: u64,
+) -> Result<Receipt, LiveFault>
+    ensures { IfOk result (λ receipt. front ≤ receipt.called) }
+{
+    pass.perform_after(rt, read(0), front)
+}
 
 /// Starts a courier over the road.
 fn carry<R: Threads + Wait + Copy + Send + Sync + 'static>(
@@ -60,7 +73,7 @@ fn carry_all<R: Threads + Wait + Copy + Send + Sync + 'static>(
     Ok(carriers)
 }
 
-/// Writes, and has another thread read at a place of the journal behind the answer. That thread gives its pass back.
+/// Writes, and has another thread read from behind the answer on. That thread gives its pass back.
 fn write_and_read<R: Threads + Wait + Copy + Send + Sync + 'static>(
     rt: R,
     writer: &mut Pass<Linear, NoGate>,
@@ -72,7 +85,7 @@ fn write_and_read<R: Threads + Wait + Copy + Send + Sync + 'static>(
         Err(_) => 0,
     };
     let other = thread::spawn(&rt, move || {
-        let read = reader.perform_after(&rt, read(0), front);
+        let read = read_from(&rt, &mut reader, front);
         (reader, read.is_ok())
     })?;
     let (reader, _was_answered) = other.join(&rt);
