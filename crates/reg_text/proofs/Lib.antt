@@ -14,9 +14,11 @@ pub mod Worded
 pub mod Shaped
 pub mod Joining
 pub mod Shorts
+pub mod Zipped
 pub mod Found
 pub mod Formed
 pub mod OpWhys
+pub mod OpForms
 pub mod Counting
 pub mod Seen
 pub mod Sent

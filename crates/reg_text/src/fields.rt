@@ -154,9 +154,7 @@ pub fn left_field<'a>(bytes: &'a [u8], places: usize, mark: &[u8]) -> Option<(u6
     ensures whole { (n : ℕ) (rest : List ℕ) → n < 2 ^ 64 → length (decimal n) ≤ places → bytes.now ≡ to_left places (decimal n) ++ (mark.now ++ rest) → IsSomeAnd result (λ p. (p.0 ≡ n) × (p.1.now ≡ rest)) }
 {
     let (digits, after) = cut(bytes, places)?;
-    let number = left_column(digits)?;
-    let rest = skip(after, mark)?;
-    Some((number, rest))
+    left_column(digits).zip(skip(after, mark))
 }
 
 /// A number at the right of its column, a mark, and the rest.
@@ -165,9 +163,7 @@ pub fn right_field<'a>(bytes: &'a [u8], places: usize, mark: &[u8]) -> Option<(u
     ensures whole { (n : ℕ) (rest : List ℕ) → n < 2 ^ 64 → length (decimal n) ≤ places → bytes.now ≡ to_right places (decimal n) ++ (mark.now ++ rest) → IsSomeAnd result (λ p. (p.0 ≡ n) × (p.1.now ≡ rest)) }
 {
     let (digits, after) = cut(bytes, places)?;
-    let number = right_column(digits)?;
-    let rest = skip(after, mark)?;
-    Some((number, rest))
+    right_column(digits).zip(skip(after, mark))
 }
 
 fn place_of(bytes: &[u8], mark: u8) -> Option<usize>

@@ -95,8 +95,12 @@ fn valued_form<A: Allocator + Copy>(text: &[u8], names: &Names<A>) -> Option<Why
     ensures unknown { (name digits : List ℕ) → IsValuedForm text.now name digits → ((i : ℕ) → ¬ (slice_get names.now i ≡ Some name)) → result ≡ Some Why.Name }
 {
     let (name, digits) = cut_at(text, b' ')?;
-    form(is_word(name))?;
-    form(is_numeral(digits))?;
+    if !is_word(name) {
+        return None;
+    }
+    if !is_numeral(digits) {
+        return None;
+    }
     match names.find(name) {
         Some(_) => Some(Why::Range),
         None => Some(Why::Name),
@@ -114,7 +118,9 @@ pub fn op_form<A: Allocator + Copy>(text: &[u8], names: &Names<A>) -> Option<Why
     ensures unknown_swap { (name digits : List ℕ) → IsSwapForm text.now name digits → ((i : ℕ) → ¬ (slice_get names.now i ≡ Some name)) → result ≡ Some Why.Name }
 {
     if let Some(name) = skip(text, b"read ") {
-        form(is_word(name))?;
+        if !is_word(name) {
+            return None;
+        }
         return Some(Why::Name);
     }
     if let Some(rest) = skip(text, b"write ") {

@@ -22,9 +22,7 @@ fn read_valued<A: Allocator + Copy>(text: &[u8], names: &Names<A>) -> Option<(u1
     ensures whole { (register value : ℕ) → register < length names.now → value < 2 ^ 64 → text.now ≡ valued names.now register value → result ≡ Some (register, value) }
 {
     let (name, digits) = cut_at(text, b' ')?;
-    let register = names.find(name)?;
-    let value = numeral(digits)?;
-    Some((register, value))
+    names.find(name).zip(numeral(digits))
 }
 
 /// The operation that is the whole of the text. None where the text spells none with a register of these names and

@@ -1,8 +1,15 @@
-use Rattle.std.proofs.Common.{ℕ, ◌≡◌, ◌-◌, ◌++◌, length, replicate, length-append, ap, sym, ◌∙◌, arith}
+use Rattle.std.proofs.Common.{ℕ, ◌≡◌, ◌-◌, ◌++◌, length, replicate, length-append, refl, ap, sym, ◌∙◌, arith}
 use Rattle.std.proofs.lemmas.List.{length-replicate}
 use Rattle.std.specs.Fmt.{decimal}
 use Rattle.reg_text.specs.Columns.{to_left}
+use Rattle.reg_text.proofs.Zipped.{zip_read, zip_whole}
 use Rattle.reg_text.proofs.fields.left_field.Goals as goal
+
+pub returns-clause-read : goal.returns-clause-read
+returns-clause-read c =
+    let split = c.in_ok-digits.ensures.read in
+    rw c.zip.ensures (zip_read _ c.left_column.result c.skip.result c.left_column.ensures.read c.skip.ensures.read
+    (λ n rest number after. (split.0 ∙ (ap (λ l. l ++ c.in_ok-digits.after.now) (number.0 ∙ ap (λ k. to_left k (decimal n)) split.1) ∙ ap (λ l. to_left c.args.places (decimal n) ++ l) after), number.1)))
 
 pub returns-clause-whole : goal.returns-clause-whole
 returns-clause-whole c = λ n rest small short e.
@@ -10,5 +17,5 @@ returns-clause-whole c = λ n rest small short e.
     let wide : length (to_left c.args.places (decimal n)) ≡ c.args.places = omega (arith, length-append (decimal n) (replicate (c.args.places - length (decimal n)) 32), spaces) in
     let parts = c.in_ok-digits.ensures.whole (to_left c.args.places (decimal n)) (c.args.mark.now ++ rest) e wide in
     let places = sym (ap length parts.0 ∙ wide) in
-    let some = c.in_ok-number.ensures.whole n small (parts.0 ∙ ap (λ m. to_left m (decimal n)) places) in
-    (cc, c.in_ok-rest.ensures.whole rest parts.1)
+    let some = c.left_column.ensures.whole n small (parts.0 ∙ ap (λ m. to_left m (decimal n)) places) in
+    rw c.zip.ensures (zip_whole _ c.left_column.result c.skip.result n some (c.skip.ensures.whole rest parts.1) (λ after same. (refl, same)))

@@ -1,47 +1,73 @@
-use Rattle.std.proofs.Common.{ℕ, ◌≡◌, true, List, ◌∷◌, ◌++◌, codes, drop, ap, sym, ◌∙◌, inl, inr, arith}
-use Rattle.reg_text.specs.Forms.{HasOpForm, is_word}
-use Rattle.reg_text.specs.Inner.{IsValuedForm}
-use Rattle.reg_text.proofs.Formed.{no_truth, first_same}
+use Rattle.std.proofs.Common.{refl, sym, ◌∙◌}
+use Rattle.reg_text.proofs.Formed.{no_truth}
+use Rattle.reg_text.proofs.OpForms.{read_bad, read_good, write_told, write_form, swap_told, swap_form, none_told, no_form}
 use Rattle.reg_text.proofs.forms.op_form.Goals as goal
 
-only_read : (text name : List ℕ) → text ≡ codes "read " ++ name → HasOpForm text → is_word name ≡ true
-only_read text name e (inl (n, (word, here))) =
-    let same : name ≡ n = ap (drop 5) (sym e ∙ here) in
-    ap is_word same ∙ word
-only_read text name e (inr (inl (n, (d, (word, digits, here))))) = absurd (omega (arith, first_same (sym e ∙ here)))
-only_read text name e (inr (inr (n, (d, (word, digits, here))))) = absurd (omega (arith, first_same (sym e ∙ here)))
+pub returns-then-not-is_word : goal.returns-then-not-is_word
+returns-then-not-is_word g c =
+    let t = read_bad c.args.names.now c.args.text.now c.in-Some.name.now c.in-Some.ensures.read (λ good. no_truth (sym c.if-not-is_word.true ∙ (c.is_word.ensures ∙ good))) in
+    record {
+      form = t.0.form;
+      whole = λ h. absurd (t.1 h);
+      read = t.0.read;
+      known = t.0.known;
+      unknown = t.0.unknown;
+      known_swap = t.0.known_swap;
+      unknown_swap = t.0.unknown_swap;
+    }
 
-only_write : (text rest : List ℕ) → text ≡ codes "write " ++ rest → HasOpForm text → (n : List ℕ) × ((d : List ℕ) × IsValuedForm rest n d)
-only_write text rest e (inl (n, (word, here))) = absurd (omega (arith, first_same (sym e ∙ here)))
-only_write text rest e (inr (inl (n, (d, (word, digits, here))))) =
-    let same : rest ≡ n ++ 32 ∷ d = ap (drop 6) (sym e ∙ here) in
-    (n, (d, (word, digits, same)))
-only_write text rest e (inr (inr (n, (d, (word, digits, here))))) = absurd (omega (arith, first_same (sym e ∙ here)))
+pub returns-in-Some : goal.returns-in-Some
+returns-in-Some g c =
+    let t = read_good c.args.names.now c.args.text.now c.in-Some.name.now c.in-Some.ensures.read (sym c.is_word.ensures ∙ c.if-not-is_word.false) in
+    record {
+      form = t.form;
+      whole = λ h. refl;
+      read = t.read;
+      known = t.known;
+      unknown = t.unknown;
+      known_swap = t.known_swap;
+      unknown_swap = t.unknown_swap;
+    }
 
-only_swap : (text rest : List ℕ) → text ≡ codes "swap " ++ rest → HasOpForm text → (n : List ℕ) × ((d : List ℕ) × IsValuedForm rest n d)
-only_swap text rest e (inl (n, (word, here))) = absurd (omega (arith, first_same (sym e ∙ here)))
-only_swap text rest e (inr (inl (n, (d, (word, digits, here))))) = absurd (omega (arith, first_same (sym e ∙ here)))
-only_swap text rest e (inr (inr (n, (d, (word, digits, here))))) =
-    let same : rest ≡ n ++ 32 ∷ d = ap (drop 5) (sym e ∙ here) in
-    (n, (d, (word, digits, same)))
+pub returns-in-Some-skip : goal.returns-in-Some-skip
+returns-in-Some-skip g c =
+    let v = c.valued_form.ensures in
+    let e = c.in-Some-skip.ensures.read in
+    let t = write_told c.args.names.now c.args.text.now c.in-Some-skip.rest.now c.valued_form.result e (record { form = v.form; known = v.known; unknown = v.unknown }) in
+    record {
+      form = t.form;
+      whole = λ h. let form = write_form c.args.text.now c.in-Some-skip.rest.now e h in v.whole form.0 form.1.0 form.1.1;
+      read = t.read;
+      known = t.known;
+      unknown = t.unknown;
+      known_swap = t.known_swap;
+      unknown_swap = t.unknown_swap;
+    }
 
-no_form : (text : List ℕ) → ((rest : List ℕ) → text ≡ codes "read " ++ rest → ⊥) → ((rest : List ℕ) → text ≡ codes "write " ++ rest → ⊥) → ((rest : List ℕ) → text ≡ codes "swap " ++ rest → ⊥) → HasOpForm text → ⊥
-no_form text read write swap (inl (n, (word, here))) = read n here
-no_form text read write swap (inr (inl (n, (d, (word, digits, here))))) = write (n ++ 32 ∷ d) here
-no_form text read write swap (inr (inr (n, (d, (word, digits, here))))) = swap (n ++ 32 ∷ d) here
+pub returns-in_err-skip : goal.returns-in_err-skip
+returns-in_err-skip g c =
+    let t = none_told c.args.names.now c.args.text.now c.from_residual.result c.from_residual.ensures c.in_default.ensures.whole c.in_default-skip.ensures.whole c.in_err-skip.ensures.whole in
+    record {
+      form = t.form;
+      whole = λ h. absurd (no_form c.args.text.now c.in_default.ensures.whole c.in_default-skip.ensures.whole c.in_err-skip.ensures.whole h);
+      read = t.read;
+      known = t.known;
+      unknown = t.unknown;
+      known_swap = t.known_swap;
+      unknown_swap = t.unknown_swap;
+    }
 
-pub returns-in_err-form-clause-whole : goal.returns-in_err-form-clause-whole
-returns-in_err-form-clause-whole g c = λ h. no_truth (c.in_err-form.ensures.1 (c.is_word.ensures ∙ only_read c.args.text.now c.in-Some.name.now c.in-Some.ensures.read h))
-
-pub returns-in-Some-skip-clause-whole : goal.returns-in-Some-skip-clause-whole
-returns-in-Some-skip-clause-whole g c = λ h.
-    let form = only_write c.args.text.now c.in-Some-skip.rest.now c.in-Some-skip.ensures.read h in
-    c.valued_form.ensures.whole form.0 form.1.0 form.1.1
-
-pub returns-in_err-skip-clause-whole : goal.returns-in_err-skip-clause-whole
-returns-in_err-skip-clause-whole g c = λ h. absurd (no_form c.args.text.now c.in_default.ensures.whole c.in_default-skip.ensures.whole c.in_err-skip.ensures.whole h)
-
-pub returns-clause-whole : goal.returns-clause-whole
-returns-clause-whole g c = λ h.
-    let form = only_swap c.args.text.now c.in_ok-skip.field-0.now c.in_ok-skip.ensures.read h in
-    c.valued_form-2.ensures.whole form.0 form.1.0 form.1.1
+pub returns : goal.returns
+returns g c =
+    let v = c.valued_form-2.ensures in
+    let e = c.in_ok-skip.ensures.read in
+    let t = swap_told c.args.names.now c.args.text.now c.in_ok-skip.field-0.now c.valued_form-2.result e (record { form = v.form; known = v.known; unknown = v.unknown }) in
+    record {
+      form = t.form;
+      whole = λ h. let form = swap_form c.args.text.now c.in_ok-skip.field-0.now e h in v.whole form.0 form.1.0 form.1.1;
+      read = t.read;
+      known = t.known;
+      unknown = t.unknown;
+      known_swap = t.known_swap;
+      unknown_swap = t.unknown_swap;
+    }
