@@ -1,4 +1,4 @@
-use Rattle.std.proofs.Common.{ℕ, ◌≡◌, ◌⊎◌, List, [], ◌∷◌, ◌++◌, codes, length, get_or, sym, ap, ◌∙◌, inl, inr, take, arith}
+use Rattle.std.proofs.Common.{ℕ, ◌≡◌, ◌⊎◌, List, [], ◌∷◌, ◌++◌, codes, length, get_or, sym, ap, ◌∙◌, inl, inr, take, drop, arith}
 use Rattle.std.proofs.lemmas.Option.{none-some}
 use Rattle.std.proofs.lemmas.List.{take_all}
 use Rattle.reg_base.specs.Names.{texts, names_fault}
@@ -6,7 +6,9 @@ use Rattle.reg_text.specs.declared.faults.TextFault.{TextFault}
 use Rattle.reg_text.specs.declared.faults.TextFault.TheVariants.{Line, OutOfMemory}
 use Rattle.reg_text.specs.declared.faults.Why.{Why}
 use Rattle.reg_text.specs.declared.faults.Why.TheVariants.{Form, Name, End}
-use Rattle.reg_text.specs.Words.{names_text, HasWords}
+use Rattle.reg_text.specs.Words.{names_text, HasWords, IsNamesWhy}
+use Rattle.reg_text.specs.WordsFaults.{IsWordsWhy}
+use Rattle.reg_text.specs.declared.words.WordsFault.TheVariants.{Why as OfWords, OutOfMemory as NoMemory}
 use Rattle.reg_text.proofs.words.read_names.Goals as goal
 
 no_lines : {A : Type 0} {line : List ℕ} {rest : List (List ℕ)} → [] ≡ line ∷ rest → A
@@ -45,6 +47,40 @@ returns-in_default-skip-clause-end g c = λ e. no_lines (sym e ∙ c.in-Some.ens
 
 pub returns-in_default-skip-clause-fault : goal.returns-in_default-skip-clause-fault
 returns-in_default-skip-clause-fault g c = inr (Form, c.fault-in_default-skip.ensures)
+
+not_memory : {A : Type 0} (why : Why) → OfWords why ≡ NoMemory → A
+not_memory why e = absurd (cc)
+
+-- what is told of words that are refused
+told_words : (limit : ℕ) (ws : List (List ℕ)) (why told : Why) (n : ℕ) (f : TextFault) → (OfWords why ≡ NoMemory) ⊎ IsWordsWhy limit ws (OfWords why) → told ≡ why → f ≡ Line n told → (f ≡ OutOfMemory) ⊎ ((any : Why) × IsNamesWhy limit ws any × (f ≡ Line n any))
+told_words limit ws why told n f (inl e) same is = not_memory why e
+told_words limit ws why told n f (inr here) same is = inr (why, here, is ∙ ap (Line n) same)
+
+pub returns-in-Ok-new-clause-read : goal.returns-in-Ok-new-clause-read
+returns-in-Ok-new-clause-read g c =
+    let made = c.in-Ok-new.ensures in
+    (c.in-Some.ensures.line ∙ ap (λ l. l ∷ c.next.new.self.left) (c.in-Some-skip.ensures.read ∙ ap (λ l. codes "registers" ++ l) (c.in-Ok.ensures.read.0 ∙ ap names_text (sym made.0))), ap names_fault made.0 ∙ made.1)
+
+pub returns-in-Ok-new-clause-few : goal.returns-in-Ok-new-clause-few
+returns-in-Ok-new-clause-few g c = let size = ap length c.in-Ok-new.ensures.0 in omega (arith, size, c.in-Ok.ensures.read.1)
+
+pub returns-in-Ok-new-clause-whole : goal.returns-in-Ok-new-clause-whole
+returns-in-Ok-new-clause-whole g c = λ ns rest ok few e.
+    let both = sym c.in-Some.ensures.line ∙ e in
+    let text = c.in-Some-skip.ensures.whole (names_text ns) (ap (λ l. get_or l 0 []) both) in
+    (c.in-Ok-new.ensures.0 ∙ c.in-Ok.ensures.whole ns ok few text, ap (drop 1) both)
+
+pub returns-in-Err-Why-clause-whole : goal.returns-in-Err-Why-clause-whole
+returns-in-Err-Why-clause-whole g c = λ ns rest ok few e.
+    let text = c.in-Some-skip.ensures.whole (names_text ns) (ap (λ l. get_or l 0 []) (sym c.in-Some.ensures.line ∙ e)) in
+    let refused = c.in-Err-Why.ensures.whole ns ok few text in
+    not_memory c.in-Err-Why.why (rw c.in-Err-Why.field-0-is at refused)
+
+pub returns-in-Err-Why-clause-words : goal.returns-in-Err-Why-clause-words
+returns-in-Err-Why-clause-words g c = λ ws rest are e.
+    let text = c.in-Some-skip.ensures.whole (names_text ws) (ap (λ l. get_or l 0 []) (sym c.in-Some.ensures.line ∙ e)) in
+    let refused = c.in-Err-Why.ensures.words ws are.1 text in
+    told_words c.args.limit ws c.in-Err-Why.why c.why_names-in-Err-Why.result c.next.new.self.number c.fault-in-Err-Why.result (rw c.in-Err-Why.field-0-is at refused) (c.why_names-in-Err-Why.ensures.words ws are text) c.fault-in-Err-Why.ensures
 
 pub returns-in-Ok-new-clause-end : goal.returns-in-Ok-new-clause-end
 returns-in-Ok-new-clause-end g c = λ e. no_lines (sym e ∙ c.in-Some.ensures.line)
