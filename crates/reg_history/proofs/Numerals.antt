@@ -1,5 +1,5 @@
 -- Numerals in columns.
-use Rattle.std.proofs.Common.{ℕ, ◌≡◌, ◌-◌, ◌<◌, ◌≤◌, ◌==◌, not, true, false, List, [], ◌∷◌, ◌++◌, length, take, drop, replicate, get_or, sym, ap, subst, ◌∙◌, arith, rules}
+use Rattle.std.proofs.Common.{ℕ, ◌≡◌, ◌-◌, ◌<◌, ◌≤◌, ◌==◌, not, true, false, List, [], ◌∷◌, ◌++◌, length, take, drop, replicate, get_or, sym, ap, subst, ◌∙◌, ◌⊎◌, inl, inr, append-nil, arith, rules}
 use Rattle.std.specs.List.{prefix_len, list_all}
 use Rattle.std.proofs.lemmas.List.{length-append, length-replicate, length-drop}
 use Rattle.reg_text.specs.Columns.{to_right, to_left}
@@ -49,4 +49,20 @@ right_column places bytes column after digits behind cut long numeral is rest =
     let size : length column ≡ length (to_right (length column) digits) = ap length is in (
       record { numeral_is = numeral; short = omega (arith, size, long, length-append (replicate (length column - length digits) 32) digits, length-replicate {A = ℕ} (length column - length digits) 32) },
       cut ∙ ap (λ l. l ++ after) (is ∙ ap (λ m. to_right m digits) long) ∙ ap (λ l. to_right places digits ++ l) rest,
+    )
+
+-- a numeral that fills its column
+full : (places : ℕ) (ds : List ℕ) → length ds ≡ places → to_left places ds ≡ ds
+full places ds long = let none : places - length ds ≡ 0 = omega (arith, long) in ap (λ m. ds ++ replicate m 32) none ∙ append-nil ds
+
+-- the same at the left of a column
+pub left_column : (places : ℕ) (bytes column after digits behind : List ℕ) → bytes ≡ column ++ after → length column ≡ places → is_numeral digits ≡ true → (digits ≡ column) ⊎ (Lacks 32 digits × (column ≡ to_left (length column) digits)) → after ≡ behind
+    → FitsColumn places digits × (bytes ≡ to_left places digits ++ behind)
+left_column places bytes column after digits behind cut long numeral (inl all) rest =
+    let size : length digits ≡ places = ap length all ∙ long in
+    (record { numeral_is = numeral; short = omega (arith, size) }, cut ∙ ap (λ l. l ++ after) (sym all ∙ sym (full places digits size)) ∙ ap (λ l. to_left places digits ++ l) rest)
+left_column places bytes column after digits behind cut long numeral (inr front) rest =
+    let size : length column ≡ length (to_left (length column) digits) = ap length front.1 in (
+      record { numeral_is = numeral; short = omega (arith, size, long, length-append digits (replicate (length column - length digits) 32), length-replicate {A = ℕ} (length column - length digits) 32) },
+      cut ∙ ap (λ l. l ++ after) (front.1 ∙ ap (λ m. to_left m digits) long) ∙ ap (λ l. to_left places digits ++ l) rest,
     )

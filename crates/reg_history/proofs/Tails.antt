@@ -6,7 +6,7 @@ use Rattle.reg_text.specs.Forms.{HasOpForm, IsOpWhy}
 use Rattle.reg_text.proofs.OpWhys.{Told, op_why}
 use Rattle.reg_history.specs.LineForms.{HasTailForm, IsTailWhy}
 
-no_answer : (rest text other : List ℕ) → rest ≡ codes "call    " ++ text → rest ≡ codes "answer  " ++ other → ⊥
+pub no_answer : (rest text other : List ℕ) → rest ≡ codes "call    " ++ text → rest ≡ codes "answer  " ++ other → ⊥
 no_answer rest text other e f = let clash = sym e ∙ f in search (rules, clash)
 
 pub behind_call : (names : List (List ℕ)) (rest text : List ℕ) (r : Option Why) → rest ≡ codes "call    " ++ text → ((other : List ℕ) → rest ≡ codes "call    " ++ other → text ≡ other) → Told names text r

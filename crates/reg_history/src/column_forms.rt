@@ -4,7 +4,7 @@ ghost use Rattle.reg_text.specs.Columns.{to_left, to_right};
 ghost use Rattle.reg_text.specs.Forms.{is_numeral as is_numeral_of};
 ghost use Rattle.reg_history.specs.LineForms.{FitsColumn, HasColumns};
 
-use reg_text::{cut, form, in_front, is_numeral, skip, spaces_before};
+use reg_text::{cut, in_front, is_numeral, skip, spaces_before};
 
 /// What stands behind the spaces at the start.
 fn behind(bytes: &[u8]) -> &[u8]
@@ -22,7 +22,9 @@ fn right_numeral<'a>(bytes: &'a [u8], places: usize, mark: &[u8]) -> Option<(&'a
 {
     let (column, after) = cut(bytes, places)?;
     let digits = behind(column);
-    form(is_numeral(digits))?;
+    if !is_numeral(digits) {
+        return None;
+    }
     let rest = skip(after, mark)?;
     Some((digits, rest))
 }
@@ -34,7 +36,9 @@ fn left_numeral<'a>(bytes: &'a [u8], places: usize, mark: &[u8]) -> Option<(&'a 
 {
     let (column, after) = cut(bytes, places)?;
     let digits = in_front(column);
-    form(is_numeral(digits))?;
+    if !is_numeral(digits) {
+        return None;
+    }
     let rest = skip(after, mark)?;
     Some((digits, rest))
 }

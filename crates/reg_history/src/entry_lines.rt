@@ -15,9 +15,7 @@ use crate::versions::Version;
 use reg_base::limits::{LAST_EVENT, MOST_OPERATIONS};
 use reg_base::{Answer, Names, OpId};
 use reg_orders::Entry;
-use reg_text::{
-    Why, form, is_numeral, left_field, numeral, op_form, read_op, right_field, skip, within,
-};
+use reg_text::{Why, is_numeral, left_field, numeral, op_form, read_op, right_field, skip, within};
 use std::alloc::Allocator;
 
 /// The answer that is the whole of the bytes.
@@ -85,8 +83,11 @@ fn answer_form(text: &[u8]) -> Option<Why>
         return Some(Why::Range);
     }
     let digits = skip(text, b"value ")?;
-    form(is_numeral(digits))?;
-    Some(Why::Range)
+    if is_numeral(digits) {
+        Some(Why::Range)
+    } else {
+        None
+    }
 }
 
 /// Why what stands behind the columns is not read. None where its form is not kept.

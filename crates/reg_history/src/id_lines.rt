@@ -20,7 +20,9 @@ fn process_form(line: &[u8]) -> Option<(&[u8], &[u8])>
     let text = skip(line, b"p")?;
     let (process, after) = cut_at(text, b' ')?;
     let rest = skip(after, b"#")?;
-    form(is_numeral(process))?;
+    if !is_numeral(process) {
+        return None;
+    }
     Some((process, rest))
 }
 
@@ -39,7 +41,9 @@ fn point_form(line: &[u8]) -> Option<()>
     let (_, rest) = process_form(line)?;
     let (number, last) = cut_at(rest, b' ')?;
     let event = skip(last, b"at ")?;
-    form(is_numeral(number))?;
+    if !is_numeral(number) {
+        return None;
+    }
     form(is_numeral(event))
 }
 

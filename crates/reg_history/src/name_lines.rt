@@ -167,8 +167,7 @@ fn read_newer_registers<A: Allocator + Copy>(
     if count == 0 {
         return Err(at_line(lines, ReadWhy::Range));
     }
-    let names = read_listed(alloc, lines, count as u32)?;
-    Ok(names)
+    read_listed(alloc, lines, count as u32)
 }
 
 /// The names of the registers.

@@ -198,6 +198,24 @@ fn read_points<A: Allocator + Copy>(
     Ok(points)
 }
 
+/// The points behind the line that announces them, and the last line.
+fn read_listed_points<A: Allocator + Copy>(
+    alloc: A,
+    lines: &mut Lines<'_>,
+    line: &[u8],
+    version: Version,
+) -> Result<Option<Vec<Point, A>>, ReadFault>
+    ensures read { IfOk result (λ o. let points = option_map (λ v. v.items) o in (line.now ∷ lines.old.left ≡ tail_lines points) × PointsFit version points) }
+    ensures whole { (points : List Point) → PointsFit version (Some points) → line.now ∷ lines.old.left ≡ tail_lines (Some points)
+        → MatchResult result (λ o. option_map (λ v. v.items) o ≡ Some points) (λ f. f ≡ ReadFault.OutOfMemory) }
+    ensures form { ((digits : List ℕ) → line.now ≡ codes "points " ++ digits → is_numeral digits ≡ false) → result ≡ Err (ReadFault.Line lines.new.number ReadWhy.Form) }
+    ensures range { (digits : List ℕ) → is_numeral digits ≡ true → line.now ≡ codes "points " ++ digits → ((n : ℕ) → n ≤ MOST_IDS → ¬ (digits ≡ decimal n)) → result ≡ Err (ReadFault.Line lines.new.number ReadWhy.Range) }
+{
+    let count = points_count(lines, line)?;
+    let points = read_points(alloc, lines, count, version)?;
+    Ok(Some(points))
+}
+
 /// The points of a report, if it has any, and its last line.
 fn read_tail<A: Allocator + Copy>(
     alloc: A,
@@ -219,9 +237,7 @@ fn read_tail<A: Allocator + Copy>(
         expect_none(lines)?;
         return Ok(None);
     }
-    let count = points_count(lines, line)?;
-    let points = read_points(alloc, lines, count, version)?;
-    Ok(Some(points))
+    read_listed_points(alloc, lines, line, version)
 }
 
 /// The lists of a report: its order, and its points, if it has any. The last line is behind them.

@@ -14,3 +14,4 @@ pub mod Marking
 pub mod OwnOrder
 pub mod Bridges
 pub mod PointFacts
+mod Verdicts

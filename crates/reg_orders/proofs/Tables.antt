@@ -60,6 +60,38 @@ changed_by_push {A = A} rows id f row new e items next = record { here = here; o
             cell_of (set rows id.process new) x new now ∙ (ap (λ (xs : List Fact). slice_get xs x.number) items ∙ (get_push_other row.items x.number f number ∙ sym (cell_of rows x row was)))
         go (inr away) = ap (λ (o : Option (Vec Fact A)). option_and_then (λ (r : Vec Fact A). slice_get r.items x.number) o) (get_set_other rows id.process x.process new away)
 
+inside : {X Y : Type 0} (f : X → Option Y) (xs : List X) (k : ℕ) → IsSome (option_and_then f (slice_get xs k)) → k < length xs
+inside f [] k h = search rules
+inside f (x ∷ xs) zero h = omega arith
+inside f (x ∷ xs) (suc k) h = let r : k < length xs = inside f xs k h in omega arith
+
+-- a process whose operation has a fact has a row
+pub has_row : {A : Type 0} (rows : Rows A) (id : OpId) → IsSome (cell rows id) → id.process < length rows
+has_row {A = A} rows id some = inside (λ (r : Vec Fact A). slice_get r.items id.number) rows id.process some
+
+pub changed_by_set : {A : Type 0} (rows : Rows A) (id : OpId) (f : Fact) (row new : Vec Fact A) → slice_get rows id.process ≡ Some row → new.items ≡ set row.items id.number f → IsSome (cell rows id) → IsChangedAt rows (set rows id.process new) id f
+changed_by_set {A = A} rows id f row new e items some = record { here = here; others = others }
+  where
+    within : id.number < length row.items
+    within = some_within row.items id.number (subst (λ (o : Option Fact). IsSome o) (cell_of rows id row e) some)
+
+    there : slice_get (set rows id.process new) id.process ≡ Some new
+    there = get_set_same rows id.process new (slice_get_within rows id.process row e)
+
+    here : cell (set rows id.process new) id ≡ Some f
+    here = cell_of (set rows id.process new) id new there ∙ (ap (λ (xs : List Fact). slice_get xs id.number) items ∙ get_set_same row.items id.number f within)
+
+    others : (x : OpId) → x ≢ id → cell (set rows id.process new) x ≡ cell rows x
+    others x other = go (cases_eq x.process id.process)
+      where
+        go : (x.process ≡ id.process) ⊎ (x.process ≡ id.process → ⊥) → cell (set rows id.process new) x ≡ cell rows x
+        go (inl same) =
+            let number : x.number ≡ id.number → ⊥ = λ n. other (ap₂ (λ (p q : ℕ). record { process = p; number = q }) same n) in
+            let now : slice_get (set rows id.process new) x.process ≡ Some new = ap (λ (p : ℕ). slice_get (set rows id.process new) p) same ∙ there in
+            let was : slice_get rows x.process ≡ Some row = ap (λ (p : ℕ). slice_get rows p) same ∙ e in
+            cell_of (set rows id.process new) x new now ∙ (ap (λ (xs : List Fact). slice_get xs x.number) items ∙ (get_set_other row.items id.number x.number f number ∙ sym (cell_of rows x row was)))
+        go (inr away) = ap (λ (o : Option (Vec Fact A)). option_and_then (λ (r : Vec Fact A). slice_get r.items x.number) o) (get_set_other rows id.process x.process new away)
+
 -- one more row without facts brings none
 pub none_more : {A : Type 0} (rows : Rows A) (row : Vec Fact A) → row.items ≡ [] → ((id : OpId) → cell rows id ≡ None) → (id : OpId) → cell (rows ++ row ∷ []) id ≡ None
 none_more {A = A} rows row empty none id = go rows id.process (none id)

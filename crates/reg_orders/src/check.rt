@@ -1,8 +1,9 @@
 //! The checkers of serial orders and point orders.
-ghost use Rattle.std.specs.Prelude.{MatchResult};
+ghost use Rattle.std.specs.Prelude.{◌≡◌, ◌<◌, ◌⊎◌, ℕ, All, length, IfErr, MatchResult, OnOk};
+ghost use Rattle.reg_base.specs.Memory.{register_of};
 ghost use Rattle.reg_orders.specs.History.{IsHistory};
-ghost use Rattle.reg_orders.specs.Checks.{SerialVerdict, PointVerdict, NoneOfThree};
-ghost use Rattle.reg_orders.specs.Facts.{IsSelectionFault, IsSelected};
+ghost use Rattle.reg_orders.specs.Checks.{IsFalling, IsFirst, SerialVerdict, PointVerdict, NoneOfThree};
+ghost use Rattle.reg_orders.specs.Facts.{IsOutsideFact, IsSelectionFault, IsSelected, IsWrongFact};
 
 use crate::answers::{Fact, first_wrong};
 use crate::entries::{Entry, Point};
@@ -41,6 +42,39 @@ fn select<A: Allocator + Copy>(
     Ok(facts)
 }
 
+/// That each answer is that of one memory.
+fn check_answers<A: Allocator + Copy>(
+    alloc: A,
+    shape: Shape,
+    facts: &[Fact],
+) -> Result<(), CheckFault>
+    requires { All (λ f. register_of f.op < shape.registers) facts.now }
+    ensures right { OnOk result ((k : ℕ) → ¬ IsWrongFact shape.registers facts.now k) }
+    ensures wrong { IfErr result (λ f. (f ≡ CheckFault.OutOfMemory) ⊎ ((place : ℕ) × (f ≡ CheckFault.Answer place) × IsFirst (IsWrongFact shape.registers facts.now) place)) }
+{
+    match first_wrong(alloc, shape, facts) {
+        Ok(None) => Ok(()),
+        Ok(Some(place)) => Err(CheckFault::Answer { place }),
+        Err(_) => Err(CheckFault::OutOfMemory),
+    }
+}
+
+/// That each point is between its call and its answer, and none is below the one before it.
+fn check_places(points: &[Point], facts: &[Fact]) -> Result<(), CheckFault>
+    requires { length facts.now ≡ length points.now }
+    ensures right { OnOk result (((k : ℕ) → ¬ IsOutsideFact points.now facts.now k) × ((k : ℕ) → ¬ IsFalling points.now k)) }
+    ensures wrong { IfErr result (λ f. ((place : ℕ) × (f ≡ CheckFault.Outside place) × IsFirst (IsOutsideFact points.now facts.now) place)
+        ⊎ ((place : ℕ) × (f ≡ CheckFault.Falling place) × ((k : ℕ) → ¬ IsOutsideFact points.now facts.now k) × IsFirst (IsFalling points.now) place)) }
+{
+    if let Some(place) = first_outside(points, facts) {
+        return Err(CheckFault::Outside { place });
+    }
+    match first_falling(points) {
+        Some(place) => Err(CheckFault::Falling { place }),
+        None => Ok(()),
+    }
+}
+
 fn judge_serial<A: Allocator + Copy>(
     alloc: A,
     shape: Shape,
@@ -56,11 +90,7 @@ fn judge_serial<A: Allocator + Copy>(
         Ok(true) => return Err(CheckFault::OwnOrder),
         Err(_) => return Err(CheckFault::OutOfMemory),
     }
-    match first_wrong(alloc, shape, &facts) {
-        Ok(None) => Ok(()),
-        Ok(Some(place)) => Err(CheckFault::Answer { place }),
-        Err(_) => Err(CheckFault::OutOfMemory),
-    }
+    check_answers(alloc, shape, &facts)
 }
 
 fn judge_points<A: Allocator + Copy>(
@@ -76,18 +106,8 @@ fn judge_points<A: Allocator + Copy>(
         return Err(CheckFault::OutOfMemory);
     };
     let facts = select(alloc, shape, entries, &ids)?;
-    match first_wrong(alloc, shape, &facts) {
-        Ok(None) => {}
-        Ok(Some(place)) => return Err(CheckFault::Answer { place }),
-        Err(_) => return Err(CheckFault::OutOfMemory),
-    }
-    if let Some(place) = first_outside(points, &facts) {
-        return Err(CheckFault::Outside { place });
-    }
-    match first_falling(points) {
-        Some(place) => Err(CheckFault::Falling { place }),
-        None => Ok(()),
-    }
+    check_answers(alloc, shape, &facts)?;
+    check_places(points, &facts)
 }
 
 /// Whether the ids are a serial order of the history (sequential consistency, Lamport 1979): every finished operation

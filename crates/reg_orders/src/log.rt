@@ -4,7 +4,7 @@ ghost use Rattle.reg_orders.specs.Log.{IsLog, Grows, Refuses};
 
 use crate::entries::Entry;
 use crate::faults::HistoryFault;
-use crate::place::{Progress, after_entry, id_of, is_in_place};
+use crate::place::{Progress, advance, is_in_place};
 use reg_base::Shape;
 use std::alloc::{AllocError, Allocator, Global};
 use std::marker::Model;
@@ -83,9 +83,7 @@ impl<A: Allocator + Copy> History<A> {
         if self.entries.reserve(1).is_err() {
             return Err(HistoryFault::OutOfMemory);
         }
-        let process = usize::from(id_of(entry).process);
-        let before = self.progress[process];
-        self.progress[process] = after_entry(before, entry);
+        advance(&mut self.progress, entry);
         self.entries.push_reserved(entry);
         Ok(())
     }

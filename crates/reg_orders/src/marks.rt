@@ -100,13 +100,12 @@ pub fn resolve<A: Allocator + Copy>(
 ) -> Result<Option<Vec<Fact, A>>, AllocError>
     ensures { IfOk result (λ o. MatchOption o ((k : ℕ) × (id : OpId) × IsAt ids.now k id × (¬ Stands rows.now id)) (λ v. AreResolved rows.now ids.now v.items)) }
 {
-    let mut facts = Vec::new(alloc);
-    facts.reserve(ids.len())?;
+    let mut facts = Vec::with_capacity(alloc, ids.len())?;
     for k in 0..ids.len() {
-        match standing(rows, ids[k]) {
-            Some(fact) => facts.push(fact)?,
-            None => return Ok(None),
-        }
+        let Some(fact) = standing(rows, ids[k]) else {
+            return Ok(None);
+        };
+        facts.push_reserved(fact);
     }
     Ok(Some(facts))
 }

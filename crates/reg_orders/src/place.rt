@@ -1,5 +1,5 @@
 //! Whether an entry is in place, by what is kept of its process.
-ghost use Rattle.std.specs.Prelude.{◌≡◌, ◌<◌, ◌↔◌, Some, IsTrue, length, slice_get};
+ghost use Rattle.std.specs.Prelude.{◌≡◌, ◌<◌, ◌↔◌, Some, IsTrue, length, slice_get, slice_index_or, slice_set};
 ghost use Rattle.reg_orders.specs.History.{event_of, IsHistory, MayCall, MayAnswer, IsInPlace};
 ghost use Rattle.reg_orders.specs.Progress.{last_of, IsBehindLast, IsProgressOf, IsKept, IsNumbered, id_of as id_of_entry, progress_after};
 ghost use Rattle.reg_base.specs.declared.memory.Op.{Op};
@@ -8,6 +8,7 @@ ghost use Rattle.reg_orders.specs.declared.entries.Entry.TheVariants.{Called};
 use crate::entries::Entry;
 use reg_base::limits::{LAST_EVENT, MOST_OPERATIONS};
 use reg_base::{Answer, Op, OpId, Shape};
+use std::alloc::Allocator;
 
 /// A call that is not yet answered.
 #[derive(Clone, Copy)]
@@ -69,6 +70,17 @@ pub fn after_entry(before: Progress, entry: Entry) -> Progress
             running: None,
         },
     }
+}
+
+/// Notes how far the process of an entry is after it.
+pub fn advance<A: Allocator + Copy>(progress: &mut Vec<Progress, A>, entry: Entry)
+    requires within { (id_of_entry entry).process < length progress.old.items }
+    requires numbered { IsNumbered entry }
+    ensures { (before : Progress) × (before ≡ slice_index_or progress.old.items (id_of_entry entry).process before) × (progress.new.items ≡ slice_set progress.old.items (id_of_entry entry).process (progress_after before entry)) }
+{
+    let process = usize::from(id_of(entry).process);
+    let before = progress[process];
+    progress[process] = after_entry(before, entry);
 }
 
 /// Whether the event comes after that of the last entry.

@@ -14,10 +14,9 @@ pub fn ids_of_points<A: Allocator + Copy>(
 ) -> Result<Vec<OpId, A>, AllocError>
     ensures { IfOk result (λ v. v.items ≡ ids_of points.now) }
 {
-    let mut ids = Vec::new(alloc);
-    ids.reserve(points.len())?;
+    let mut ids = Vec::with_capacity(alloc, points.len())?;
     for point in points {
-        ids.push(point.id)?;
+        ids.push_reserved(point.id);
     }
     Ok(ids)
 }

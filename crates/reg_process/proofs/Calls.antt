@@ -1,11 +1,12 @@
 -- A call, from its cast and its deliveries.
 use Rattle.std.proofs.Common.{◌≡◌, ℕ, ◌<◌, ◌≤◌, ◌+◌, Bool, true, false, zero, suc, [], ◌∷◌, List, length, Option, Some, None, refl, sym, ap, ◌∙◌, subst, arith}
-use Rattle.std.specs.Prelude.{Result, Ok, Err, IfOk, cond, ◌==◌, ◌||◌, not, nat_lt, nat_le, nat_eq, slice_get, slice_index}
+use Rattle.std.specs.Prelude.{Result, Ok, Err, IfOk, IfErr, OnOk, MatchResult, cond, ◌==◌, ◌||◌, not, nat_lt, nat_le, nat_eq, slice_get, slice_index}
 use Rattle.std.proofs.lemmas.Bool.Decides.{nat_tests}
-use Rattle.std.proofs.lemmas.Bool.{cond-false, ne_eqb}
+use Rattle.std.proofs.lemmas.Bool.{cond-false, eq-eqb, ne_eqb}
 use Rattle.std.proofs.lemmas.List.{append-nil}
 use Rattle.reg_base.specs.declared.stamps.Stamp.{Stamp}
 use Rattle.reg_base.specs.declared.memory.Op.{Op}
+use Rattle.reg_base.specs.declared.limits.TheConstants.{LAST_TIME}
 use Rattle.reg_base.specs.declared.stamps.Delivered.{Delivered}
 use Rattle.reg_process.specs.declared.steps.Reply.{Reply}
 use Rattle.reg_frames.specs.declared.bodies.Body.{Body}
@@ -15,7 +16,7 @@ use Rattle.reg_front.specs.declared.starts.Start.TheVariants.{Look as Looks, Hol
 use Rattle.reg_process.specs.declared.steps.Step.TheVariants.{Call, Take}
 use Rattle.reg_frames.specs.declared.bodies.Frame.{Frame}
 use Rattle.reg_process.specs.Process.{Held, State, called, no_frames, look, unsettled, seen_at, time_of, peer_at, taken, accepted, quiet, got_frames, clear_casts, delivered_state, due}
-use Rattle.reg_process.specs.Faults.{first_of, early_fault, full_at, call_fault, is_out, early_body, frame_fault, take_fault, is_cast, is_numbered}
+use Rattle.reg_process.specs.Faults.{first_of, early_fault, full_at, call_fault, is_out, early_body, frame_fault, take_fault, full_by, is_cast, is_numbered, is_stop, takes_memory}
 use Rattle.reg_holdback.specs.Waiting.{seen_of}
 use Rattle.reg_process.specs.Parts.{Parts, state_of}
 use Rattle.reg_process.specs.Inner.{Good}
@@ -25,13 +26,43 @@ use Rattle.reg_frames.specs.declared.bodies.Frame.TheVariants.{Numbered, Got}
 use Rattle.reg_process.proofs.Acks.{one_put}
 use Rattle.reg_process.specs.declared.faults.ProcessFault.{ProcessFault}
 use Rattle.reg_process.specs.declared.faults.ProcessFault.TheVariants.{Failed, NoProcess, Busy, NoRegister, TooManyOperations, Ahead, Stale, ClockFull, OutOfMemory}
-use Rattle.reg_process.specs.Steps.{StopsAt, is_peer, Goes, TakesBody, Delivers}
+use Rattle.reg_process.specs.Steps.{Stops, StopsAt, FrameRefused, is_peer, Goes, TakesBody, Delivers}
 use Rattle.reg_process.specs.declared.outcomes.Put.{Put}
 use Rattle.reg_process.specs.Events.{Steps, Refused, process_fault}
 
 pub nothing_put : (n : ℕ) → puts no_frames n ≡ []
 nothing_put zero = refl
 nothing_put (suc n) = append-nil (puts no_frames n) ∙ nothing_put n
+
+-- what is said of a start that casts
+pub room_at : {T E : Type 0} (r : Result T E) (clock : ℕ) (start : Start) → is_cast start ≡ true → OnOk r (clock < LAST_TIME) → OnOk r (full_at clock start ≡ None)
+room_at (Ok x) clock start casts less =
+    let h : nat_le LAST_TIME clock ≡ false = grind (arith, nat_tests) in
+    ap (λ b. cond b (cond (nat_le LAST_TIME clock) (Some ClockFull) None) None) casts ∙ ap (λ b. cond b (Some ClockFull) None) h
+room_at (Err f) clock start casts less = tt
+
+stops : (full : Bool) (fault : ProcessFault) → Stops full fault → StopsAt (cond full (Some ClockFull) None) fault
+stops full Failed h = absurd h
+stops full NoProcess h = absurd h
+stops full Busy h = absurd h
+stops full NoRegister h = absurd h
+stops full TooManyOperations h = absurd h
+stops full Ahead h = absurd h
+stops full Stale h = absurd h
+stops full ClockFull h = ap (λ b. cond b (Some ClockFull) None) h
+stops full OutOfMemory h = ap (λ b. cond b (Some ClockFull) None) h
+
+pub stops_at : {T : Type 0} (r : Result T ProcessFault) (clock : ℕ) (start : Start) → is_cast start ≡ true → IfErr r (λ f. Stops (nat_le LAST_TIME clock) f) → IfErr r (λ f. StopsAt (full_at clock start) f)
+stops_at (Ok x) clock start casts h = tt
+stops_at (Err f) clock start casts h = subst (λ b. StopsAt (cond b (cond (nat_le LAST_TIME clock) (Some ClockFull) None) None) f) (sym casts) (stops (nat_le LAST_TIME clock) f h)
+
+pub any_err : {T E P : Type 0} (r : Result T E) → P → IfErr r (λ _. P)
+any_err (Ok x) p = tt
+any_err (Err f) p = p
+
+pub any_ok : {T E P : Type 0} (r : Result T E) → P → OnOk r P
+any_ok (Ok x) p = p
+any_ok (Err f) p = tt
 
 pub looks : (s : State) (op : Op) (start : Start) (frames : List Put) (cast : Option Stamp) (ds : List Delivered) (reply : Option Reply) (s' : State) → start ≡ Looks → frames ≡ [] → cast ≡ None → ds ≡ [] → reply ≡ Some (look s op) → s' ≡ record s { calls = s.calls + 1; running = None } → Goes (length s.peers) (called s op start) frames cast ds reply s'
 looks s op start frames cast ds reply s' e f m d r q = subst (λ st. Goes (length s.peers) (called s op st) frames cast ds reply s') (sym e) (record {
@@ -112,6 +143,52 @@ drop_goes s from number expected body frames cast ds reply e ne l f m d a =
       state = refl;
       outcome = record { put = f ∙ sym (one_put from expected (length s.peers) l) ∙ ap (λ n. puts (got_frames from n) (length s.peers)) e; made = m; casts = d; answer = a };
     })
+
+-- a body under the expected number, and under another one
+module _ (s : State) (from number expected : ℕ) (body : Body) (is : expected ≡ (peer_at s from).expected) where
+  pub next_taken : number ≡ expected → accepted s from body ≡ taken s from (Numbered number body)
+  next_taken same = sym (ap (λ b. cond b (accepted s from body) (quiet s (got_frames from (peer_at s from).expected))) (eq-eqb number (peer_at s from).expected (same ∙ is)))
+
+  pub next_fault : number ≡ expected → None ≡ early_body s from body → frame_fault s from (Numbered number body) ≡ full_by s body
+  next_fault same early =
+      ap (λ b. cond b (first_of (early_body s from body) (full_by s body)) None) (eq-eqb number (peer_at s from).expected (same ∙ is)) ∙ ap (λ o. first_of o (full_by s body)) (sym early)
+
+  pub next_memory : (room : ℕ) → number ≡ expected → takes_memory s room from (Numbered number body) ≡ true
+  next_memory room same = ap (λ b. b || room == 0) (eq-eqb number (peer_at s from).expected (same ∙ is))
+
+  pub other_fault : (number ≡ expected → ⊥) → frame_fault s from (Numbered number body) ≡ None
+  other_fault other = ap (λ b. cond b (first_of (early_body s from body) (full_by s body)) None) (ne_eqb number (peer_at s from).expected (λ q. other (q ∙ sym is)))
+
+stopped : (fault : ProcessFault) (why full : Option ProcessFault) (old new : State) → why ≡ full → StopsAt full fault → FrameRefused why old fault new
+stopped Failed why full old new e h = absurd h
+stopped NoProcess why full old new e h = absurd h
+stopped Busy why full old new e h = absurd h
+stopped NoRegister why full old new e h = absurd h
+stopped TooManyOperations why full old new e h = absurd h
+stopped Ahead why full old new e h = absurd h
+stopped Stale why full old new e h = absurd h
+stopped ClockFull why full old new e h = e ∙ h
+stopped OutOfMemory why full old new e h = e ∙ h
+
+pub stop_refused : {T : Type 0} (r : Result T ProcessFault) (why full : Option ProcessFault) (old new : State) → why ≡ full → IfErr r (λ f. StopsAt full f) → IfErr r (λ f. FrameRefused why old f new)
+stop_refused (Ok x) why full old new e h = tt
+stop_refused (Err f) why full old new e h = stopped f why full old new e h
+
+stops_then : {Q : Type 0} (fault : ProcessFault) (full : Option ProcessFault) → StopsAt full fault → is_stop fault ≡ false → Q
+stops_then Failed full h e = absurd h
+stops_then NoProcess full h e = absurd h
+stops_then Busy full h e = absurd h
+stops_then NoRegister full h e = absurd h
+stops_then TooManyOperations full h e = absurd h
+stops_then Ahead full h e = absurd h
+stops_then Stale full h e = absurd h
+stops_then ClockFull full h e = absurd (cc)
+stops_then OutOfMemory full h e = absurd (cc)
+
+-- what goes out is said, and of a refusal that stops the process nothing
+pub list_left : {T P : Type 0} (Q : Type 0) (r : Result T ProcessFault) (full : Option ProcessFault) → IfErr r (λ f. StopsAt full f) → P → MatchResult r (λ _. P) (λ f. is_stop f ≡ false → Q)
+list_left Q (Ok x) full h p = p
+list_left Q (Err f) full h p = λ e. stops_then f full h e
 
 pub both_ok : {T E : Type 0} (r : Result T E) (P R Q : T → Type 0) → IfOk r P → IfOk r R → ((x : T) → P x → R x → Q x) → IfOk r Q
 both_ok (Ok x) P R Q a b f = f x a b

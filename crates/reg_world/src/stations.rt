@@ -35,11 +35,11 @@ impl<F: FrontEnd, A: Allocator + Copy> Station<F, A> {
     pub(crate) fn new(alloc: A, shape: Shape, me: u8) -> Result<Station<F, A>, AllocError>
         ensures { IfOk result (λ s. s ≡ record { failed = false; state = state_of (first_parts me shape.processes shape.registers); wires = replicate shape.processes [] }) }
     {
-        let Ok(process) = Process::new(alloc, shape, me) else {
-            return Err(AllocError);
-        };
         let wires = Wires::new(alloc, shape.processes())?;
-        Ok(Station { process, wires })
+        match Process::new(alloc, shape, me) {
+            Ok(process) => Ok(Station { process, wires }),
+            Err(_) => Err(AllocError),
+        }
     }
 
     pub(crate) fn process(&self) -> &Process<F, A>

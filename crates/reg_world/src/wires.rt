@@ -101,8 +101,7 @@ impl<A: Allocator + Copy> Wire<A> {
         ensures shared { self.new.shared ≤ length common.new.items }
     {
         if !self.own.is_empty() {
-            push(&mut self.own, frame)?;
-            return Ok(());
+            return push(&mut self.own, frame);
         }
         if self.shared == common.len() {
             push(common, frame)?;
@@ -174,8 +173,7 @@ impl<A: Allocator + Copy> Wires<A> {
         requires { put.now.to < length self.old }
         ensures { OnOk result (self.new ≡ slice_set self.old put.now.to (slice_index_or self.old put.now.to [] ++ put.now.frame ∷ [])) }
     {
-        self.wires[usize::from(put.to)].put(&mut self.common, put.frame)?;
-        Ok(())
+        self.wires[usize::from(put.to)].put(&mut self.common, put.frame)
     }
 
     /// Puts the frames of an event on their wires.

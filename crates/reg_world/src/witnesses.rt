@@ -146,6 +146,19 @@ fn push_reads<A: Allocator + Copy>(
     Ok(reads.len())
 }
 
+/// Adds all of these.
+fn push_ids<A: Allocator + Copy>(
+    ids: &mut Vec<OpId, A>,
+    ranked: &[Ranked],
+) -> Result<(), AllocError>
+    ensures { OnOk result (ids.new.items ≡ ids.old.items ++ map (λ q. q.id) ranked.now) }
+{
+    for operation in ranked {
+        ids.push(operation.id)?;
+    }
+    Ok(())
+}
+
 /// Adds the cast, if it is kept.
 fn push_kept<A: Allocator + Copy>(
     ids: &mut Vec<OpId, A>,
@@ -174,10 +187,7 @@ fn push_merged<A: Allocator + Copy>(
         next += push_reads(ids, &reads[next..], place as u64)?;
         push_kept(ids, callers, first)?;
     }
-    for read in &reads[next..] {
-        ids.push(read.id)?;
-    }
-    Ok(())
+    push_ids(ids, &reads[next..])
 }
 
 /// The operations that have a key, by rising key.
@@ -194,8 +204,6 @@ pub(crate) fn witness_of<A: Allocator + Copy>(
     let lost = lost_casts(alloc, order, callers)?;
     let mut ids = Vec::new(alloc);
     push_merged(&mut ids, &reads, order, callers)?;
-    for cast in &lost {
-        ids.push(cast.id)?;
-    }
+    push_ids(&mut ids, &lost)?;
     Ok(ids)
 }

@@ -51,7 +51,8 @@ impl<A: Allocator + Copy> Core<A> {
     pub(crate) fn refuses_call(&self, op: &Op) -> Option<ProcessFault>
         ensures { result ≡ early_fault self.now op.now self.now.running }
     {
-        if self.running.is_some() {
+        let is_busy = self.running.is_some();
+        if is_busy {
             return Some(ProcessFault::Busy);
         }
         if op.register() as usize >= self.copy.count() {

@@ -1,12 +1,12 @@
-use Rattle.std.proofs.Common.{sym, ap, ◌∙◌, subst, arith, refl, inl, inr, ◌≡◌, ℕ, ◌+◌, List, ◌∷◌, ◌++◌, map}
+use Rattle.std.proofs.Common.{sym, ap, ◌∙◌, subst, arith, refl, inl, inr, ◌≡◌, ℕ, ◌+◌, List, [], ◌∷◌, ◌++◌, map}
 use Rattle.reg_base.specs.Shape.{Extent}
 use Rattle.reg_orders.specs.declared.entries.Entry.{Entry}
 use Rattle.reg_history.specs.declared.versions.Version.{Version}
 use Rattle.reg_orders.specs.History.{IsInPlace}
 use Rattle.reg_orders.specs.Log.{Log, IsNextOf}
-use Rattle.reg_text.proofs.Turns.{Taken, steps, ended, refused, only_read}
+use Rattle.reg_text.proofs.Turns.{Taken, begins, steps, ended, refused, all_read, only_read}
 use Rattle.reg_history.specs.EntryLines.{entry_text}
-use Rattle.reg_history.specs.declared.report_faults.ReadWhy.TheVariants.{Place}
+use Rattle.reg_history.specs.declared.report_faults.ReadWhy.TheVariants.{Place, End}
 use Rattle.reg_history.specs.LineForms.{Follows}
 use Rattle.reg_history.proofs.blocks.read_entries.Goals as goal
 
@@ -108,3 +108,63 @@ returns-in-Err-OutOfPlace-clause-wrong g c =
         );
       },
     )
+
+pub loop-place-init : goal.loop-place-init
+loop-place-init g c =
+    let P : List Entry → Type 0 = λ l. Taken (entry_text c.args.names.now) (Follows c.args.version c.args.names.now c.args.history.now.shape) c.args.count c.args.lines.now.left c.args.lines.now.left l 0 in
+    (refl, subst P (sym c.requires.empty) (begins (entry_text c.args.names.now) (Follows c.args.version c.args.names.now c.args.history.now.shape) c.args.count c.args.lines.now.left))
+
+pub returns-in_default-clause-read : goal.returns-in_default-clause-read
+returns-in_default-clause-read g c = tt
+
+pub returns-in_default-clause-shape : goal.returns-in_default-clause-shape
+returns-in_default-clause-shape g c = tt
+
+pub returns-in_default-clause-wrong : goal.returns-in_default-clause-wrong
+returns-in_default-clause-wrong g c =
+    let told = c.loop-place.invariant.1 in
+    inr (
+      End,
+      c.at_line.ensures,
+      record {
+        before = c.loop-place.history.entries;
+        now = [];
+        lines = told.lines ∙ ap (λ l. map (entry_text c.args.names.now) c.loop-place.history.entries ++ l) c.in_default.ensures.line;
+        fit = told.fit;
+        fewer = omega (arith, told.count, c.loop-place-test.true);
+        wrong = refl;
+      },
+    )
+
+pub returns-in_default-read_entry-clause-read : goal.returns-in_default-read_entry-clause-read
+returns-in_default-read_entry-clause-read g c = tt
+
+pub returns-in_default-read_entry-clause-shape : goal.returns-in_default-read_entry-clause-shape
+returns-in_default-read_entry-clause-shape g c = tt
+
+pub returns-in-Err-OutOfPlace-clause-shape : goal.returns-in-Err-OutOfPlace-clause-shape
+returns-in-Err-OutOfPlace-clause-shape g c = tt
+
+pub returns-in-Err-OutOfMemory-clause-read : goal.returns-in-Err-OutOfMemory-clause-read
+returns-in-Err-OutOfMemory-clause-read g c = tt
+
+pub returns-in-Err-OutOfMemory-clause-shape : goal.returns-in-Err-OutOfMemory-clause-shape
+returns-in-Err-OutOfMemory-clause-shape g c = tt
+
+pub returns-in-Err-OutOfMemory-clause-whole : goal.returns-in-Err-OutOfMemory-clause-whole
+returns-in-Err-OutOfMemory-clause-whole g c = λ ys rest b. refl
+
+pub returns-in-Err-OutOfMemory-clause-wrong : goal.returns-in-Err-OutOfMemory-clause-wrong
+returns-in-Err-OutOfMemory-clause-wrong g c = inl refl
+
+pub returns-clause-read : goal.returns-clause-read
+returns-clause-read g c =
+    let n : c.loop-place._place ≡ c.args.count = omega arith in
+    let P : ℕ → Type 0 = λ i. Taken (entry_text c.args.names.now) (Follows c.args.version c.args.names.now c.args.history.now.shape) c.args.count c.args.lines.now.left c.loop-place.lines.left c.loop-place.history.entries i in
+    all_read (entry_text c.args.names.now) (Follows c.args.version c.args.names.now c.args.history.now.shape) c.args.count c.args.lines.now.left c.loop-place.lines.left c.loop-place.history.entries (subst P n c.loop-place.invariant.1)
+
+pub returns-clause-shape : goal.returns-clause-shape
+returns-clause-shape g c = c.loop-place.invariant.0
+
+pub returns-clause-wrong : goal.returns-clause-wrong
+returns-clause-wrong g c = tt

@@ -18,3 +18,9 @@ pub returns-in-Some-clause-whole : goal.returns-in-Some-clause-whole
 returns-in-Some-clause-whole g c = λ ns rest ok size e.
     let stopped = (rw c.in-Some.is at (c.read_spelt-names.ensures.whole ns rest (listed ns c.args.lines.now.left rest c.args.count ok size e))) in
     c.stopped_at.ensures.memory stopped
+
+pub returns-in-Err-clause-read : goal.returns-in-Err-clause-read
+returns-in-Err-clause-read g c = tt
+
+pub returns-in-Some-clause-read : goal.returns-in-Some-clause-read
+returns-in-Some-clause-read g c = tt

@@ -41,3 +41,6 @@ pub returns-clause-form : goal.returns-clause-form
 returns-clause-form c = λ line rest e none.
     let n = c.in_ok-processes.processes in
     no_truth (sym (none (decimal n) (first_line (sym e ∙ c.in_ok-processes.ensures.read.0))) ∙ number_form (decimal n) n (omega (arith, c.in_ok-processes.ensures.read.1, c.most_processes.ensures)) refl)
+
+pub returns-clause-read : goal.returns-clause-read
+returns-clause-read c = (c.in_ok-processes.ensures.read.0, omega (arith, c.if-processes-eq0.false), omega (arith, c.in_ok-processes.ensures.read.1, c.most_processes.ensures))

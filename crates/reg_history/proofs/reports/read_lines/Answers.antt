@@ -4,7 +4,7 @@ use Rattle.reg_history.proofs.Whole.{after_head, after_history, history_part, or
 use Rattle.reg_history.specs.declared.versions.Version.{Version}
 use Rattle.reg_history.proofs.Older.{widened}
 use Rattle.reg_history.specs.Reports.{IsReportIn}
-use Rattle.reg_history.proofs.PassedOn.{memory_passed_on}
+use Rattle.reg_history.proofs.PassedOn.{memory_passed_on, nothing_read}
 use Rattle.reg_history.proofs.reports.read_lines.Goals as goal
 
 pub returns-in_err-version-clause-whole : goal.returns-in_err-version-clause-whole
@@ -58,3 +58,15 @@ invariant_of-result g c =
     let s : c.in-Ok.shape ≡ record { processes = c.in_ok-version.processes; registers = c.count.result } = shape_is c.new.result c.in_ok-version.processes c.count.result c.in-Ok.shape c.in-Ok.is c.new.ensures in
     widened c.in_ok-version.version _ (from_parts c.in_ok-version.version _ c.in_ok-version.processes c.in_ok-version.names c.in-Ok.shape _ _ _ _ c.args.lines.now.left c.read_head.new.lines.left c.read_history.new.lines.left c.in_ok-order.ensures.read.0
     head.0 head.1 head.2 head.3 head.4 head.5 (s ∙ ap (λ x. record { processes = c.in_ok-version.processes; registers = x }) c.count.ensures.value) c.in_ok-history.ensures.shape c.in_ok-history.ensures.read c.in_ok-order.ensures.read.1 c.in_ok-order.ensures.read.2 c.in_ok-order.ensures.read.3).1
+
+pub returns-in_err-version-clause-read : goal.returns-in_err-version-clause-read
+returns-in_err-version-clause-read g c = nothing_read c.from_residual.result _ _ c.from_residual.ensures.1
+
+pub returns-in_err-history-clause-read : goal.returns-in_err-history-clause-read
+returns-in_err-history-clause-read g c = nothing_read c.from_residual-in_err-history.result _ _ c.from_residual-in_err-history.ensures.1
+
+pub returns-in_err-order-clause-read : goal.returns-in_err-order-clause-read
+returns-in_err-order-clause-read g c = nothing_read c.from_residual-in_err-order.result _ _ c.from_residual-in_err-order.ensures.1
+
+pub returns-in_default-clause-read : goal.returns-in_default-clause-read
+returns-in_default-clause-read g c = tt

@@ -1,6 +1,7 @@
-use Rattle.std.proofs.Common.{◌≡◌, List, sym, subst, ◌∙◌, arith}
+use Rattle.std.proofs.Common.{◌≡◌, List, refl, sym, subst, ◌∙◌, arith}
 use Rattle.std.specs.Prelude.{OnOk}
 use Rattle.reg_process.specs.declared.outcomes.Put.{Put}
+use Rattle.reg_process.proofs.Calls.{any_ok}
 use Rattle.reg_process.proofs.Outs.{length-outs, sent_all}
 use Rattle.reg_process.proofs.puts.queue_on_all.Goals as goal
 
@@ -21,3 +22,27 @@ returns-clause-frames g c =
     subst (λ (fs : List Put). OnOk c.put_all.result (c.put_all.new.frames.items ≡ fs))
     (sent_all c.args.got c.args.me c.in-Ok-queue_for_others.number c.args.body c.args.outboxes.now c.processes-processes.result c.processes-processes.ensures c.in-Ok-queue_for_others.ensures.number)
     c.put_all.ensures
+
+pub returns-in_default-clause-frames : goal.returns-in_default-clause-frames
+returns-in_default-clause-frames g c = tt
+
+pub returns-in_default-clause-queued : goal.returns-in_default-clause-queued
+returns-in_default-clause-queued g c = tt
+
+pub returns-in_default-clause-length : goal.returns-in_default-clause-length
+returns-in_default-clause-length g c = refl
+
+pub returns-in_default-queue_for_others-clause-frames : goal.returns-in_default-queue_for_others-clause-frames
+returns-in_default-queue_for_others-clause-frames g c = tt
+
+pub returns-in_default-queue_for_others-clause-queued : goal.returns-in_default-queue_for_others-clause-queued
+returns-in_default-queue_for_others-clause-queued g c = tt
+
+pub returns-in_default-queue_for_others-clause-grown : goal.returns-in_default-queue_for_others-clause-grown
+returns-in_default-queue_for_others-clause-grown g c = c.queue_for_others.ensures.grown
+
+pub returns-clause-queued : goal.returns-clause-queued
+returns-clause-queued g c = any_ok c.put_all.result c.in-Ok-queue_for_others.ensures.queued
+
+pub returns-clause-grown : goal.returns-clause-grown
+returns-clause-grown g c = c.queue_for_others.ensures.grown

@@ -3,7 +3,7 @@ use Rattle.reg_orders.specs.declared.entries.Entry.{Entry}
 use Rattle.reg_orders.specs.declared.place.Progress.{Progress}
 use Rattle.reg_orders.specs.History.{IsInPlace}
 use Rattle.reg_orders.specs.Progress.{IsKept, id_of, progress_after}
-use Rattle.reg_orders.proofs.Keeping.{entry_within, kept_more}
+use Rattle.reg_orders.proofs.Keeping.{entry_within, is_numbered, kept_more}
 use Rattle.reg_orders.proofs.log.History.push.Goals as goal
 
 -- the process of the entry has its progress
@@ -20,21 +20,20 @@ more count registers es ys zs ps e i d v kept same may is pushed next before =
     let w : progress_after (get_or ps i d) e ≡ v = ap (λ (x : Progress). progress_after x e) (sym before) ∙ sym next in
     subst (λ (xs : List Entry). IsKept count registers xs (set ps i v)) (sym pushed) (subst (λ (x : Progress). IsKept count registers (es ++ e ∷ []) (set ps i x)) w good)
 
-pub index-before-requires : goal.index-before-requires
-index-before-requires g c = let lt =
-    inside c.self.inside.shape.processes c.self.inside.shape.registers c.self.inside.entries.items c.deref.result.now c.self.inside.progress.items c.args.entry c.from-process.result c.self.invariant c.deref.ensures.value
-    (c.if-not-is_in_place.ensures.0 refl) (c.from-process.ensures ∙ ap (λ x. x.process) c.id_of.ensures) in omega arith
+pub advance-requires-clause-within : goal.advance-requires-clause-within
+advance-requires-clause-within g c =
+    inside c.self.inside.shape.processes c.self.inside.shape.registers c.self.inside.entries.items c.deref.result.now c.self.inside.progress.items c.args.entry (id_of c.args.entry).process c.self.invariant c.deref.ensures.value (c.if-not-is_in_place.ensures.0 refl) refl
 
-pub index_mut-requires : goal.index_mut-requires
-index_mut-requires g c = let lt =
-    inside c.self.inside.shape.processes c.self.inside.shape.registers c.self.inside.entries.items c.deref.result.now c.self.inside.progress.items c.args.entry c.from-process.result c.self.invariant c.deref.ensures.value
-    (c.if-not-is_in_place.ensures.0 refl) (c.from-process.ensures ∙ ap (λ x. x.process) c.id_of.ensures) in omega arith
+pub advance-requires-clause-numbered : goal.advance-requires-clause-numbered
+advance-requires-clause-numbered g c = is_numbered c.self.inside.shape.processes c.self.inside.shape.registers c.deref.result.now c.args.entry (c.if-not-is_in_place.ensures.0 refl)
 
 pub invariant_of-self-2 : goal.invariant_of-self-2
 invariant_of-self-2 g c =
-    more c.self.inside.shape.processes c.self.inside.shape.registers c.self.inside.entries.items c.deref.result.now c.push_reserved.new.self.items c.self.inside.progress.items c.args.entry c.from-process.result
-    c.index-before.result.now c.after_entry.result c.self.invariant c.deref.ensures.value (c.if-not-is_in_place.ensures.0 refl) (c.from-process.ensures ∙ ap (λ x. x.process) c.id_of.ensures)
-    (c.push_reserved.ensures.items ∙ ap (λ (xs : List Entry). xs ++ c.args.entry ∷ []) c.reserve.ensures.items) c.after_entry.ensures c.index-before.ensures
+    let told = c.advance.ensures in
+    let kept = more c.self.inside.shape.processes c.self.inside.shape.registers c.self.inside.entries.items c.deref.result.now c.push_reserved.new.self.items c.self.inside.progress.items c.args.entry (id_of c.args.entry).process
+    told.0 (progress_after told.0 c.args.entry) c.self.invariant c.deref.ensures.value (c.if-not-is_in_place.ensures.0 refl) refl
+    (c.push_reserved.ensures.items ∙ ap (λ (xs : List Entry). xs ++ c.args.entry ∷ []) c.reserve.ensures.items) refl told.1 in
+    subst (λ (ps : List Progress). IsKept c.self.inside.shape.processes c.self.inside.shape.registers c.push_reserved.new.self.items ps) (sym told.2) kept
 
 pub returns-then-not-is_in_place : goal.returns-then-not-is_in_place
 returns-then-not-is_in_place g c = search rules

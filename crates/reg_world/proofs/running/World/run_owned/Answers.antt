@@ -1,5 +1,4 @@
-use Rattle.std.proofs.Common.{◌≡◌, ◌∙◌, ap, subst, List, false, arith}
-use Rattle.std.proofs.lemmas.Grind.{common_steps}
+use Rattle.std.proofs.Common.{◌≡◌, ◌∙◌, ap, subst, List, length, false, arith}
 use Rattle.std.proofs.lemmas.Result.{err_from_is_err_and}
 use Rattle.reg_base.specs.Shape.{Extent}
 use Rattle.reg_world.specs.declared.events.Event.{Event}
@@ -23,4 +22,4 @@ returns-in_err-run_ahead-clause-world g c =
     (subst (λ (l : List Event). RunRefuses g.F.FrontEnd.start c.put_ahead.new.self.shape l c.in_err-run_ahead.field-0.0.at c.in_err-run_ahead.field-0.0.fault) ahead c.in_err-run_ahead.ensures.made))
 
 pub run_ahead-requires-clause-count : goal.run_ahead-requires-clause-count
-run_ahead-requires-clause-count g c = grind (arith, common_steps)
+run_ahead-requires-clause-count g c = let ahead = ap (λ (b : Pages). length b.ahead) c.put_ahead.ensures in omega (arith, c.len-count.ensures, c.args.events.ok.0, ahead)

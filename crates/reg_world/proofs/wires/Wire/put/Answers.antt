@@ -1,5 +1,6 @@
 use Rattle.std.proofs.Common.{◌∙◌, ◌++◌, ◌∷◌, ◌≡◌, ◌<◌, [], List, length, take, refl, sym, ap, subst, arith, rules}
 use Rattle.std.proofs.lemmas.Bool.Decides.{nat_tests}
+use Rattle.std.proofs.lemmas.Result.{on_ok_weaker}
 use Rattle.std.specs.Prelude.{OnOk}
 use Rattle.reg_frames.specs.declared.bodies.Frame.{Frame}
 use Rattle.reg_world.specs.Wires.{Strand, frames_in}
@@ -11,7 +12,9 @@ returns-then-not-is_empty-clause-frames g c =
     let own = c.self.inside.own in
     let common = c.args.common.now.items in
     let some : 0 < length own.items = grind (arith, nat_tests) in
-    put_own (take c.self.inside.shared common) own.items c.push.new.frames.items c.args.frame some c.in_ok-push.ensures.put ∙ ap (λ (s : Strand). frames_in common s ++ c.args.frame ∷ []) c.self.view_is
+    on_ok_weaker c.push.result
+    (λ put. put_own (take c.self.inside.shared common) own.items c.push.new.frames.items c.args.frame some put ∙ ap (λ (s : Strand). frames_in common s ++ c.args.frame ∷ []) c.self.view_is)
+    c.push.ensures.put
 
 pub returns-then-self-len-clause-frames : goal.returns-then-self-len-clause-frames
 returns-then-self-len-clause-frames g c =
@@ -19,13 +22,13 @@ returns-then-self-len-clause-frames g c =
     let old = c.args.common.now in
     let new = c.push-then-self-len.new.frames in
     let none : length own.items ≡ 0 = grind (arith, nat_tests) in
-    put_next old.items new.items own.items c.self.inside.shared c.len-self-inside.result c.args.frame none (omega (arith, old.ok.0, c.len.ensures, c.if-self-len.true)) (omega (arith, new.ok.0, c.len-self-inside.ensures)) c.in_ok-push-2.ensures.put ∙ ap (λ (s : Strand). frames_in old.items s ++ c.args.frame ∷ []) c.self.view_is
+    put_next old.items new.items own.items c.self.inside.shared c.len-self-inside.result c.args.frame none (omega (arith, old.ok.0, c.len.ensures, c.if-self-len.true)) (omega (arith, new.ok.0, c.len-self-inside.ensures)) c.in_ok-push.ensures.put ∙ ap (λ (s : Strand). frames_in old.items s ++ c.args.frame ∷ []) c.self.view_is
 
 pub returns-then-self-len-clause-longer : goal.returns-then-self-len-clause-longer
-returns-then-self-len-clause-longer g c = longer_more c.args.common.now.items c.push-then-self-len.new.frames.items (c.args.frame ∷ []) c.in_ok-push-2.ensures.put
+returns-then-self-len-clause-longer g c = longer_more c.args.common.now.items c.push-then-self-len.new.frames.items (c.args.frame ∷ []) c.in_ok-push.ensures.put
 
-pub returns-in_err-push-2-clause-longer : goal.returns-in_err-push-2-clause-longer
-returns-in_err-push-2-clause-longer g c = longer_same c.args.common.now.items c.push-then-self-len.new.frames.items c.in_err-push-2.ensures.kept
+pub returns-in_err-push-clause-longer : goal.returns-in_err-push-clause-longer
+returns-in_err-push-clause-longer g c = longer_same c.args.common.now.items c.push-then-self-len.new.frames.items c.in_err-push.ensures.kept
 
 pub returns-then-eq-clause-frames : goal.returns-then-eq-clause-frames
 returns-then-eq-clause-frames g c =
@@ -38,9 +41,6 @@ pub returns-clause-frames : goal.returns-clause-frames
 returns-clause-frames g c =
     let now = c.args.self.now in
     subst (λ (l : List Frame). OnOk c.part.result (frames_in l c.part.new.self ≡ frames_in l now ++ c.args.frame ∷ [])) c.deref.ensures.value c.part.ensures.frames
-
-pub returns-in_err-push-clause-longer : goal.returns-in_err-push-clause-longer
-returns-in_err-push-clause-longer g c = longer_same c.args.common.now.items c.args.common.now.items refl
 
 pub returns-then-not-is_empty-clause-longer : goal.returns-then-not-is_empty-clause-longer
 returns-then-not-is_empty-clause-longer g c = longer_same c.args.common.now.items c.args.common.now.items refl
