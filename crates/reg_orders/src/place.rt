@@ -73,6 +73,7 @@ pub fn after_entry(before: Progress, entry: Entry) -> Progress
 }
 
 /// Notes how far the process of an entry is after it.
+#[inline]
 pub fn advance<A: Allocator + Copy>(progress: &mut Vec<Progress, A>, entry: Entry)
     requires within { (id_of_entry entry).process < length progress.old.items }
     requires numbered { IsNumbered entry }
