@@ -1,7 +1,7 @@
 //! The commands as a user meets them, on reports and schedules worked by hand.
 use reg_commands::{Command, run_text};
-use std::alloc::{Allocator, Global};
-use std::io::{Read, Write};
+use std::alloc::Global;
+use std::io::Read;
 use std::process::Abort;
 
 /// One process writes 5 and reads it.
@@ -70,17 +70,40 @@ history 3
        2  p1    #0       answer  value 5
 ";
 
-/// The status of a command, and the faults that it tells.
-pub(crate) fn ran<A: Allocator + Copy, R: Read, W: Write>(
-    heap: A,
+/// Whether what a command did is this: its status, what it wrote and the faults that it told.
+pub(crate) fn is_answer(done: (u8, &[u8], &[u8]), status: u8, output: &str, faults: &str) -> bool {
+    let (got, written, told) = done;
+    got == status && written == output.as_bytes() && told == faults.as_bytes()
+}
+
+/// Whether a command over any reader has this status, output and faults.
+pub(crate) fn answers<R: Read>(
     alloc: Global,
     command: Command,
     reader: &mut R,
-    writer: &mut W,
-) -> (u8, Vec<u8>) {
+    status: u8,
+    output: &str,
+    faults: &str,
+) -> bool {
+    let mut written = Vec::new(alloc);
     let mut errors = Vec::new(alloc);
-    let status = run_text(heap, alloc, command, reader, writer, &mut errors);
-    (status, errors)
+    let got = run_text(alloc, alloc, command, reader, &mut written, &mut errors);
+    let done = (got, written.as_slice(), errors.as_slice());
+    is_answer(done, status, output, faults)
+}
+
+/// The same over the two parts of an input.
+pub(crate) fn answers_joined(
+    alloc: Global,
+    command: Command,
+    parts: (&str, &str),
+    status: u8,
+    output: &str,
+    faults: &str,
+) -> bool {
+    let (head, tail) = parts;
+    let mut reader = head.as_bytes().chain(tail.as_bytes());
+    answers(alloc, command, &mut reader, status, output, faults)
 }
 
 /// Demands the status, the output and the faults of a command over any reader.
@@ -93,11 +116,7 @@ pub(crate) fn demand_read<R: Read>(
     output: &str,
     faults: &str,
 ) {
-    let mut written = Vec::new(alloc);
-    let (got, errors) = ran(alloc, alloc, command, reader, &mut written);
-    assert!(rt; errors.as_slice() == faults.as_bytes());
-    assert!(rt; written.as_slice() == output.as_bytes());
-    assert!(rt; got == status);
+    assert!(rt; answers(alloc, command, reader, status, output, faults));
 }
 
 /// Demands the status, the output and the faults of a command.
@@ -112,12 +131,6 @@ pub(crate) fn demand(
 ) {
     let mut reader = input;
     demand_read(rt, alloc, command, &mut reader, status, output, faults);
-}
-
-pub(crate) fn joined(rt: &impl Abort, alloc: Global, head: &str, tail: &str) -> String {
-    let mut text = String::from_str(alloc, head).expect(rt, "memory");
-    text.push_str(tail).expect(rt, "memory");
-    text
 }
 
 /// The rest of a report, and what is said of it.
@@ -162,27 +175,21 @@ const JUDGED: [(&str, &[Judged]); 4] = [
     ),
 ];
 
-/// Demands what is said of a head with each of its rests.
-fn demand_judged(rt: &impl Abort, alloc: Global, head: &str, rests: &[Judged]) {
+/// Whether this is said of a head with each of its rests.
+fn is_judged(alloc: Global, head: &str, rests: &[Judged]) -> bool {
     for (rest, lines) in rests {
-        let report = joined(rt, alloc, head, rest);
         let status = if *lines == "serial yes\n" { 0 } else { 1 };
-        demand(
-            rt,
-            alloc,
-            Command::Check,
-            report.as_bytes(),
-            status,
-            lines,
-            "",
-        );
+        if !answers_joined(alloc, Command::Check, (head, rest), status, lines, "") {
+            return false;
+        }
     }
+    true
 }
 
 #[test]
 fn orders_are_judged(rt: HostRuntime) {
     for (head, rests) in &JUDGED {
-        demand_judged(&rt, rt.alloc(), head, rests);
+        assert!(rt; is_judged(rt.alloc(), head, rests));
     }
 }
 
@@ -199,9 +206,8 @@ fn reports_are_read_as_they_were_written(rt: HostRuntime) {
     let (alloc, check) = (rt.alloc(), Command::Check);
     for (cut, behind, both, line) in &CHANGED {
         let front = ONE_PROCESS.strip_suffix(*cut).unwrap_or("");
-        let report = joined(&rt, alloc, front, behind);
         let status = u8::from(!line.is_empty());
-        demand(&rt, alloc, check, report.as_bytes(), status, both, line);
+        assert!(rt; answers_joined(alloc, check, (front, behind), status, both, line));
     }
     demand(&rt, alloc, check, b"\xff", 1, "", "input: not text\n");
 }

@@ -3,8 +3,7 @@ use reg_commands::{Fault, write_fault};
 use reg_history::ReadWhy;
 use reg_workload::{Key, WorkloadFault};
 use reg_world::WorldFault;
-use std::alloc::Global;
-use std::process::Abort;
+use std::alloc::{AllocError, Global};
 use std::test::Fail;
 
 /// Each fault of a stream, and its line.
@@ -81,33 +80,48 @@ const KEYS: [(Key, &str); 7] = [
     (Key::Budget, "budget"),
 ];
 
-/// Demands the line of a fault, and that it is what the fault shows.
-fn demand_line(rt: &impl Abort, alloc: Global, fault: Fault, line: &str) -> Result<(), Fail> {
+/// Whether the line of a fault is this one.
+fn is_line(alloc: Global, fault: Fault, line: &str) -> bool {
     let mut errors = Vec::new(alloc);
-    assert!(rt; write_fault(&mut errors, fault).is_ok());
-    assert!(rt; errors.as_slice() == line.as_bytes());
-    assert!(rt; format!(in alloc; "{fault}\n")?.as_str() == line);
-    Ok(())
+    let written = write_fault(&mut errors, fault);
+    written.is_ok() && errors.as_slice() == line.as_bytes()
 }
 
-/// Demands the lines of the faults that name this key.
-fn demand_key(rt: &impl Abort, alloc: Global, key: Key, name: &str) -> Result<(), Fail> {
-    let table = [
-        (WorkloadFault::Missing { key }, "missing"),
-        (WorkloadFault::Kind { key }, "kind"),
-        (WorkloadFault::Range { key }, "range"),
-    ];
-    for (fault, word) in table {
-        let line = format!(in alloc; "{word} {name}\n")?;
-        demand_line(rt, alloc, Fault::Workload { fault }, line.as_str())?;
-    }
-    Ok(())
+/// Whether a fault shows this line.
+fn shows(alloc: Global, fault: Fault, line: &str) -> Result<bool, AllocError> {
+    let shown = format!(in alloc; "{fault}\n")?;
+    Ok(shown.as_str() == line)
+}
+
+/// Whether the line of a fault is this one, and is what the fault shows.
+fn has_line(alloc: Global, fault: Fault, line: &str) -> Result<bool, AllocError> {
+    Ok(shows(alloc, fault, line)? && is_line(alloc, fault, line))
+}
+
+/// Whether a fault that names a key has the line of this word and the key's name.
+fn has_key_line(
+    alloc: Global,
+    fault: WorkloadFault,
+    word: &str,
+    name: &str,
+) -> Result<bool, AllocError> {
+    let line = format!(in alloc; "{word} {name}\n")?;
+    has_line(alloc, Fault::Workload { fault }, line.as_str())
+}
+
+/// Whether the faults that name this key have their lines.
+fn has_key_lines(alloc: Global, key: Key, name: &str) -> Result<bool, AllocError> {
+    Ok(
+        has_key_line(alloc, WorkloadFault::Missing { key }, "missing", name)?
+            && has_key_line(alloc, WorkloadFault::Kind { key }, "kind", name)?
+            && has_key_line(alloc, WorkloadFault::Range { key }, "range", name)?,
+    )
 }
 
 #[test]
 fn faults_of_streams_have_their_lines(rt: HostRuntime) -> Result<(), Fail> {
     for (fault, line) in &OF_STREAMS {
-        demand_line(&rt, rt.alloc(), *fault, line)?;
+        assert!(rt; has_line(rt.alloc(), *fault, line)?);
     }
     Ok(())
 }
@@ -119,7 +133,7 @@ fn faults_of_lines_have_their_lines(rt: HostRuntime) -> Result<(), Fail> {
             line: *number,
             why: *why,
         };
-        demand_line(&rt, rt.alloc(), fault, line)?;
+        assert!(rt; has_line(rt.alloc(), fault, line)?);
     }
     Ok(())
 }
@@ -131,7 +145,7 @@ fn faults_of_events_have_their_lines(rt: HostRuntime) -> Result<(), Fail> {
             at: *at,
             fault: *fault,
         };
-        demand_line(&rt, rt.alloc(), fault, line)?;
+        assert!(rt; has_line(rt.alloc(), fault, line)?);
     }
     Ok(())
 }
@@ -139,10 +153,15 @@ fn faults_of_events_have_their_lines(rt: HostRuntime) -> Result<(), Fail> {
 #[test]
 fn faults_of_documents_have_their_lines(rt: HostRuntime) -> Result<(), Fail> {
     for (fault, line) in &OF_DOCUMENTS {
-        demand_line(&rt, rt.alloc(), Fault::Workload { fault: *fault }, line)?;
+        assert!(rt; has_line(rt.alloc(), Fault::Workload { fault: *fault }, line)?);
     }
+    Ok(())
+}
+
+#[test]
+fn faults_of_keys_have_their_lines(rt: HostRuntime) -> Result<(), Fail> {
     for (key, name) in &KEYS {
-        demand_key(&rt, rt.alloc(), *key, name)?;
+        assert!(rt; has_key_lines(rt.alloc(), *key, name)?);
     }
     Ok(())
 }

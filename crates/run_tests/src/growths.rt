@@ -1,15 +1,17 @@
 //! Each growth of runs refused in turn: the answer is want of memory, or the one with ample memory.
 use crate::plays::SMALL;
-use crate::telling::kept;
+use crate::telling::{has_witness, keeps, push_kept};
 use crate::world_rows::{LINEAR, LOCAL_READ, LOCAL_WRITE, Row};
 use refusing::{Trial, refusals};
-use reg_base::Shape;
+use reg_base::{OpId, Shape};
 use reg_front::{Front, FrontEnd, Linear, LocalRead, LocalWrite};
-use reg_history::{check_points, check_serial};
+use reg_history::{History, Point, check_points, check_serial};
 use reg_toml::{Workload, WorkloadFault, read_table};
-use reg_workload::{Play, ScheduleFault, SeedWords, parse_schedule, play_fair, play_seeded};
+use reg_workload::{
+    Play, Schedule, ScheduleFault, SeedWords, parse_schedule, play_fair, play_seeded,
+};
 use reg_world::{Event, RunFault, World, WorldFault};
-use std::alloc::{Allocator, Global};
+use std::alloc::{AllocError, Allocator, Global};
 use std::test::Fail;
 
 /// A run step by step, and then its witness.
@@ -20,19 +22,16 @@ struct Steps {
     events: &'static [Event],
 }
 
-/// Whether the world tells just what a run of ample memory tells, and has stopped.
-fn tells_the_same<F: FrontEnd, A: Allocator + Copy>(
+/// Whether the world keeps just what a run of ample memory keeps.
+fn keeps_the_same<F: FrontEnd, A: Allocator + Copy>(
     ample: Global,
-    world: &mut World<F, A>,
+    world: &World<F, A>,
     other: &World<F>,
-) -> Result<bool, Fail> {
-    if kept(ample, world)?.as_str() != kept(ample, other)?.as_str() {
-        return Ok(false);
-    }
-    Ok(
-        world.events() == other.events()
-            && world.step(&Event::Tick { process: 0 }) == Err(WorldFault::Failed),
-    )
+) -> bool {
+    let mut text = String::new(ample);
+    push_kept(&mut text, other).is_ok()
+        && keeps(ample, world, text.as_str())
+        && world.events() == other.events()
 }
 
 /// Whether its witness is that of the other one, and a serial order of that one's history.
@@ -40,26 +39,66 @@ fn has_the_same_witness<F: FrontEnd, A: Allocator + Copy>(
     ample: Global,
     world: &World<F, A>,
     other: &World<F>,
-) -> Result<bool, Fail> {
-    let order = other.witness()?;
-    Ok(
-        world.witness()?.as_slice() == order.as_slice()
-            && check_serial(ample, other.history(), order.as_slice()) == Ok(()),
-    )
+) -> bool {
+    match other.witness() {
+        Ok(order) => {
+            has_witness(world, order.as_slice())
+                && check_serial(ample, other.history(), order.as_slice()) == Ok(())
+        }
+        Err(_) => false,
+    }
 }
 
-/// What a world tells after the first events. Where memory is refused at one of them it tells that still, and its witness
-/// is a serial order of the history so far; otherwise this says where it doesn't.
+fn has_stopped<F: FrontEnd, A: Allocator + Copy>(world: &mut World<F, A>) -> bool {
+    world.step(&Event::Tick { process: 0 }) == Err(WorldFault::Failed)
+}
+
+/// Whether the world has stopped, tells what it told after the first events, and its witness is a serial order of the
+/// history so far.
+fn stops_behind<F: FrontEnd, A: Allocator + Copy>(
+    ample: Global,
+    world: &mut World<F, A>,
+    first: &[Event],
+) -> bool {
+    match World::<F>::run(ample, world.shape(), first) {
+        Ok(other) => {
+            keeps_the_same(ample, world, &other)
+                && has_stopped(world)
+                && has_the_same_witness(ample, world, &other)
+        }
+        Err(_) => false,
+    }
+}
+
+/// None where a world whose memory is refused behind the first events has stopped as it should; otherwise where it hasn't.
 fn refused<F: FrontEnd, A: Allocator + Copy>(
     ample: Global,
     world: &mut World<F, A>,
     first: &[Event],
 ) -> Result<Option<String>, Fail> {
-    let other = World::<F>::run(ample, world.shape(), first)?;
-    if tells_the_same(ample, world, &other)? && has_the_same_witness(ample, world, &other)? {
+    if stops_behind(ample, world, first) {
         return Ok(None);
     }
     Ok(Some(format!(in ample; "otherwise at {}", first.len())?))
+}
+
+fn push_kept_and_ids<F: FrontEnd, A: Allocator + Copy>(
+    text: &mut String,
+    world: &World<F, A>,
+    ids: &[OpId],
+) -> Result<(), AllocError> {
+    push_kept(text, world)?;
+    write!(text, "{ids:?}")
+}
+
+fn kept_and_ids<F: FrontEnd, A: Allocator + Copy>(
+    ample: Global,
+    world: &World<F, A>,
+    ids: &[OpId],
+) -> Result<Option<String>, Fail> {
+    let mut text = String::new(ample);
+    push_kept_and_ids(&mut text, world, ids)?;
+    Ok(Some(text))
 }
 
 /// What a world tells, and its witness. None where memory is wanted.
@@ -67,12 +106,41 @@ fn kept_with_witness<F: FrontEnd, A: Allocator + Copy>(
     ample: Global,
     world: &World<F, A>,
 ) -> Result<Option<String>, Fail> {
-    let Ok(order) = world.witness() else {
-        return Ok(None);
-    };
-    let mut text = kept(ample, world)?;
-    text.push_str(format!(in ample; "{:?}", order.as_slice())?.as_str())?;
-    Ok(Some(text))
+    match world.witness() {
+        Ok(order) => kept_and_ids(ample, world, order.as_slice()),
+        Err(_) => Ok(None),
+    }
+}
+
+/// Has the world make the events, up to the first that is refused.
+fn step_all<F: FrontEnd, A: Allocator + Copy>(
+    world: &mut World<F, A>,
+    events: &[Event],
+) -> Result<(), RunFault> {
+    for (at, event) in events.iter().enumerate() {
+        if let Err(fault) = world.step(event) {
+            return Err(RunFault { at, fault });
+        }
+    }
+    Ok(())
+}
+
+/// What the world tells after the events. None where memory is wanted.
+fn follow<F: FrontEnd, A: Allocator + Copy>(
+    ample: Global,
+    world: &mut World<F, A>,
+    events: &[Event],
+) -> Result<Option<String>, Fail> {
+    match step_all(world, events) {
+        Ok(()) => kept_with_witness(ample, world),
+        Err(
+            RunFault {
+                at,
+                fault: WorldFault::OutOfMemory,
+            },
+        ) => refused(ample, world, events.get(..at).unwrap_or(&[])),
+        Err(fault) => Err(fault)?,
+    }
 }
 
 fn step_by_step<F: FrontEnd, A: Allocator + Copy>(
@@ -80,20 +148,11 @@ fn step_by_step<F: FrontEnd, A: Allocator + Copy>(
     ample: Global,
     steps: &Steps,
 ) -> Result<Option<String>, Fail> {
-    let Ok(mut world) = World::<F, A>::new(alloc, Shape::new(steps.processes, 1)?) else {
-        return Ok(None);
-    };
-    for (at, event) in steps.events.iter().enumerate() {
-        match world.step(event) {
-            Ok(()) => {}
-            Err(WorldFault::OutOfMemory) => {
-                let first = steps.events.get(..at).unwrap_or(&[]);
-                return refused(ample, &mut world, first);
-            }
-            Err(fault) => return Ok(Some(format!(in ample; "{fault:?}")?)),
-        }
+    let shape = Shape::new(steps.processes, 1)?;
+    match World::<F, A>::new(alloc, shape) {
+        Ok(mut world) => follow(ample, &mut world, steps.events),
+        Err(_) => Ok(None),
     }
-    kept_with_witness(ample, &world)
 }
 
 impl Trial for Steps {
@@ -113,36 +172,65 @@ struct Run {
     events: &'static [Event],
 }
 
-/// The witness and the points of a run, where both checks say yes. None where memory is wanted.
+fn both_say_yes<A: Allocator + Copy>(
+    alloc: A,
+    history: &History<A>,
+    order: &[OpId],
+    points: &[Point],
+) -> bool {
+    check_serial(alloc, history, order) == Ok(()) && check_points(alloc, history, points) == Ok(())
+}
+
+/// The order and the points, where both checks say yes.
 fn judged<A: Allocator + Copy>(
+    alloc: A,
+    ample: Global,
+    history: &History<A>,
+    order: &[OpId],
+    points: &[Point],
+) -> Result<Option<String>, Fail> {
+    if both_say_yes(alloc, history, order, points) {
+        return Ok(Some(format!(in ample; "{order:?} {points:?}")?));
+    }
+    Ok(None)
+}
+
+fn judged_with_points<A: Allocator + Copy>(
+    alloc: A,
+    ample: Global,
+    world: &World<Linear, A>,
+    order: &[OpId],
+) -> Result<Option<String>, Fail> {
+    match world.points() {
+        Ok(points) => judged(alloc, ample, world.history(), order, points.as_slice()),
+        Err(_) => Ok(None),
+    }
+}
+
+/// The witness and the points of a run, where both checks say yes. None where memory is wanted.
+fn judged_run<A: Allocator + Copy>(
     alloc: A,
     ample: Global,
     world: &World<Linear, A>,
 ) -> Result<Option<String>, Fail> {
-    let (Ok(order), Ok(points)) = (world.witness(), world.points()) else {
-        return Ok(None);
-    };
-    let (order, points) = (order.as_slice(), points.as_slice());
-    if check_serial(alloc, world.history(), order).is_err()
-        || check_points(alloc, world.history(), points).is_err()
-    {
-        return Ok(None);
+    match world.witness() {
+        Ok(order) => judged_with_points(alloc, ample, world, order.as_slice()),
+        Err(_) => Ok(None),
     }
-    Ok(Some(format!(in ample; "{order:?} {points:?}")?))
 }
 
 impl Trial for Run {
     fn answer<A: Allocator + Copy>(&self, alloc: A, ample: Global) -> Result<Option<String>, Fail> {
         let shape = Shape::new(self.processes, 1)?;
         match World::<Linear, A>::run(alloc, shape, self.events) {
-            Ok(world) => judged(alloc, ample, &world),
+            Ok(world) => judged_run(alloc, ample, &world),
             Err(
                 RunFault {
                     at: _,
                     fault: WorldFault::OutOfMemory,
                 },
             ) => Ok(None),
-            Err(fault) => Ok(Some(format!(in ample; "{fault:?}")?)),
+            Err(fault) => Err(fault)?,
         }
     }
 }
@@ -154,27 +242,72 @@ enum Read {
     Plays,
 }
 
+const SCHEDULE: &str =
+    "# x\nprocesses 2\nregisters x y\nfront local-write\ncall 0 write y 5\ntake 0 1 0\ntick 1\n";
+
+fn schedule_told<A: Allocator + Copy>(
+    ample: Global,
+    plan: &Schedule<A>,
+) -> Result<Option<String>, Fail> {
+    let register = plan.names.number("y");
+    let events = plan.events.as_slice();
+    Ok(Some(format!(in ample; "{register:?} {events:?}")?))
+}
+
+/// What a schedule says. None where memory is wanted.
 fn schedule<A: Allocator + Copy>(alloc: A, ample: Global) -> Result<Option<String>, Fail> {
-    let text =
-        "# x\nprocesses 2\nregisters x y\nfront local-write\ncall 0 write y 5\ntake 0 1 0\ntick 1\n";
-    match parse_schedule(alloc, text) {
+    match parse_schedule(alloc, SCHEDULE) {
+        Ok(plan) => schedule_told(ample, &plan),
         Err(ScheduleFault::OutOfMemory) => Ok(None),
-        read => {
-            let plan = read?;
-            let register = plan.names.number("y");
-            let events = plan.events.as_slice();
-            Ok(Some(format!(in ample; "{register:?} {events:?}")?))
-        }
+        Err(fault) => Err(fault)?,
     }
 }
 
-fn play_told<A: Allocator + Copy>(
-    ample: Global,
+fn push_play<A: Allocator + Copy>(
+    text: &mut String,
     play: &Play<LocalWrite, A>,
-) -> Result<String, Fail> {
-    let mut text = kept(ample, &play.world)?;
-    text.push_str(if play.finished { "true\n" } else { "false\n" })?;
-    Ok(text)
+) -> Result<(), AllocError> {
+    push_kept(text, &play.world)?;
+    text.push_str(if play.finished { "true\n" } else { "false\n" })
+}
+
+/// What a player made of a workload. False where memory was wanted for it.
+fn push_made<A: Allocator + Copy>(
+    text: &mut String,
+    made: &Result<Play<LocalWrite, A>, AllocError>,
+) -> Result<bool, AllocError> {
+    let Ok(play) = made else {
+        return Ok(false);
+    };
+    push_play(text, play)?;
+    Ok(true)
+}
+
+fn push_fair<A: Allocator + Copy>(
+    text: &mut String,
+    alloc: A,
+    work: &Workload<A>,
+) -> Result<bool, AllocError> {
+    let made = play_fair::<LocalWrite, A>(alloc, work);
+    push_made(text, &made)
+}
+
+fn push_seeded<A: Allocator + Copy>(
+    text: &mut String,
+    alloc: A,
+    work: &Workload<A>,
+) -> Result<bool, AllocError> {
+    let made = play_seeded::<LocalWrite, _, A>(alloc, work, SeedWords::new(0));
+    push_made(text, &made)
+}
+
+/// What both players make of a workload. False where memory was wanted for it.
+fn push_both<A: Allocator + Copy>(
+    text: &mut String,
+    alloc: A,
+    work: &Workload<A>,
+) -> Result<bool, AllocError> {
+    Ok(push_fair(text, alloc, work)? && push_seeded(text, alloc, work)?)
 }
 
 /// What both players make of a workload. None where memory is wanted.
@@ -183,22 +316,21 @@ fn played<A: Allocator + Copy>(
     ample: Global,
     work: &Workload<A>,
 ) -> Result<Option<String>, Fail> {
-    let Ok(fair) = play_fair::<LocalWrite, A>(alloc, work) else {
-        return Ok(None);
-    };
-    let mut text = play_told(ample, &fair)?;
-    let Ok(seeded) = play_seeded::<LocalWrite, _, A>(alloc, work, SeedWords::new(0)) else {
-        return Ok(None);
-    };
-    text.push_str(play_told(ample, &seeded)?.as_str())?;
-    Ok(Some(text))
+    let mut text = String::new(ample);
+    let is_whole = push_both(&mut text, alloc, work)?;
+    Ok(if is_whole { Some(text) } else { None })
+}
+
+fn small_work<A: Allocator + Copy>(alloc: A, ample: Global) -> Result<Workload<A>, WorkloadFault> {
+    let table = read_table(ample, SMALL)?;
+    Workload::from_table(alloc, &table)
 }
 
 fn both_plays<A: Allocator + Copy>(alloc: A, ample: Global) -> Result<Option<String>, Fail> {
-    let table = read_table(ample, SMALL)?;
-    match Workload::from_table(alloc, &table) {
+    match small_work(alloc, ample) {
+        Ok(work) => played(alloc, ample, &work),
         Err(WorkloadFault::OutOfMemory) => Ok(None),
-        read => played(alloc, ample, &read?),
+        Err(fault) => Err(fault)?,
     }
 }
 
@@ -211,6 +343,7 @@ impl Trial for Read {
     }
 }
 
+/// Refuses each growth of the runs of one front end, step by step.
 fn demand(alloc: Global, front: Front, rows: &[Row]) -> Result<(), Fail> {
     for (processes, events, _) in rows {
         let (processes, events) = (*processes, *events);
@@ -240,7 +373,7 @@ fn each_growth_of_a_run_is_refused(rt: HostRuntime) -> Result<(), Fail> {
 
 #[test]
 fn each_growth_of_what_is_read_and_played_is_refused(rt: HostRuntime) -> Result<(), Fail> {
-    assert!(rt; refusals(&Read::Schedule, rt.alloc())? > 2);
-    assert!(rt; refusals(&Read::Plays, rt.alloc())? > 20);
+    let alloc = rt.alloc();
+    assert!(rt; refusals(&Read::Schedule, alloc)? > 2 && refusals(&Read::Plays, alloc)? > 20);
     Ok(())
 }

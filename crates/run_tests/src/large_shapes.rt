@@ -1,5 +1,5 @@
 //! The largest shapes, and the reports of both versions, as a user meets them.
-use crate::checks::{ONE_PROCESS, demand, joined};
+use crate::checks::{ONE_PROCESS, answers_joined};
 use crate::replays::ONE_PROCESS_SCHEDULE;
 use reg_commands::Command;
 
@@ -101,9 +101,8 @@ const LARGEST: [(Command, &str, &str, u8, &str, &str); 8] = [
 
 #[test]
 fn the_largest_shapes_and_both_versions(rt: HostRuntime) {
+    let alloc = rt.alloc();
     for (command, head, tail, status, written, told) in &LARGEST {
-        let text = joined(&rt, rt.alloc(), head, tail);
-        let bytes = text.as_bytes();
-        demand(&rt, rt.alloc(), *command, bytes, *status, written, told);
+        assert!(rt; answers_joined(alloc, *command, (head, tail), *status, written, told));
     }
 }

@@ -4,33 +4,51 @@ use reg_base::Shape;
 use reg_base::limits::{MOST_EVENTS, MOST_OPERATIONS};
 use reg_front::Linear;
 use reg_world::{Event, World, WorldFault};
-use std::process::Abort;
+use std::alloc::Global;
+use std::test::Fail;
 
-fn shape_of(rt: &impl Abort, processes: u32) -> Shape {
-    Shape::new(processes, 1).expect(rt, "a shape")
+/// A world of one process and one register.
+fn world_of_one(alloc: Global) -> Result<World<Linear>, Fail> {
+    let shape = Shape::new(1, 1)?;
+    Ok(World::new(alloc, shape)?)
 }
 
-#[test]
-fn a_run_has_so_many_events(rt: HostRuntime) {
-    let mut world = World::<Linear>::new(rt.alloc(), shape_of(&rt, 1)).expect(&rt, "memory");
-    let tick = Event::Tick { process: 0 };
-    for _i in 0..MOST_EVENTS {
-        world.step(&tick).expect(&rt, "accepted");
+/// Whether a world takes the event so many times, and then refuses it so.
+fn takes_so_many(world: &mut World<Linear>, event: &Event, count: u32, fault: WorldFault) -> bool {
+    for _ in 0..count {
+        if world.step(event).is_err() {
+            return false;
+        }
     }
-    assert!(rt; world.step(&tick) == Err(WorldFault::TooManyEvents));
-    assert!(rt; world.events() == MOST_EVENTS);
+    world.step(event) == Err(fault)
 }
 
 #[test]
-fn a_process_calls_so_many_operations(rt: HostRuntime) {
-    let mut world = World::<Linear>::new(rt.alloc(), shape_of(&rt, 1)).expect(&rt, "memory");
+fn a_run_has_so_many_events(rt: HostRuntime) -> Result<(), Fail> {
+    let mut world = world_of_one(rt.alloc())?;
+    let tick = Event::Tick { process: 0 };
+    let takes = takes_so_many(&mut world, &tick, MOST_EVENTS, WorldFault::TooManyEvents);
+    assert!(rt; takes && world.events() == MOST_EVENTS);
+    Ok(())
+}
+
+/// Whether a world has so many points.
+fn has_points(world: &World<Linear>, count: u32) -> bool {
+    match world.points() {
+        Ok(points) => points.len() == count as usize,
+        Err(_) => false,
+    }
+}
+
+#[test]
+fn a_process_calls_so_many_operations(rt: HostRuntime) -> Result<(), Fail> {
+    let mut world = world_of_one(rt.alloc())?;
     let call = Event::Call {
         process: 0,
         op: WRITE_FIVE,
     };
-    for _i in 0..MOST_OPERATIONS {
-        world.step(&call).expect(&rt, "accepted");
-    }
-    assert!(rt; world.step(&call) == Err(WorldFault::TooManyOperations));
-    assert!(rt; world.points().expect(&rt, "memory").len() == MOST_OPERATIONS as usize);
+    let fault = WorldFault::TooManyOperations;
+    let takes = takes_so_many(&mut world, &call, MOST_OPERATIONS, fault);
+    assert!(rt; takes && has_points(&world, MOST_OPERATIONS));
+    Ok(())
 }

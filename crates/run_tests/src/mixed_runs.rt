@@ -1,66 +1,63 @@
 //! A run of the front end of a user's own.
 use crate::mixed::Mixed;
-use part_tests::values::{READ, WRITE_FIVE, id};
+use crate::telling::has_witness;
+use part_tests::values::{READ, WRITE_FIVE, answered, called, id};
 use reg_base::{Answer, Shape};
-use reg_history::Entry;
-use reg_world::{Event, World};
+use reg_world::{Event, World, WorldFault};
+use std::test::Fail;
 
-#[test]
-fn reads_of_the_mixed_front_end_see_own_writes(rt: HostRuntime) {
-    let events = [
-        Event::Call {
-            process: 0,
-            op: WRITE_FIVE,
-        },
-        Event::Call {
-            process: 0,
-            op: READ,
-        },
-        Event::Take {
-            from: 0,
-            to: 1,
-            number: 0,
-        },
-        Event::Take {
-            from: 1,
-            to: 0,
-            number: 1,
-        },
-    ];
-    let shape = Shape::new(2, 1).expect(&rt, "a shape");
-    let mut world = World::<Mixed>::new(rt.alloc(), shape).expect(&rt, "memory");
+const EVENTS: [Event; 4] = [
+    Event::Call {
+        process: 0,
+        op: WRITE_FIVE,
+    },
+    Event::Call {
+        process: 0,
+        op: READ,
+    },
+    Event::Take {
+        from: 0,
+        to: 1,
+        number: 0,
+    },
+    Event::Take {
+        from: 1,
+        to: 0,
+        number: 1,
+    },
+];
+
+/// Has the world make the events, and gives the place of the last reply.
+fn last_place(world: &mut World<Mixed>) -> Result<Option<u64>, WorldFault> {
     let mut place = None;
-    for event in &events {
-        if let Some(reply) = world.step_reply(event).expect(&rt, "accepted") {
+    for event in &EVENTS {
+        if let Some(reply) = world.step_reply(event)? {
             place = Some(reply.place);
         }
     }
-    assert!(rt; place == Some(1));
+    Ok(place)
+}
+
+fn has_history(world: &World<Mixed>) -> bool {
     let history = [
-        Entry::Called {
-            at: 0,
-            id: id(0, 0),
-            op: WRITE_FIVE,
-        },
-        Entry::Answered {
-            at: 0,
-            id: id(0, 0),
-            answer: Answer::Done,
-        },
-        Entry::Called {
-            at: 1,
-            id: id(0, 1),
-            op: READ,
-        },
-        Entry::Answered {
-            at: 3,
-            id: id(0, 1),
-            answer: Answer::Value(5),
-        },
+        called(0, id(0, 0), WRITE_FIVE),
+        answered(0, id(0, 0), Answer::Done),
+        called(1, id(0, 1), READ),
+        answered(3, id(0, 1), Answer::Value(5)),
     ];
-    assert!(rt; world.history().entries() == history.as_slice());
-    assert!(rt;
-        world.witness().expect(&rt, "memory").as_slice() == [id(0, 0), id(0, 1)].as_slice()
-    );
-    assert!(rt; world.order().len() == 2);
+    world.history().entries() == history.as_slice() && world.order().len() == 2
+}
+
+fn sees_its_write(world: &mut World<Mixed>) -> bool {
+    last_place(world) == Ok(Some(1))
+        && has_history(world)
+        && has_witness(world, [id(0, 0), id(0, 1)].as_slice())
+}
+
+#[test]
+fn reads_of_the_mixed_front_end_see_own_writes(rt: HostRuntime) -> Result<(), Fail> {
+    let shape = Shape::new(2, 1)?;
+    let mut world = World::<Mixed>::new(rt.alloc(), shape)?;
+    assert!(rt; sees_its_write(&mut world));
+    Ok(())
 }

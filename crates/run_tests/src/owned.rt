@@ -20,37 +20,29 @@ const TAKE: Event = Event::Take {
 
 const TICK: Event = Event::Tick { process: 1 };
 
-fn two() -> Option<Shape> {
-    Shape::new(2, 1).ok()
+/// Whether the world accepted the call and what is taken of it, and goes on with a tick.
+fn goes_on(world: &mut World<Linear>) -> bool {
+    world.accepted() == [CALL, TAKE].as_slice()
+        && world.step(&TICK) == Ok(())
+        && world.accepted() == [CALL, TAKE, TICK].as_slice()
+        && world.history().entries().len() == 1
 }
 
 #[test]
 fn a_run_goes_on_behind_its_list(rt: HostRuntime) -> Result<(), Fail> {
-    let shape = two().expect(&rt, "a shape");
+    let shape = Shape::new(2, 1)?;
     let events = vec![in rt.alloc(); CALL, TAKE]?;
-    let Ok(mut world) = World::<Linear>::run_owned(rt.alloc(), shape, events) else {
-        panic!(rt; "both are accepted");
-    };
-    assert!(rt; world.accepted() == [CALL, TAKE].as_slice());
-    assert!(rt; world.step(&TICK) == Ok(()));
-    assert!(rt; world.accepted() == [CALL, TAKE, TICK].as_slice());
-    assert!(rt; world.history().entries().len() == 1);
+    let mut world = World::<Linear>::run_owned(rt.alloc(), shape, events)?;
+    assert!(rt; goes_on(&mut world));
     Ok(())
 }
 
 #[test]
 fn the_first_refused_event_ends_it(rt: HostRuntime) -> Result<(), Fail> {
-    let shape = two().expect(&rt, "a shape");
+    let shape = Shape::new(2, 1)?;
     let events = vec![in rt.alloc(); CALL, CALL, TAKE]?;
-    match World::<Linear>::run_owned(rt.alloc(), shape, events) {
-        Ok(_) => panic!(rt; "the process is busy"),
-        Err(fault) => assert!(rt;
-            fault
-                == RunFault {
-                    at: 1,
-                    fault: WorldFault::Busy
-                }
-        ),
-    }
+    let refused = World::<Linear>::run_owned(rt.alloc(), shape, events).err();
+    let fault = WorldFault::Busy;
+    assert!(rt; refused == Some(RunFault { at: 1, fault }));
     Ok(())
 }

@@ -1,10 +1,9 @@
 //! Plays of workloads, with reports worked out apart from this code, and documents that are refused.
-use crate::checks::{demand, joined};
+use crate::checks::{answers_joined, demand};
 use crate::replay_reports::verdict_on;
 use crate::streams::{demand_each_growth, demand_failing_streams};
 use reg_commands::Command;
-use std::alloc::Global;
-use std::process::Abort;
+use std::alloc::{AllocError, Global};
 use std::test::Fail;
 
 /// A write and a read at process 0, and a read at process 1.
@@ -289,32 +288,47 @@ end
     ),
 ];
 
-/// Demands the report of a play, and that it is judged well.
-fn demand_play(rt: &impl Abort, alloc: Global, fair: bool, document: &str, report: &str) {
-    let document = document.as_bytes();
-    demand(rt, alloc, Command::Play { fair }, document, 0, report, "");
-    let verdict = verdict_on(report);
-    demand(rt, alloc, Command::Check, report.as_bytes(), 0, verdict, "");
+/// The two parts of a text as one.
+fn joined(alloc: Global, head: &str, tail: &str) -> Result<String, AllocError> {
+    format!(in alloc; "{head}{tail}")
 }
 
-/// The same of the small workload, with a line more and the rest of its report.
-fn demand_small(rt: &impl Abort, alloc: Global, fair: bool, line: &str, tail: &str) {
-    let document = joined(rt, alloc, SMALL, line);
-    let report = joined(rt, alloc, SMALL_HEAD, tail);
-    demand_play(rt, alloc, fair, document.as_str(), report.as_str());
+/// Whether a play of the two parts of a document has this report, and the report is judged well.
+fn has_report(alloc: Global, fair: bool, document: (&str, &str), report: &str) -> bool {
+    let verdict = verdict_on(report);
+    answers_joined(alloc, Command::Play { fair }, document, 0, report, "")
+        && answers_joined(alloc, Command::Check, (report, ""), 0, verdict, "")
+}
+
+/// The same of the small workload, with lines more and the rest of its report.
+fn has_small_report(
+    alloc: Global,
+    fair: bool,
+    lines: &str,
+    tail: &str,
+) -> Result<bool, AllocError> {
+    let report = joined(alloc, SMALL_HEAD, tail)?;
+    Ok(has_report(alloc, fair, (SMALL, lines), report.as_str()))
 }
 
 #[test]
-fn each_fair_play_has_its_report(rt: HostRuntime) {
-    demand_small(&rt, rt.alloc(), true, "", FAIR);
-    demand_small(&rt, rt.alloc(), true, "budget = 3\n", FAIR_THREE);
+fn each_fair_play_has_its_report(rt: HostRuntime) -> Result<(), Fail> {
+    for (line, tail) in [("", FAIR), ("budget = 3\n", FAIR_THREE)] {
+        assert!(rt; has_small_report(rt.alloc(), true, line, tail)?);
+    }
+    Ok(())
+}
+
+/// Whether the seeded play of the small workload by this seed has this rest of its report.
+fn has_seeded_report(alloc: Global, seed: usize, tail: &str) -> Result<bool, AllocError> {
+    let lines = format!(in alloc; "loss = 20\nrepeat = 20\nseed = {seed}\n")?;
+    has_small_report(alloc, false, lines.as_str(), tail)
 }
 
 #[test]
 fn each_seeded_play_has_its_report(rt: HostRuntime) -> Result<(), Fail> {
     for (seed, tail) in SEEDED.iter().enumerate() {
-        let lines = format!(in rt.alloc(); "loss = 20\nrepeat = 20\nseed = {seed}\n")?;
-        demand_small(&rt, rt.alloc(), false, lines.as_str(), tail);
+        assert!(rt; has_seeded_report(rt.alloc(), seed, tail)?);
     }
     Ok(())
 }
@@ -322,8 +336,7 @@ fn each_seeded_play_has_its_report(rt: HostRuntime) -> Result<(), Fail> {
 #[test]
 fn each_front_end_has_its_report(rt: HostRuntime) {
     for (front, report) in &BY_FRONT {
-        let document = joined(&rt, rt.alloc(), front, THREE);
-        demand_play(&rt, rt.alloc(), false, document.as_str(), report);
+        assert!(rt; has_report(rt.alloc(), false, (front, THREE), report));
     }
 }
 
@@ -350,41 +363,37 @@ const REFUSED: [(&str, &str, &str); 11] = [
     ),
 ];
 
+/// Whether the fair play and the seeded one of the two parts of a document are refused with this line.
+fn is_refused(alloc: Global, document: (&str, &str), line: &str) -> bool {
+    answers_joined(alloc, Command::Play { fair: true }, document, 1, "", line)
+        && answers_joined(alloc, Command::Play { fair: false }, document, 1, "", line)
+}
+
 #[test]
 fn documents_are_refused(rt: HostRuntime) {
     for (head, tail, line) in &REFUSED {
-        let document = joined(&rt, rt.alloc(), head, tail);
-        for fair in [true, false] {
-            let command = Command::Play { fair };
-            demand(&rt, rt.alloc(), command, document.as_bytes(), 1, "", line);
-        }
+        assert!(rt; is_refused(rt.alloc(), (head, tail), line));
     }
 }
 
 #[test]
 fn a_document_is_text(rt: HostRuntime) {
-    let command = Command::Play { fair: true };
-    demand(
-        &rt,
-        rt.alloc(),
-        command,
-        b"\xff",
-        1,
-        "",
-        "input: not text\n",
-    );
+    let (command, line) = (Command::Play { fair: true }, "input: not text\n");
+    demand(&rt, rt.alloc(), command, b"\xff", 1, "", line);
 }
 
 #[test]
-fn a_play_with_failing_streams(rt: HostRuntime) {
-    let report = joined(&rt, rt.alloc(), SMALL_HEAD, FAIR);
+fn a_play_with_failing_streams(rt: HostRuntime) -> Result<(), Fail> {
+    let report = joined(rt.alloc(), SMALL_HEAD, FAIR)?;
     let command = Command::Play { fair: true };
     demand_failing_streams(&rt, rt.alloc(), command, SMALL, report.as_str());
+    Ok(())
 }
 
 #[test]
-fn a_play_with_each_growth_refused(rt: HostRuntime) {
-    let report = joined(&rt, rt.alloc(), SMALL_HEAD, FAIR);
+fn a_play_with_each_growth_refused(rt: HostRuntime) -> Result<(), Fail> {
+    let report = joined(rt.alloc(), SMALL_HEAD, FAIR)?;
     let command = Command::Play { fair: true };
     demand_each_growth(&rt, rt.alloc(), command, SMALL, report.as_str());
+    Ok(())
 }

@@ -1,10 +1,13 @@
 //! Plays of small scripts.
+use crate::telling::has_witness;
 use part_tests::values::{READ, WRITE_FIVE, answered, called, id};
 use reg_base::Answer;
 use reg_front::{FrontEnd, Linear, LocalWrite};
 use reg_history::{Entry, check_points, check_serial};
 use reg_workload::{Play, SeedWords, Words, Workload, play_fair, play_seeded};
-use std::process::Abort;
+use reg_world::World;
+use std::alloc::{AllocError, Global};
+use std::test::Fail;
 
 /// A write and a read at process 0, and a read at process 1.
 pub(crate) const SMALL: &str =
@@ -14,9 +17,9 @@ pub(crate) const SMALL: &str =
 const LOSSY: &str = "loss = 20\nrepeat = 20\n";
 
 /// The small workload, with these lines more.
-fn small(rt: &(impl AllocGlobal + Abort), lines: &str) -> Workload {
-    let text = format!(in rt.alloc(); "{SMALL}{lines}").expect(rt, "memory");
-    Workload::from_toml(rt.alloc(), text.as_str()).expect(rt, "a workload")
+fn small(alloc: Global, lines: &str) -> Result<Workload, Fail> {
+    let text = format!(in alloc; "{SMALL}{lines}")?;
+    Ok(Workload::from_toml(alloc, text.as_str())?)
 }
 
 /// The history of the scripts, where the second read of process 0 is called and answered at these events.
@@ -36,72 +39,147 @@ fn history_of(read: u32, write: u32, called_at: u32, answered_at: u32) -> [Entry
     first
 }
 
-fn seeded<F: FrontEnd>(rt: &(impl AllocGlobal + Abort), work: &Workload, seed: u64) -> Play<F> {
-    play_seeded(rt.alloc(), work, SeedWords::new(seed)).expect(rt, "memory")
+/// The fair play of the small workload, with these lines more.
+fn fair(alloc: Global, lines: &str) -> Result<Play<LocalWrite>, Fail> {
+    let work = small(alloc, lines)?;
+    Ok(play_fair::<LocalWrite, _>(alloc, &work)?)
+}
+
+fn seeded<F: FrontEnd>(alloc: Global, work: &Workload, seed: u64) -> Result<Play<F>, AllocError> {
+    play_seeded(alloc, work, SeedWords::new(seed))
+}
+
+fn has_history<F: FrontEnd>(play: &Play<F>, entries: &[Entry]) -> bool {
+    play.finished && play.world.history().entries() == entries
+}
+
+fn takes_turns(play: &Play<LocalWrite>) -> bool {
+    let entries = history_of(1, 0, 4, 5);
+    let ids = [id(1, 0), id(0, 0), id(0, 1)];
+    has_history(play, entries.as_slice())
+        && play.world.events() == 7
+        && has_witness(&play.world, ids.as_slice())
 }
 
 #[test]
-fn a_fair_play_takes_turns(rt: HostRuntime) {
-    let work = small(&rt, "");
-    let play = play_fair::<LocalWrite, _>(rt.alloc(), &work).expect(&rt, "memory");
-    assert!(rt; play.finished);
-    assert!(rt; play.world.events() == 7);
-    assert!(rt; play.world.history().entries() == history_of(1, 0, 4, 5).as_slice());
-    let order = play.world.witness().expect(&rt, "memory");
-    assert!(rt; order.as_slice() == [id(1, 0), id(0, 0), id(0, 1)].as_slice());
+fn a_fair_play_takes_turns(rt: HostRuntime) -> Result<(), Fail> {
+    let play = fair(rt.alloc(), "")?;
+    assert!(rt; takes_turns(&play));
+    Ok(())
+}
+
+/// Whether the play is cut off after so many events.
+fn is_cut_off<F: FrontEnd>(play: &Play<F>, budget: u32) -> bool {
+    !play.finished && play.world.events() == budget
 }
 
 #[test]
-fn a_fair_play_keeps_its_budget(rt: HostRuntime) {
-    let work = small(&rt, "budget = 3\n");
-    let play = play_fair::<LocalWrite, _>(rt.alloc(), &work).expect(&rt, "memory");
-    assert!(rt; !play.finished);
-    assert!(rt; play.world.events() == 3);
-    assert!(rt; play.world.history().entries().len() == 4);
+fn a_fair_play_keeps_its_budget(rt: HostRuntime) -> Result<(), Fail> {
+    let play = fair(rt.alloc(), "budget = 3\n")?;
+    assert!(rt; is_cut_off(&play, 3) && play.world.history().entries().len() == 4);
+    Ok(())
 }
 
-#[test]
-fn a_seed_gives_one_play(rt: HostRuntime) {
-    let work = small(&rt, LOSSY);
-    let cases = [(0, history_of(0, 1, 3, 17)), (3, history_of(0, 1, 7, 7))];
-    for (seed, entries) in cases {
-        let play = seeded::<LocalWrite>(&rt, &work, seed);
-        assert!(rt; play.world.history().entries() == entries.as_slice());
-        assert!(rt; play.finished);
+/// Whether the play of the seed is finished with this history.
+fn gives(alloc: Global, work: &Workload, seed: u64, entries: &[Entry]) -> bool {
+    match seeded::<LocalWrite>(alloc, work, seed) {
+        Ok(play) => has_history(&play, entries),
+        Err(_) => false,
     }
 }
 
+fn gives_both(alloc: Global, work: &Workload) -> bool {
+    gives(alloc, work, 0, history_of(0, 1, 3, 17).as_slice())
+        && gives(alloc, work, 3, history_of(0, 1, 7, 7).as_slice())
+}
+
 #[test]
-fn seeded_plays_are_serial(rt: HostRuntime) {
-    let work = small(&rt, LOSSY);
+fn a_seed_gives_one_play(rt: HostRuntime) -> Result<(), Fail> {
+    let work = small(rt.alloc(), LOSSY)?;
+    assert!(rt; gives_both(rt.alloc(), &work));
+    Ok(())
+}
+
+fn is_serial(alloc: Global, world: &World<Linear>) -> bool {
+    match world.witness() {
+        Ok(order) => check_serial(alloc, world.history(), order.as_slice()) == Ok(()),
+        Err(_) => false,
+    }
+}
+
+/// Whether the points of the world are a point order of its history.
+pub(crate) fn has_points(alloc: Global, world: &World<Linear>) -> bool {
+    match world.points() {
+        Ok(points) => check_points(alloc, world.history(), points.as_slice()) == Ok(()),
+        Err(_) => false,
+    }
+}
+
+/// Whether the play of the seed is finished. None where one of its orders is wrong.
+fn serial_end(alloc: Global, work: &Workload, seed: u64) -> Option<bool> {
+    match seeded::<Linear>(alloc, work, seed) {
+        Ok(play) => {
+            let is_right = is_serial(alloc, &play.world) && has_points(alloc, &play.world);
+            if is_right { Some(play.finished) } else { None }
+        }
+        Err(_) => None,
+    }
+}
+
+/// Whether some play of ten seeds is finished. None where an order of one is wrong.
+fn serial_ends(alloc: Global, work: &Workload) -> Option<bool> {
     let mut finished = false;
     for seed in 0..10 {
-        let play = seeded::<Linear>(&rt, &work, seed);
-        let order = play.world.witness().expect(&rt, "memory");
-        assert!(rt; check_serial(rt.alloc(), play.world.history(), &order) == Ok(()));
-        let points = play.world.points().expect(&rt, "memory");
-        assert!(rt; check_points(rt.alloc(), play.world.history(), &points) == Ok(()));
-        finished = finished || play.finished;
+        let end = serial_end(alloc, work, seed)?;
+        finished = finished || end;
     }
-    assert!(rt; finished);
+    Some(finished)
 }
 
 #[test]
-fn without_loss_a_play_is_finished(rt: HostRuntime) {
-    let work = small(&rt, "repeat = 50\n");
+fn seeded_plays_are_serial(rt: HostRuntime) -> Result<(), Fail> {
+    let work = small(rt.alloc(), LOSSY)?;
+    assert!(rt; serial_ends(rt.alloc(), &work) == Some(true));
+    Ok(())
+}
+
+/// Whether the play of the seed is finished within its budget.
+fn is_finished(alloc: Global, work: &Workload, seed: u64) -> bool {
+    match seeded::<Linear>(alloc, work, seed) {
+        Ok(play) => play.finished && play.world.events() < 100_000,
+        Err(_) => false,
+    }
+}
+
+fn all_are_finished(alloc: Global, work: &Workload) -> bool {
     for seed in 0..10 {
-        let play = seeded::<Linear>(&rt, &work, seed);
-        assert!(rt; play.finished);
-        assert!(rt; play.world.events() < 100_000);
+        if !is_finished(alloc, work, seed) {
+            return false;
+        }
+    }
+    true
+}
+
+#[test]
+fn without_loss_a_play_is_finished(rt: HostRuntime) -> Result<(), Fail> {
+    let work = small(rt.alloc(), "repeat = 50\n")?;
+    assert!(rt; all_are_finished(rt.alloc(), &work));
+    Ok(())
+}
+
+/// Whether the play of the first seed is cut off after so many events.
+fn cuts_off(alloc: Global, work: &Workload, budget: u32) -> bool {
+    match seeded::<LocalWrite>(alloc, work, 0) {
+        Ok(play) => is_cut_off(&play, budget),
+        Err(_) => false,
     }
 }
 
 #[test]
-fn a_seeded_play_keeps_its_budget(rt: HostRuntime) {
-    let work = small(&rt, "budget = 2\n");
-    let play = seeded::<LocalWrite>(&rt, &work, 0);
-    assert!(rt; !play.finished);
-    assert!(rt; play.world.events() == 2);
+fn a_seeded_play_keeps_its_budget(rt: HostRuntime) -> Result<(), Fail> {
+    let work = small(rt.alloc(), "budget = 2\n")?;
+    assert!(rt; cuts_off(rt.alloc(), &work, 2));
+    Ok(())
 }
 
 #[test]
@@ -110,7 +188,6 @@ fn seeds_differ(rt: HostRuntime) {
     let mut same = SeedWords::new(42);
     let mut other = SeedWords::new(7);
     let word = one.word();
-    assert!(rt; word == same.word());
-    assert_ne!(rt; word, other.word());
-    assert!(rt; one.word() == same.word());
+    let is_first = word == same.word() && word != other.word();
+    assert!(rt; is_first && one.word() == same.word());
 }

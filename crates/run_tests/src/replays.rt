@@ -1,9 +1,9 @@
 //! Schedules that are refused, and the limits and streams of a replay.
-use crate::checks::{ONE_PROCESS, demand, joined};
+use crate::checks::{ONE_PROCESS, answers_joined, demand};
 use crate::streams::demand_failing_streams;
 use reg_commands::Command;
-use std::alloc::Global;
-use std::process::Abort;
+use std::alloc::{AllocError, Global};
+use std::test::Fail;
 
 /// The schedule of one process that writes 5 and reads it.
 pub(crate) const ONE_PROCESS_SCHEDULE: &str = "processes 1
@@ -12,15 +12,6 @@ front linear
 call 0 write x 5
 call 0 read x
 ";
-
-/// A schedule of one process with so many equal events.
-fn many_events(rt: &impl Abort, alloc: Global, event: &str, count: u32) -> String {
-    let mut text = String::from_str(alloc, ONE).expect(rt, "memory");
-    for _event in 0..count {
-        text.push_str(event).expect(rt, "memory");
-    }
-    text
-}
 
 const ONE: &str = "processes 1\nregisters x\nfront linear\n";
 
@@ -41,10 +32,9 @@ const REFUSED: [(&str, &str, &str); 9] = [
 
 #[test]
 fn events_are_refused(rt: HostRuntime) {
+    let (alloc, replay) = (rt.alloc(), Command::Replay);
     for (head, event, line) in &REFUSED {
-        let schedule = joined(&rt, rt.alloc(), head, event);
-        let bytes = schedule.as_bytes();
-        demand(&rt, rt.alloc(), Command::Replay, bytes, 1, "", line);
+        assert!(rt; answers_joined(alloc, replay, (head, event), 1, "", line));
     }
 }
 
@@ -52,6 +42,22 @@ fn events_are_refused(rt: HostRuntime) {
 fn a_schedule_is_text(rt: HostRuntime) {
     let line = "input: not text\n";
     demand(&rt, rt.alloc(), Command::Replay, b"\xff", 1, "", line);
+}
+
+/// So many equal events.
+fn push_events(text: &mut String, event: &str, count: u32) -> Result<(), AllocError> {
+    for _event in 0..count {
+        text.push_str(event)?;
+    }
+    Ok(())
+}
+
+/// Whether the schedule of one process with so many equal events is refused with this line.
+fn are_too_many(alloc: Global, event: &str, count: u32, line: &str) -> Result<bool, AllocError> {
+    let mut events = String::new(alloc);
+    push_events(&mut events, event, count)?;
+    let parts = (ONE, events.as_str());
+    Ok(answers_joined(alloc, Command::Replay, parts, 1, "", line))
 }
 
 /// An event that comes so many times, one more than it may, and the line of the refusal.
@@ -65,12 +71,11 @@ const MANY: [(&str, u32, &str); 2] = [
 ];
 
 #[test]
-fn as_many_as_there_may_be(rt: HostRuntime) {
+fn as_many_as_there_may_be(rt: HostRuntime) -> Result<(), Fail> {
     for (event, count, line) in &MANY {
-        let schedule = many_events(&rt, rt.alloc(), event, *count);
-        let bytes = schedule.as_bytes();
-        demand(&rt, rt.alloc(), Command::Replay, bytes, 1, "", line);
+        assert!(rt; are_too_many(rt.alloc(), event, *count, line)?);
     }
+    Ok(())
 }
 
 #[test]

@@ -1,7 +1,7 @@
 //! Streams that fail, that never end, and memory that is refused in the midst of a command.
-use crate::checks::{ONE_PROCESS, demand_read, ran};
+use crate::checks::{ONE_PROCESS, answers, demand_read, is_answer};
 use refusing::Refusing;
-use reg_commands::Command;
+use reg_commands::{Command, run_text};
 use std::alloc::Global;
 use std::io;
 use std::io::{ErrorKind, Read, Write};
@@ -46,16 +46,18 @@ impl Read for Endless {
     }
 }
 
-/// Takes at most three bytes a write, and fails so many times after so many writes, or at each flush.
+/// Takes at most three bytes a write, and fails so many times after so many writes, or at each flush. It keeps what is left
+/// of the output that it is to be given, and whether it was given another.
 #[derive(Drop)]
-struct FailingWriter {
-    taken: Vec<u8>,
+struct FailingWriter<'a> {
+    rest: &'a [u8],
+    differs: bool,
     before: u32,
     times: u32,
     flushes: bool,
 }
 
-impl Write for FailingWriter {
+impl Write for FailingWriter<'_> {
     fn write(&mut self, buf: &[u8]) -> io::Result<usize> {
         if self.before == 0 && self.times > 0 {
             self.times -= 1;
@@ -63,7 +65,10 @@ impl Write for FailingWriter {
         }
         self.before = self.before.saturating_sub(1);
         let end = buf.len().min(3);
-        self.taken.extend_from_slice(&buf[..end])?;
+        match self.rest.strip_prefix(&buf[..end]) {
+            Some(rest) => self.rest = rest,
+            None => self.differs = true,
+        }
         Ok(end)
     }
 
@@ -84,90 +89,134 @@ const READ_FAULTS: [(ErrorKind, u32, &str); 4] = [
     (ErrorKind::Interrupted, 2, ""),
 ];
 
-/// How many reads a command makes where none fails.
-fn reads_of(rt: &impl Abort, alloc: Global, command: Command, input: &str, output: &str) -> u32 {
+/// So many reads or writes, where they are more than one and not too many to have each fail.
+fn within(count: u32) -> Option<u32> {
+    if count > 1 && count < 900 {
+        Some(count)
+    } else {
+        None
+    }
+}
+
+/// How many reads a command makes where none fails. None where it answers otherwise than so.
+fn reads_of(alloc: Global, command: Command, input: &str, output: &str) -> Option<u32> {
     let mut reader = FailingReader {
         bytes: input.as_bytes(),
         before: u32::MAX,
         times: 0,
         kind: ErrorKind::Other,
     };
-    demand_read(rt, alloc, command, &mut reader, 0, output, "");
-    let reads = u32::MAX.saturating_sub(reader.before);
-    assert!(rt; reads > 1 && reads < 900, "{reads} reads");
-    reads
-}
-
-/// Every read up to the last fails in turn.
-fn demand_failing_reads(
-    rt: &impl Abort,
-    alloc: Global,
-    command: Command,
-    input: &str,
-    output: &str,
-) {
-    let reads = reads_of(rt, alloc, command, input, output);
-    for (kind, times, line) in &READ_FAULTS {
-        let (status, written) = if line.is_empty() {
-            (0, output)
-        } else {
-            (1, "")
-        };
-        for before in 0..reads {
-            let mut reader = FailingReader {
-                bytes: input.as_bytes(),
-                before,
-                times: *times,
-                kind: *kind,
-            };
-            demand_read(rt, alloc, command, &mut reader, status, written, line);
-            assert!(rt; reader.times < *times, "no fault at {before}");
-        }
+    if answers(alloc, command, &mut reader, 0, output, "") {
+        within(u32::MAX.saturating_sub(reader.before))
+    } else {
+        None
     }
 }
 
-/// What a command tells where a write fails so many times after so many, and what the writer then has taken.
-fn written_so(
+/// Whether a command reads on over each failure of a read, or tells the first and reads no further.
+fn is_read_told(
     alloc: Global,
     command: Command,
-    input: &str,
-    faults: (u32, u32),
-    flushes: bool,
-) -> (FailingWriter, u8, Vec<u8>) {
-    let (before, times) = faults;
-    let mut reader = input.as_bytes();
-    let mut writer = FailingWriter {
-        taken: Vec::new(alloc),
+    streams: (&str, &str),
+    before: u32,
+    fault: &(ErrorKind, u32, &str),
+) -> bool {
+    let (input, output) = streams;
+    let (kind, times, line) = *fault;
+    let (status, written, left) = if line.is_empty() {
+        (0, output, 0)
+    } else {
+        (1, "", times.saturating_sub(1))
+    };
+    let mut reader = FailingReader {
+        bytes: input.as_bytes(),
         before,
         times,
-        flushes,
+        kind,
     };
-    let (status, errors) = ran(alloc, alloc, command, &mut reader, &mut writer);
-    (writer, status, errors)
+    answers(alloc, command, &mut reader, status, written, line) && reader.times == left
 }
 
-/// How many writes a command makes where none fails.
-fn writes_of(rt: &impl Abort, alloc: Global, command: Command, input: &str, output: &str) -> u32 {
-    let (writer, status, errors) = written_so(alloc, command, input, (u32::MAX, 0), true);
-    assert!(rt; status == 0 && errors.is_empty());
-    assert!(rt; writer.taken.as_slice() == output.as_bytes());
-    let writes = u32::MAX.saturating_sub(writer.before);
-    assert!(rt; writes > 1 && writes < 900, "{writes} writes");
-    writes
+/// Whether a command does so where every read up to the last fails in turn.
+fn is_each_read_told(alloc: Global, command: Command, input: &str, output: &str) -> bool {
+    let Some(reads) = reads_of(alloc, command, input, output) else {
+        return false;
+    };
+    for fault in &READ_FAULTS {
+        for before in 0..reads {
+            if !is_read_told(alloc, command, (input, output), before, fault) {
+                return false;
+            }
+        }
+    }
+    true
 }
 
-/// The write after so many fails, so many times, or each flush.
-fn demand_failing_write(
-    rt: &impl Abort,
+/// Whether a command has this status and tells these faults, and has given the writer nothing but its output.
+fn writes_so(
     alloc: Global,
     command: Command,
     input: &str,
-    faults: (u32, u32),
-) {
-    let flushes = faults.1 > 0;
-    let (_writer, status, errors) = written_so(alloc, command, input, faults, flushes);
-    assert!(rt; errors.as_slice() == b"output: write\n".as_slice());
-    assert!(rt; status == 1);
+    writer: &mut FailingWriter<'_>,
+    status: u8,
+    faults: &str,
+) -> bool {
+    let mut reader = input.as_bytes();
+    let mut errors = Vec::new(alloc);
+    let got = run_text(alloc, alloc, command, &mut reader, writer, &mut errors);
+    got == status && errors.as_slice() == faults.as_bytes() && !writer.differs
+}
+
+/// How many writes a command makes where none fails. None where it answers otherwise than so.
+fn writes_of(alloc: Global, command: Command, input: &str, output: &str) -> Option<u32> {
+    let mut writer = FailingWriter {
+        rest: output.as_bytes(),
+        differs: false,
+        before: u32::MAX,
+        times: 0,
+        flushes: true,
+    };
+    if writes_so(alloc, command, input, &mut writer, 0, "") && writer.rest.is_empty() {
+        within(u32::MAX.saturating_sub(writer.before))
+    } else {
+        None
+    }
+}
+
+/// Whether a command tells that the write after so many fails, so many times, or each flush. What it wrote is a first part of
+/// its output.
+fn is_write_told(
+    alloc: Global,
+    command: Command,
+    streams: (&str, &str),
+    before: u32,
+    times: u32,
+) -> bool {
+    let (input, output) = streams;
+    let mut writer = FailingWriter {
+        rest: output.as_bytes(),
+        differs: false,
+        before,
+        times,
+        flushes: times > 0,
+    };
+    writes_so(alloc, command, input, &mut writer, 1, "output: write\n")
+}
+
+/// Whether a command does so where every write fails in turn, and then the flush.
+fn is_each_write_told(alloc: Global, command: Command, input: &str, output: &str) -> bool {
+    let Some(writes) = writes_of(alloc, command, input, output) else {
+        return false;
+    };
+    let streams = (input, output);
+    for before in 0..writes {
+        if !is_write_told(alloc, command, streams, before, u32::MAX)
+            || !is_write_told(alloc, command, streams, before, 1)
+        {
+            return false;
+        }
+    }
+    is_write_told(alloc, command, streams, 0, 0)
 }
 
 /// Every read up to the last fails in turn, then every write, and then the flush.
@@ -178,36 +227,77 @@ pub(crate) fn demand_failing_streams(
     input: &str,
     output: &str,
 ) {
-    demand_failing_reads(rt, alloc, command, input, output);
-    for before in 0..writes_of(rt, alloc, command, input, output) {
-        demand_failing_write(rt, alloc, command, input, (before, u32::MAX));
-        demand_failing_write(rt, alloc, command, input, (before, 1));
-    }
-    demand_failing_write(rt, alloc, command, input, (0, 0));
+    assert!(rt;
+        is_each_read_told(alloc, command, input, output)
+            && is_each_write_told(alloc, command, input, output)
+    );
 }
 
-/// The allocation after so many is refused: the answer is want of memory, or that of ample memory. Whether the refusal
-/// was still to come at the end, and whether memory was wanted.
+/// How a command ends where an allocation is to be refused.
+#[derive(Clone, Copy)]
+enum Ending {
+    /// It answers as with ample memory, and the refusal is still to come.
+    Unrefused,
+    /// It answers as with ample memory in spite of the refusal.
+    Whole,
+    /// It tells want of memory behind the refusal, and writes nothing.
+    Wants,
+    /// It answers otherwise.
+    Other,
+}
+
+/// How a command ended that did this, with this output where memory is ample.
+fn ending_of(waits: bool, done: (u8, &[u8], &[u8]), output: &str) -> Ending {
+    if is_answer(done, 0, output, "") {
+        if waits {
+            Ending::Unrefused
+        } else {
+            Ending::Whole
+        }
+    } else if !waits && is_answer(done, 1, "", "out of memory\n") {
+        Ending::Wants
+    } else {
+        Ending::Other
+    }
+}
+
+/// How a command ends where the allocation after so many is refused.
 fn refused_after(
-    rt: &impl Abort,
     alloc: Global,
     command: Command,
-    streams: (&str, &str),
+    input: &str,
+    output: &str,
     before: u64,
-) -> (bool, bool) {
+) -> Ending {
     let heap = Refusing::new(alloc, before);
-    let mut reader = streams.0.as_bytes();
+    let mut reader = input.as_bytes();
     let mut written = Vec::new(alloc);
-    let (status, errors) = ran(&heap, alloc, command, &mut reader, &mut written);
-    let wants = status != 0;
-    let (output, line) = if wants {
-        ("", "out of memory\n")
-    } else {
-        (streams.1, "")
-    };
-    assert!(rt; errors.as_slice() == line.as_bytes());
-    assert!(rt; written.as_slice() == output.as_bytes());
-    (heap.is_waiting(), wants)
+    let mut errors = Vec::new(alloc);
+    let got = run_text(
+        &heap,
+        alloc,
+        command,
+        &mut reader,
+        &mut written,
+        &mut errors,
+    );
+    let done = (got, written.as_slice(), errors.as_slice());
+    ending_of(heap.is_waiting(), done, output)
+}
+
+/// How many refusals a command tells where every growth is refused in turn. None where it ends otherwise once, or has no last
+/// growth.
+fn refusals(alloc: Global, command: Command, input: &str, output: &str) -> Option<u32> {
+    let mut count = 0u32;
+    for before in 0..1000u64 {
+        match refused_after(alloc, command, input, output, before) {
+            Ending::Unrefused => return Some(count),
+            Ending::Whole => {}
+            Ending::Wants => count = count.saturating_add(1),
+            Ending::Other => return None,
+        }
+    }
+    None
 }
 
 /// Every growth is refused in turn.
@@ -218,16 +308,8 @@ pub(crate) fn demand_each_growth(
     input: &str,
     output: &str,
 ) {
-    let mut refusals = 0u32;
-    for before in 0..1000u64 {
-        let (waits, wants) = refused_after(rt, alloc, command, (input, output), before);
-        assert!(rt; !(waits && wants));
-        if waits {
-            break;
-        }
-        refusals = refusals.saturating_add(u32::from(wants));
-    }
-    assert!(rt; refusals > 2 && refusals < 900, "{refusals} refusals");
+    let count = refusals(alloc, command, input, output).unwrap_or(0);
+    assert!(rt; count > 2 && count < 900, "{count} refusals");
 }
 
 #[test]
