@@ -3,7 +3,6 @@ use crate::values::shown;
 use reg_commands::{Command, run_text};
 use reg_show::{Showing, show_text};
 use std::alloc::Global;
-use std::process::Abort;
 use std::test::Fail;
 
 /// A write that is done once the other process has acknowledged its cast.
@@ -99,13 +98,13 @@ repeat = 20
 budget = 60
 ";
 
-/// The status, the output and the faults.
-fn demand(rt: &impl Abort, alloc: Global, showing: Showing, text: &str, told: (u8, &str, &str)) {
+/// Whether a text is shown by this status, output and fault.
+fn tells(alloc: Global, showing: Showing, text: &str, told: (u8, &str, &str)) -> bool {
     let (status, output, errors) = shown(alloc, showing, text.as_bytes());
     let (wanted, written, fault) = told;
-    assert!(rt; output.as_slice() == written.as_bytes(), "{text}");
-    assert!(rt; errors.as_slice() == fault.as_bytes(), "{text}");
-    assert_eq!(rt; status, wanted, "{text}");
+    status == wanted
+        && output.as_slice() == written.as_bytes()
+        && errors.as_slice() == fault.as_bytes()
 }
 
 #[test]
@@ -116,31 +115,38 @@ fn traces_are_those_worked_by_hand(rt: HostRuntime) {
         (AGAIN, AGAIN_TRACE),
         ("processes 1\nregisters x\nfront linear\n", ""),
     ] {
-        demand(&rt, rt.alloc(), Showing::Trace, text, (0, trace, ""));
+        assert!(rt;
+            tells(rt.alloc(), Showing::Trace, text, (0, trace, "")),
+            "{text}"
+        );
     }
+}
+
+/// Whether a trace for which there is so much room goes out in part.
+fn goes_out_in_part(alloc: Global, room: usize) -> bool {
+    let mut buffer = [0u8; 200];
+    if room > buffer.len() {
+        return false;
+    }
+    let mut writer = &mut buffer[..room];
+    let (mut reader, mut errors) = (WRITE.as_bytes(), Vec::new(alloc));
+    let status = show_text(
+        alloc,
+        alloc,
+        Showing::Trace,
+        &mut reader,
+        &mut writer,
+        &mut errors,
+    );
+    status == 1
+        && errors.as_slice() == "output: write\n".as_bytes()
+        && WRITE_TRACE.as_bytes().starts_with(&buffer[..room])
 }
 
 #[test]
 fn a_trace_whose_writer_is_full_goes_out_in_part(rt: HostRuntime) {
-    let alloc = rt.alloc();
     for room in [0usize, 1, 99, 200] {
-        let mut buffer = [0u8; 200];
-        let mut writer = &mut buffer[..room];
-        let (mut reader, mut errors) = (WRITE.as_bytes(), Vec::new(alloc));
-        let status = show_text(
-            alloc,
-            alloc,
-            Showing::Trace,
-            &mut reader,
-            &mut writer,
-            &mut errors,
-        );
-        assert_eq!(rt; status, 1, "{room}");
-        assert!(rt; errors.as_slice() == "output: write\n".as_bytes(), "{room}");
-        assert!(rt;
-            WRITE_TRACE.as_bytes().starts_with(&buffer[..room]),
-            "{room}"
-        );
+        assert!(rt; goes_out_in_part(rt.alloc(), room), "{room}");
     }
 }
 
@@ -155,47 +161,68 @@ fn bad_input_is_told_in_one_line(rt: HostRuntime) {
         (Showing::Draw, early, "event 0: no frame\n"),
         (Showing::Schedule { fair: true }, head, "toml\n"),
     ] {
-        demand(&rt, rt.alloc(), showing, text, (1, "", fault));
+        assert!(rt; tells(rt.alloc(), showing, text, (1, "", fault)), "{text}");
     }
+}
+
+/// Whether a text is drawn.
+fn is_drawn(alloc: Global, text: &str) -> bool {
+    let (status, output, errors) = shown(alloc, Showing::Draw, text.as_bytes());
+    status == 0 && errors.is_empty() && output.as_slice().starts_with(b"<svg ")
+}
+
+/// Whether 400 events are drawn, and one more is refused. They are put into the text, which is empty.
+fn draws_so_many(alloc: Global, text: &mut String) -> Result<bool, Fail> {
+    text.push_str("processes 1\nregisters x\nfront linear\n")?;
+    for _ in 0..400 {
+        text.push_str("tick 0\n")?;
+    }
+    let drawn = is_drawn(alloc, text.as_str());
+    text.push_str("tick 0\n")?;
+    let told = (1, "", "too many events to draw\n");
+    Ok(drawn && tells(alloc, Showing::Draw, text.as_str(), told))
 }
 
 #[test]
 fn a_drawing_has_at_most_400_events(rt: HostRuntime) -> Result<(), Fail> {
-    let alloc = rt.alloc();
-    let mut text = String::from_str(alloc, "processes 1\nregisters x\nfront linear\n")?;
-    for _ in 0..400 {
-        text.push_str("tick 0\n")?;
-    }
-    let (status, output, errors) = shown(alloc, Showing::Draw, text.as_bytes());
-    assert!(rt; status == 0 && errors.is_empty() && output.as_slice().starts_with(b"<svg "));
-    text.push_str("tick 0\n")?;
-    let told = (1, "", "too many events to draw\n");
-    demand(&rt, alloc, Showing::Draw, text.as_str(), told);
+    let mut text = String::new(rt.alloc());
+    let drawn = draws_so_many(rt.alloc(), &mut text);
+    assert!(rt; drawn?);
     Ok(())
+}
+
+/// The status of a command over a text.
+fn run_into(
+    alloc: Global,
+    command: Command,
+    text: &[u8],
+    output: &mut Vec<u8>,
+    errors: &mut Vec<u8>,
+) -> u8 {
+    let mut reader = text;
+    run_text(alloc, alloc, command, &mut reader, output, errors)
+}
+
+/// Whether the schedule of a play replays to the report of the play.
+fn replays_to_the_play(alloc: Global, fair: bool) -> bool {
+    let (status, text, mut errors) = shown(alloc, Showing::Schedule { fair }, WORK.as_bytes());
+    let (mut replayed, mut played) = (Vec::new(alloc), Vec::new(alloc));
+    let replay = run_into(
+        alloc,
+        Command::Replay,
+        text.as_slice(),
+        &mut replayed,
+        &mut errors,
+    );
+    let command = Command::Play { fair };
+    let play = run_into(alloc, command, WORK.as_bytes(), &mut played, &mut errors);
+    let ended = status == 0 && replay == 0 && play == 0 && errors.is_empty();
+    ended && !played.is_empty() && replayed.as_slice() == played.as_slice()
 }
 
 #[test]
 fn the_schedule_of_a_play_replays_to_the_report_of_the_play(rt: HostRuntime) {
-    let alloc = rt.alloc();
     for fair in [false, true] {
-        let showing = Showing::Schedule { fair };
-        let (status, text, mut errors) = shown(alloc, showing, WORK.as_bytes());
-        assert_eq!(rt; status, 0);
-        let (mut replayed, mut played) = (Vec::new(alloc), Vec::new(alloc));
-        let mut reader = text.as_slice();
-        let status = run_text(
-            alloc,
-            alloc,
-            Command::Replay,
-            &mut reader,
-            &mut replayed,
-            &mut errors,
-        );
-        assert_eq!(rt; status, 0);
-        let mut work = WORK.as_bytes();
-        let command = Command::Play { fair };
-        let status = run_text(alloc, alloc, command, &mut work, &mut played, &mut errors);
-        assert!(rt; status == 0 && errors.is_empty() && !played.is_empty());
-        assert!(rt; replayed.as_slice() == played.as_slice(), "{fair}");
+        assert!(rt; replays_to_the_play(rt.alloc(), fair), "{fair}");
     }
 }

@@ -2,8 +2,11 @@
 use reg_cli::{Fault, run_live};
 use reg_live_command::{Stop, write_stop};
 use std::alloc::Global;
-use std::process::Abort;
+use std::fmt::Write;
+use std::sync::Wait;
 use std::test::Fail;
+use std::thread::Threads;
+use std::time::Clock;
 
 /// Each stop, and its line.
 const LINES: [(Stop, &str); 7] = [
@@ -33,19 +36,27 @@ const LINES: [(Stop, &str); 7] = [
     (Stop::Mismatch { process: 10 }, "close: mismatch 10\n"),
 ];
 
-/// Demands the line of a stop, and that it is what the stop shows.
-fn demand_line(rt: &impl Abort, alloc: Global, stop: Stop, line: &str) -> Result<(), Fail> {
+/// Whether a stop is told by its line, and is shown so. Both texts are empty.
+fn tells(errors: &mut Vec<u8>, text: &mut String, stop: Stop, line: &str) -> Result<bool, Fail> {
+    write!(text, "{stop}\n")?;
+    Ok(
+        write_stop(errors, stop).is_ok()
+            && errors.as_slice() == line.as_bytes()
+            && text.as_str() == line,
+    )
+}
+
+/// Whether this is the line of a stop, and what the stop shows.
+fn has_line(alloc: Global, stop: Stop, line: &str) -> Result<bool, Fail> {
     let mut errors = Vec::new(alloc);
-    assert!(rt; write_stop(&mut errors, stop).is_ok());
-    assert_eq!(rt; errors.as_slice(), line.as_bytes());
-    assert_eq!(rt; format!(in alloc; "{stop}\n")?.as_str(), line);
-    Ok(())
+    let mut text = String::new(alloc);
+    tells(&mut errors, &mut text, stop, line)
 }
 
 #[test]
 fn stops_have_their_lines(rt: HostRuntime) -> Result<(), Fail> {
     for (stop, line) in &LINES {
-        demand_line(&rt, rt.alloc(), *stop, line)?;
+        assert!(rt; has_line(rt.alloc(), *stop, line)?);
     }
     Ok(())
 }
@@ -57,15 +68,23 @@ const REFUSED: [(&[u8], &str); 3] = [
     (b"", "missing front\n"),
 ];
 
+/// Whether a workload is refused with this line.
+fn is_refused<R: Threads + Wait + Clock + Copy + Send + Sync + 'static>(
+    rt: R,
+    alloc: Global,
+    input: &[u8],
+    line: &str,
+) -> bool {
+    let mut reader = input;
+    let mut written = Vec::new(alloc);
+    let mut errors = Vec::new(alloc);
+    let status = run_live(rt, alloc, &mut reader, &mut written, &mut errors);
+    status == 1 && written.is_empty() && errors.as_slice() == line.as_bytes()
+}
+
 #[test]
 fn refused_workloads_are_told(rt: HostRuntime) {
-    let alloc = rt.alloc();
     for (input, line) in &REFUSED {
-        let mut reader = *input;
-        let mut written = Vec::new(alloc);
-        let mut errors = Vec::new(alloc);
-        let status = run_live(rt, alloc, &mut reader, &mut written, &mut errors);
-        assert_eq!(rt; errors.as_slice(), line.as_bytes());
-        assert!(rt; written.is_empty() && status == 1);
+        assert!(rt; is_refused(rt, rt.alloc(), *input, line));
     }
 }

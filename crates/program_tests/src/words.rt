@@ -5,9 +5,10 @@ use reg_cli::{Asked, Command, WordsFault, choose, refuse};
 use std::alloc::Global;
 use std::process::Abort;
 
-fn demand(rt: &impl Abort, alloc: Global, line: &str, asked: Result<Asked, WordsFault>) {
+/// Whether the words of a line ask for this.
+fn asks(rt: &impl Abort, alloc: Global, line: &str, asked: Result<Asked, WordsFault>) -> bool {
     let words = words_of(rt, alloc, "awreg", line);
-    assert_eq!(rt; choose(alloc, words.as_slice()), asked, "{line}");
+    choose(alloc, words.as_slice()) == asked
 }
 
 const OVER_TEXTS: [(&str, Command); 4] = [
@@ -57,12 +58,24 @@ const REFUSED: [&str; 34] = [
 #[test]
 fn exactly_the_command_lines_are_taken(rt: HostRuntime) {
     for (line, command) in &OVER_TEXTS {
-        demand(&rt, rt.alloc(), line, Ok(over_text(*command)));
+        assert!(rt;
+            asks(&rt, rt.alloc(), line, Ok(over_text(*command))),
+            "{line}"
+        );
     }
-    demand(&rt, rt.alloc(), "live", Ok(Asked::Live));
+    assert!(rt; asks(&rt, rt.alloc(), "live", Ok(Asked::Live)));
     for line in &REFUSED {
-        demand(&rt, rt.alloc(), line, Err(WordsFault::CommandLine));
+        assert!(rt;
+            asks(&rt, rt.alloc(), line, Err(WordsFault::CommandLine)),
+            "{line}"
+        );
     }
+}
+
+/// Whether a refusal has this line and status.
+fn is_told(alloc: Global, fault: WordsFault, line: &str, status: u8) -> bool {
+    let mut errors = Vec::new(alloc);
+    refuse(fault, &mut errors) == status && errors.as_slice() == line.as_bytes()
 }
 
 #[test]
@@ -72,8 +85,6 @@ fn refusals_are_told(rt: HostRuntime) {
         (WordsFault::OutOfMemory, "out of memory\n", 1),
     ];
     for (fault, line, status) in table {
-        let mut errors = Vec::new(rt.alloc());
-        assert_eq!(rt; refuse(fault, &mut errors), status);
-        assert_eq!(rt; errors.as_slice(), line.as_bytes());
+        assert!(rt; is_told(rt.alloc(), fault, line, status));
     }
 }

@@ -1,8 +1,8 @@
 //! Clusters closed with passes that aren't theirs, one for each process.
-use crate::live::crews::{last_of, parts_of};
+use crate::live::crews::{answered, close_parts, last_of, parts_of, put_back};
 use crate::values::write;
 use reg_front::LocalWrite;
-use reg_live::{CloseFault, NoGate, Parts, Pass, close};
+use reg_live::{CloseFault, NoGate, Parts, Pass};
 use std::alloc::Global;
 use std::process::Abort;
 use std::sync::Wait;
@@ -18,6 +18,28 @@ fn foreign(rt: &(impl Wait + Abort), alloc: Global, processes: u32) -> Pass<Loca
     last_of(rt, &mut parts.passes)
 }
 
+/// The last pass of another cluster of two, with the receipt of a write.
+fn busy(rt: &(impl Wait + Abort), alloc: Global) -> Pass<LocalWrite, NoGate> {
+    let mut pass = foreign(rt, alloc, 2);
+    let _receipt = answered(rt, &mut pass, write(1, 7));
+    pass
+}
+
+/// Takes the last pass where `less`, and puts the other one behind those that are left.
+fn change(
+    rt: &impl Abort,
+    passes: &mut Vec<Pass<LocalWrite, NoGate>>,
+    less: bool,
+    other: Option<Pass<LocalWrite, NoGate>>,
+) {
+    if less {
+        drop(last_of(rt, passes));
+    }
+    if let Some(pass) = other {
+        put_back(rt, passes, pass);
+    }
+}
+
 /// Closes a cluster of two without its last pass where `less`, and with the other one beside its own.
 fn fault_with(
     rt: &(impl Wait + Abort),
@@ -25,19 +47,19 @@ fn fault_with(
     less: bool,
     other: Option<Pass<LocalWrite, NoGate>>,
 ) -> Option<CloseFault> {
-    let Parts {
-        cluster,
-        mut passes,
-        couriers,
-        pacer,
-    } = cluster(rt, alloc, 2);
-    if less {
-        drop(last_of(rt, &mut passes));
-    }
-    if let Some(pass) = other {
-        passes.push(pass).expect(rt, "memory");
-    }
-    close(rt, alloc, cluster, passes, couriers, pacer).err()
+    let mut parts = cluster(rt, alloc, 2);
+    change(rt, &mut parts.passes, less, other);
+    close_parts(rt, alloc, parts).err()
+}
+
+/// The same with the last pass of another cluster of these many processes.
+fn fault_beside(
+    rt: &(impl Wait + Abort),
+    alloc: Global,
+    less: bool,
+    processes: u32,
+) -> Option<CloseFault> {
+    fault_with(rt, alloc, less, Some(foreign(rt, alloc, processes)))
 }
 
 fn mismatch(process: u8) -> Option<CloseFault> {
@@ -47,22 +69,19 @@ fn mismatch(process: u8) -> Option<CloseFault> {
 #[test]
 fn passes_are_counted(rt: HostRuntime) {
     let alloc = rt.alloc();
-    assert_eq!(rt; fault_with(&rt, alloc, false, None), None);
-    assert_eq!(rt; fault_with(&rt, alloc, true, None), mismatch(1));
-    let same = Some(foreign(&rt, alloc, 2));
-    assert_eq!(rt; fault_with(&rt, alloc, false, same), mismatch(1));
-    let beyond = Some(foreign(&rt, alloc, 3));
-    assert_eq!(rt; fault_with(&rt, alloc, false, beyond), mismatch(2));
-    let lowest = Some(foreign(&rt, alloc, 1));
-    assert_eq!(rt; fault_with(&rt, alloc, true, lowest), mismatch(0));
+    assert!(rt;
+        fault_with(&rt, alloc, false, None) == None
+            && fault_with(&rt, alloc, true, None) == mismatch(1)
+            && fault_beside(&rt, alloc, false, 2) == mismatch(1)
+            && fault_beside(&rt, alloc, false, 3) == mismatch(2)
+            && fault_beside(&rt, alloc, true, 1) == mismatch(0)
+    );
 }
 
 #[test]
 fn a_pass_of_another_cluster_is_told_by_its_receipts(rt: HostRuntime) {
     let alloc = rt.alloc();
-    let idle = Some(foreign(&rt, alloc, 2));
-    assert_eq!(rt; fault_with(&rt, alloc, true, idle), None);
-    let mut busy = foreign(&rt, alloc, 2);
-    assert!(rt; busy.perform(&rt, write(1, 7)).is_ok());
-    assert_eq!(rt; fault_with(&rt, alloc, true, Some(busy)), mismatch(1));
+    let idle = fault_beside(&rt, alloc, true, 2);
+    let told = fault_with(&rt, alloc, true, Some(busy(&rt, alloc)));
+    assert!(rt; idle == None && told == mismatch(1));
 }

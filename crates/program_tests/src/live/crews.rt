@@ -1,7 +1,11 @@
-//! Clusters whose couriers and pacer run in threads of their own.
-use reg_base::Shape;
+//! Clusters, and what tests do with their parts. A function that works at passes borrows them, so that a test owns a cluster
+//! over few calls.
+use crate::values::{read, write};
+use reg_base::{Answer, Op, Shape};
 use reg_front::FrontEnd;
-use reg_live::{Closed, Cluster, Courier, Gate, Pacer, Parts, Pass, Road, close, set_up};
+use reg_live::{
+    CloseFault, Closed, Cluster, Courier, Gate, Pacer, Parts, Pass, Receipt, Road, close, set_up,
+};
 use std::alloc::Global;
 use std::process::Abort;
 use std::sync::{Arc, Wait};
@@ -23,12 +27,97 @@ pub fn parts_of<F: FrontEnd, G: Gate + Drop>(
     set_up(rt, alloc, shape_of(rt, size.0, size.1), gate).expect(rt, "a cluster")
 }
 
-/// The pass of the last process.
+/// The pass at this place, which is that of the process while none was taken from before it.
+pub fn pass_of<'a, F: FrontEnd, G: Gate + Drop>(
+    rt: &impl Abort,
+    passes: &'a mut Vec<Pass<F, G>>,
+    process: usize,
+) -> &'a mut Pass<F, G> {
+    passes.get_mut(process).expect(rt, "a pass")
+}
+
+/// Takes the pass of the last process.
 pub fn last_of<F: FrontEnd, G: Gate + Drop>(
     rt: &impl Abort,
     passes: &mut Vec<Pass<F, G>>,
 ) -> Pass<F, G> {
     passes.pop().expect(rt, "a pass")
+}
+
+/// Puts a pass behind the others.
+pub fn put_back<F: FrontEnd, G: Gate + Drop>(
+    rt: &impl Abort,
+    passes: &mut Vec<Pass<F, G>>,
+    pass: Pass<F, G>,
+) {
+    passes.push(pass).expect(rt, "memory");
+}
+
+/// Performs an operation that is to be answered.
+pub fn answered<F: FrontEnd, G: Gate + Drop>(
+    rt: &(impl Wait + Abort),
+    pass: &mut Pass<F, G>,
+    op: Op,
+) -> Receipt {
+    pass.perform(rt, op).expect(rt, "an answer")
+}
+
+/// Writes a register and reads it, as the first operations of a pass.
+fn write_and_read<F: FrontEnd, G: Gate + Drop>(
+    rt: &(impl Wait + Abort),
+    pass: &mut Pass<F, G>,
+    register: u16,
+) {
+    let value = u64::from(register) + 1;
+    let written = answered(rt, pass, write(register, value));
+    let seen = answered(rt, pass, read(register));
+    assert!(rt;
+        seen.answer == Answer::Value(value) && pass.receipts() == [written, seen].as_slice()
+    );
+}
+
+/// Writes a register and reads it, in a thread of its own.
+fn call_both<
+    F: FrontEnd + Send + Sync + 'static,
+    G: Gate + Drop + Send + Sync + 'static,
+    R: Threads + Wait + Abort + Copy + Send + Sync + 'static,
+>(rt: R, pass: Pass<F, G>, register: u16) -> JoinHandle<Pass<F, G>> {
+    let mut pass = pass;
+    thread::spawn(&rt, move || {
+        write_and_read(&rt, &mut pass, register);
+        pass
+    })
+    .expect(&rt, "a thread")
+}
+
+/// Each pass writes a register of its own and reads it, in a thread of its own.
+pub fn call_all<
+    F: FrontEnd + Send + Sync + 'static,
+    G: Gate + Drop + Send + Sync + 'static,
+    R: Threads + Wait + Abort + Copy + Send + Sync + 'static,
+>(rt: R, alloc: Global, passes: Vec<Pass<F, G>>) -> Vec<JoinHandle<Pass<F, G>>> {
+    let mut callers = Vec::new(alloc);
+    let mut register = 0u16;
+    for pass in passes {
+        callers
+            .push(call_both(rt, pass, register))
+            .expect(&rt, "memory");
+        register = register.wrapping_add(1);
+    }
+    callers
+}
+
+/// What the threads ended with, in their order.
+pub fn join_all<T: Send + Drop + 'static, R: Threads + Wait + Abort>(
+    rt: &R,
+    alloc: Global,
+    handles: Vec<JoinHandle<T>>,
+) -> Vec<T> {
+    let mut ended = Vec::new(alloc);
+    for handle in handles {
+        ended.push(handle.join(rt)).expect(rt, "memory");
+    }
+    ended
 }
 
 /// How many receipts a process has in a closed cluster.
@@ -39,15 +128,8 @@ pub fn told<F: FrontEnd>(closed: &Closed<F>, process: usize) -> Option<usize> {
     }
 }
 
-/// The threads of a cluster.
-#[derive(Drop)]
-pub struct Crew<F: FrontEnd, G> {
-    couriers: Vec<JoinHandle<Courier<F, G>>>,
-    pacer: JoinHandle<Pacer<F, G>>,
-}
-
 /// A courier in a thread of its own.
-pub fn carry<
+fn carry<
     F: FrontEnd + Send + Sync + 'static,
     G: Gate + Drop + Send + Sync + 'static,
     P: Road + Drop + Send + Sync + 'static,
@@ -62,13 +144,13 @@ pub fn carry<
     .expect(&rt, "a thread")
 }
 
-/// The couriers and the pacer, each in a thread of its own.
-pub fn start<
+/// The couriers, each in a thread of its own.
+pub fn carry_all<
     F: FrontEnd + Send + Sync + 'static,
     G: Gate + Drop + Send + Sync + 'static,
     P: Road + Drop + Send + Sync + 'static,
-    R: Threads + Wait + Clock + Abort + Copy + Send + Sync + 'static,
->(rt: R, alloc: Global, couriers: Vec<Courier<F, G>>, pacer: Pacer<F, G>, road: P) -> Crew<F, G> {
+    R: Threads + Wait + Abort + Copy + Send + Sync + 'static,
+>(rt: R, alloc: Global, couriers: Vec<Courier<F, G>>, road: P) -> Vec<JoinHandle<Courier<F, G>>> {
     let road = Arc::new(alloc, road).expect(&rt, "a road");
     let mut handles = Vec::new(alloc);
     for courier in couriers {
@@ -76,31 +158,97 @@ pub fn start<
             .push(carry(rt, courier, &road))
             .expect(&rt, "memory");
     }
+    handles
+}
+
+/// The pacer in a thread of its own.
+fn pace<
+    F: FrontEnd + Send + Sync + 'static,
+    G: Gate + Drop + Send + Sync + 'static,
+    R: Threads + Wait + Clock + Abort + Copy + Send + Sync + 'static,
+>(rt: R, pacer: Pacer<F, G>) -> JoinHandle<Pacer<F, G>> {
     let mut pacer = pacer;
-    let pacer = thread::spawn(&rt, move || {
+    thread::spawn(&rt, move || {
         pacer.run(&rt);
         pacer
     })
-    .expect(&rt, "a thread");
-    Crew {
-        couriers: handles,
+    .expect(&rt, "a thread")
+}
+
+/// A cluster whose couriers and pacer run in threads of their own.
+#[derive(Drop)]
+pub struct Running<F: FrontEnd, G> {
+    cluster: Cluster<F, G>,
+    couriers: Vec<JoinHandle<Courier<F, G>>>,
+    pacer: JoinHandle<Pacer<F, G>>,
+}
+
+/// The passes of a cluster, and the rest of it at work over this road.
+pub fn start<
+    F: FrontEnd + Send + Sync + 'static,
+    G: Gate + Drop + Send + Sync + 'static,
+    P: Road + Drop + Send + Sync + 'static,
+    R: Threads + Wait + Clock + Abort + Copy + Send + Sync + 'static,
+>(rt: R, alloc: Global, parts: Parts<F, G>, road: P) -> (Vec<Pass<F, G>>, Running<F, G>) {
+    let Parts {
+        cluster,
+        passes,
+        couriers,
         pacer,
-    }
+    } = parts;
+    let couriers = carry_all(rt, alloc, couriers, road);
+    let pacer = pace(rt, pacer);
+    let running = Running {
+        cluster,
+        couriers,
+        pacer,
+    };
+    (passes, running)
 }
 
 /// Stops a cluster, waits for its threads and closes it.
-pub fn end<F: FrontEnd, G: Gate + Drop, R: Threads + Wait + Abort>(
-    rt: &R,
-    alloc: Global,
-    cluster: Cluster<F, G>,
-    passes: Vec<Pass<F, G>>,
-    crew: Crew<F, G>,
-) -> Closed<F> {
+pub fn end<
+    F: FrontEnd + Send + Sync + 'static,
+    G: Gate + Drop + Send + Sync + 'static,
+    R: Threads + Wait + Abort,
+>(rt: &R, alloc: Global, running: Running<F, G>, passes: Vec<Pass<F, G>>) -> Closed<F> {
+    let Running {
+        cluster,
+        couriers,
+        pacer,
+    } = running;
     cluster.stop(rt).expect(rt, "memory");
-    let mut couriers = Vec::new(alloc);
-    for courier in crew.couriers {
-        couriers.push(courier.join(rt)).expect(rt, "memory");
-    }
-    let pacer = crew.pacer.join(rt);
-    close(rt, alloc, cluster, passes, couriers, pacer).expect(rt, "a faithful record")
+    let couriers = join_all(rt, alloc, couriers);
+    let pacer = pacer.join(rt);
+    let parts = Parts {
+        cluster,
+        passes,
+        couriers,
+        pacer,
+    };
+    shut(rt, alloc, parts)
+}
+
+/// Closes a cluster none of whose threads runs.
+pub fn close_parts<F: FrontEnd, G: Gate + Drop>(
+    rt: &impl Wait,
+    alloc: Global,
+    parts: Parts<F, G>,
+) -> Result<Closed<F>, CloseFault> {
+    let Parts {
+        cluster,
+        passes,
+        couriers,
+        pacer,
+    } = parts;
+    close(rt, alloc, cluster, passes, couriers, pacer)
+}
+
+/// Closes a cluster none of whose threads runs, and whose record is to be faithful.
+pub fn shut<F: FrontEnd, G: Gate + Drop>(
+    rt: &(impl Wait + Abort),
+    alloc: Global,
+    parts: Parts<F, G>,
+) -> Closed<F> {
+    close_parts(rt, alloc, parts).expect(rt, "a faithful record")
 }

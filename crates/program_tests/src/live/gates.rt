@@ -1,15 +1,15 @@
 //! Stations that are held in a section while others go on.
-use crate::live::crews::{end, last_of, parts_of, start};
+use crate::live::crews::{answered, end, last_of, parts_of, put_back, shut, start};
 use crate::values::{read, write};
 use reg_base::Op;
 use reg_front::LocalWrite;
-use reg_live::{Gate, Honest, Parts, Pass, close};
+use reg_live::{Gate, Honest, Parts, Pass};
 use std::alloc::Global;
 use std::process::Abort;
 use std::sync::atomic::{AtomicBool, Ordering};
 use std::sync::{Arc, Wait};
 use std::thread;
-use std::thread::Threads;
+use std::thread::{JoinHandle, Threads};
 
 /// How many turns are counted at most.
 const TURNS: u32 = 1_000_000_000;
@@ -73,30 +73,49 @@ impl Gate for Holding {
     }
 }
 
-/// The first pass writes in a thread of its own. Once its station is held, the second pass performs its operation.
-fn perform_both<R: Threads + Wait + Abort + Copy + Send + Sync + 'static>(
+/// Writes in a thread of its own.
+fn write_apart<R: Threads + Wait + Abort + Copy + Send + Sync + 'static>(
     rt: R,
-    first: Pass<LocalWrite, Holding>,
-    second: Pass<LocalWrite, Holding>,
+    pass: Pass<LocalWrite, Holding>,
+) -> JoinHandle<Pass<LocalWrite, Holding>> {
+    let mut pass = pass;
+    thread::spawn(&rt, move || {
+        let _receipt = answered(&rt, &mut pass, write(0, 1));
+        pass
+    })
+    .expect(&rt, "a thread")
+}
+
+/// Performs an operation in a thread of its own, once station 0 is held, and tells that it was answered.
+fn perform_apart<R: Threads + Wait + Abort + Copy + Send + Sync + 'static>(
+    rt: R,
+    pass: Pass<LocalWrite, Holding>,
     op: Op,
     flags: &Arc<Flags>,
-) -> (Pass<LocalWrite, Holding>, Pass<LocalWrite, Holding>) {
-    let mut first = first;
-    let one = thread::spawn(&rt, move || {
-        assert!(rt; first.perform(&rt, write(0, 1)).is_ok());
-        first
-    })
-    .expect(&rt, "a thread");
-    let mut second = second;
+) -> JoinHandle<Pass<LocalWrite, Holding>> {
+    let mut pass = pass;
     let shared = Arc::try_clone(flags).expect(&rt, "memory");
-    let two = thread::spawn(&rt, move || {
+    thread::spawn(&rt, move || {
         shared.wait(&shared.entered);
-        assert!(rt; second.perform(&rt, op).is_ok());
+        let _receipt = answered(&rt, &mut pass, op);
         shared.answered.store(true, Ordering::SeqCst);
-        second
+        pass
     })
-    .expect(&rt, "a thread");
-    (one.join(&rt), two.join(&rt))
+    .expect(&rt, "a thread")
+}
+
+/// Of the last two passes the first writes in a thread of its own. Once its station is held, the second performs its operation.
+fn perform_both<R: Threads + Wait + Abort + Copy + Send + Sync + 'static>(
+    rt: R,
+    passes: &mut Vec<Pass<LocalWrite, Holding>>,
+    op: Op,
+    flags: &Arc<Flags>,
+) {
+    let second = last_of(&rt, passes);
+    let one = write_apart(rt, last_of(&rt, passes));
+    let two = perform_apart(rt, second, op, flags);
+    put_back(&rt, passes, one.join(&rt));
+    put_back(&rt, passes, two.join(&rt));
 }
 
 /// A cluster of these many processes whose station 0 is held.
@@ -116,40 +135,22 @@ fn held(
 #[test]
 fn two_stations_are_held_at_once(rt: HostRuntime) {
     let alloc = rt.alloc();
-    let (parts, flags) = held(&rt, alloc, 2);
-    let mut passes = parts.passes;
-    let second = last_of(&rt, &mut passes);
-    let first = last_of(&rt, &mut passes);
-    let (first, second) = perform_both(rt, first, second, read(0), &flags);
-    assert!(rt; !flags.late.load(Ordering::SeqCst));
-    passes.push(first).expect(&rt, "memory");
-    passes.push(second).expect(&rt, "memory");
-    let closed = close(
-        &rt,
-        alloc,
-        parts.cluster,
-        passes,
-        parts.couriers,
-        parts.pacer,
-    )
-    .expect(&rt, "a faithful record");
-    assert_eq!(rt; closed.world.events(), 2);
+    let (mut parts, flags) = held(&rt, alloc, 2);
+    perform_both(rt, &mut parts.passes, read(0), &flags);
+    let late = flags.late.load(Ordering::SeqCst);
+    let closed = shut(&rt, alloc, parts);
+    assert!(rt; !late && closed.world.events() == 2);
 }
 
 #[test]
 fn others_go_on_while_one_is_held(rt: HostRuntime) {
     let alloc = rt.alloc();
     let (parts, flags) = held(&rt, alloc, 3);
-    let crew = start(rt, alloc, parts.couriers, parts.pacer, Honest);
-    let mut passes = parts.passes;
+    let (mut passes, running) = start(rt, alloc, parts, Honest);
     let third = last_of(&rt, &mut passes);
-    let second = last_of(&rt, &mut passes);
-    let first = last_of(&rt, &mut passes);
-    let (first, second) = perform_both(rt, first, second, write(0, 1), &flags);
-    assert!(rt; !flags.late.load(Ordering::SeqCst));
-    for pass in [first, second, third] {
-        passes.push(pass).expect(&rt, "memory");
-    }
-    let closed = end(&rt, alloc, parts.cluster, passes, crew);
-    assert_eq!(rt; closed.world.history().entries().len(), 4);
+    perform_both(rt, &mut passes, write(0, 1), &flags);
+    put_back(&rt, &mut passes, third);
+    let late = flags.late.load(Ordering::SeqCst);
+    let closed = end(&rt, alloc, running, passes);
+    assert!(rt; !late && closed.world.history().entries().len() == 4);
 }

@@ -1,83 +1,98 @@
 //! The limits of a process and of the journal.
-use crate::live::crews::{last_of, parts_of};
+use crate::live::crews::{close_parts, last_of, parts_of, pass_of, put_back, shut};
 use crate::values::{read, write};
 use reg_base::limits::{MOST_EVENTS, MOST_OPERATIONS};
-use reg_front::{Linear, LocalRead};
-use reg_live::{LiveFault, NoGate, Parts, Pass, close};
-use std::alloc::Global;
+use reg_front::{FrontEnd, Linear, LocalRead};
+use reg_live::{LiveFault, NoGate, Pacer, Pass, Receipt};
 use std::process::Abort;
 use std::sync::Wait;
 use std::thread;
+use std::thread::{JoinHandle, Threads};
+
+/// Whether so many reads are all answered.
+fn reads_so_often<F: FrontEnd>(rt: &impl Wait, pass: &mut Pass<F, NoGate>, times: u32) -> bool {
+    for _i in 0..times {
+        if pass.perform(rt, read(0)).is_err() {
+            return false;
+        }
+    }
+    true
+}
+
+/// Whether a new pass is full after so many operations, and no sooner.
+fn gets_full(rt: &impl Wait, pass: &mut Pass<Linear, NoGate>) -> bool {
+    reads_so_often(rt, pass, MOST_OPERATIONS)
+        && pass.perform(rt, read(0)) == Err(LiveFault::Full)
+        && pass.receipts().len() == MOST_OPERATIONS as usize
+}
 
 #[test]
 fn a_pass_calls_so_many_operations(rt: HostRuntime) {
     let alloc = rt.alloc();
-    let Parts {
-        cluster,
-        mut passes,
-        couriers,
-        pacer,
-    } = parts_of::<Linear, NoGate>(&rt, alloc, (1, 1), NoGate);
-    let mut pass = last_of(&rt, &mut passes);
-    for _i in 0..MOST_OPERATIONS {
-        assert!(rt; pass.perform(&rt, read(0)).is_ok());
-    }
-    assert!(rt; pass.perform(&rt, read(0)) == Err(LiveFault::Full));
-    assert_eq!(rt; pass.receipts().len(), MOST_OPERATIONS as usize);
-    passes.push(pass).expect(&rt, "memory");
-    assert!(rt; close(&rt, alloc, cluster, passes, couriers, pacer).is_ok());
+    let mut parts = parts_of::<Linear, NoGate>(&rt, alloc, (1, 1), NoGate);
+    let full = gets_full(&rt, pass_of(&rt, &mut parts.passes, 0));
+    let closed = close_parts(&rt, alloc, parts).is_ok();
+    assert!(rt; full && closed);
 }
 
-/// Fills a journal by reads that are answered from the copies, all but the last places.
-fn read_all(
-    rt: &(impl Wait + Abort),
-    alloc: Global,
-    passes: Vec<Pass<LocalRead, NoGate>>,
-) -> Vec<Pass<LocalRead, NoGate>> {
-    let mut back = Vec::new(alloc);
-    for pass in passes {
-        let mut pass = pass;
-        for _i in 1..MOST_OPERATIONS {
-            assert!(rt; pass.perform(rt, read(0)).is_ok());
+/// Fills a journal by reads that are answered from the copies, all but the last places. Whether all are answered.
+fn reads_all(rt: &impl Wait, passes: &mut Vec<Pass<LocalRead, NoGate>>) -> bool {
+    for pass in passes.iter_mut() {
+        if !reads_so_often(rt, pass, MOST_OPERATIONS - 1) {
+            return false;
         }
-        back.push(pass).expect(rt, "memory");
     }
-    back
+    true
+}
+
+/// A pass, and what it was told.
+type Told = (Pass<LocalRead, NoGate>, Result<Receipt, LiveFault>);
+
+/// Writes in a thread of its own.
+fn write_apart<R: Threads + Wait + Abort + Copy + Send + Sync + 'static>(
+    rt: R,
+    pass: Pass<LocalRead, NoGate>,
+) -> JoinHandle<Told> {
+    let mut pass = pass;
+    thread::spawn(&rt, move || {
+        let told = pass.perform(&rt, write(0, 1));
+        (pass, told)
+    })
+    .expect(&rt, "a thread")
+}
+
+/// Makes rounds until the journal is full.
+fn fill(rt: &impl Wait, pass: &mut Pass<LocalRead, NoGate>, pacer: &mut Pacer<LocalRead, NoGate>) {
+    let last = u64::from(MOST_EVENTS);
+    let full = Err(LiveFault::Behind { length: last });
+    for _round in 0..u32::MAX {
+        if pass.perform_after(rt, read(0), last + 1) == full {
+            return;
+        }
+        pacer.round(rt);
+    }
+}
+
+/// Whether a caller that waits is told once the journal is full, and one that comes later too.
+fn tells_of_the_end<R: Threads + Wait + Abort + Copy + Send + Sync + 'static>(
+    rt: R,
+    passes: &mut Vec<Pass<LocalRead, NoGate>>,
+    pacer: &mut Pacer<LocalRead, NoGate>,
+) -> bool {
+    let caller = write_apart(rt, last_of(&rt, passes));
+    fill(&rt, pass_of(&rt, passes, 14), pacer);
+    let (pass, told) = caller.join(&rt);
+    put_back(&rt, passes, pass);
+    let later = pass_of(&rt, passes, 14).perform(&rt, read(0));
+    told == Err(LiveFault::Failed) && later == Err(LiveFault::Full)
 }
 
 #[test]
 fn no_caller_waits_once_the_journal_is_full(rt: HostRuntime) {
     let alloc = rt.alloc();
-    let Parts {
-        cluster,
-        passes,
-        couriers,
-        mut pacer,
-    } = parts_of::<LocalRead, NoGate>(&rt, alloc, (16, 1), NoGate);
-    let mut passes = read_all(&rt, alloc, passes);
-    let mut pass = last_of(&rt, &mut passes);
-    let caller = thread::spawn(&rt, move || {
-        let told = pass.perform(&rt, write(0, 1));
-        (pass, told)
-    })
-    .expect(&rt, "a thread");
-    let mut other = last_of(&rt, &mut passes);
-    let last = u64::from(MOST_EVENTS);
-    let full = Err(LiveFault::Behind { length: last });
-    for _round in 0..u32::MAX {
-        if other.perform_after(&rt, read(0), last + 1) == full {
-            break;
-        }
-        pacer.round(&rt);
-    }
-    let (pass, told) = caller.join(&rt);
-    assert!(rt; told == Err(LiveFault::Failed));
-    assert!(rt; other.perform(&rt, read(0)) == Err(LiveFault::Full));
-    passes.push(other).expect(&rt, "memory");
-    passes.push(pass).expect(&rt, "memory");
-    let closed = close(&rt, alloc, cluster, passes, couriers, pacer).expect(
-        &rt,
-        "a faithful record",
-    );
-    assert_eq!(rt; closed.world.events(), MOST_EVENTS);
+    let mut parts = parts_of::<LocalRead, NoGate>(&rt, alloc, (16, 1), NoGate);
+    let read = reads_all(&rt, &mut parts.passes);
+    let told = tells_of_the_end(rt, &mut parts.passes, &mut parts.pacer);
+    let closed = shut(&rt, alloc, parts);
+    assert!(rt; read && told && closed.world.events() == MOST_EVENTS);
 }

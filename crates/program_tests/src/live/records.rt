@@ -2,13 +2,12 @@
 use crate::live::crews::shape_of;
 use crate::values::{receipt, write};
 use refusing::Refusing;
-use reg_base::{Answer, Op};
+use reg_base::{Answer, Op, Shape};
 use reg_frames::Frame;
 use reg_front::Linear;
 use reg_live::{CloseFault, LogEntry, Receipt, verify};
 use reg_process::{Reply, Step};
 use std::alloc::{AllocError, Allocator, Global};
-use std::process::Abort;
 
 /// A write of 5, called at the only process and answered at once.
 const ENTRY: LogEntry = LogEntry {
@@ -86,67 +85,87 @@ fn cases() -> [Case; 7] {
     ]
 }
 
-/// What `verify` says of one process.
-fn judged<A: Allocator + Copy>(
-    rt: &impl Abort,
+/// Adds a list of this item, or of none.
+fn add_list<T: Copy, A: Allocator + Copy>(
     alloc: A,
-    order: &[u8],
+    lists: &mut Vec<Vec<T, A>, A>,
+    item: Option<T>,
+) -> Result<(), AllocError> {
+    let mut list = Vec::new(alloc);
+    if let Some(item) = item {
+        list.push(item)?;
+    }
+    lists.push(list)?;
+    Ok(())
+}
+
+/// Whether `verify` says of one process what it is to say, in a run of one event where it says no fault.
+fn judges<A: Allocator + Copy>(
+    shape: Shape,
+    alloc: A,
+    row: &Case,
     logs: &[Vec<LogEntry, A>],
     lists: &[Vec<Receipt, A>],
-) -> Result<Option<CloseFault>, AllocError> {
-    let shape = shape_of(rt, 1, 1);
+) -> Result<bool, AllocError> {
     let count = shape.processes() as usize;
     if logs.len() != count || lists.len() != count {
         return Err(AllocError);
     }
-    match verify::<Linear, A>(alloc, shape, order, logs, lists) {
-        Ok(world) => {
-            assert!(rt; world.events() == 1);
-            Ok(None)
-        }
-        Err(CloseFault::OutOfMemory) => Err(AllocError),
-        Err(fault) => Ok(Some(fault)),
+    let (events, fault) = match verify::<Linear, A>(alloc, shape, row.order, logs, lists) {
+        Ok(world) => (world.events(), None),
+        Err(fault) => (1, Some(fault)),
+    };
+    if fault == Some(CloseFault::OutOfMemory) {
+        return Err(AllocError);
     }
+    Ok(events == 1 && fault == row.fault)
 }
 
-/// What `verify` says of a row.
-fn verdict<A: Allocator + Copy>(
-    rt: &impl Abort,
+/// The same, with the log and the receipts of the row put into these lists, which are empty.
+fn judges_row<A: Allocator + Copy>(
+    shape: Shape,
     alloc: A,
     row: &Case,
-) -> Result<Option<CloseFault>, AllocError> {
-    let mut log = Vec::new(alloc);
-    log.push(row.entry)?;
+    logs: &mut Vec<Vec<LogEntry, A>, A>,
+    lists: &mut Vec<Vec<Receipt, A>, A>,
+) -> Result<bool, AllocError> {
+    let written = receipt((0, 0), write(0, 5), Answer::Done, 0, 0);
+    let told = if row.told { Some(written) } else { None };
+    add_list(alloc, logs, Some(row.entry))?;
+    add_list(alloc, lists, told)?;
+    judges(shape, alloc, row, logs.as_slice(), lists.as_slice())
+}
+
+/// Whether `verify` says of a row what it is to say.
+fn is_right<A: Allocator + Copy>(shape: Shape, alloc: A, row: &Case) -> Result<bool, AllocError> {
     let mut logs = Vec::new(alloc);
-    logs.push(log)?;
-    let mut list = Vec::new(alloc);
-    if row.told {
-        list.push(receipt((0, 0), write(0, 5), Answer::Done, 0, 0))?;
-    }
     let mut lists = Vec::new(alloc);
-    lists.push(list)?;
-    judged(rt, alloc, row.order, &logs, &lists)
+    judges_row(shape, alloc, row, &mut logs, &mut lists)
 }
 
 #[test]
 fn damage_is_told(rt: HostRuntime) {
+    let shape = shape_of(&rt, 1, 1);
     for row in &cases() {
-        assert!(rt; verdict(&rt, rt.alloc(), row) == Ok(row.fault));
+        assert!(rt; is_right(shape, rt.alloc(), row) == Ok(true));
     }
 }
 
-/// How many growths were refused, one in each of as many tries, until one try met none.
-fn refusals(rt: &impl Abort, ample: Global, row: &Case) -> u64 {
+/// How many growths were refused, one in each of as many tries, until one try met none. It is 0 where a try went wrong.
+fn refusals(shape: Shape, ample: Global, row: &Case) -> u64 {
     for before in 0..1_000u64 {
         let heap = Refusing::new(ample, before);
-        match verdict(rt, &heap, row) {
-            Ok(fault) => {
-                assert!(rt; fault == row.fault);
-                if heap.is_waiting() {
-                    return before;
-                }
-            }
-            Err(_) => assert!(rt; !heap.is_waiting()),
+        let told = is_right(shape, &heap, row);
+        let waiting = heap.is_waiting();
+        let right = match told {
+            Ok(right) => right,
+            Err(_) => !waiting,
+        };
+        if !right {
+            return 0;
+        }
+        if waiting {
+            return before;
         }
     }
     0
@@ -154,7 +173,8 @@ fn refusals(rt: &impl Abort, ample: Global, row: &Case) -> u64 {
 
 #[test]
 fn each_growth_is_refused(rt: HostRuntime) {
+    let shape = shape_of(&rt, 1, 1);
     for row in &cases() {
-        assert!(rt; refusals(&rt, rt.alloc(), row) > 4);
+        assert!(rt; refusals(shape, rt.alloc(), row) > 4);
     }
 }

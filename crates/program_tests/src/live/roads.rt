@@ -1,5 +1,7 @@
 //! Roads that lose, repeat and reorder parcels.
-use crate::live::crews::{end, last_of, parts_of, start};
+use crate::live::crews::{
+    answered, call_all, end, join_all, last_of, parts_of, pass_of, put_back, start,
+};
 use crate::values::{read, write};
 use reg_base::Answer;
 use reg_front::{FrontEnd, Linear, LocalRead, LocalWrite};
@@ -10,26 +12,12 @@ use std::alloc::Global;
 use std::process::Abort;
 use std::sync::Wait;
 use std::thread;
-use std::thread::Threads;
+use std::thread::{JoinHandle, Threads};
 use std::time::Clock;
 
 /// A road that loses a fifth of the parcels, and puts a fifth of the others twice.
 fn road(seed: u64) -> Rough<SeedWords> {
     Rough::new(SeedWords::new(seed), 20, 20)
-}
-
-/// Writes a register and reads it.
-fn perform_both<F: FrontEnd>(
-    rt: &(impl Wait + Abort),
-    pass: Pass<F, NoGate>,
-    register: u16,
-) -> Pass<F, NoGate> {
-    let mut pass = pass;
-    let value = u64::from(register) + 1;
-    assert!(rt; pass.perform(rt, write(register, value)).is_ok());
-    let seen = pass.perform(rt, read(register)).expect(rt, "a value");
-    assert!(rt; seen.answer == Answer::Value(value));
-    pass
 }
 
 /// Three callers, each with a register of its own, over a rough road.
@@ -38,21 +26,20 @@ fn run_rough<
     R: Threads + Wait + Clock + Abort + Copy + Send + Sync + 'static,
 >(rt: R, alloc: Global, seed: u64) -> Closed<F> {
     let parts = parts_of::<F, NoGate>(&rt, alloc, (3, 3), NoGate);
-    let crew = start(rt, alloc, parts.couriers, parts.pacer, road(seed));
-    let mut callers = Vec::new(alloc);
-    let mut register = 0u16;
-    for pass in parts.passes {
-        let caller = thread::spawn(&rt, move || perform_both(&rt, pass, register)).expect(
-            &rt, "a thread",
-        );
-        callers.push(caller).expect(&rt, "memory");
-        register = register.wrapping_add(1);
+    let (passes, running) = start(rt, alloc, parts, road(seed));
+    let callers = call_all(rt, alloc, passes);
+    let passes = join_all(&rt, alloc, callers);
+    end(&rt, alloc, running, passes)
+}
+
+/// Whether the witness of a run holds its six operations in a serial order.
+fn is_serial<F: FrontEnd>(alloc: Global, closed: &Closed<F>) -> bool {
+    match closed.world.witness() {
+        Ok(order) => {
+            order.len() == 6 && check_serial(alloc, closed.world.history(), &order).is_ok()
+        }
+        Err(_) => false,
     }
-    let mut passes = Vec::new(alloc);
-    for caller in callers {
-        passes.push(caller.join(&rt)).expect(&rt, "memory");
-    }
-    end(&rt, alloc, parts.cluster, passes, crew)
 }
 
 /// Runs ten seeds, and checks the witness of each run.
@@ -61,10 +48,8 @@ fn run_seeds<
     R: Threads + Wait + Clock + Abort + Copy + Send + Sync + 'static,
 >(rt: R, alloc: Global) {
     for seed in 0..10u64 {
-        let closed = run_rough::<F, R>(rt, alloc, seed);
-        let order = closed.world.witness().expect(&rt, "memory");
-        assert!(rt; order.len() == 6);
-        assert!(rt; check_serial(alloc, closed.world.history(), &order).is_ok());
+        let serial = is_serial(alloc, &run_rough::<F, R>(rt, alloc, seed));
+        assert!(rt; serial);
     }
 }
 
@@ -78,49 +63,67 @@ fn local_writes_over_rough_roads(rt: HostRuntime) {
     run_seeds::<LocalWrite, HostRuntime>(rt, rt.alloc());
 }
 
+/// Whether the points of a run place its six operations in a point order.
+fn is_pointed(alloc: Global, closed: &Closed<Linear>) -> bool {
+    match closed.world.points() {
+        Ok(points) => {
+            points.len() == 6 && check_points(alloc, closed.world.history(), &points).is_ok()
+        }
+        Err(_) => false,
+    }
+}
+
 #[test]
 fn linear_operations_over_rough_roads(rt: HostRuntime) {
     let alloc = rt.alloc();
     run_seeds::<Linear, HostRuntime>(rt, alloc);
     for seed in 0..10u64 {
-        let closed = run_rough::<Linear, HostRuntime>(rt, alloc, seed);
-        let points = closed.world.points().expect(&rt, "memory");
-        assert!(rt; points.len() == 6);
-        assert!(rt; check_points(alloc, closed.world.history(), &points).is_ok());
+        let pointed = is_pointed(alloc, &run_rough::<Linear, HostRuntime>(rt, alloc, seed));
+        assert!(rt; pointed);
     }
 }
 
 /// Reads the register from this place on.
-fn read_after(
-    rt: &(impl Wait + Abort),
+fn read_after(rt: &(impl Wait + Abort), pass: &mut Pass<Linear, NoGate>, front: u64) {
+    let seen = pass.perform_after(rt, read(0), front).expect(rt, "a value");
+    assert!(rt; seen.answer == Answer::Value(1) && seen.called >= front);
+}
+
+/// The same in a thread of its own.
+fn read_apart<R: Threads + Wait + Abort + Copy + Send + Sync + 'static>(
+    rt: R,
     pass: Pass<Linear, NoGate>,
     front: u64,
-) -> Pass<Linear, NoGate> {
+) -> JoinHandle<Pass<Linear, NoGate>> {
     let mut pass = pass;
-    let seen = pass.perform_after(rt, read(0), front).expect(rt, "a value");
-    assert!(rt; seen.answer == Answer::Value(1));
-    assert!(rt; seen.called >= front);
-    pass
+    thread::spawn(&rt, move || {
+        read_after(&rt, &mut pass, front);
+        pass
+    })
+    .expect(&rt, "a thread")
+}
+
+/// The first of three writes and hands its front to the others. Whether it is refused at a front that is far ahead.
+fn hands_on<R: Threads + Wait + Abort + Copy + Send + Sync + 'static>(
+    rt: R,
+    passes: &mut Vec<Pass<Linear, NoGate>>,
+) -> bool {
+    let written = answered(&rt, pass_of(&rt, passes, 0), write(0, 1));
+    let front = written.answered.wrapping_add(1);
+    let three = read_apart(rt, last_of(&rt, passes), front);
+    let two = read_apart(rt, last_of(&rt, passes), front);
+    let behind = pass_of(&rt, passes, 0).perform_after(&rt, read(0), 2_000_000);
+    put_back(&rt, passes, two.join(&rt));
+    put_back(&rt, passes, three.join(&rt));
+    matches!(behind, Err(LiveFault::Behind { length }) if length < 2_000_000)
 }
 
 #[test]
 fn fronts_are_handed_on(rt: HostRuntime) {
     let alloc = rt.alloc();
     let parts = parts_of::<Linear, NoGate>(&rt, alloc, (3, 1), NoGate);
-    let crew = start(rt, alloc, parts.couriers, parts.pacer, road(7));
-    let mut passes = parts.passes;
-    let third = last_of(&rt, &mut passes);
-    let second = last_of(&rt, &mut passes);
-    let mut first = last_of(&rt, &mut passes);
-    let written = first.perform(&rt, write(0, 1)).expect(&rt, "done");
-    let front = written.answered.wrapping_add(1);
-    let two = thread::spawn(&rt, move || read_after(&rt, second, front)).expect(&rt, "a thread");
-    let three = thread::spawn(&rt, move || read_after(&rt, third, front)).expect(&rt, "a thread");
-    let behind = first.perform_after(&rt, read(0), 2_000_000);
-    assert!(rt; matches!(behind, Err(LiveFault::Behind { length }) if length < 2_000_000));
-    for pass in [first, two.join(&rt), three.join(&rt)] {
-        passes.push(pass).expect(&rt, "memory");
-    }
-    let closed = end(&rt, alloc, parts.cluster, passes, crew);
-    assert_eq!(rt; closed.world.history().entries().len(), 6);
+    let (mut passes, running) = start(rt, alloc, parts, road(7));
+    let behind = hands_on(rt, &mut passes);
+    let closed = end(&rt, alloc, running, passes);
+    assert!(rt; behind && closed.world.history().entries().len() == 6);
 }

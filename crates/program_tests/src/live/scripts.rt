@@ -1,81 +1,108 @@
 //! Scripts in threads of their own.
-use crate::live::crews::{end, last_of, parts_of, shape_of, start, told};
+use crate::live::crews::{
+    call_all, end, join_all, last_of, parts_of, pass_of, put_back, shape_of, start, told,
+};
 use crate::values::{read, write};
 use reg_base::{Answer, Op};
-use reg_front::{Linear, LocalWrite};
-use reg_live::{Honest, LiveFault, NoGate, Pass};
+use reg_front::{FrontEnd, Linear, LocalWrite};
+use reg_live::{Closed, Honest, LiveFault, NoGate, Pass, Receipt};
 use reg_scripts::{RunStop, run_scripts};
 use std::alloc::Global;
 use std::process::Abort;
 use std::sync::Wait;
 use std::thread;
+use std::thread::{JoinHandle, Threads};
 
-/// Performs a write and a read of the register, and tells what was read, and where it was answered.
-fn perform_both(
-    rt: &(impl Wait + Abort),
+/// The place behind the answer of the last operation of a pass.
+fn front_of(pass: &Pass<LocalWrite, NoGate>) -> u64 {
+    match pass.receipts().last() {
+        Some(receipt) => receipt.answered.wrapping_add(1),
+        None => 0,
+    }
+}
+
+/// A pass, and what it was told.
+type Told = (Pass<LocalWrite, NoGate>, Result<Receipt, LiveFault>);
+
+/// Reads from this place on, in a thread of its own.
+fn read_apart<R: Threads + Wait + Abort + Copy + Send + Sync + 'static>(
+    rt: R,
     pass: Pass<LocalWrite, NoGate>,
-    register: u16,
-) -> (Pass<LocalWrite, NoGate>, Answer, u64) {
+    front: u64,
+) -> JoinHandle<Told> {
     let mut pass = pass;
-    let value = u64::from(register) + 1;
-    assert!(rt; pass.perform(rt, write(register, value)).is_ok());
-    let seen = pass.perform(rt, read(register)).expect(rt, "a value");
-    assert!(rt; pass.receipts().len() == 2);
-    (pass, seen.answer, seen.answered)
+    thread::spawn(&rt, move || {
+        let told = pass.perform_after(&rt, read(0), front);
+        (pass, told)
+    })
+    .expect(&rt, "a thread")
+}
+
+/// Whether a read by the second of three is called behind the last answer of the first.
+fn is_called_behind<R: Threads + Wait + Abort + Copy + Send + Sync + 'static>(
+    rt: R,
+    passes: &mut Vec<Pass<LocalWrite, NoGate>>,
+) -> bool {
+    let front = front_of(pass_of(&rt, passes, 0));
+    let third = last_of(&rt, passes);
+    let reader = read_apart(rt, last_of(&rt, passes), front);
+    let (second, seen) = reader.join(&rt);
+    put_back(&rt, passes, second);
+    put_back(&rt, passes, third);
+    matches!(seen, Ok(seen) if front > 0 && seen.called >= front)
+}
+
+/// Whether a closed cluster of three has these receipts, and an entry for the call and the answer of each.
+fn has_all(closed: &Closed<LocalWrite>) -> bool {
+    told(closed, 0) == Some(2)
+        && told(closed, 1) == Some(3)
+        && told(closed, 2) == Some(2)
+        && closed.world.history().entries().len() == 14
 }
 
 #[test]
 fn each_caller_reads_what_it_wrote(rt: HostRuntime) {
     let alloc = rt.alloc();
     let parts = parts_of::<LocalWrite, NoGate>(&rt, alloc, (3, 3), NoGate);
-    let crew = start(rt, alloc, parts.couriers, parts.pacer, Honest);
-    let mut callers = Vec::new(alloc);
-    let mut register = 0u16;
-    for pass in parts.passes {
-        let caller = thread::spawn(&rt, move || perform_both(&rt, pass, register)).expect(
-            &rt, "a thread",
-        );
-        callers.push(caller).expect(&rt, "memory");
-        register = register.wrapping_add(1);
-    }
-    let mut passes = Vec::new(alloc);
-    let mut value = 0u64;
-    let mut front = 0u64;
-    for caller in callers {
-        let (pass, answer, answered) = caller.join(&rt);
-        value = value.wrapping_add(1);
-        assert_eq!(rt; answer, Answer::Value(value));
-        if value == 1 {
-            front = answered.wrapping_add(1);
-        }
-        passes.push(pass).expect(&rt, "memory");
-    }
-    let third = last_of(&rt, &mut passes);
-    let mut second = last_of(&rt, &mut passes);
-    let after = thread::spawn(&rt, move || {
-        let told = second.perform_after(&rt, read(0), front);
-        (second, told)
-    })
-    .expect(&rt, "a thread");
-    let (second, after) = after.join(&rt);
-    assert!(rt; after.expect(&rt, "a value").called >= front);
-    passes.push(second).expect(&rt, "memory");
-    passes.push(third).expect(&rt, "memory");
-    let closed = end(&rt, alloc, parts.cluster, passes, crew);
-    assert_eq!(rt; told(&closed, 0), Some(2));
-    assert_eq!(rt; told(&closed, 1), Some(3));
-    assert_eq!(rt; told(&closed, 2), Some(2));
-    assert_eq!(rt; closed.world.history().entries().len(), 14);
+    let (passes, running) = start(rt, alloc, parts, Honest);
+    let callers = call_all(rt, alloc, passes);
+    let mut passes = join_all(&rt, alloc, callers);
+    let behind = is_called_behind(rt, &mut passes);
+    let closed = end(&rt, alloc, running, passes);
+    assert!(rt; behind && has_all(&closed));
+}
+
+/// Adds the script that writes a register and reads it.
+fn add_script(rt: &impl Abort, alloc: Global, scripts: &mut Vec<Vec<Op>>, register: u16) {
+    let script = vec![in alloc; write(register, 5), read(register)].expect(rt, "memory");
+    scripts.push(script).expect(rt, "memory");
 }
 
 /// The scripts that write a register and read it.
 fn scripts(rt: &impl Abort, alloc: Global, processes: u16) -> Vec<Vec<Op>> {
     let mut scripts = Vec::new(alloc);
     for register in 0..processes {
-        let script = vec![in alloc; write(register, 5), read(register)].expect(rt, "memory");
-        scripts.push(script).expect(rt, "memory");
+        add_script(rt, alloc, &mut scripts, register);
     }
     scripts
+}
+
+/// Whether these are the receipts of a write, and of a read of what it wrote.
+fn is_performed(list: &[Receipt]) -> bool {
+    if let [_, seen] = list {
+        return seen.answer == Answer::Value(5);
+    }
+    false
+}
+
+/// Whether these many processes have performed their scripts.
+fn are_performed<F: FrontEnd>(closed: &Closed<F>, processes: usize) -> bool {
+    for list in &closed.receipts {
+        if !is_performed(list.as_slice()) {
+            return false;
+        }
+    }
+    closed.receipts.len() == processes
 }
 
 #[test]
@@ -88,24 +115,16 @@ fn scripts_are_performed(rt: HostRuntime) {
             &rt,
             "a faithful record",
         );
-        assert_eq!(rt; closed.receipts.len(), usize::from(processes));
-        for list in &closed.receipts {
-            assert_eq!(rt; list.len(), 2);
-            assert_eq!(rt; list[1].answer, Answer::Value(5));
-        }
+        assert!(rt; are_performed(&closed, usize::from(processes)));
     }
 }
 
 #[test]
 fn the_lowest_refused_process_is_told(rt: HostRuntime) {
     let alloc = rt.alloc();
+    let shape = shape_of(&rt, 3, 1);
     let scripts = scripts(&rt, alloc, 3);
-    let stop = run_scripts::<LocalWrite, HostRuntime>(
-        rt,
-        alloc,
-        shape_of(&rt, 3, 1),
-        scripts,
-    ).err();
+    let stop = run_scripts::<LocalWrite, HostRuntime>(rt, alloc, shape, scripts).err();
     let fault = LiveFault::NoRegister;
-    assert_eq!(rt; stop, Some(RunStop::Pass { process: 1, fault }));
+    assert!(rt; stop == Some(RunStop::Pass { process: 1, fault }));
 }

@@ -1,12 +1,15 @@
 //! Stations that stop, and frames that were changed on their way.
-use crate::live::crews::{carry, end, last_of, parts_of, start, told};
+use crate::live::crews::{carry_all, end, join_all, parts_of, pass_of, start, told};
 use crate::values::{read, write};
 use reg_base::limits::LAST_TIME;
 use reg_base::{Op, OpId};
 use reg_frames::{Body, Frame, decode, encode};
 use reg_front::{Linear, LocalWrite};
-use reg_live::{CloseFault, Gate, LiveFault, NoGate, Parcel, Posts, Road, close};
+use reg_live::{
+    CloseFault, Closed, Gate, LiveFault, NoGate, Parcel, Parts, Pass, Posts, Road, close,
+};
 use std::alloc::Global;
+use std::process::Abort;
 use std::sync::atomic::{AtomicBool, Ordering};
 use std::sync::{Arc, Wait};
 
@@ -39,54 +42,39 @@ impl Changing {
 
 /// The frame after a change.
 fn changed(frame: Frame, change: Change) -> Frame {
-    match (frame, change) {
-        (
-            Frame::Numbered {
-                number,
-                body: Body::Cast { time: _, op },
-            },
-            Change::LastTime,
-        ) => {
-            let time = LAST_TIME;
-            let body = Body::Cast { time, op };
-            Frame::Numbered { number, body }
-        }
-        (
-            Frame::Numbered {
-                number,
-                body: Body::Cast { time, op: _ },
-            },
-            Change::Value(value),
-        ) => {
-            let op = Op::Write { register: 0, value };
-            let body = Body::Cast { time, op };
-            Frame::Numbered { number, body }
-        }
-        (frame, _) => frame,
-    }
+    let Frame::Numbered {
+        number,
+        body: Body::Cast { time, op },
+    } = frame
+    else {
+        return frame;
+    };
+    let (time, op) = match change {
+        Change::LastTime => (LAST_TIME, op),
+        Change::Value(value) => (time, Op::Write { register: 0, value }),
+    };
+    let body = Body::Cast { time, op };
+    Frame::Numbered { number, body }
 }
 
-/// The bytes of a parcel after a change of its frame.
-fn changed_bytes(alloc: Global, bytes: Vec<u8>, change: Change) -> Vec<u8> {
+/// Changes the frame that a parcel's bytes are of.
+fn change_bytes(alloc: Global, bytes: &mut Vec<u8>, change: Change) {
     let Ok(frame) = decode(bytes.as_slice()) else {
-        return bytes;
+        return;
     };
-    match encode(alloc, &changed(frame, change)) {
-        Ok(other) => other,
-        Err(_) => bytes,
+    if let Ok(other) = encode(alloc, &changed(frame, change)) {
+        *bytes = other;
     }
 }
 
 impl Road for Changing {
     fn send<R: Wait>(&self, rt: &R, posts: &Posts, parcel: Parcel) {
-        let Parcel { from, to, bytes } = parcel;
-        let first = from == 0 && to == 1 && !self.done.swap(true, Ordering::SeqCst);
-        let bytes = if first {
-            changed_bytes(self.alloc, bytes, self.change)
-        } else {
-            bytes
-        };
-        let _came = posts.put(rt, Parcel { from, to, bytes });
+        let mut parcel = parcel;
+        let ours = parcel.from == 0 && parcel.to == 1;
+        if ours && !self.done.swap(true, Ordering::SeqCst) {
+            change_bytes(self.alloc, &mut parcel.bytes, self.change);
+        }
+        let _came = posts.put(rt, parcel);
     }
 }
 
@@ -114,43 +102,68 @@ fn was_set(flag: &AtomicBool) -> bool {
     false
 }
 
+/// A cluster of two, and what tells that station 1 made a section.
+fn watched(
+    rt: &(impl Wait + Abort),
+    alloc: Global,
+) -> (Parts<LocalWrite, Seeing>, Arc<AtomicBool>) {
+    let seen = Arc::new(alloc, AtomicBool::new(false)).expect(rt, "memory");
+    let gate = Seeing {
+        seen: Arc::try_clone(&seen).expect(rt, "memory"),
+    };
+    (parts_of(rt, alloc, (2, 1), gate), seen)
+}
+
+/// Whether the second process is refused once its station has seen a cast, while the first goes on.
+fn stops_second(
+    rt: &(impl Wait + Abort),
+    passes: &mut Vec<Pass<LocalWrite, Seeing>>,
+    seen: &AtomicBool,
+) -> bool {
+    let before = pass_of(rt, passes, 0).perform(rt, write(0, 1)).is_ok();
+    let came = was_set(seen);
+    let refused = pass_of(rt, passes, 1).perform(rt, read(0));
+    let after = pass_of(rt, passes, 0).perform(rt, write(0, 2)).is_ok();
+    before && came && refused == Err(LiveFault::Failed) && after
+}
+
+/// Whether the closed cluster has both writes of the first process, and nothing of the second.
+fn has_both_writes(closed: &Closed<LocalWrite>) -> bool {
+    let both = [
+        OpId {
+            process: 0,
+            number: 0,
+        },
+        OpId {
+            process: 0,
+            number: 1,
+        },
+    ];
+    let ordered = match closed.world.witness() {
+        Ok(order) => order.as_slice() == both.as_slice(),
+        Err(_) => false,
+    };
+    ordered && told(closed, 0) == Some(2) && told(closed, 1) == Some(0)
+}
+
 #[test]
 fn a_station_stops_alone(rt: HostRuntime) {
     let alloc = rt.alloc();
-    let seen = Arc::new(alloc, AtomicBool::new(false)).expect(&rt, "memory");
-    let gate = Seeing {
-        seen: Arc::try_clone(&seen).expect(&rt, "memory"),
-    };
-    let parts = parts_of::<LocalWrite, Seeing>(&rt, alloc, (2, 1), gate);
+    let (parts, seen) = watched(&rt, alloc);
     let road = Changing::new(alloc, Change::LastTime);
-    let crew = start(rt, alloc, parts.couriers, parts.pacer, road);
-    let mut passes = parts.passes;
-    let mut second = last_of(&rt, &mut passes);
-    let mut first = last_of(&rt, &mut passes);
-    assert!(rt; first.perform(&rt, write(0, 1)).is_ok());
-    assert!(rt; was_set(&seen));
-    assert!(rt; second.perform(&rt, read(0)) == Err(LiveFault::Failed));
-    assert!(rt; first.perform(&rt, write(0, 2)).is_ok());
-    passes.push(first).expect(&rt, "memory");
-    passes.push(second).expect(&rt, "memory");
-    let closed = end(&rt, alloc, parts.cluster, passes, crew);
-    assert_eq!(rt; told(&closed, 0), Some(2));
-    assert_eq!(rt; told(&closed, 1), Some(0));
-    let order = closed.world.witness().expect(&rt, "memory");
-    assert!(rt;
-        order.as_slice()
-            == [
-                OpId {
-                    process: 0,
-                    number: 0
-                },
-                OpId {
-                    process: 0,
-                    number: 1
-                }
-            ]
-            .as_slice()
-    );
+    let (mut passes, running) = start(rt, alloc, parts, road);
+    let stopped = stops_second(&rt, &mut passes, &seen);
+    let closed = end(&rt, alloc, running, passes);
+    assert!(rt; stopped && has_both_writes(&closed));
+}
+
+/// Whether two writes are told that the station has stopped, and leave no receipt.
+fn is_refused(rt: &impl Wait, pass: &mut Pass<Linear, NoGate>) -> bool {
+    let first = pass.perform(rt, write(0, 1));
+    let second = pass.perform(rt, write(0, 2));
+    first == Err(LiveFault::Failed)
+        && second == Err(LiveFault::Failed)
+        && pass.receipts().is_empty()
 }
 
 #[test]
@@ -158,36 +171,29 @@ fn no_caller_waits_for_a_station_that_stopped(rt: HostRuntime) {
     let alloc = rt.alloc();
     let parts = parts_of::<Linear, NoGate>(&rt, alloc, (2, 1), NoGate);
     let road = Changing::new(alloc, Change::LastTime);
-    let crew = start(rt, alloc, parts.couriers, parts.pacer, road);
-    let mut passes = parts.passes;
-    let second = last_of(&rt, &mut passes);
-    let mut first = last_of(&rt, &mut passes);
-    assert!(rt; first.perform(&rt, write(0, 1)) == Err(LiveFault::Failed));
-    assert!(rt; first.perform(&rt, write(0, 2)) == Err(LiveFault::Failed));
-    assert!(rt; first.receipts().is_empty());
-    passes.push(first).expect(&rt, "memory");
-    passes.push(second).expect(&rt, "memory");
-    let closed = end(&rt, alloc, parts.cluster, passes, crew);
-    assert_eq!(rt; closed.world.history().entries().len(), 1);
+    let (mut passes, running) = start(rt, alloc, parts, road);
+    let refused = is_refused(&rt, pass_of(&rt, &mut passes, 0));
+    let closed = end(&rt, alloc, running, passes);
+    assert!(rt; refused && closed.world.history().entries().len() == 1);
 }
 
+/// No pacer runs, so that each place in the journal is known.
 #[test]
 fn a_changed_value_is_unfaithful(rt: HostRuntime) {
     let alloc = rt.alloc();
-    let parts = parts_of::<Linear, NoGate>(&rt, alloc, (2, 1), NoGate);
-    let road = Arc::new(alloc, Changing::new(alloc, Change::Value(6))).expect(&rt, "a road");
-    let mut couriers = parts.couriers;
-    let one = carry(rt, couriers.pop().expect(&rt, "a courier"), &road);
-    let zero = carry(rt, couriers.pop().expect(&rt, "a courier"), &road);
-    let mut passes = parts.passes;
-    let second = last_of(&rt, &mut passes);
-    let mut first = last_of(&rt, &mut passes);
-    assert!(rt; first.perform(&rt, write(0, 5)).is_ok());
-    assert!(rt; parts.cluster.stop(&rt).is_ok());
-    couriers.push(zero.join(&rt)).expect(&rt, "memory");
-    couriers.push(one.join(&rt)).expect(&rt, "memory");
-    passes.push(first).expect(&rt, "memory");
-    passes.push(second).expect(&rt, "memory");
-    let fault = close(&rt, alloc, parts.cluster, passes, couriers, parts.pacer).err();
-    assert_eq!(rt; fault, Some(CloseFault::Unfaithful { place: 1 }));
+    let Parts {
+        cluster,
+        mut passes,
+        couriers,
+        pacer,
+    } = parts_of::<Linear, NoGate>(&rt, alloc, (2, 1), NoGate);
+    let road = Changing::new(alloc, Change::Value(6));
+    let couriers = carry_all(rt, alloc, couriers, road);
+    let written = pass_of(&rt, &mut passes, 0)
+        .perform(&rt, write(0, 5))
+        .is_ok();
+    let stopped = cluster.stop(&rt).is_ok();
+    let couriers = join_all(&rt, alloc, couriers);
+    let fault = close(&rt, alloc, cluster, passes, couriers, pacer).err();
+    assert!(rt; written && stopped && fault == Some(CloseFault::Unfaithful { place: 1 }));
 }
