@@ -128,17 +128,24 @@ fn tell_linearization(rt: &impl Print, alloc: Global, world: &World<Linear>) -> 
     Ok(())
 }
 
+/// The tour, through a world in which nothing was called yet.
+fn tour(rt: &impl Print, alloc: Global, world: &mut World<Linear>) -> anyhow::Result<()>
+    requires { world.old.history ≡ [] }
+{
+    let first = Event::Call {
+        process: 0,
+        op: WRITE,
+    };
+    tell(rt, &first, call_first(world, 0, WRITE))?;
+    step_all(rt, world)?;
+    tell_serial_order(rt, alloc, world)?;
+    tell_linearization(rt, alloc, world)
+}
+
 fn main(rt: HostRuntime) -> anyhow::Result<()> {
     let Ok(shape) = Shape::new(2, 1) else {
         return Err(anyhow!("no shape"));
     };
     let mut world = World::<Linear>::new(rt.alloc(), shape)?;
-    let first = Event::Call {
-        process: 0,
-        op: WRITE,
-    };
-    tell(&rt, &first, call_first(&mut world, 0, WRITE))?;
-    step_all(&rt, &mut world)?;
-    tell_serial_order(&rt, rt.alloc(), &world)?;
-    tell_linearization(&rt, rt.alloc(), &world)
+    tour(&rt, rt.alloc(), &mut world)
 }

@@ -59,18 +59,17 @@ fn pace<R: Threads + Wait + Clock + Copy + Send + Sync + 'static>(
     Ok(started?)
 }
 
-/// Starts all couriers over one road.
+/// Starts all couriers over one road. Those that were started are in the list, also where one could not be.
 fn carry_all<R: Threads + Wait + Copy + Send + Sync + 'static>(
     rt: R,
-    alloc: Global,
+    carriers: &mut Vec<JoinHandle<Courier<Linear, NoGate>>>,
     couriers: Vec<Courier<Linear, NoGate>>,
     road: &Lossy,
-) -> anyhow::Result<Vec<JoinHandle<Courier<Linear, NoGate>>>> {
-    let mut carriers = Vec::new(alloc);
+) -> anyhow::Result<()> {
     for courier in couriers {
         carriers.push(carry(rt, courier, road)?)?;
     }
-    Ok(carriers)
+    Ok(())
 }
 
 /// Writes, and has another thread read from behind the answer on. That thread gives its pass back.
@@ -133,7 +132,19 @@ fn make_parts<R: Wait>(rt: &R, alloc: Global) -> anyhow::Result<Parts<Linear, No
     }
 }
 
-/// Has one thread write and another one read while the couriers and the pacer run, and gives the pacer back.
+/// Starts the couriers, and has one thread write and another one read while they run.
+fn carry_and_perform<R: Threads + Wait + Copy + Send + Sync + 'static>(
+    rt: R,
+    carriers: &mut Vec<JoinHandle<Courier<Linear, NoGate>>>,
+    couriers: Vec<Courier<Linear, NoGate>>,
+    road: &Lossy,
+    passes: &mut Vec<Pass<Linear, NoGate>>,
+) -> anyhow::Result<()> {
+    carry_all(rt, carriers, couriers, road)?;
+    perform_both(rt, passes)
+}
+
+/// Has the operations performed while the couriers and the pacer run, stops all in any case, and gives the pacer back.
 fn run<R: Threads + Wait + Clock + Copy + Send + Sync + 'static>(
     rt: R,
     alloc: Global,
@@ -144,8 +155,8 @@ fn run<R: Threads + Wait + Clock + Copy + Send + Sync + 'static>(
 ) -> anyhow::Result<Pacer<Linear, NoGate>> {
     let road = Arc::new(alloc, Rough::new(SeedWords::new(7), 20, 20))?;
     let pacer = pace(rt, pacer)?;
-    let carriers = carry_all(rt, alloc, couriers, &road)?;
-    let shared = perform_both(rt, passes);
+    let mut carriers = Vec::new(alloc);
+    let shared = carry_and_perform(rt, &mut carriers, couriers, &road, passes);
     stop_all(&rt, cluster, carriers);
     shared?;
     Ok(pacer.join(&rt))
