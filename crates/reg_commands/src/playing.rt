@@ -13,7 +13,10 @@ use crate::reporting::{report_run, report_run_with_points, write_out};
 use reg_front::{Front, FrontEnd, Linear, LocalRead, LocalWrite, RealTime};
 use reg_history::Report;
 use reg_messages::Fault;
-use reg_workload::{Play, SeedWords, Workload, WorkloadFault, play_fair, play_seeded, read_table};
+use reg_workload::{
+    Play, SeedWords, Workload, WorkloadFault, play_fair_in, play_seeded_in, read_table,
+};
+use reg_world::{PackedWires, WireStore};
 use std::alloc::{AllocError, Allocator, Global};
 use std::io::Write;
 
@@ -52,17 +55,17 @@ pub fn read_workload<A: Allocator + Copy>(
 }
 
 /// Plays a workload, fairly or as the words of its seed say.
-pub fn play_by<F: FrontEnd, A: Allocator + Copy>(
+pub fn play_by<F: FrontEnd, A: Allocator + Copy, W: WireStore<A>>(
     alloc: A,
     work: &Workload<A>,
     fair: bool,
-) -> Result<Play<F, A>, AllocError>
+) -> Result<Play<F, A, W>, AllocError>
     ensures { IfOk result (λ p. IsPlayBy fair F.start work.now p.world p.finished) }
 {
     if fair {
-        play_fair(alloc, work)
+        play_fair_in(alloc, work)
     } else {
-        play_seeded(alloc, work, SeedWords::new(work.seed))
+        play_seeded_in(alloc, work, SeedWords::new(work.seed))
     }
 }
 
@@ -75,7 +78,7 @@ fn report_of<F: FrontEnd, A: Allocator + Copy>(
     ensures shows { IfOk result (λ r. ShowsPlay fair F.start work HasNoPoints r) }
     ensures why { IfErr result (λ f. f ≡ Fault.OutOfMemory) }
 {
-    let Ok(play) = play_by::<F, A>(alloc, &work, fair) else {
+    let Ok(play) = play_by::<F, A, PackedWires<A>>(alloc, &work, fair) else {
         return Err(Fault::OutOfMemory);
     };
     report_run(alloc, work.front, work.names, play.world)
@@ -90,7 +93,7 @@ fn report_with_points<F: RealTime, A: Allocator + Copy>(
     ensures shows { IfOk result (λ r. ShowsPlay fair F.start work (ShowsPoints F.start) r) }
     ensures why { IfErr result (λ f. f ≡ Fault.OutOfMemory) }
 {
-    let Ok(play) = play_by::<F, A>(alloc, &work, fair) else {
+    let Ok(play) = play_by::<F, A, PackedWires<A>>(alloc, &work, fair) else {
         return Err(Fault::OutOfMemory);
     };
     report_run_with_points(alloc, work.front, work.names, play.world)

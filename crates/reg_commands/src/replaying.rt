@@ -13,7 +13,7 @@ use reg_front::{Front, FrontEnd, Linear, LocalRead, LocalWrite, RealTime};
 use reg_history::{ReadWhy, Report};
 use reg_messages::Fault;
 use reg_workload::{Schedule, ScheduleFault, parse_schedule};
-use reg_world::{RunFault, World, WorldFault};
+use reg_world::{PackedWires, RunFault, WireStore, World, WorldFault};
 use std::alloc::Allocator;
 use std::io::Write;
 
@@ -38,8 +38,8 @@ pub fn read_schedule<A: Allocator + Copy>(alloc: A, text: &str) -> Result<Schedu
 }
 
 /// The run of a schedule, with the names and the front end of its report.
-pub struct Ran<F: FrontEnd, A: Allocator + Copy> {
-    pub world: World<F, A>,
+pub struct Ran<F: FrontEnd, A: Allocator + Copy, W: WireStore<A>> {
+    pub world: World<F, A, W>,
     pub names: Names<A>,
     pub front: Front,
 }
@@ -49,10 +49,10 @@ pub struct Ran<F: FrontEnd, A: Allocator + Copy> {
 /// # Errors
 ///
 /// `Event` with the first event that is refused, and `OutOfMemory`.
-pub fn run_events<F: FrontEnd, A: Allocator + Copy>(
+pub fn run_events<F: FrontEnd, A: Allocator + Copy, W: WireStore<A>>(
     alloc: A,
     schedule: Schedule<A>,
-) -> Result<Ran<F, A>, Fault>
+) -> Result<Ran<F, A, W>, Fault>
     ensures ran { IfOk result (λ r. r.world ≡ after_events F.start schedule.shape schedule.events) }
     ensures names { IfOk result (λ r. r.names ≡ schedule.names) }
     ensures front { IfOk result (λ r. r.front ≡ schedule.front) }
@@ -91,7 +91,7 @@ fn report_of<F: FrontEnd, A: Allocator + Copy>(
         world,
         names,
         front,
-    } = run_events::<F, A>(alloc, schedule)?;
+    } = run_events::<F, A, PackedWires<A>>(alloc, schedule)?;
     report_run(alloc, front, names, world)
 }
 
@@ -109,7 +109,7 @@ fn report_with_points<F: RealTime, A: Allocator + Copy>(
         world,
         names,
         front,
-    } = run_events::<F, A>(alloc, schedule)?;
+    } = run_events::<F, A, PackedWires<A>>(alloc, schedule)?;
     report_run_with_points(alloc, front, names, world)
 }
 

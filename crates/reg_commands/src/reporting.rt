@@ -18,7 +18,7 @@ use reg_base::{Names, OpId};
 use reg_front::{Front, FrontEnd, RealTime};
 use reg_history::{History, Point, Report, write_report};
 use reg_messages::Fault;
-use reg_world::World;
+use reg_world::{WireStore, World};
 use std::alloc::{AllocError, Allocator};
 use std::io::Write;
 
@@ -58,11 +58,11 @@ fn report<A: Allocator + Copy>(
 }
 
 /// The report of what a world did, under this front end and these names, with these points or none.
-fn report_world<F: FrontEnd, A: Allocator + Copy>(
+fn report_world<F: FrontEnd, A: Allocator + Copy, W: WireStore<A>>(
     alloc: A,
     front: Front,
     names: Names<A>,
-    world: World<F, A>,
+    world: World<F, A, W>,
     points: Option<Vec<Point, A>>,
 ) -> Result<Report<A>, Fault>
     requires names { world.registers ≡ length names }
@@ -78,11 +78,11 @@ fn report_world<F: FrontEnd, A: Allocator + Copy>(
 }
 
 /// The report of what a world did, under this front end and these names, with no points.
-pub fn report_run<F: FrontEnd, A: Allocator + Copy>(
+pub fn report_run<F: FrontEnd, A: Allocator + Copy, W: WireStore<A>>(
     alloc: A,
     front: Front,
     names: Names<A>,
-    world: World<F, A>,
+    world: World<F, A, W>,
 ) -> Result<Report<A>, Fault>
     requires { world.registers ≡ length names }
     ensures shows { IfOk result (λ r. Shows F.start (plan_in front names world) r) }
@@ -93,7 +93,7 @@ pub fn report_run<F: FrontEnd, A: Allocator + Copy>(
 }
 
 // Each first delivery is at an event that a run may have. It does nothing: its contract says so.
-fn firsts_at_events<F: FrontEnd, A: Allocator + Copy>(world: &World<F, A>)
+fn firsts_at_events<F: FrontEnd, A: Allocator + Copy, W: WireStore<A>>(world: &World<F, A, W>)
     ensures { (k : ℕ) (f : First) → IsAt (run_in F.start world.now).order k f → f.at ≤ LAST_EVENT }
 {
     world.order();
@@ -102,8 +102,8 @@ fn firsts_at_events<F: FrontEnd, A: Allocator + Copy>(world: &World<F, A>)
 }
 
 /// The points of a run.
-fn points_of<F: RealTime, A: Allocator + Copy>(
-    world: &World<F, A>,
+fn points_of<F: RealTime, A: Allocator + Copy, W: WireStore<A>>(
+    world: &World<F, A, W>,
 ) -> Result<Vec<Point, A>, AllocError>
     ensures first { IfOk result (λ v. ArePoints (run_of world.now.registers (run_in F.start world.now)) v.items) }
     ensures stand { IfOk result (λ v. PointsStand world.now.registers world.now.history (Some v.items)) }
@@ -114,11 +114,11 @@ fn points_of<F: RealTime, A: Allocator + Copy>(
 }
 
 /// The report of what a world did, under this front end and these names, with its points.
-pub fn report_run_with_points<F: RealTime, A: Allocator + Copy>(
+pub fn report_run_with_points<F: RealTime, A: Allocator + Copy, W: WireStore<A>>(
     alloc: A,
     front: Front,
     names: Names<A>,
-    world: World<F, A>,
+    world: World<F, A, W>,
 ) -> Result<Report<A>, Fault>
     requires { world.registers ≡ length names }
     ensures shows { IfOk result (λ r. Shows F.start (plan_in front names world) r) }

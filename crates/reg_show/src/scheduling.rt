@@ -18,7 +18,7 @@ use reg_commands::{Fault, play_by, read_workload};
 use reg_front::{Front, FrontEnd, Linear, LocalRead, LocalWrite};
 use reg_moments::write_schedule;
 use reg_workload::Workload;
-use reg_world::Event as AnyEvent;
+use reg_world::{Event as AnyEvent, PackedWires};
 use std::alloc::{Allocator, Global};
 use std::io::Write;
 
@@ -65,7 +65,7 @@ fn write_play<F: FrontEnd, A: Allocator + Copy, W: Write>(
     ensures silent { IfErr result (λ f. f ≢ Fault.Output → writer.new ≡ writer.old) }
     ensures part { IsErrOf result Fault.Output → ShowsSchedule fair F.start (AppendsPart (W.contents writer.old) (W.contents writer.new)) work.now }
 {
-    let Ok(play) = play_by::<F, A>(alloc, work, fair) else {
+    let Ok(play) = play_by::<F, A, PackedWires<A>>(alloc, work, fair) else {
         return Err(Fault::OutOfMemory);
     };
     let events = play.world.accepted();

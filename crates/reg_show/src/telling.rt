@@ -7,6 +7,7 @@ use reg_commands::{Fault, Ran, read_schedule, run_events};
 use reg_front::{Front, FrontEnd, Linear, LocalRead, LocalWrite, RealTime};
 use reg_moments::{Told, tell_world};
 use reg_workload::Schedule;
+use reg_world::Wires;
 use std::alloc::Allocator;
 
 /// Runs a schedule whose front end has no points, and tells what happened.
@@ -22,7 +23,7 @@ fn tell_run<F: FrontEnd, A: Allocator + Copy>(
         world,
         names,
         front: _front,
-    } = run_events::<F, A>(alloc, schedule)?;
+    } = run_events::<F, A, Wires<A>>(alloc, schedule)?;
     let Ok(moments) = tell_world(alloc, &world) else {
         return Err(Fault::OutOfMemory);
     };
@@ -47,7 +48,7 @@ fn tell_run_with_points<F: RealTime, A: Allocator + Copy>(
         world,
         names,
         front: _front,
-    } = run_events::<F, A>(alloc, schedule)?;
+    } = run_events::<F, A, Wires<A>>(alloc, schedule)?;
     let Ok(moments) = tell_world(alloc, &world) else {
         return Err(Fault::OutOfMemory);
     };

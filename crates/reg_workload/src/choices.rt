@@ -5,6 +5,7 @@ ghost use Rattle.reg_workload.specs.Seeded.{call_choices, take_choices_from, tak
 
 use crate::playing::Player;
 use reg_front::FrontEnd;
+use reg_world::WireStore;
 use std::alloc::{AllocError, Allocator};
 
 /// What can happen next.
@@ -19,8 +20,8 @@ pub(crate) enum Choice {
 }
 
 /// A call for each process that is free and has an operation left.
-fn list_calls<F: FrontEnd, A: Allocator + Copy>(
-    player: &Player<'_, F, A>,
+fn list_calls<F: FrontEnd, A: Allocator + Copy, W: WireStore<A>>(
+    player: &Player<'_, F, A, W>,
     choices: &mut Vec<Choice, A>,
 ) -> Result<(), AllocError>
     requires going { player.now.made.failed ≡ false }
@@ -38,8 +39,8 @@ fn list_calls<F: FrontEnd, A: Allocator + Copy>(
 }
 
 /// A take for each wire from this process with a frame that is not behind.
-fn list_takes_from<F: FrontEnd, A: Allocator + Copy>(
-    player: &Player<'_, F, A>,
+fn list_takes_from<F: FrontEnd, A: Allocator + Copy, W: WireStore<A>>(
+    player: &Player<'_, F, A, W>,
     from: u8,
     choices: &mut Vec<Choice, A>,
 ) -> Result<(), AllocError>
@@ -59,8 +60,8 @@ fn list_takes_from<F: FrontEnd, A: Allocator + Copy>(
 }
 
 /// A take for each wire with a frame that is not behind.
-fn list_takes<F: FrontEnd, A: Allocator + Copy>(
-    player: &Player<'_, F, A>,
+fn list_takes<F: FrontEnd, A: Allocator + Copy, W: WireStore<A>>(
+    player: &Player<'_, F, A, W>,
     choices: &mut Vec<Choice, A>,
 ) -> Result<(), AllocError>
     requires going { player.now.made.failed ≡ false }
@@ -76,8 +77,8 @@ fn list_takes<F: FrontEnd, A: Allocator + Copy>(
 }
 
 /// A tick for each process that has frames to put again.
-fn list_ticks<F: FrontEnd, A: Allocator + Copy>(
-    player: &Player<'_, F, A>,
+fn list_ticks<F: FrontEnd, A: Allocator + Copy, W: WireStore<A>>(
+    player: &Player<'_, F, A, W>,
     choices: &mut Vec<Choice, A>,
 ) -> Result<(), AllocError>
     requires going { player.now.made.failed ≡ false }
@@ -96,8 +97,8 @@ fn list_ticks<F: FrontEnd, A: Allocator + Copy>(
 }
 
 /// All that can happen next: the calls by process, the takes by sender and then by receiver, and the ticks by process.
-pub(crate) fn list<F: FrontEnd, A: Allocator + Copy>(
-    player: &Player<'_, F, A>,
+pub(crate) fn list<F: FrontEnd, A: Allocator + Copy, W: WireStore<A>>(
+    player: &Player<'_, F, A, W>,
     choices: &mut Vec<Choice, A>,
 ) -> Result<(), AllocError>
     requires going { player.now.made.failed ≡ false }

@@ -10,11 +10,12 @@ ghost use Rattle.reg_workload.specs.FairParts.{IsFair, IsBehind, RoundPart, None
 use crate::playing::{Play, Player};
 use reg_base::{Op, Shape};
 use reg_front::FrontEnd;
+use reg_world::WireStore;
 use std::alloc::{AllocError, Allocator};
 
 /// A process calls its next operation, where it is free and has one left, unless the budget is used up. Tells whether it is.
-fn call_one<F: FrontEnd, A: Allocator + Copy>(
-    player: &mut Player<'_, F, A>,
+fn call_one<F: FrontEnd, A: Allocator + Copy, W: WireStore<A>>(
+    player: &mut Player<'_, F, A, W>,
     process: u8,
     budget: u32,
 ) -> Result<bool, AllocError>
@@ -37,8 +38,8 @@ fn call_one<F: FrontEnd, A: Allocator + Copy>(
 }
 
 /// Each process that is free calls its next operation, until the budget is used up. Tells whether it is.
-fn call_each<F: FrontEnd, A: Allocator + Copy>(
-    player: &mut Player<'_, F, A>,
+fn call_each<F: FrontEnd, A: Allocator + Copy, W: WireStore<A>>(
+    player: &mut Player<'_, F, A, W>,
     budget: u32,
 ) -> Result<bool, AllocError>
     requires going { player.old.made.failed ≡ false }
@@ -57,8 +58,8 @@ fn call_each<F: FrontEnd, A: Allocator + Copy>(
 }
 
 /// The next frame of a wire is taken, where there is one, unless the budget is used up. Tells whether it is.
-fn take_one<F: FrontEnd, A: Allocator + Copy>(
-    player: &mut Player<'_, F, A>,
+fn take_one<F: FrontEnd, A: Allocator + Copy, W: WireStore<A>>(
+    player: &mut Player<'_, F, A, W>,
     from: u8,
     to: u8,
     budget: u32,
@@ -84,8 +85,8 @@ fn take_one<F: FrontEnd, A: Allocator + Copy>(
 }
 
 /// Each process takes the next frame that this one put for it, until the budget is used up. Tells whether it is.
-fn take_from<F: FrontEnd, A: Allocator + Copy>(
-    player: &mut Player<'_, F, A>,
+fn take_from<F: FrontEnd, A: Allocator + Copy, W: WireStore<A>>(
+    player: &mut Player<'_, F, A, W>,
     from: u8,
     budget: u32,
 ) -> Result<bool, AllocError>
@@ -106,8 +107,8 @@ fn take_from<F: FrontEnd, A: Allocator + Copy>(
 }
 
 /// Each process takes the next frame of each other, until the budget is used up. Tells whether it is.
-fn take_each<F: FrontEnd, A: Allocator + Copy>(
-    player: &mut Player<'_, F, A>,
+fn take_each<F: FrontEnd, A: Allocator + Copy, W: WireStore<A>>(
+    player: &mut Player<'_, F, A, W>,
     budget: u32,
 ) -> Result<bool, AllocError>
     requires going { player.old.made.failed ≡ false }
@@ -126,8 +127,8 @@ fn take_each<F: FrontEnd, A: Allocator + Copy>(
 }
 
 /// A round, until the budget is used up. Tells whether it is.
-fn play_round<F: FrontEnd, A: Allocator + Copy>(
-    player: &mut Player<'_, F, A>,
+fn play_round<F: FrontEnd, A: Allocator + Copy, W: WireStore<A>>(
+    player: &mut Player<'_, F, A, W>,
     budget: u32,
 ) -> Result<bool, AllocError>
     requires going { player.old.made.failed ≡ false }
@@ -144,8 +145,8 @@ fn play_round<F: FrontEnd, A: Allocator + Copy>(
 }
 
 /// Rounds, until one makes no event or the budget is used up.
-fn play_rounds<F: FrontEnd, A: Allocator + Copy>(
-    player: &mut Player<'_, F, A>,
+fn play_rounds<F: FrontEnd, A: Allocator + Copy, W: WireStore<A>>(
+    player: &mut Player<'_, F, A, W>,
     budget: u32,
 ) -> Result<(), AllocError>
     requires going { player.old.made.failed ≡ false }
@@ -174,12 +175,12 @@ fn play_rounds<F: FrontEnd, A: Allocator + Copy>(
 /// # Errors
 ///
 /// Memory was refused.
-pub(crate) fn play_fair<F: FrontEnd, A: Allocator + Copy>(
+pub(crate) fn play_fair<F: FrontEnd, A: Allocator + Copy, W: WireStore<A>>(
     alloc: A,
     shape: Shape,
     scripts: &[Vec<Op, A>],
     budget: u32,
-) -> Result<Play<F, A>, AllocError>
+) -> Result<Play<F, A, W>, AllocError>
     requires count { length scripts.now ≡ shape.processes }
     requires playable { ArePlayable shape.registers (map (λ v. v.items) scripts.now) }
     requires budget { budget ≤ MOST_EVENTS }

@@ -9,7 +9,7 @@ mod plays;
 mod seeded;
 
 pub use playing::Play;
-pub use plays::{play_fair, play_seeded};
+pub use plays::{play_fair, play_fair_in, play_seeded, play_seeded_in};
 pub use reg_random::{SeedWords, Words};
 pub use reg_schedules::{Schedule, ScheduleFault, parse_schedule};
 pub use reg_toml::{Key, Workload, WorkloadFault, read_table};

@@ -13,7 +13,7 @@ ghost use Rattle.reg_workload.specs.FairParts.{IsBehind, Leaves, AtRest};
 use reg_base::limits::MOST_PROCESSES;
 use reg_base::{Op, Shape};
 use reg_front::FrontEnd;
-use reg_world::{Event, World, WorldFault};
+use reg_world::{Event, WireStore, Wires, World, WorldFault};
 use std::alloc::{AllocError, Allocator, Global};
 use std::marker::Model;
 
@@ -21,15 +21,15 @@ const WIDTH: usize = MOST_PROCESSES as usize;
 
 /// What happened in a play, and whether every script was used up and no operation runs.
 #[derive(Drop)]
-pub struct Play<F: FrontEnd, A: Allocator + Copy = Global> {
-    pub world: World<F, A>,
+pub struct Play<F: FrontEnd, A: Allocator + Copy = Global, W: WireStore<A> = Wires<A>> {
+    pub world: World<F, A, W>,
     pub finished: bool,
 }
 
 /// A play under way: the world, the script of each process, and where each process and each wire stands.
 #[derive(Drop)]
-pub(crate) struct Player<'w, F: FrontEnd, A: Allocator + Copy> {
-    world: World<F, A>,
+pub(crate) struct Player<'w, F: FrontEnd, A: Allocator + Copy, W: WireStore<A>> {
+    world: World<F, A, W>,
     scripts: &'w [Vec<Op, A>],
     /// How many operations of its script each process has called.
     next: Vec<usize, A>,
@@ -37,7 +37,7 @@ pub(crate) struct Player<'w, F: FrontEnd, A: Allocator + Copy> {
     cursors: Vec<[u32; WIDTH], A>,
 }
 
-impl<'w, F: FrontEnd, A: Allocator + Copy> Model for Player<'w, F, A> {
+impl<'w, F: FrontEnd, A: Allocator + Copy, W: WireStore<A>> Model for Player<'w, F, A, W> {
     ghost use Rattle.std.specs.Prelude.{map, length};
     ghost use Rattle.reg_workload.specs.Plays.{Playing};
     ghost use Rattle.reg_workload.specs.PlayParts.{IsPlaying};
@@ -50,8 +50,8 @@ impl<'w, F: FrontEnd, A: Allocator + Copy> Model for Player<'w, F, A> {
 }
 
 /// Makes an event that no fault applies to: only memory can be wanting.
-fn make<F: FrontEnd, A: Allocator + Copy>(
-    world: &mut World<F, A>,
+fn make<F: FrontEnd, A: Allocator + Copy, W: WireStore<A>>(
+    world: &mut World<F, A, W>,
     event: Event,
 ) -> Result<(), AllocError>
     requires { refusal F.start world.old event ≡ None }
@@ -67,13 +67,13 @@ fn make<F: FrontEnd, A: Allocator + Copy>(
     }
 }
 
-impl<'w, F: FrontEnd, A: Allocator + Copy> Player<'w, F, A> {
+impl<'w, F: FrontEnd, A: Allocator + Copy, W: WireStore<A>> Player<'w, F, A, W> {
     /// Nothing happened yet.
     pub(crate) fn new(
         alloc: A,
         shape: Shape,
         scripts: &'w [Vec<Op, A>],
-    ) -> Result<Player<'w, F, A>, AllocError>
+    ) -> Result<Player<'w, F, A, W>, AllocError>
         requires count { length scripts.now ≡ shape.processes }
         requires playable { ArePlayable shape.registers (map (λ v. v.items) scripts.now) }
         ensures value { IfOk result (λ p. p ≡ new_play shape (map (λ v. v.items) scripts.now)) }
@@ -213,8 +213,8 @@ impl<'w, F: FrontEnd, A: Allocator + Copy> Player<'w, F, A> {
         ensures behind { result ≡ None → self.now.made.failed ≡ false → IsBehind F.start self.now from to }
     {
         let cursor = self.cursors[usize::from(from)][usize::from(to)];
-        let frames = self.world.wire(from, to)?;
-        if (cursor as usize) < frames.len() {
+        let count = self.world.frame_count(from, to)?;
+        if (cursor as usize) < count {
             Some(cursor)
         } else {
             None
@@ -278,7 +278,7 @@ impl<'w, F: FrontEnd, A: Allocator + Copy> Player<'w, F, A> {
     }
 
     /// What happened.
-    pub(crate) fn end(self) -> Play<F, A>
+    pub(crate) fn end(self) -> Play<F, A, W>
         requires { self.made.failed ≡ false }
         ensures world { result.world ≡ self.entry.made }
         ensures play { (shape : Extent) (budget : ℕ) → self.entry.made.processes ≡ shape.processes → self.entry.made.registers ≡ shape.registers → length self.entry.made.accepted ≤ budget → IsPlay F.start shape self.entry.scripts budget result.world result.finished }

@@ -11,6 +11,7 @@ use crate::seeded::{self, Odds};
 use reg_front::FrontEnd;
 use reg_random::Words;
 use reg_toml::Workload;
+use reg_world::WireStore;
 use std::alloc::{AllocError, Allocator};
 
 /// Plays a workload in rounds: each process that is free calls its next operation, by rising number, and then the next
@@ -25,6 +26,23 @@ pub fn play_fair<F: FrontEnd, A: Allocator + Copy>(
     alloc: A,
     work: &Workload<A>,
 ) -> Result<Play<F, A>, AllocError>
+    ensures rounds { IfOk result (λ p. p.world ≡ (fair_play F.start work.now.shape work.now.scripts work.now.budget).made) }
+    ensures play { IfOk result (λ p. IsPlay F.start work.now.shape work.now.scripts work.now.budget p.world p.finished) }
+    ensures in_order { IfOk result (λ p. TakesInOrder p.world.accepted) }
+    ensures finished { IfOk result (λ p. length p.world.accepted < work.now.budget → p.finished ≡ true) }
+{
+    play_fair_in(alloc, work)
+}
+
+/// The same, in a world that keeps its wires in a store of the caller's choice.
+///
+/// # Errors
+///
+/// Memory was refused.
+pub fn play_fair_in<F: FrontEnd, A: Allocator + Copy, W: WireStore<A>>(
+    alloc: A,
+    work: &Workload<A>,
+) -> Result<Play<F, A, W>, AllocError>
     ensures rounds { IfOk result (λ p. p.world ≡ (fair_play F.start work.now.shape work.now.scripts work.now.budget).made) }
     ensures play { IfOk result (λ p. IsPlay F.start work.now.shape work.now.scripts work.now.budget p.world p.finished) }
     ensures in_order { IfOk result (λ p. TakesInOrder p.world.accepted) }
@@ -47,6 +65,23 @@ pub fn play_seeded<F: FrontEnd, R: Words + Drop, A: Allocator + Copy>(
     work: &Workload<A>,
     words: R,
 ) -> Result<Play<F, A>, AllocError>
+    ensures turns { IfOk result (λ p. p.world ≡ (seeded_play F.start R.next_word work.now.shape work.now.scripts work.now.loss work.now.repeat work.now.budget words).0.made) }
+    ensures play { IfOk result (λ p. IsPlay F.start work.now.shape work.now.scripts work.now.budget p.world p.finished) }
+    ensures finished { IfOk result (λ p. work.now.loss ≡ 0 → length p.world.accepted < work.now.budget → p.finished ≡ true) }
+{
+    play_seeded_in(alloc, work, words)
+}
+
+/// The same, in a world that keeps its wires in a store of the caller's choice.
+///
+/// # Errors
+///
+/// Memory was refused.
+pub fn play_seeded_in<F: FrontEnd, R: Words + Drop, A: Allocator + Copy, W: WireStore<A>>(
+    alloc: A,
+    work: &Workload<A>,
+    words: R,
+) -> Result<Play<F, A, W>, AllocError>
     ensures turns { IfOk result (λ p. p.world ≡ (seeded_play F.start R.next_word work.now.shape work.now.scripts work.now.loss work.now.repeat work.now.budget words).0.made) }
     ensures play { IfOk result (λ p. IsPlay F.start work.now.shape work.now.scripts work.now.budget p.world p.finished) }
     ensures finished { IfOk result (λ p. work.now.loss ≡ 0 → length p.world.accepted < work.now.budget → p.finished ≡ true) }

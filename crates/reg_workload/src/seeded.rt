@@ -10,6 +10,7 @@ use crate::playing::{Play, Player};
 use reg_base::{Op, Shape};
 use reg_front::FrontEnd;
 use reg_random::Words;
+use reg_world::WireStore;
 use std::alloc::{AllocError, Allocator};
 
 /// How often of a hundred times a frame is lost, and how often it can be taken again.
@@ -31,8 +32,8 @@ fn happens<R: Words>(words: &mut R, below: u32) -> bool
 }
 
 /// Takes the next frame of a wire, or loses it.
-fn take_or_lose<F: FrontEnd, R: Words, A: Allocator + Copy>(
-    player: &mut Player<'_, F, A>,
+fn take_or_lose<F: FrontEnd, R: Words, A: Allocator + Copy, W: WireStore<A>>(
+    player: &mut Player<'_, F, A, W>,
     from: u8,
     to: u8,
     number: u32,
@@ -61,8 +62,8 @@ fn take_or_lose<F: FrontEnd, R: Words, A: Allocator + Copy>(
 }
 
 /// Makes a choice.
-fn choose<F: FrontEnd, R: Words, A: Allocator + Copy>(
-    player: &mut Player<'_, F, A>,
+fn choose<F: FrontEnd, R: Words, A: Allocator + Copy, W: WireStore<A>>(
+    player: &mut Player<'_, F, A, W>,
     choice: Choice,
     words: &mut R,
     odds: Odds,
@@ -94,8 +95,8 @@ fn pick(choices: &[Choice], word: u32) -> Option<Choice>
 }
 
 /// A turn. Tells whether nothing can happen.
-fn play_turn<F: FrontEnd, R: Words, A: Allocator + Copy>(
-    player: &mut Player<'_, F, A>,
+fn play_turn<F: FrontEnd, R: Words, A: Allocator + Copy, W: WireStore<A>>(
+    player: &mut Player<'_, F, A, W>,
     choices: &mut Vec<Choice, A>,
     words: &mut R,
     odds: Odds,
@@ -120,9 +121,9 @@ fn play_turn<F: FrontEnd, R: Words, A: Allocator + Copy>(
 }
 
 /// Turns, until nothing can happen or there were so many. Tells whether nothing can happen.
-fn play_turns<F: FrontEnd, R: Words, A: Allocator + Copy>(
+fn play_turns<F: FrontEnd, R: Words, A: Allocator + Copy, W: WireStore<A>>(
     alloc: A,
-    player: &mut Player<'_, F, A>,
+    player: &mut Player<'_, F, A, W>,
     words: &mut R,
     odds: Odds,
     budget: u32,
@@ -154,14 +155,14 @@ fn play_turns<F: FrontEnd, R: Words, A: Allocator + Copy>(
 /// # Errors
 ///
 /// Memory was refused.
-pub(crate) fn play_seeded<F: FrontEnd, R: Words, A: Allocator + Copy>(
+pub(crate) fn play_seeded<F: FrontEnd, R: Words, A: Allocator + Copy, W: WireStore<A>>(
     alloc: A,
     shape: Shape,
     scripts: &[Vec<Op, A>],
     words: &mut R,
     odds: Odds,
     budget: u32,
-) -> Result<Play<F, A>, AllocError>
+) -> Result<Play<F, A, W>, AllocError>
     requires count { length scripts.now ≡ shape.processes }
     requires playable { ArePlayable shape.registers (map (λ v. v.items) scripts.now) }
     requires budget { budget ≤ MOST_EVENTS }

@@ -10,7 +10,6 @@ pub mod Stepping
 pub mod Onward
 pub mod Ahead
 pub mod Answering
-pub mod Strands
 pub mod Sending
 pub mod Merging
 pub mod Reading

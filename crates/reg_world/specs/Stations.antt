@@ -1,27 +1,22 @@
 -- Processes with their wires, and an event of one. They carry a proof: no promise speaks of them.
-use Rattle.std.specs.Prelude.{ℕ, ◌≡◌, zero, suc, Bool, false, List, [], ◌∷◌, ◌++◌, length, Option, None, slice_set, slice_index_or}
+use Rattle.std.specs.Prelude.{ℕ, ◌≡◌, zero, suc, Bool, false, List, [], ◌∷◌, ◌++◌, length, Option, None}
 use Rattle.reg_base.specs.declared.stamps.Stamp.{Stamp}
 use Rattle.reg_base.specs.declared.stamps.Delivered.{Delivered}
 use Rattle.reg_base.specs.declared.memory.Op.{Op}
 use Rattle.reg_frames.specs.declared.bodies.Frame.{Frame}
 use Rattle.reg_front.specs.declared.starts.Start.{Start}
-use Rattle.reg_process.specs.declared.outcomes.Put.{Put}
 use Rattle.reg_process.specs.declared.steps.Reply.{Reply}
 use Rattle.reg_process.specs.declared.steps.Step.{Step}
 use Rattle.reg_process.specs.Process.{State, step}
 use Rattle.reg_process.specs.Puts.{puts}
 use Rattle.reg_process.specs.Faults.{step_fault}
+use Rattle.reg_wires.specs.Sent.{sent}
 
 -- whether a process has stopped, its state, and all frames that it ever put for each process
 pub record Standing : Type 0 where
   pub failed : Bool
   pub state : State
   pub wires : List (List Frame)
-
--- the wires after these frames were put
-abbrev pub sent : List Put → List (List Frame) → List (List Frame)
-sent [] wires = wires
-sent (p ∷ ps) wires = sent ps (slice_set wires p.to (slice_index_or wires p.to [] ++ p.frame ∷ []))
 
 -- a function as a list of its first values
 abbrev pub listed : {X : Type 0} → (ℕ → X) → ℕ → List X

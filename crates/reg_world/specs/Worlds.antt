@@ -1,5 +1,5 @@
 -- A world as its callers see it.
-use Rattle.std.specs.Prelude.{ℕ, ◌≡◌, ◌<◌, ◌≤◌, Bool, true, false, ◌⊎◌, take, cond, List, [], ◌∷◌, ◌++◌, Option, Some, None}
+use Rattle.std.specs.Prelude.{ℕ, ◌≡◌, ◌<◌, ◌≤◌, Bool, true, false, ◌⊎◌, take, cond, List, [], ◌∷◌, ◌++◌, length, Option, Some, None, slice_get}
 use Rattle.reg_base.specs.declared.memory.Op.{Op}
 use Rattle.reg_base.specs.Shape.{Extent}
 use Rattle.reg_frames.specs.declared.bodies.Frame.{Frame}
@@ -82,3 +82,15 @@ IsWire start w from to frames = (from < w.processes) × (to < w.processes) × (f
 
 abbrev pub IsNoWire : Made → ℕ → ℕ → Type 0
 IsNoWire w from to = (w.processes ≤ from) ⊎ ((w.processes ≤ to) ⊎ (from ≡ to))
+
+-- so many frames were ever put from one process to another, unless the world has stopped
+abbrev pub HasFrames : (Op → ℕ → Start) → Made → ℕ → ℕ → ℕ → Type 0
+HasFrames start w from to count = (from < w.processes) × (to < w.processes) × (from ≡ to → ⊥) × (w.failed ≡ false → count ≡ length (((run_in start w).nodes from).wire to))
+
+-- what stands at a place of the frames ever put from one process to another, unless the world has stopped
+abbrev pub HasFrameAt : (Op → ℕ → Start) → Made → ℕ → ℕ → ℕ → Option Frame → Type 0
+HasFrameAt start w from to number found = (from < w.processes) × (to < w.processes) × (from ≡ to → ⊥) × (w.failed ≡ false → found ≡ slice_get (((run_in start w).nodes from).wire to) number)
+
+-- the same, or none where these are no two processes
+abbrev pub IsFrameAt : (Op → ℕ → Start) → Made → ℕ → ℕ → ℕ → Option Frame → Type 0
+IsFrameAt start w from to number found = (IsNoWire w from to × (found ≡ None)) ⊎ HasFrameAt start w from to number found

@@ -12,6 +12,7 @@ use reg_base::limits::{MOST_EVENTS, MOST_OPERATIONS};
 use reg_frames::Frame;
 use reg_front::FrontEnd;
 use reg_process::Step;
+use reg_wires::WireStore;
 use std::alloc::Allocator;
 
 /// Why a call is refused.
@@ -39,33 +40,35 @@ fn call_refusal<A: Allocator + Copy>(
     None
 }
 
-/// All frames ever put from one process to another.
-fn wire_from<F: FrontEnd, A: Allocator + Copy>(
-    stations: &[Station<F, A>],
+/// The frame at this place, from 0, of all frames ever put from one process to another.
+#[inline(always)]
+fn frame_from<F: FrontEnd, A: Allocator + Copy, W: WireStore<A>>(
+    stations: &[Station<F, A, W>],
     from: u8,
     to: u8,
-) -> &[Frame]
-    ensures { result.now ≡ wire_in (slice_get stations.now from) to }
+    number: u32,
+) -> Option<Frame>
+    ensures { result ≡ slice_get (wire_in (slice_get stations.now from) to) number }
 {
     match stations.get(usize::from(from)) {
-        Some(station) => station.wire(to),
-        None => &[],
+        Some(station) => station.frame_at(to, number),
+        None => None,
     }
 }
 
-/// The frame at this place, from 0.
-fn frame_on(wire: &[Frame], number: u32) -> Result<Frame, WorldFault>
-    ensures { result ≡ frame_or (slice_get wire.now number) }
+/// A frame that is there.
+fn frame_or_fault(frame: Option<Frame>) -> Result<Frame, WorldFault>
+    ensures { result ≡ frame_or frame }
 {
-    match wire.get(number as usize) {
-        Some(frame) => Ok(*frame),
+    match frame {
+        Some(frame) => Ok(frame),
         None => Err(WorldFault::NoFrame),
     }
 }
 
 /// The frame at this place of a wire, from 0.
-fn frame_at<F: FrontEnd, A: Allocator + Copy>(
-    stations: &[Station<F, A>],
+fn frame_at<F: FrontEnd, A: Allocator + Copy, W: WireStore<A>>(
+    stations: &[Station<F, A, W>],
     from: u8,
     to: u8,
     number: u32,
@@ -82,7 +85,7 @@ fn frame_at<F: FrontEnd, A: Allocator + Copy>(
     if from == to {
         return Err(WorldFault::NoFrame);
     }
-    frame_on(wire_from(stations, from, to), number)
+    frame_or_fault(frame_from(stations, from, to, number))
 }
 
 /// The step of a call, unless it is refused.
@@ -105,8 +108,8 @@ fn take_step(frame: Result<Frame, WorldFault>, from: u8, to: u8) -> Result<(u8, 
 
 /// The same, of an event that isn't one too many.
 #[inline(always)]
-fn found_step<F: FrontEnd, A: Allocator + Copy>(
-    stations: &[Station<F, A>],
+fn found_step<F: FrontEnd, A: Allocator + Copy, W: WireStore<A>>(
+    stations: &[Station<F, A, W>],
     book: &Book<A>,
     event: &Event,
 ) -> Result<(u8, Step), WorldFault>
@@ -138,8 +141,8 @@ fn found_step<F: FrontEnd, A: Allocator + Copy>(
 
 /// Which process makes which step in the event, or the first fault that applies.
 #[inline(always)]
-pub(crate) fn found<F: FrontEnd, A: Allocator + Copy>(
-    stations: &[Station<F, A>],
+pub(crate) fn found<F: FrontEnd, A: Allocator + Copy, W: WireStore<A>>(
+    stations: &[Station<F, A, W>],
     book: &Book<A>,
     event: &Event,
 ) -> Result<(u8, Step), WorldFault>

@@ -11,10 +11,10 @@ pub mod laws;
 mod order;
 mod running;
 mod stations;
-mod wires;
 mod witnesses;
 
 pub use events::Event;
 pub use faults::{RunFault, WorldFault};
 pub use order::{CopyRead, First};
+pub use reg_wires::{PackedWires, WireStore, Wires};
 pub use running::World;

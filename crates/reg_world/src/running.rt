@@ -11,7 +11,7 @@ ghost use Rattle.reg_world.specs.Laws.{DeliveriesAgree, DeliveriesRise, Deliveri
 ghost use Rattle.reg_world.specs.Promises.{OrderIsLongest, OrderIsRight, FirstsRight, RepliesRight, ReadsRight};
 ghost use Rattle.reg_world.specs.World.{run_of, whole};
 ghost use Rattle.reg_world.specs.Stations.{listed};
-ghost use Rattle.reg_world.specs.Worlds.{Made, run_in, Accepts, Refuses, reply_in, new_world, after_events, RunRefuses, IsProcess, IsWire, IsNoWire};
+ghost use Rattle.reg_world.specs.Worlds.{Made, run_in, Accepts, Refuses, reply_in, new_world, after_events, RunRefuses, IsProcess, IsWire, IsNoWire, HasFrames, IsFrameAt};
 ghost use Rattle.reg_world.specs.WorldParts.{first_standing, IsWorld, IsMove, Advances, PartsGoOn, PartsRefuse, made_of};
 
 use crate::books::Book;
@@ -27,6 +27,7 @@ use reg_frames::Frame;
 use reg_front::{FrontEnd, RealTime};
 use reg_orders::{History, Point};
 use reg_process::{Process, Reply, Step};
+use reg_wires::{WireStore, Wires};
 use std::alloc::{AllocError, Allocator, Global};
 use std::marker::Model;
 
@@ -35,14 +36,14 @@ use std::marker::Model;
 /// A wire is the list of all frames ever put from one process to another. An event takes a frame by its place there, so
 /// frames can be lost, repeated and taken in any order.
 #[derive(Drop)]
-pub struct World<F: FrontEnd, A: Allocator + Copy = Global> {
+pub struct World<F: FrontEnd, A: Allocator + Copy = Global, W: WireStore<A> = Wires<A>> {
     alloc: A,
     failed: bool,
-    stations: Vec<Station<F, A>, A>,
+    stations: Vec<Station<F, A, W>, A>,
     book: Book<A>,
 }
 
-impl<F: FrontEnd, A: Allocator + Copy> Model for World<F, A> {
+impl<F: FrontEnd, A: Allocator + Copy, W: WireStore<A>> Model for World<F, A, W> {
     ghost use Rattle.reg_world.specs.Worlds.{Made};
     ghost use Rattle.reg_world.specs.WorldParts.{IsWorld};
 
@@ -54,10 +55,10 @@ impl<F: FrontEnd, A: Allocator + Copy> Model for World<F, A> {
 }
 
 /// Processes that did nothing yet.
-fn new_stations<F: FrontEnd, A: Allocator + Copy>(
+fn new_stations<F: FrontEnd, A: Allocator + Copy, W: WireStore<A>>(
     alloc: A,
     shape: Shape,
-) -> Result<Vec<Station<F, A>, A>, AllocError>
+) -> Result<Vec<Station<F, A, W>, A>, AllocError>
     ensures stand { IfOk result (λ v. v.items ≡ listed (first_standing shape) shape.processes) }
     ensures few { shape.processes ≤ MOST_PROCESSES }
 {
@@ -70,8 +71,8 @@ fn new_stations<F: FrontEnd, A: Allocator + Copy>(
 
 /// Makes the step of an event. Where memory is refused the book hasn't changed.
 #[inline(always)]
-fn advance<F: FrontEnd, A: Allocator + Copy>(
-    stations: &mut Vec<Station<F, A>, A>,
+fn advance<F: FrontEnd, A: Allocator + Copy, W: WireStore<A>>(
+    stations: &mut Vec<Station<F, A, W>, A>,
     book: &mut Book<A>,
     event: Event,
     process: u8,
@@ -92,8 +93,8 @@ fn advance<F: FrontEnd, A: Allocator + Copy>(
 
 /// Makes an event, or tells why it is refused.
 #[inline(always)]
-fn step_parts<F: FrontEnd, A: Allocator + Copy>(
-    stations: &mut Vec<Station<F, A>, A>,
+fn step_parts<F: FrontEnd, A: Allocator + Copy, W: WireStore<A>>(
+    stations: &mut Vec<Station<F, A, W>, A>,
     book: &mut Book<A>,
     event: Event,
 ) -> Result<(), WorldFault>
@@ -108,8 +109,8 @@ fn step_parts<F: FrontEnd, A: Allocator + Copy>(
 }
 
 /// Makes the events that are ahead, one after another, up to the first that is refused.
-fn run_ahead<F: FrontEnd, A: Allocator + Copy>(
-    stations: &mut Vec<Station<F, A>, A>,
+fn run_ahead<F: FrontEnd, A: Allocator + Copy, W: WireStore<A>>(
+    stations: &mut Vec<Station<F, A, W>, A>,
     book: &mut Book<A>,
     count: usize,
 ) -> Result<(), RunFault>
@@ -131,9 +132,9 @@ fn run_ahead<F: FrontEnd, A: Allocator + Copy>(
     Ok(())
 }
 
-impl<F: FrontEnd, A: Allocator + Copy> World<F, A> {
+impl<F: FrontEnd, A: Allocator + Copy, W: WireStore<A>> World<F, A, W> {
     /// A world in which nothing happened yet.
-    pub fn new(alloc: A, shape: Shape) -> Result<World<F, A>, AllocError>
+    pub fn new(alloc: A, shape: Shape) -> Result<World<F, A, W>, AllocError>
         ensures { IfOk result (λ w. w ≡ new_world shape) }
     {
         let stations = new_stations(alloc, shape)?;
@@ -179,7 +180,7 @@ impl<F: FrontEnd, A: Allocator + Copy> World<F, A> {
 
     /// Makes these events, one after another, in a new world. The first one that is refused ends the run; want of memory
     /// before the first event is told of that one.
-    pub fn run(alloc: A, shape: Shape, events: &[Event]) -> Result<World<F, A>, RunFault>
+    pub fn run(alloc: A, shape: Shape, events: &[Event]) -> Result<World<F, A, W>, RunFault>
         ensures world { MatchResult result (λ w. w ≡ after_events F.start shape events.now) (λ f. RunRefuses F.start shape events.now f.at f.fault) }
         ensures history { IfOk result (λ w. Makes events.now w.history) }
         ensures accepted { MatchResult result (λ _. (run_in F.start (after_events F.start shape events.now)).accepted ≡ events.now) (λ f. (run_in F.start (after_events F.start shape (take f.at events.now))).accepted ≡ take f.at events.now) }
@@ -192,7 +193,11 @@ impl<F: FrontEnd, A: Allocator + Copy> World<F, A> {
     }
 
     /// The same, with the list itself kept as that of the accepted events, so that it takes no memory for a copy.
-    pub fn run_owned(alloc: A, shape: Shape, events: Vec<Event, A>) -> Result<World<F, A>, RunFault>
+    pub fn run_owned(
+        alloc: A,
+        shape: Shape,
+        events: Vec<Event, A>,
+    ) -> Result<World<F, A, W>, RunFault>
         ensures world { MatchResult result (λ w. w ≡ after_events F.start shape events.items) (λ f. RunRefuses F.start shape events.items f.at f.fault) }
         ensures history { IfOk result (λ w. Makes events.items w.history) }
         ensures accepted { MatchResult result (λ _. (run_in F.start (after_events F.start shape events.items)).accepted ≡ events.items) (λ f. (run_in F.start (after_events F.start shape (take f.at events.items))).accepted ≡ take f.at events.items) }
@@ -284,10 +289,10 @@ impl<F: FrontEnd, A: Allocator + Copy> World<F, A> {
         }
     }
 
-    /// All frames ever put from one process to another, None where these are no two processes. Nothing is claimed of them
-    /// once the world has stopped.
-    pub fn wire(&self, from: u8, to: u8) -> Option<&[Frame]>
-        ensures { MatchOption result (IsNoWire self.now from to) (λ frames. IsWire F.start self.now from to frames.now) }
+    /// How many frames were ever put from one process to another, None where these are no two processes. Nothing is claimed
+    /// of it once the world has stopped.
+    pub fn frame_count(&self, from: u8, to: u8) -> Option<usize>
+        ensures { MatchOption result (IsNoWire self.now from to) (λ count. HasFrames F.start self.now from to count) }
     {
         if from == to {
             return None;
@@ -296,7 +301,24 @@ impl<F: FrontEnd, A: Allocator + Copy> World<F, A> {
             return None;
         }
         match self.stations.get(usize::from(from)) {
-            Some(station) => Some(station.wire(to)),
+            Some(station) => Some(station.count(to)),
+            None => None,
+        }
+    }
+
+    /// The frame at this place, from 0, of all frames ever put from one process to another. None where there is no such
+    /// place, or where these are no two processes. Nothing is claimed of it once the world has stopped.
+    pub fn frame_at(&self, from: u8, to: u8, number: u32) -> Option<Frame>
+        ensures { IsFrameAt F.start self.now from to number result }
+    {
+        if from == to {
+            return None;
+        }
+        if usize::from(to) >= self.stations.len() {
+            return None;
+        }
+        match self.stations.get(usize::from(from)) {
+            Some(station) => station.frame_at(to, number),
             None => None,
         }
     }
@@ -332,7 +354,26 @@ impl<F: FrontEnd, A: Allocator + Copy> World<F, A> {
     }
 }
 
-impl<F: RealTime, A: Allocator + Copy> World<F, A> {
+impl<F: FrontEnd, A: Allocator + Copy> World<F, A, Wires<A>> {
+    /// All frames ever put from one process to another, None where these are no two processes. Nothing is claimed of them
+    /// once the world has stopped.
+    pub fn wire(&self, from: u8, to: u8) -> Option<&[Frame]>
+        ensures { MatchOption result (IsNoWire self.now from to) (λ frames. IsWire F.start self.now from to frames.now) }
+    {
+        if from == to {
+            return None;
+        }
+        if usize::from(to) >= self.stations.len() {
+            return None;
+        }
+        match self.stations.get(usize::from(from)) {
+            Some(station) => Some(station.wire(to)),
+            None => None,
+        }
+    }
+}
+
+impl<F: RealTime, A: Allocator + Copy, W: WireStore<A>> World<F, A, W> {
     /// The casts that are updates or finished, each at the event of its first delivery. They are a point order of the
     /// history (Herlihy and Wing 1990): each operation takes effect between its call and its answer.
     pub fn points(&self) -> Result<Vec<Point, A>, AllocError>

@@ -1,41 +1,39 @@
 //! One process with its wires.
-ghost use Rattle.std.specs.Prelude.{◌≡◌, ◌<◌, ◌++◌, ◌∷◌, [], length, replicate, false, None, IfOk, OnOk, slice_set, slice_index_or};
-ghost use Rattle.reg_base.specs.Order.{In};
-ghost use Rattle.reg_process.specs.declared.outcomes.Put.{Put};
+ghost use Rattle.std.specs.Prelude.{◌≡◌, [], length, replicate, false, None, IfOk, slice_get, slice_index_or};
 ghost use Rattle.reg_process.specs.Parts.{state_of, first_parts};
 ghost use Rattle.reg_process.specs.Faults.{step_fault};
 ghost use Rattle.reg_process.specs.Events.{Steps};
-ghost use Rattle.reg_world.specs.Stations.{sent, MayAct, Acts};
+ghost use Rattle.reg_world.specs.Stations.{MayAct, Acts};
 
-use crate::wires::Wires;
 use reg_base::Shape;
 use reg_frames::Frame;
 use reg_front::FrontEnd;
 use reg_process::{Outcome, Process, ProcessFault, Put, Step};
-use std::alloc::{AllocError, Allocator, Global};
+use reg_wires::{WireStore, Wires};
+use std::alloc::{AllocError, Allocator};
 use std::marker::Model;
 
 /// One process, and all frames that it ever put for each process.
 #[derive(Drop)]
-pub(crate) struct Station<F: FrontEnd, A: Allocator + Copy = Global> {
+pub(crate) struct Station<F: FrontEnd, A: Allocator + Copy, W: WireStore<A>> {
     process: Process<F, A>,
-    wires: Wires<A>,
+    wires: W,
 }
 
-impl<F: FrontEnd, A: Allocator + Copy> Model for Station<F, A> {
+impl<F: FrontEnd, A: Allocator + Copy, W: WireStore<A>> Model for Station<F, A, W> {
     ghost use Rattle.reg_world.specs.Stations.{Standing};
 
     ghost Value = { Standing };
 
-    ghost view = { λ s. record { failed = s.process.failed; state = s.process.state; wires = s.wires } };
+    ghost view = { λ s. record { failed = s.process.failed; state = s.process.state; wires = W.wires s.wires } };
 }
 
-impl<F: FrontEnd, A: Allocator + Copy> Station<F, A> {
+impl<F: FrontEnd, A: Allocator + Copy, W: WireStore<A>> Station<F, A, W> {
     /// A process that did nothing yet.
-    pub(crate) fn new(alloc: A, shape: Shape, me: u8) -> Result<Station<F, A>, AllocError>
+    pub(crate) fn new(alloc: A, shape: Shape, me: u8) -> Result<Station<F, A, W>, AllocError>
         ensures { IfOk result (λ s. s ≡ record { failed = false; state = state_of (first_parts me shape.processes shape.registers); wires = replicate shape.processes [] }) }
     {
-        let wires = Wires::new(alloc, shape.processes())?;
+        let wires = W::new(alloc, shape.processes())?;
         match Process::new(alloc, shape, me) {
             Ok(process) => Ok(Station { process, wires }),
             Err(_) => Err(AllocError),
@@ -49,11 +47,19 @@ impl<F: FrontEnd, A: Allocator + Copy> Station<F, A> {
         &self.process
     }
 
-    /// All frames ever put for a process, none where there is no such process.
-    pub(crate) fn wire(&self, to: u8) -> &[Frame]
-        ensures { result.now ≡ slice_index_or self.now.wires to [] }
+    /// How many frames were ever put for a process, 0 where there is no such process.
+    pub(crate) fn count(&self, to: u8) -> usize
+        ensures { result ≡ length (slice_index_or self.now.wires to []) }
     {
-        self.wires.to(to)
+        self.wires.count(to)
+    }
+
+    /// The frame at this place, from 0, of all frames ever put for a process.
+    #[inline(always)]
+    pub(crate) fn frame_at(&self, to: u8, number: u32) -> Option<Frame>
+        ensures { result ≡ slice_get (slice_index_or self.now.wires to []) number }
+    {
+        self.wires.frame_at(to, number)
     }
 
     /// Makes a step that no fault applies to, and puts its frames on their wires. It fails for want of memory alone;
@@ -73,6 +79,15 @@ impl<F: FrontEnd, A: Allocator + Copy> Station<F, A> {
         ensures { self.new ≡ self.old }
     {
         self.process.reuse(frames);
+    }
+}
+
+impl<F: FrontEnd, A: Allocator + Copy> Station<F, A, Wires<A>> {
+    /// All frames ever put for a process, none where there is no such process.
+    pub(crate) fn wire(&self, to: u8) -> &[Frame]
+        ensures { result.now ≡ slice_index_or self.now.wires to [] }
+    {
+        self.wires.to(to)
     }
 }
 

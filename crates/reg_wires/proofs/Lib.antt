@@ -1,0 +1,5 @@
+pub mod Pushed
+pub mod Putting
+pub mod Strands
+pub mod Sharing
+pub mod Packing

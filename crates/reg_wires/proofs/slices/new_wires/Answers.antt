@@ -1,0 +1,16 @@
+use Rattle.std.proofs.Common.{◌≡◌, ◌∙◌, replicate, ap, arith}
+use Rattle.std.proofs.lemmas.List.{replicate_more}
+use Rattle.reg_wires.specs.Wires.{no_frames}
+use Rattle.reg_wires.proofs.Pushed.{one_more}
+use Rattle.reg_wires.proofs.slices.new_wires.Goals as goal
+
+pub loop-i-init : goal.loop-i-init
+loop-i-init g c = c.new-wires.ensures.items
+
+pub loop-i-preserved : goal.loop-i-preserved
+loop-i-preserved g c = one_more (λ k. replicate k no_frames) c.loop-i._i no_frames _ c.loop-i.wires.items c.push.new.self.items (replicate_more c.loop-i._i no_frames) c.loop-i.invariant c.new.ensures c.in_ok-push.ensures.items
+
+pub returns : goal.returns
+returns g c =
+    let all : c.loop-i._i ≡ c.args.count = omega (arith, c.loop-i-test.false, c.loop-i.auto) in
+    c.loop-i.invariant ∙ ap (λ k. replicate k no_frames) all

@@ -1,0 +1,5 @@
+pub mod Sent
+pub mod Wires
+pub mod Words
+pub mod Packed
+pub mod Sharing

@@ -1,0 +1,83 @@
+//! What is kept of a frame, in one word.
+ghost use Rattle.std.specs.Prelude.{◌≡◌};
+ghost use Rattle.reg_wires.specs.Words.{HasRoom};
+
+use std::marker::Model;
+
+/// What is kept of a frame that a process put.
+#[derive(Clone, Copy, Debug, PartialEq, Eq)]
+pub(crate) enum Slot {
+    /// The data frame of this number, with the body that the process keeps under it.
+    Data { number: u32 },
+    /// This count of accepted frames.
+    Count { count: u32 },
+    /// The frame at this place of the list of others.
+    Other { place: u32 },
+}
+
+/// Words from here on are counts, and those below are numbers.
+pub(crate) const FIRST_COUNT: u32 = 0x8000_0000;
+
+/// Words from here on are places.
+pub(crate) const FIRST_OTHER: u32 = 0xc000_0000;
+
+/// How many counts a word can tell, and how many places.
+pub(crate) const MOST_SLOTS: u32 = 0x4000_0000;
+
+/// A slot in 32 bits.
+#[derive(Clone, Copy)]
+pub(crate) struct Word {
+    bits: u32,
+}
+
+impl Model for Word {
+    ghost use Rattle.std.proofs.Common.{ap};
+    ghost use Rattle.reg_wires.specs.declared.words.Slot.{Slot};
+    ghost use Rattle.reg_wires.specs.Words.{slot_of, bits_of, bits_again};
+
+    ghost Value = { Slot };
+
+    ghost view = { λ w. slot_of w.bits };
+
+    ghost inverse = { λ slot. record { bits = bits_of slot } };
+
+    ghost inverse_ok = { λ w h. ap (λ b. record { bits = b }) (bits_again w.bits) };
+}
+
+impl Word {
+    /// The word for a slot.
+    #[inline(always)]
+    pub(crate) fn pack(slot: Slot) -> Word
+        requires { HasRoom slot }
+        ensures { result ≡ slot }
+    {
+        match slot {
+            Slot::Data { number } => Word { bits: number },
+            Slot::Count { count } => Word {
+                bits: FIRST_COUNT + count,
+            },
+            Slot::Other { place } => Word {
+                bits: FIRST_OTHER + place,
+            },
+        }
+    }
+
+    /// The slot that it is the word for.
+    #[inline(always)]
+    pub(crate) fn unpack(&self) -> Slot
+        ensures { result ≡ self.now }
+    {
+        let bits = self.bits;
+        if bits < FIRST_COUNT {
+            return Slot::Data { number: bits };
+        }
+        if bits < FIRST_OTHER {
+            return Slot::Count {
+                count: bits - FIRST_COUNT,
+            };
+        }
+        Slot::Other {
+            place: bits - FIRST_OTHER,
+        }
+    }
+}
