@@ -4,6 +4,5 @@
 use std::process::ExitCode;
 
 fn main(rt: HostRuntime) -> ExitCode {
-    let status = reg_show_cli::run_program(&rt, &mut rt.stderr());
-    ExitCode::from(status)
+    reg_words::exit_code(reg_show_cli::run_program(&rt, &mut rt.stderr()))
 }

@@ -1,13 +1,13 @@
 //! A tour of the library: a world stepped by hand, its serial order and its linearization, and what the checkers say.
 #![tactic(auto)]
 
-ghost use Rattle.std.specs.Prelude.{◌≡◌, [], length, IfOk};
-ghost use Rattle.library_tour.specs.Firsts.{first_entries};
+ghost use Rattle.std.specs.Prelude.{◌≡◌, []};
 
 use anyhow::anyhow;
 use std::alloc::Global;
 use tellwydar::{
-    Entry, Event, History, Linear, Op, Reply, Shape, World, WorldFault, check_points, check_serial,
+    Entry, Event, History, Linear, Op, Reply, Shape, World, WorldFault, call_first, check_points,
+    check_serial,
 };
 
 const WRITE: Op = Op::Write {
@@ -49,15 +49,6 @@ const EVENTS: [Event; 6] = [
         number: 3,
     },
 ];
-
-/// Calls an operation where nothing was called yet. Then the history is this call, with the answer if one came: so much
-/// follows from what `step_reply` says of histories, without the definition of a run.
-fn call_first(world: &mut World<Linear>, process: u8, op: Op) -> Result<Option<Reply>, WorldFault>
-    requires { world.old.history ≡ [] }
-    ensures { IfOk result (λ reply. world.new.history ≡ first_entries (length world.old.accepted) process op reply) }
-{
-    world.step_reply(&Event::Call { process, op })
-}
 
 /// Tells what came of an event.
 fn tell(

@@ -1,7 +1,7 @@
 //! Where the parts of a drawing stand.
 use crate::words::{AnswerText, cast_text};
 use reg_base::Names;
-use reg_moments::{Bar, Moment};
+use reg_moments::{Bar, Filled, GAP, Moment};
 use reg_text::{OpLine, name_of_op};
 use std::alloc::{AllocError, Allocator};
 
@@ -9,8 +9,6 @@ use std::alloc::{AllocError, Allocator};
 const LEFT: u32 = 64;
 /// The least distance of two events.
 const STEP: u32 = 52;
-/// The free room to the right of a text.
-const GAP: u32 = 14;
 /// From the top to the first row, and below the last one.
 pub const TOP: u32 = 34;
 /// What stands above a process's line: its bars and their texts.
@@ -108,43 +106,6 @@ fn rows_of<A: Allocator + Copy>(
     Ok((rows, y))
 }
 
-/// Up to where the room above and below each process's line is filled, and the whole drawing.
-#[derive(Drop)]
-struct Filled {
-    above: [u32; 256],
-    below: [u32; 256],
-    right: u32,
-}
-
-impl Filled {
-    /// Nothing stands anywhere.
-    fn new() -> Filled {
-        Filled {
-            above: [0; 256],
-            below: [0; 256],
-            right: LEAST,
-        }
-    }
-
-    /// Puts a text above the line of a process, from x or where that line is free: tells from where.
-    fn put_above(&mut self, process: u8, x: u32, wide: u32) -> u32 {
-        let free = &mut self.above[usize::from(process)];
-        let x = x.max(*free);
-        *free = x.saturating_add(wide).saturating_add(GAP);
-        self.right = self.right.max(*free);
-        x
-    }
-
-    /// The same below it, where a text stands a little to the left.
-    fn put_below(&mut self, process: u8, x: u32, wide: u32) -> u32 {
-        let free = &mut self.below[usize::from(process)];
-        let x = x.max(*free);
-        *free = x.saturating_add(wide).saturating_add(GAP).saturating_add(8);
-        self.right = self.right.max(*free);
-        x
-    }
-}
-
 /// The layout of these moments and bars, with the text of each bar.
 pub fn lay_out<A: Allocator + Copy>(
     alloc: A,
@@ -154,7 +115,7 @@ pub fn lay_out<A: Allocator + Copy>(
     bars: &[Bar],
     labels: &[Label<A>],
 ) -> Result<Layout<A>, AllocError> {
-    let mut filled = Filled::new();
+    let mut filled = Filled::new(LEAST);
     let mut events = Vec::new(alloc);
     let mut x = LEFT;
     for (number, moment) in moments.iter().enumerate() {
@@ -169,13 +130,13 @@ pub fn lay_out<A: Allocator + Copy>(
         }
         events.push(x)?;
         x = x.saturating_add(STEP);
-        filled.right = filled.right.max(x);
+        filled.reach(x);
     }
     let (rows, bottom) = rows_of(alloc, processes, moments)?;
     Ok(Layout {
         events,
         rows,
-        width: filled.right.saturating_add(GAP),
+        width: filled.right().saturating_add(GAP),
         height: bottom.saturating_add(LEGEND),
     })
 }

@@ -1,15 +1,17 @@
-//! What each event of a run did, the text of that and of the schedule, and what a drawing joins.
+//! What each event of a run did, the text of that and of the schedule, what a drawing joins, and the room for its texts.
 #![tactic(auto)]
 
 mod figures;
 pub mod laws;
 mod moments;
+mod rooms;
 mod schedule_text;
 mod told;
 mod trace_text;
 
 pub use figures::{Arrow, Bar, End, arrows, bars, is_taken};
 pub use moments::{Moment, Sent, tell_world};
+pub use rooms::{Filled, GAP};
 pub use schedule_text::write_schedule;
 pub use told::Told;
 pub use trace_text::{put_answer, put_cast, put_frame, write_trace};

@@ -1,4 +1,4 @@
-//! Command lines whose subcommands take no word, or the flag `--fair`, and how a refused one is told.
+//! Command lines whose subcommands take no word, or the flag `--fair`, how a refused one is told, and how a program ends.
 #![tactic(auto)]
 
 ghost use Rattle.std.specs.Prelude.{◌≡◌, Bool, List, ℕ, None, Some, IfOk, false, map, option_map};
@@ -7,10 +7,12 @@ ghost use Rattle.clap.specs.Words.{Text, app_of, subcommand_rows_of};
 ghost use Rattle.clap.specs.declared.builder.command.Command.TheViews.{out-Command as fields_of};
 ghost use Rattle.reg_words.specs.Lines.{behind_name, fair_app, is_dashes, met_of, seen};
 
+mod exits;
 mod faults;
 mod telling;
 
 use clap::{Arg, ArgAction, ArgMatches, Command};
+pub use exits::exit_code;
 pub use faults::WordsFault;
 use std::alloc::{AllocError, Global};
 pub use telling::{tell, words_of};

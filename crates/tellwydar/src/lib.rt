@@ -1,9 +1,11 @@
 //! Shared registers over totally ordered broadcast: what a program of one's own needs, in one place. `docs/LIBRARY.md` is the
-//! tour. But for three short names of operations, all of it is what the crates below offer, under their own contracts.
+//! tour. But for three short names of operations and the first call of a world, all of it is what the crates below offer, under their own contracts.
 #![tactic(auto)]
 
+mod beginning;
 mod operations;
 
+pub use beginning::call_first;
 pub use operations::{read, swap, write};
 pub use reg_base::{Answer, Names, NamesFault, Op, OpId, Shape, ShapeFault, Stamp, limits};
 pub use reg_front::{FrontEnd, Linear, LocalRead, LocalWrite, RealTime, Start};

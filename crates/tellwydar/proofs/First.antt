@@ -11,7 +11,7 @@ use Rattle.reg_orders.specs.History.{IsAt, IsNext, WasCalled}
 use Rattle.reg_world.specs.declared.events.Event.{Event}
 use Rattle.reg_world.specs.declared.events.Event.TheVariants.{Call}
 use Rattle.reg_world.specs.Histories.{AddsAnswer, Grows}
-use Rattle.library_tour.specs.Firsts.{first_id, first_entries}
+use Rattle.tellwydar.specs.Firsts.{first_id, first_entries}
 
 none_called : (id : OpId) → WasCalled [] id → ⊥
 none_called id (at, op, (k, here)) = none-some (Called at id op) here
