@@ -2,9 +2,9 @@
 ghost use Rattle.std.specs.Prelude.{◌≡◌, ◌<◌, ◌≤◌, [], length, replicate, slice_index, IfOk, IfSome, IfNone, MatchResult, MatchOption, if◌then◌else◌, is_ok, option_map, Some, None, IfErr, IsTrue, false};
 ghost use Rattle.reg_base.specs.declared.limits.TheConstants.{MOST_PROCESSES};
 ghost use Rattle.reg_base.specs.Order.{Rising, is_clear as is_clear_by};
-ghost use Rattle.reg_holdback.specs.Waiting.{cast_of, ready_of, without_first, with_cast, received, receive_fault, refusal_of, IsLatestOwn, seen_of, IsReady, NoneClear};
+ghost use Rattle.reg_holdback.specs.Waiting.{cast_of, casts_of, ready_of, without_first, with_cast, received, receive_fault, refusal_of, IsLatestOwn, seen_of, IsReady, NoneClear};
 
-use reg_base::{Op, Shape, Stamp};
+use reg_base::{Delivered, Op, Shape, Stamp};
 use std::alloc::{AllocError, Allocator, Global};
 use std::collections::BTreeMap;
 use std::marker::Model;
@@ -76,6 +76,21 @@ fn is_clear(seen: &[u64], me: u8, stamp: Stamp, behind: &mut u8) -> bool
         }
     }
     true
+}
+
+/// The casts of a map, in its order.
+fn casts<A: Allocator + Copy, B: Allocator + Copy>(
+    held: &BTreeMap<Stamp, Op, A>,
+    alloc: B,
+) -> Result<Vec<Delivered, B>, AllocError>
+    ensures { IfOk result (λ v. v.items ≡ casts_of held.now.entries) }
+{
+    held.iter()
+        .map(|(stamp, op)| Delivered {
+            stamp: *stamp,
+            op: *op,
+        })
+        .collect(alloc)
 }
 
 impl<A: Allocator + Copy> Holdback<A> {
@@ -161,6 +176,13 @@ impl<A: Allocator + Copy> Holdback<A> {
         ensures { result ≡ length self.now.held }
     {
         self.held.len()
+    }
+
+    /// The held casts, in the order of their stamps.
+    pub fn held<B: Allocator + Copy>(&self, alloc: B) -> Result<Vec<Delivered, B>, AllocError>
+        ensures { IfOk result (λ v. v.items ≡ self.now.held) }
+    {
+        casts(&self.held, alloc)
     }
 
     /// The time of the last body from another process, 0 where there was none. None for the process itself and out of

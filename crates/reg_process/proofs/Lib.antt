@@ -10,3 +10,4 @@ pub mod Again
 pub mod Pending
 pub mod Outs
 pub mod Waiting
+mod Knowing

@@ -16,6 +16,7 @@ use std::marker::Model;
 
 mod calling;
 mod delivering;
+mod looking;
 mod taking;
 
 /// A process that has not failed.

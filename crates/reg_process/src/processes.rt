@@ -1,18 +1,22 @@
 //! One process, with its stop.
-ghost use Rattle.std.specs.Prelude.{◌≡◌, ℕ, ◌<◌, ◌≤◌, MatchResult, IfOk, IfErr, is_some, max, false, true, IsErrOf, vec_capacity};
+ghost use Rattle.std.specs.Prelude.{◌≡◌, ℕ, ◌<◌, ◌≤◌, MatchOption, MatchResult, IfOk, IfErr, option_map, is_some, max, false, true, IsErrOf, vec_capacity};
 ghost use Rattle.reg_process.specs.Process.{next_of, peer_at, pending_of, unsettled};
 ghost use Rattle.reg_process.specs.Parts.{state_of, first_parts};
 ghost use Rattle.reg_process.specs.declared.steps.Step.TheVariants.{Call, Take, Tick};
 ghost use Rattle.reg_process.specs.Faults.{NewRefused, is_cast, takes_memory};
 ghost use Rattle.reg_process.specs.Events.{Steps, Refused};
+ghost use Rattle.reg_process.specs.Known.{IsNoPeer, known_of};
+ghost use Rattle.reg_process.specs.Waits.{running_of};
 
 use crate::faults::{ProcessFault, is_stop};
+use crate::known::Known;
 use crate::outcomes::{Outcome, Put, Spare};
 use crate::parts::Core;
-use reg_base::{Op, Registers, Shape};
+use crate::running::Awaited;
+use reg_base::{Delivered, Op, Registers, Shape};
 use reg_frames::Frame;
 use reg_front::FrontEnd;
-use std::alloc::{Allocator, Global};
+use std::alloc::{AllocError, Allocator, Global};
 use std::marker::{Model, PhantomData};
 
 /// One process of a run in which all run the front end F: a clock, a copy of the registers, a hold-back queue, the bodies
@@ -95,6 +99,33 @@ impl<F: FrontEnd, A: Allocator + Copy> Process<F, A> {
         ensures { result.now ≡ self.now.state.copy }
     {
         self.core.registers()
+    }
+
+    /// What it knows of another process, and keeps for it. None where there is no other of this number.
+    pub fn known(&self, process: u8) -> Option<Known>
+        ensures { MatchOption result (IsNoPeer self.now.state process) (λ k. k ≡ known_of (peer_at self.now.state process)) }
+    {
+        if !self.core.is_peer(process) {
+            return None;
+        }
+        Some(self.core.known(process))
+    }
+
+    /// The casts that it holds back, in the order of their stamps.
+    pub fn held<B: Allocator + Copy>(&self, alloc: B) -> Result<Vec<Delivered, B>, AllocError>
+        ensures { IfOk result (λ v. v.items ≡ self.now.state.held) }
+    {
+        self.core.held(alloc)
+    }
+
+    /// What the running operation waits for, None where none runs.
+    pub fn awaited(&self) -> Option<Awaited>
+        ensures { option_map running_of result ≡ self.now.state.running }
+    {
+        match self.core.running() {
+            Some(current) => Some(current.awaited()),
+            None => None,
+        }
     }
 
     /// Takes back the list of an event's frames, so that a later event takes no memory for one. Of this list and the one that

@@ -7,7 +7,7 @@ use reg_base::{Op, Stamp};
 use std::marker::Model;
 
 /// What a running operation waits for.
-#[derive(Clone, Copy)]
+#[derive(Clone, Copy, Debug, PartialEq, Eq)]
 pub enum Awaited {
     /// That its own cast is delivered here.
     Cast { stamp: Stamp, op: Op },

@@ -78,7 +78,7 @@ impl<A: Allocator + Copy> Core<A> {
     }
 
     /// The number expected from a process.
-    fn expected(&self, from: u8) -> u64
+    pub(super) fn expected(&self, from: u8) -> u64
         requires { from < length self.now.peers }
         ensures { result ≡ (peer_at self.now from).expected }
     {
