@@ -53,7 +53,10 @@ pub fn read(
         return Err(Unread::OutOfMemory);
     };
     for (place, row) in rows.iter().enumerate() {
-        add(&mut history, row, place)?;
+        match add(&mut history, row, place) {
+            Ok(()) => {}
+            Err(why) => return Err(why),
+        }
     }
     Ok(history)
 }
