@@ -1,0 +1,175 @@
+/* Tellwydar for C: shared registers over totally ordered broadcast, from the static library `reg_c`.
+ *
+ * What each function does is proved of the library's code (docs/LIBRARY.md); that these declarations are those of that code is not
+ * checked by anything but `tools/bindings`.
+ *
+ * Duties of the caller. No pointer is null, not even where its length is 0. A length is that of its room. Rooms don't overlap. A
+ * handle is one that `tellwydar_world_new` gave, it is in one call at a time, on the thread that made it, and in none after
+ * `tellwydar_world_free`. No function is called from a signal handler. A command keeps some 64 KiB on the stack.
+ *
+ * The library starts no thread and takes no lock. It takes memory by malloc, realloc and free.
+ */
+#ifndef TELLWYDAR_H
+#define TELLWYDAR_H
+#include <stddef.h>
+#include <stdint.h>
+#include <stdlib.h>
+
+#ifdef __cplusplus
+extern "C" {
+#endif
+
+/* --- Texts: the commands of the program `awreg` ------------------------------------------------------------------------------- */
+
+/* How many bytes an answer has, and how many the line of a fault, also where less room was lent. */
+struct tellwydar_lengths {
+    size_t output;
+    size_t errors;
+};
+
+/* Each takes a text and two rooms, and puts as much of the answer and of the line of a fault into them as they take. A room may have
+ * the length 0: call again with room for `lengths`. The result is the status: 0, or 1 where something was refused or judged no. */
+
+/* A schedule: the answer is the report of its run. */
+uint8_t tellwydar_replay(const uint8_t *text, size_t text_length, uint8_t *output, size_t output_length, uint8_t *errors,
+                         size_t errors_length, struct tellwydar_lengths *lengths);
+/* A report: the answer is the verdicts on its order and, where it has points, on them. */
+uint8_t tellwydar_check(const uint8_t *text, size_t text_length, uint8_t *output, size_t output_length, uint8_t *errors,
+                        size_t errors_length, struct tellwydar_lengths *lengths);
+/* A workload: the answer is the report of the play that the words of its seed choose. */
+uint8_t tellwydar_play(const uint8_t *text, size_t text_length, uint8_t *output, size_t output_length, uint8_t *errors,
+                       size_t errors_length, struct tellwydar_lengths *lengths);
+/* The same of the fair play. */
+uint8_t tellwydar_play_fair(const uint8_t *text, size_t text_length, uint8_t *output, size_t output_length, uint8_t *errors,
+                            size_t errors_length, struct tellwydar_lengths *lengths);
+
+/* --- Checkers: a history of your own, judged ---------------------------------------------------------------------------------- */
+
+/* The kinds of entries. */
+enum {
+    TELLWYDAR_CALLED_READ = 0,
+    TELLWYDAR_CALLED_WRITE = 1,
+    TELLWYDAR_CALLED_SWAP = 2,
+    TELLWYDAR_ANSWERED_DONE = 3,
+    TELLWYDAR_ANSWERED_VALUE = 4
+};
+
+/* A call or an answer. Events are numbered from 0, rise from entry to entry, and are at most 1,048,575; only an answer may have the
+ * event of the entry before it, if that is its own call. A process numbers its operations from 0, one after another. */
+struct tellwydar_entry {
+    uint64_t value;    /* of a write, a swap, or an answer with a value */
+    uint32_t at;       /* the number of its event */
+    uint32_t number;   /* of the operation, among those of its process */
+    uint16_t reg;      /* the register of a call */
+    uint8_t process;
+    uint8_t kind;
+};
+
+/* An operation. */
+struct tellwydar_id {
+    uint32_t number;
+    uint8_t process;
+};
+
+/* An operation and its point: the number of an event. */
+struct tellwydar_point {
+    uint32_t at;
+    uint32_t number;
+    uint8_t process;
+};
+
+/* Verdicts. */
+enum {
+    TELLWYDAR_HOLDS = 0,
+    TELLWYDAR_UNKNOWN = 1,       /* an operation that is neither finished nor a called write or swap */
+    TELLWYDAR_TWICE = 2,         /* an operation stands twice */
+    TELLWYDAR_MISSING = 3,       /* a finished operation isn't there */
+    TELLWYDAR_OWN_ORDER = 4,     /* a process's operations are out of their order */
+    TELLWYDAR_ANSWER = 5,        /* the operation at `place` has another answer than one memory gives */
+    TELLWYDAR_OUTSIDE = 6,       /* the point at `place` is before the call or after the answer */
+    TELLWYDAR_FALLING = 7,       /* the point at `place` is below the one before it */
+    TELLWYDAR_CHECK_MEMORY = 8,  /* malloc gave no memory */
+    TELLWYDAR_CHECK_SHAPE = 9,   /* not 1 to 64 processes, or not 1 to 4,096 registers */
+    TELLWYDAR_OUT_OF_PLACE = 10  /* the entry at `place` is none, or can't come there */
+};
+
+/* Whether the operations are a serial order of the history (sequential consistency). `place` gets the place that the verdict names,
+ * from 0, else 0. */
+uint32_t tellwydar_check_serial(uint32_t processes, uint32_t registers, const struct tellwydar_entry *entries, size_t entries_length,
+                                const struct tellwydar_id *ids, size_t ids_length, size_t *place);
+/* Whether the points are a point order of the history (linearizability). */
+uint32_t tellwydar_check_points(uint32_t processes, uint32_t registers, const struct tellwydar_entry *entries, size_t entries_length,
+                                const struct tellwydar_point *points, size_t points_length, size_t *place);
+
+/* --- Worlds: all processes of a run, stepped event by event ------------------------------------------------------------------- */
+
+struct tellwydar_world;
+
+enum { TELLWYDAR_LINEAR = 0, TELLWYDAR_LOCAL_READ = 1, TELLWYDAR_LOCAL_WRITE = 2 };
+
+/* Kinds of events: the calls of a process, its take of a frame, its tick. */
+enum { TELLWYDAR_READ = 0, TELLWYDAR_WRITE = 1, TELLWYDAR_SWAP = 2, TELLWYDAR_TAKE = 3, TELLWYDAR_TICK = 4 };
+
+/* What a step tells. */
+enum {
+    TELLWYDAR_ACCEPTED = 0,
+    TELLWYDAR_DONE = 1,    /* accepted, and answered Done */
+    TELLWYDAR_VALUE = 2,   /* accepted, and answered with a value: TELLWYDAR_REPLY_VALUE */
+    TELLWYDAR_FAILED = 16, /* memory was refused before: the world has stopped */
+    TELLWYDAR_TOO_MANY_EVENTS = 17,
+    TELLWYDAR_NO_PROCESS = 18,
+    TELLWYDAR_BUSY = 19,
+    TELLWYDAR_NO_REGISTER = 20,
+    TELLWYDAR_TOO_MANY_OPERATIONS = 21,
+    TELLWYDAR_NO_FRAME = 22,
+    TELLWYDAR_NO_MEMORY = 23,
+    TELLWYDAR_NO_EVENT = 32, /* no such kind, or a register above 65,535 */
+    TELLWYDAR_CLOSED = 33,
+    TELLWYDAR_NO_SHAPE = 34,
+    TELLWYDAR_NO_FRONT = 35
+};
+
+/* Makes a world in which nothing happened yet. The result is 0, and the handle is set; or one of the last numbers, and it isn't. */
+uint32_t tellwydar_world_new(uint32_t front, uint32_t processes, uint32_t registers, struct tellwydar_world **handle);
+/* Makes an event. Of a call `number` is the register, of a take that of the frame on the wire from `from`; `value` is that of a write or
+ * swap. What isn't of the event isn't looked at. A refused event changes nothing, but want of memory stops the world for good. */
+uint32_t tellwydar_world_step(struct tellwydar_world *handle, uint32_t kind, uint8_t process, uint32_t number, uint8_t from,
+                              uint64_t value);
+/* Asks the world for a serial order of its history and, under `linear`, for a point order: 0, or TELLWYDAR_NO_MEMORY. */
+uint32_t tellwydar_world_arrange(struct tellwydar_world *handle);
+
+/* What to look at. An entry, an id or a point is the one at the place `at`; what isn't there is 0. */
+enum {
+    TELLWYDAR_EVENTS = 0,  /* how many events were accepted */
+    TELLWYDAR_ENTRIES = 1, /* how many entries the history has */
+    TELLWYDAR_ENTRY_EVENT = 2,
+    TELLWYDAR_ENTRY_PROCESS = 3,
+    TELLWYDAR_ENTRY_NUMBER = 4,
+    TELLWYDAR_ENTRY_KIND = 5,
+    TELLWYDAR_ENTRY_REGISTER = 6,
+    TELLWYDAR_ENTRY_VALUE = 7,
+    TELLWYDAR_REPLY_VALUE = 8, /* of the last step */
+    TELLWYDAR_REPLY_PLACE = 9, /* how many casts that reply counts with */
+    TELLWYDAR_IDS = 10,        /* how many operations the order has that was asked for last */
+    TELLWYDAR_ID_PROCESS = 11,
+    TELLWYDAR_ID_NUMBER = 12,
+    TELLWYDAR_POINTS = 13, /* how many points there were then */
+    TELLWYDAR_POINT_PROCESS = 14,
+    TELLWYDAR_POINT_NUMBER = 15,
+    TELLWYDAR_POINT_EVENT = 16
+};
+uint64_t tellwydar_world_look(struct tellwydar_world *handle, uint32_t what, uint32_t at);
+
+/* Gives back what the world holds, but for the handle's own block: call `tellwydar_world_free` in its place. */
+void tellwydar_world_close(struct tellwydar_world *handle);
+
+/* Ends a world. */
+static inline void tellwydar_world_free(struct tellwydar_world *handle) {
+    tellwydar_world_close(handle);
+    free(handle);
+}
+
+#ifdef __cplusplus
+}
+#endif
+#endif

@@ -1,0 +1,111 @@
+/* Tests of the C interface: prints each that fails, and `N passed, M failed`. */
+#include "tellwydar.h"
+#include <stdio.h>
+#include <string.h>
+
+static int passed, failed;
+
+static void expect(const char *what, int holds) {
+    if (holds) {
+        passed++;
+    } else {
+        failed++;
+        printf("failed: %s\n", what);
+    }
+}
+
+static void rooms(void) {
+    const char *text = "processes 1\nregisters x\nfront linear\ncall 0 read y\n";
+    uint8_t answer[8], line[4] = "....";
+    struct tellwydar_lengths lengths;
+    uint8_t status = tellwydar_replay((const uint8_t *)text, strlen(text), answer, 0, line, 3, &lengths);
+    expect("a bad schedule has status 1", status == 1);
+    expect("no answer, and the whole line's length", lengths.output == 0 && lengths.errors == strlen("line 4: name\n"));
+    expect("the room has the front of the line, and no more", memcmp(line, "lin.", 4) == 0);
+}
+
+static void refusals(void) {
+    struct tellwydar_world *world = NULL;
+    expect("no such front end", tellwydar_world_new(3, 1, 1, &world) == TELLWYDAR_NO_FRONT && world == NULL);
+    expect("no process", tellwydar_world_new(0, 0, 1, &world) == TELLWYDAR_NO_SHAPE && world == NULL);
+    expect("65 processes", tellwydar_world_new(0, 65, 1, &world) == TELLWYDAR_NO_SHAPE && world == NULL);
+    expect("4,097 registers", tellwydar_world_new(0, 1, 4097, &world) == TELLWYDAR_NO_SHAPE && world == NULL);
+    expect("64 processes", tellwydar_world_new(TELLWYDAR_LINEAR, 64, 4096, &world) == 0 && world != NULL);
+    expect("no such kind", tellwydar_world_step(world, 5, 0, 0, 0, 0) == TELLWYDAR_NO_EVENT);
+    expect("a register that is none", tellwydar_world_step(world, TELLWYDAR_READ, 0, 65536, 0, 0) == TELLWYDAR_NO_EVENT);
+    expect("no register", tellwydar_world_step(world, TELLWYDAR_READ, 0, 4096, 0, 0) == TELLWYDAR_NO_REGISTER);
+    expect("no process", tellwydar_world_step(world, TELLWYDAR_TICK, 64, 0, 0, 0) == TELLWYDAR_NO_PROCESS);
+    expect("no frame", tellwydar_world_step(world, TELLWYDAR_TAKE, 1, 0, 0, 0) == TELLWYDAR_NO_FRAME);
+    expect("called", tellwydar_world_step(world, TELLWYDAR_READ, 0, 0, 0, 0) == TELLWYDAR_ACCEPTED);
+    expect("busy", tellwydar_world_step(world, TELLWYDAR_READ, 0, 0, 0, 0) == TELLWYDAR_BUSY);
+    expect("one event", tellwydar_world_look(world, TELLWYDAR_EVENTS, 0) == 1);
+    expect("no such look", tellwydar_world_look(world, 17, 0) == 0);
+    tellwydar_world_free(world);
+}
+
+/* A process of its own under each front end: it swaps, and reads the value. */
+static void fronts(void) {
+    for (uint32_t front = 0; front < 3; front++) {
+        struct tellwydar_world *world;
+        expect("a world", tellwydar_world_new(front, 1, 1, &world) == 0);
+        expect("the swap gives 0", tellwydar_world_step(world, TELLWYDAR_SWAP, 0, 0, 0, UINT64_MAX) == TELLWYDAR_VALUE);
+        expect("its value", tellwydar_world_look(world, TELLWYDAR_REPLY_VALUE, 0) == 0);
+        expect("the read answers", tellwydar_world_step(world, TELLWYDAR_READ, 0, 0, 0, 0) == TELLWYDAR_VALUE);
+        expect("what was swapped in", tellwydar_world_look(world, TELLWYDAR_REPLY_VALUE, 0) == UINT64_MAX);
+        expect("behind one cast", tellwydar_world_look(world, TELLWYDAR_REPLY_PLACE, 0) == 1);
+        expect("arranged", tellwydar_world_arrange(world) == 0);
+        expect("two operations", tellwydar_world_look(world, TELLWYDAR_IDS, 0) == 2);
+        expect("points under linear alone", tellwydar_world_look(world, TELLWYDAR_POINTS, 0) == (front == TELLWYDAR_LINEAR ? 2 : 0));
+        expect("four entries", tellwydar_world_look(world, TELLWYDAR_ENTRIES, 0) == 4);
+        expect("the last is an answer", tellwydar_world_look(world, TELLWYDAR_ENTRY_KIND, 3) == TELLWYDAR_ANSWERED_VALUE);
+        expect("with the value", tellwydar_world_look(world, TELLWYDAR_ENTRY_VALUE, 3) == UINT64_MAX);
+        expect("of event 1", tellwydar_world_look(world, TELLWYDAR_ENTRY_EVENT, 3) == 1);
+        expect("nothing behind it", tellwydar_world_look(world, TELLWYDAR_ENTRY_VALUE, 4) == 0);
+        tellwydar_world_free(world);
+    }
+}
+
+/* Of three processes under local reads: a write that is done, and a read of another process behind it that saw nothing of it. */
+static const struct tellwydar_entry stale[] = {
+    {.at = 0, .process = 0, .number = 0, .kind = TELLWYDAR_CALLED_WRITE, .value = 5},
+    {.at = 4, .process = 0, .number = 0, .kind = TELLWYDAR_ANSWERED_DONE},
+    {.at = 5, .process = 1, .number = 0, .kind = TELLWYDAR_CALLED_READ},
+    {.at = 5, .process = 1, .number = 0, .kind = TELLWYDAR_ANSWERED_VALUE, .value = 0},
+};
+
+static uint32_t serial(size_t entries, const struct tellwydar_id *ids, size_t count, size_t *place) {
+    return tellwydar_check_serial(3, 1, stale, entries, ids, count, place);
+}
+
+static uint32_t points(uint32_t first, uint32_t second, int write_first, size_t *place) {
+    struct tellwydar_point list[] = {{.process = (uint8_t)!write_first, .at = first}, {.process = (uint8_t)write_first, .at = second}};
+    return tellwydar_check_points(3, 1, stale, 4, list, 2, place);
+}
+
+static void verdicts(void) {
+    struct tellwydar_id write = {.process = 0, .number = 0}, read = {.process = 1, .number = 0}, other = {.process = 2, .number = 0};
+    struct tellwydar_id right[] = {read, write}, turned[] = {write, read}, twice[] = {read, write, write}, unknown[] = {read, write, other};
+    size_t place = 77;
+    expect("the read first is serial", serial(4, right, 2, &place) == TELLWYDAR_HOLDS && place == 0);
+    expect("the write first is not", serial(4, turned, 2, &place) == TELLWYDAR_ANSWER && place == 1);
+    expect("the write is missing", serial(4, right, 1, &place) == TELLWYDAR_MISSING);
+    expect("the write twice", serial(4, twice, 3, &place) == TELLWYDAR_TWICE);
+    expect("an operation that is none", serial(4, unknown, 3, &place) == TELLWYDAR_UNKNOWN);
+    expect("an unfinished read", serial(3, right, 2, &place) == TELLWYDAR_UNKNOWN);
+    expect("falling", points(5, 4, 0, &place) == TELLWYDAR_FALLING && place == 1);
+    expect("outside", points(4, 4, 0, &place) == TELLWYDAR_OUTSIDE && place == 0);
+    expect("another answer", points(4, 5, 1, &place) == TELLWYDAR_ANSWER && place == 1);
+    expect("no shape", tellwydar_check_serial(65, 1, stale, 4, right, 2, &place) == TELLWYDAR_CHECK_SHAPE);
+    expect("one process too few", tellwydar_check_serial(1, 1, stale, 4, right, 2, &place) == TELLWYDAR_OUT_OF_PLACE && place == 2);
+    struct tellwydar_entry kind = {.kind = 5};
+    expect("a kind that is none", tellwydar_check_serial(1, 1, &kind, 1, right, 0, &place) == TELLWYDAR_OUT_OF_PLACE && place == 0);
+}
+
+int main(void) {
+    rooms();
+    refusals();
+    fronts();
+    verdicts();
+    printf("%d passed, %d failed\n", passed, failed);
+    return failed != 0;
+}

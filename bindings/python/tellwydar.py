@@ -1,0 +1,323 @@
+"""Shared registers over totally ordered broadcast, from a library that is proved.
+
+Each process of a `World` keeps a copy of all registers, and keeps it in step by Lamport's totally ordered multicast. One steps a world
+by events: calls of operations, takes of frames, ticks. A history of one's own is judged by `check_serial` and `check_points`. The
+commands of the program `awreg` are `replay`, `check`, `play` and `play_fair`.
+
+The environment's TELLWYDAR_LIB names the folder of `libtellwydar.so`, which `tools/bindings --keep FOLDER` makes.
+"""
+import ctypes
+import enum
+import os
+from dataclasses import dataclass
+from typing import List, Optional, Sequence, Union
+
+__all__ = [
+    "Answered", "Called", "Fault", "Front", "Read", "Refused", "Reply", "Swap", "Told", "World", "Write",
+    "check", "check_points", "check_serial", "play", "play_fair", "replay",
+]
+
+
+class _Lengths(ctypes.Structure):
+    _fields_ = [("output", ctypes.c_size_t), ("errors", ctypes.c_size_t)]
+
+
+class _Entry(ctypes.Structure):
+    _fields_ = [
+        ("value", ctypes.c_uint64), ("at", ctypes.c_uint32), ("number", ctypes.c_uint32),
+        ("register", ctypes.c_uint16), ("process", ctypes.c_uint8), ("kind", ctypes.c_uint8),
+    ]
+
+
+class _Id(ctypes.Structure):
+    _fields_ = [("number", ctypes.c_uint32), ("process", ctypes.c_uint8)]
+
+
+class _Point(ctypes.Structure):
+    _fields_ = [("at", ctypes.c_uint32), ("number", ctypes.c_uint32), ("process", ctypes.c_uint8)]
+
+
+def _load():
+    folder = os.environ.get("TELLWYDAR_LIB", os.path.dirname(os.path.abspath(__file__)))
+    library = ctypes.CDLL(os.path.join(folder, "libtellwydar.so"))
+    u8, u32, u64, size, handle = ctypes.c_uint8, ctypes.c_uint32, ctypes.c_uint64, ctypes.c_size_t, ctypes.c_void_p
+    room = ctypes.c_char_p
+    for word in ("replay", "check", "play", "play_fair"):
+        call = getattr(library, f"tellwydar_{word}")
+        call.restype, call.argtypes = u8, [room, size, room, size, room, size, ctypes.POINTER(_Lengths)]
+    for word, row in (("serial", _Id), ("points", _Point)):
+        call = getattr(library, f"tellwydar_check_{word}")
+        call.restype = u32
+        call.argtypes = [u32, u32, ctypes.POINTER(_Entry), size, ctypes.POINTER(row), size, ctypes.POINTER(size)]
+    for word, result, given in (
+        ("new", u32, [u32, u32, u32, ctypes.POINTER(handle)]),
+        ("step", u32, [handle, u32, u8, u32, u8, u64]),
+        ("arrange", u32, [handle]),
+        ("look", u64, [handle, u32, u32]),
+        ("close", None, [handle]),
+    ):
+        call = getattr(library, f"tellwydar_world_{word}")
+        call.restype, call.argtypes = result, given
+    free = ctypes.CDLL(None).free
+    free.restype, free.argtypes = None, [handle]
+    return library, free
+
+
+_library, _free = _load()
+
+
+@dataclass(frozen=True)
+class Told:
+    """What a command told: its status, its answer, and the line of a fault."""
+
+    status: int
+    answer: bytes
+    line: bytes
+
+
+def _tell(word: str, text: bytes) -> Told:
+    if not isinstance(text, bytes):
+        raise TypeError("a text is bytes")
+    call = getattr(_library, f"tellwydar_{word}")
+    room, line_room = max(4096, len(text)), 256
+    while True:
+        lengths, answer, line = _Lengths(), ctypes.create_string_buffer(room), ctypes.create_string_buffer(line_room)
+        status = call(text, len(text), answer, room, line, line_room, ctypes.byref(lengths))
+        if lengths.output <= room and lengths.errors <= line_room:
+            return Told(status, answer.raw[: lengths.output], line.raw[: lengths.errors])
+        room, line_room = max(room, lengths.output), max(line_room, lengths.errors)
+
+
+def replay(schedule: bytes) -> Told:
+    """Runs a schedule: the answer is the report of its run."""
+    return _tell("replay", schedule)
+
+
+def check(report: bytes) -> Told:
+    """Judges a report: the answer is the verdicts on its order and, where it has points, on them."""
+    return _tell("check", report)
+
+
+def play(workload: bytes) -> Told:
+    """Plays a workload as the words of its seed say: the answer is the report of the play."""
+    return _tell("play", workload)
+
+
+def play_fair(workload: bytes) -> Told:
+    """Plays a workload fairly."""
+    return _tell("play_fair", workload)
+
+
+@dataclass(frozen=True)
+class Read:
+    register: int
+
+
+@dataclass(frozen=True)
+class Write:
+    register: int
+    value: int
+
+
+@dataclass(frozen=True)
+class Swap:
+    """A write that answers what was there."""
+
+    register: int
+    value: int
+
+
+Op = Union[Read, Write, Swap]
+
+
+@dataclass(frozen=True)
+class Called:
+    """A call: by which event, of which process, under which of its numbers, and what."""
+
+    at: int
+    process: int
+    number: int
+    op: Op
+
+
+@dataclass(frozen=True)
+class Answered:
+    """An answer: None for Done, else the value."""
+
+    at: int
+    process: int
+    number: int
+    value: Optional[int]
+
+
+Entry = Union[Called, Answered]
+
+
+class Fault(Exception):
+    """Why an order isn't what it was asked for, with the place in the list that the fault names, or None."""
+
+    def __init__(self, what: str, place: Optional[int]):
+        super().__init__(what if place is None else f"{what} at {place}")
+        self.what, self.place = what, place
+
+
+_FAULTS = {
+    1: "unknown", 2: "twice", 3: "missing", 4: "own order", 5: "answer", 6: "outside", 7: "falling",
+    8: "out of memory", 9: "no shape", 10: "out of place",
+}
+
+
+def _ranged(value: int, bits: int) -> int:
+    if not 0 <= value < 1 << bits:
+        raise ValueError(f"{value} is no number of {bits} bits")
+    return value
+
+
+def _rows(entries: Sequence[Entry]):
+    rows = (_Entry * max(1, len(entries)))()
+    for row, entry in zip(rows, entries):
+        row.at, row.number, row.process = _ranged(entry.at, 32), _ranged(entry.number, 32), _ranged(entry.process, 8)
+        if isinstance(entry, Answered):
+            row.kind, row.value = (3, 0) if entry.value is None else (4, _ranged(entry.value, 64))
+        else:
+            row.kind = (Read, Write, Swap).index(type(entry.op))
+            row.register, row.value = _ranged(entry.op.register, 16), _ranged(getattr(entry.op, "value", 0), 64)
+    return rows
+
+
+def _judge(call, processes, registers, entries, rows, count):
+    place = ctypes.c_size_t()
+    code = call(_ranged(processes, 32), _ranged(registers, 32), _rows(entries), len(entries), rows, count, ctypes.byref(place))
+    if code:
+        raise Fault(_FAULTS[code], place.value if code in (5, 6, 7, 10) else None)
+
+
+def check_serial(processes: int, registers: int, history: Sequence[Entry], order: Sequence[tuple]) -> None:
+    """Raises a `Fault` unless the operations, each a pair of process and number, are a serial order of the history: sequential
+    consistency (Lamport 1979)."""
+    rows = (_Id * max(1, len(order)))()
+    for row, (process, number) in zip(rows, order):
+        row.process, row.number = _ranged(process, 8), _ranged(number, 32)
+    _judge(_library.tellwydar_check_serial, processes, registers, history, rows, len(order))
+
+
+def check_points(processes: int, registers: int, history: Sequence[Entry], points: Sequence[tuple]) -> None:
+    """Raises a `Fault` unless the points, each of process, number and event, are a point order of the history: linearizability
+    (Herlihy and Wing 1990)."""
+    rows = (_Point * max(1, len(points)))()
+    for row, (process, number, at) in zip(rows, points):
+        row.process, row.number, row.at = _ranged(process, 8), _ranged(number, 32), _ranged(at, 32)
+    _judge(_library.tellwydar_check_points, processes, registers, history, rows, len(points))
+
+
+class Front(enum.IntEnum):
+    """How operations start."""
+
+    LINEAR = 0
+    LOCAL_READ = 1
+    LOCAL_WRITE = 2
+
+
+class Refused(Exception):
+    """Why an event, or a world, is refused. Nothing has changed, but after `out of memory` the world has stopped."""
+
+
+_REFUSALS = {
+    16: "failed", 17: "too many events", 18: "no process", 19: "busy", 20: "no register", 21: "too many operations",
+    22: "no frame", 23: "out of memory", 32: "no event", 33: "closed", 34: "no shape", 35: "no front",
+}
+
+
+@dataclass(frozen=True)
+class Reply:
+    """An answer, None for Done or the value, and how many casts it counts with."""
+
+    value: Optional[int]
+    place: int
+
+
+class World:
+    """All processes of a run with their wires, stepped event by event. It is for one thread at a time."""
+
+    def __init__(self, front: Front, processes: int, registers: int):
+        self._handle = None
+        handle = ctypes.c_void_p()
+        code = _library.tellwydar_world_new(Front(front), _ranged(processes, 32), _ranged(registers, 32), ctypes.byref(handle))
+        if code:
+            raise Refused(_REFUSALS[code])
+        self._handle = handle
+        self.front = Front(front)
+
+    def close(self) -> None:
+        """Gives back what the world holds. Later calls are refused as closed."""
+        if self._handle is not None:
+            _library.tellwydar_world_close(self._handle)
+            _free(self._handle)
+            self._handle = None
+
+    __del__ = close
+
+    def __enter__(self) -> "World":
+        return self
+
+    def __exit__(self, *_) -> None:
+        self.close()
+
+    def _held(self):
+        if self._handle is None:
+            raise Refused("closed")
+        return self._handle
+
+    def _look(self, what: int, at: int = 0) -> int:
+        return _library.tellwydar_world_look(self._held(), what, at)
+
+    def _step(self, kind: int, process: int, number: int, sender: int, value: int) -> Optional[Reply]:
+        code = _library.tellwydar_world_step(
+            self._held(), kind, _ranged(process, 8), _ranged(number, 32), _ranged(sender, 8), _ranged(value, 64)
+        )
+        if code > 2:
+            raise Refused(_REFUSALS[code])
+        return None if code == 0 else Reply(None if code == 1 else self._look(8), self._look(9))
+
+    def call(self, process: int, op: Op) -> Optional[Reply]:
+        """A process calls an operation."""
+        kind = (Read, Write, Swap).index(type(op))
+        return self._step(kind, process, _ranged(op.register, 16), 0, getattr(op, "value", 0))
+
+    def take(self, sender: int, receiver: int, number: int) -> Optional[Reply]:
+        """A process takes a frame by its place on the wire, as often and in whatever order."""
+        return self._step(3, receiver, number, sender, 0)
+
+    def tick(self, process: int) -> None:
+        """A process puts its first unacknowledged frames again."""
+        self._step(4, process, 0, 0, 0)
+
+    @property
+    def events(self) -> int:
+        """How many events were accepted."""
+        return self._look(0)
+
+    def history(self) -> List[Entry]:
+        """The calls and answers so far."""
+        return [self._entry(at) for at in range(self._look(1))]
+
+    def _entry(self, at: int) -> Entry:
+        event, process, number, kind, register, value = (self._look(what, at) for what in range(2, 8))
+        if kind >= 3:
+            return Answered(event, process, number, None if kind == 3 else value)
+        return Called(event, process, number, (Read(register), Write(register, value), Swap(register, value))[kind])
+
+    def _arrange(self) -> None:
+        code = _library.tellwydar_world_arrange(self._held())
+        if code:
+            raise Refused(_REFUSALS[code])
+
+    def serial_order(self) -> List[tuple]:
+        """A serial order of the history: pairs of process and number."""
+        self._arrange()
+        return [(self._look(11, at), self._look(12, at)) for at in range(self._look(10))]
+
+    def points(self) -> List[tuple]:
+        """A linearization of the history, by process, number and event: under `Front.LINEAR`, else none."""
+        self._arrange()
+        return [(self._look(14, at), self._look(15, at), self._look(16, at)) for at in range(self._look(13))]

@@ -1,0 +1,82 @@
+//! The declarations of the library's functions, as in bindings/c/tellwydar.h.
+use crate::{Answer, Entry, Op, OpId, Point};
+use std::marker::{PhantomData, PhantomPinned};
+
+#[repr(C)]
+#[derive(Default)]
+pub struct Lengths {
+    pub output: usize,
+    pub errors: usize,
+}
+
+#[repr(C)]
+pub struct EntryRow {
+    value: u64,
+    at: u32,
+    number: u32,
+    register: u16,
+    process: u8,
+    kind: u8,
+}
+
+#[repr(C)]
+pub struct IdRow {
+    number: u32,
+    process: u8,
+}
+
+#[repr(C)]
+pub struct PointRow {
+    at: u32,
+    number: u32,
+    process: u8,
+}
+
+/// What a handle points to.
+#[repr(C)]
+pub struct Opaque {
+    _bytes: [u8; 0],
+    _of_one_thread: PhantomData<(*mut u8, PhantomPinned)>,
+}
+
+impl From<&Entry> for EntryRow {
+    fn from(entry: &Entry) -> Self {
+        let (at, id, kind, register, value) = match *entry {
+            Entry::Called { at, id, op: Op::Read { register } } => (at, id, 0, register, 0),
+            Entry::Called { at, id, op: Op::Write { register, value } } => (at, id, 1, register, value),
+            Entry::Called { at, id, op: Op::Swap { register, value } } => (at, id, 2, register, value),
+            Entry::Answered { at, id, answer: Answer::Done } => (at, id, 3, 0, 0),
+            Entry::Answered { at, id, answer: Answer::Value(value) } => (at, id, 4, 0, value),
+        };
+        Self { value, at, number: id.number, register, process: id.process, kind }
+    }
+}
+
+impl From<&OpId> for IdRow {
+    fn from(id: &OpId) -> Self {
+        Self { number: id.number, process: id.process }
+    }
+}
+
+impl From<&Point> for PointRow {
+    fn from(point: &Point) -> Self {
+        Self { at: point.at, number: point.id.number, process: point.id.process }
+    }
+}
+
+pub type Command = unsafe extern "C" fn(*const u8, usize, *mut u8, usize, *mut u8, usize, *mut Lengths) -> u8;
+
+unsafe extern "C" {
+    pub fn tellwydar_replay(text: *const u8, text_length: usize, output: *mut u8, output_length: usize, errors: *mut u8, errors_length: usize, lengths: *mut Lengths) -> u8;
+    pub fn tellwydar_check(text: *const u8, text_length: usize, output: *mut u8, output_length: usize, errors: *mut u8, errors_length: usize, lengths: *mut Lengths) -> u8;
+    pub fn tellwydar_play(text: *const u8, text_length: usize, output: *mut u8, output_length: usize, errors: *mut u8, errors_length: usize, lengths: *mut Lengths) -> u8;
+    pub fn tellwydar_play_fair(text: *const u8, text_length: usize, output: *mut u8, output_length: usize, errors: *mut u8, errors_length: usize, lengths: *mut Lengths) -> u8;
+    pub fn tellwydar_check_serial(processes: u32, registers: u32, entries: *const EntryRow, entries_length: usize, ids: *const IdRow, ids_length: usize, place: *mut usize) -> u32;
+    pub fn tellwydar_check_points(processes: u32, registers: u32, entries: *const EntryRow, entries_length: usize, points: *const PointRow, points_length: usize, place: *mut usize) -> u32;
+    pub fn tellwydar_world_new(front: u32, processes: u32, registers: u32, handle: *mut *mut Opaque) -> u32;
+    pub fn tellwydar_world_step(handle: *mut Opaque, kind: u32, process: u8, number: u32, from: u8, value: u64) -> u32;
+    pub fn tellwydar_world_arrange(handle: *mut Opaque) -> u32;
+    pub fn tellwydar_world_look(handle: *mut Opaque, what: u32, at: u32) -> u64;
+    pub fn tellwydar_world_close(handle: *mut Opaque);
+    pub fn free(block: *mut Opaque);
+}

@@ -1,0 +1,50 @@
+//! The commands of `awreg` over texts.
+use crate::foreign::{self, Command, Lengths};
+
+/// What a command told.
+#[derive(Clone, Debug, PartialEq, Eq)]
+pub struct Told {
+    /// 0, or 1 where something was refused or judged no.
+    pub status: u8,
+    /// What the program writes to its standard output.
+    pub answer: Vec<u8>,
+    /// The line of a fault, which the program writes to its error stream.
+    pub line: Vec<u8>,
+}
+
+fn tell(command: Command, text: &[u8]) -> Told {
+    let mut answer = vec![0; text.len().max(1 << 12)];
+    let mut line = vec![0; 256];
+    loop {
+        let mut lengths = Lengths::default();
+        // SAFETY: each pointer and length are those of one slice, the rooms are apart, and no pointer is null.
+        let status = unsafe { command(text.as_ptr(), text.len(), answer.as_mut_ptr(), answer.len(), line.as_mut_ptr(), line.len(), &mut lengths) };
+        if lengths.output <= answer.len() && lengths.errors <= line.len() {
+            answer.truncate(lengths.output);
+            line.truncate(lengths.errors);
+            return Told { status, answer, line };
+        }
+        answer.resize(lengths.output.max(answer.len()), 0);
+        line.resize(lengths.errors.max(line.len()), 0);
+    }
+}
+
+/// Runs a schedule: the answer is the report of its run.
+pub fn replay(schedule: &[u8]) -> Told {
+    tell(foreign::tellwydar_replay, schedule)
+}
+
+/// Judges a report: the answer is the verdicts on its order and, where it has points, on them.
+pub fn check(report: &[u8]) -> Told {
+    tell(foreign::tellwydar_check, report)
+}
+
+/// Plays a workload as the words of its seed say: the answer is the report of the play.
+pub fn play(workload: &[u8]) -> Told {
+    tell(foreign::tellwydar_play, workload)
+}
+
+/// Plays a workload fairly.
+pub fn play_fair(workload: &[u8]) -> Told {
+    tell(foreign::tellwydar_play_fair, workload)
+}

@@ -1,0 +1,219 @@
+//! Worlds: all processes of a run, stepped event by event.
+use crate::foreign::{self, Opaque};
+use crate::{Answer, Entry, Op, OpId, Point};
+use std::fmt;
+use std::marker::PhantomData;
+use std::ptr::NonNull;
+
+/// How operations start: one of the three front ends.
+pub trait Front: sealed::Numbered {}
+
+/// A front end whose runs have points: they are linearizable.
+pub trait RealTime: Front {}
+
+mod sealed {
+    pub trait Numbered {
+        const NUMBER: u32;
+    }
+}
+
+/// Casts every operation and waits for its delivery.
+pub enum Linear {}
+/// Casts writes and swaps, and reads its own copy.
+pub enum LocalRead {}
+/// Answers writes at once; a read waits for the process's own writes.
+pub enum LocalWrite {}
+
+impl sealed::Numbered for Linear {
+    const NUMBER: u32 = 0;
+}
+impl sealed::Numbered for LocalRead {
+    const NUMBER: u32 = 1;
+}
+impl sealed::Numbered for LocalWrite {
+    const NUMBER: u32 = 2;
+}
+impl Front for Linear {}
+impl Front for LocalRead {}
+impl Front for LocalWrite {}
+impl RealTime for Linear {}
+
+/// What happens at one process.
+#[derive(Clone, Copy, Debug, PartialEq, Eq, Hash)]
+pub enum Event {
+    /// A process calls an operation.
+    Call { process: u8, op: Op },
+    /// A process takes a frame by its place on the wire, as often and in whatever order.
+    Take { from: u8, to: u8, number: u32 },
+    /// A process puts its first unacknowledged frames again.
+    Tick { process: u8 },
+}
+
+/// An answer, and how many casts it counts with.
+#[derive(Clone, Copy, Debug, PartialEq, Eq)]
+pub struct Reply {
+    pub answer: Answer,
+    pub place: u64,
+}
+
+/// Why an event, or a world, is refused. Nothing has changed, but after `OutOfMemory` the world has stopped, and answers `Failed`.
+#[derive(Clone, Copy, Debug, PartialEq, Eq)]
+pub enum Refused {
+    Failed,
+    TooManyEvents,
+    NoProcess,
+    Busy,
+    NoRegister,
+    TooManyOperations,
+    NoFrame,
+    OutOfMemory,
+    /// Not 1 to 64 processes, or not 1 to 4,096 registers.
+    NoShape,
+}
+
+impl fmt::Display for Refused {
+    fn fmt(&self, f: &mut fmt::Formatter<'_>) -> fmt::Result {
+        f.write_str(match self {
+            Self::Failed => "failed",
+            Self::TooManyEvents => "too many events",
+            Self::NoProcess => "no process",
+            Self::Busy => "busy",
+            Self::NoRegister => "no register",
+            Self::TooManyOperations => "too many operations",
+            Self::NoFrame => "no frame",
+            Self::OutOfMemory => "out of memory",
+            Self::NoShape => "no shape",
+        })
+    }
+}
+
+impl std::error::Error for Refused {}
+
+fn refused(code: u32) -> Refused {
+    match code {
+        16 => Refused::Failed,
+        17 => Refused::TooManyEvents,
+        18 => Refused::NoProcess,
+        19 => Refused::Busy,
+        20 => Refused::NoRegister,
+        21 => Refused::TooManyOperations,
+        22 => Refused::NoFrame,
+        34 => Refused::NoShape,
+        _ => Refused::OutOfMemory,
+    }
+}
+
+/// All processes of a run with their wires. It stays on its thread.
+pub struct World<F: Front> {
+    handle: NonNull<Opaque>,
+    front: PhantomData<F>,
+}
+
+impl<F: Front> World<F> {
+    /// A world in which nothing happened yet.
+    ///
+    /// # Errors
+    ///
+    /// `NoShape` for other than 1 to 64 processes and 1 to 4,096 registers, and `OutOfMemory`.
+    pub fn new(processes: u32, registers: u32) -> Result<Self, Refused> {
+        let mut handle = std::ptr::null_mut();
+        // SAFETY: the handle is written where the result is 0.
+        let code = unsafe { foreign::tellwydar_world_new(F::NUMBER, processes, registers, &mut handle) };
+        match (code, NonNull::new(handle)) {
+            (0, Some(handle)) => Ok(Self { handle, front: PhantomData }),
+            _ => Err(refused(code)),
+        }
+    }
+
+    /// Makes an event. The reply is the one that it gives.
+    ///
+    /// # Errors
+    ///
+    /// The first fault that applies; the world is as before, but after `OutOfMemory`.
+    #[inline]
+    pub fn step(&mut self, event: Event) -> Result<Option<Reply>, Refused> {
+        let (kind, process, number, from, value) = match event {
+            Event::Call { process, op: Op::Read { register } } => (0, process, register.into(), 0, 0),
+            Event::Call { process, op: Op::Write { register, value } } => (1, process, register.into(), 0, value),
+            Event::Call { process, op: Op::Swap { register, value } } => (2, process, register.into(), 0, value),
+            Event::Take { from, to, number } => (3, to, number, from, 0),
+            Event::Tick { process } => (4, process, 0, 0, 0),
+        };
+        // SAFETY: the handle is of `tellwydar_world_new`, and `&mut self` lends it to one call.
+        match unsafe { foreign::tellwydar_world_step(self.handle.as_ptr(), kind, process, number, from, value) } {
+            0 => Ok(None),
+            1 => Ok(Some(Reply { answer: Answer::Done, place: self.look(9, 0) })),
+            2 => Ok(Some(Reply { answer: Answer::Value(self.look(8, 0)), place: self.look(9, 0) })),
+            code => Err(refused(code)),
+        }
+    }
+
+    /// How many events were accepted.
+    #[inline]
+    pub fn events(&mut self) -> u32 {
+        self.look(0, 0) as u32
+    }
+
+    /// The calls and answers so far.
+    pub fn history(&mut self) -> Vec<Entry> {
+        (0..self.look(1, 0) as u32).map(|at| self.entry(at)).collect()
+    }
+
+    /// A serial order of the history: every finished operation once, each process's own in their order, each answered as one memory does.
+    pub fn serial_order(&mut self) -> Result<Vec<OpId>, Refused> {
+        self.arrange()?;
+        Ok((0..self.look(10, 0) as u32)
+            .map(|at| OpId { process: self.look(11, at) as u8, number: self.look(12, at) as u32 })
+            .collect())
+    }
+
+    fn entry(&mut self, place: u32) -> Entry {
+        let at = self.look(2, place) as u32;
+        let id = OpId { process: self.look(3, place) as u8, number: self.look(4, place) as u32 };
+        let (register, value) = (self.look(6, place) as u16, self.look(7, place));
+        match self.look(5, place) {
+            0 => Entry::Called { at, id, op: Op::Read { register } },
+            1 => Entry::Called { at, id, op: Op::Write { register, value } },
+            2 => Entry::Called { at, id, op: Op::Swap { register, value } },
+            3 => Entry::Answered { at, id, answer: Answer::Done },
+            _ => Entry::Answered { at, id, answer: Answer::Value(value) },
+        }
+    }
+
+    fn arrange(&mut self) -> Result<(), Refused> {
+        // SAFETY: as in `step`.
+        match unsafe { foreign::tellwydar_world_arrange(self.handle.as_ptr()) } {
+            0 => Ok(()),
+            code => Err(refused(code)),
+        }
+    }
+
+    #[inline]
+    fn look(&mut self, what: u32, at: u32) -> u64 {
+        // SAFETY: as in `step`.
+        unsafe { foreign::tellwydar_world_look(self.handle.as_ptr(), what, at) }
+    }
+}
+
+impl<F: RealTime> World<F> {
+    /// A linearization of the history: each operation with a point between its call and its answer.
+    pub fn points(&mut self) -> Result<Vec<Point>, Refused> {
+        self.arrange()?;
+        Ok((0..self.look(13, 0) as u32)
+            .map(|at| Point {
+                id: OpId { process: self.look(14, at) as u8, number: self.look(15, at) as u32 },
+                at: self.look(16, at) as u32,
+            })
+            .collect())
+    }
+}
+
+impl<F: Front> Drop for World<F> {
+    fn drop(&mut self) {
+        // SAFETY: nothing uses the handle later. `close` gives back what it holds, and its own block is of `malloc`.
+        unsafe {
+            foreign::tellwydar_world_close(self.handle.as_ptr());
+            foreign::free(self.handle.as_ptr());
+        }
+    }
+}

@@ -1,0 +1,172 @@
+//! What the library tells of the examples and of random runs.
+use std::fmt::Write;
+use std::fs;
+use tellwydar::*;
+
+fn example(name: &str) -> Vec<u8> {
+    fs::read(format!("{}/../../examples/{name}", env!("CARGO_MANIFEST_DIR"))).expect("an example")
+}
+
+#[test]
+fn texts() {
+    let told = replay(&example("stale-read.sched"));
+    assert_eq!((told.status, told.line.len()), (0, 0));
+    assert_eq!(check(&told.answer).answer, b"serial yes\n");
+    assert_eq!(check(&example("stale-read.report")).answer, b"serial yes\n");
+    assert_eq!(play(b"").line, b"missing front\n");
+    assert_eq!(play_fair(b"").status, 1);
+    assert_eq!(replay(b"").line, b"line 1: end\n");
+}
+
+const WRITE: OpId = OpId { process: 0, number: 0 };
+const READ: OpId = OpId { process: 1, number: 0 };
+
+/// A write that is done, and behind it a read of another process that saw nothing of it.
+const STALE: [Entry; 4] = [
+    Entry::Called { at: 0, id: WRITE, op: Op::Write { register: 0, value: 5 } },
+    Entry::Answered { at: 4, id: WRITE, answer: Answer::Done },
+    Entry::Called { at: 5, id: READ, op: Op::Read { register: 0 } },
+    Entry::Answered { at: 5, id: READ, answer: Answer::Value(0) },
+];
+
+#[test]
+fn verdicts() {
+    let serial = |order: &[OpId]| check_serial(3, 1, &STALE, order);
+    assert_eq!(serial(&[READ, WRITE]), Ok(()));
+    assert_eq!(serial(&[WRITE, READ]), Err(Fault::Answer { place: 1 }));
+    assert_eq!(serial(&[READ]), Err(Fault::Missing));
+    assert_eq!(serial(&[READ, WRITE, WRITE]), Err(Fault::Twice));
+    let points = |at: [u32; 2], ids: [OpId; 2]| check_points(3, 1, &STALE, &[Point { id: ids[0], at: at[0] }, Point { id: ids[1], at: at[1] }]);
+    assert_eq!(points([5, 4], [READ, WRITE]), Err(Fault::Falling { place: 1 }));
+    assert_eq!(points([4, 4], [READ, WRITE]), Err(Fault::Outside { place: 0 }));
+    assert_eq!(points([4, 5], [WRITE, READ]), Err(Fault::Answer { place: 1 }));
+    assert_eq!(check_serial(1, 1, &STALE, &[]), Err(Fault::OutOfPlace { place: 2 }));
+    assert_eq!(check_serial(65, 1, &[], &[]), Err(Fault::NoShape));
+}
+
+struct Words(u64);
+
+impl Words {
+    /// Marsaglia's xorshift of 64 bits.
+    fn next(&mut self) -> u64 {
+        self.0 ^= self.0 << 13;
+        self.0 ^= self.0 >> 7;
+        self.0 ^= self.0 << 17;
+        self.0
+    }
+
+    fn below(&mut self, end: u64) -> u64 {
+        self.next() % end
+    }
+
+    fn event(&mut self, processes: u8, seen: u64) -> Event {
+        let process = self.below(u64::from(processes) + 1) as u8;
+        let register = self.below(5) as u16;
+        match self.below(12) {
+            0 => Event::Call { process, op: Op::Read { register } },
+            1 => Event::Call { process, op: Op::Write { register, value: self.next() } },
+            2 => Event::Call { process, op: Op::Swap { register, value: self.next() } },
+            3 => Event::Tick { process },
+            _ => Event::Take { from: self.below(u64::from(processes)) as u8, to: process, number: self.below(seen / 4 + 2) as u32 },
+        }
+    }
+}
+
+fn op_text(op: Op) -> String {
+    let name = |register: u16| ["a", "b", "c", "d"][usize::from(register)];
+    match op {
+        Op::Read { register } => format!("read {}", name(register)),
+        Op::Write { register, value } => format!("write {} {value}", name(register)),
+        Op::Swap { register, value } => format!("swap {} {value}", name(register)),
+    }
+}
+
+fn schedule(front: &str, processes: u8, events: &[Event]) -> String {
+    let mut text = format!("processes {processes}\nregisters a b c d\nfront {front}\n");
+    for event in events {
+        match *event {
+            Event::Call { process, op } => writeln!(text, "call {process} {}", op_text(op)),
+            Event::Take { from, to, number } => writeln!(text, "take {from} {to} {number}"),
+            Event::Tick { process } => writeln!(text, "tick {process}"),
+        }
+        .expect("room");
+    }
+    text
+}
+
+/// The lines of a report behind its names.
+fn told(history: &[Entry], order: &[OpId], points: Option<&[Point]>) -> String {
+    let mut text = format!("history {}\n", history.len());
+    for entry in history {
+        let (at, id, what) = match *entry {
+            Entry::Called { at, id, op } => (at, id, format!("call    {}", op_text(op))),
+            Entry::Answered { at, id, answer: Answer::Done } => (at, id, "answer  done".to_string()),
+            Entry::Answered { at, id, answer: Answer::Value(value) } => (at, id, format!("answer  value {value}")),
+        };
+        writeln!(text, "{at:>8}  p{:<3}  #{:<6}  {what}", id.process, id.number).expect("room");
+    }
+    writeln!(text, "order {}", order.len()).expect("room");
+    for id in order {
+        writeln!(text, "p{} #{}", id.process, id.number).expect("room");
+    }
+    if let Some(points) = points {
+        writeln!(text, "points {}", points.len()).expect("room");
+        for point in points {
+            writeln!(text, "p{} #{} at {}", point.id.process, point.id.number, point.at).expect("room");
+        }
+    }
+    text + "end\n"
+}
+
+/// Random events, refused ones among them: those that were accepted, with the world.
+fn run<F: Front>(processes: u8, seed: u64) -> (World<F>, Vec<Event>) {
+    let mut world = World::<F>::new(processes.into(), 4).expect("a world");
+    let (mut words, mut events) = (Words(seed), Vec::new());
+    for _ in 0..400 {
+        let event = words.event(processes, events.len() as u64);
+        let before = world.events();
+        match world.step(event) {
+            Ok(_) => events.push(event),
+            Err(refused) => assert_ne!(refused, Refused::Failed),
+        }
+        assert_eq!(world.events() as usize, events.len());
+        assert!(world.events() - before <= 1);
+    }
+    (world, events)
+}
+
+/// What a world tells of itself is the report of a replay of the events that it accepted.
+fn agree<F: Front>(front: &str, points: impl Fn(&mut World<F>) -> Option<Vec<Point>>) {
+    for seed in 1..=112 {
+        for processes in [1, 2, 3] {
+            let (mut world, events) = run::<F>(processes, seed * 0x9E37_79B9_7F4A_7C15);
+            let report = replay(schedule(front, processes, &events).as_bytes());
+            assert_eq!((report.status, report.line.len()), (0, 0));
+            let (history, order, points) = (world.history(), world.serial_order().expect("memory"), points(&mut world));
+            let text = String::from_utf8(report.answer).expect("text");
+            let lines = &text[text.find("history ").expect("a history")..];
+            assert_eq!(lines, told(&history, &order, points.as_deref()));
+            assert_eq!(check_serial(processes.into(), 4, &history, &order), Ok(()));
+            if let Some(points) = points {
+                assert_eq!(check_points(processes.into(), 4, &history, &points), Ok(()));
+            }
+        }
+    }
+}
+
+#[test]
+fn random_runs_are_those_of_replays() {
+    agree::<Linear>("linear", |world| Some(world.points().expect("memory")));
+    agree::<LocalRead>("local-read", |_| None);
+    agree::<LocalWrite>("local-write", |_| None);
+}
+
+#[test]
+fn refusals() {
+    assert_eq!(World::<Linear>::new(0, 1).err(), Some(Refused::NoShape));
+    let mut world = World::<LocalWrite>::new(1, 1).expect("a world");
+    assert_eq!(world.step(Event::Call { process: 0, op: Op::Read { register: 1 } }), Err(Refused::NoRegister));
+    assert_eq!(world.step(Event::Tick { process: 1 }), Err(Refused::NoProcess));
+    assert_eq!(world.step(Event::Take { from: 0, to: 0, number: 0 }), Err(Refused::NoFrame));
+    assert_eq!(world.events(), 0);
+}

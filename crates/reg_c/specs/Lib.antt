@@ -1,0 +1,5 @@
+pub mod Texts
+pub mod Rows
+pub mod Verdicts
+pub mod Events
+pub mod Worlds

@@ -1,0 +1,91 @@
+//! Worlds that a caller holds by a pointer.
+ghost use Rattle.std.specs.Prelude.{◌≡◌, None, vec_capacity};
+ghost use Rattle.std.specs.Borrow.{full_share, sem};
+ghost use Rattle.std.specs.Ptr.{lies_at};
+ghost use Rattle.reg_c.specs.declared.holding.Held.{Held};
+ghost use Rattle.reg_c.specs.declared.holding.Kept.{Kept};
+ghost use Rattle.reg_c.specs.contracts.holding.Held.{the_row};
+ghost use Rattle.reg_c.specs.Events.{event_of};
+ghost use Rattle.reg_c.specs.Worlds.{HasOrders, Steps, number_of};
+
+use crate::holding::{Held, arrange, close, look, open, step};
+use std::alloc::Global;
+
+/// The pointer as one to bytes: what it points to is not for C to look into.
+fn opaque(held: *mut Held) -> *mut u8
+    ensures { result ≡ held }
+{
+    held as *mut u8
+}
+
+/// Makes a world in which nothing happened yet. Where the result is 0 there is one behind the handle.
+#[unsafe(no_mangle)]
+pub extern "C" fn tellwydar_world_new(
+    alloc: Global,
+    front: u32,
+    processes: u32,
+    registers: u32,
+    handle: &mut *mut u8,
+) -> u32 {
+    match open(alloc, front, processes, registers) {
+        Ok(held) => {
+            *handle = opaque(Box::into_raw(held));
+            0
+        }
+        Err(code) => code,
+    }
+}
+
+/// Makes the event that these numbers say, in the world behind the handle.
+#[unsafe(no_mangle)]
+pub unsafe extern "C" fn tellwydar_world_step(
+    handle: *mut u8,
+    kind: u32,
+    process: u8,
+    number: u32,
+    from: u8,
+    value: u64,
+) -> u32
+    ghost held: { Held }
+    requires* { sem 𝓛 (lies_at the_row full_share handle held) }
+    ensures* { ∃ₛ (λ (after : Held). sem 𝓛 (lies_at the_row full_share handle after) ∗ ⌜ Steps (event_of kind process number from value) held after result ⌝) }
+{
+    step(
+        &mut *(handle as *mut Held),
+        kind,
+        process,
+        number,
+        from,
+        value,
+    )
+}
+
+/// Asks the world behind the handle for its serial order and, where its front end has one, its point order.
+#[unsafe(no_mangle)]
+pub unsafe extern "C" fn tellwydar_world_arrange(handle: *mut u8) -> u32
+    ghost held: { Held }
+    requires* { sem 𝓛 (lies_at the_row full_share handle held) }
+    ensures* { ∃ₛ (λ (after : Held). sem 𝓛 (lies_at the_row full_share handle after) ∗ ⌜ (after.world ≡ held.world) × (after.reply ≡ held.reply) × (result ≡ 0 → HasOrders after.world after.order.items after.points.items) ⌝) }
+{
+    arrange(&mut *(handle as *mut Held))
+}
+
+/// One number of what the handle holds, as the number `what` says.
+#[unsafe(no_mangle)]
+pub unsafe extern "C" fn tellwydar_world_look(handle: *mut u8, what: u32, at: u32) -> u64
+    ghost held: { Held }
+    requires* { sem 𝓛 (lies_at the_row full_share handle held) }
+    ensures* { ∃ₛ (λ (after : Held). sem 𝓛 (lies_at the_row full_share handle after) ∗ ⌜ (after ≡ held) × (result ≡ number_of held what at) ⌝) }
+{
+    look(&mut *(handle as *mut Held), what, at)
+}
+
+/// Gives back the world behind the handle. The handle's own block is of `malloc`, and the caller's to free.
+#[unsafe(no_mangle)]
+pub unsafe extern "C" fn tellwydar_world_close(handle: *mut u8)
+    ghost held: { Held }
+    requires* { sem 𝓛 (lies_at the_row full_share handle held) }
+    ensures* { ∃ₛ (λ (after : Held). sem 𝓛 (lies_at the_row full_share handle after) ∗ ⌜ (after.world ≡ Kept.Closed) × (after.reply ≡ None) × (vec_capacity after.order ≡ 0) × (vec_capacity after.points ≡ 0) ⌝) }
+{
+    close(&mut *(handle as *mut Held))
+}
