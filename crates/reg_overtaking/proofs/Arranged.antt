@@ -1,19 +1,17 @@
 -- The search overlooks no arrangement.
-use Rattle.std.proofs.Common.{◌≡◌, ℕ, zero, suc, ◌<◌, ◌⊎◌, inl, inr, Bool, true, false, not, List, [], ◌∷◌, map, Option, Some, None, refl, sym, ap, ◌∙◌, subst, arith}
+use Rattle.std.proofs.Common.{◌≡◌, ℕ, zero, suc, ◌<◌, inl, inr, Bool, true, false, not, List, [], ◌∷◌, map, Option, Some, None, refl, sym, ap, ◌∙◌, subst, arith}
 use Rattle.std.specs.Prelude.{◌&&◌, ◌||◌, ◌==◌, nat_lt, cond}
 use Rattle.std.specs.List.{list_any, list_all}
-use Rattle.std.proofs.lemmas.Bool.{cases_Bool, eqb-true, eq-eqb, ltb-true, and_parts, and_from, or_cases, not-true, false≢true}
+use Rattle.std.proofs.lemmas.Bool.{eqb-true, eq-eqb, ltb-true, and_parts, and_from, not-true, false≢true}
 use Rattle.std.proofs.lemmas.Option.{same_Some}
 use Rattle.reg_base.specs.declared.memory.OpId.{OpId}
-use Rattle.reg_base.specs.declared.memory.Op.{Op}
 use Rattle.reg_base.specs.declared.memory.Answer.{Answer}
 use Rattle.reg_base.specs.declared.memory.Answer.TheVariants.{Done, Value}
 use Rattle.reg_base.specs.Memory.{Memory, answer_of, after}
 use Rattle.reg_base.specs.Order.{In}
 use Rattle.reg_orders.specs.History.{IsAt}
 use Rattle.reg_orders.specs.Orders.{IsDistinct, KeepsOwnOrder}
-use Rattle.reg_orders.proofs.Places.{IsAt-map, at_map}
-use Rattle.reg_world.proofs.lists.Bodies.{place_in}
+use Rattle.reg_orders.proofs.Places.{IsAt-map}
 use Rattle.reg_world.proofs.lists.Members.{in_at}
 use Rattle.reg_world.proofs.lists.Rises.{in_kept, kept_in}
 use Rattle.reg_world.proofs.one_memory.Replicas.{any_found}

@@ -1,5 +1,5 @@
 -- The operations of a history, each with its answer; a serial order of the history arranges them.
-use Rattle.std.proofs.Common.{◌≡◌, ℕ, zero, suc, ◌<◌, Bool, true, false, List, [], ◌∷◌, map, take, replicate, Option, Some, None, refl, sym, ap, ◌∙◌, subst, inl, inr, arith}
+use Rattle.std.proofs.Common.{◌≡◌, ℕ, zero, suc, true, List, [], ◌∷◌, take, replicate, Option, Some, None, refl, sym, ap, ◌∙◌, subst, inl, inr}
 use Rattle.std.specs.Prelude.{cond}
 use Rattle.std.specs.List.{AllZip}
 use Rattle.std.proofs.lemmas.Bool.{cond_both, false≢true}
@@ -11,7 +11,7 @@ use Rattle.reg_base.specs.Memory.{Memory, answer_of, after, memory_after}
 use Rattle.reg_base.specs.Order.{In}
 use Rattle.reg_orders.specs.declared.entries.Entry.{Entry}
 use Rattle.reg_orders.specs.declared.entries.Entry.TheVariants.{Called, Answered}
-use Rattle.reg_orders.specs.History.{IsAt, IsCalled, IsAnswered, IsFinished, IsHistory}
+use Rattle.reg_orders.specs.History.{IsAt, IsCalled, IsAnswered, IsHistory}
 use Rattle.reg_orders.specs.Orders.{IsDistinct, KeepsOwnOrder, IsSerial}
 use Rattle.reg_orders.proofs.Places.{at_map}
 use Rattle.reg_orders.proofs.Histories.{call_is}

@@ -1,5 +1,5 @@
 -- Short runs, each in one register, by their events and their histories. Those of examples/ of the same names.
-use Rattle.std.specs.Prelude.{ℕ, List, [], ◌∷◌}
+use Rattle.std.specs.Prelude.{List, [], ◌∷◌}
 use Rattle.reg_base.specs.declared.memory.Op.TheVariants.{Read, Write, Swap}
 use Rattle.reg_base.specs.declared.memory.Answer.TheVariants.{Done, Value}
 use Rattle.reg_orders.specs.declared.entries.Entry.{Entry}
