@@ -14,6 +14,7 @@ use Rattle.reg_orders.specs.Log.{Log}
 use Rattle.reg_history.specs.Reports.{Contents}
 use Rattle.reg_world.specs.World.{run_of}
 use Rattle.reg_world.specs.Keys.{IsWitness}
+use Rattle.reg_world.specs.RealTime.{KeepsUpdates}
 use Rattle.reg_world.specs.Worlds.{Made, run_in, after_events}
 use Rattle.reg_schedules.specs.Schedules.{Plan}
 use Rattle.reg_messages.specs.declared.faults.Fault.{Fault}
@@ -37,13 +38,17 @@ pub serial_given : (shown given : Log) (w : Made) (ids : List OpId) → shown.sh
 serial_given shown given w ids s h t k serial =
     subst (λ (l : List Entry). IsSerial given.shape.registers l ids) (h ∙ sym k) (subst (λ (x : Extent). IsSerial x.registers shown.entries ids) (s ∙ sym t) serial)
 
+-- and so for its real time
+pub time_given : (start : Op → ℕ → Start) (shown given : Log) (w : Made) (ids : List OpId) → shown.entries ≡ w.history → given.entries ≡ w.history → KeepsUpdates start shown.entries ids → KeepsUpdates start given.entries ids
+time_given start shown given w ids h k keeps = subst (λ (l : List Entry). KeepsUpdates start l ids) (h ∙ sym k) keeps
+
 -- and so for points
 pub points_given : (given : Log) (w : Made) (points : Option (List Point)) → given.shape ≡ record { processes = w.processes; registers = w.registers } → given.entries ≡ w.history → PointsStand w.registers w.history points → PointsStand given.shape.registers given.entries points
 points_given given w points t k stand =
     subst (λ (l : List Entry). PointsStand given.shape.registers l points) (sym k) (subst (λ (x : Extent). PointsStand x.registers w.history points) (sym t) stand)
 
-one_shows : (start : Op → ℕ → Start) (front : Front) (names : List (List ℕ)) (w : Made) (history : Log) (ids : List OpId) (points : Option (List Point)) → Told start w history ids → IsOrdered (parts_of front names history ids points) → Shows start (plan_in front names w) (parts_of front names history ids points)
-one_shows start front names w history ids points told ordered = record {
+one_shows : (start : Op → ℕ → Start) (front : Front) (names : List (List ℕ)) (w : Made) (history : Log) (ids : List OpId) (points : Option (List Point)) → Told start w history ids → IsOrdered (parts_of front names history ids points) → KeepsUpdates start history.entries ids → Shows start (plan_in front names w) (parts_of front names history ids points)
+one_shows start front names w history ids points told ordered keeps = record {
   accepted = told.accepted;
   front = refl;
   shape = told.shape;
@@ -51,13 +56,14 @@ one_shows start front names w history ids points told ordered = record {
   entries = told.entries;
   order = told.order;
   ordered = ordered;
+  real_time = keeps;
 }
 
-pub shows : {E : Type 0} (start : Op → ℕ → Start) (front : Front) (names : List (List ℕ)) (w : Made) (history : Log) (ids : List OpId) (points : Option (List Point)) (report : Result Contents E) → Told start w history ids → IsOrdered (parts_of front names history ids points)
+pub shows : {E : Type 0} (start : Op → ℕ → Start) (front : Front) (names : List (List ℕ)) (w : Made) (history : Log) (ids : List OpId) (points : Option (List Point)) (report : Result Contents E) → Told start w history ids → IsOrdered (parts_of front names history ids points) → KeepsUpdates start history.entries ids
     → IfOk report (λ r. r ≡ parts_of front names history ids points) → IfOk report (λ r. Shows start (plan_in front names w) r)
-shows start front names w history ids points (Ok r) told ordered made =
-    subst (λ (x : Contents). Shows start (plan_in front names w) x) (sym made) (one_shows start front names w history ids points told ordered)
-shows start front names w history ids points (Err e) told ordered made = tt
+shows start front names w history ids points (Ok r) told ordered keeps made =
+    subst (λ (x : Contents). Shows start (plan_in front names w) x) (sym made) (one_shows start front names w history ids points told ordered keeps)
+shows start front names w history ids points (Err e) told ordered keeps made = tt
 
 -- its points are those of the parts
 pub same_points : {E : Type 0} (parts : Contents) (report : Result Contents E) → IfOk report (λ r. r ≡ parts) → IfOk report (λ r. r.points ≡ parts.points)

@@ -11,6 +11,7 @@ use Rattle.reg_orders.specs.declared.entries.Point.{Point}
 use Rattle.reg_orders.specs.History.{IsAt}
 use Rattle.reg_orders.specs.Orders.{IsSerial, IsPointOrder}
 use Rattle.reg_history.specs.Reports.{Contents, report_text}
+use Rattle.reg_world.specs.RealTime.{KeepsUpdates}
 use Rattle.reg_world.specs.World.{World, run_of, whole, world_fault}
 use Rattle.reg_world.specs.declared.events.Event.{Event}
 use Rattle.reg_world.specs.declared.faults.WorldFault.{WorldFault}
@@ -50,7 +51,8 @@ pub record IsOrdered (r : Contents) : Type 0 where
   pub points : PointsStand r.shape.registers r.entries r.points
 
 -- All events of a plan are accepted, and this is the report of the run: its history and its witness, under the plan's front
--- end and names.
+-- end and names. In that order what may change the memory stands behind what was answered before its call, but where the front
+-- end may answer that before its delivery.
 pub record Shows (start : Op → ℕ → Start) (p : Plan) (r : Contents) : Type 0 where
   pub accepted : (run_by start p).accepted ≡ p.events
   pub front : r.front ≡ front_name p.front
@@ -59,6 +61,7 @@ pub record Shows (start : Op → ℕ → Start) (p : Plan) (r : Contents) : Type
   pub entries : r.entries ≡ (run_by start p).history
   pub order : IsWitness (run_of p.shape.registers (run_by start p)) r.order
   pub ordered : IsOrdered r
+  pub real_time : KeepsUpdates start r.entries r.order
 
 -- with the points of the run
 abbrev pub ShowsPoints : (Op → ℕ → Start) → Plan → Option (List Point) → Type 0

@@ -14,3 +14,6 @@ pub mod Promised
 pub mod Moments
 pub mod Times
 pub mod Points
+pub mod Earlier
+pub mod OwnTime
+pub mod Waiting

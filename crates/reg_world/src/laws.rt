@@ -3,9 +3,13 @@
 ghost use Rattle.std.specs.Prelude.{ℕ, is_some, not, ◌≡◌, ◌<◌, ◌≤◌, ◌^◌, ◌++◌, List, [], ◌∷◌, length};
 ghost use Rattle.reg_base.specs.declared.limits.TheConstants.{MOST_EVENTS};
 ghost use Rattle.reg_base.specs.declared.memory.Op.{Op};
+ghost use Rattle.reg_base.specs.declared.memory.Op.TheVariants.{Read, Swap};
 ghost use Rattle.reg_base.specs.declared.memory.OpId.{OpId};
 ghost use Rattle.reg_front.specs.declared.starts.Start.{Start};
+ghost use Rattle.reg_base.specs.Memory.{IsBlind};
 ghost use Rattle.reg_front.specs.Fronts.{KeepsLaws, CastsAll};
+ghost use Rattle.reg_front.specs.Table.{linear, local_read};
+ghost use Rattle.reg_orders.specs.declared.entries.Entry.{Entry};
 ghost use Rattle.reg_orders.specs.declared.entries.Point.{Point};
 ghost use Rattle.reg_orders.specs.History.{IsHistory};
 ghost use Rattle.reg_orders.specs.Orders.{IsSerial, IsPointOrder};
@@ -13,11 +17,36 @@ ghost use Rattle.reg_world.specs.declared.events.Event.{Event};
 ghost use Rattle.reg_world.specs.Keys.{IsWitness, ArePoints};
 ghost use Rattle.reg_world.specs.Laws.{DeliveriesAgree, DeliveriesRise, DeliveriesMade, UndeliveredAbove, NoRefusal, AllAcknowledged, IsQuiescent};
 ghost use Rattle.reg_world.specs.Promises.{OrderIsLongest, OrderIsRight, FirstsRight, CastsRight, RepliesRight, ReadsRight};
+ghost use Rattle.reg_world.specs.RealTime.{WaitsForDelivery, AnswersNothingFirst, KeepsUpdates, KeepsAllUpdates, KeepsOwnTime, KeepsRealTime};
 ghost use Rattle.reg_world.specs.World.{World, run_of, move_of, moved, world_fault, whole};
 
 /// The operations of a run that have a key, by rising key, are a serial order of its history.
 pub fn witness_is_serial()
     ensures { (start : Op → ℕ → Start) (n registers : ℕ) (events : List Event) (ids : List OpId) → KeepsLaws start → IsWitness (run_of registers (whole start n registers events)) ids → IsSerial registers (whole start n registers events).history ids }
+{}
+
+/// In that order an operation that may change the memory stands behind each that was answered before its call, but where
+/// the front end may answer that one before its delivery. Where it answers none so, behind each; and where every operation
+/// is cast, each operation stands behind those that were answered before its call.
+pub fn witness_keeps_updates()
+    ensures updates { (start : Op → ℕ → Start) (n registers : ℕ) (events : List Event) (ids : List OpId) → KeepsLaws start → IsWitness (run_of registers (whole start n registers events)) ids → KeepsUpdates start (whole start n registers events).history ids }
+    ensures all_updates { (start : Op → ℕ → Start) (n registers : ℕ) (events : List Event) (ids : List OpId) → KeepsLaws start → AnswersNothingFirst start → IsWitness (run_of registers (whole start n registers events)) ids → KeepsAllUpdates (whole start n registers events).history ids }
+    ensures real_time { (start : Op → ℕ → Start) (n registers : ℕ) (events : List Event) (ids : List OpId) → CastsAll start → IsWitness (run_of registers (whole start n registers events)) ids → KeepsRealTime (whole start n registers events).history ids }
+{}
+
+/// In a serial order of a history each operation stands behind those of its own process that were answered before its call.
+pub fn serial_order_keeps_own_time()
+    ensures { (n registers : ℕ) (h : List Entry) (ids : List OpId) → IsHistory n registers h → IsSerial registers h ids → KeepsOwnTime h ids }
+{}
+
+/// What a front end never answers before its delivery: whatever the laws hold of it, an operation whose answer tells of the
+/// memory, as a read or a swap; and two of the three named ones nothing at all.
+pub fn what_waits()
+    ensures tells { (start : Op → ℕ → Start) → KeepsLaws start → (op : Op) → ¬ (IsBlind op) → WaitsForDelivery start op }
+    ensures read { (start : Op → ℕ → Start) → KeepsLaws start → (register : ℕ) → WaitsForDelivery start (Read register) }
+    ensures swap { (start : Op → ℕ → Start) → KeepsLaws start → (register value : ℕ) → WaitsForDelivery start (Swap register value) }
+    ensures linear { AnswersNothingFirst linear }
+    ensures local_read { AnswersNothingFirst local_read }
 {}
 
 /// Where every operation is cast, the first deliveries of the kept casts are a point order of the history.
@@ -49,7 +78,7 @@ pub fn one_order()
 /// the finished operations that made no cast. Where nothing is pending, all is delivered, no process is busy and all
 /// copies are equal.
 pub fn one_memory()
-    ensures replies { (start : Op → ℕ → Start) (n registers : ℕ) (events : List Event) → KeepsLaws start → RepliesRight start registers (whole start n registers events) }
+    ensures replies { (start : Op → ℕ → Start) (n registers : ℕ) (events : List Event) → KeepsLaws start → RepliesRight start n registers (whole start n registers events) }
     ensures reads { (start : Op → ℕ → Start) (n registers : ℕ) (events : List Event) → KeepsLaws start → ReadsRight (whole start n registers events) }
     ensures quiescent { (start : Op → ℕ → Start) (n registers : ℕ) (events : List Event) → KeepsLaws start → AllAcknowledged n (whole start n registers events).nodes → IsQuiescent n (whole start n registers events).nodes }
 {}

@@ -9,6 +9,7 @@ ghost use Rattle.reg_world.specs.Histories.{Grows, Makes};
 ghost use Rattle.reg_world.specs.Keys.{IsWitness, ArePoints};
 ghost use Rattle.reg_world.specs.Laws.{DeliveriesAgree, DeliveriesRise, DeliveriesMade, UndeliveredAbove, AllAcknowledged, IsQuiescent};
 ghost use Rattle.reg_world.specs.Promises.{OrderIsLongest, OrderIsRight, FirstsRight, RepliesRight, ReadsRight};
+ghost use Rattle.reg_world.specs.RealTime.{AnswersNothingFirst, KeepsUpdates, KeepsAllUpdates};
 ghost use Rattle.reg_world.specs.World.{run_of, whole};
 ghost use Rattle.reg_world.specs.Stations.{listed};
 ghost use Rattle.reg_world.specs.Worlds.{Made, run_in, Accepts, Refuses, reply_in, new_world, after_events, RunRefuses, IsProcess, IsWire, IsNoWire, HasFrames, IsFrameAt};
@@ -242,7 +243,7 @@ impl<F: FrontEnd, A: Allocator + Copy, W: WireStore<A>> World<F, A, W> {
         ensures value { result.now.entries ≡ self.now.history }
         ensures made { Makes self.now.accepted self.now.history }
         ensures entries { result.now.entries ≡ (run_in F.start self.now).history }
-        ensures replies { RepliesRight F.start self.now.registers (run_in F.start self.now) }
+        ensures replies { RepliesRight F.start self.now.processes self.now.registers (run_in F.start self.now) }
     {
         self.book.history()
     }
@@ -325,10 +326,13 @@ impl<F: FrontEnd, A: Allocator + Copy, W: WireStore<A>> World<F, A, W> {
 
     /// The operations that are finished, and the updates that some process has delivered, in one order: the reads from a
     /// copy and the casts by place, and behind them the finished casts that were delivered nowhere. It is a serial order of
-    /// the history (Lamport 1979).
+    /// the history (Lamport 1979), in which an operation that may change the memory stands behind each that was answered before
+    /// its call, but where the front end may answer that one before its delivery; so behind each, where it answers none so.
     pub fn witness(&self) -> Result<Vec<OpId, A>, AllocError>
         ensures keyed { IfOk result (λ ids. IsWitness (run_of self.now.registers (run_in F.start self.now)) ids.items) }
         ensures serial { IfOk result (λ ids. IsSerial self.now.registers (run_in F.start self.now).history ids.items) }
+        ensures real_time { IfOk result (λ ids. KeepsUpdates F.start (run_in F.start self.now).history ids.items) }
+        ensures nothing_first { AnswersNothingFirst F.start → IfOk result (λ ids. KeepsAllUpdates (run_in F.start self.now).history ids.items) }
     {
         witness_of(
             self.alloc,
@@ -338,13 +342,15 @@ impl<F: FrontEnd, A: Allocator + Copy, W: WireStore<A>> World<F, A, W> {
         )
     }
 
-    /// The history, and the operations of `witness`: a serial order of it (Lamport 1979). To believe it takes the definitions
-    /// of histories and their orders alone, and none of a run.
+    /// The history, and the operations of `witness`: a serial order of it (Lamport 1979), with the same real time. To believe
+    /// it takes the definitions of histories and their orders alone, and none of a run.
     pub fn serial_order(&self) -> Result<(&History<A>, Vec<OpId, A>), AllocError>
         ensures shape { IfOk result (λ r. r.0.now.shape ≡ record { processes = self.now.processes; registers = self.now.registers }) }
         ensures value { IfOk result (λ r. r.0.now.entries ≡ self.now.history) }
         ensures history { IfOk result (λ r. IsHistory r.0.now.shape.processes r.0.now.shape.registers r.0.now.entries) }
         ensures serial { IfOk result (λ r. IsSerial r.0.now.shape.registers r.0.now.entries r.1.items) }
+        ensures real_time { IfOk result (λ r. KeepsUpdates F.start r.0.now.entries r.1.items) }
+        ensures nothing_first { AnswersNothingFirst F.start → IfOk result (λ r. KeepsAllUpdates r.0.now.entries r.1.items) }
         ensures keyed { IfOk result (λ r. IsWitness (run_of self.now.registers (run_in F.start self.now)) r.1.items) }
     {
         let ids = self.witness()?;

@@ -20,6 +20,8 @@ pub mod mixed;
 #[cfg(test)]
 mod mixed_runs;
 #[cfg(test)]
+mod overtaking;
+#[cfg(test)]
 mod owned;
 #[cfg(test)]
 mod play_reports;

@@ -1,6 +1,6 @@
 -- The frames of an event go to the ends of their wires.
-use Rattle.std.proofs.Common.{◌≡◌, ℕ, zero, suc, ◌+◌, ◌<◌, List, [], ◌∷◌, ◌++◌, map, length, drop, get_or, set, replicate, refl, sym, ap, ◌∙◌, inl, inr, arith, length-set, length-append}
-use Rattle.std.proofs.lemmas.List.{append_assoc, append-nil, drop_more, set_at, get_or_at}
+use Rattle.std.proofs.Common.{◌≡◌, ℕ, zero, suc, ◌<◌, List, [], ◌∷◌, ◌++◌, map, length, get_or, set, replicate, refl, sym, ap, ◌∙◌, inl, inr, arith, length-append}
+use Rattle.std.proofs.lemmas.List.{append_assoc, append-nil, set_at, get_or_at}
 use Rattle.reg_base.specs.Order.{In}
 use Rattle.reg_frames.specs.declared.bodies.Frame.{Frame}
 use Rattle.reg_process.specs.declared.outcomes.Put.{Put}

@@ -1,4 +1,4 @@
--- The accepted events make the same world; reads stand in order of their answers, and each first delivery has its event's number.
+-- Reads stand in order of their answers, and each first delivery has its event's number.
 use Rattle.std.proofs.Common.{◌≡◌, ℕ, ◌+◌, ◌-◌, ◌<◌, ◌≤◌, true, not, List, [], ◌∷◌, ◌++◌, length, map, take, Option, Some, None, refl, sym, ap, ◌∙◌, subst, inl, inr, arith, length-append}
 use Rattle.std.specs.Prelude.{◌==◌, ◌&&◌}
 use Rattle.std.specs.List.{list_any}
@@ -24,7 +24,7 @@ use Rattle.reg_world.specs.declared.order.First.{First}
 use Rattle.reg_world.specs.declared.order.CopyRead.{CopyRead}
 use Rattle.reg_world.specs.Nodes.{Node, unseen, after_step}
 use Rattle.reg_world.specs.Runs.{Cast}
-use Rattle.reg_world.specs.World.{World, Replied, op_id, calls_in, answers_in, casts_in, has_cast, reads_in, first_of, delivered_of, move_of, moved, happens, empty_world, whole}
+use Rattle.reg_world.specs.World.{World, Replied, op_id, calls_in, answers_in, casts_in, has_cast, reads_in, first_of, delivered_of, move_of, moved, whole}
 use Rattle.reg_world.specs.Promises.{OrderIsRight, FirstsRight, ReadsRight}
 use Rattle.reg_world.proofs.run.Traced.{Called as PastCall, Past, pasts_after, traced}
 use Rattle.reg_base.proofs.Lists.{in_left, in_right, in_filter}
@@ -37,21 +37,8 @@ use Rattle.reg_world.proofs.one_memory.Kept.{Kept, kept, kept_moved, call_of}
 use Rattle.reg_world.proofs.one_order.Allowed.{Allowed, allowed}
 use Rattle.reg_world.proofs.witness.Promised.{order_right}
 use Rattle.reg_world.proofs.witness.Premises.{V, J, G, no_cast}
-use Rattle.reg_world.proofs.run.Along.{move_is, run_parts, one_more}
-
-module _ (start : Op → ℕ → Start) (n registers : ℕ) where
-  -- a world that its accepted events make
-  abbrev IsAgain : World → Type 0
-  IsAgain w = whole start n registers w.accepted ≡ w
-
-  again_moved : (w : World) (e : Event) (m : Option (ℕ × Step)) → move_of n registers w e ≡ m → IsAgain w → IsAgain (moved start w e m)
-  again_moved w e None is h = h
-  again_moved w e (Some m) is h = run_parts start n registers w.accepted (e ∷ []) (empty_world n registers) ∙ (ap (λ z. happens start n registers z e) h ∙ ap (moved start w e) is)
-
-  pub again : (events : List Event) → IsAgain (whole start n registers events)
-  again =
-      from_end (λ es. IsAgain (whole start n registers es)) refl
-      (λ es e h. let w = whole start n registers es in subst IsAgain (sym (one_more start n registers es e)) (again_moved w e (move_of n registers w e) refl h))
+use Rattle.reg_world.proofs.run.Along.{move_is, one_more}
+use Rattle.reg_world.proofs.run.Begun.{again, again_moved}
 
 -- reads, in order of their answers
 abbrev InOrder : World → Type 0

@@ -17,7 +17,7 @@ use Rattle.reg_world.specs.declared.order.First.{First}
 use Rattle.reg_world.specs.Laws.{IsMade, NoRefusal, AllAcknowledged, IsQuiescent}
 use Rattle.reg_world.specs.NodeParts.{NothingPending}
 use Rattle.reg_world.specs.Runs.{memory_of}
-use Rattle.reg_world.specs.Promises.{OrderIsLongest, OrderIsRight, CastsRight, RepliesRight, AnswersFirst}
+use Rattle.reg_world.specs.Promises.{OrderIsLongest, OrderIsRight, CastsRight, RepliesRight, IsAnsweredFirst}
 use Rattle.reg_world.specs.World.{World, Replied, delivered_of, run_of}
 use Rattle.reg_world.proofs.run.Traced.{Called as PastCall, Trace, casts_of, cast_of}
 use Rattle.reg_world.proofs.one_order.Wholes.{whole_inv, order_is_longest}
@@ -113,7 +113,7 @@ module _ (start : Op → ℕ → Start) (n registers : ℕ) (laws : KeepsLaws st
         once = (ordered start n registers laws events).one_cast;
       }
 
-  pub replies_right : RepliesRight start registers w
+  pub replies_right : RepliesRight start n registers w
   replies_right = record {
     answered = λ y i.
         let r = j.replied y (at_in y w.replies i) in
@@ -140,10 +140,11 @@ module _ (start : Op → ℕ → Start) (n registers : ℕ) (laws : KeepsLaws st
         let one : u.0 ≡ x.0 = same_Some u.0 x.0 (sym u.1.1 ∙ asked.1) in
         let when : x.0.at ≡ at = sym (ap (λ (z : PastCall). z.at) one) ∙ u.3 in
         let slot : slice_get (v.pasts y.id.process).calls r.0.number ≡ Some x.0 = subst (λ m. slice_get (v.pasts y.id.process).calls m ≡ Some x.0) (sym r.1.2) asked.1 in
-        let s = all_seated start n registers events laws y.id.process r.1.0 r.0 x.0 c.stamp r.1.1 slot x.2 in
-        subst (λ (z : Reply). ((y.at ≡ at) × AnswersFirst start c.op) ⊎ ((f : First) × IsAt w.order z.place f × (f.id ≡ y.id))) r.3
+        let which : x.0.op ≡ op = sym (ap (λ (z : PastCall). z.op) one) ∙ u.2 in
+        let s = all_seated start n registers laws events y.id.process r.1.0 r.0 x.0 c.stamp r.1.1 slot x.2 in
+        subst (λ (z : Reply). ((y.at ≡ at) × IsAnsweredFirst start n registers w y.id at op) ⊎ ((f : First) × IsAt w.order z.place f × (f.id ≡ y.id))) r.3
         (elim s [
-          | inl here ↦ inl (sym r.2 ∙ (here.0 ∙ when), subst (AnswersFirst start) x.3 here.1)
+          | inl here ↦ inl (sym r.2 ∙ (here.0 ∙ when), subst (λ k. IsAnsweredFirst start n registers w y.id k op) when (subst (IsAnsweredFirst start n registers w y.id x.0.at) which here.1))
           | inr there ↦
               let L = (order_is_longest start n registers events).each y.id.process r.1.0 in
               let whole_at : slice_get (casts_of v.order) r.0.reply.place ≡ Some (cast_of c.stamp x.0.op) =

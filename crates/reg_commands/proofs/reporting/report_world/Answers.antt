@@ -1,7 +1,7 @@
 use Rattle.std.proofs.Common.{◌≡◌, ap, ◌∙◌, subst, option_map}
 use Rattle.reg_base.specs.Shape.{Extent}
 use Rattle.reg_world.specs.Worlds.{Made, run_in}
-use Rattle.reg_commands.proofs.Shown.{points_given, same_points, serial_given, shows}
+use Rattle.reg_commands.proofs.Shown.{points_given, same_points, serial_given, shows, time_given}
 use Rattle.reg_commands.proofs.reporting.report_world.Goals as goal
 
 pub report-requires-clause-names : goal.report-requires-clause-names
@@ -23,6 +23,7 @@ returns-clause-shows g c =
       serial = serial_given c.in-Ok.field-0-0.now c.into_history.result c.args.world c.in-Ok.order.items c.in-Ok.ensures.shape c.in-Ok.ensures.value c.into_history.ensures.shape c.into_history.ensures.value c.in-Ok.ensures.serial;
       points = points_given c.into_history.result c.args.world _ c.into_history.ensures.shape c.into_history.ensures.value c.requires.points;
     })
+    (time_given g.F.FrontEnd.start c.in-Ok.field-0-0.now c.into_history.result c.args.world c.in-Ok.order.items c.in-Ok.ensures.value c.into_history.ensures.value c.in-Ok.ensures.real_time)
     c.report.ensures.made
 
 pub returns-clause-points : goal.returns-clause-points

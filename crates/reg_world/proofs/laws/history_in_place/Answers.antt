@@ -1,5 +1,5 @@
 use Rattle.reg_world.proofs.witness.Promised.{in_place}
-use Rattle.reg_world.proofs.one_memory.Arrivals.{again}
+use Rattle.reg_world.proofs.run.Begun.{again}
 use Rattle.reg_world.proofs.run.Along.{few_events}
 use Rattle.reg_world.proofs.laws.history_in_place.Goals as goal
 

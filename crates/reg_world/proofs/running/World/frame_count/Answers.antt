@@ -1,5 +1,4 @@
-use Rattle.std.proofs.Common.{◌≡◌, ◌∙◌, List, [], length, get_or, refl, ap, subst, inl, inr, arith}
-use Rattle.reg_frames.specs.declared.bodies.Frame.{Frame}
+use Rattle.std.proofs.Common.{◌≡◌, ◌∙◌, List, [], length, get_or, refl, ap, subst, inl, arith}
 use Rattle.reg_world.specs.Stations.{Standing}
 use Rattle.reg_world.specs.Worlds.{Made, IsWire}
 use Rattle.reg_world.proofs.code.Answering.{wire_told}

@@ -1,0 +1,2 @@
+pub mod Overtaking
+pub mod Runs

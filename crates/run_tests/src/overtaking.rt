@@ -1,0 +1,285 @@
+//! Runs in which an operation stands before one that was answered before its call: the schedules of `examples`, and what the
+//! checker says of the order that the clock would give.
+use crate::checks::{answers_joined, demand};
+use crate::replay_rows::Row;
+use reg_commands::Command;
+
+/// A run with its report, the lines of its order, those of the order in which the operations were called, and what is said
+/// of that one.
+struct Overtaking {
+    run: Row,
+    order: &'static str,
+    in_time: &'static str,
+    refusal: &'static str,
+}
+
+const RUNS: [Overtaking; 6] = [
+    // A swap is answered, and a later read of another process misses it.
+    Overtaking {
+        run: Row {
+            schedule: "processes 3
+registers x
+front local-read
+call 0 swap x 5
+take 0 1 0
+take 0 2 0
+take 1 0 1
+take 2 0 1
+call 1 read x
+",
+            report: "awreg report 2
+front local-read
+processes 3
+registers 1
+x
+history 4
+       0  p0    #0       call    swap x 5
+       4  p0    #0       answer  value 0
+       5  p1    #0       call    read x
+       5  p1    #0       answer  value 0
+order 2
+p1 #0
+p0 #0
+end
+",
+        },
+        order: "order 2
+p1 #0
+p0 #0
+end
+",
+        in_time: "order 2
+p0 #0
+p1 #0
+end
+",
+        refusal: "serial no: answer at 1\n",
+    },
+    // A read of the new value, and then one of the old value.
+    Overtaking {
+        run: Row {
+            schedule: "processes 3
+registers x
+front local-read
+call 0 write x 5
+take 0 2 0
+take 2 1 0
+take 0 1 0
+call 1 read x
+call 2 read x
+",
+            report: "awreg report 2
+front local-read
+processes 3
+registers 1
+x
+history 5
+       0  p0    #0       call    write x 5
+       4  p1    #0       call    read x
+       4  p1    #0       answer  value 5
+       5  p2    #0       call    read x
+       5  p2    #0       answer  value 0
+order 3
+p2 #0
+p0 #0
+p1 #0
+end
+",
+        },
+        order: "order 3
+p2 #0
+p0 #0
+p1 #0
+end
+",
+        in_time: "order 3
+p0 #0
+p1 #0
+p2 #0
+end
+",
+        refusal: "serial no: answer at 2\n",
+    },
+    // The same with a write that was answered at once.
+    Overtaking {
+        run: Row {
+            schedule: "processes 3
+registers x
+front local-write
+call 0 write x 5
+take 0 2 0
+take 2 1 0
+take 0 1 0
+call 1 read x
+call 2 read x
+",
+            report: "awreg report 2
+front local-write
+processes 3
+registers 1
+x
+history 6
+       0  p0    #0       call    write x 5
+       0  p0    #0       answer  done
+       4  p1    #0       call    read x
+       4  p1    #0       answer  value 5
+       5  p2    #0       call    read x
+       5  p2    #0       answer  value 0
+order 3
+p2 #0
+p0 #0
+p1 #0
+end
+",
+        },
+        order: "order 3
+p2 #0
+p0 #0
+p1 #0
+end
+",
+        in_time: "order 3
+p0 #0
+p1 #0
+p2 #0
+end
+",
+        refusal: "serial no: answer at 2\n",
+    },
+    // A write is answered at once, and a later read of another process misses it.
+    Overtaking {
+        run: Row {
+            schedule: "processes 2
+registers x
+front local-write
+call 0 write x 5
+call 1 read x
+",
+            report: "awreg report 2
+front local-write
+processes 2
+registers 1
+x
+history 4
+       0  p0    #0       call    write x 5
+       0  p0    #0       answer  done
+       1  p1    #0       call    read x
+       1  p1    #0       answer  value 0
+order 2
+p1 #0
+p0 #0
+end
+",
+        },
+        order: "order 2
+p1 #0
+p0 #0
+end
+",
+        in_time: "order 2
+p0 #0
+p1 #0
+end
+",
+        refusal: "serial no: answer at 1\n",
+    },
+    // A later swap comes before a write that was answered at once.
+    Overtaking {
+        run: Row {
+            schedule: "processes 2
+registers x
+front local-write
+call 1 write x 5
+call 0 swap x 7
+take 1 0 0
+",
+            report: "awreg report 2
+front local-write
+processes 2
+registers 1
+x
+history 4
+       0  p1    #0       call    write x 5
+       0  p1    #0       answer  done
+       1  p0    #0       call    swap x 7
+       2  p0    #0       answer  value 0
+order 2
+p0 #0
+p1 #0
+end
+",
+        },
+        order: "order 2
+p0 #0
+p1 #0
+end
+",
+        in_time: "order 2
+p1 #0
+p0 #0
+end
+",
+        refusal: "serial no: answer at 1\n",
+    },
+    // A later write comes before one that was answered at once, as a read tells.
+    Overtaking {
+        run: Row {
+            schedule: "processes 2
+registers x
+front local-write
+call 1 write x 5
+call 0 write x 7
+take 1 0 0
+call 0 read x
+",
+            report: "awreg report 2
+front local-write
+processes 2
+registers 1
+x
+history 6
+       0  p1    #0       call    write x 5
+       0  p1    #0       answer  done
+       1  p0    #0       call    write x 7
+       1  p0    #0       answer  done
+       3  p0    #1       call    read x
+       3  p0    #1       answer  value 5
+order 3
+p0 #0
+p1 #0
+p0 #1
+end
+",
+        },
+        order: "order 3
+p0 #0
+p1 #0
+p0 #1
+end
+",
+        in_time: "order 3
+p1 #0
+p0 #0
+p0 #1
+end
+",
+        refusal: "serial no: answer at 2\n",
+    },
+];
+
+#[test]
+fn no_order_keeps_the_time_of_what_is_overtaken(rt: HostRuntime) {
+    let alloc = rt.alloc();
+    for Overtaking {
+        run,
+        order,
+        in_time,
+        refusal,
+    } in &RUNS {
+        let schedule = run.schedule.as_bytes();
+        demand(&rt, alloc, Command::Replay, schedule, 0, run.report, "");
+        let head = run.report.strip_suffix(*order).unwrap_or("");
+        assert!(rt; answers_joined(alloc, Command::Check, (head, order), 0, "serial yes\n", ""));
+        assert!(rt; answers_joined(alloc, Command::Check, (head, in_time), 1, refusal, ""));
+    }
+}
