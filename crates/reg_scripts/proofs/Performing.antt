@@ -91,8 +91,3 @@ told_step (Err e) (Ok v) p q f = absurd (let bad = q.0 in cc)
 pub told_so : {E P : Type 0} (told : Result (Unit {0}) E) (u : Unit {0}) → told ≡ Ok u → OnOk told P → P
 told_so (Ok v) u is p = p
 told_so (Err e) u is p = absurd cc
-
--- a list mapped twice
-pub map_twice : {X Y Z : Type 0} (f : X → Y) (h : Y → Z) (xs : List X) → map (λ x. h (f x)) xs ≡ map h (map f xs)
-map_twice f h [] = refl
-map_twice f h (x ∷ xs) = ap (λ ys. h (f x) ∷ ys) (map_twice f h xs)

@@ -274,7 +274,7 @@ fn close_ended<F: FrontEnd, R: Wait>(
 ) -> Result<Closed<F>, RunStop>
     ensures lived { IfOk result (λ c. IsLived F.start cluster (map (λ v. v.items) c.receipts.items) c.world) }
     ensures time { IfOk result (λ c. RespectTime c.world.registers c.world.history (map (λ v. v.items) c.receipts.items)) }
-    ensures performed { IfOk result (λ c. (scripts : List (List Op)) → ArePerformed scripts passes.items → map (λ v. ops_of v.items) c.receipts.items ≡ scripts) }
+    ensures performed { IfOk result (λ c. (scripts : List (List Op)) → ArePerformed scripts passes.items → map ops_of (map (λ v. v.items) c.receipts.items) ≡ scripts) }
 {
     match close(rt, alloc, cluster, passes, Vec::new(alloc), pacer) {
         Ok(closed) => Ok(closed),
@@ -294,7 +294,7 @@ fn end<F: FrontEnd, R: Threads + Wait>(
     ensures all { OnOk result (all ≡ true) }
     ensures lived { IfOk result (λ c. IsLived F.start cluster (map (λ v. v.items) c.receipts.items) c.world) }
     ensures time { IfOk result (λ c. RespectTime c.world.registers c.world.history (map (λ v. v.items) c.receipts.items)) }
-    ensures performed { IfOk result (λ c. (scripts : List (List Op)) → AreStarted scripts (map (λ h. (h.promise.process, h.promise.script.value.items)) crew.callers.items) → map (λ v. ops_of v.items) c.receipts.items ≡ scripts) }
+    ensures performed { IfOk result (λ c. (scripts : List (List Op)) → AreStarted scripts (map (λ h. (h.promise.process, h.promise.script.value.items)) crew.callers.items) → map ops_of (map (λ v. v.items) c.receipts.items) ≡ scripts) }
 {
     let Crew {
         couriers,
@@ -328,7 +328,7 @@ pub fn run_scripts<
     requires { vec_len scripts ≡ shape.processes }
     ensures lived { IfOk result (λ c. IsLived F.start shape (map (λ v. v.items) c.receipts.items) c.world) }
     ensures time { IfOk result (λ c. RespectTime c.world.registers c.world.history (map (λ v. v.items) c.receipts.items)) }
-    ensures performed { IfOk result (λ c. map (λ v. ops_of v.items) c.receipts.items ≡ map (λ s. s.items) scripts.items) }
+    ensures performed { IfOk result (λ c. map ops_of (map (λ v. v.items) c.receipts.items) ≡ map (λ s. s.items) scripts.items) }
 {
     let mut crew = Crew {
         couriers: Vec::new(alloc),
