@@ -33,8 +33,7 @@ loop-script-preserved g c =
     let fewer : into_iter_len c.next.new.self + 1 ≡ into_iter_len c.loop-script.script-iterator = c.in-Some.ensures.steps.1 in
     let sum : n + into_iter_len c.loop-script.script-iterator ≡ vec_len c.args.scripts = inv.2 in
     let rest : vec_len c.push.new.self + into_iter_len c.next.new.self ≡ vec_len c.args.scripts = omega arith in
-    let mapped = ap (map (λ h. (h.promise.process, h.promise.script.value.items))) pushed ∙ map-append (λ h. (h.promise.process, h.promise.script.value.items)) c.loop-script.handles.items (handle ∷ []) in
-    (
+    let mapped = ap (map (λ h. (h.promise.process, h.promise.script.value.items))) pushed ∙ map-append (λ h. (h.promise.process, h.promise.script.value.items)) c.loop-script.handles.items (handle ∷ []) in (
       pass.1 ∙ ap (λ (m : ℕ). drop m c.args.passes.items) (sym len),
       script.1 ∙ ap (λ (m : ℕ). drop m c.args.scripts.items) (sym len),
       rest,
