@@ -1,7 +1,89 @@
 //! A road that loses, repeats and reorders parcels.
+ghost use Rattle.std.specs.Prelude.{◌≡◌};
+ghost use Rattle.reg_live.specs.Fates.{fate_of, IsSorted};
+
 use crate::roads::{Parcel, Posts, Road};
 use reg_random::Words;
 use std::sync::{Mutex, Wait};
+
+/// What becomes of a parcel.
+#[derive(Clone, Copy)]
+pub(crate) enum Fate {
+    /// It is lost.
+    Lost,
+    /// It is kept back behind the next one that is put, and a copy of it is put where `twice`.
+    Kept { twice: bool },
+    /// A copy of it is put where `twice`, then the parcel, and then the one that was kept back.
+    Put { twice: bool },
+}
+
+/// What becomes of a parcel, by three words: the first says whether it is lost, the second whether it is put twice, and the third
+/// whether it is kept back, where no other one is.
+fn fate_of(odds: (u32, u32), words: (u32, u32, u32), keeps: bool) -> Fate
+    ensures { result ≡ fate_of odds.0 odds.1 words.0 words.1 words.2 keeps }
+{
+    let (loss, repeat) = odds;
+    let (first, second, third) = words;
+    if first % 100 < loss {
+        return Fate::Lost;
+    }
+    let twice = second % 100 < repeat;
+    if third % 2 == 0 && !keeps {
+        Fate::Kept { twice }
+    } else {
+        Fate::Put { twice }
+    }
+}
+
+/// The parcels that are put, in this order.
+#[derive(Drop)]
+pub(crate) struct Sorted {
+    copy: Option<Parcel>,
+    this: Option<Parcel>,
+    earlier: Option<Parcel>,
+}
+
+/// A copy of a parcel where it is put twice. It is lost where memory is refused.
+fn copy_of(parcel: &Parcel, twice: bool) -> Option<Parcel> {
+    if !twice {
+        return None;
+    }
+    match parcel.bytes.clone() {
+        Ok(bytes) => Some(Parcel {
+            from: parcel.from,
+            to: parcel.to,
+            bytes,
+        }),
+        Err(_) => None,
+    }
+}
+
+/// Sorts a parcel by its fate: what is put, and which one is kept back from then on.
+fn sort(fate: Fate, kept: &mut Option<Parcel>, parcel: Parcel) -> Sorted
+    ensures { IsSorted fate kept.old parcel kept.new result.this result.earlier }
+{
+    match fate {
+        Fate::Lost => Sorted {
+            copy: None,
+            this: None,
+            earlier: None,
+        },
+        Fate::Kept { twice } => {
+            let copy = copy_of(&parcel, twice);
+            *kept = Some(parcel);
+            Sorted {
+                copy,
+                this: None,
+                earlier: None,
+            }
+        }
+        Fate::Put { twice } => Sorted {
+            copy: copy_of(&parcel, twice),
+            this: Some(parcel),
+            earlier: kept.take(),
+        },
+    }
+}
 
 /// The words that decide, and the parcel that is kept back.
 #[derive(Drop)]
@@ -29,38 +111,30 @@ impl<R: Words> Rough<R> {
     }
 }
 
-/// Puts a copy of a parcel. It is lost where memory is refused.
-fn put_copy<W: Wait>(rt: &W, posts: &Posts, parcel: &Parcel) {
-    if let Ok(bytes) = parcel.bytes.clone() {
-        let copy = Parcel {
-            from: parcel.from,
-            to: parcel.to,
-            bytes,
-        };
-        let _came = posts.put(rt, copy);
+/// Puts a parcel where there is one.
+fn put_one<W: Wait>(rt: &W, posts: &Posts, parcel: Option<Parcel>) {
+    if let Some(parcel) = parcel {
+        let _came = posts.put(rt, parcel);
     }
 }
 
 impl<R: Words + Drop> Road for Rough<R> {
-    /// Three words decide: whether the parcel is lost, whether a copy of it is put, and whether it is kept back, or put with
-    /// the one that was kept back behind it.
+    /// Three words decide (`fate_of`). The lock is held until the parcels are put, so that they are put in this order.
     fn send<W: Wait>(&self, rt: &W, posts: &Posts, parcel: Parcel) {
         let mut guard = self.ditch.lock(rt);
         let ditch = &mut *guard;
-        if ditch.words.word() % 100 < self.loss {
-            return;
-        }
-        if ditch.words.word() % 100 < self.repeat {
-            put_copy(rt, posts, &parcel);
-        }
-        let even = ditch.words.word() % 2 == 0;
-        if even && ditch.kept.is_none() {
-            ditch.kept = Some(parcel);
-            return;
-        }
-        let _came = posts.put(rt, parcel);
-        if let Some(kept) = ditch.kept.take() {
-            let _later = posts.put(rt, kept);
-        }
+        let first = ditch.words.word();
+        let second = ditch.words.word();
+        let third = ditch.words.word();
+        let keeps = ditch.kept.is_some();
+        let fate = fate_of((self.loss, self.repeat), (first, second, third), keeps);
+        let Sorted {
+            copy,
+            this,
+            earlier,
+        } = sort(fate, &mut ditch.kept, parcel);
+        put_one(rt, posts, copy);
+        put_one(rt, posts, this);
+        put_one(rt, posts, earlier);
     }
 }

@@ -66,22 +66,32 @@ fn is_answered(made: &Result<Section, LiveFault>) -> bool {
 }
 
 impl<F: FrontEnd, G: Gate> Shared<F, G> {
-    /// One section of the station that is lent, whose lock is then let go. The caller that waits there is woken by an answer.
-    /// Where the station has stopped, or the journal has no place left, all callers that wait are.
+    /// One section of a process at the station that is lent, whose lock is then let go. The caller that waits there is woken by
+    /// an answer. Where the station has stopped, or the journal has no place left, all callers that wait are.
     pub(crate) fn section<R: Wait>(
         &self,
         rt: &R,
         desk: &Desk<F>,
         station: MutexGuard<'_, Station<F>>,
+        process: u8,
         front: u64,
         step: &Step,
     ) -> Result<Section, LiveFault>
-        ensures front { IfOk result (λ section. front ≤ section.place) }
+        ensures own { IfOk result (λ section. section.spot.process ≡ process) }
+        ensures front { IfOk result (λ section. front ≤ section.spot.place) }
         ensures refusal { IfErr result (λ fault. IsRefusal self.now.shape.registers front step.now fault) }
     {
         let mut station = station;
         let registers = self.shape.registers();
-        let made = station.section(rt, &self.journal, &self.gate, registers, front, step);
+        let made = station.section(
+            rt,
+            &self.journal,
+            &self.gate,
+            process,
+            registers,
+            front,
+            step,
+        );
         let ends = station.ends_waiting();
         drop(station);
         if is_answered(&made) {
@@ -94,7 +104,7 @@ impl<F: FrontEnd, G: Gate> Shared<F, G> {
     }
 
     /// Lets no caller wait any more: one that waits at a station, or comes to wait there later, is told that it failed.
-    fn end_waiting<R: Wait>(&self, rt: &R) {
+    pub(crate) fn end_waiting<R: Wait>(&self, rt: &R) {
         for desk in &self.desks {
             desk.station.lock(rt).end_waiting();
             desk.changed.notify_all();

@@ -1,3 +1,4 @@
 pub mod Lives
 pub mod StopLines
 pub mod Inner
+pub mod Told

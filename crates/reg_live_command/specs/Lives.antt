@@ -1,5 +1,5 @@
 -- What is written once threads have performed the scripts of a workload.
-use Rattle.std.specs.Prelude.{ℕ, Bool, List, Option}
+use Rattle.std.specs.Prelude.{ℕ, ◌≡◌, Bool, List, map, Option}
 use Rattle.reg_base.specs.declared.memory.Op.{Op}
 use Rattle.reg_front.specs.declared.starts.Start.{Start}
 use Rattle.reg_orders.specs.declared.entries.Point.{Point}
@@ -9,6 +9,7 @@ use Rattle.reg_toml.specs.Loads.{Load}
 use Rattle.reg_schedules.specs.Schedules.{Plan}
 use Rattle.reg_records.specs.declared.entries.Receipt.{Receipt}
 use Rattle.reg_live.specs.Passes.{IsLived}
+use Rattle.reg_scripts.specs.Scripts.{ops_of}
 use Rattle.reg_commands.specs.Replays.{start_of, Shows, PointsOf}
 use Rattle.reg_commands.specs.declared.command.Command.TheVariants.{Play}
 use Rattle.reg_commands.specs.Answers.{Blames}
@@ -17,11 +18,13 @@ use Rattle.reg_live_command.specs.declared.faults.Stop.{Stop}
 use Rattle.reg_live_command.specs.declared.faults.Stop.TheVariants.{Command}
 
 -- Threads made a run of the workload's shape, of which each process's finished operations are just those that its thread
--- was answered, and this is its report: its history and its witness, and points that are so.
+-- was answered. These are the operations of its script, all of them in order. And this is the run's report: its history and its
+-- witness, and points that are so.
 pub record ShowsLive (start : Op → ℕ → Start) (work : Load) (AreSo : Plan → Option (List Point) → Type 0) (r : Contents) : Type 0 where
   pub made : Made
   pub answered : List (List Receipt)
   pub lived : IsLived start work.shape answered made
+  pub performed : map ops_of answered ≡ work.scripts
   pub shows : Shows start (plan_of work made) r
   pub points : AreSo (plan_of work made) r.points
 

@@ -1,5 +1,7 @@
 //! Why the threads' scripts give no report.
+ghost use Rattle.std.specs.Prelude.{◌≡◌};
 ghost use Rattle.reg_live_command.specs.Inner.{IsOfThreads};
+ghost use Rattle.reg_live_command.specs.Told.{stop_of_pass, stop_of_close, stop_of_run};
 
 use reg_commands::Fault;
 use reg_live::{CloseFault, LiveFault};
@@ -34,7 +36,8 @@ pub enum Stop {
 
 /// The refusal of a process's pass.
 fn refused(process: u8, fault: LiveFault) -> Stop
-    ensures { IsOfThreads result }
+    ensures told { result ≡ stop_of_pass process fault }
+    ensures kind { IsOfThreads result }
 {
     match fault {
         LiveFault::Failed => Stop::Failed { process },
@@ -49,7 +52,8 @@ fn refused(process: u8, fault: LiveFault) -> Stop
 
 /// The refusal of what the stations wrote down.
 fn unclosed(fault: CloseFault) -> Stop
-    ensures { IsOfThreads result }
+    ensures told { result ≡ stop_of_close fault }
+    ensures kind { IsOfThreads result }
 {
     match fault {
         CloseFault::Unfaithful { place } => Stop::Unfaithful { place },
@@ -62,7 +66,8 @@ fn unclosed(fault: CloseFault) -> Stop
 
 /// Why the threads gave no run.
 pub(crate) fn stopped(stop: RunStop) -> Stop
-    ensures { IsOfThreads result }
+    ensures told { result ≡ stop_of_run stop }
+    ensures kind { IsOfThreads result }
 {
     match stop {
         RunStop::Pass { process, fault } => refused(process, fault),

@@ -44,7 +44,10 @@ fn report_of<
     ensures why { IfErr result (λ stop. IsOfThreads stop) }
 {
     match run_scripts::<F, R>(rt, alloc, work.shape, work.scripts) {
-        Ok(closed) => report_run(alloc, work.front, work.names, closed.world).map_err(told),
+        Ok(closed) => match report_run(alloc, work.front, work.names, closed.world) {
+            Ok(report) => Ok(report),
+            Err(fault) => Err(told(fault)),
+        },
         Err(stop) => Err(stopped(stop)),
     }
 }
@@ -58,9 +61,10 @@ fn report_with_points<
     ensures why { IfErr result (λ stop. IsOfThreads stop) }
 {
     match run_scripts::<F, R>(rt, alloc, work.shape, work.scripts) {
-        Ok(closed) => {
-            report_run_with_points(alloc, work.front, work.names, closed.world).map_err(told)
-        }
+        Ok(closed) => match report_run_with_points(alloc, work.front, work.names, closed.world) {
+            Ok(report) => Ok(report),
+            Err(fault) => Err(told(fault)),
+        },
         Err(stop) => Err(stopped(stop)),
     }
 }

@@ -1,15 +1,23 @@
 -- Stations with the logs of their steps. They carry a proof: no promise speaks of them.
-use Rattle.std.specs.Prelude.{ℕ, ◌≡◌, Bool, false, List, [], ◌∷◌, None}
+use Rattle.std.specs.Prelude.{ℕ, ◌≡◌, ◌<◌, ◌≤◌, ◌++◌, Bool, false, List, [], ◌∷◌, length, None}
+use Rattle.reg_base.specs.declared.limits.TheConstants.{MOST_EVENTS}
 use Rattle.reg_base.specs.declared.memory.Op.{Op}
 use Rattle.reg_base.specs.Shape.{Extent}
 use Rattle.reg_front.specs.declared.starts.Start.{Start}
+use Rattle.reg_process.specs.declared.steps.Step.{Step}
+use Rattle.reg_process.specs.declared.outcomes.Put.{Put}
+use Rattle.reg_process.specs.declared.faults.ProcessFault.{ProcessFault}
 use Rattle.reg_process.specs.Process.{State, step}
 use Rattle.reg_process.specs.Faults.{step_fault}
 use Rattle.reg_process.specs.Parts.{state_of, first_parts}
-use Rattle.reg_process.specs.Events.{Kept, IsGoing}
+use Rattle.reg_process.specs.Events.{Kept, IsGoing, Refused}
+use Rattle.reg_process.specs.Puts.{puts}
 use Rattle.reg_records.specs.declared.entries.LogEntry.{LogEntry}
 use Rattle.reg_stations.specs.declared.faults.LiveFault.{LiveFault}
-use Rattle.reg_stations.specs.declared.faults.LiveFault.TheVariants.{NoRegister, Behind}
+use Rattle.reg_stations.specs.declared.faults.LiveFault.TheVariants.{Failed, NoRegister, Behind, OutOfMemory}
+use Rattle.reg_stations.specs.declared.journals.AppendFault.{AppendFault}
+use Rattle.reg_stations.specs.declared.journals.AppendFault.TheVariants.{Behind as IsBehind, Full as IsFull, OutOfMemory as NoMemory}
+use Rattle.reg_stations.specs.Stations.{told_of}
 
 -- the process went from one state to the next by the step and with the reply of this entry
 pub record IsStep (start : Op → ℕ → Start) (s : State) (e : LogEntry) (t : State) : Type 0 where
@@ -41,7 +49,8 @@ pub record IsKept (start : Op → ℕ → Start) (first : State) (log : List Log
   pub follows : Follows start first log after
   pub last : stopped ≡ false → IsGoing process (last_of first after)
 
--- a station as contracts see it, with the number of entries that its log has room for
+-- A station as contracts see it, with the number of entries that its log has room for, the frames that are not handed over, by
+-- section, and the number of sections whose frames there is room for
 pub record Desk : Type 0 where
   pub me : ℕ
   pub shape : Extent
@@ -49,6 +58,35 @@ pub record Desk : Type 0 where
   pub room : ℕ
   pub stopped : Bool
   pub process : Kept
+  pub outgoing : List (List Put)
+  pub space : ℕ
+
+-- the frames that a process puts in a step
+abbrev pub frames_of : (Op → ℕ → Start) → Kept → Step → List Put
+frames_of start k e = puts (step start k.state e).1.frames (length k.state.peers)
+
+-- the frames of one section more behind those of earlier ones; a section without any leaves them
+abbrev pub with_frames : List (List Put) → List Put → List (List Put)
+with_frames lists [] = lists
+with_frames lists (p ∷ ps) = lists ++ (p ∷ ps) ∷ []
+
+-- why a journal of so many sections doesn't take one at the front or behind it: the first of these that applies
+abbrev pub IsUnplaced : ℕ → ℕ → AppendFault → Type 0
+IsUnplaced length front IsBehind = length < front
+IsUnplaced length front IsFull = (front ≤ length) × (MOST_EVENTS ≤ length)
+IsUnplaced length front NoMemory = (front ≤ length) × (length < MOST_EVENTS)
+
+-- what the caller is told where its section isn't appended
+abbrev pub told_of_append : AppendFault → LiveFault
+told_of_append NoMemory = OutOfMemory
+told_of_append fault = Failed
+
+-- the process refused a step, and the caller is told so
+pub record IsToldOf (start : Op → ℕ → Start) (old : Kept) (e : Step) (told : LiveFault) : Type 0 where
+  pub fault : ProcessFault
+  pub new : Kept
+  pub refused : Refused start old e fault new
+  pub same : told ≡ told_of fault
 
 -- a refusal that tells nothing of the step
 abbrev pub IsPlain : LiveFault → Type 0

@@ -1,6 +1,7 @@
 //! The order of the sections of all stations.
-ghost use Rattle.std.specs.Prelude.{◌≡◌, ◌≤◌, ◌++◌, ◌∷◌, [], length, IfOk, OnErr};
+ghost use Rattle.std.specs.Prelude.{◌≡◌, ◌<◌, ◌≤◌, ◌++◌, ◌∷◌, [], length, IfOk, IfErr, OnErr};
 ghost use Rattle.reg_base.specs.declared.limits.TheConstants.{MOST_EVENTS};
+ghost use Rattle.reg_stations.specs.Desks.{IsUnplaced};
 
 use reg_base::limits::MOST_EVENTS;
 use std::alloc::{Allocator, Global};
@@ -22,6 +23,29 @@ impl<A: Allocator + Copy> Model for Journal<A> {
     ghost view = { λ j. j.order.items };
 
     ghost invariant = { λ j. length j.order.items ≤ MOST_EVENTS };
+}
+
+/// A place in the journal, and the process whose section stands there. Only the journal makes one, where it appends.
+#[derive(Clone, Copy)]
+pub struct Spot {
+    process: u8,
+    place: u64,
+}
+
+impl Spot {
+    /// The process whose section it is.
+    pub fn process(&self) -> u8
+        ensures { result ≡ self.now.process }
+    {
+        self.process
+    }
+
+    /// How many sections stand before it.
+    pub fn place(&self) -> u64
+        ensures { result ≡ self.now.place }
+    {
+        self.place
+    }
 }
 
 /// Why a section isn't appended: the first of these that applies.
@@ -53,10 +77,12 @@ impl<A: Allocator + Copy> Journal<A> {
         self.order.len() as u64
     }
 
-    /// Adds a section of a process at the end, at a place not below the front.
-    pub(crate) fn append(&mut self, process: u8, front: u64) -> Result<u64, AppendFault>
-        ensures place { IfOk result (λ place. (place ≡ length self.old) × (front ≤ place)) }
-        ensures added { IfOk result (λ place. self.new ≡ self.old ++ process ∷ []) }
+    /// Adds a section of a process at the end, at a place not below the front, and tells both.
+    pub(crate) fn append(&mut self, process: u8, front: u64) -> Result<Spot, AppendFault>
+        ensures spot { IfOk result (λ spot. (spot.process ≡ process) × (spot.place ≡ length self.old)) }
+        ensures front { IfOk result (λ spot. front ≤ spot.place) }
+        ensures added { IfOk result (λ spot. self.new ≡ self.old ++ process ∷ []) }
+        ensures fault { IfErr result (λ fault. IsUnplaced (length self.old) front fault) }
         ensures same { OnErr result (self.new ≡ self.old) }
     {
         let place = self.order.len() as u64;
@@ -69,7 +95,7 @@ impl<A: Allocator + Copy> Journal<A> {
         if self.order.push(process).is_err() {
             return Err(AppendFault::OutOfMemory);
         }
-        Ok(place)
+        Ok(Spot { process, place })
     }
 
     /// The order, which is left empty.

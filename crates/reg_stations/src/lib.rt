@@ -5,9 +5,10 @@
 mod faults;
 mod gates;
 mod journals;
+mod links;
 mod stations;
 
 pub use faults::LiveFault;
 pub use gates::{Gate, NoGate};
-pub use journals::Journal;
+pub use journals::{Journal, Spot};
 pub use stations::{Section, Station, Told};

@@ -78,6 +78,21 @@ fn passes_are_counted(rt: HostRuntime) {
     );
 }
 
+/// Closes a cluster of two with two more passes of its last process.
+fn fault_with_two_more(rt: &(impl Wait + Abort), alloc: Global) -> Option<CloseFault> {
+    let mut parts = cluster(rt, alloc, 2);
+    for _more in 0..2u8 {
+        put_back(rt, &mut parts.passes, foreign(rt, alloc, 2));
+    }
+    close_parts(rt, alloc, parts).err()
+}
+
+#[test]
+fn passes_too_many_are_counted(rt: HostRuntime) {
+    let alloc = rt.alloc();
+    assert!(rt; fault_with_two_more(&rt, alloc) == mismatch(1));
+}
+
 #[test]
 fn a_pass_of_another_cluster_is_told_by_its_receipts(rt: HostRuntime) {
     let alloc = rt.alloc();

@@ -3,7 +3,7 @@ use crate::live::crews::{answered, end, last_of, parts_of, put_back, shut, start
 use crate::values::{read, write};
 use reg_base::Op;
 use reg_front::LocalWrite;
-use reg_live::{Gate, Honest, Parts, Pass};
+use reg_live::{Gate, Honest, LiveFault, Parts, Pass};
 use std::alloc::Global;
 use std::process::Abort;
 use std::sync::atomic::{AtomicBool, Ordering};
@@ -86,7 +86,8 @@ fn write_apart<R: Threads + Wait + Abort + Copy + Send + Sync + 'static>(
     .expect(&rt, "a thread")
 }
 
-/// Performs an operation in a thread of its own, once station 0 is held, and tells that it was answered.
+/// Performs an operation in a thread of its own, once station 0 is held, and tells that it was answered. The section that is
+/// held isn't in the journal yet, so no place behind it is there to be called at.
 fn perform_apart<R: Threads + Wait + Abort + Copy + Send + Sync + 'static>(
     rt: R,
     pass: Pass<LocalWrite, Holding>,
@@ -97,6 +98,8 @@ fn perform_apart<R: Threads + Wait + Abort + Copy + Send + Sync + 'static>(
     let shared = Arc::try_clone(flags).expect(&rt, "memory");
     thread::spawn(&rt, move || {
         shared.wait(&shared.entered);
+        let early = pass.perform_after(&rt, op, 1);
+        assert!(&rt; early == Err(LiveFault::Behind { length: 0 }));
         let _receipt = answered(&rt, &mut pass, op);
         shared.answered.store(true, Ordering::SeqCst);
         pass

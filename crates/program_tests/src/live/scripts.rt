@@ -12,6 +12,7 @@ use std::process::Abort;
 use std::sync::Wait;
 use std::thread;
 use std::thread::{JoinHandle, Threads};
+use std::time::Clock;
 
 /// The place behind the answer of the last operation of a pass.
 fn front_of(pass: &Pass<LocalWrite, NoGate>) -> u64 {
@@ -87,6 +88,19 @@ fn scripts(rt: &impl Abort, alloc: Global, processes: u16) -> Vec<Vec<Op>> {
     scripts
 }
 
+/// Performs the scripts of so many processes, over these registers.
+fn performed<
+    F: FrontEnd + Send + Sync + 'static,
+    R: Threads + Wait + Clock + Abort + Copy + Send + Sync + 'static,
+>(rt: R, alloc: Global, processes: u16, registers: u32) -> Result<Closed<F>, RunStop> {
+    let shape = shape_of(&rt, u32::from(processes), registers);
+    let scripts = scripts(&rt, alloc, processes);
+    if scripts.len() != shape.processes() as usize {
+        return Err(RunStop::OutOfMemory);
+    }
+    run_scripts::<F, R>(rt, alloc, shape, scripts)
+}
+
 /// Whether these are the receipts of a write, and of a read of what it wrote.
 fn is_performed(list: &[Receipt]) -> bool {
     if let [_, seen] = list {
@@ -109,9 +123,7 @@ fn are_performed<F: FrontEnd>(closed: &Closed<F>, processes: usize) -> bool {
 fn scripts_are_performed(rt: HostRuntime) {
     let alloc = rt.alloc();
     for processes in [1u16, 3] {
-        let shape = shape_of(&rt, u32::from(processes), 4);
-        let scripts = scripts(&rt, alloc, processes);
-        let closed = run_scripts::<Linear, HostRuntime>(rt, alloc, shape, scripts).expect(
+        let closed = performed::<Linear, HostRuntime>(rt, alloc, processes, 4).expect(
             &rt,
             "a faithful record",
         );
@@ -121,10 +133,7 @@ fn scripts_are_performed(rt: HostRuntime) {
 
 #[test]
 fn the_lowest_refused_process_is_told(rt: HostRuntime) {
-    let alloc = rt.alloc();
-    let shape = shape_of(&rt, 3, 1);
-    let scripts = scripts(&rt, alloc, 3);
-    let stop = run_scripts::<LocalWrite, HostRuntime>(rt, alloc, shape, scripts).err();
+    let stop = performed::<LocalWrite, HostRuntime>(rt, rt.alloc(), 3, 1).err();
     let fault = LiveFault::NoRegister;
     assert!(rt; stop == Some(RunStop::Pass { process: 1, fault }));
 }

@@ -12,6 +12,8 @@ use std::alloc::Global;
 use std::process::Abort;
 use std::sync::atomic::{AtomicBool, Ordering};
 use std::sync::{Arc, Wait};
+use std::thread;
+use std::thread::{JoinHandle, Threads};
 
 /// What is changed in the cast that goes first from process 0 to process 1.
 #[derive(Clone, Copy)]
@@ -196,4 +198,41 @@ fn a_changed_value_is_unfaithful(rt: HostRuntime) {
     let couriers = join_all(&rt, alloc, couriers);
     let fault = close(&rt, alloc, cluster, passes, couriers, pacer).err();
     assert!(rt; written && stopped && fault == Some(CloseFault::Unfaithful { place: 1 }));
+}
+
+/// Writes in a thread of its own. The pass, and whether it was told that no answer comes.
+fn write_apart<R: Threads + Wait + Abort + Copy + Send + Sync + 'static>(
+    rt: R,
+    pass: Pass<Linear, NoGate>,
+) -> JoinHandle<(Pass<Linear, NoGate>, bool)> {
+    let mut pass = pass;
+    thread::spawn(&rt, move || {
+        let told = pass.perform(&rt, write(0, 1));
+        (pass, told == Err(LiveFault::Failed))
+    })
+    .expect(&rt, "a thread")
+}
+
+/// No courier runs, so that each caller would wait for ever.
+#[test]
+fn no_caller_waits_once_the_cluster_is_stopped(rt: HostRuntime) {
+    let alloc = rt.alloc();
+    let Parts {
+        cluster,
+        passes,
+        couriers,
+        pacer,
+    } = parts_of::<Linear, NoGate>(&rt, alloc, (3, 1), NoGate);
+    let mut callers = Vec::new(alloc);
+    for pass in passes {
+        callers.push(write_apart(rt, pass)).expect(&rt, "memory");
+    }
+    let mut told = cluster.stop(&rt).is_ok();
+    let mut passes = Vec::new(alloc);
+    for (pass, failed) in join_all(&rt, alloc, callers) {
+        passes.push(pass).expect(&rt, "memory");
+        told = told && failed;
+    }
+    let closed = close(&rt, alloc, cluster, passes, couriers, pacer).is_ok();
+    assert!(rt; told && closed);
 }

@@ -4,6 +4,3 @@ use Rattle.reg_stations.proofs.stations.Station.section.Goals as goal
 
 pub returns-in-Err-clause-same : goal.returns-in-Err-clause-same
 returns-in-Err-clause-same g c = grind (arith, common_steps)
-
-pub invariant_of-self : goal.invariant_of-self
-invariant_of-self g c = c.self-2.invariant

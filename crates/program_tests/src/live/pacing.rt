@@ -1,0 +1,157 @@
+//! When frames are put again, and that an honest road needs none of it.
+use crate::live::crews::{carry_all, join_all, parts_of, pass_of, shut};
+use crate::values::{read, write};
+use reg_base::limits::MOST_EVENTS;
+use reg_front::{Linear, LocalWrite};
+use reg_live::{Beat, Honest, LiveFault, NoGate, Parts, Pass, Rough};
+use reg_random::SeedWords;
+use std::alloc::Global;
+use std::process::Abort;
+use std::sync::Wait;
+use std::thread;
+use std::thread::{JoinHandle, Threads};
+
+/// How many looks there are in an hour, 10 milliseconds apart.
+const HOUR: u32 = 360_000;
+
+/// How many ticks a link makes in so many looks that find it silent.
+fn ticks_in(looks: u32) -> u32 {
+    let mut beat = Beat::new();
+    let mut ticks = 0u32;
+    for _look in 0..looks {
+        if beat.look(Some(7), false) {
+            ticks = ticks.wrapping_add(1);
+        }
+    }
+    ticks
+}
+
+#[test]
+fn a_stopped_peer_costs_few_ticks(rt: HostRuntime) {
+    let ticks = 15u32.wrapping_mul(ticks_in(HOUR));
+    assert!(rt; 15 * 3_600 < ticks && ticks < 100_000);
+}
+
+/// The looks that make the first ticks, where the first one sees the frame.
+const LOOKS: [u32; 9] = [1, 3, 7, 15, 31, 63, 127, 227, 327];
+
+#[test]
+fn ticks_come_later_and_later(rt: HostRuntime) {
+    let mut beat = Beat::new();
+    assert!(rt; !beat.look(None, false) && !beat.look(Some(7), false));
+    for look in 1..328u32 {
+        assert!(rt; beat.look(Some(7), false) == LOOKS.contains(&look));
+    }
+}
+
+#[test]
+fn an_answer_and_mail_put_off_a_tick(rt: HostRuntime) {
+    let mut beat = Beat::new();
+    let first = beat.look(Some(7), false);
+    let mail = beat.look(Some(7), true);
+    let second = beat.look(Some(7), false);
+    let answered = beat.look(Some(8), false);
+    let again = beat.look(Some(8), false);
+    let none = beat.look(None, false);
+    assert!(rt; !first && !mail && second && !answered && again && !none);
+}
+
+/// How many sections the journal has.
+fn length_of(rt: &impl Wait, pass: &mut Pass<LocalWrite, NoGate>) -> Option<u64> {
+    let far = u64::from(MOST_EVENTS) + 1;
+    match pass.perform_after(rt, read(0), far) {
+        Err(LiveFault::Behind { length }) => Some(length),
+        _ => None,
+    }
+}
+
+/// Whether station 0 ticks at the second look after a write whose frames were lost, and again after two looks more.
+fn ticks_in_turn(rt: &(impl Wait + Abort), parts: &mut Parts<LocalWrite, NoGate>) -> bool {
+    let road = Rough::new(SeedWords::new(1), 100, 0);
+    let written = pass_of(rt, &mut parts.passes, 0).perform(rt, write(0, 1));
+    let mut lengths = [None; 6];
+    for length in &mut lengths {
+        let stopped = parts.cluster.stop(rt).is_ok();
+        for courier in &mut parts.couriers {
+            courier.run(rt, &road);
+        }
+        parts.pacer.look(rt);
+        if stopped {
+            *length = length_of(rt, pass_of(rt, &mut parts.passes, 1));
+        }
+    }
+    written.is_ok() && lengths == [Some(1), Some(2), Some(2), Some(3), Some(3), Some(3)]
+}
+
+#[test]
+fn a_silent_link_makes_its_station_tick(rt: HostRuntime) {
+    let alloc = rt.alloc();
+    let mut parts = parts_of::<LocalWrite, NoGate>(&rt, alloc, (2, 1), NoGate);
+    let right = ticks_in_turn(&rt, &mut parts);
+    let closed = shut(&rt, alloc, parts);
+    assert!(rt; right && closed.world.events() == 3);
+}
+
+/// Writes and reads so often, in a thread of its own. The pass, and whether all were answered.
+fn perform_apart<R: Threads + Wait + Abort + Copy + Send + Sync + 'static>(
+    rt: R,
+    pass: Pass<Linear, NoGate>,
+    times: u64,
+) -> JoinHandle<(Pass<Linear, NoGate>, bool)> {
+    let mut pass = pass;
+    thread::spawn(&rt, move || {
+        let mut answered = true;
+        for value in 0..times {
+            let written = pass.perform(&rt, write(0, value));
+            let later = matches!(written, Ok(receipt) if receipt.called < receipt.answered);
+            answered = answered && later && pass.perform(&rt, read(0)).is_ok();
+        }
+        (pass, answered)
+    })
+    .expect(&rt, "a thread")
+}
+
+/// Each pass at work in a thread of its own.
+fn perform_all<R: Threads + Wait + Abort + Copy + Send + Sync + 'static>(
+    rt: R,
+    alloc: Global,
+    passes: Vec<Pass<Linear, NoGate>>,
+) -> Vec<JoinHandle<(Pass<Linear, NoGate>, bool)>> {
+    let mut callers = Vec::new(alloc);
+    for pass in passes {
+        callers
+            .push(perform_apart(rt, pass, 500))
+            .expect(&rt, "memory");
+    }
+    callers
+}
+
+/// No pacer runs: a frame that was overtaken would never be taken.
+#[test]
+fn an_honest_road_needs_no_tick(rt: HostRuntime) {
+    let alloc = rt.alloc();
+    let Parts {
+        cluster,
+        passes,
+        couriers,
+        pacer,
+    } = parts_of::<Linear, NoGate>(&rt, alloc, (3, 1), NoGate);
+    let couriers = carry_all(rt, alloc, couriers, Honest);
+    let callers = perform_all(rt, alloc, passes);
+    let mut passes = Vec::new(alloc);
+    let mut all = true;
+    for (pass, answered) in join_all(&rt, alloc, callers) {
+        passes.push(pass).expect(&rt, "memory");
+        all = all && answered;
+    }
+    let stopped = cluster.stop(&rt).is_ok();
+    let couriers = join_all(&rt, alloc, couriers);
+    let parts = Parts {
+        cluster,
+        passes,
+        couriers,
+        pacer,
+    };
+    let closed = shut(&rt, alloc, parts);
+    assert!(rt; all && stopped && closed.world.history().entries().len() == 6_000);
+}

@@ -1,0 +1,55 @@
+//! When frames are put again.
+ghost use Rattle.std.specs.Prelude.{◌≡◌};
+ghost use Rattle.reg_live.specs.Beats.{is_due, next_look, watched, ticks_at, new_beat};
+
+/// What the pacer knows of a link from its looks.
+#[derive(Clone, Copy, Debug, PartialEq, Eq)]
+pub struct Beat {
+    /// The first frame that wasn't acknowledged at the last look, by its number.
+    first: Option<u64>,
+    /// How many looks since then have found it so, and no mail to wait for.
+    silent: u32,
+}
+
+/// Whether a tick is made at this look of those that found a link silent: after 1, 2, 4, .. looks, and from 64 on after 100.
+fn is_due(silent: u32) -> bool
+    ensures { result ≡ is_due silent }
+{
+    matches!(silent, 1 | 3 | 7 | 15 | 31 | 63 | 127 | 227)
+}
+
+/// The number of the next look that finds a link silent. The last hundred are counted again and again.
+fn next_look(silent: u32) -> u32
+    ensures { result ≡ next_look silent }
+{
+    if silent < 227 { silent + 1 } else { 128 }
+}
+
+impl Beat {
+    /// A link that was never looked at.
+    pub fn new() -> Beat
+        ensures { result ≡ new_beat }
+    {
+        Beat {
+            first: None,
+            silent: 0,
+        }
+    }
+
+    /// A look at a link on which this frame is the first that isn't acknowledged. `mail` says whether a courier at one of its
+    /// ends has mail that it hasn't taken, so that an answer may be on its way. Whether the station is to tick.
+    pub fn look(&mut self, first: Option<u64>, mail: bool) -> bool
+        ensures beat { self.new ≡ watched self.old first mail }
+        ensures tick { result ≡ ticks_at self.old first mail }
+    {
+        if first.is_none() || first != self.first {
+            *self = Beat { first, silent: 0 };
+            return false;
+        }
+        if mail {
+            return false;
+        }
+        self.silent = next_look(self.silent);
+        is_due(self.silent)
+    }
+}
