@@ -144,8 +144,20 @@ fn each_fault(rt: HostRuntime) {
     }
 }
 
-/// The last number, time and count, and the first ones past them.
-const LAST: [(&[u8], Result<Frame, FrameFault>); 6] = [
+/// The last number, time and count, and the first ones past them; and a register that has no place in one byte.
+const LAST: [(&[u8], Result<Frame, FrameFault>); 7] = [
+    (
+        &[
+            0, 0x16, 1, 1, 0, 0, 0, 0, 0, 0, 0, 0, 1, 0, 0, 0, 0, 0, 0, 0, 1, 1, 1, 0,
+        ],
+        Ok(Frame::Numbered {
+            number: 0,
+            body: Body::Cast {
+                time: 1,
+                op: Op::Read { register: 256 },
+            },
+        }),
+    ),
     (
         &[
             0, 0x13, 1, 1, 0, 0, 0xff, 0xff, 0xff, 0xff, 0xff, 0xff, 2, 0, 0, 0, 0, 0, 0, 0, 2,

@@ -33,7 +33,12 @@ const ACK: Frame = Frame::Numbered {
     body: Body::Ack { time: 3 },
 };
 
-const STEPS: [Step; 7] = [
+const AHEAD: Frame = Frame::Numbered {
+    number: 5,
+    body: Body::Ack { time: 9 },
+};
+
+const STEPS: [Step; 9] = [
     Step::Call { op: WRITE_FIVE },
     Step::Tick,
     Step::Call { op: READ },
@@ -47,11 +52,19 @@ const STEPS: [Step; 7] = [
     },
     Step::Take {
         from: 1,
+        frame: AHEAD,
+    },
+    Step::Take {
+        from: 1,
         frame: ACK,
     },
     Step::Take {
         from: 1,
         frame: Frame::Got { count: 1 },
+    },
+    Step::Take {
+        from: 1,
+        frame: Frame::Got { count: 0 },
     },
 ];
 
@@ -178,6 +191,10 @@ const STALE: [Point; 2] = [
     },
 ];
 
+/// A report of several names, each on a line of its own.
+const NAMES_NOW: &str =
+    "awreg report 2\nfront local-read\nprocesses 2\nregisters 3\nx\nabc\nzz\nhistory 2\n       0  p0    #0       call    write zz 5\n       1  p1    #0       call    read abc\norder 1\np0 #0\nend\n";
+
 /// A report that is read, judged and written again.
 #[derive(Clone, Copy)]
 struct Judged {
@@ -293,7 +310,7 @@ fn each_growth_is_refused(rt: HostRuntime) -> Result<(), Fail> {
     let alloc = rt.alloc();
     assert!(rt; refusals(&Events, alloc)? > 10);
     assert!(rt; refusals(&Read, alloc)? > 6);
-    for text in [ONE_PROCESS, NO_POINTS] {
+    for text in [ONE_PROCESS, NO_POINTS, NAMES_NOW] {
         assert!(rt; refusals(&Judged { text }, alloc)? > 6);
     }
     Ok(())

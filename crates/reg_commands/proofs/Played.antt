@@ -1,6 +1,9 @@
 -- The report of a play, by what its player and its world answer.
 use Rattle.std.proofs.Common.{◌≡◌, ◌<◌, ℕ, Bool, true, false, List, length, Option, Result, Ok, Err, refl, sym, ◌∙◌, subst}
 use Rattle.std.specs.Prelude.{IfOk}
+use Rattle.rand_core.specs.Pcg32Seed.{pcg32_seed}
+use Rattle.rand_pcg.specs.Lcg.{Lcg}
+use Rattle.rand_pcg.specs.Pcg.{pcg32, pcg32_of_seed}
 use Rattle.reg_base.specs.declared.memory.Op.{Op}
 use Rattle.reg_front.specs.declared.named.Front.{Front}
 use Rattle.reg_front.specs.declared.starts.Start.{Start}
@@ -11,27 +14,40 @@ use Rattle.reg_toml.specs.Loads.{Load}
 use Rattle.reg_schedules.specs.Schedules.{Plan}
 use Rattle.reg_workload.specs.Plays.{IsPlay}
 use Rattle.reg_workload.specs.Fair.{TakesInOrder}
+use Rattle.reg_workload.specs.Rounds.{fair_play}
+use Rattle.reg_workload.specs.Seeded.{seeded_play}
 use Rattle.reg_commands.specs.Replays.{plan_in, start_of, Shows, PointsOf}
-use Rattle.reg_commands.specs.Plays.{PlaysAs, IsPlayBy, plan_of, ShowsPlay, IsReportOfPlay}
+use Rattle.reg_commands.specs.Plays.{PlaysAs, play_made, IsPlayBy, plan_of, ShowsPlay, IsReportOfPlay}
 
 module _ {P E : Type 0} (world : P → Made) (is_finished : P → Bool) (fair : Bool) (start : Op → ℕ → Start) (work : Load) where
-  by_player : (which : Bool) → fair ≡ which → (answer : Result P E) → IfOk answer (λ p. IsPlay start work.shape work.scripts work.budget (world p) (is_finished p))
-      → IfOk answer (λ p. PlaysAs which work (world p) (is_finished p)) → IfOk answer (λ p. IsPlayBy fair start work (world p) (is_finished p))
-  by_player which same (Ok p) play player = record { play = play; player = subst (λ (f : Bool). PlaysAs f work (world p) (is_finished p)) (sym same) player }
-  by_player which same (Err e) play player = tt
+  by_player : (which : Bool) → fair ≡ which → (answer : Result P E) → IfOk answer (λ p. world p ≡ play_made which start work)
+      → IfOk answer (λ p. IsPlay start work.shape work.scripts work.budget (world p) (is_finished p)) → IfOk answer (λ p. PlaysAs which work (world p) (is_finished p))
+      → IfOk answer (λ p. IsPlayBy fair start work (world p) (is_finished p))
+  by_player which is (Ok p) same play player = record {
+    same = subst (λ (f : Bool). world p ≡ play_made f start work) (sym is) same;
+    play = play;
+    player = subst (λ (f : Bool). PlaysAs f work (world p) (is_finished p)) (sym is) player;
+  }
+  by_player which is (Err e) same play player = tt
 
   both : (answer : Result P E) → IfOk answer (λ p. TakesInOrder (world p).accepted) → IfOk answer (λ p. length (world p).accepted < work.budget → is_finished p ≡ true)
       → IfOk answer (λ p. PlaysAs true work (world p) (is_finished p))
   both (Ok p) order done = (order, done)
   both (Err e) order done = tt
 
-  pub by_fair : fair ≡ true → (answer : Result P E) → IfOk answer (λ p. IsPlay start work.shape work.scripts work.budget (world p) (is_finished p)) → IfOk answer (λ p. TakesInOrder (world p).accepted)
+  pub by_fair : fair ≡ true → (answer : Result P E) → IfOk answer (λ p. world p ≡ (fair_play start work.shape work.scripts work.budget).made)
+      → IfOk answer (λ p. IsPlay start work.shape work.scripts work.budget (world p) (is_finished p)) → IfOk answer (λ p. TakesInOrder (world p).accepted)
       → IfOk answer (λ p. length (world p).accepted < work.budget → is_finished p ≡ true) → IfOk answer (λ p. IsPlayBy fair start work (world p) (is_finished p))
-  by_fair same answer play order done = by_player true same answer play (both answer order done)
+  unfolding play_made
+  by_fair is answer same play order done = by_player true is answer same play (both answer order done)
 
-  pub by_seed : fair ≡ false → (answer : Result P E) → IfOk answer (λ p. IsPlay start work.shape work.scripts work.budget (world p) (is_finished p))
+  pub by_seed : fair ≡ false → (words : Lcg) → words ≡ pcg32_of_seed (pcg32_seed 16 work.seed) → (answer : Result P E)
+      → IfOk answer (λ p. world p ≡ (seeded_play start pcg32 work.shape work.scripts work.loss work.repeat work.budget words).0.made)
+      → IfOk answer (λ p. IsPlay start work.shape work.scripts work.budget (world p) (is_finished p))
       → IfOk answer (λ p. PlaysAs false work (world p) (is_finished p)) → IfOk answer (λ p. IsPlayBy fair start work (world p) (is_finished p))
-  by_seed same answer play done = by_player false same answer play done
+  unfolding play_made
+  by_seed is words seeded answer same play done =
+      by_player false is answer (subst (λ (w : Lcg). IfOk answer (λ p. world p ≡ (seeded_play start pcg32 work.shape work.scripts work.loss work.repeat work.budget w).0.made)) seeded same) play done
 
 as_plan : (work : Load) (front : Front) (names : List (List ℕ)) (made : Made) → front ≡ work.front → names ≡ work.names → plan_in front names made ≡ plan_of work made
 as_plan work front names made same_front same_names = rw (same_front, same_names) refl

@@ -1,9 +1,12 @@
 -- What a command answers to a text, and what a fault says of the text.
-use Rattle.std.specs.Prelude.{ℕ, ◌≡◌, ◌<◌, ⊤, Bool, true, List, length, Option}
+use Rattle.std.specs.Prelude.{ℕ, ◌≡◌, ◌<◌, ◌≤◌, ⊤, Bool, true, List, length, Option}
 use Rattle.std.specs.Str.{IsUtf8}
 use Rattle.reg_text.specs.Writing.{AppendsPart}
+use Rattle.reg_text.specs.declared.faults.Why.{Why}
 use Rattle.reg_base.specs.declared.limits.TheConstants.{LONGEST_INPUT}
+use Rattle.reg_history.specs.ReadFaults.{why_of}
 use Rattle.reg_history.specs.Reports.{Contents, IsReport, SpellsReport}
+use Rattle.reg_history.specs.declared.report_faults.ReadWhy.{ReadWhy}
 use Rattle.reg_commands.specs.declared.command.Command.{Command}
 use Rattle.reg_commands.specs.declared.command.Command.TheVariants.{Replay, Check, Play}
 use Rattle.reg_messages.specs.declared.faults.Fault.{Fault}
@@ -12,6 +15,7 @@ use Rattle.reg_messages.specs.declared.verdicts.Verdicts.{Verdicts}
 use Rattle.reg_world.specs.declared.faults.WorldFault.{WorldFault}
 use Rattle.reg_toml.specs.declared.faults.WorkloadFault.{WorkloadFault}
 use Rattle.reg_toml.specs.Loads.{Load}
+use Rattle.reg_schedules.specs.Refusals.{RefusesLine}
 use Rattle.reg_schedules.specs.Schedules.{Plan, IsPlan, Spells}
 use Rattle.reg_commands.specs.Replays.{start_of, run_by, Replays, RefusesAt}
 use Rattle.reg_commands.specs.Plays.{Holds, RefusesDocument, Plays}
@@ -37,11 +41,12 @@ Answers (Play fair) agrees Wrote text = (agrees ≡ true) × Plays fair Wrote te
 abbrev pub AnswersInPart : Command → Option (List ℕ) → Option (List ℕ) → List ℕ → Type 0
 AnswersInPart command old new text = (agrees : Bool) × Answers command agrees (AppendsPart old new) text
 
--- the text is none of those that the command reads, as a line shows; no line of a document is named
-abbrev pub IsRefused : Command → List ℕ → Type 0
-IsRefused Replay text = (p : Plan) → IsPlan p → ¬ Spells text p
-IsRefused Check text = (r : Contents) → ¬ SpellsReport text r
-IsRefused (Play fair) text = ⊥
+-- the text is none of those that the command reads, as a line shows: of a schedule's, the first with which no schedule goes on, with its
+-- number and its reason; no line of a document is named
+abbrev pub IsRefused : Command → ℕ → ReadWhy → List ℕ → Type 0
+IsRefused Replay line why text = ((p : Plan) → IsPlan p → ¬ Spells text p) × (length text ≤ LONGEST_INPUT → (told : Why) × (why ≡ why_of told) × RefusesLine line told text)
+IsRefused Check line why text = (r : Contents) → ¬ SpellsReport text r
+IsRefused (Play fair) line why text = ⊥
 
 -- the text's events are refused at this one, for this cause
 abbrev pub IsRefusedAt : Command → ℕ → WorldFault → List ℕ → Type 0
@@ -67,7 +72,7 @@ Blames command Unread xs = ⊤
 Blames command TooLong xs = LONGEST_INPUT < length xs
 Blames command NotText xs = ¬ (IsUtf8 xs)
 Blames command Output xs = IsAccepted command xs
-Blames command (Line line why) xs = IsRefused command xs
+Blames command (Line line why) xs = IsRefused command line why xs
 Blames command (Event at fault) xs = IsRefusedAt command at fault xs
 Blames command (Workload fault) xs = IsRefusedFor command fault xs
 Blames command OutOfMemory xs = ⊤

@@ -2,6 +2,8 @@
 use Rattle.std.specs.Prelude.{ℕ, ◌≡◌, ◌<◌, ◌⊎◌, Bool, true, false, List, length, Option, Some, None}
 use Rattle.toml.specs.Data.{Members}
 use Rattle.toml.specs.Parse.{parse_document}
+use Rattle.rand_core.specs.Pcg32Seed.{pcg32_seed}
+use Rattle.rand_pcg.specs.Pcg.{pcg32, pcg32_of_seed}
 use Rattle.reg_base.specs.declared.memory.Op.{Op}
 use Rattle.reg_front.specs.declared.starts.Start.{Start}
 use Rattle.reg_orders.specs.declared.entries.Point.{Point}
@@ -14,6 +16,8 @@ use Rattle.reg_toml.specs.Judged.{IsFault}
 use Rattle.reg_schedules.specs.Schedules.{Plan}
 use Rattle.reg_workload.specs.Plays.{IsPlay}
 use Rattle.reg_workload.specs.Fair.{TakesInOrder}
+use Rattle.reg_workload.specs.Rounds.{fair_play}
+use Rattle.reg_workload.specs.Seeded.{seeded_play}
 use Rattle.reg_commands.specs.Replays.{start_of, plan_in, Shows, PointsOf}
 
 -- the text is a document whose table says this workload
@@ -33,8 +37,14 @@ abbrev pub PlaysAs : Bool → Load → Made → Bool → Type 0
 PlaysAs true work made is_finished = TakesInOrder made.accepted × (length made.accepted < work.budget → is_finished ≡ true)
 PlaysAs false work made is_finished = work.loss ≡ 0 → length made.accepted < work.budget → is_finished ≡ true
 
--- a play of the workload, by the fair player or by the seeded one
+-- the one play of the workload that its player makes: the fair one, or the seeded one with the words of PCG32 from the workload's seed
+unfoldable pub play_made : Bool → (Op → ℕ → Start) → Load → Made
+play_made true start work = (fair_play start work.shape work.scripts work.budget).made
+play_made false start work = (seeded_play start pcg32 work.shape work.scripts work.loss work.repeat work.budget (pcg32_of_seed (pcg32_seed 16 work.seed))).0.made
+
+-- It is that play, which is a play of the workload and has what its player promises.
 pub record IsPlayBy (fair : Bool) (start : Op → ℕ → Start) (work : Load) (made : Made) (is_finished : Bool) : Type 0 where
+  pub same : made ≡ play_made fair start work
   pub play : IsPlay start work.shape work.scripts work.budget made is_finished
   pub player : PlaysAs fair work made is_finished
 
@@ -42,7 +52,7 @@ pub record IsPlayBy (fair : Bool) (start : Op → ℕ → Start) (work : Load) (
 abbrev pub plan_of : Load → Made → Plan
 plan_of work made = plan_in work.front work.names made
 
--- There is a play of the workload of which this is the report: its history and its witness, and points that are so.
+-- This is the report of the player's play of the workload: its history and its witness, and points that are so.
 pub record ShowsPlay (fair : Bool) (start : Op → ℕ → Start) (work : Load) (AreSo : Plan → Option (List Point) → Type 0) (r : Contents) : Type 0 where
   pub made : Made
   pub is_finished : Bool
@@ -50,11 +60,11 @@ pub record ShowsPlay (fair : Bool) (start : Op → ℕ → Start) (work : Load) 
   pub shows : Shows start (plan_of work made) r
   pub points : AreSo (plan_of work made) r.points
 
--- the report of a play of the workload, with points where its front end has some
+-- the same, with points where the workload's front end has some
 abbrev pub IsReportOfPlay : Bool → Load → Contents → Type 0
 IsReportOfPlay fair work r = ShowsPlay fair (start_of work.front) work (PointsOf work.front) r
 
--- The text is a document that says a workload, and the report of a play of it was written: `Wrote` says how a text was.
+-- The text is a document that says a workload, and the report of the player's play of it was written: `Wrote` says how a text was.
 pub record Plays (fair : Bool) (Wrote : List ℕ → Type 0) (text : List ℕ) : Type 0 where
   pub work : Load
   pub holds : Holds text work

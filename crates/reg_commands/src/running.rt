@@ -1,5 +1,5 @@
 //! Running a command over any reader and writer.
-ghost use Rattle.std.specs.Prelude.{◌≡◌, ◌≢◌, ◌≤◌, ◌⊎◌, IfOk, IfErr, OnOk, IfSome, true, false, length, IsErrOf};
+ghost use Rattle.std.specs.Prelude.{◌≡◌, ◌≢◌, ◌≤◌, ◌⊎◌, IfOk, IfErr, OnOk, IfSome, true, false, Ok, length, IsErrOf};
 ghost use Rattle.std.specs.Io.KnownBytes.{Appends};
 ghost use Rattle.reg_base.specs.declared.limits.TheConstants.{LONGEST_INPUT};
 ghost use Rattle.reg_text.specs.Writing.{AppendsPart};
@@ -24,6 +24,7 @@ fn answer<A: Allocator + Copy, W: Write>(
     writer: &mut W,
 ) -> Result<bool, Fault>
     ensures ok { IfOk result (λ agrees. Answers command agrees (Appends (W.contents writer.old) (W.contents writer.new)) text.now) }
+    ensures no { result ≡ Ok false → command ≡ Command.Check }
     ensures why { IfErr result (λ f. Blames command f text.now) }
     ensures silent { IfErr result (λ f. f ≢ Fault.Output → writer.new ≡ writer.old) }
     ensures part { IsErrOf result Fault.Output → AnswersInPart command (W.contents writer.old) (W.contents writer.new) text.now }
@@ -49,6 +50,7 @@ fn obey<A: Allocator + Copy, R: Read, W: Write>(
     writer: &mut W,
 ) -> Result<bool, Fault>
     ensures ok { IfOk result (λ agrees. IfSome (R.remaining reader.old) (Answers command agrees (Appends (W.contents writer.old) (W.contents writer.new)))) }
+    ensures no { result ≡ Ok false → command ≡ Command.Check }
     ensures within { OnOk result (IfSome (R.remaining reader.old) (λ xs. length xs ≤ LONGEST_INPUT)) }
     ensures why { IfErr result (λ f. IfSome (R.remaining reader.old) (Blames command f)) }
     ensures silent { IfErr result (λ f. f ≢ Fault.Output → writer.new ≡ writer.old) }
@@ -72,7 +74,7 @@ pub fn run_text<A: Allocator + Copy, R: Read, W: Write, E: Write>(
     ensures range { result ≤ 1 }
     ensures within { result ≡ 0 → IfSome (R.remaining reader.old) (λ xs. length xs ≤ LONGEST_INPUT) }
     ensures answered { result ≡ 0 → IfSome (R.remaining reader.old) (Answers command true (Appends (W.contents writer.old) (W.contents writer.new))) }
-    ensures refused { result ≡ 1 → (IfSome (R.remaining reader.old) (Answers command false (Appends (W.contents writer.old) (W.contents writer.new))) × (errors.new ≡ errors.old))
+    ensures refused { result ≡ 1 → ((command ≡ Command.Check) × IfSome (R.remaining reader.old) (Answers command false (Appends (W.contents writer.old) (W.contents writer.new))) × (errors.new ≡ errors.old))
         ⊎ ((f : Fault) × IfSome (R.remaining reader.old) (Blames command f) × (f ≢ Fault.Output → writer.new ≡ writer.old) × (f ≡ Fault.Output → IfSome (R.remaining reader.old) (AnswersInPart command (W.contents writer.old) (W.contents writer.new))) × AppendsPart (E.contents errors.old) (E.contents errors.new) (fault_line f)) }
     ensures quiet { result ≡ 0 → errors.new ≡ errors.old }
 {

@@ -1,5 +1,5 @@
 //! Laws of histories and their orders. Each is a function that does nothing: its contract is the law.
-ghost use Rattle.std.specs.Prelude.{List, ℕ, ◌<◌, ◌≢◌, map};
+ghost use Rattle.std.specs.Prelude.{List, ℕ, ◌-◌, ◌<◌, ◌≢◌, ◌↔◌, IfSome, length, map, slice_get};
 ghost use Rattle.reg_base.specs.declared.memory.Op.{Op};
 ghost use Rattle.reg_base.specs.declared.memory.OpId.{OpId};
 ghost use Rattle.reg_base.specs.declared.memory.Answer.{Answer};
@@ -7,7 +7,7 @@ ghost use Rattle.reg_orders.specs.declared.entries.Entry.{Entry};
 ghost use Rattle.reg_orders.specs.declared.entries.Point.{Point};
 ghost use Rattle.reg_orders.specs.declared.faults.CheckFault.{CheckFault};
 ghost use Rattle.reg_orders.specs.declared.faults.CheckFault.TheVariants.{OutOfMemory};
-ghost use Rattle.reg_orders.specs.History.{IsAt, IsCalled, IsAnswered, IsHistory};
+ghost use Rattle.reg_orders.specs.History.{IsAt, IsCalled, IsAnswered, IsHistory, event_of};
 ghost use Rattle.reg_orders.specs.Orders.{IsSerial, IsPointOrder};
 ghost use Rattle.reg_orders.specs.Checks.{IsSerialFault, IsPointFault};
 
@@ -26,4 +26,9 @@ pub fn point_order_is_serial()
 pub fn fault_is_no_order()
     ensures serial { (n registers : ℕ) (h : List Entry) → IsHistory n registers h → (ids : List OpId) (f : CheckFault) → f ≢ OutOfMemory → IsSerialFault registers h ids f → ¬ IsSerial registers h ids }
     ensures points { (n registers : ℕ) (h : List Entry) → IsHistory n registers h → (ps : List Point) (f : CheckFault) → f ≢ OutOfMemory → IsPointFault registers h ps f → ¬ IsPointOrder registers h ps }
+{}
+
+/// An event is later than all entries of a history exactly where it is later than the last one.
+pub fn later_than_the_last_is_later_than_all()
+    ensures { (n registers : ℕ) (h : List Entry) → IsHistory n registers h → (at : ℕ) → ((k : ℕ) (e : Entry) → IsAt h k e → event_of e < at) ↔ IfSome (slice_get h (length h - 1)) (λ e. event_of e < at) }
 {}

@@ -1,8 +1,8 @@
 -- What a tick puts again.
-use Rattle.std.proofs.Common.{◌≡◌, ℕ, zero, suc, ◌+◌, ◌<◌, ◌≤◌, List, [], ◌∷◌, ◌++◌, length, take, map, Option, Some, None, refl, sym, ap, ◌∙◌, arith, add-one, append_assoc, replicate}
+use Rattle.std.proofs.Common.{◌≡◌, ◌≢◌, inl, inr, ℕ, zero, suc, ◌+◌, ◌<◌, ◌≤◌, List, [], ◌∷◌, ◌++◌, length, take, map, Option, Some, None, Result, Ok, Err, refl, sym, ap, ◌∙◌, arith, add-one, append_assoc, replicate}
 use Rattle.std.proofs.lemmas.List.{length-replicate}
-use Rattle.std.specs.Prelude.{cond, slice_get, slice_index_or, option_map}
-use Rattle.std.proofs.lemmas.Bool.{ne_eqb}
+use Rattle.std.specs.Prelude.{OnErr, cond, slice_get, slice_index_or, option_map}
+use Rattle.std.proofs.lemmas.Bool.{ne_eqb, cases_lt}
 use Rattle.reg_frames.specs.declared.bodies.Body.{Body}
 use Rattle.reg_frames.specs.declared.bodies.Frame.{Frame}
 use Rattle.reg_frames.specs.declared.bodies.Frame.TheVariants.{Numbered}
@@ -69,6 +69,43 @@ pub resend_full : (out : Unacknowledged) (me to i : ℕ) (old fs : List Put) →
 resend_full out me to i old fs ne l e =
     e ∙ ap (λ k. old ++ map (put_to to) (numbered_from out.first (take k out.pending))) l
     ∙ ap (λ b. old ++ map (put_to to) (cond b [] (numbered_from out.first (take MOST_RESENT out.pending)))) (sym (ne_eqb to me ne))
+
+-- what is put again is some frame where the outbox has a body
+pub resends_some : (out : Unacknowledged) (me to i : ℕ) (f : Frame) → (to ≡ me → ⊥) → Some f ≡ option_map (λ b. Numbered (out.first + i) b) (slice_get out.pending i) → again_at me to out ≢ []
+resends_some out me to i f ne h none =
+    let r = some_body (slice_get out.pending i) (out.first + i) f h in
+    let here : again_at me to out ≡ numbered_from out.first (take MOST_RESENT out.pending) = ap (λ b. cond b [] (numbered_from out.first (take MOST_RESENT out.pending))) (ne_eqb to me ne) in
+    go out.pending i r.0 r.1 (sym here ∙ none)
+  where
+    go : (xs : List Body) (k : ℕ) (b : Body) → slice_get xs k ≡ Some b → numbered_from out.first (take MOST_RESENT xs) ≡ [] → ⊥
+    go [] k b at e = absurd (cc)
+    go (x ∷ xs) k b at e = absurd (cc)
+
+append_some : (xs ys : List Put) → ys ≢ [] → xs ++ ys ≢ []
+append_some [] ys some e = some e
+append_some (x ∷ xs) ys some e = absurd (cc)
+
+map_some : (r : ℕ) (fs : List Frame) → fs ≢ [] → map (put_to r) fs ≢ []
+map_some r [] some e = absurd (some refl)
+map_some r (f ∷ fs) some e = absurd (cc)
+
+append_first : (xs ys : List Put) → xs ≢ [] → xs ++ ys ≢ []
+append_first [] ys some e = absurd (some refl)
+append_first (x ∷ xs) ys some e = absurd (cc)
+
+-- a frame for one process is put
+pub puts_some : (frames : ℕ → List Frame) (r n : ℕ) → r < n → frames r ≢ [] → puts frames n ≢ []
+puts_some frames r zero l some = absurd (omega arith)
+puts_some frames r (suc n) l some = elim (cases_lt r n) [
+  | inl less ↦ append_first (puts frames n) (map (put_to n) (frames n)) (puts_some frames r n less some)
+  | inr not_less ↦
+      let same : r ≡ n = omega (arith, l, not_less) in
+      append_some (puts frames n) (map (put_to n) (frames n)) (map_some n (frames n) (λ e. some (ap frames same ∙ e)))
+]
+
+pub on_err : {A E : Type 0} (r : Result A E) (P : Type 0) → P → OnErr r P
+on_err (Ok x) P p = tt
+on_err (Err e) P p = p
 
 pub again_is : (p : Parts) → Good p → puts (again_frames p.me p.outs) (length p.outs) ≡ puts (resent (state_of p)) (length (state_of p).peers)
 again_is p good =

@@ -1,5 +1,5 @@
 //! The parts of a process that has not failed.
-ghost use Rattle.std.specs.Prelude.{◌≡◌, ℕ, ◌<◌, ◌+◌, ◌≤◌, length, IfOk, [], not, None, is_some};
+ghost use Rattle.std.specs.Prelude.{◌≡◌, ◌≢◌, ℕ, ◌<◌, ◌+◌, ◌≤◌, length, IfOk, OnErr, [], not, None, is_some};
 ghost use Rattle.reg_process.specs.Process.{pending_of, peer_at, next_of, unsettled, resent};
 ghost use Rattle.reg_process.specs.Parts.{state_of, first_parts};
 ghost use Rattle.reg_process.specs.Puts.{puts};
@@ -119,9 +119,10 @@ impl<A: Allocator + Copy> Core<A> {
         pending_in(&self.outboxes, self.me)
     }
 
-    /// Puts what is pending again.
+    /// Puts what is pending again. Memory is wanting only where a frame is put.
     pub(crate) fn tick(&self) -> Result<Vec<Put, A>, AllocError>
-        ensures { IfOk result (λ v. v.items ≡ puts (resent self.now) (length self.now.peers)) }
+        ensures frames { IfOk result (λ v. v.items ≡ puts (resent self.now) (length self.now.peers)) }
+        ensures memory { OnErr result (puts (resent self.now) (length self.now.peers) ≢ []) }
     {
         resend_all(self.alloc, &self.outboxes, self.me)
     }

@@ -1,11 +1,12 @@
 //! One process, with its stop.
-ghost use Rattle.std.specs.Prelude.{◌≡◌, ℕ, ◌<◌, ◌≤◌, MatchOption, MatchResult, IfOk, IfErr, option_map, is_some, max, false, true, IsErrOf, vec_capacity};
-ghost use Rattle.reg_process.specs.Process.{next_of, peer_at, pending_of, unsettled};
+ghost use Rattle.std.specs.Prelude.{◌≡◌, ◌≢◌, ℕ, [], length, ◌<◌, ◌≤◌, MatchOption, MatchResult, IfOk, IfErr, option_map, is_some, max, false, true, IsErrOf, vec_capacity};
+ghost use Rattle.reg_process.specs.Process.{next_of, peer_at, pending_of, resent, unsettled};
 ghost use Rattle.reg_process.specs.Parts.{state_of, first_parts};
 ghost use Rattle.reg_process.specs.declared.steps.Step.TheVariants.{Call, Take, Tick};
 ghost use Rattle.reg_process.specs.Faults.{NewRefused, is_cast, takes_memory};
 ghost use Rattle.reg_process.specs.Events.{Steps, Refused};
 ghost use Rattle.reg_process.specs.Known.{IsNoPeer, known_of};
+ghost use Rattle.reg_process.specs.Puts.{puts};
 ghost use Rattle.reg_process.specs.Waits.{running_of};
 
 use crate::faults::{ProcessFault, is_stop};
@@ -136,9 +137,11 @@ impl<F: FrontEnd, A: Allocator + Copy> Process<F, A> {
         self.spare.keep(frames);
     }
 
-    /// Puts the first unacknowledged data frames of every link again. The clock stays as it is.
+    /// Puts the first unacknowledged data frames of every link again. The clock stays as it is. It takes no memory where there
+    /// are none.
     pub fn tick(&mut self) -> Result<Outcome<A>, ProcessFault>
         ensures ticked { MatchResult result (λ o. Steps F.start self.old Tick o.frames.items o.cast o.delivered.items o.reply self.new) (λ fault. Refused F.start self.old Tick fault self.new) }
+        ensures memory { IsErrOf result ProcessFault.OutOfMemory → puts (resent self.old.state) (length self.old.state.peers) ≢ [] }
     {
         if self.failed {
             return Err(ProcessFault::Failed);

@@ -1,5 +1,5 @@
 //! Bodies queued for all other processes, and the frames put.
-ghost use Rattle.std.specs.Prelude.{◌≡◌, ◌<◌, ◌≤◌, ◌+◌, ◌++◌, ◌∷◌, [], length, map, replicate, IfOk, OnOk, OnErr, vec_capacity};
+ghost use Rattle.std.specs.Prelude.{◌≡◌, ◌≢◌, ◌<◌, ◌≤◌, ◌+◌, ◌++◌, ◌∷◌, [], length, map, replicate, IfOk, OnOk, OnErr, vec_capacity};
 ghost use Rattle.reg_links.specs.Sending.{link_to};
 ghost use Rattle.reg_base.specs.declared.limits.TheConstants.{FRAME_NUMBERS, MOST_PROCESSES};
 ghost use Rattle.reg_process.specs.Parts.{nothing};
@@ -150,7 +150,8 @@ fn resend_one<A: Allocator + Copy>(
     me: u8,
 ) -> Result<(), AllocError>
     requires { to < length outboxes.now.counts }
-    ensures { OnOk result (frames.new.items ≡ frames.old.items ++ map (put_to to) (again_at me to (link_to outboxes.now to))) }
+    ensures frames { OnOk result (frames.new.items ≡ frames.old.items ++ map (put_to to) (again_at me to (link_to outboxes.now to))) }
+    ensures memory { OnErr result (again_at me to (link_to outboxes.now to) ≢ []) }
 {
     if to == me {
         return Ok(());
@@ -164,14 +165,15 @@ fn resend_one<A: Allocator + Copy>(
     Ok(())
 }
 
-/// The same for all other processes.
+/// The same for all other processes. Memory is wanting only where a frame is put.
 pub fn resend_all<A: Allocator + Copy>(
     alloc: A,
     outboxes: &Outboxes<A>,
     me: u8,
 ) -> Result<Vec<Put, A>, AllocError>
     requires { length (outs_of me outboxes.now) ≤ MOST_PROCESSES }
-    ensures { IfOk result (λ v. v.items ≡ puts (again_frames me (outs_of me outboxes.now)) (length (outs_of me outboxes.now))) }
+    ensures frames { IfOk result (λ v. v.items ≡ puts (again_frames me (outs_of me outboxes.now)) (length (outs_of me outboxes.now))) }
+    ensures memory { OnErr result (puts (again_frames me (outs_of me outboxes.now)) (length (outs_of me outboxes.now)) ≢ []) }
 {
     let mut frames = Vec::new(alloc);
     for r in 0..outboxes.processes() as u8 {

@@ -2,7 +2,7 @@
 use Rattle.std.proofs.Common.{ℕ, ◌≡◌, ◌≤◌, true, List, ◌∷◌, ◌++◌, codes, inl, inr, Some, refl, sym, ap, ◌∙◌, subst, arith, rules}
 use Rattle.std.specs.Fmt.{decimal}
 use Rattle.reg_text.specs.declared.faults.Why.{Why}
-use Rattle.reg_text.specs.declared.faults.Why.TheVariants.{Range, Name}
+use Rattle.reg_text.specs.declared.faults.Why.TheVariants.{Range}
 use Rattle.reg_text.specs.Forms.{is_numeral, HasOpForm, IsOpWhy}
 use Rattle.reg_text.specs.Parts.{Lacks}
 use Rattle.reg_text.proofs.Formed.{numeral_lacks}

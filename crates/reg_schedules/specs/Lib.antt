@@ -1,2 +1,4 @@
 pub mod Schedules
 pub mod LineForms
+pub mod Refusals
+pub mod Stops

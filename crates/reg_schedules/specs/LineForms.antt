@@ -1,15 +1,12 @@
--- The forms of the lines of a schedule, whatever their numbers and names, and why such a line is refused. They carry a proof: no promise speaks of them.
-use Rattle.std.specs.Prelude.{ℕ, ◌≡◌, ◌≢◌, ◌<◌, ◌≤◌, ◌⊎◌, ◌==◌, ◌&&◌, Bool, true, not, List, ◌∷◌, ◌++◌, length, map, codes, Some, slice_get}
+-- The forms of the lines of a schedule, whatever their numbers and names, and why such a line is refused. To be believed: a promise speaks
+-- of them.
+use Rattle.std.specs.Prelude.{ℕ, ◌≡◌, ◌≤◌, ◌⊎◌, ◌==◌, ◌&&◌, Bool, true, not, List, ◌∷◌, ◌++◌, length, codes}
 use Rattle.std.specs.Fmt.{decimal}
 use Rattle.std.specs.List.{list_all}
-use Rattle.reg_base.specs.declared.limits.TheConstants.{MOST_EVENTS}
-use Rattle.reg_text.specs.Lines.{AllFit}
 use Rattle.reg_text.specs.Words.{is_front_letter}
 use Rattle.reg_text.specs.Forms.{is_numeral, HasOpForm, IsOpWhy}
-use Rattle.reg_world.specs.declared.events.Event.{Event}
-use Rattle.reg_schedules.specs.Schedules.{event_text, EventFits}
 use Rattle.reg_text.specs.declared.faults.Why.{Why}
-use Rattle.reg_text.specs.declared.faults.Why.TheVariants.{Form, Range, Name}
+use Rattle.reg_text.specs.declared.faults.Why.TheVariants.{Form, Range}
 
 -- letters and hyphens, one or more
 abbrev pub is_front_form : List ℕ → Bool
@@ -52,14 +49,3 @@ pub record IsLineWhy (names : List (List ℕ)) (line : List ℕ) (why : Why) : T
 pub record IsFurtherWhy (line : List ℕ) (why : Why) : Type 0 where
   pub form : (¬ HasEventForm line) → why ≡ Form
   pub further : HasEventForm line → why ≡ Range
-
--- Of the lines, those before this one are of events, and it is refused: it is none of an event's, or there may be no more events.
-pub record IsWrongEvent (names : List (List ℕ)) (old rest : List (List ℕ)) (why : Why) : Type 0 where
-  pub before : List Event
-  pub line : List ℕ
-  pub lines : old ≡ map (event_text names) before ++ line ∷ rest
-  pub fit : AllFit (λ _ e. EventFits names e) before
-  pub few : length before ≤ MOST_EVENTS
-  pub none : length before < MOST_EVENTS → (e : Event) → EventFits names e → line ≢ event_text names e
-  pub why_none : length before < MOST_EVENTS → IsLineWhy names line why
-  pub why_further : length before ≡ MOST_EVENTS → IsFurtherWhy line why

@@ -1,15 +1,18 @@
 //! Schedules, and their reader.
-ghost use Rattle.std.specs.Prelude.{◌≡◌, ◌<◌, ◌≤◌, ◌⊎◌, ℕ, List, [], ◌∷◌, ◌++◌, length, map, codes, true, false, None, Err, IfOk, IfErr, MatchResult, if◌then◌else◌};
+ghost use Rattle.std.specs.Prelude.{◌≡◌, ◌<◌, ◌≤◌, ◌⊎◌, ◌-◌, ◌^◌, OnOk, ℕ, List, [], ◌∷◌, ◌++◌, length, map, codes, true, false, None, Err, IfOk, IfErr, MatchResult, if◌then◌else◌};
 ghost use Rattle.std.specs.Fmt.{decimal};
 ghost use Rattle.reg_base.specs.Names.{names_fault};
 ghost use Rattle.reg_world.specs.declared.events.Event.{Event};
 ghost use Rattle.reg_front.specs.declared.named.Front.{Front};
 ghost use Rattle.reg_front.specs.Table.{front_name};
-ghost use Rattle.reg_text.specs.Lines.{AllFit};
+ghost use Rattle.reg_text.specs.Lines.{AllFit, IsAsked};
+ghost use Rattle.reg_text.specs.Inner.{GoesOn};
 ghost use Rattle.reg_text.specs.Forms.{is_numeral};
 ghost use Rattle.reg_text.specs.declared.faults.Why.{Why as AnyWhy};
 ghost use Rattle.reg_schedules.specs.Schedules.{event_text, EventFits, Plan, IsPlan, Spells, plan_head, plan_lines};
-ghost use Rattle.reg_schedules.specs.LineForms.{is_front_form, IsWrongEvent};
+ghost use Rattle.reg_schedules.specs.LineForms.{is_front_form};
+ghost use Rattle.reg_schedules.specs.Refusals.{RefusesLine};
+ghost use Rattle.reg_schedules.specs.Stops.{StopsFirst, IsWrongEvent};
 
 use crate::event_lines::{read_event, why_event, why_further};
 use reg_base::limits::{MOST_EVENTS, MOST_PROCESSES, MOST_REGISTERS};
@@ -59,6 +62,8 @@ fn read_front(lines: &mut Lines<'_>) -> Result<Front, ScheduleFault>
     ensures end { lines.old.left ≡ [] → result ≡ Err (TextFault.Line lines.new.number Why.End) }
     ensures name { (word : List ℕ) (rest : List (List ℕ)) → is_front_form word ≡ true → lines.old.left ≡ (codes "front " ++ word) ∷ rest → IfErr result (λ f. f ≡ TextFault.Line lines.new.number Why.Name) }
     ensures form { (line : List ℕ) (rest : List (List ℕ)) → lines.old.left ≡ line ∷ rest → ((word : List ℕ) → line ≡ codes "front " ++ word → is_front_form word ≡ false) → result ≡ Err (TextFault.Line lines.new.number Why.Form) }
+    ensures fault { IfErr result (λ f. (why : AnyWhy) × (f ≡ TextFault.Line lines.new.number why)) }
+    ensures asked { IsAsked lines.old lines.new }
 {
     let Some(line) = lines.next() else {
         return Err(lines.fault(Why::End));
@@ -82,6 +87,8 @@ fn read_processes(lines: &mut Lines<'_>) -> Result<u32, ScheduleFault>
     ensures end { lines.old.left ≡ [] → result ≡ Err (TextFault.Line lines.new.number Why.End) }
     ensures range { (digits : List ℕ) (rest : List (List ℕ)) → is_numeral digits ≡ true → lines.old.left ≡ (codes "processes " ++ digits) ∷ rest → IfErr result (λ f. f ≡ TextFault.Line lines.new.number Why.Range) }
     ensures form { (line : List ℕ) (rest : List (List ℕ)) → lines.old.left ≡ line ∷ rest → ((digits : List ℕ) → line ≡ codes "processes " ++ digits → is_numeral digits ≡ false) → result ≡ Err (TextFault.Line lines.new.number Why.Form) }
+    ensures fault { IfErr result (λ f. (why : AnyWhy) × (f ≡ TextFault.Line lines.new.number why)) }
+    ensures asked { IsAsked lines.old lines.new }
 {
     let processes = read_count(lines, b"processes ", MOST_PROCESSES as u64)?;
     if processes == 0 {
@@ -99,6 +106,8 @@ fn read_head<A: Allocator + Copy>(
     ensures whole { (processes : ℕ) (names : List (List ℕ)) (front : Front) (rest : List (List ℕ))
         → 0 < processes → processes ≤ MOST_PROCESSES → names_fault names ≡ None → lines.old.left ≡ plan_head processes names front rest
         → MatchResult result (λ h. (h.0 ≡ processes) × (h.1 ≡ names) × (h.2 ≡ front) × (lines.new.left ≡ rest)) (λ f. f ≡ TextFault.OutOfMemory) }
+    ensures stopped { IfErr result (λ f. (f ≡ TextFault.OutOfMemory) ⊎ ((why : AnyWhy) × (f ≡ TextFault.Line lines.new.number why) × StopsFirst lines.old lines.new why)) }
+    ensures on { OnOk result (GoesOn lines.old lines.new) }
 {
     let processes = read_processes(lines)?;
     let names = read_names(alloc, lines, MOST_REGISTERS)?;
@@ -116,7 +125,7 @@ fn read_events<A: Allocator + Copy>(
     ensures read { IfOk result (λ v. (lines.old.left ≡ map (event_text names.now) v.items) × AllFit (λ _ x. EventFits names.now x) v.items × (length v.items ≤ MOST_EVENTS)) }
     ensures whole { (ys : List Event) → AllFit (λ _ x. EventFits names.now x) ys → length ys ≤ MOST_EVENTS → lines.old.left ≡ map (event_text names.now) ys
         → MatchResult result (λ v. v.items ≡ ys) (λ f. f ≡ TextFault.OutOfMemory) }
-    ensures wrong { IfErr result (λ f. (f ≡ TextFault.OutOfMemory) ⊎ ((why : AnyWhy) × (f ≡ TextFault.Line lines.new.number why) × IsWrongEvent names.now lines.old.left lines.new.left why)) }
+    ensures wrong { IfErr result (λ f. (f ≡ TextFault.OutOfMemory) ⊎ ((why : AnyWhy) × (f ≡ TextFault.Line lines.new.number why) × IsWrongEvent names.now lines.old lines.new why)) }
 {
     let mut events = Vec::new(alloc);
     for _place in 0..MOST_EVENTS {
@@ -143,6 +152,7 @@ fn read_plan<A: Allocator + Copy>(
 ) -> Result<Schedule<A>, ScheduleFault>
     ensures read { IfOk result (λ s. (lines.old.left ≡ plan_lines s) × IsPlan s) }
     ensures whole { (p : Plan) → IsPlan p → lines.old.left ≡ plan_lines p → MatchResult result (λ w. w ≡ p) (λ f. f ≡ TextFault.OutOfMemory) }
+    ensures stopped { IfErr result (λ f. (f ≡ TextFault.OutOfMemory) ⊎ ((why : AnyWhy) × (f ≡ TextFault.Line lines.new.number why) × StopsFirst lines.old lines.new why)) }
 {
     let (processes, names, front) = read_head(alloc, lines)?;
     let Ok(shape) = Shape::new(processes, names.count() as u32) else {
@@ -169,6 +179,7 @@ pub fn parse_schedule<A: Allocator + Copy>(
 ) -> Result<Schedule<A>, ScheduleFault>
     ensures read { IfOk result (λ s. Spells text.now s × IsPlan s) }
     ensures whole { (p : Plan) → IsPlan p → Spells text.now p → MatchResult result (λ w. w ≡ p) (λ f. f ≡ TextFault.OutOfMemory) }
+    ensures line { length text.now < 2 ^ 64 - 1 → IfErr result (λ f. (f ≡ TextFault.OutOfMemory) ⊎ ((number : ℕ) × (why : AnyWhy) × (f ≡ TextFault.Line number why) × RefusesLine number why text.now)) }
 {
     let mut lines = Lines::skipping(text.as_bytes());
     read_plan(alloc, &mut lines)

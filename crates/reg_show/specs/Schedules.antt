@@ -8,7 +8,7 @@ use Rattle.reg_moments.specs.ScheduleText.{IsScheduleText, schedule_text}
 use Rattle.reg_commands.specs.Replays.{start_of}
 use Rattle.reg_commands.specs.Plays.{Holds, IsPlayBy, plan_of}
 
--- There is a play of the workload whose schedule was written: that of the events which it accepted, under the workload's
+-- The schedule of the player's play of the workload was written: that of the events which it accepted, under the workload's
 -- front end and names. `Wrote` says how a text was.
 pub record ShowsSchedule (fair : Bool) (start : Op → ℕ → Start) (Wrote : List ℕ → Type 0) (work : Load) : Type 0 where
   pub made : Made
@@ -17,7 +17,7 @@ pub record ShowsSchedule (fair : Bool) (start : Op → ℕ → Start) (Wrote : L
   pub schedule : IsScheduleText (plan_of work made)
   pub written : Wrote (schedule_text (plan_of work made))
 
--- The text is a document that says a workload, and the schedule of a play of it was written.
+-- The text is a document that says a workload, and the schedule of the player's play of it was written.
 pub record WritesSchedule (fair : Bool) (Wrote : List ℕ → Type 0) (text : List ℕ) : Type 0 where
   pub work : Load
   pub holds : Holds text work

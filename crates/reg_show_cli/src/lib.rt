@@ -4,7 +4,7 @@
 mod program;
 mod words;
 
-pub use program::{refuse, run_program, run_words};
+pub use program::{refuse, run_line, run_program, run_words};
 pub use reg_show::Showing;
 pub use reg_words::WordsFault;
 pub use words::{Asked, choose};

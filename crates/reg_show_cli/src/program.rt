@@ -1,11 +1,14 @@
 //! The program: the words of its command line, and then what they ask for, over the standard streams.
-ghost use Rattle.std.specs.Prelude.{◌≡◌, ◌≤◌, IfErr, IfOk, MatchResult, Err};
+ghost use Rattle.std.specs.Prelude.{◌≡◌, ◌≤◌, ◌⊎◌, Ok};
 ghost use Rattle.std.specs.Io.KnownBytes.{Appends};
 ghost use Rattle.reg_text.specs.Writing.{AppendsPart};
 ghost use Rattle.reg_messages.specs.FaultLines.{fault_line};
 ghost use Rattle.reg_words.specs.Faults.{status_of};
 ghost use Rattle.reg_words.specs.Lines.{behind_name};
 ghost use Rattle.reg_show_cli.specs.Lines.{IsAnswer, IsCommandLine, IsHelpLine, refused_line};
+ghost use Rattle.reg_show_cli.specs.Statuses.{Obeys, Stops, Tells, memory_line};
+ghost use Rattle.reg_show_cli.specs.declared.words.Asked.{Asked as AnyAsked};
+ghost use Rattle.reg_show_cli.specs.declared.words.TheConstants.{HELP};
 
 use crate::words::{Asked, HELP, choose};
 use reg_commands::{Fault, write_fault};
@@ -38,6 +41,8 @@ fn obey<R: AllocGlobal, I: Read, O: Write, E: Write>(
     errors: &mut E,
 ) -> u8
     ensures range { result ≤ 1 }
+    ensures obeyed { result ≡ 0 → Obeys HELP.now asked (I.remaining reader.old) (Appends (O.contents writer.old) (O.contents writer.new)) }
+    ensures stopped { result ≡ 1 → Stops asked (I.remaining reader.old) (writer.new ≡ writer.old) (O.contents writer.old) (O.contents writer.new) (E.contents errors.old) (E.contents errors.new) }
     ensures quiet { result ≡ 0 → errors.new ≡ errors.old }
 {
     match asked {
@@ -48,27 +53,11 @@ fn obey<R: AllocGlobal, I: Read, O: Write, E: Write>(
     }
 }
 
-/// Does what the words ask for, and gives the status.
-fn obey_words<R, E>(rt: &R, words: &[String], errors: &mut E) -> Result<u8, WordsFault>
-where
-    R: AllocGlobal + Input + Print + Copy,
-    E: Write,
-    ensures range { IfOk result (λ status. status ≤ 1) }
-    ensures refused { IfErr result (λ fault. IsAnswer (behind_name words.now) (Err fault)) }
-    ensures quiet { MatchResult result (λ status. status ≡ 0 → errors.new ≡ errors.old) (λ _. errors.new ≡ errors.old) }
-{
-    let asked = choose(rt.alloc(), words)?;
-    let mut reader = rt.reader();
-    let Ok(mut writer) = BufWriter::new(rt.alloc(), io::writer(rt)) else {
-        return Err(WordsFault::OutOfMemory);
-    };
-    Ok(obey(rt, asked, &mut reader, &mut writer, errors))
-}
-
 /// Tells why the words ask for nothing, and gives the status.
 pub fn refuse<E: Write>(fault: WordsFault, errors: &mut E) -> u8
     ensures status { result ≡ status_of fault }
     ensures told { result ≡ 2 → AppendsPart (E.contents errors.old) (E.contents errors.new) refused_line }
+    ensures memory { result ≡ 1 → AppendsPart (E.contents errors.old) (E.contents errors.new) memory_line }
 {
     tell(
         fault,
@@ -77,22 +66,48 @@ pub fn refuse<E: Write>(fault: WordsFault, errors: &mut E) -> u8
     )
 }
 
-/// Does what the words of a command line ask for, and gives the exit status: 0, or 1 where something was refused, or 2
-/// for the command line. Every line of a fault goes to `errors`.
+/// Does what the words of a command line ask for, over this reader and this writer, and gives the exit status: 0, or 1
+/// where something was refused, or 2 for the command line. Every line of a fault goes to `errors`.
+pub fn run_line<R: AllocGlobal, I: Read, O: Write, E: Write>(
+    rt: &R,
+    words: &[String],
+    reader: &mut I,
+    writer: &mut O,
+    errors: &mut E,
+) -> u8
+    ensures range { result ≤ 2 }
+    ensures obeyed { result ≡ 0 → (asked : AnyAsked) × IsAnswer (behind_name words.now) (Ok asked) × Obeys HELP.now asked (I.remaining reader.old) (Appends (O.contents writer.old) (O.contents writer.new)) }
+    ensures stopped { result ≡ 1 → ((asked : AnyAsked) × IsAnswer (behind_name words.now) (Ok asked) × Stops asked (I.remaining reader.old) (writer.new ≡ writer.old) (O.contents writer.old) (O.contents writer.new) (E.contents errors.old) (E.contents errors.new))
+        ⊎ ((writer.new ≡ writer.old) × AppendsPart (E.contents errors.old) (E.contents errors.new) memory_line) }
+    ensures refused { result ≡ 2 → (¬ IsCommandLine (behind_name words.now)) × (¬ IsHelpLine (behind_name words.now)) × (writer.new ≡ writer.old) }
+    ensures told { result ≡ 2 → AppendsPart (E.contents errors.old) (E.contents errors.new) refused_line }
+    ensures quiet { result ≡ 0 → errors.new ≡ errors.old }
+{
+    match choose(rt.alloc(), words) {
+        Ok(asked) => obey(rt, asked, reader, writer, errors),
+        Err(fault) => refuse(fault, errors),
+    }
+}
+
+/// `run_line` over the standard streams.
 pub fn run_words<R, E>(rt: &R, words: &[String], errors: &mut E) -> u8
 where
     R: AllocGlobal + Input + Print + Copy,
     E: Write,
     ensures range { result ≤ 2 }
+    ensures obeyed { result ≡ 0 → (asked : AnyAsked) × IsAnswer (behind_name words.now) (Ok asked) }
+    ensures stopped { result ≡ 1 → ((asked : AnyAsked) × IsAnswer (behind_name words.now) (Ok asked) × Tells asked (E.contents errors.old) (E.contents errors.new))
+        ⊎ AppendsPart (E.contents errors.old) (E.contents errors.new) memory_line }
     ensures refused { result ≡ 2 → ¬ IsCommandLine (behind_name words.now) }
     ensures helped { result ≡ 2 → ¬ IsHelpLine (behind_name words.now) }
     ensures told { result ≡ 2 → AppendsPart (E.contents errors.old) (E.contents errors.new) refused_line }
     ensures quiet { result ≡ 0 → errors.new ≡ errors.old }
 {
-    match obey_words(rt, words, errors) {
-        Ok(status) => status,
-        Err(fault) => refuse(fault, errors),
-    }
+    let mut reader = rt.reader();
+    let Ok(mut writer) = BufWriter::new(rt.alloc(), io::writer(rt)) else {
+        return refuse(WordsFault::OutOfMemory, errors);
+    };
+    run_line(rt, words, &mut reader, &mut writer, errors)
 }
 
 /// `run_words` of the words that the program was started with.

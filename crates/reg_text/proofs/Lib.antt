@@ -23,3 +23,5 @@ pub mod Counting
 pub mod Seen
 pub mod Sent
 mod Named
+pub mod Asked
+pub mod Numbered

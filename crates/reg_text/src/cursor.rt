@@ -1,6 +1,7 @@
 //! A text, line by line.
-ghost use Rattle.std.specs.Prelude.{◌≡◌, [], ◌∷◌, MatchOption, IfNone, IfSome, ◌<◌, ◌+◌, length};
-ghost use Rattle.reg_text.specs.Lines.{lines_of, kept, is_kept as is_kept_of};
+ghost use Rattle.std.specs.Prelude.{◌≡◌, [], ◌∷◌, MatchOption, IfNone, IfSome, ◌<◌, ◌+◌, length, true, false};
+ghost use Rattle.reg_text.specs.Lines.{lines_of, kept, is_kept as is_kept_of, IsAsked};
+ghost use Rattle.reg_text.specs.Inner.{IsFound};
 
 use crate::faults::{TextFault, Why};
 use memchr::memchr;
@@ -34,7 +35,7 @@ fn is_kept(line: &[u8]) -> bool
 #[inline]
 fn next_kept<'a>(text: &'a [u8], number: &mut u64) -> Option<(&'a [u8], &'a [u8])>
     ensures lines { MatchOption result (kept (lines_of text.now) ≡ []) (λ p. kept (lines_of text.now) ≡ p.0.now ∷ kept (lines_of p.1.now)) }
-    ensures number { number.old + length (lines_of text.now) < u64.MAX → MatchOption result (number.new ≡ number.old + length (lines_of text.now) + 1) (λ p. number.new + length (lines_of p.1.now) ≡ number.old + length (lines_of text.now)) }
+    ensures number { number.old + length (lines_of text.now) < u64.MAX → MatchOption result (number.new ≡ number.old + length (lines_of text.now) + 1) (λ p. IsFound p.0.now (lines_of text.now) (lines_of p.1.now) number.old number.new) }
 {
     let mut rest = text;
     while let Some((line, after)) = cut_line(rest) {
@@ -61,14 +62,14 @@ impl<'a> Model for Lines<'a> {
 
     ghost Value = { Rest };
 
-    ghost view = { λ l. record { left = shown l.skips (lines_of l.rest.now); all = lines_of l.rest.now; number = l.number } };
+    ghost view = { λ l. record { left = shown l.skips (lines_of l.rest.now); all = lines_of l.rest.now; number = l.number; skips = l.skips } };
 }
 
 impl<'a> Lines<'a> {
     /// All lines of the text.
     pub fn new(text: &'a [u8]) -> Lines<'a>
         ensures lines { (result.left ≡ lines_of text.now) × (result.all ≡ lines_of text.now) }
-        ensures number { result.number ≡ 0 }
+        ensures number { (result.number ≡ 0) × (result.skips ≡ false) }
     {
         Lines {
             rest: text,
@@ -80,7 +81,7 @@ impl<'a> Lines<'a> {
     /// The lines of the text that are neither empty nor begin with `#`.
     pub fn skipping(text: &'a [u8]) -> Lines<'a>
         ensures lines { (result.left ≡ kept (lines_of text.now)) × (result.all ≡ lines_of text.now) }
-        ensures number { result.number ≡ 0 }
+        ensures number { (result.number ≡ 0) × (result.skips ≡ true) }
     {
         Lines {
             rest: text,
@@ -111,7 +112,7 @@ impl<'a> Lines<'a> {
     pub fn next(&mut self) -> Option<&'a [u8]>
         ensures line { MatchOption result (self.old.left ≡ []) (λ line. self.old.left ≡ line.now ∷ self.new.left) }
         ensures end { IfNone result ((self.new.left ≡ []) × (self.new.all ≡ [])) }
-        ensures number { self.old.number + length self.old.all < u64.MAX → MatchOption result (self.new.number ≡ self.old.number + length self.old.all + 1) (λ _. self.new.number + length self.new.all ≡ self.old.number + length self.old.all) }
+        ensures asked { IsAsked self.old self.new }
     {
         let mut number = self.number;
         let found = if self.skips {

@@ -4,6 +4,7 @@ ghost use Rattle.std.specs.Fmt.{decimal};
 ghost use Rattle.std.specs.Str.{IsUtf8};
 ghost use Rattle.std.specs.List.{list_all};
 ghost use Rattle.reg_text.specs.Lines.{IsAsked};
+ghost use Rattle.reg_text.specs.declared.faults.Why.{Why as AnyWhy};
 ghost use Rattle.reg_text.specs.Forms.{is_numeral};
 ghost use Rattle.reg_text.specs.Words.{is_front_letter};
 
@@ -21,6 +22,7 @@ pub fn expect_line(lines: &mut Lines<'_>, text: &[u8]) -> Result<(), TextFault>
     ensures whole { (rest : List (List ℕ)) → lines.old.left ≡ text.now ∷ rest → MatchResult result (λ _. lines.new.left ≡ rest) (λ _. ⊥) }
     ensures end { lines.old.left ≡ [] → result ≡ Err (TextFault.Line lines.new.number Why.End) }
     ensures form { (line : List ℕ) (rest : List (List ℕ)) → lines.old.left ≡ line ∷ rest → line ≢ text.now → result ≡ Err (TextFault.Line lines.new.number Why.Form) }
+    ensures fault { IfErr result (λ f. (why : AnyWhy) × (f ≡ TextFault.Line lines.new.number why)) }
     ensures asked { IsAsked lines.old lines.new }
 {
     match lines.next() {
@@ -42,6 +44,7 @@ pub fn read_count(lines: &mut Lines<'_>, mark: &[u8], limit: u64) -> Result<u64,
     ensures end { lines.old.left ≡ [] → result ≡ Err (TextFault.Line lines.new.number Why.End) }
     ensures range { (digits : List ℕ) (rest : List (List ℕ)) → is_numeral digits ≡ true → lines.old.left ≡ (mark.now ++ digits) ∷ rest → IfErr result (λ f. f ≡ TextFault.Line lines.new.number Why.Range) }
     ensures form { (line : List ℕ) (rest : List (List ℕ)) → lines.old.left ≡ line ∷ rest → ((digits : List ℕ) → line ≡ mark.now ++ digits → is_numeral digits ≡ false) → result ≡ Err (TextFault.Line lines.new.number Why.Form) }
+    ensures fault { IfErr result (λ f. (why : AnyWhy) × (f ≡ TextFault.Line lines.new.number why)) }
     ensures asked { IsAsked lines.old lines.new }
 {
     let Some(line) = lines.next() else {

@@ -193,9 +193,46 @@ fn orders_are_judged(rt: HostRuntime) {
     }
 }
 
+const FROM_THE_FIRST_CALL: &str = "       0  p0    #0       call    write x 5
+       0  p0    #0       answer  done
+       1  p0    #1       call    read x
+       1  p0    #1       answer  value 5
+order 2
+p0 #0
+p0 #1
+points 2
+p0 #0 at 0
+p0 #1 at 1
+end
+";
+
+const FROM_THE_FIRST_ANSWER: &str = "       0  p0    #0       answer  done
+       1  p0    #1       call    read x
+       1  p0    #1       answer  value 5
+order 2
+p0 #0
+p0 #1
+points 2
+p0 #0 at 0
+p0 #1 at 1
+end
+";
+
 /// What is cut off the report of one process, what is put behind it, the verdicts, and the fault.
-const CHANGED: [(&str, &str, &str, &str); 4] = [
+const CHANGED: [(&str, &str, &str, &str); 6] = [
     ("", "", "serial yes\npoints yes\n", ""),
+    (
+        FROM_THE_FIRST_ANSWER,
+        "       0  p0    #0       answer done\n       1  p0    #1       call    read x\nend\n",
+        "",
+        "line 8: form\n",
+    ),
+    (
+        FROM_THE_FIRST_CALL,
+        "       0  p0    #0       answer  done\n       0  p0    #0       call    write x 5\nend\n",
+        "",
+        "line 7: place\n",
+    ),
     ("\n", "", "serial yes\npoints yes\n", ""),
     ("end\n", "", "", "line 17: end\n"),
     ("", "end\n", "", "line 18: end\n"),

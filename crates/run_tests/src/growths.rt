@@ -5,7 +5,7 @@ use crate::world_rows::{LINEAR, LOCAL_READ, LOCAL_WRITE, Row};
 use refusing::{Trial, refusals};
 use reg_base::{OpId, Shape};
 use reg_front::{Front, FrontEnd, Linear, LocalRead, LocalWrite};
-use reg_history::{History, Point, check_points, check_serial};
+use reg_history::{CheckFault, History, Point, check_points, check_serial};
 use reg_toml::{Workload, WorkloadFault, read_table};
 use reg_workload::{
     Play, Schedule, ScheduleFault, SeedWords, parse_schedule, play_fair, play_seeded,
@@ -172,16 +172,7 @@ struct Run {
     events: &'static [Event],
 }
 
-fn both_say_yes<A: Allocator + Copy>(
-    alloc: A,
-    history: &History<A>,
-    order: &[OpId],
-    points: &[Point],
-) -> bool {
-    check_serial(alloc, history, order) == Ok(()) && check_points(alloc, history, points) == Ok(())
-}
-
-/// The order and the points, where both checks say yes.
+/// The order and the points, where both checks say yes. None where one of them wants memory.
 fn judged<A: Allocator + Copy>(
     alloc: A,
     ample: Global,
@@ -189,10 +180,14 @@ fn judged<A: Allocator + Copy>(
     order: &[OpId],
     points: &[Point],
 ) -> Result<Option<String>, Fail> {
-    if both_say_yes(alloc, history, order, points) {
-        return Ok(Some(format!(in ample; "{order:?} {points:?}")?));
+    let serial = check_serial(alloc, history, order);
+    let pointed = check_points(alloc, history, points);
+    if [serial, pointed].contains(&Err(CheckFault::OutOfMemory)) {
+        return Ok(None);
     }
-    Ok(None)
+    serial?;
+    pointed?;
+    Ok(Some(format!(in ample; "{order:?} {points:?}")?))
 }
 
 fn judged_with_points<A: Allocator + Copy>(

@@ -1,7 +1,11 @@
+use Rattle.reg_text.specs.Inner.{GoesOn}
 use Rattle.reg_text.proofs.Turns.{Gathered}
 use Rattle.reg_schedules.specs.Schedules.{event_text, EventFits}
 use Rattle.reg_schedules.proofs.schedules.read_events.Given as goal
 
 -- as many were read as there were turns
 abbrev pub invariant-loop-place : goal.invariant-loop-place
-invariant-loop-place g l = Gathered (event_text l.names) (λ _ x. EventFits l.names x) l.initial.lines.left l.lines.left l.events.items l._place
+invariant-loop-place g l = record {
+  gathered : Gathered (event_text l.names) (λ _ x. EventFits l.names x) l.initial.lines.left l.lines.left l.events.items l._place;
+  on : GoesOn l.initial.lines l.lines;
+}

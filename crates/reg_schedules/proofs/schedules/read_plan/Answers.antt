@@ -1,4 +1,6 @@
-use Rattle.std.proofs.Common.{rules, ℕ, ◌≡◌, ◌∙◌, ap, sym, subst, length, map, List, refl}
+use Rattle.std.proofs.lemmas.Result.{err_from_is_err_and}
+use Rattle.reg_schedules.proofs.Plans.{events_stopped}
+use Rattle.std.proofs.Common.{rules, inl, inr, ℕ, ◌≡◌, ◌∙◌, ap, sym, subst, length, map, List, refl}
 use Rattle.reg_base.specs.Shape.{Extent}
 use Rattle.reg_world.specs.declared.events.Event.{Event}
 use Rattle.reg_front.specs.declared.named.Front.{Front}
@@ -36,3 +38,22 @@ returns-clause-whole g c = λ p ok e.
     let t : c.in-Ok.shape ≡ p.shape = s ∙ ap (λ x. record { processes = x; registers = c.count.result }) head.0 ∙ ap (λ x. record { processes = p.shape.processes; registers = x }) n in
     let events = c.in_ok-events.ensures.whole p.events (fits c.in_ok-processes.names p.names p.events head.1 ok.events) ok.few (lines c.in_ok-processes.names p.names p.events c.read_head.new.lines.left head.1 head.3) in
     same_plan p _ _ _ _ t head.1 head.2 events
+
+pub returns-in_err-processes-clause-stopped : goal.returns-in_err-processes-clause-stopped
+returns-in_err-processes-clause-stopped g c =
+    let p = err_from_is_err_and c.from_residual.result c.from_residual.ensures.1 in
+    rw (p.1, p.2) c.in_err-processes.ensures.stopped
+
+pub returns-in_err-events-clause-stopped : goal.returns-in_err-events-clause-stopped
+returns-in_err-events-clause-stopped g c =
+    let p = err_from_is_err_and c.from_residual-in_err-events.result c.from_residual-in_err-events.ensures.1 in
+    let head = c.in_ok-processes.ensures in
+    rw (p.1, p.2) (elim c.in_err-events.ensures.wrong [
+      | inl memory ↦ inl memory
+      | inr (why, is, wrong) ↦ inr (
+        why,
+        is,
+        events_stopped c.args.lines.now c.read_head.new.lines c.read_events.new.lines c.in_ok-processes.processes c.in_ok-processes.names c.in_ok-processes.front why
+            head.read.1 head.read.2 head.read.3 head.read.0 (λ m others other rest some few spelt e. (head.whole m others other rest some few spelt e).1) wrong head.on,
+      )
+    ])
