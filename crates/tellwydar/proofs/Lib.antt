@@ -1,1 +1,1 @@
-mod First
+mod FirstCalls

@@ -1,4 +1,4 @@
-use Rattle.tellwydar.proofs.First.{first_ok}
+use Rattle.tellwydar.proofs.FirstCalls.{first_ok}
 use Rattle.tellwydar.proofs.beginning.call_first.Goals as goal
 
 pub returns : goal.returns
