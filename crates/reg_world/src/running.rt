@@ -1,6 +1,5 @@
 //! All processes and wires of a run, one event after another.
 ghost use Rattle.std.specs.Prelude.{◌≡◌, ◌<◌, ◌≤◌, ◌⊎◌, ◌++◌, ◌∷◌, List, false, length, take, drop, Option, Some, IfOk, OnOk, [], MatchOption, MatchResult};
-ghost use Rattle.reg_base.specs.declared.limits.TheConstants.{MOST_PROCESSES};
 ghost use Rattle.reg_orders.specs.History.{IsHistory};
 ghost use Rattle.reg_orders.specs.Orders.{IsSerial, IsPointOrder};
 ghost use Rattle.reg_process.specs.declared.steps.Reply.{Reply};
@@ -11,16 +10,15 @@ ghost use Rattle.reg_world.specs.Laws.{DeliveriesAgree, DeliveriesRise, Deliveri
 ghost use Rattle.reg_world.specs.Promises.{OrderIsLongest, OrderIsRight, FirstsRight, RepliesRight, ReadsRight};
 ghost use Rattle.reg_world.specs.RealTime.{AnswersNothingFirst, KeepsUpdates, KeepsAllUpdates};
 ghost use Rattle.reg_world.specs.World.{run_of, whole};
-ghost use Rattle.reg_world.specs.Stations.{listed};
 ghost use Rattle.reg_world.specs.Worlds.{Made, run_in, Accepts, Refuses, reply_in, new_world, after_events, RunRefuses, IsProcess, IsWire, IsNoWire, HasFrames, IsFrameAt};
-ghost use Rattle.reg_world.specs.WorldParts.{first_standing, IsWorld, IsMove, Advances, PartsGoOn, PartsRefuse, made_of};
+ghost use Rattle.reg_world.specs.WorldParts.{IsWorld, IsMove, Advances, PartsGoOn, PartsRefuse, made_of};
 
 use crate::books::Book;
 use crate::events::Event;
 use crate::faults::{RunFault, WorldFault};
 use crate::finding::found;
 use crate::order::{CopyRead, First};
-use crate::stations::Station;
+use crate::stations::{Station, new_stations};
 use crate::witnesses::{points_of, witness_of};
 use reg_base::limits::MOST_EVENTS;
 use reg_base::{OpId, Shape};
@@ -53,21 +51,6 @@ impl<F: FrontEnd, A: Allocator + Copy, W: WireStore<A>> Model for World<F, A, W>
     ghost view = { λ w. record { failed = w.failed; processes = w.book.shape.processes; registers = w.book.shape.registers; accepted = w.book.accepted; history = w.book.entries } };
 
     ghost invariant = { λ w. IsWorld F.start w.failed w.stations.items w.book };
-}
-
-/// Processes that did nothing yet.
-fn new_stations<F: FrontEnd, A: Allocator + Copy, W: WireStore<A>>(
-    alloc: A,
-    shape: Shape,
-) -> Result<Vec<Station<F, A, W>, A>, AllocError>
-    ensures stand { IfOk result (λ v. v.items ≡ listed (first_standing shape) shape.processes) }
-    ensures few { shape.processes ≤ MOST_PROCESSES }
-{
-    let mut stations = Vec::new(alloc);
-    for me in 0..shape.processes() {
-        stations.push(Station::new(alloc, shape, me as u8)?)?;
-    }
-    Ok(stations)
 }
 
 /// Makes the step of an event. Where memory is refused the book hasn't changed.

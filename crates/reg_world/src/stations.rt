@@ -1,9 +1,11 @@
 //! One process with its wires.
-ghost use Rattle.std.specs.Prelude.{◌≡◌, [], length, replicate, false, None, IfOk, slice_get, slice_index_or};
+ghost use Rattle.std.specs.Prelude.{◌≡◌, ◌≤◌, [], length, replicate, false, None, IfOk, slice_get, slice_index_or};
 ghost use Rattle.reg_process.specs.Parts.{state_of, first_parts};
 ghost use Rattle.reg_process.specs.Faults.{step_fault};
 ghost use Rattle.reg_process.specs.Events.{Steps};
-ghost use Rattle.reg_world.specs.Stations.{MayAct, Acts};
+ghost use Rattle.reg_base.specs.declared.limits.TheConstants.{MOST_PROCESSES};
+ghost use Rattle.reg_world.specs.Stations.{MayAct, Acts, listed};
+ghost use Rattle.reg_world.specs.WorldParts.{first_standing};
 
 use reg_base::Shape;
 use reg_frames::Frame;
@@ -111,4 +113,19 @@ fn act<F: FrontEnd, A: Allocator + Copy>(
         Err(ProcessFault::OutOfMemory) => Err(AllocError),
         Err(_) => unreachable!(),
     }
+}
+
+/// Processes that did nothing yet.
+pub(crate) fn new_stations<F: FrontEnd, A: Allocator + Copy, W: WireStore<A>>(
+    alloc: A,
+    shape: Shape,
+) -> Result<Vec<Station<F, A, W>, A>, AllocError>
+    ensures stand { IfOk result (λ v. v.items ≡ listed (first_standing shape) shape.processes) }
+    ensures few { shape.processes ≤ MOST_PROCESSES }
+{
+    let mut stations = Vec::new(alloc);
+    for me in 0..shape.processes() {
+        stations.push(Station::new(alloc, shape, me as u8)?)?;
+    }
+    Ok(stations)
 }

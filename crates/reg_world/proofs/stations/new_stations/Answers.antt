@@ -2,7 +2,7 @@ use Rattle.std.proofs.Common.{◌≡◌, ap, ◌∙◌, refl, add-one, arith}
 use Rattle.reg_world.specs.Stations.{listed}
 use Rattle.reg_world.specs.WorldParts.{first_standing}
 use Rattle.reg_world.proofs.lists.Pushed.{one_more}
-use Rattle.reg_world.proofs.running.new_stations.Goals as goal
+use Rattle.reg_world.proofs.stations.new_stations.Goals as goal
 
 pub loop-me-preserved : goal.loop-me-preserved
 loop-me-preserved g c =
