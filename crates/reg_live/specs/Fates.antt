@@ -4,12 +4,21 @@ use Rattle.reg_live.specs.declared.roads.Parcel.{Parcel}
 use Rattle.reg_live.specs.declared.roughs.Fate.{Fate}
 use Rattle.reg_live.specs.declared.roughs.Fate.TheVariants.{Lost, Kept, Put}
 
--- what becomes of a parcel, by three words, where one is kept back already or none is
-abbrev pub fate_of : ℕ → ℕ → ℕ → ℕ → ℕ → Bool → Fate
-fate_of loss repeat first second third keeps =
-    if nat_lt (first % 100) loss
-    then Lost
-    else (if (third % 2 == 0) && not keeps then Kept (nat_lt (second % 100) repeat) else Put (nat_lt (second % 100) repeat))
+-- whether a word says that what happens so often of a hundred times happens
+abbrev pub says : ℕ → ℕ → Bool
+says odds word = nat_lt (word % 100) odds
+
+-- what becomes of a parcel that isn't lost: whether it is put twice, whether its last word is even, and whether one is kept back already
+abbrev pub fate_by : Bool → Bool → Bool → Fate
+fate_by twice even keeps = if even && not keeps then Kept twice else Put twice
+
+-- the same by the next two words, and the source behind them
+abbrev pub fate_left : {W : Type 0} → (W → ℕ × W) → ℕ → Bool → W → Fate × W
+fate_left next_word repeat keeps w = (fate_by (says repeat (next_word w).0) ((next_word (next_word w).1).0 % 2 == 0) keeps, (next_word (next_word w).1).1)
+
+-- What becomes of a parcel, and the source of words behind it: of a lost one a single word is drawn, and else three.
+abbrev pub fate_of : {W : Type 0} → (W → ℕ × W) → ℕ → ℕ → Bool → W → Fate × W
+fate_of next_word loss repeat keeps w = if says loss (next_word w).0 then (Lost, (next_word w).1) else fate_left next_word repeat keeps (next_word w).1
 
 -- what is put of a parcel, behind a copy of it where there is one, and which one is kept back from then on
 abbrev pub IsSorted : Fate → Option Parcel → Parcel → Option Parcel → Option Parcel → Option Parcel → Type 0

@@ -1,6 +1,6 @@
 //! A road that loses, repeats and reorders parcels.
 ghost use Rattle.std.specs.Prelude.{◌≡◌};
-ghost use Rattle.reg_live.specs.Fates.{fate_of, IsSorted};
+ghost use Rattle.reg_live.specs.Fates.{fate_of, says, IsSorted};
 
 use crate::roads::{Parcel, Posts, Road};
 use reg_random::Words;
@@ -17,22 +17,30 @@ pub(crate) enum Fate {
     Put { twice: bool },
 }
 
-/// What becomes of a parcel, by three words: the first says whether it is lost, the second whether it is put twice, and the third
-/// whether it is kept back, where no other one is.
-fn fate_of(odds: (u32, u32), words: (u32, u32, u32), keeps: bool) -> Fate
-    ensures { result ≡ fate_of odds.0 odds.1 words.0 words.1 words.2 keeps }
+/// What becomes of a parcel, by the words that are drawn: the first says whether it is lost, and then no other is drawn; the
+/// second whether it is put twice; and the third whether it is kept back, where no other one is.
+fn fate_of<R: Words>(odds: (u32, u32), words: &mut R, keeps: bool) -> Fate
+    ensures fate { result ≡ (fate_of R.next_word odds.0 odds.1 keeps words.old).0 }
+    ensures words { words.new ≡ (fate_of R.next_word odds.0 odds.1 keeps words.old).1 }
 {
     let (loss, repeat) = odds;
-    let (first, second, third) = words;
-    if first % 100 < loss {
+    if happens(words, loss) {
         return Fate::Lost;
     }
-    let twice = second % 100 < repeat;
-    if third % 2 == 0 && !keeps {
+    let twice = happens(words, repeat);
+    if words.word() % 2 == 0 && !keeps {
         Fate::Kept { twice }
     } else {
         Fate::Put { twice }
     }
+}
+
+/// Whether the next word, modulo 100, is below so many.
+fn happens<R: Words>(words: &mut R, below: u32) -> bool
+    ensures value { result ≡ says below (R.next_word words.old).0 }
+    ensures words { words.new ≡ (R.next_word words.old).1 }
+{
+    words.word() % 100 < below
 }
 
 /// The parcels that are put, in this order.
@@ -119,15 +127,12 @@ fn put_one<W: Wait>(rt: &W, posts: &Posts, parcel: Option<Parcel>) {
 }
 
 impl<R: Words + Drop> Road for Rough<R> {
-    /// Three words decide (`fate_of`). The lock is held until the parcels are put, so that they are put in this order.
+    /// The words that are drawn decide (`fate_of`). The lock is held until the parcels are put, so that they are put in this order.
     fn send<W: Wait>(&self, rt: &W, posts: &Posts, parcel: Parcel) {
         let mut guard = self.ditch.lock(rt);
         let ditch = &mut *guard;
-        let first = ditch.words.word();
-        let second = ditch.words.word();
-        let third = ditch.words.word();
         let keeps = ditch.kept.is_some();
-        let fate = fate_of((self.loss, self.repeat), (first, second, third), keeps);
+        let fate = fate_of((self.loss, self.repeat), &mut ditch.words, keeps);
         let Sorted {
             copy,
             this,

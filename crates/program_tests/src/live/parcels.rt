@@ -82,8 +82,8 @@ fn take(counts: &mut Vec<u64>, accepted: &mut u64, number: u64) -> bool {
     counts.push(*accepted).is_ok()
 }
 
-/// The counts that answer the frames which come out of a rough road, by the rule in words: of three words the first says
-/// whether a frame is lost, the second whether it comes twice, and the third whether it is kept back behind the next one.
+/// The counts that answer the frames which come out of a rough road, by the rule in words: the first word says whether a frame
+/// is lost, and then no other is drawn; the second whether it comes twice, and the third whether it is kept back behind the next one.
 fn expected(alloc: Global, seed: u64, loss: u32, repeat: u32) -> Vec<u64> {
     let mut words = SeedWords::new(seed);
     let mut counts = Vec::new(alloc);
@@ -91,10 +91,10 @@ fn expected(alloc: Global, seed: u64, loss: u32, repeat: u32) -> Vec<u64> {
     let mut kept = None;
     let mut all = true;
     for number in 0..WRITES {
-        let (first, second, third) = (words.word(), words.word(), words.word());
-        if first % 100 < loss {
+        if words.word() % 100 < loss {
             continue;
         }
+        let (second, third) = (words.word(), words.word());
         if second % 100 < repeat {
             all = take(&mut counts, &mut accepted, number) && all;
         }
