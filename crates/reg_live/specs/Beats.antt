@@ -1,5 +1,5 @@
 -- When frames are put again: what the pacer goes by, a pure function of what it saw.
-use Rattle.std.specs.Prelude.{ℕ, Bool, true, false, ◌==◌, ◌&&◌, ◌||◌, ◌+◌, not, Option, Some, None, nat_lt, if◌then◌else◌}
+use Rattle.std.specs.Prelude.{ℕ, Bool, false, ◌==◌, ◌&&◌, ◌||◌, ◌+◌, not, Option, Some, None, nat_lt, if◌then◌else◌}
 use Rattle.reg_live.specs.declared.beats.Beat.{Beat}
 
 -- a link that was never looked at

@@ -87,9 +87,3 @@ pub record IsToldOf (start : Op → ℕ → Start) (old : Kept) (e : Step) (told
   pub new : Kept
   pub refused : Refused start old e fault new
   pub same : told ≡ told_of fault
-
--- a refusal that tells nothing of the step
-abbrev pub IsPlain : LiveFault → Type 0
-IsPlain NoRegister = ⊥
-IsPlain (Behind n) = ⊥
-IsPlain fault = Unit {0}

@@ -4,7 +4,7 @@ ghost use Rattle.reg_base.specs.declared.limits.TheConstants.{MOST_EVENTS};
 ghost use Rattle.reg_process.specs.Faults.{is_stop};
 ghost use Rattle.reg_process.specs.Events.{Steps, Refused};
 ghost use Rattle.reg_stations.specs.Stations.{IsRefusal, early_fault, told_of};
-ghost use Rattle.reg_stations.specs.Desks.{IsPlain, IsToldOf, told_of_append, frames_of, with_frames};
+ghost use Rattle.reg_stations.specs.Desks.{IsToldOf, told_of_append, frames_of, with_frames};
 
 use crate::faults::LiveFault;
 use crate::gates::Gate;
