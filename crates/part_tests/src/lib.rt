@@ -37,6 +37,8 @@ mod reports;
 #[cfg(test)]
 mod resends;
 #[cfg(test)]
+mod tellings;
+#[cfg(test)]
 mod texts;
 #[cfg(test)]
 mod traces;
