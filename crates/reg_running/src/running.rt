@@ -1,11 +1,13 @@
 //! The start of a running cluster, and its end.
 ghost use Rattle.std.specs.Prelude.{◌≡◌, IfOk, map};
-ghost use Rattle.reg_live.specs.Passes.{IsLived, AreOneEach, AreOwn, AreNew, RespectTime};
+ghost use Rattle.reg_live.specs.Passes.{IsLived, AreOneEach, AreOwn, AreNew, RespectTime, RespectUpdates};
 
 use crate::crews::{carry_all, halt, join_couriers, pace};
 use reg_base::Shape;
 use reg_front::FrontEnd;
-use reg_live::{CloseFault, Closed, Cluster, Courier, Gate, Pacer, Parts, Pass, Road, close, set_up};
+use reg_live::{
+    CloseFault, Closed, Cluster, Courier, Gate, Pacer, Parts, Pass, Road, close, set_up,
+};
 use std::alloc::{AllocError, Global};
 use std::marker::Model;
 use std::sync::{Arc, Wait};
@@ -62,6 +64,7 @@ impl<F: FrontEnd, G: Gate + Drop> Running<F, G> {
         ensures each { IfOk result (λ c. AreOneEach passes.items self.processes) }
         ensures own { IfOk result (λ c. AreOwn passes.items (map (λ v. v.items) c.receipts.items)) }
         ensures time { IfOk result (λ c. RespectTime c.world.registers c.world.history (map (λ v. v.items) c.receipts.items)) }
+        ensures updates { IfOk result (λ c. RespectUpdates F.start c.world.history (map (λ v. v.items) c.receipts.items)) }
     {
         let Running {
             cluster,

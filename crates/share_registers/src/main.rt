@@ -8,15 +8,12 @@ use anyhow::anyhow;
 use std::alloc::Global;
 use std::sync::{Arc, Wait};
 use std::thread;
-use std::thread::{JoinHandle, Threads};
+use std::thread::Threads;
 use std::time::Clock;
 use tellwydar::{
-    Closed, Cluster, Courier, Linear, LiveFault, NoGate, Pacer, Parts, Pass, Receipt, Rough,
-    SeedWords, Shape, World, check_points, close, read, set_up, write,
+    Closed, Linear, LiveFault, NoGate, Pass, Receipt, Rough, SeedWords, Shape, World, check_points,
+    read, start, write,
 };
-
-/// One parcel of five is lost, and one of five is put twice.
-type Lossy = Arc<Rough<SeedWords>>;
 
 /// What each thread was answered.
 type Receipts = Vec<Vec<Receipt>>;
@@ -30,46 +27,6 @@ fn read_from<R: Wait>(
     ensures { IfOk result (λ receipt. front ≤ receipt.called) }
 {
     pass.perform_after(rt, read(0), front)
-}
-
-/// Starts a courier over the road.
-fn carry<R: Threads + Wait + Copy + Send + Sync + 'static>(
-    rt: R,
-    courier: Courier<Linear, NoGate>,
-    road: &Lossy,
-) -> anyhow::Result<JoinHandle<Courier<Linear, NoGate>>> {
-    let (mut courier, road) = (courier, Arc::try_clone(road)?);
-    let started = thread::spawn(&rt, move || {
-        courier.run(&rt, &road);
-        courier
-    });
-    Ok(started?)
-}
-
-/// Starts the pacer.
-fn pace<R: Threads + Wait + Clock + Copy + Send + Sync + 'static>(
-    rt: R,
-    pacer: Pacer<Linear, NoGate>,
-) -> anyhow::Result<JoinHandle<Pacer<Linear, NoGate>>> {
-    let mut pacer = pacer;
-    let started = thread::spawn(&rt, move || {
-        pacer.run(&rt);
-        pacer
-    });
-    Ok(started?)
-}
-
-/// Starts all couriers over one road. Those that were started are in the list, also where one could not be.
-fn carry_all<R: Threads + Wait + Copy + Send + Sync + 'static>(
-    rt: R,
-    carriers: &mut Vec<JoinHandle<Courier<Linear, NoGate>>>,
-    couriers: Vec<Courier<Linear, NoGate>>,
-    road: &Lossy,
-) -> anyhow::Result<()> {
-    for courier in couriers {
-        carriers.push(carry(rt, courier, road)?)?;
-    }
-    Ok(())
 }
 
 /// Writes, and has another thread read from behind the answer on. That thread gives its pass back.
@@ -105,79 +62,23 @@ fn perform_both<R: Threads + Wait + Copy + Send + Sync + 'static>(
     Ok(())
 }
 
-/// Stops the cluster, and waits for its couriers.
-fn stop_all<R: Threads + Wait>(
-    rt: &R,
-    cluster: &Cluster<Linear, NoGate>,
-    carriers: Vec<JoinHandle<Courier<Linear, NoGate>>>,
-) {
-    for _ in rt.forever() {
-        if cluster.stop(rt).is_ok() {
-            break;
-        }
-    }
-    for carrier in carriers {
-        drop(carrier.join(rt));
-    }
-}
-
-/// The parts of a cluster of two processes and one register.
-fn make_parts<R: Wait>(rt: &R, alloc: Global) -> anyhow::Result<Parts<Linear, NoGate>> {
-    let Ok(shape) = Shape::new(2, 1) else {
-        return Err(anyhow!("no such shape"));
-    };
-    match set_up(rt, alloc, shape, NoGate) {
-        Ok(parts) => Ok(parts),
-        Err(_) => Err(anyhow!("no memory")),
-    }
-}
-
-/// Starts the couriers, and has one thread write and another one read while they run.
-fn carry_and_perform<R: Threads + Wait + Copy + Send + Sync + 'static>(
-    rt: R,
-    carriers: &mut Vec<JoinHandle<Courier<Linear, NoGate>>>,
-    couriers: Vec<Courier<Linear, NoGate>>,
-    road: &Lossy,
-    passes: &mut Vec<Pass<Linear, NoGate>>,
-) -> anyhow::Result<()> {
-    carry_all(rt, carriers, couriers, road)?;
-    perform_both(rt, passes)
-}
-
-/// Has the operations performed while the couriers and the pacer run, stops all in any case, and gives the pacer back.
-fn run<R: Threads + Wait + Clock + Copy + Send + Sync + 'static>(
-    rt: R,
-    alloc: Global,
-    cluster: &Cluster<Linear, NoGate>,
-    passes: &mut Vec<Pass<Linear, NoGate>>,
-    couriers: Vec<Courier<Linear, NoGate>>,
-    pacer: Pacer<Linear, NoGate>,
-) -> anyhow::Result<Pacer<Linear, NoGate>> {
-    let road = Arc::new(alloc, Rough::new(SeedWords::new(7), 20, 20))?;
-    let pacer = pace(rt, pacer)?;
-    let mut carriers = Vec::new(alloc);
-    let shared = carry_and_perform(rt, &mut carriers, couriers, &road, passes);
-    stop_all(&rt, cluster, carriers);
-    shared?;
-    Ok(pacer.join(&rt))
-}
-
-/// Runs a cluster, and closes it.
+/// Starts a cluster of two processes and one register, of whose parcels one of five is lost and one of five put twice; has its
+/// operations performed, and closes it.
 fn share<R: Threads + Wait + Clock + Copy + Send + Sync + 'static>(
     rt: R,
     alloc: Global,
 ) -> anyhow::Result<Closed<Linear>> {
-    let Parts {
-        cluster,
-        mut passes,
-        couriers,
-        pacer,
-    } = make_parts(&rt, alloc)?;
-    let pacer = run(rt, alloc, &cluster, &mut passes, couriers, pacer)?;
-    match close(&rt, alloc, cluster, passes, Vec::new(alloc), pacer) {
-        Ok(closed) => Ok(closed),
-        Err(_) => Err(anyhow!("not closed")),
-    }
+    let Ok(shape) = Shape::new(2, 1) else {
+        return Err(anyhow!("no such shape"));
+    };
+    let road = Arc::new(alloc, Rough::new(SeedWords::new(7), 20, 20))?;
+    let Ok((running, mut passes)) = start::<Linear, _, _, _>(rt, alloc, shape, NoGate, road) else {
+        return Err(anyhow!("not started"));
+    };
+    let performed = perform_both(rt, &mut passes);
+    let closed = running.close(&rt, alloc, passes);
+    performed?;
+    closed.map_err(|_| anyhow!("not closed"))
 }
 
 /// Prints what each thread was answered.

@@ -18,6 +18,7 @@ pub use reg_live::{
     Parts, Pass, Posts, Receipt, Road, Rough, close, set_up, verify,
 };
 pub use reg_process::Reply;
+pub use reg_running::{Running, StartFault, start};
 pub use reg_scripts::{RunStop, run_scripts};
 pub use reg_workload::{
     Key, Play, Schedule, ScheduleFault, SeedWords, Words, Workload, WorkloadFault, parse_schedule,
