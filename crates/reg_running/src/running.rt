@@ -13,11 +13,13 @@ use std::marker::Model;
 use std::sync::{Arc, Wait};
 use std::thread::{JoinHandle, Threads};
 use std::time::Clock;
+use thiserror::Error;
 
 /// Why a cluster was not started. No thread of it runs then.
-#[derive(Clone, Copy, Debug, PartialEq, Eq)]
+#[derive(Clone, Copy, Debug, PartialEq, Eq, Error)]
 pub enum StartFault {
     /// There was no memory for it, or one of its threads couldn't be made.
+    #[error("out of memory")]
     OutOfMemory,
 }
 

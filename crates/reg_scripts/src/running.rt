@@ -6,15 +6,13 @@ ghost use Rattle.reg_scripts.specs.Scripts.{IsPerformed, IsBack, AreStarted, Are
 
 use reg_base::{Op, Shape};
 use reg_front::FrontEnd;
-use reg_live::{
-    CloseFault, Closed, Cluster, Courier, Honest, LiveFault, NoGate, Pacer, Parts, Pass, close,
-    set_up,
-};
+use reg_live::{CloseFault, Closed, Honest, LiveFault, NoGate, Pass};
+use reg_running::{Running, StartFault, start};
 use std::alloc::{AllocError, Global};
 use std::snapshot::Snapshot;
-use std::sync::Wait;
+use std::sync::{Arc, Wait};
 use std::thread;
-use std::thread::{JoinHandle, Promise, PromisedHandle, Threads};
+use std::thread::{Promise, PromisedHandle, Threads};
 use std::time::Clock;
 
 /// Why there is no record of scripts.
@@ -38,6 +36,18 @@ impl From<AllocError> for RunStop {
     }
 }
 
+impl From<StartFault> for RunStop {
+    ghost use Rattle.reg_scripts.specs.declared.running.RunStop.TheVariants.{OutOfMemory};
+
+    ghost from_gives = { λ _ stop. stop ≡ OutOfMemory };
+
+    fn from(fault: StartFault) -> RunStop {
+        match fault {
+            StartFault::OutOfMemory => RunStop::OutOfMemory,
+        }
+    }
+}
+
 /// A pass that is back, and why its script ended early.
 #[derive(Drop)]
 struct Caller<F: FrontEnd> {
@@ -57,14 +67,6 @@ impl<F: FrontEnd> Promise<Caller<F>> for Performs {
     ghost kept_by = { λ p c. IsPerformed p.process p.script.value.items c.pass c.fault };
 }
 
-/// The threads of a cluster.
-#[derive(Drop)]
-struct Crew<F: FrontEnd> {
-    couriers: Vec<JoinHandle<Courier<F, NoGate>>>,
-    pacer: Option<JoinHandle<Pacer<F, NoGate>>>,
-    callers: Vec<PromisedHandle<Caller<F>, Performs>>,
-}
-
 /// Performs a script up to the first refusal.
 fn perform_all<F: FrontEnd, R: Wait>(rt: &R, pass: Pass<F, NoGate>, script: &[Op]) -> Caller<F>
     requires { pass.receipts ≡ [] }
@@ -80,32 +82,6 @@ fn perform_all<F: FrontEnd, R: Wait>(rt: &R, pass: Pass<F, NoGate>, script: &[Op
         }
     }
     Caller { pass, fault: None }
-}
-
-/// Starts a courier.
-fn carry<F: FrontEnd + Send + Sync + 'static, R: Threads + Wait + Copy + Send + Sync + 'static>(
-    rt: R,
-    courier: Courier<F, NoGate>,
-) -> Result<JoinHandle<Courier<F, NoGate>>, AllocError> {
-    let mut courier = courier;
-    let started = thread::spawn(&rt, move || {
-        courier.run(&rt, &Honest);
-        courier
-    });
-    started.map_err(|_| AllocError)
-}
-
-/// Starts the pacer.
-fn pace<
-    F: FrontEnd + Send + Sync + 'static,
-    R: Threads + Wait + Clock + Copy + Send + Sync + 'static,
->(rt: R, pacer: Pacer<F, NoGate>) -> Result<JoinHandle<Pacer<F, NoGate>>, AllocError> {
-    let mut pacer = pacer;
-    let started = thread::spawn(&rt, move || {
-        pacer.run(&rt);
-        pacer
-    });
-    started.map_err(|_| AllocError)
 }
 
 /// Starts the caller of a script.
@@ -131,21 +107,6 @@ fn call<F: FrontEnd + Send + Sync + 'static, R: Threads + Wait + Copy + Send + S
     }
 }
 
-/// Starts each courier.
-fn start_couriers<
-    F: FrontEnd + Send + Sync + 'static,
-    R: Threads + Wait + Copy + Send + Sync + 'static,
->(
-    rt: R,
-    handles: &mut Vec<JoinHandle<Courier<F, NoGate>>>,
-    couriers: Vec<Courier<F, NoGate>>,
-) -> Result<(), AllocError> {
-    for courier in couriers {
-        handles.push(carry(rt, courier)?)?;
-    }
-    Ok(())
-}
-
 /// Starts the caller of each script, the k-th with the k-th pass.
 fn start_callers<
     F: FrontEnd + Send + Sync + 'static,
@@ -159,47 +120,17 @@ fn start_callers<
 ) -> Result<(), AllocError>
     requires empty { handles.old.items ≡ [] }
     requires passes { AreNew shape passes.items }
+    requires each { vec_len scripts ≡ shape.processes }
     ensures { OnOk result (AreStarted (map (λ s. s.items) scripts.items) (map (λ h. (h.promise.process, h.promise.script.value.items)) handles.new.items)) }
 {
     let mut passes = passes.into_iter();
     for script in scripts {
         let Some(pass) = passes.next() else {
-            return Err(AllocError);
+            unreachable!();
         };
         handles.push(call(rt, pass, script)?)?;
     }
     Ok(())
-}
-
-/// Starts the couriers and the pacer, and then the callers, so that no caller waits for a thread that was never made.
-fn start<
-    F: FrontEnd + Send + Sync + 'static,
-    R: Threads + Wait + Clock + Copy + Send + Sync + 'static,
->(
-    rt: R,
-    crew: &mut Crew<F>,
-    shape: Shape,
-    passes: Vec<Pass<F, NoGate>>,
-    couriers: Vec<Courier<F, NoGate>>,
-    pacer: Pacer<F, NoGate>,
-    scripts: Vec<Vec<Op>>,
-) -> Result<(), AllocError>
-    requires empty { crew.old.callers.items ≡ [] }
-    requires passes { AreNew shape passes.items }
-    ensures { OnOk result (AreStarted (map (λ s. s.items) scripts.items) (map (λ h. (h.promise.process, h.promise.script.value.items)) crew.new.callers.items)) }
-{
-    start_couriers(rt, &mut crew.couriers, couriers)?;
-    crew.pacer = Some(pace(rt, pacer)?);
-    start_callers(rt, &mut crew.callers, shape, passes, scripts)
-}
-
-/// Sends Stop until memory is there for it.
-fn halt<F: FrontEnd, R: Wait>(rt: &R, cluster: &Cluster<F, NoGate>) {
-    for _ in rt.forever() {
-        if cluster.stop(rt).is_ok() {
-            return;
-        }
-    }
 }
 
 /// How a script ended.
@@ -254,64 +185,33 @@ fn join_callers<F: FrontEnd, R: Threads + Wait>(
     }
 }
 
-/// Waits until the couriers are done.
-fn join_couriers<F: FrontEnd, R: Threads + Wait>(
-    rt: &R,
-    couriers: Vec<JoinHandle<Courier<F, NoGate>>>,
-) {
-    for courier in couriers {
-        drop(courier.join(rt));
+/// What is told where a cluster isn't closed.
+fn not_closed(fault: CloseFault) -> RunStop {
+    match fault {
+        CloseFault::OutOfMemory => RunStop::OutOfMemory,
+        fault => RunStop::Close { fault },
     }
 }
 
-/// Closes a cluster whose threads have ended, and whose passes have performed these scripts.
-fn close_ended<F: FrontEnd, R: Wait>(
+/// Closes a cluster whose callers have ended.
+fn close_ended<F: FrontEnd, R: Threads + Wait>(
     rt: &R,
     alloc: Global,
-    cluster: Cluster<F, NoGate>,
-    passes: Vec<Pass<F, NoGate>>,
-    pacer: Pacer<F, NoGate>,
+    running: Running<F, NoGate>,
+    told: Result<Vec<Pass<F, NoGate>>, RunStop>,
 ) -> Result<Closed<F>, RunStop>
-    ensures lived { IfOk result (λ c. IsLived F.start cluster (map (λ v. v.items) c.receipts.items) c.world) }
+    ensures lived { IfOk result (λ c. IsLived F.start running (map (λ v. v.items) c.receipts.items) c.world) }
     ensures time { IfOk result (λ c. RespectTime c.world.registers c.world.history (map (λ v. v.items) c.receipts.items)) }
-    ensures performed { IfOk result (λ c. (scripts : List (List Op)) → ArePerformed scripts passes.items → map ops_of (map (λ v. v.items) c.receipts.items) ≡ scripts) }
+    ensures performed { IfOk result (λ c. (scripts : List (List Op)) → IfOk told (λ passes. ArePerformed scripts passes.items) → map ops_of (map (λ v. v.items) c.receipts.items) ≡ scripts) }
 {
-    match close(rt, alloc, cluster, passes, Vec::new(alloc), pacer) {
-        Ok(closed) => Ok(closed),
-        Err(CloseFault::OutOfMemory) => Err(RunStop::OutOfMemory),
-        Err(fault) => Err(RunStop::Close { fault }),
+    match told {
+        Ok(passes) => running.close(rt, alloc, passes).map_err(not_closed),
+        Err(stop) => {
+            // (its threads end by it; of what it answers nothing is told)
+            drop(running.close(rt, alloc, Vec::new(alloc)));
+            Err(stop)
+        }
     }
-}
-
-/// Waits for all threads, and closes the cluster.
-fn end<F: FrontEnd, R: Threads + Wait>(
-    rt: &R,
-    alloc: Global,
-    cluster: Cluster<F, NoGate>,
-    crew: Crew<F>,
-    all: bool,
-) -> Result<Closed<F>, RunStop>
-    ensures all { OnOk result (all ≡ true) }
-    ensures lived { IfOk result (λ c. IsLived F.start cluster (map (λ v. v.items) c.receipts.items) c.world) }
-    ensures time { IfOk result (λ c. RespectTime c.world.registers c.world.history (map (λ v. v.items) c.receipts.items)) }
-    ensures performed { IfOk result (λ c. (scripts : List (List Op)) → AreStarted scripts (map (λ h. (h.promise.process, h.promise.script.value.items)) crew.callers.items) → map ops_of (map (λ v. v.items) c.receipts.items) ≡ scripts) }
-{
-    let Crew {
-        couriers,
-        pacer,
-        callers,
-    } = crew;
-    let told = join_callers(rt, alloc, callers);
-    halt(rt, &cluster);
-    join_couriers(rt, couriers);
-    let Some(pacer) = pacer else {
-        return Err(RunStop::OutOfMemory);
-    };
-    let pacer = pacer.join(rt);
-    if !all {
-        return Err(RunStop::OutOfMemory);
-    }
-    close_ended(rt, alloc, cluster, told?, pacer)
 }
 
 /// Performs each script in a thread of its own, over a cluster with an honest road, and closes the cluster: the k-th script by
@@ -330,22 +230,13 @@ pub fn run_scripts<
     ensures time { IfOk result (λ c. RespectTime c.world.registers c.world.history (map (λ v. v.items) c.receipts.items)) }
     ensures performed { IfOk result (λ c. map ops_of (map (λ v. v.items) c.receipts.items) ≡ map (λ s. s.items) scripts.items) }
 {
-    let mut crew = Crew {
-        couriers: Vec::new(alloc),
-        pacer: None,
-        callers: Vec::new(alloc),
-    };
-    crew.couriers.reserve(shape.processes() as usize)?;
-    crew.callers.reserve(shape.processes() as usize)?;
-    let Ok(parts) = set_up::<F, NoGate>(&rt, alloc, shape, NoGate) else {
-        return Err(RunStop::OutOfMemory);
-    };
-    let Parts {
-        cluster,
-        passes,
-        couriers,
-        pacer,
-    } = parts;
-    let all = start(rt, &mut crew, shape, passes, couriers, pacer, scripts).is_ok();
-    end(&rt, alloc, cluster, crew, all)
+    let mut callers = Vec::new(alloc);
+    callers.reserve(scripts.len())?;
+    let road = Arc::new(alloc, Honest)?;
+    let (running, passes) = start::<F, _, _, _>(rt, alloc, shape, NoGate, road)?;
+    let started = start_callers(rt, &mut callers, shape, passes, scripts);
+    let told = join_callers(&rt, alloc, callers);
+    let closed = close_ended(&rt, alloc, running, told);
+    started?;
+    closed
 }

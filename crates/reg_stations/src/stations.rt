@@ -316,6 +316,7 @@ impl<F: FrontEnd, A: Allocator + Copy> Station<F, A> {
         ensures own { IfOk result (λ s. (process ≡ self.old.me) × (s.spot.process ≡ process)) }
         ensures added { IfOk result (λ s. self.new.log ≡ self.old.log ++ record { step = step.now; reply = s.reply } ∷ []) }
         ensures front { IfOk result (λ s. front ≤ s.spot.place) }
+        ensures sends { IfOk result (λ s. (s.sends ≡ false) ↔ (frames_of F.start self.old.process step.now ≡ [])) }
         ensures frames { OnOk result (self.new.outgoing ≡ with_frames self.old.outgoing (frames_of F.start self.old.process step.now)) }
         ensures same { OnErr result ((self.new.log ≡ self.old.log) × (self.new.outgoing ≡ self.old.outgoing)) }
         ensures refusal { IfErr result (λ fault. IsRefusal registers front step.now fault) }
