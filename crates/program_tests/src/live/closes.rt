@@ -87,6 +87,21 @@ fn fault_with_two_more(rt: &(impl Wait + Abort), alloc: Global) -> Option<CloseF
     close_parts(rt, alloc, parts).err()
 }
 
+/// Closes a cluster of three with the pass of process 0 alone.
+fn fault_with_the_first_alone(rt: &(impl Wait + Abort), alloc: Global) -> Option<CloseFault> {
+    let mut parts = cluster(rt, alloc, 3);
+    for _less in 0..2u8 {
+        drop(last_of(rt, &mut parts.passes));
+    }
+    close_parts(rt, alloc, parts).err()
+}
+
+#[test]
+fn the_lowest_process_without_a_pass_is_told(rt: HostRuntime) {
+    let alloc = rt.alloc();
+    assert!(rt; fault_with_the_first_alone(&rt, alloc) == mismatch(1));
+}
+
 #[test]
 fn passes_too_many_are_counted(rt: HostRuntime) {
     let alloc = rt.alloc();
