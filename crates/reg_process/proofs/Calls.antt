@@ -1,8 +1,8 @@
 -- A call, from its cast and its deliveries.
 use Rattle.std.proofs.Common.{◌≡◌, ℕ, ◌<◌, ◌≤◌, ◌+◌, Bool, true, false, zero, suc, [], ◌∷◌, List, length, Option, Some, None, refl, sym, ap, ◌∙◌, subst, arith}
-use Rattle.std.specs.Prelude.{Result, Ok, Err, IfOk, IfErr, OnOk, MatchResult, cond, ◌==◌, ◌||◌, not, nat_lt, nat_le, nat_eq, slice_get, slice_index}
+use Rattle.std.specs.Prelude.{◌≢◌, Result, Ok, Err, IfOk, IfErr, IsErrOf, OnOk, MatchResult, cond, ◌==◌, ◌||◌, not, nat_lt, nat_le, nat_eq, slice_get, slice_index}
 use Rattle.std.proofs.lemmas.Bool.Decides.{nat_tests}
-use Rattle.std.proofs.lemmas.Bool.{cond-false, eq-eqb, ne_eqb}
+use Rattle.std.proofs.lemmas.Bool.{cond-false, eq-eqb, ne_eqb, lt-ltb, or_right}
 use Rattle.std.proofs.lemmas.List.{append-nil}
 use Rattle.reg_base.specs.declared.stamps.Stamp.{Stamp}
 use Rattle.reg_base.specs.declared.memory.Op.{Op}
@@ -15,8 +15,8 @@ use Rattle.reg_front.specs.declared.starts.Start.{Start}
 use Rattle.reg_front.specs.declared.starts.Start.TheVariants.{Look as Looks, Hold as Holds}
 use Rattle.reg_process.specs.declared.steps.Step.TheVariants.{Call, Take}
 use Rattle.reg_frames.specs.declared.bodies.Frame.{Frame}
-use Rattle.reg_process.specs.Process.{Held, State, called, no_frames, look, unsettled, seen_at, time_of, peer_at, taken, accepted, quiet, got_frames, clear_casts, delivered_state, due}
-use Rattle.reg_process.specs.Faults.{first_of, early_fault, full_at, call_fault, is_out, early_body, frame_fault, take_fault, full_by, is_cast, is_numbered, is_stop, takes_memory}
+use Rattle.reg_process.specs.Process.{Held, State, called, no_frames, look, unsettled, seen_at, time_of, peer_at, taken, accepted, quiet, got_frames, clear_casts, accepts, delivered_state, due}
+use Rattle.reg_process.specs.Faults.{first_of, early_fault, full_at, call_fault, is_out, early_body, frame_fault, take_fault, full_by, is_cast, is_numbered, is_stop, takes_memory, body_memory}
 use Rattle.reg_holdback.specs.Waiting.{seen_of}
 use Rattle.reg_process.specs.Parts.{Parts, state_of}
 use Rattle.reg_process.specs.Inner.{Good}
@@ -153,8 +153,12 @@ module _ (s : State) (from number expected : ℕ) (body : Body) (is : expected �
   next_fault same early =
       ap (λ b. cond b (first_of (early_body s from body) (full_by s body)) None) (eq-eqb number (peer_at s from).expected (same ∙ is)) ∙ ap (λ o. first_of o (full_by s body)) (sym early)
 
-  pub next_memory : (room : ℕ) → number ≡ expected → takes_memory s room from (Numbered number body) ≡ true
-  next_memory room same = ap (λ b. b || room == 0) (eq-eqb number (peer_at s from).expected (same ∙ is))
+  pub next_memory : (room : ℕ) → number ≡ expected → body_memory s room from body ≡ true → takes_memory s room from (Numbered number body) ≡ true
+  next_memory room same wants = ap (λ b. cond b (body_memory s room from body) (room == 0)) (eq-eqb number (peer_at s from).expected (same ∙ is)) ∙ wants
+
+  pub other_memory : (room : ℕ) → (number ≡ expected → ⊥) → room ≡ 0 → takes_memory s room from (Numbered number body) ≡ true
+  other_memory room other none =
+      ap (λ b. cond b (body_memory s room from body) (room == 0)) (ne_eqb number (peer_at s from).expected (λ q. other (q ∙ sym is))) ∙ eq-eqb room 0 none
 
   pub other_fault : (number ≡ expected → ⊥) → frame_fault s from (Numbered number body) ≡ None
   other_fault other = ap (λ b. cond b (first_of (early_body s from body) (full_by s body)) None) (ne_eqb number (peer_at s from).expected (λ q. other (q ∙ sym is)))
@@ -193,6 +197,20 @@ list_left Q (Err f) full h p = λ e. stops_then f full h e
 pub both_ok : {T E : Type 0} (r : Result T E) (P R Q : T → Type 0) → IfOk r P → IfOk r R → ((x : T) → P x → R x → Q x) → IfOk r Q
 both_ok (Ok x) P R Q a b f = f x a b
 both_ok (Err e) P R Q a b f = tt
+
+pub err_says : {T E P : Type 0} (r : Result T E) (e : E) → IsErrOf r e → IfErr r (λ _. P) → P
+err_says (Ok x) e is p = absurd cc
+err_says (Err f) e is p = p
+
+-- what an accepted body makes clear can want memory
+pub accepted_memory : (s : State) (from : ℕ) (body : Body) (frames : List Put) (s1 : State) (room : ℕ) → TakesBody s from body frames s1 → clear_casts s1 ≢ [] → body_memory s room from body ≡ true
+accepted_memory s from (Cast t op) frames s1 room took some = refl
+accepted_memory s from (Ack t) frames s1 room took some =
+    or_right (room == 0) _ (lt-ltb 0 (length (clear_casts (accepts from t s))) (least (clear_casts (accepts from t s)) (λ none. some (ap clear_casts took.state ∙ none))))
+  where
+    least : (xs : List Delivered) → xs ≢ [] → 0 < length xs
+    least [] empty = absurd (empty refl)
+    least (x ∷ xs) empty = omega arith
 
 -- a body was accepted, and what is clear was delivered
 pub accepted_goes : (s : State) (from : ℕ) (body : Body) (put frames : List Put) (s1 s2 : State) (cast : Option Stamp) (ds : List Delivered) (reply : Option Reply) → TakesBody s from body put s1 → frames ≡ put → cast ≡ None → Delivers s1 ds reply s2 → Goes (length s.peers) (accepted s from body) frames cast ds reply s2

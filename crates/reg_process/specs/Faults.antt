@@ -11,7 +11,7 @@ use Rattle.reg_process.specs.declared.steps.Step.{Step}
 use Rattle.reg_process.specs.declared.steps.Step.TheVariants.{Call, Take, Tick}
 use Rattle.reg_base.specs.declared.limits.TheConstants.{LAST_TIME, MOST_OPERATIONS}
 use Rattle.reg_base.specs.Memory.{register_of}
-use Rattle.reg_process.specs.Process.{State, Running, peer_at, next_of, seen_at, unsettled, time_of}
+use Rattle.reg_process.specs.Process.{State, Running, peer_at, next_of, seen_at, unsettled, time_of, clear_casts, accepts}
 use Rattle.reg_process.specs.declared.faults.ProcessFault.{ProcessFault}
 use Rattle.reg_process.specs.declared.faults.ProcessFault.TheVariants.{NoProcess, Busy, NoRegister, TooManyOperations, Ahead, Stale, ClockFull, OutOfMemory}
 
@@ -63,10 +63,16 @@ abbrev pub is_numbered : Frame → Bool
 is_numbered (Numbered number body) = true
 is_numbered (Got count) = false
 
--- whether a frame can find no memory, where so many frames fit into the kept list: an accepted body, and a dropped one
--- where there is no room for its answer, but never a count
+-- Whether an expected body can find no memory, where so many frames fit into the kept list: a cast is held, and an
+-- acknowledgement wants it only for its answer where there is no room, or for the casts that it makes clear.
+abbrev pub body_memory : State → ℕ → ℕ → Body → Bool
+body_memory s room from (Cast t op) = true
+body_memory s room from (Ack t) = (room == 0) || nat_lt 0 (length (clear_casts (accepts from t s)))
+
+-- Whether a frame can find no memory: an expected body as above, and a dropped one where there is no room for its answer, but
+-- never a count.
 abbrev pub takes_memory : State → ℕ → ℕ → Frame → Bool
-takes_memory s room from (Numbered number body) = (number == (peer_at s from).expected) || (room == 0)
+takes_memory s room from (Numbered number body) = if number == (peer_at s from).expected then body_memory s room from body else (room == 0)
 takes_memory s room from (Got count) = false
 
 abbrev pub take_fault : State → ℕ → Frame → Option ProcessFault

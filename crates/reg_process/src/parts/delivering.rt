@@ -1,7 +1,7 @@
 //! Delivery: one clear cast after another.
-ghost use Rattle.std.specs.Prelude.{◌≡◌, ◌<◌, ◌+◌, ◌^◌, [], length, MatchOption, IfOk, IfErr, Some, None, if◌then◌else◌};
+ghost use Rattle.std.specs.Prelude.{◌≡◌, ◌≢◌, ◌<◌, ◌+◌, ◌^◌, [], length, MatchOption, IfOk, IfErr, Some, None, if◌then◌else◌};
 ghost use Rattle.reg_base.specs.Memory.{after, register_of};
-ghost use Rattle.reg_process.specs.Process.{still};
+ghost use Rattle.reg_process.specs.Process.{still, clear_casts};
 ghost use Rattle.reg_process.specs.Delivery.{reply_by};
 ghost use Rattle.reg_process.specs.Inner.{RunsWell};
 ghost use Rattle.reg_frames.specs.declared.bodies.Body.TheVariants.{Cast};
@@ -90,10 +90,11 @@ impl<A: Allocator + Copy> Core<A> {
         Some((cast, reply))
     }
 
-    /// Delivers all clear casts into an empty list, and answers what is due.
+    /// Delivers all clear casts into an empty list, and answers what is due. Memory is wanting only where there is one.
     fn deliver(&mut self, delivered: &mut Vec<Delivered, A>) -> Result<Option<Reply>, AllocError>
         requires { delivered.old.items ≡ [] }
-        ensures { IfOk result (λ reply. Delivers self.old delivered.new.items reply self.new) }
+        ensures done { IfOk result (λ reply. Delivers self.old delivered.new.items reply self.new) }
+        ensures memory { IfErr result (λ _. clear_casts self.old ≢ []) }
     {
         let mut reply = None;
         while let Some((cast, due)) = self.deliver_one() {
@@ -114,6 +115,7 @@ impl<A: Allocator + Copy> Core<A> {
         ensures put { IfOk result (λ o. (o.frames.items ≡ frames.items) × (o.cast ≡ cast)) }
         ensures done { IfOk result (λ o. Delivers self.old o.delivered.items o.reply self.new) }
         ensures fault { IfErr result (λ fault. fault ≡ ProcessFault.OutOfMemory) }
+        ensures memory { IfErr result (λ _. clear_casts self.old ≢ []) }
     {
         let mut delivered = Vec::new(self.alloc);
         let Ok(reply) = self.deliver(&mut delivered) else {

@@ -1,9 +1,9 @@
 //! The frames that a process takes.
-ghost use Rattle.std.specs.Prelude.{◌≡◌, ◌<◌, ◌+◌, [], length, MatchResult, IfOk, OnOk, OnErr, IfErr, max, not, nat_le, nat_lt, slice_index, slice_set, Some, None, false, true, IsErrOf, if◌then◌else◌};
+ghost use Rattle.std.specs.Prelude.{◌≡◌, ◌<◌, ◌+◌, [], length, MatchResult, IfOk, OnOk, OnErr, IfErr, max, not, nat_le, nat_lt, slice_index, slice_set, Some, None, false, true, IsErrOf, if◌then◌else◌, vec_capacity};
 ghost use Rattle.reg_base.specs.Memory.{after, register_of};
 ghost use Rattle.reg_process.specs.Process.{peer_at, seen_at, next_of, acknowledged, accepted, taken, time_of};
 ghost use Rattle.reg_process.specs.Steps.{Stops, StopsAt, is_peer as is_peer_of, FrameRefused, Goes, TakesCast, TakesAck, TakesBody};
-ghost use Rattle.reg_process.specs.Faults.{early_body, full_by, is_out as is_out_of, frame_fault, is_numbered, takes_memory, is_stop};
+ghost use Rattle.reg_process.specs.Faults.{early_body, full_by, is_out as is_out_of, frame_fault, is_numbered, takes_memory, body_memory, is_stop};
 ghost use Rattle.reg_frames.specs.declared.bodies.Body.TheVariants.{Cast, Ack};
 ghost use Rattle.reg_frames.specs.declared.bodies.Frame.TheVariants.{Numbered, Got};
 ghost use Rattle.reg_base.specs.declared.limits.TheConstants.{LAST_TIME, FRAME_NUMBERS};
@@ -207,6 +207,7 @@ impl<A: Allocator + Copy> Core<A> {
         ensures goes { IfOk result (λ o. Goes (length self.old.peers) (accepted self.old from body) o.frames.items o.cast o.delivered.items o.reply self.new) }
         ensures room { OnOk result (full_by self.old body ≡ None) }
         ensures fault { IfErr result (λ fault. StopsAt (full_by self.old body) fault) }
+        ensures memory { IsErrOf result ProcessFault.OutOfMemory → body_memory self.old (vec_capacity frames) from body ≡ true }
     {
         self.accept_body(&mut frames, from, body)?;
         self.finish(frames, None)
@@ -223,7 +224,8 @@ impl<A: Allocator + Copy> Core<A> {
         requires peer { from < length self.old.peers }
         requires other { from ≡ self.old.me → ⊥ }
         requires early { early_body self.old from body ≡ None }
-        ensures { MatchResult result (λ _. TakesBody self.old from body frames.new.items self.new) (λ fault. StopsAt (full_by self.old body) fault) }
+        ensures taken { MatchResult result (λ _. TakesBody self.old from body frames.new.items self.new) (λ fault. StopsAt (full_by self.old body) fault) }
+        ensures memory { IsErrOf result ProcessFault.OutOfMemory → body_memory self.old (vec_capacity frames.old) from body ≡ true }
     {
         match body {
             Body::Cast { time, op } => self.accept_cast(frames, from, time, op),
@@ -277,7 +279,8 @@ impl<A: Allocator + Copy> Core<A> {
         requires peer { from < length self.old.peers }
         requires other { from ≡ self.old.me → ⊥ }
         requires fresh { seen_at self.old from < time }
-        ensures { MatchResult result (λ _. TakesAck self.old from time frames.new.items self.new) (λ fault. Stops (nat_le LAST_TIME (max self.old.clock time)) fault) }
+        ensures taken { MatchResult result (λ _. TakesAck self.old from time frames.new.items self.new) (λ fault. Stops (nat_le LAST_TIME (max self.old.clock time)) fault) }
+        ensures memory { IsErrOf result ProcessFault.OutOfMemory → vec_capacity frames.old ≡ 0 }
     {
         let Ok(_) = self.clock.receive(time) else {
             return Err(ProcessFault::ClockFull);

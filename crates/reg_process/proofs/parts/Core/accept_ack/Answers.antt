@@ -40,8 +40,8 @@ invariant_of-self-2 g c =
     let count : c.expected-count.result + 1 ≡ slice_index c.self.inside.inboxes.items c.args.from + 1 = ap (λ n. n + 1) (c.expected-count.ensures.value ∙ c.index.ensures ∙ get_or_default c.self.inside.inboxes.items c.args.from _ 0 l) in
     acked_good p i c.args.from c.args.time peer c.receive.new.self (c.expected-count.result + 1) c.hear.new.waiting c.expect_next.new.inboxes.items c.put_frame.new.frames.items t.0 k count c.hear.ensures c.expect_next.ensures (c.in-Ok-put_frame.ensures.frames ∙ ap (λ l. l ++ put_to c.args.from (Got (c.expected-count.result + 1)) ∷ []) c.requires.empty)
 
-pub returns : goal.returns
-returns g c =
+pub returns-clause-taken : goal.returns-clause-taken
+returns-clause-taken g c =
     let p : Parts = record { me = c.self.inside.me; clock = c.self.inside.clock; waiting = c.self.inside.waiting; expected = c.self.inside.inboxes.items; outs = outs_of c.self.inside.me c.self.inside.outboxes; copy = c.self.inside.copy; delivered = c.self.inside.delivered; unsettled = c.self.inside.unsettled; running = c.self.inside.running; calls = c.self.inside.calls } in
     let i = c.self.invariant in
     let peer : c.args.from < length c.self.inside.waiting.seen = let z = ap (λ (s : State). length s.peers) c.self.view_is in let y = c.requires.peer in let x = length-merged p.waiting.seen p.expected p.outs i.ins i.out in omega (arith, z, y, x) in

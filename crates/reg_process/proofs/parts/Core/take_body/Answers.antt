@@ -1,13 +1,12 @@
-use Rattle.std.proofs.Common.{rules, [], ◌∷◌, ◌++◌, length, ap, subst, ◌∙◌, arith}
-use Rattle.std.specs.Prelude.{IfOk, ◌==◌}
-use Rattle.std.proofs.lemmas.Bool.{eq-eqb, or_right}
+use Rattle.std.proofs.Common.{ℕ, true, ◌≡◌, rules, [], ◌∷◌, ◌++◌, length, ap, subst, ◌∙◌, arith}
+use Rattle.std.specs.Prelude.{IfOk}
 use Rattle.std.proofs.lemmas.Result.{on_ok_weaker}
-use Rattle.reg_process.specs.Process.{State, Outcome, peer_at}
-use Rattle.reg_process.specs.Faults.{full_by}
+use Rattle.reg_process.specs.Process.{State, Outcome}
+use Rattle.reg_process.specs.Faults.{full_by, body_memory}
 use Rattle.reg_process.specs.Steps.{Goes}
 use Rattle.reg_frames.specs.declared.bodies.Frame.TheVariants.{Got}
 use Rattle.reg_process.specs.Puts.{put_to}
-use Rattle.reg_process.proofs.Calls.{drop_goes, next_taken, next_fault, next_memory, other_fault, stop_refused, list_left}
+use Rattle.reg_process.proofs.Calls.{drop_goes, next_taken, next_fault, next_memory, other_memory, other_fault, stop_refused, list_left}
 use Rattle.reg_process.proofs.parts.Core.take_body.Goals as goal
 
 pub returns-then-number-expected-clause-goes : goal.returns-then-number-expected-clause-goes
@@ -32,7 +31,7 @@ returns-in_default-clause-memory g c = λ said.
     let full = c.in_default.ensures.memory in
     let room = c.take-frames.ensures.room in
     let none = ap length c.take-frames.ensures.empty in
-    or_right (c.args.number == (peer_at c.args.self.now c.args.from).expected) (c.args.spare.now == 0) (eq-eqb c.args.spare.now 0 (omega (arith, full, room, none)))
+    other_memory c.args.self.now c.args.from c.args.number c.expected-expected.result c.args.body c.expected-expected.ensures c.args.spare.now c.if-number-expected.true (omega (arith, full, room, none))
 
 pub returns-clause-goes : goal.returns-clause-goes
 returns-clause-goes g c =
@@ -47,7 +46,9 @@ returns-clause-fault g c =
     stop_refused c.accept.result _ (full_by c.args.self.now c.args.body) c.args.self.now c.accept.new.self (next_fault c.args.self.now c.args.from c.args.number c.expected-expected.result c.args.body c.expected-expected.ensures c.if-number-expected.false c.in_default-refuses_body.ensures) c.accept.ensures.fault
 
 pub returns-clause-memory : goal.returns-clause-memory
-returns-clause-memory g c = λ said. next_memory c.args.self.now c.args.from c.args.number c.expected-expected.result c.args.body c.expected-expected.ensures c.args.spare.now c.if-number-expected.false
+returns-clause-memory g c = λ said.
+    next_memory c.args.self.now c.args.from c.args.number c.expected-expected.result c.args.body c.expected-expected.ensures c.args.spare.now c.if-number-expected.false
+    (subst (λ (room : ℕ). body_memory c.args.self.now room c.args.from c.args.body ≡ true) c.take-list.ensures.room (c.accept.ensures.memory said))
 
 pub returns-clause-list : goal.returns-clause-list
 returns-clause-list g c = list_left _ c.accept.result (full_by c.args.self.now c.args.body) c.accept.ensures.fault c.take-list.ensures.left
