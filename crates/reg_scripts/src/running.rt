@@ -185,32 +185,55 @@ fn join_callers<F: FrontEnd, R: Threads + Wait>(
     }
 }
 
-/// What is told where a cluster isn't closed.
-fn not_closed(fault: CloseFault) -> RunStop {
-    match fault {
-        CloseFault::OutOfMemory => RunStop::OutOfMemory,
-        fault => RunStop::Close { fault },
-    }
-}
-
-/// Closes a cluster whose callers have ended.
+/// Closes a cluster whose callers have ended, and whose passes have performed these scripts.
 fn close_ended<F: FrontEnd, R: Threads + Wait>(
     rt: &R,
     alloc: Global,
     running: Running<F, NoGate>,
-    told: Result<Vec<Pass<F, NoGate>>, RunStop>,
+    passes: Vec<Pass<F, NoGate>>,
 ) -> Result<Closed<F>, RunStop>
     ensures lived { IfOk result (λ c. IsLived F.start running (map (λ v. v.items) c.receipts.items) c.world) }
     ensures time { IfOk result (λ c. RespectTime c.world.registers c.world.history (map (λ v. v.items) c.receipts.items)) }
-    ensures performed { IfOk result (λ c. (scripts : List (List Op)) → IfOk told (λ passes. ArePerformed scripts passes.items) → map ops_of (map (λ v. v.items) c.receipts.items) ≡ scripts) }
+    ensures performed { IfOk result (λ c. (scripts : List (List Op)) → ArePerformed scripts passes.items → map ops_of (map (λ v. v.items) c.receipts.items) ≡ scripts) }
 {
+    match running.close(rt, alloc, passes) {
+        Ok(closed) => Ok(closed),
+        Err(CloseFault::OutOfMemory) => Err(RunStop::OutOfMemory),
+        Err(fault) => Err(RunStop::Close { fault }),
+    }
+}
+
+/// Ends the threads of a cluster of which nothing is told but why it stopped.
+fn give_up<F: FrontEnd, R: Threads + Wait>(
+    rt: &R,
+    alloc: Global,
+    running: Running<F, NoGate>,
+    stop: RunStop,
+) -> RunStop {
+    drop(running.close(rt, alloc, Vec::new(alloc)));
+    stop
+}
+
+/// Waits for all threads, and closes the cluster.
+fn end<F: FrontEnd, R: Threads + Wait>(
+    rt: &R,
+    alloc: Global,
+    running: Running<F, NoGate>,
+    callers: Vec<PromisedHandle<Caller<F>, Performs>>,
+    all: bool,
+) -> Result<Closed<F>, RunStop>
+    ensures all { OnOk result (all ≡ true) }
+    ensures lived { IfOk result (λ c. IsLived F.start running (map (λ v. v.items) c.receipts.items) c.world) }
+    ensures time { IfOk result (λ c. RespectTime c.world.registers c.world.history (map (λ v. v.items) c.receipts.items)) }
+    ensures performed { IfOk result (λ c. (scripts : List (List Op)) → AreStarted scripts (map (λ h. (h.promise.process, h.promise.script.value.items)) callers.items) → map ops_of (map (λ v. v.items) c.receipts.items) ≡ scripts) }
+{
+    let told = join_callers(rt, alloc, callers);
+    if !all {
+        return Err(give_up(rt, alloc, running, RunStop::OutOfMemory));
+    }
     match told {
-        Ok(passes) => running.close(rt, alloc, passes).map_err(not_closed),
-        Err(stop) => {
-            // (its threads end by it; of what it answers nothing is told)
-            drop(running.close(rt, alloc, Vec::new(alloc)));
-            Err(stop)
-        }
+        Ok(passes) => close_ended(rt, alloc, running, passes),
+        Err(stop) => Err(give_up(rt, alloc, running, stop)),
     }
 }
 
@@ -232,11 +255,10 @@ pub fn run_scripts<
 {
     let mut callers = Vec::new(alloc);
     callers.reserve(scripts.len())?;
-    let road = Arc::new(alloc, Honest)?;
+    let Ok(road) = Arc::new(alloc, Honest) else {
+        return Err(RunStop::OutOfMemory);
+    };
     let (running, passes) = start::<F, _, _, _>(rt, alloc, shape, NoGate, road)?;
-    let started = start_callers(rt, &mut callers, shape, passes, scripts);
-    let told = join_callers(&rt, alloc, callers);
-    let closed = close_ended(&rt, alloc, running, told);
-    started?;
-    closed
+    let all = start_callers(rt, &mut callers, shape, passes, scripts).is_ok();
+    end(&rt, alloc, running, callers, all)
 }
