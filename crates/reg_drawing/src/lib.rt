@@ -3,6 +3,7 @@
 
 mod drawing;
 mod layout;
+mod legend;
 mod pictures;
 mod shapes;
 mod words;
