@@ -11,11 +11,15 @@ mod fault_lines;
 #[cfg(test)]
 mod growths;
 #[cfg(test)]
+mod growths_of_texts;
+#[cfg(test)]
 mod inputs;
 #[cfg(test)]
 mod large_shapes;
 #[cfg(test)]
 mod limits;
+#[cfg(test)]
+mod lossy_plays;
 pub mod mixed;
 #[cfg(test)]
 mod mixed_runs;
