@@ -1,6 +1,7 @@
 //! Tests of running clusters: passes and records worked by hand, stations that are held, that stop and that are lied to, rough
 //! roads, and limits.
 mod closes;
+mod closing;
 mod crews;
 mod gates;
 mod limits;
