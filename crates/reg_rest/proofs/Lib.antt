@@ -1,0 +1,7 @@
+pub mod Totals
+pub mod Entries
+pub mod Casts
+pub mod Nearer
+pub mod Taking
+pub mod Few
+pub mod Own
