@@ -5,3 +5,5 @@ pub mod Nearer
 pub mod Taking
 pub mod Few
 pub mod Own
+pub mod Going
+pub mod Making

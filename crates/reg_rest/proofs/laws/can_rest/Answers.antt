@@ -1,6 +1,6 @@
 use Rattle.std.proofs.Common.{ℕ}
-use Rattle.reg_rest.proofs.Taking.{took, counted, quiet_same}
-use Rattle.reg_rest.proofs.Own.{none_own}
+use Rattle.reg_rest.proofs.Going.{moves_none}
+use Rattle.reg_rest.proofs.Making.{stepped}
 use Rattle.reg_rest.proofs.laws.can_rest.Goals as goal
 
 pub returns : goal.returns
