@@ -7,3 +7,5 @@ pub mod Few
 pub mod Own
 pub mod Going
 pub mod Making
+pub mod Passing
+pub mod Ticking

@@ -96,6 +96,7 @@ pub record Passing (start : Op → ℕ → Start) (passed : ℕ → ℕ → ℕ)
 pub record Ticked (start : Op → ℕ → Start) (old : Made) (process first to : ℕ) (new : Made) : Type 0 where
   pub moves : Moves start old new
   pub later : AreLaterSince (put_for (nodes_in start old)) old new
+  pub ticked : length old.accepted < length new.accepted
   pub spent : length new.accepted + 2 * pending_in start new process ≤ length old.accepted + 1 + 2 * pending_in start old process
   pub nearer : distance_in start new + pending_in start old process ≤ distance_in start old + pending_in start new process
   pub less : pending_in start new process ≤ pending_in start old process
