@@ -11,6 +11,7 @@ use Rattle.reg_orders.specs.History.{IsAt}
 use Rattle.reg_world.specs.declared.events.Event.{Event}
 use Rattle.reg_world.specs.declared.events.Event.TheVariants.{Call, Take, Tick}
 use Rattle.reg_world.specs.Worlds.{Made}
+use Rattle.reg_world.proofs.run.Along.{few_events}
 use Rattle.reg_rest.specs.declared.faults.SettleFault.{SettleFault}
 use Rattle.reg_rest.specs.declared.faults.SettleFault.TheVariants.{Failed, TooManyEvents, OutOfMemory}
 use Rattle.reg_rest.specs.Rest.{put_for, IsLater}
@@ -95,3 +96,6 @@ pub halts_weaker : (start : Op → ℕ → Start) (passed less : ℕ → ℕ →
 halts_weaker start passed less m new limit Failed le H = H
 halts_weaker start passed less m new limit TooManyEvents le H = (H.0, later_weaker passed less m new le H.1, H.2, H.3)
 halts_weaker start passed less m new limit OutOfMemory le H = (H.0, H.1, later_weaker passed less m H.0 le H.2, H.3)
+
+pub few_going : (start : Op → ℕ → Start) (m : Made) → IsGoingOn start m → length m.accepted ≤ MOST_EVENTS
+few_going start m G = let a = few_events start m.processes m.registers m.accepted in let b = ap length G.accepted in omega (arith, a, b)

@@ -9,3 +9,5 @@ pub mod Going
 pub mod Making
 pub mod Passing
 pub mod Ticking
+pub mod Pending
+pub mod Settling

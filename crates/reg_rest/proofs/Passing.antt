@@ -66,10 +66,10 @@ module _ (start : Op → ℕ → Start) (passed : ℕ → ℕ → ℕ) (from to 
   }
 
   module _ (old : Made) (lf : from < old.processes) (lt : to < old.processes) (ne : from ≡ to → ⊥) where
-    abbrev first : ℕ
+    abbrev pub first : ℕ
     first = (link_in start old from to).first
 
-    abbrev count : ℕ
+    abbrev pub count : ℕ
     count = min MOST_RESENT (length (link_in start old from to).pending)
 
     inv_in : (m : Made) → Inv m.processes m.registers (length (run_in start m).accepted) (nodes_in start m)
@@ -91,7 +91,7 @@ module _ (start : Op → ℕ → Start) (passed : ℕ → ℕ → ℕ) (from to 
     }
 
     module _ (A : IsAgain start passed old from to) (mid : Made) where
-      end_is : put_for (nodes_in start old) from to ≡ length A.before + count
+      pub end_is : put_for (nodes_in start old) from to ≡ length A.before + count
       end_is =
           let a = ap length A.wire in
           let b = length-append A.before (resent (nodes_in start old from).state to) in

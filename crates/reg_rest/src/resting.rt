@@ -233,7 +233,7 @@ pub fn settle<F: FrontEnd, A: Allocator + Copy, W: WireStore<A>>(
             return Ok(world.events() - before);
         };
         tick_and_pass(world, process, to)?;
-        next = process + 1;
+        next = process;
     }
     unreachable!()
 }

@@ -3,8 +3,8 @@ use Rattle.reg_rest.specs.RestParts.{Nears}
 use Rattle.reg_rest.proofs.resting.settle.Given as goal
 
 -- each round made an event
-abbrev pub invariant-loop-_round : goal.invariant-loop-_round
-invariant-loop-_round g l = record {
+abbrev pub invariant-loop-round : goal.invariant-loop-round
+invariant-loop-round g l = record {
   nears : Nears g.F.FrontEnd.start l.initial.world l.world;
   events : length l.initial.world.accepted + l._round ≤ length l.world.accepted;
 }
