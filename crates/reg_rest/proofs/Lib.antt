@@ -11,3 +11,4 @@ pub mod Passing
 pub mod Ticking
 pub mod Pending
 pub mod Settling
+pub mod Able

@@ -131,16 +131,15 @@ module _ (start : Op → ℕ → Start) (passed : ℕ → ℕ → ℕ) (from to 
             behind = λ _. let g = P.moves.grows to from in omega (arith, g, is);
           }
 
-      -- all were taken, and then the count
-      pub passed_on : (done answer : ℕ) (new : Made) → Passing start passed old from to first done answer mid → done ≡ count → 0 < count → Accepts start mid (Take to from answer) new → Passes start passed old from to new
-      passed_on done answer new P all l made =
+      -- some were taken, and then the count
+      pub passed_on : (done answer : ℕ) (new : Made) → Passing start passed old from to first done answer mid → done ≤ count → 0 < done → Accepts start mid (Take to from answer) new → Passes start passed old from to new
+      passed_on done answer new P most some made =
           let w = nodes_in start mid in
           let n = mid.processes in
           let lf1 : from < n = let e = P.moves.processes in omega (arith, e, lf) in
           let lt1 : to < n = let e = P.moves.processes in omega (arith, e, lt) in
           let en : to ≡ from → ⊥ = λ e. ne (sym e) in
           let told = (link_in start mid to from).expected in
-          let some : 0 < done = omega (arith, all, l) in
           let I = inv_in mid in
           let step = TakeStep to (Got told) in
           let S = stepped start mid new (Take to from answer) (from, step) P.moves.on made (takes n mid.registers w to from answer (Got told) lt1 lf1 en (P.answered some)) in
@@ -149,7 +148,7 @@ module _ (start : Op → ℕ → Start) (passed : ℕ → ℕ → ℕ) (from to 
           let own : nodes_in start new from ≡ y = ap (λ (z : Nodes). z from) S.nodes ∙ put_same w from y from refl in
           let same_first : (peer_at (w from).state to).first ≡ first = ap (λ (z : Node). (peer_at z.state to).first) P.same in
           let same_many : length (peer_at (w from).state to).pending ≡ length (link_in start old from to).pending = ap (λ (z : Node). length (peer_at z.state to).pending) P.same in
-          let enough : count ≤ C.fall = let e = P.expects in C.enough count (omega (arith, e, all, same_first)) (omega (arith, same_many)) in
+          let enough : done ≤ C.fall = let e = P.expects in C.enough done (omega (arith, e, same_first)) (omega (arith, same_many, most)) in
           let was : pending_of (w from).state.peers ≡ pending_in start old from = ap (λ (z : Node). pending_of z.state.peers) P.same in
           let is : pending_in start new from ≡ pending_of y.state.peers = ap (λ (z : Node). pending_of z.state.peers) own in
           let fell : pending_in start new from + C.fall ≡ pending_in start old from = let a = C.pending in omega (arith, a, was, is) in
@@ -158,15 +157,15 @@ module _ (start : Op → ℕ → Start) (passed : ℕ → ℕ → ℕ) (from to 
           let b : distance_in start new ≡ distance n (put w from y) = ap (λ k. distance k (nodes_in start new)) S.moves.processes ∙ ap (distance n) S.nodes in
           let c = P.far in
           omega (arith, a, b, c) in
-          let long : length new.accepted ≡ length old.accepted + count + 1 =
-          let a = ap length S.accepted in let b = length-append mid.accepted (Take to from answer ∷ []) in let c = P.count in omega (arith, a, b, c, all) in
+          let long : length new.accepted ≡ length old.accepted + done + 1 =
+          let a = ap length S.accepted in let b = length-append mid.accepted (Take to from answer ∷ []) in let c = P.count in omega (arith, a, b, c) in
           record {
             moves = moves_both start old mid new P.moves S.moves;
             later = later_both start passed old mid new S.moves P.later (later_one passed mid new (Take to from answer) S.accepted (let a = A.back in let b = P.behind some in omega (arith, a, b)));
-            spent = omega (arith, long, fell, enough, l);
+            spent = omega (arith, long, fell, enough, some);
             nearer = omega (arith, far, fell);
             less = omega (arith, fell);
-            some = λ _. omega (arith, fell, enough, l);
+            some = λ _. omega (arith, fell, enough, some);
             wires = λ r. ap (λ (z : Node). z.wire r) own ∙ (C.wires r ∙ ap (λ (z : Node). z.wire r) P.same);
             links = λ r other. ap (λ (z : Node). resent z.state r) own ∙ (C.links r other ∙ ap (λ (z : Node). resent z.state r) P.same);
           }

@@ -124,4 +124,4 @@ returns g c = λ passed A.
     let f = c.frame_count-end.ensures in
     let b = c.if-count-eq0.false in
     let all = all_taken c.loop-number.number c.frame_count-end.result c.again_count-count.result c.loop-number.auto.number c.loop-number.auto.number-end c.loop-number-test.false (omega (arith, e, a, f)) in
-    passed_on start passed c.args.from c.args.to old c.requires.from c.requires.to c.requires.apart A c.loop-number.world (c.loop-number.number - (c.frame_count-end.result - c.again_count-count.result)) c.loop-number.answer c.take-2.new.world (c.loop-number.invariant passed A) (all ∙ a) (omega (arith, a, b)) c.in_ok-take.ensures.made
+    passed_on start passed c.args.from c.args.to old c.requires.from c.requires.to c.requires.apart A c.loop-number.world (c.loop-number.number - (c.frame_count-end.result - c.again_count-count.result)) c.loop-number.answer c.take-2.new.world (c.loop-number.invariant passed A) (omega (arith, a, all)) (omega (arith, b, all)) c.in_ok-take.ensures.made

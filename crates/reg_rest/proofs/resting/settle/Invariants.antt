@@ -5,6 +5,6 @@ use Rattle.reg_rest.proofs.resting.settle.Given as goal
 -- each round made an event
 abbrev pub invariant-loop-round : goal.invariant-loop-round
 invariant-loop-round g l = record {
-  nears : Nears g.F.FrontEnd.start l.initial.world l.world;
-  events : length l.initial.world.accepted + l._round ≤ length l.world.accepted;
+  nears : Nears g.F.FrontEnd.start l.fn.world l.world;
+  events : length l.fn.world.accepted + l._round ≤ length l.world.accepted;
 }
