@@ -1,33 +1,33 @@
 -- That a run with room for enough events can come to rest: by ticks, each with one frame passed on.
-use Rattle.std.proofs.Common.{◌≡◌, ℕ, zero, suc, ◌+◌, ◌-◌, ◌*◌, ◌<◌, ◌≤◌, Bool, true, false, min, List, [], ◌∷◌, ◌++◌, length, Option, Some, None, refl, sym, ap, ◌∙◌, subst, inl, inr, arith, length-append}
+use Rattle.std.proofs.Common.{◌≡◌, ℕ, zero, suc, ◌+◌, ◌*◌, ◌<◌, ◌≤◌, Bool, true, false, List, [], ◌∷◌, ◌++◌, length, Option, Some, None, refl, sym, ap, ◌∙◌, subst, inl, inr, arith, length-append}
 use Rattle.std.specs.Prelude.{cond, ◌==◌, nat_lt, slice_get}
 use Rattle.std.proofs.lemmas.Bool.{lt-ltb, ne_eqb, cases_lt, cond-true}
-use Rattle.reg_base.specs.declared.limits.TheConstants.{MOST_EVENTS, MOST_RESENT}
+use Rattle.reg_base.specs.declared.limits.TheConstants.{MOST_EVENTS}
 use Rattle.reg_base.specs.declared.memory.Op.{Op}
 use Rattle.reg_frames.specs.declared.bodies.Frame.{Frame}
 use Rattle.reg_front.specs.declared.starts.Start.{Start}
 use Rattle.reg_front.specs.Fronts.{KeepsLaws}
-use Rattle.reg_process.specs.Process.{pending_of, peer_at, resent}
+use Rattle.reg_process.specs.Process.{peer_at, resent}
 use Rattle.reg_world.specs.declared.events.Event.{Event}
 use Rattle.reg_world.specs.declared.events.Event.TheVariants.{Take, Tick}
 use Rattle.reg_world.specs.declared.faults.WorldFault.{WorldFault}
 use Rattle.reg_world.specs.declared.faults.WorldFault.TheVariants.{Failed, TooManyEvents, NoProcess, NoFrame}
 use Rattle.reg_world.specs.Laws.{AllAcknowledged}
-use Rattle.reg_world.specs.Nodes.{Node, Nodes}
+use Rattle.reg_world.specs.Nodes.{Nodes}
 use Rattle.reg_world.specs.World.{World, whole, run, empty_world, event_fault, frame_fault}
-use Rattle.reg_world.specs.Worlds.{Made, Accepts, run_in, with_event, refusal}
+use Rattle.reg_world.specs.Worlds.{Made, Accepts, run_in, with_event}
 use Rattle.reg_world.proofs.one_order.NodeLaws.{inv_of}
 use Rattle.reg_world.proofs.run.Along.{run_parts}
 use Rattle.reg_world.proofs.run.Begun.{again}
 use Rattle.reg_world.proofs.witness.Promised.{rests}
-use Rattle.reg_rest.specs.Rest.{total, put_for, most_to_rest, AreLater, GoesOn, CanRest}
+use Rattle.reg_rest.specs.Rest.{total, put_for, most_to_rest, AreLater, CanRest}
 use Rattle.reg_rest.specs.RestParts.{nodes_in, link_in, pending_in, distance_in, IsGoingOn, Nears, IsPending, IsAgain, Passing, Passes, Ticked}
 use Rattle.reg_rest.proofs.Totals.{total_none, total_some}
-use Rattle.reg_rest.proofs.Entries.{pending_some, pending_one}
+use Rattle.reg_rest.proofs.Entries.{pending_some}
 use Rattle.reg_rest.proofs.Nearer.{pending_within}
 use Rattle.reg_rest.proofs.Own.{none_own}
 use Rattle.reg_rest.proofs.Passing.{end_is, resent_at, passing_none, passing_more, passed_on}
-use Rattle.reg_rest.proofs.Ticking.{ticked_first, ticked_more, ticked_all, some_pending}
+use Rattle.reg_rest.proofs.Ticking.{ticked_first, ticked_more, ticked_all}
 use Rattle.reg_rest.proofs.Going.{at_behind}
 use Rattle.reg_rest.proofs.Settling.{nears_none, nears_both, goes_on}
 
@@ -89,17 +89,19 @@ module _ (start : Op → ℕ → Start) where
   some_link m p l some =
       let s = (nodes_in start m p).state in
       let r = pending_some s.peers some in
-      let size = ((inv_of start m.processes m.registers m.accepted).local p l).size in
-      (r.0, record {
-        sender = l;
-        receiver = let a = r.1 in omega (arith, a, size);
-        apart = λ e.
-            let own = ap length (none_own start m.processes m.registers m.accepted p).pending in
-            let x = ap (λ z. length (peer_at s z).pending) e in
-            let y = r.2 in
-            omega (arith, own, x, y);
-        some = r.2;
-      })
+      let size = ((inv_of start m.processes m.registers m.accepted).local p l).size in (
+        r.0,
+        record {
+          sender = l;
+          receiver = let a = r.1 in omega (arith, a, size);
+          apart = λ e.
+              let own = ap length (none_own start m.processes m.registers m.accepted p).pending in
+              let x = ap (λ z. length (peer_at s z).pending) e in
+              let y = r.2 in
+              omega (arith, own, x, y);
+          some = r.2;
+        },
+      )
 
   can_settle : (far : ℕ) (m : Made) → IsGoingOn start m → distance_in start m ≤ far → length m.accepted + 3 * distance_in start m ≤ MOST_EVENTS → (new : Made) × Nears start m new × AllAcknowledged new.processes (nodes_in start new)
   can_settle zero m G near room = (m, nears_none start m G, λ p l. let a = pending_within m.processes p (nodes_in start m) l in omega (arith, a, near))

@@ -4,7 +4,7 @@ use Rattle.std.specs.Prelude.{slice_get}
 use Rattle.std.specs.List.{count_by}
 use Rattle.std.proofs.lemmas.List.Sums.{sum_by-cons, sum_by-append}
 use Rattle.reg_frames.specs.declared.bodies.Body.{Body}
-use Rattle.reg_frames.specs.declared.bodies.Body.TheVariants.{Cast, Ack}
+use Rattle.reg_frames.specs.declared.bodies.Body.TheVariants.{Ack}
 use Rattle.reg_rest.specs.Rest.{is_cast}
 
 -- a body, as a number

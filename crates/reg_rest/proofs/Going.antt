@@ -5,17 +5,15 @@ use Rattle.std.proofs.lemmas.Bool.{cases_lt}
 use Rattle.std.proofs.lemmas.List.{append-nil}
 use Rattle.reg_base.specs.declared.limits.TheConstants.{MOST_EVENTS}
 use Rattle.reg_base.specs.declared.memory.Op.{Op}
-use Rattle.reg_base.specs.Order.{In}
 use Rattle.reg_front.specs.declared.starts.Start.{Start}
-use Rattle.reg_orders.specs.History.{IsAt}
 use Rattle.reg_world.specs.declared.events.Event.{Event}
 use Rattle.reg_world.specs.declared.events.Event.TheVariants.{Call, Take, Tick}
 use Rattle.reg_world.specs.Worlds.{Made}
 use Rattle.reg_world.proofs.run.Along.{few_events}
 use Rattle.reg_rest.specs.declared.faults.SettleFault.{SettleFault}
 use Rattle.reg_rest.specs.declared.faults.SettleFault.TheVariants.{Failed, TooManyEvents, OutOfMemory}
-use Rattle.reg_rest.specs.Rest.{put_for, IsLater}
-use Rattle.reg_rest.specs.RestParts.{nodes_in, IsGoingOn, Moves, AreLaterSince, Misses, Halts}
+use Rattle.reg_rest.specs.Rest.{IsLater}
+use Rattle.reg_rest.specs.RestParts.{IsGoingOn, Moves, AreLaterSince, Misses, Halts}
 
 pub at_first : {X : Type 0} (xs ys : List X) (k : ℕ) → k < length xs → slice_get (xs ++ ys) k ≡ slice_get xs k
 at_first [] ys k l = absurd (omega (arith, l))

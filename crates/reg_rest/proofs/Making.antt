@@ -1,21 +1,21 @@
 -- What an accepted event does to the world.
-use Rattle.std.proofs.Common.{◌≡◌, ℕ, ◌+◌, ◌<◌, ◌≤◌, Bool, true, false, List, [], ◌∷◌, ◌++◌, length, Option, Some, None, refl, sym, ap, ◌∙◌, subst, arith, length-append}
+use Rattle.std.proofs.Common.{◌≡◌, ℕ, ◌<◌, ◌≤◌, Bool, true, false, [], ◌∷◌, ◌++◌, length, Option, Some, None, refl, sym, ap, ◌∙◌, subst, arith, length-append}
 use Rattle.std.specs.Prelude.{cond, ◌==◌, ◌&&◌, not, nat_lt, slice_get}
-use Rattle.std.proofs.lemmas.Bool.{lt-ltb, ne_eqb, ltb-true, cond-true}
+use Rattle.std.proofs.lemmas.Bool.{lt-ltb, ne_eqb, cond-true}
 use Rattle.reg_base.specs.declared.limits.TheConstants.{MOST_EVENTS}
 use Rattle.reg_base.specs.declared.memory.Op.{Op}
 use Rattle.reg_frames.specs.declared.bodies.Frame.{Frame}
 use Rattle.reg_front.specs.declared.starts.Start.{Start}
 use Rattle.reg_process.specs.declared.steps.Step.{Step}
 use Rattle.reg_process.specs.declared.steps.Step.TheVariants.{Take as TakeStep, Tick as TickStep}
-use Rattle.reg_process.specs.Process.{State, step}
+use Rattle.reg_process.specs.Process.{step}
 use Rattle.reg_world.specs.declared.events.Event.{Event}
 use Rattle.reg_world.specs.declared.events.Event.TheVariants.{Take, Tick}
 use Rattle.reg_world.specs.declared.faults.WorldFault.{WorldFault}
-use Rattle.reg_world.specs.declared.faults.WorldFault.TheVariants.{Failed, TooManyEvents, NoProcess}
+use Rattle.reg_world.specs.declared.faults.WorldFault.TheVariants.{Failed, TooManyEvents}
 use Rattle.reg_world.specs.Nodes.{Node, Nodes, put, after_step, step_of, take_step}
-use Rattle.reg_world.specs.World.{World, move_of, moved, whole, world_fault, event_fault, frame_fault}
-use Rattle.reg_world.specs.Worlds.{Made, Accepts, run_in, with_event}
+use Rattle.reg_world.specs.World.{World, move_of, moved, whole, event_fault}
+use Rattle.reg_world.specs.Worlds.{Made, Accepts, run_in}
 use Rattle.reg_world.proofs.one_order.Acts.{put_cases}
 use Rattle.reg_world.proofs.run.Along.{one_more}
 use Rattle.reg_rest.specs.Rest.{put_for}

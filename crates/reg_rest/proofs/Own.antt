@@ -1,8 +1,8 @@
 -- A process keeps nothing for itself.
-use Rattle.std.proofs.Common.{◌≡◌, ℕ, ◌+◌, ◌-◌, ◌<◌, max, List, [], ◌∷◌, length, Option, Some, None, refl, sym, ap, ◌∙◌, subst, arith}
-use Rattle.std.specs.Prelude.{◌==◌, ◌&&◌, not, nat_lt, cond, slice_get, slice_index_or, drop}
+use Rattle.std.proofs.Common.{◌≡◌, ℕ, ◌+◌, ◌-◌, max, List, [], Option, Some, None, refl, sym, ap, ◌∙◌, subst, arith}
+use Rattle.std.specs.Prelude.{◌==◌, ◌&&◌, not, nat_lt, slice_get, slice_index_or, drop}
 use Rattle.std.specs.Option.{is_some}
-use Rattle.std.proofs.lemmas.Bool.{cond_both, ltb-true, and_parts, eqb-false, not-true}
+use Rattle.std.proofs.lemmas.Bool.{cond_both, and_parts, eqb-false, not-true}
 use Rattle.std.proofs.lemmas.List.{get_or-set_other}
 use Rattle.reg_base.specs.declared.limits.TheConstants.{MOST_OPERATIONS}
 use Rattle.reg_base.specs.declared.memory.Op.{Op}

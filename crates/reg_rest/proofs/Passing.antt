@@ -1,30 +1,28 @@
 -- Passing on the frames that a tick put again on one link.
-use Rattle.std.proofs.Common.{◌≡◌, ℕ, zero, suc, ◌+◌, ◌-◌, ◌*◌, ◌<◌, ◌≤◌, min, List, [], ◌∷◌, ◌++◌, length, take, cond, Some, refl, sym, ap, ◌∙◌, subst, inl, inr, arith, length-append, length-take}
+use Rattle.std.proofs.Common.{◌≡◌, ℕ, zero, suc, ◌+◌, ◌*◌, ◌<◌, ◌≤◌, min, List, [], ◌∷◌, ◌++◌, length, take, Some, refl, sym, ap, ◌∙◌, arith, length-append, length-take}
 use Rattle.std.specs.Prelude.{◌==◌, slice_get}
 use Rattle.std.proofs.lemmas.Bool.{cond-false, ne_eqb}
 use Rattle.reg_base.specs.declared.limits.TheConstants.{MOST_RESENT, MOST_EVENTS}
 use Rattle.reg_base.specs.declared.memory.Op.{Op}
 use Rattle.reg_frames.specs.declared.bodies.Body.{Body}
-use Rattle.reg_frames.specs.declared.bodies.Frame.{Frame}
 use Rattle.reg_frames.specs.declared.bodies.Frame.TheVariants.{Numbered, Got}
 use Rattle.reg_front.specs.declared.starts.Start.{Start}
 use Rattle.reg_process.specs.declared.steps.Step.TheVariants.{Take as TakeStep}
-use Rattle.reg_process.specs.Process.{State, Peer, peer_at, pending_of, numbered_from, resent}
+use Rattle.reg_process.specs.Process.{State, peer_at, pending_of, numbered_from, resent}
 use Rattle.reg_world.specs.declared.events.Event.TheVariants.{Take}
 use Rattle.reg_world.specs.Nodes.{Node, Nodes, put, after_step, op_in}
 use Rattle.reg_world.specs.Worlds.{Made, Accepts, run_in}
 use Rattle.reg_world.proofs.lists.Bodies.{place_in}
-use Rattle.reg_world.proofs.one_order.Links.{Link}
 use Rattle.reg_world.proofs.one_order.Worlds.{Inv}
 use Rattle.reg_world.proofs.one_order.NodeEvents.{put_same, put_other}
 use Rattle.reg_world.proofs.one_order.NodeLaws.{inv_of}
 use Rattle.reg_rest.specs.declared.faults.SettleFault.{SettleFault}
 use Rattle.reg_rest.specs.Rest.{distance, put_for}
-use Rattle.reg_rest.specs.RestParts.{nodes_in, link_in, pending_in, distance_in, IsGoingOn, Moves, AreLaterSince, Misses, Halts, IsAgain, IsAnswer, Passing, Passes}
+use Rattle.reg_rest.specs.RestParts.{nodes_in, link_in, pending_in, distance_in, IsGoingOn, Misses, Halts, IsAgain, Passing, Passes}
 use Rattle.reg_rest.proofs.Entries.{pending_one}
 use Rattle.reg_rest.proofs.Taking.{Took, Counted, took, counted}
 use Rattle.reg_rest.proofs.Going.{at_behind, moves_none, moves_both, later_none, later_both, later_one, halts_here, halts_both}
-use Rattle.reg_rest.proofs.Making.{Stepped, stepped, takes}
+use Rattle.reg_rest.proofs.Making.{stepped, takes}
 
 numbered_many : (i : ℕ) (bs : List Body) → length (numbered_from i bs) ≡ length bs
 numbered_many i [] = refl
@@ -45,7 +43,7 @@ resent_is s r ne = cond-false (r == s.me) [] (numbered_from (peer_at s r).first 
 resent_many : (s : State) (r : ℕ) → (r ≡ s.me → ⊥) → length (resent s r) ≡ min MOST_RESENT (length (peer_at s r).pending)
 resent_many s r ne = ap length (resent_is s r ne) ∙ (numbered_many (peer_at s r).first (take MOST_RESENT (peer_at s r).pending) ∙ length-take MOST_RESENT (peer_at s r).pending)
 
-resent_at : (s : State) (r j : ℕ) → (r ≡ s.me → ⊥) → j < min MOST_RESENT (length (peer_at s r).pending) → (b : Body) × (slice_get (resent s r) j ≡ Some (Numbered ((peer_at s r).first + j) b))
+pub resent_at : (s : State) (r j : ℕ) → (r ≡ s.me → ⊥) → j < min MOST_RESENT (length (peer_at s r).pending) → (b : Body) × (slice_get (resent s r) j ≡ Some (Numbered ((peer_at s r).first + j) b))
 resent_at s r j ne l =
     let m = length-take MOST_RESENT (peer_at s r).pending in
     let n = numbered_at (peer_at s r).first (take MOST_RESENT (peer_at s r).pending) j (omega (arith, l, m)) in

@@ -1,9 +1,9 @@
 -- Links with frames that are not acknowledged.
-use Rattle.std.proofs.Common.{◌≡◌, ℕ, ◌+◌, ◌<◌, ◌≤◌, length, sym, ap, inl, inr, arith}
+use Rattle.std.proofs.Common.{◌≡◌, ℕ, ◌<◌, length, ap, inl, inr, arith}
 use Rattle.std.proofs.lemmas.Bool.{cases_eq}
 use Rattle.reg_base.specs.declared.memory.Op.{Op}
 use Rattle.reg_front.specs.declared.starts.Start.{Start}
-use Rattle.reg_process.specs.Process.{Peer, peer_at}
+use Rattle.reg_process.specs.Process.{peer_at}
 use Rattle.reg_world.specs.Worlds.{Made}
 use Rattle.reg_world.proofs.one_order.NodeLaws.{inv_of}
 use Rattle.reg_rest.specs.RestParts.{nodes_in, link_in, pending_in}

@@ -1,19 +1,18 @@
 -- Rounds, one after another, and what they come to.
-use Rattle.std.proofs.Common.{◌≡◌, ℕ, zero, suc, ◌+◌, ◌*◌, ◌<◌, ◌≤◌, false, List, [], ◌∷◌, ◌++◌, length, Some, refl, sym, ap, ◌∙◌, subst, inl, inr, arith, length-append}
+use Rattle.std.proofs.Common.{◌≡◌, ℕ, suc, ◌+◌, ◌*◌, false, List, [], ◌∷◌, ◌++◌, length, Some, sym, ap, ◌∙◌, inl, inr, arith}
 use Rattle.std.specs.Prelude.{slice_get}
-use Rattle.reg_base.specs.declared.limits.TheConstants.{MOST_EVENTS}
 use Rattle.reg_base.specs.declared.memory.Op.{Op}
 use Rattle.reg_base.specs.Order.{In}
 use Rattle.reg_front.specs.declared.starts.Start.{Start}
 use Rattle.reg_front.specs.Fronts.{KeepsLaws}
 use Rattle.reg_world.specs.declared.events.Event.{Event}
 use Rattle.reg_world.specs.Laws.{AllAcknowledged}
-use Rattle.reg_world.specs.World.{World, whole}
-use Rattle.reg_world.specs.Worlds.{Made, run_in}
+use Rattle.reg_world.specs.World.{whole}
+use Rattle.reg_world.specs.Worlds.{Made}
 use Rattle.reg_world.proofs.witness.Promised.{rests}
 use Rattle.reg_rest.specs.declared.faults.SettleFault.{SettleFault}
 use Rattle.reg_rest.specs.declared.faults.SettleFault.TheVariants.{Failed, TooManyEvents, OutOfMemory}
-use Rattle.reg_rest.specs.Rest.{put_for, with_events, AreLater, GoesOn, Settles, Stops, most_to_rest}
+use Rattle.reg_rest.specs.Rest.{put_for, with_events, GoesOn, Settles, Stops}
 use Rattle.reg_rest.specs.RestParts.{nodes_in, distance_in, IsGoingOn, Moves, AreLaterSince, Halts, Nears}
 use Rattle.reg_rest.proofs.Going.{at_behind, moves_none, moves_both, later_none, later_both, later_weaker, halts_both, halts_weaker}
 

@@ -1,24 +1,24 @@
 -- What a take and a tick do to how far a run is from rest, and to the link.
-use Rattle.std.proofs.Common.{◌≡◌, ℕ, zero, suc, ◌+◌, ◌-◌, ◌*◌, ◌<◌, ◌≤◌, max, List, [], ◌∷◌, ◌++◌, length, take, drop, cond, Some, refl, sym, ap, ◌∙◌, subst, inl, inr, arith, length-append, length-drop}
+use Rattle.std.proofs.Common.{◌≡◌, ℕ, ◌+◌, ◌-◌, ◌*◌, ◌<◌, ◌≤◌, max, List, [], ◌∷◌, ◌++◌, length, take, drop, cond, Some, refl, sym, ap, ◌∙◌, subst, inl, inr, arith, length-drop}
 use Rattle.std.specs.Prelude.{◌==◌, slice_get, slice_index_or}
 use Rattle.std.specs.List.{count_by}
 use Rattle.std.proofs.lemmas.Bool.{cases_eq, cond_both, cond-true, eq-eqb, eqb-true, eqb-false}
-use Rattle.std.proofs.lemmas.List.{append-nil, length-set, get_or-set_same, get_or-set_other}
+use Rattle.std.proofs.lemmas.List.{append-nil, get_or-set_same, get_or-set_other}
 use Rattle.reg_base.specs.declared.limits.TheConstants.{MOST_RESENT}
 use Rattle.reg_base.specs.declared.memory.Op.{Op}
 use Rattle.reg_frames.specs.declared.bodies.Body.{Body}
 use Rattle.reg_frames.specs.declared.bodies.Body.TheVariants.{Cast, Ack}
 use Rattle.reg_frames.specs.declared.bodies.Frame.{Frame}
 use Rattle.reg_frames.specs.declared.bodies.Frame.TheVariants.{Numbered, Got}
-use Rattle.reg_process.specs.Process.{State, Peer, no_peer, peer_at, pending_of, got_frames, data_frames, accepts, taken, accepted, acknowledged, quiet, no_frames, resent, numbered_from}
-use Rattle.reg_process.proofs.Peers.{queue_expected, length-queue}
+use Rattle.reg_process.specs.Process.{State, Peer, no_peer, peer_at, pending_of, got_frames, data_frames, accepts, taken, accepted, quiet, resent, numbered_from}
+use Rattle.reg_process.proofs.Peers.{queue_expected}
 use Rattle.reg_world.specs.Nodes.{Node, Nodes, put, after_result}
 use Rattle.reg_world.proofs.one_order.Worlds.{Inv}
-use Rattle.reg_world.proofs.one_order.Accepting.{accepts_is, accepts_pending}
-use Rattle.reg_rest.specs.Rest.{is_cast, casts_between, casts_to, left_at, distance}
+use Rattle.reg_world.proofs.one_order.Accepting.{accepts_is}
+use Rattle.reg_rest.specs.Rest.{is_cast, casts_between, casts_to, distance}
 use Rattle.reg_rest.proofs.Entries.{pending_set, pending_queue}
 use Rattle.reg_rest.proofs.Casts.{weight, casts_passed, casts_acked}
-use Rattle.reg_rest.proofs.Nearer.{casts_for, QueuesNoCast, nearer_by, casts_kept, casts_fewer}
+use Rattle.reg_rest.proofs.Nearer.{casts_for, nearer_by, casts_kept, casts_fewer}
 
 at_end : (xs ys : List Frame) (x : Frame) → slice_get (xs ++ x ∷ ys) (length xs) ≡ Some x
 at_end [] ys x = refl

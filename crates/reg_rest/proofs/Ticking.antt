@@ -7,18 +7,18 @@ use Rattle.reg_front.specs.declared.starts.Start.{Start}
 use Rattle.reg_process.specs.declared.steps.Step.TheVariants.{Tick as TickStep}
 use Rattle.reg_process.specs.Process.{peer_at, pending_of, resent}
 use Rattle.reg_world.specs.declared.events.Event.TheVariants.{Tick}
-use Rattle.reg_world.specs.Nodes.{Node, Nodes, put, after_step}
+use Rattle.reg_world.specs.Nodes.{Node, Nodes, after_step}
 use Rattle.reg_world.specs.Worlds.{Made, Accepts, run_in}
-use Rattle.reg_world.proofs.one_order.NodeEvents.{put_same, put_other}
+use Rattle.reg_world.proofs.one_order.NodeEvents.{put_same}
 use Rattle.reg_world.proofs.one_order.NodeLaws.{inv_of}
 use Rattle.reg_rest.specs.declared.faults.SettleFault.{SettleFault}
 use Rattle.reg_rest.specs.Rest.{distance, put_for}
-use Rattle.reg_rest.specs.RestParts.{nodes_in, link_in, pending_in, distance_in, IsGoingOn, Moves, Misses, Halts, IsAgain, Passes, Ticked, Nears, IsPending}
+use Rattle.reg_rest.specs.RestParts.{nodes_in, link_in, pending_in, distance_in, IsGoingOn, Misses, Halts, Passes, Ticked, Nears, IsPending}
 use Rattle.reg_rest.proofs.Entries.{pending_one}
 use Rattle.reg_rest.proofs.Nearer.{pending_within}
 use Rattle.reg_rest.proofs.Taking.{quiet_same}
-use Rattle.reg_rest.proofs.Going.{longer, moves_none, moves_both, later_none, later_both, later_one, halts_here, halts_both}
-use Rattle.reg_rest.proofs.Making.{Stepped, stepped, ticks}
+use Rattle.reg_rest.proofs.Going.{longer, moves_both, later_both, later_one, halts_here, halts_both}
+use Rattle.reg_rest.proofs.Making.{stepped, ticks}
 
 module _ (start : Op → ℕ → Start) (old : Made) (p first : ℕ) where
   pub ticked_first : (new : Made) → IsGoingOn start old → IsPending start old p first → Accepts start old (Tick p) new → Ticked start old p first first new

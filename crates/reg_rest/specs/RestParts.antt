@@ -1,6 +1,6 @@
 -- The parts of bringing a run to rest. They carry a proof: no promise speaks of them.
 use Rattle.std.specs.Prelude.{ℕ, ◌≡◌, ◌+◌, ◌*◌, ◌<◌, ◌≤◌, false, List, ◌++◌, length, Some, slice_get}
-use Rattle.reg_base.specs.declared.limits.TheConstants.{MOST_EVENTS, MOST_PROCESSES}
+use Rattle.reg_base.specs.declared.limits.TheConstants.{MOST_EVENTS}
 use Rattle.reg_base.specs.declared.memory.Op.{Op}
 use Rattle.reg_frames.specs.declared.bodies.Frame.{Frame}
 use Rattle.reg_frames.specs.declared.bodies.Frame.TheVariants.{Got}
@@ -12,7 +12,7 @@ use Rattle.reg_world.specs.Nodes.{Nodes}
 use Rattle.reg_world.specs.Worlds.{Made, run_in, stopped}
 use Rattle.reg_rest.specs.declared.faults.SettleFault.{SettleFault}
 use Rattle.reg_rest.specs.declared.faults.SettleFault.TheVariants.{Failed, TooManyEvents, OutOfMemory}
-use Rattle.reg_rest.specs.Rest.{distance, most_to_rest, put_for, IsLater}
+use Rattle.reg_rest.specs.Rest.{distance, put_for, IsLater}
 
 abbrev pub nodes_in : (Op → ℕ → Start) → Made → Nodes
 nodes_in start m = (run_in start m).nodes

@@ -1,11 +1,8 @@
-use Rattle.std.proofs.Common.{◌≡◌, ◌∙◌, ◌<◌, ◌≤◌, ◌+◌, ◌-◌, ℕ, sym, ap, subst, arith, min, length}
+use Rattle.std.proofs.Common.{◌≡◌, ◌∙◌, ◌≤◌, ◌+◌, ◌-◌, ℕ, sym, ap, subst, arith, length}
 use Rattle.std.proofs.lemmas.Option.{slice_get_within}
 use Rattle.std.proofs.lemmas.Result.{err_from_is_err_and}
-use Rattle.reg_base.specs.declared.limits.TheConstants.{MOST_RESENT}
 use Rattle.reg_world.specs.Nodes.{Node}
-use Rattle.reg_world.specs.Worlds.{Made}
-use Rattle.reg_rest.specs.Rest.{put_for}
-use Rattle.reg_rest.specs.RestParts.{nodes_in, link_in, IsAgain, Passing}
+use Rattle.reg_rest.specs.RestParts.{link_in, Passing}
 use Rattle.reg_rest.proofs.Going.{few_going}
 use Rattle.reg_rest.proofs.Passing.{end_is, passes_none, passing_none, passing_more, passed_on, passing_halts}
 use Rattle.reg_rest.proofs.resting.pass_on.Given.{Over}

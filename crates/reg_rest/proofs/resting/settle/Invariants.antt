@@ -1,4 +1,4 @@
-use Rattle.std.proofs.Common.{◌≡◌, ◌≤◌, ◌+◌, length}
+use Rattle.std.proofs.Common.{◌≤◌, ◌+◌, length}
 use Rattle.reg_rest.specs.RestParts.{Nears}
 use Rattle.reg_rest.proofs.resting.settle.Given as goal
 

@@ -1,10 +1,10 @@
-use Rattle.std.proofs.Common.{◌≡◌, ◌∙◌, ◌<◌, ◌≤◌, ◌+◌, ℕ, sym, ap, subst, arith}
+use Rattle.std.proofs.Common.{◌≡◌, ◌<◌, ◌+◌, ℕ, sym, subst, arith}
 use Rattle.std.proofs.lemmas.Result.{err_from_is_err_and}
 use Rattle.reg_world.specs.Worlds.{Made}
 use Rattle.reg_rest.specs.Rest.{put_for}
 use Rattle.reg_rest.specs.RestParts.{nodes_in, Ticked}
 use Rattle.reg_rest.proofs.Going.{few_going}
-use Rattle.reg_rest.proofs.Ticking.{ticked_first, ticked_more, ticked_skip, ticked_halts, ticked_all, some_pending, tick_halts}
+use Rattle.reg_rest.proofs.Ticking.{ticked_first, ticked_more, ticked_skip, ticked_halts, some_pending, tick_halts}
 use Rattle.reg_rest.proofs.resting.tick_and_pass.Goals.{then-to-process+in_ok-pass_on, else-to-process}
 use Rattle.reg_rest.proofs.resting.tick_and_pass.Goals as goal
 

@@ -1,4 +1,3 @@
-use Rattle.std.proofs.Common.{◌≡◌}
 use Rattle.reg_rest.specs.RestParts.{Ticked}
 use Rattle.reg_rest.proofs.resting.tick_and_pass.Given as goal
 
