@@ -13,7 +13,7 @@ use Rattle.reg_world.proofs.run.Along.{few_events}
 use Rattle.reg_rest.specs.declared.faults.SettleFault.{SettleFault}
 use Rattle.reg_rest.specs.declared.faults.SettleFault.TheVariants.{Failed, TooManyEvents, OutOfMemory}
 use Rattle.reg_rest.specs.Rest.{IsLater}
-use Rattle.reg_rest.specs.RestParts.{IsGoingOn, Moves, AreLaterSince, Misses, Halts}
+use Rattle.reg_rest.specs.RestParts.{distance_in, IsGoingOn, Moves, AreLaterSince, Misses, Halts}
 
 pub at_first : {X : Type 0} (xs ys : List X) (k : ℕ) → k < length xs → slice_get (xs ++ ys) k ≡ slice_get xs k
 at_first [] ys k l = absurd (omega (arith, l))
@@ -77,23 +77,23 @@ later_one passed old new e is later = record { each = λ k f l at. only old.acce
 -- an end behind events
 pub halts_both : (start : Op → ℕ → Start) (passed : ℕ → ℕ → ℕ) (old mid new : Made) (limit all : ℕ) (fault : SettleFault) → Moves start old mid → AreLaterSince passed old mid → length mid.accepted + limit ≤ length old.accepted + all → Halts start passed mid limit fault new → Halts start passed old all fault new
 halts_both start passed old mid new limit all Failed M L le H = H
-halts_both start passed old mid new limit all TooManyEvents M L le H = (moves_both start old mid new M H.0, later_both start passed old mid new H.0 L H.1, H.2, let x = H.3 in omega (arith, x, le))
-halts_both start passed old mid new limit all OutOfMemory M L le H = (H.0, moves_both start old mid H.0 M H.1, later_both start passed old mid H.0 H.1 L H.2, H.3)
+halts_both start passed old mid new limit all TooManyEvents M L le H = (moves_both start old mid new M H.0, later_both start passed old mid new H.0 L H.1, H.2, H.3, let x = H.4 in omega (arith, x, le))
+halts_both start passed old mid new limit all OutOfMemory M L le H = (H.0, moves_both start old mid H.0 M H.1, later_both start passed old mid H.0 H.1 L H.2, H.3, H.4)
 
 -- an event that was not made
-pub halts_here : (start : Op → ℕ → Start) (passed : ℕ → ℕ → ℕ) (m new : Made) (limit : ℕ) (fault : SettleFault) → IsGoingOn start m → length m.accepted ≤ MOST_EVENTS → 0 < limit → Misses start m fault new → Halts start passed m limit fault new
-halts_here start passed m new limit Failed G few l H = H
-halts_here start passed m new limit TooManyEvents G few l H =
-    let e : m ≡ new = sym H.1 in
+pub halts_here : (start : Op → ℕ → Start) (passed : ℕ → ℕ → ℕ) (m new : Made) (e : Event) (limit : ℕ) (fault : SettleFault) → IsGoingOn start m → length m.accepted ≤ MOST_EVENTS → 0 < limit → 0 < distance_in start m → Misses start m e fault new → Halts start passed m limit fault new
+halts_here start passed m new e limit Failed G few l far H = H
+halts_here start passed m new e limit TooManyEvents G few l far H =
+    let q : m ≡ new = sym H.1 in
     let full : length m.accepted ≡ MOST_EVENTS = let a = H.0 in let b = ap length G.accepted in omega (arith, a, b, few) in
-    subst (λ (z : Made). Moves start m z × AreLaterSince passed m z × (length z.accepted ≡ MOST_EVENTS) × (length z.accepted < length m.accepted + limit)) e
-    (moves_none start m G, later_none passed m, full, omega (arith, l))
-halts_here start passed m new limit OutOfMemory G few l H = (m, moves_none start m G, later_none passed m, H)
+    subst (λ (z : Made). Moves start m z × AreLaterSince passed m z × (0 < distance_in start z) × (length z.accepted ≡ MOST_EVENTS) × (length z.accepted < length m.accepted + limit)) q
+    (moves_none start m G, later_none passed m, far, full, omega (arith, l))
+halts_here start passed m new e limit OutOfMemory G few l far H = (m, moves_none start m G, later_none passed m, far, ((e, H.0), H.1))
 
 pub halts_weaker : (start : Op → ℕ → Start) (passed less : ℕ → ℕ → ℕ) (m new : Made) (limit : ℕ) (fault : SettleFault) → ((a b : ℕ) → less a b ≤ passed a b) → Halts start passed m limit fault new → Halts start less m limit fault new
 halts_weaker start passed less m new limit Failed le H = H
-halts_weaker start passed less m new limit TooManyEvents le H = (H.0, later_weaker passed less m new le H.1, H.2, H.3)
-halts_weaker start passed less m new limit OutOfMemory le H = (H.0, H.1, later_weaker passed less m H.0 le H.2, H.3)
+halts_weaker start passed less m new limit TooManyEvents le H = (H.0, later_weaker passed less m new le H.1, H.2, H.3, H.4)
+halts_weaker start passed less m new limit OutOfMemory le H = (H.0, H.1, later_weaker passed less m H.0 le H.2, H.3, H.4)
 
 pub few_going : (start : Op → ℕ → Start) (m : Made) → IsGoingOn start m → length m.accepted ≤ MOST_EVENTS
 few_going start m G = let a = few_events start m.processes m.registers m.accepted in let b = ap length G.accepted in omega (arith, a, b)

@@ -12,3 +12,4 @@ pub mod Ticking
 pub mod Pending
 pub mod Settling
 pub mod Able
+pub mod AtRest

@@ -9,6 +9,7 @@ use Rattle.reg_frames.specs.declared.bodies.Frame.TheVariants.{Numbered, Got}
 use Rattle.reg_front.specs.declared.starts.Start.{Start}
 use Rattle.reg_process.specs.declared.steps.Step.TheVariants.{Take as TakeStep}
 use Rattle.reg_process.specs.Process.{State, peer_at, pending_of, numbered_from, resent}
+use Rattle.reg_world.specs.declared.events.Event.{Event}
 use Rattle.reg_world.specs.declared.events.Event.TheVariants.{Take}
 use Rattle.reg_world.specs.Nodes.{Node, Nodes, put, after_step, op_in}
 use Rattle.reg_world.specs.Worlds.{Made, Accepts, run_in}
@@ -20,6 +21,7 @@ use Rattle.reg_rest.specs.declared.faults.SettleFault.{SettleFault}
 use Rattle.reg_rest.specs.Rest.{distance, put_for}
 use Rattle.reg_rest.specs.RestParts.{nodes_in, link_in, pending_in, distance_in, IsGoingOn, Misses, Halts, IsAgain, Passing, Passes}
 use Rattle.reg_rest.proofs.Entries.{pending_one}
+use Rattle.reg_rest.proofs.Nearer.{pending_within}
 use Rattle.reg_rest.proofs.Taking.{Took, Counted, took, counted}
 use Rattle.reg_rest.proofs.Going.{at_behind, moves_none, moves_both, later_none, later_both, later_one, halts_here, halts_both}
 use Rattle.reg_rest.proofs.Making.{stepped, takes}
@@ -169,7 +171,9 @@ module _ (start : Op → ℕ → Start) (passed : ℕ → ℕ → ℕ) (from to 
           }
 
       -- the next one was not
-      pub passing_halts : (done answer : ℕ) (new : Made) (fault : SettleFault) → Passing start passed old from to first done answer mid → done ≤ count → 0 < count → length mid.accepted ≤ MOST_EVENTS → Misses start mid fault new → Halts start passed old (2 * pending_in start old from) fault new
-      passing_halts done answer new fault P most l few H =
+      pub passing_halts : (done answer : ℕ) (new : Made) (e : Event) (fault : SettleFault) → Passing start passed old from to first done answer mid → done ≤ count → 0 < count → length mid.accepted ≤ MOST_EVENTS → Misses start mid e fault new → Halts start passed old (2 * pending_in start old from) fault new
+      passing_halts done answer new e fault P most l few H =
           let within = pending_one (nodes_in start old from).state.peers to in
-          halts_both start passed old mid new 1 (2 * pending_in start old from) fault P.moves P.later (let c = P.count in omega (arith, c, most, l, within)) (halts_here start passed mid new 1 fault P.moves.on few (omega arith) H)
+          let all = pending_within old.processes from (nodes_in start old) lf in
+          let far : 0 < distance_in start mid = let a = P.far in omega (arith, a, all, within, l) in
+          halts_both start passed old mid new 1 (2 * pending_in start old from) fault P.moves P.later (let c = P.count in omega (arith, c, most, l, within)) (halts_here start passed mid new e 1 fault P.moves.on few (omega arith) far H)

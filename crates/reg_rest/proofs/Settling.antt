@@ -67,5 +67,5 @@ settles start laws old new count going N none is = record {
 
 pub stops : (start : Op → ℕ → Start) (old new : Made) (fault : SettleFault) → old.failed ≡ false → Halts start (put_for (nodes_in start old)) old (3 * distance_in start old) fault new → Stops start old fault new
 stops start old new Failed going H = absurd H
-stops start old new TooManyEvents going H = (going, goes_on start old new going H.0 H.1, H.2, let a = H.2 in let b = H.3 in omega (arith, a, b))
-stops start old new OutOfMemory going H = (going, H.0, goes_on start old H.0 going H.1 H.2, H.3)
+stops start old new TooManyEvents going H = (going, goes_on start old new going H.0 H.1, H.2, H.3, let a = H.3 in let b = H.4 in omega (arith, a, b))
+stops start old new OutOfMemory going H = (going, H.0, goes_on start old H.0 going H.1 H.2, H.3, H.4)

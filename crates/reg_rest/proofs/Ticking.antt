@@ -102,8 +102,8 @@ module _ (start : Op → ℕ → Start) (old : Made) (p first : ℕ) where
   pub some_pending : IsPending start old p first → 0 < pending_in start old p
   some_pending L = let a = pending_one (nodes_in start old p).state.peers first in let b = L.some in omega (arith, a, b)
 
-  pub tick_halts : (new : Made) (fault : SettleFault) → IsGoingOn start old → length old.accepted ≤ MOST_EVENTS → IsPending start old p first → Misses start old fault new → Halts start (put_for (nodes_in start old)) old (3 * distance_in start old) fault new
+  pub tick_halts : (new : Made) (fault : SettleFault) → IsGoingOn start old → length old.accepted ≤ MOST_EVENTS → IsPending start old p first → Misses start old (Tick p) fault new → Halts start (put_for (nodes_in start old)) old (3 * distance_in start old) fault new
   tick_halts new fault G few L H =
       let a = some_pending L in
       let b = pending_within old.processes p (nodes_in start old) L.sender in
-      halts_here start (put_for (nodes_in start old)) old new (3 * distance_in start old) fault G few (omega (arith, a, b)) H
+      halts_here start (put_for (nodes_in start old)) old new (Tick p) (3 * distance_in start old) fault G few (omega (arith, a, b)) (omega (arith, a, b)) H

@@ -1,5 +1,5 @@
 -- How far a run is from rest, and what bringing it there does.
-use Rattle.std.specs.Prelude.{ℕ, zero, suc, ◌≡◌, ◌+◌, ◌-◌, ◌*◌, ◌<◌, ◌≤◌, Bool, true, false, ◌==◌, cond, List, ◌++◌, length, drop}
+use Rattle.std.specs.Prelude.{ℕ, zero, suc, ◌≡◌, ◌+◌, ◌-◌, ◌*◌, ◌<◌, ◌≤◌, Bool, true, false, ◌==◌, cond, List, ◌++◌, length, drop, None}
 use Rattle.std.specs.List.{count_by}
 use Rattle.reg_base.specs.declared.limits.TheConstants.{MOST_EVENTS}
 use Rattle.reg_base.specs.declared.memory.Op.{Op}
@@ -13,7 +13,7 @@ use Rattle.reg_world.specs.declared.events.Event.TheVariants.{Call, Take, Tick}
 use Rattle.reg_world.specs.Laws.{AllAcknowledged, IsQuiescent}
 use Rattle.reg_world.specs.Nodes.{Nodes}
 use Rattle.reg_world.specs.World.{whole}
-use Rattle.reg_world.specs.Worlds.{Made, run_in, stopped}
+use Rattle.reg_world.specs.Worlds.{Made, run_in, refusal, stopped}
 use Rattle.reg_rest.specs.declared.faults.SettleFault.{SettleFault}
 use Rattle.reg_rest.specs.declared.faults.SettleFault.TheVariants.{Failed, TooManyEvents, OutOfMemory}
 
@@ -81,13 +81,18 @@ pub record Settles (start : Op → ℕ → Start) (old : Made) (count : ℕ) (ne
   pub acknowledged : AllAcknowledged new.processes (run_in start new).nodes
   pub quiescent : IsQuiescent new.processes (run_in start new).nodes
 
--- Why it was not: the world had stopped before; or it has all the events that it may have, and they are fewer than the
--- bound; or memory was wanting for one more event, and the world has stopped.
+-- memory was wanting for an event to which no fault applied, and the world has stopped
+abbrev pub LacksMemory : (Op → ℕ → Start) → Made → Made → Type 0
+LacksMemory start last new = ((e : Event) × (refusal start last e ≡ None)) × (new ≡ stopped last)
+
+-- Why it was not: the world had stopped before; or after more events it was not at rest, and there were all the events that a
+-- world may have, which are fewer than the bound asks for, or memory was wanting.
 abbrev pub Stops : (Op → ℕ → Start) → Made → SettleFault → Made → Type 0
 Stops start old Failed new = (old.failed ≡ true) × (new ≡ old)
 Stops start old TooManyEvents new =
-    (old.failed ≡ false) × GoesOn start old new × (length new.accepted ≡ MOST_EVENTS) × (MOST_EVENTS < length old.accepted + most_to_rest old.processes (run_in start old).nodes)
-Stops start old OutOfMemory new = (old.failed ≡ false) × (last : Made) × GoesOn start old last × (new ≡ stopped last)
+    (old.failed ≡ false) × GoesOn start old new × (0 < distance new.processes (run_in start new).nodes) × (length new.accepted ≡ MOST_EVENTS) × (MOST_EVENTS < length old.accepted + most_to_rest old.processes (run_in start old).nodes)
+Stops start old OutOfMemory new =
+    (old.failed ≡ false) × (last : Made) × GoesOn start old last × (0 < distance last.processes (run_in start last).nodes) × LacksMemory start last new
 
 -- A run that can come to rest, by so many ticks and takes as the bound says, each accepted, and no take of a frame that was
 -- put before.

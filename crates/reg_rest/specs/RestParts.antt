@@ -1,5 +1,5 @@
 -- The parts of bringing a run to rest. They carry a proof: no promise speaks of them.
-use Rattle.std.specs.Prelude.{ℕ, ◌≡◌, ◌+◌, ◌*◌, ◌<◌, ◌≤◌, false, List, ◌++◌, length, Some, slice_get}
+use Rattle.std.specs.Prelude.{ℕ, ◌≡◌, ◌+◌, ◌*◌, ◌<◌, ◌≤◌, false, List, ◌++◌, length, None, Some, slice_get}
 use Rattle.reg_base.specs.declared.limits.TheConstants.{MOST_EVENTS}
 use Rattle.reg_base.specs.declared.memory.Op.{Op}
 use Rattle.reg_frames.specs.declared.bodies.Frame.{Frame}
@@ -9,10 +9,10 @@ use Rattle.reg_orders.specs.History.{IsAt}
 use Rattle.reg_process.specs.Process.{Peer, peer_at, pending_of, resent}
 use Rattle.reg_world.specs.declared.events.Event.{Event}
 use Rattle.reg_world.specs.Nodes.{Nodes}
-use Rattle.reg_world.specs.Worlds.{Made, run_in, stopped}
+use Rattle.reg_world.specs.Worlds.{Made, run_in, refusal, stopped}
 use Rattle.reg_rest.specs.declared.faults.SettleFault.{SettleFault}
 use Rattle.reg_rest.specs.declared.faults.SettleFault.TheVariants.{Failed, TooManyEvents, OutOfMemory}
-use Rattle.reg_rest.specs.Rest.{distance, put_for, IsLater}
+use Rattle.reg_rest.specs.Rest.{distance, put_for, IsLater, LacksMemory}
 
 abbrev pub nodes_in : (Op → ℕ → Start) → Made → Nodes
 nodes_in start m = (run_in start m).nodes
@@ -47,17 +47,17 @@ pub record AreLaterSince (passed : ℕ → ℕ → ℕ) (old new : Made) : Type 
   pub each : (k : ℕ) (e : Event) → length old.accepted ≤ k → IsAt new.accepted k e → IsLater passed e
 
 -- why an event was not made
-abbrev pub Misses : (Op → ℕ → Start) → Made → SettleFault → Made → Type 0
-Misses start old Failed new = ⊥
-Misses start old TooManyEvents new = (MOST_EVENTS ≤ length (run_in start old).accepted) × (new ≡ old)
-Misses start old OutOfMemory new = new ≡ stopped old
+abbrev pub Misses : (Op → ℕ → Start) → Made → Event → SettleFault → Made → Type 0
+Misses start old e Failed new = ⊥
+Misses start old e TooManyEvents new = (MOST_EVENTS ≤ length (run_in start old).accepted) × (new ≡ old)
+Misses start old e OutOfMemory new = (refusal start old e ≡ None) × (new ≡ stopped old)
 
--- why events ended early, and that they were fewer than the limit where there was no room for more
+-- why events ended early, with the run not at rest, and that they were fewer than the limit where there was no room for more
 abbrev pub Halts : (Op → ℕ → Start) → (ℕ → ℕ → ℕ) → Made → ℕ → SettleFault → Made → Type 0
 Halts start passed old limit Failed new = ⊥
 Halts start passed old limit TooManyEvents new =
-    Moves start old new × AreLaterSince passed old new × (length new.accepted ≡ MOST_EVENTS) × (length new.accepted < length old.accepted + limit)
-Halts start passed old limit OutOfMemory new = (last : Made) × Moves start old last × AreLaterSince passed old last × (new ≡ stopped last)
+    Moves start old new × AreLaterSince passed old new × (0 < distance_in start new) × (length new.accepted ≡ MOST_EVENTS) × (length new.accepted < length old.accepted + limit)
+Halts start passed old limit OutOfMemory new = (last : Made) × Moves start old last × AreLaterSince passed old last × (0 < distance_in start last) × LacksMemory start last new
 
 -- what a tick put again for a process stands at the end of the wire, behind the frames that were passed
 pub record IsAgain (start : Op → ℕ → Start) (passed : ℕ → ℕ → ℕ) (m : Made) (from to : ℕ) : Type 0 where

@@ -41,7 +41,7 @@ fn make<F: FrontEnd, A: Allocator + Copy, W: WireStore<A>>(
 ) -> Result<(), SettleFault>
     requires on { IsGoingOn F.start world.old }
     requires allowed { event_fault world.old.processes world.old.registers (nodes_in F.start world.old) event ≡ None }
-    ensures { MatchResult result (λ _. Accepts F.start world.old event world.new) (λ fault. Misses F.start world.old fault world.new) }
+    ensures { MatchResult result (λ _. Accepts F.start world.old event world.new) (λ fault. Misses F.start world.old event fault world.new) }
 {
     match world.step(&event) {
         Ok(()) => Ok(()),
@@ -102,7 +102,7 @@ fn take<F: FrontEnd, A: Allocator + Copy, W: WireStore<A>>(
     requires to { to < world.old.processes }
     requires apart { from ≢ to }
     requires there { number < put_for (nodes_in F.start world.old) from to }
-    ensures made { MatchResult result (λ _. Accepts F.start world.old (Take from to number) world.new) (λ fault. Misses F.start world.old fault world.new) }
+    ensures made { MatchResult result (λ _. Accepts F.start world.old (Take from to number) world.new) (λ fault. Misses F.start world.old (Take from to number) fault world.new) }
     ensures answer { IfOk result (λ answer. answer ≡ put_for (nodes_in F.start world.old) to from) }
 {
     let answer = frame_count(world, to, from);

@@ -2,6 +2,7 @@ use Rattle.std.proofs.Common.{◌≡◌, ◌∙◌, ◌≤◌, ◌+◌, ◌-◌,
 use Rattle.std.proofs.lemmas.Option.{slice_get_within}
 use Rattle.std.proofs.lemmas.Result.{err_from_is_err_and}
 use Rattle.reg_world.specs.Nodes.{Node}
+use Rattle.reg_world.specs.declared.events.Event.TheVariants.{Take}
 use Rattle.reg_rest.specs.RestParts.{link_in, Passing}
 use Rattle.reg_rest.proofs.Going.{few_going}
 use Rattle.reg_rest.proofs.Passing.{end_is, passes_none, passing_none, passing_more, passed_on, passing_halts}
@@ -54,7 +55,7 @@ returns-in_err-answer g c = λ passed A.
     let b = c.if-count-eq0.false in
     let l = c.loop-number-test.true in
     let p = err_from_is_err_and c.from_residual.result c.from_residual.ensures.1 in
-    rw (p.1, p.2) (passing_halts start passed c.args.from c.args.to old c.requires.from c.requires.to c.requires.apart A c.loop-number.world (c.loop-number.number - (c.frame_count-end.result - c.again_count-count.result)) c.loop-number.answer c.take.new.world c.in_err-answer.field-0.0 P (omega (arith, a, l)) (omega (arith, a, b)) (few_going start c.loop-number.world P.moves.on) c.in_err-answer.ensures.made)
+    rw (p.1, p.2) (passing_halts start passed c.args.from c.args.to old c.requires.from c.requires.to c.requires.apart A c.loop-number.world (c.loop-number.number - (c.frame_count-end.result - c.again_count-count.result)) c.loop-number.answer c.take.new.world (Take c.args.from c.args.to c.loop-number.number) c.in_err-answer.field-0.0 P (omega (arith, a, l)) (omega (arith, a, b)) (few_going start c.loop-number.world P.moves.on) c.in_err-answer.ensures.made)
 
 pub loop-number-preserved : goal.loop-number-preserved
 loop-number-preserved g c = λ passed A.
@@ -110,7 +111,7 @@ returns-in_err-take g c = λ passed A.
     let b = c.if-count-eq0.false in
     let all = all_taken c.loop-number.number c.frame_count-end.result c.again_count-count.result c.loop-number.auto.number c.loop-number.auto.number-end c.loop-number-test.false (omega (arith, e, a, f)) in
     let p = err_from_is_err_and c.from_residual-in_err-take.result c.from_residual-in_err-take.ensures.1 in
-    rw (p.1, p.2) (passing_halts start passed c.args.from c.args.to old c.requires.from c.requires.to c.requires.apart A c.loop-number.world (c.loop-number.number - (c.frame_count-end.result - c.again_count-count.result)) c.loop-number.answer c.take-2.new.world c.in_err-take.field-0.0 P (omega (arith, a, all)) (omega (arith, a, b)) (few_going start c.loop-number.world P.moves.on) c.in_err-take.ensures.made)
+    rw (p.1, p.2) (passing_halts start passed c.args.from c.args.to old c.requires.from c.requires.to c.requires.apart A c.loop-number.world (c.loop-number.number - (c.frame_count-end.result - c.again_count-count.result)) c.loop-number.answer c.take-2.new.world (Take c.args.to c.args.from c.loop-number.answer) c.in_err-take.field-0.0 P (omega (arith, a, all)) (omega (arith, a, b)) (few_going start c.loop-number.world P.moves.on) c.in_err-take.ensures.made)
 
 pub returns : goal.returns
 returns g c = λ passed A.
