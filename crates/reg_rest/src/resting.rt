@@ -207,15 +207,15 @@ fn next_link<F: FrontEnd, A: Allocator + Copy, W: WireStore<A>>(
 }
 
 /// Brings a world to rest, and tells by how many events: ticks and takes, each an ordinary event of `World::step`, until no
-/// frame is left unacknowledged. Then all copies are equal and no operation waits. Each process that has unacknowledged frames
-/// puts the first ones again; these are taken in order, each once, and of the counts that answer those of a link the last. So
-/// no frame that was put before is taken: what was lost stays lost. There are at most three events for each acknowledgement
-/// that is due, now or later.
+/// frame is left unacknowledged. Then all copies are equal and no operation waits. A process that has unacknowledged frames
+/// puts the first ones again; these are taken, link by link, and then the count that answers the last of a link. No frame that
+/// was put before is taken: what was lost stays lost. There are at most three events for each frame that has to be
+/// acknowledged, now or later.
 ///
 /// # Errors
 ///
-/// `TooManyEvents` where the world has all the events that it may have, with some frame still pending; `OutOfMemory` where an event
-/// took memory that was refused, and then the world has stopped; `Failed` where it had stopped before.
+/// `TooManyEvents`: the world has all the events that it may have, and is not at rest. `OutOfMemory`: an event took memory that
+/// was refused, and the world has stopped, with what it told before. `Failed`: it had stopped before, and nothing has changed.
 pub fn settle<F: FrontEnd, A: Allocator + Copy, W: WireStore<A>>(
     world: &mut World<F, A, W>,
 ) -> Result<u32, SettleFault>
