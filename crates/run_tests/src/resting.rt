@@ -1,14 +1,15 @@
 //! Worlds brought to rest: behind each event of runs worked by hand, of lossy plays, of large shapes, and at the most events.
 use crate::world_rows::{LINEAR, LOCAL_READ, LOCAL_WRITE, Row};
 use part_tests::values::{READ, WRITE_FIVE, write_of};
+use refusing::{Trial, refusals};
 use reg_base::Shape;
 use reg_base::limits::MOST_EVENTS;
 use reg_front::{FrontEnd, Linear, LocalRead, LocalWrite};
 use reg_process::Process;
 use reg_rest::{SettleFault, settle};
 use reg_workload::{SeedWords, Words, Workload, play_seeded};
-use reg_world::{Event, PackedWires, WireStore, World, WorldFault};
-use std::alloc::Global;
+use reg_world::{Event, PackedWires, RunFault, WireStore, World, WorldFault};
+use std::alloc::{Allocator, Global};
 use std::process::Abort;
 use std::test::Fail;
 
@@ -161,6 +162,7 @@ scripts = [
     [\"read x\", \"write x 9\", \"swap y 3\"],
 ]
 loss = 50
+budget = 500
 ";
 
 /// Whether a lossy play settles where it is cut, at an event that its seed picks.
@@ -210,7 +212,72 @@ fn many_settle<W: WireStore<Global>>(
 #[test]
 fn large_shapes_settle(rt: HostRuntime) -> Result<(), Fail> {
     assert!(rt; many_settle::<PackedWires<Global>>(rt.alloc(), 16, 16)?);
-    assert!(rt; many_settle::<PackedWires<Global>>(rt.alloc(), 64, 4)?);
+    assert!(rt; many_settle::<PackedWires<Global>>(rt.alloc(), 64, 64)?);
+    Ok(())
+}
+
+/// A linear run of so many processes, brought to rest.
+#[derive(Clone, Copy)]
+struct Rests {
+    processes: u32,
+    events: &'static [Event],
+}
+
+/// Whether a world that wants memory has stopped, with the first ones of the events that ample memory gives.
+fn stops_within<A: Allocator + Copy>(
+    ample: Global,
+    world: &mut World<Linear, A>,
+    events: &[Event],
+) -> Result<bool, Fail> {
+    let mut other = World::<Linear>::run(ample, world.shape(), events)?;
+    let _count = settle(&mut other)?;
+    let kept = world.accepted().len();
+    Ok(
+        kept >= events.len()
+            && other.accepted().get(..kept) == Some(world.accepted())
+            && settle(world) == Err(SettleFault::Failed),
+    )
+}
+
+/// The events of a world at rest. None where memory is wanted.
+fn rested<A: Allocator + Copy>(
+    ample: Global,
+    world: &mut World<Linear, A>,
+    events: &[Event],
+) -> Result<Option<String>, Fail> {
+    match settle(world) {
+        Ok(count) => Ok(Some(format!(in ample; "{count} {:?}", world.accepted())?)),
+        Err(SettleFault::OutOfMemory) if stops_within(ample, world, events)? => Ok(None),
+        Err(fault) => Err(fault)?,
+    }
+}
+
+impl Trial for Rests {
+    fn answer<A: Allocator + Copy>(&self, alloc: A, ample: Global) -> Result<Option<String>, Fail> {
+        let shape = Shape::new(self.processes, 1)?;
+        match World::<Linear, A>::run(alloc, shape, self.events) {
+            Ok(mut world) => rested(ample, &mut world, self.events),
+            Err(
+                RunFault {
+                    at: _,
+                    fault: WorldFault::OutOfMemory,
+                },
+            ) => Ok(None),
+            Err(fault) => Err(fault)?,
+        }
+    }
+}
+
+#[test]
+fn each_growth_of_a_rest_is_refused(rt: HostRuntime) -> Result<(), Fail> {
+    for processes in 2..=3 {
+        let rests = Rests {
+            processes,
+            events: &[WRITE],
+        };
+        let first = refusals(&rests, rt.alloc())?;
+        assert!(rt; first > 4);
+    }
     Ok(())
 }
 
