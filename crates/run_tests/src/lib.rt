@@ -38,6 +38,8 @@ mod replay_rows;
 #[cfg(test)]
 mod replays;
 #[cfg(test)]
+mod resting;
+#[cfg(test)]
 mod schedules;
 #[cfg(test)]
 mod seeded;

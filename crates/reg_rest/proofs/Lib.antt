@@ -1,0 +1,15 @@
+pub mod Totals
+pub mod Entries
+pub mod Casts
+pub mod Nearer
+pub mod Taking
+pub mod Few
+pub mod Own
+pub mod Going
+pub mod Making
+pub mod Passing
+pub mod Ticking
+pub mod Pending
+pub mod Settling
+pub mod Able
+pub mod AtRest
