@@ -102,7 +102,7 @@ told_more plays s t v done (those, are, tally) more = (those ++ s ∷ [], those_
 
 -- and where it has another, or isn't finished
 pub told_still : (plays : List Seen) (s : Seen) (outcome : List Told) (o : Option Tally) → ¬ HasOutcome outcome s → TellsOf plays outcome o → TellsOf (plays ++ s ∷ []) outcome o
-told_still plays s outcome None other none k x h done same = elim (at_cases plays s k x h) [
+told_still plays s outcome None other none = λ k x h done same. elim (at_cases plays s k x h) [
   | inl old ↦ none k x old done same
   | inr new ↦ other (subst (λ (y : Seen). HasOutcome outcome y) (sym new) (record { finished = done; same = same }))
 ]

@@ -63,10 +63,7 @@ fn tell_process<A: Allocator + Copy>(
 /// # Errors
 ///
 /// Memory was refused.
-pub fn tell<A: Allocator + Copy>(
-    alloc: A,
-    history: &History<A>,
-) -> Result<Vec<Told, A>, AllocError>
+pub fn tell<A: Allocator + Copy>(alloc: A, history: &History<A>) -> Result<Vec<Told, A>, AllocError>
     ensures { IfOk result (λ v. v.items ≡ outcome_of history.now.shape.processes history.now.entries) }
 {
     let processes = history.shape().processes() as u8;

@@ -1,8 +1,9 @@
 //! The lines of a table.
-ghost use Rattle.std.specs.Prelude.{◌≡◌, List, ℕ, IfOk, map};
+ghost use Rattle.std.specs.Prelude.{◌≡◌, List, ℕ, IfOk, OnOk, map};
+ghost use Rattle.std.specs.BTreeMap.{IsOrdered};
 ghost use Rattle.std.specs.List.Sorted.{IsPermutation, IsSorted};
 ghost use Rattle.reg_tables.specs.Tables.{Seen, IsTable};
-ghost use Rattle.reg_tables.specs.Inner.{IsCounted, line_of, line_cmp};
+ghost use Rattle.reg_tables.specs.Inner.{IsCounted, key_cmp, line_of, line_cmp};
 
 use crate::outcomes::Told;
 use crate::tallies::Tally;
@@ -31,11 +32,14 @@ fn listed<A: Allocator + Copy>(
     alloc: A,
     told: BTreeMap<Vec<Told, A>, Tally, A>,
 ) -> Result<Vec<Row<A>, A>, AllocError>
-    ensures { IfOk result (λ v. v.items ≡ map (line_of (λ k. k.items)) told.entries) }
+    ensures lines { IfOk result (λ v. v.items ≡ map (line_of (λ k. k.items)) told.entries) }
+    ensures ordered { OnOk result (IsOrdered (key_cmp (λ k. k.items)) told) }
 {
-    told.into_iter()
-        .map(|(outcome, tally)| Row { outcome, tally })
-        .collect(alloc)
+    let mut rows = Vec::new(alloc);
+    for (outcome, tally) in told {
+        rows.push(Row { outcome, tally })?;
+    }
+    Ok(rows)
 }
 
 /// By falling count, and then by outcome.

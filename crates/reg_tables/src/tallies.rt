@@ -1,8 +1,9 @@
 //! What is told of the plays of each outcome.
 ghost use Rattle.std.specs.Prelude.{◌≡◌, ◌++◌, ◌<◌, [], ◌∷◌, List, false, OnOk};
+ghost use Rattle.std.specs.BTreeMap.{get};
 ghost use Rattle.reg_tables.specs.declared.outcomes.Told.{Told};
-ghost use Rattle.reg_tables.specs.Tables.{Seen, IsTally};
-ghost use Rattle.reg_tables.specs.Inner.{HasRoom, IsCounted, IsShortest, finished_play};
+ghost use Rattle.reg_tables.specs.Tables.{Seen, IsTally, IsTallyOf};
+ghost use Rattle.reg_tables.specs.Inner.{HasRoom, IsCounted, IsShortest, TellsOf, finished_play, key_cmp};
 
 use crate::outcomes::Told;
 use std::alloc::{AllocError, Allocator, Global};
@@ -80,6 +81,21 @@ fn joined(tally: Tally, glance: Glance) -> Tally
     }
 }
 
+/// What is told of the plays with this outcome and one more.
+fn next<A: Allocator + Copy>(
+    told: &BTreeMap<Vec<Told, A>, Tally, A>,
+    outcome: &Vec<Told, A>,
+    glance: Glance,
+) -> Tally
+    requires { HasRoom (λ v. v.items) told.now }
+    ensures { (plays : List Seen) → TellsOf plays outcome.now.items (get (key_cmp (λ v. v.items)) told.now outcome.now) → IsTallyOf (plays ++ finished_play outcome.now.items glance ∷ []) outcome.now.items result }
+{
+    match told.get(outcome) {
+        Some(tally) => joined(*tally, glance),
+        None => first(glance),
+    }
+}
+
 impl<A: Allocator + Copy> Tallies<A> {
     /// Nothing is told, of no play.
     pub fn new(alloc: A) -> Tallies<A>
@@ -100,14 +116,9 @@ impl<A: Allocator + Copy> Tallies<A> {
         requires { HasRoom (λ v. v.items) self.old.told }
         ensures { OnOk result ((plays : List Seen) → IsCounted (λ v. v.items) plays self.old.told self.old.unfinished → IsCounted (λ v. v.items) (plays ++ finished_play outcome.items glance ∷ []) self.new.told self.new.unfinished) }
     {
-        let tally = match self.told.get(&outcome) {
-            Some(tally) => joined(*tally, glance),
-            None => first(glance),
-        };
-        match self.told.insert(outcome, tally) {
-            Ok(_) => Ok(()),
-            Err(_) => Err(AllocError),
-        }
+        let tally = next(&self.told, &outcome, glance);
+        self.told.insert(outcome, tally)?;
+        Ok(())
     }
 
     /// Counts a play that is not finished.
