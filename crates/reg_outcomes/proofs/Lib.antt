@@ -1,1 +1,2 @@
 pub mod InTime
+pub mod Playing
