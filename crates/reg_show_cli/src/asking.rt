@@ -1,6 +1,6 @@
 //! What the words of a command line ask for: to show something, or to count what the plays of a workload tell. The words of the
 //! second are read here, since they have a number; all others are read by `clap`.
-ghost use Rattle.std.specs.Prelude.{◌≡◌, ◌≤◌, ◌↔◌, ℕ, IfSome, IsTrue, MatchOption, Some, map, slice_get, string_bytes};
+ghost use Rattle.std.specs.Prelude.{◌≡◌, ◌≤◌, ◌↔◌, ℕ, IfSome, MatchOption, Some, codes, length, map, true, slice_get, string_bytes};
 ghost use Rattle.std.specs.Fmt.{decimal};
 ghost use Rattle.reg_outcomes.specs.declared.plays.TheConstants.{MOST_PLAYS};
 ghost use Rattle.reg_words.specs.Lines.{behind_name};
@@ -17,12 +17,12 @@ pub const USUAL_PLAYS: u32 = 1_000;
 
 /// Whether this word stands at this place.
 fn is_at(words: &[String], place: usize, word: &str) -> bool
-    ensures { IsTrue result ↔ slice_get (map string_bytes words.now) place ≡ Some word.now }
+    ensures { result ≡ true ↔ slice_get (map string_bytes words.now) place ≡ Some word.now }
 {
-    match words.get(place) {
-        Some(found) => found.as_str() == word,
-        None => false,
+    if place >= words.len() {
+        return false;
     }
+    words[place].as_str() == word
 }
 
 /// The number of plays that a word says, and None where it says none.
@@ -37,20 +37,39 @@ fn plays_of(word: &str) -> Option<u32>
     Some(plays as u32)
 }
 
+/// The number of plays that the fourth word says behind the flag `--plays`.
+fn plays_flagged(words: &[String]) -> Option<u32>
+    requires length { length words.now ≡ 4 }
+    requires named { slice_get (map string_bytes words.now) 1 ≡ Some (codes "outcomes") }
+    ensures { MatchOption result ((plays : ℕ) → ¬ IsOutcomesLine (behind_name words.now) plays) (IsOutcomesLine (behind_name words.now)) }
+{
+    if !is_at(words, 2, "--plays") {
+        return None;
+    }
+    plays_of(words[3].as_str())
+}
+
+/// How many plays the words ask to count, the second of which is `outcomes`.
+fn plays_named(words: &[String]) -> Option<u32>
+    requires { slice_get (map string_bytes words.now) 1 ≡ Some (codes "outcomes") }
+    ensures { MatchOption result ((plays : ℕ) → ¬ IsOutcomesLine (behind_name words.now) plays) (IsOutcomesLine (behind_name words.now)) }
+{
+    match words.len() {
+        2 => Some(USUAL_PLAYS),
+        4 => plays_flagged(words),
+        _ => None,
+    }
+}
+
 /// How many plays the words ask to count, and None where they ask for none.
 fn plays_asked(words: &[String]) -> Option<u32>
     ensures { MatchOption result ((plays : ℕ) → ¬ IsOutcomesLine (behind_name words.now) plays) (IsOutcomesLine (behind_name words.now)) }
 {
-    if !is_at(words, 1, "outcomes") {
-        return None;
+    if is_at(words, 1, "outcomes") {
+        plays_named(words)
+    } else {
+        None
     }
-    if words.len() == 2 {
-        return Some(USUAL_PLAYS);
-    }
-    if words.len() != 4 || !is_at(words, 2, "--plays") {
-        return None;
-    }
-    plays_of(words[3].as_str())
 }
 
 /// What the words ask for. The first word is the program's name. A word `--` is refused.
