@@ -7,6 +7,8 @@
 #[cfg(test)]
 mod lines;
 #[cfg(test)]
+mod litmus;
+#[cfg(test)]
 mod live;
 #[cfg(test)]
 mod show_words;

@@ -1,11 +1,11 @@
 //! Which command lines of `awshow` are taken, and how a refused one is told.
 use crate::lines::words_of;
-use reg_show_cli::{Asked, Showing, WordsFault, choose, refuse};
+use reg_show_cli::{Asked, Showing, WordsFault, ask, refuse};
 use std::alloc::Global;
 use std::process::Abort;
 
 /// Each line, and what it asks for.
-const LINES: [(&str, Result<Asked, WordsFault>); 17] = [
+const LINES: [(&str, Result<Asked, WordsFault>); 28] = [
     (
         "schedule",
         Ok(Asked::Show {
@@ -30,6 +30,12 @@ const LINES: [(&str, Result<Asked, WordsFault>); 17] = [
             showing: Showing::Draw,
         }),
     ),
+    ("outcomes", Ok(Asked::Outcomes { plays: 1_000 })),
+    ("outcomes --plays 1", Ok(Asked::Outcomes { plays: 1 })),
+    (
+        "outcomes --plays 1000000",
+        Ok(Asked::Outcomes { plays: 1_000_000 }),
+    ),
     ("help", Ok(Asked::Help)),
     ("-h", Ok(Asked::Help)),
     ("--help", Ok(Asked::Help)),
@@ -43,12 +49,20 @@ const LINES: [(&str, Result<Asked, WordsFault>); 17] = [
     ("draw draw", Err(WordsFault::CommandLine)),
     ("schedule schedule", Err(WordsFault::CommandLine)),
     ("schedule --fair --fair", Err(WordsFault::CommandLine)),
+    ("outcomes --plays", Err(WordsFault::CommandLine)),
+    ("outcomes --plays 0", Err(WordsFault::CommandLine)),
+    ("outcomes --plays 01", Err(WordsFault::CommandLine)),
+    ("outcomes --plays 1000001", Err(WordsFault::CommandLine)),
+    ("outcomes --plays=5", Err(WordsFault::CommandLine)),
+    ("outcomes 5", Err(WordsFault::CommandLine)),
+    ("outcomes --plays 5 --", Err(WordsFault::CommandLine)),
+    ("--plays 5 outcomes", Err(WordsFault::CommandLine)),
 ];
 
 /// Whether the words of a line ask for this.
 fn asks(rt: &impl Abort, alloc: Global, line: &str, asked: &Result<Asked, WordsFault>) -> bool {
     let words = words_of(rt, alloc, "awshow", line);
-    choose(alloc, words.as_slice()) == *asked
+    ask(alloc, words.as_slice()) == *asked
 }
 
 #[test]
@@ -66,6 +80,6 @@ fn is_told(alloc: Global, status: u8, line: &str) -> bool {
 
 #[test]
 fn a_refused_command_line_is_told_by_a_usage_line(rt: HostRuntime) {
-    let usage = "usage: awshow schedule [--fair] | trace | draw\n";
+    let usage = "usage: awshow schedule [--fair] | outcomes [--plays N] | trace | draw\n";
     assert!(rt; is_told(rt.alloc(), 2, usage));
 }

@@ -1,5 +1,5 @@
 -- The answers of the words, over what clap's parse gives of them.
-use Rattle.std.proofs.Common.{◌≡◌, ◌∙◌, ⊎_elim, Bool, true, false, List, [], ◌∷◌, drop, Option, Some, Result, Ok, Err, codes, ok_or, inl, inr, refl, sym, ap, subst}
+use Rattle.std.proofs.Common.{ℕ, ◌≡◌, ◌∙◌, ⊎_elim, Bool, true, false, List, [], ◌∷◌, drop, Option, Some, Result, Ok, Err, codes, ok_or, inl, inr, refl, sym, ap, subst}
 use Rattle.std.specs.List.{list_any}
 use Rattle.std.specs.Str.{bytes_eq}
 use Rattle.std.proofs.lemmas.Bool.{cases_Bool, or_parts, true_from_ne_false}
@@ -22,7 +22,7 @@ use Rattle.reg_show_cli.specs.Words.{awshow, told_of}
 use Rattle.reg_show_cli.specs.Lines.{IsAnswer, IsCommandLine, IsHelpLine, is_fair, line_of, name_of}
 use Rattle.reg_show_cli.proofs.Lines.{awshow_lines, no_name, subs}
 use Rattle.reg_show_cli.specs.declared.words.Asked.{Asked}
-use Rattle.reg_show_cli.specs.declared.words.Asked.TheVariants.{Help, Show}
+use Rattle.reg_show_cli.specs.declared.words.Asked.TheVariants.{Help, Outcomes, Show}
 use Rattle.reg_words.specs.declared.faults.WordsFault.{WordsFault}
 use Rattle.reg_words.specs.declared.faults.WordsFault.TheVariants.{CommandLine, OutOfMemory}
 
@@ -109,6 +109,11 @@ never_shown DisplayHelp showing e = cc
 never_shown NoMemory showing e = cc
 never_shown _ showing e = cc
 
+never_counted : (k : ErrorKind) (plays : ℕ) → told_of k ≡ Ok (Outcomes plays) → ⊥
+never_counted DisplayHelp plays e = cc
+never_counted NoMemory plays e = cc
+never_counted _ plays e = cc
+
 only_help : (k : ErrorKind) → told_of k ≡ Ok Help → k ≡ DisplayHelp
 only_help DisplayHelp e = refl
 only_help NoMemory e = cc
@@ -135,6 +140,7 @@ refused words error memory kinds = go (told_of (kind_of error)) refl
 
     go : (r : Result Asked WordsFault) → told_of (kind_of error) ≡ r → IsAnswer (drop 1 words) r
     go (Ok (Show showing)) is = absurd (never_shown (kind_of error) showing is)
+    go (Ok (Outcomes plays)) is = absurd (never_counted (kind_of error) plays is)
     go (Ok Help) is = (shows_nothing (Ok Help) is (λ e. cc), asked is)
     go (Err OutOfMemory) is = tt
     go (Err CommandLine) is = (shows_nothing (Err CommandLine) is (λ e. cc), helped is)

@@ -1,12 +1,15 @@
 -- Which words ask for what.
-use Rattle.std.specs.Prelude.{ℕ, ◌≡◌, ◌⊎◌, ⊤, Bool, true, false, List, [], ◌∷◌, ◌++◌, codes, Result, Ok, Err}
+use Rattle.std.specs.Prelude.{ℕ, ◌≡◌, ◌≤◌, ◌⊎◌, ⊤, Bool, true, false, List, [], ◌∷◌, ◌++◌, codes, Result, Ok, Err}
 use Rattle.std.specs.List.{list_any}
+use Rattle.std.specs.Fmt.{decimal}
 use Rattle.clap.specs.Words.{Text}
+use Rattle.reg_outcomes.specs.declared.plays.TheConstants.{MOST_PLAYS}
 use Rattle.reg_show.specs.declared.Showing.{Showing}
 use Rattle.reg_show.specs.declared.Showing.TheVariants.{Draw, Schedule, Trace}
 use Rattle.reg_words.specs.Lines.{may_ask_help, named_line}
+use Rattle.reg_show_cli.specs.declared.asking.TheConstants.{USUAL_PLAYS}
 use Rattle.reg_show_cli.specs.declared.words.Asked.{Asked}
-use Rattle.reg_show_cli.specs.declared.words.Asked.TheVariants.{Help, Show}
+use Rattle.reg_show_cli.specs.declared.words.Asked.TheVariants.{Help, Outcomes, Show}
 use Rattle.reg_words.specs.declared.faults.WordsFault.{WordsFault}
 use Rattle.reg_words.specs.declared.faults.WordsFault.TheVariants.{CommandLine, OutOfMemory}
 
@@ -29,18 +32,42 @@ line_of showing = named_line (name_of showing) (is_fair showing)
 abbrev pub IsCommandLine : List Text → Type 0
 IsCommandLine line = (showing : Showing) × (line ≡ line_of showing)
 
+-- the words ask to count what so many plays tell: as many as is usual, or this number, within its limits
+abbrev pub IsOutcomesLine : List Text → ℕ → Type 0
+IsOutcomesLine line plays =
+    ((line ≡ codes "outcomes" ∷ []) × (plays ≡ USUAL_PLAYS)) ⊎ ((line ≡ codes "outcomes" ∷ codes "--plays" ∷ decimal plays ∷ []) × (1 ≤ plays) × (plays ≤ MOST_PLAYS))
+
+-- the words ask for either
+abbrev pub IsAskedLine : List Text → Type 0
+IsAskedLine line = IsCommandLine line ⊎ ((plays : ℕ) × IsOutcomesLine line plays)
+
 -- the words ask for help by a flag alone
 abbrev pub IsHelpLine : List Text → Type 0
 IsHelpLine line = (line ≡ codes "-h" ∷ []) ⊎ (line ≡ codes "--help" ∷ [])
 
--- an answer of the words: just what they ask to show; else help, only where a word may ask for it, or CommandLine where
+-- an answer of the words that ask to show something: just what they ask; else help, only where a word may ask for it, or CommandLine where
 -- no flag alone asks for help
 abbrev pub IsAnswer : List Text → Result Asked WordsFault → Type 0
 IsAnswer line (Ok (Show showing)) = line ≡ line_of showing
+IsAnswer line (Ok (Outcomes plays)) = ⊥
 IsAnswer line (Ok Help) = ¬ IsCommandLine line × (list_any may_ask_help line ≡ true)
 IsAnswer line (Err CommandLine) = ¬ IsCommandLine line × ¬ IsHelpLine line
 IsAnswer line (Err OutOfMemory) = ⊤
 
+-- an answer of the words: just what they ask to show or to count; else help, only where a word may ask for it, or CommandLine
+-- where no flag alone asks for help
+abbrev pub IsChoice : List Text → Result Asked WordsFault → Type 0
+IsChoice line (Ok (Show showing)) = line ≡ line_of showing
+IsChoice line (Ok (Outcomes plays)) = IsOutcomesLine line plays
+IsChoice line (Ok Help) = ¬ IsAskedLine line × (list_any may_ask_help line ≡ true)
+IsChoice line (Err CommandLine) = ¬ IsAskedLine line × ¬ IsHelpLine line
+IsChoice line (Err OutOfMemory) = ⊤
+
+-- what is asked for has no more plays than can be counted
+abbrev pub PlaysFit : Asked → Type 0
+PlaysFit (Outcomes plays) = plays ≤ MOST_PLAYS
+PlaysFit _ = ⊤
+
 -- the line for words that ask for nothing, with its line feed
 abbrev pub refused_line : List ℕ
-refused_line = codes "usage: awshow schedule [--fair] | trace | draw" ++ 10 ∷ []
+refused_line = codes "usage: awshow schedule [--fair] | outcomes [--plays N] | trace | draw" ++ 10 ∷ []

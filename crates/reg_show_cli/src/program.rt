@@ -5,14 +5,15 @@ ghost use Rattle.reg_text.specs.Writing.{AppendsPart};
 ghost use Rattle.reg_messages.specs.FaultLines.{fault_line};
 ghost use Rattle.reg_words.specs.Faults.{status_of};
 ghost use Rattle.reg_words.specs.Lines.{behind_name};
-ghost use Rattle.reg_show_cli.specs.Lines.{IsAnswer, IsCommandLine, IsHelpLine, refused_line};
+ghost use Rattle.reg_show_cli.specs.Lines.{IsAskedLine, IsChoice, IsHelpLine, PlaysFit, refused_line};
 ghost use Rattle.reg_show_cli.specs.Statuses.{Obeys, Stops, Tells, memory_line};
 ghost use Rattle.reg_show_cli.specs.declared.words.Asked.{Asked as AnyAsked};
 ghost use Rattle.reg_show_cli.specs.declared.words.TheConstants.{HELP};
 
-use crate::words::{Asked, HELP, choose};
+use crate::asking::ask;
+use crate::words::{Asked, HELP};
 use reg_commands::{Fault, write_fault};
-use reg_show::show_text;
+use reg_show::{show_outcomes, show_text};
 use reg_text::write_bytes;
 use reg_words::{WordsFault, tell, words_of};
 use std::io::{self, BufWriter, Read, Write};
@@ -32,7 +33,7 @@ fn help<W: Write, E: Write>(text: &str, writer: &mut W, errors: &mut E) -> u8
     1
 }
 
-/// Shows what is asked for, or helps, and gives the status.
+/// Shows or counts what is asked for, or helps, and gives the status.
 fn obey<R: AllocGlobal, I: Read, O: Write, E: Write>(
     rt: &R,
     asked: Asked,
@@ -40,6 +41,7 @@ fn obey<R: AllocGlobal, I: Read, O: Write, E: Write>(
     writer: &mut O,
     errors: &mut E,
 ) -> u8
+    requires { PlaysFit asked }
     ensures range { result ≤ 1 }
     ensures obeyed { result ≡ 0 → Obeys HELP.now asked (I.remaining reader.old) (Appends (O.contents writer.old) (O.contents writer.new)) }
     ensures stopped { result ≡ 1 → Stops asked (I.remaining reader.old) (writer.new ≡ writer.old) (O.contents writer.old) (O.contents writer.new) (E.contents errors.old) (E.contents errors.new) }
@@ -49,6 +51,9 @@ fn obey<R: AllocGlobal, I: Read, O: Write, E: Write>(
         Asked::Help => help(HELP, writer, errors),
         Asked::Show { showing } => {
             show_text(rt.alloc(), rt.alloc(), showing, reader, writer, errors)
+        }
+        Asked::Outcomes { plays } => {
+            show_outcomes(rt.alloc(), rt.alloc(), plays, reader, writer, errors)
         }
     }
 }
@@ -61,7 +66,7 @@ pub fn refuse<E: Write>(fault: WordsFault, errors: &mut E) -> u8
 {
     tell(
         fault,
-        b"usage: awshow schedule [--fair] | trace | draw\n",
+        b"usage: awshow schedule [--fair] | outcomes [--plays N] | trace | draw\n",
         errors,
     )
 }
@@ -76,14 +81,14 @@ pub fn run_line<R: AllocGlobal, I: Read, O: Write, E: Write>(
     errors: &mut E,
 ) -> u8
     ensures range { result ≤ 2 }
-    ensures obeyed { result ≡ 0 → (asked : AnyAsked) × IsAnswer (behind_name words.now) (Ok asked) × Obeys HELP.now asked (I.remaining reader.old) (Appends (O.contents writer.old) (O.contents writer.new)) }
-    ensures stopped { result ≡ 1 → ((asked : AnyAsked) × IsAnswer (behind_name words.now) (Ok asked) × Stops asked (I.remaining reader.old) (writer.new ≡ writer.old) (O.contents writer.old) (O.contents writer.new) (E.contents errors.old) (E.contents errors.new))
+    ensures obeyed { result ≡ 0 → (asked : AnyAsked) × IsChoice (behind_name words.now) (Ok asked) × Obeys HELP.now asked (I.remaining reader.old) (Appends (O.contents writer.old) (O.contents writer.new)) }
+    ensures stopped { result ≡ 1 → ((asked : AnyAsked) × IsChoice (behind_name words.now) (Ok asked) × Stops asked (I.remaining reader.old) (writer.new ≡ writer.old) (O.contents writer.old) (O.contents writer.new) (E.contents errors.old) (E.contents errors.new))
         ⊎ ((writer.new ≡ writer.old) × AppendsPart (E.contents errors.old) (E.contents errors.new) memory_line) }
-    ensures refused { result ≡ 2 → (¬ IsCommandLine (behind_name words.now)) × (¬ IsHelpLine (behind_name words.now)) × (writer.new ≡ writer.old) }
+    ensures refused { result ≡ 2 → (¬ IsAskedLine (behind_name words.now)) × (¬ IsHelpLine (behind_name words.now)) × (writer.new ≡ writer.old) }
     ensures told { result ≡ 2 → AppendsPart (E.contents errors.old) (E.contents errors.new) refused_line }
     ensures quiet { result ≡ 0 → errors.new ≡ errors.old }
 {
-    match choose(rt.alloc(), words) {
+    match ask(rt.alloc(), words) {
         Ok(asked) => obey(rt, asked, reader, writer, errors),
         Err(fault) => refuse(fault, errors),
     }
@@ -95,10 +100,10 @@ where
     R: AllocGlobal + Input + Print + Copy,
     E: Write,
     ensures range { result ≤ 2 }
-    ensures obeyed { result ≡ 0 → (asked : AnyAsked) × IsAnswer (behind_name words.now) (Ok asked) }
-    ensures stopped { result ≡ 1 → ((asked : AnyAsked) × IsAnswer (behind_name words.now) (Ok asked) × Tells asked (E.contents errors.old) (E.contents errors.new))
+    ensures obeyed { result ≡ 0 → (asked : AnyAsked) × IsChoice (behind_name words.now) (Ok asked) }
+    ensures stopped { result ≡ 1 → ((asked : AnyAsked) × IsChoice (behind_name words.now) (Ok asked) × Tells asked (E.contents errors.old) (E.contents errors.new))
         ⊎ AppendsPart (E.contents errors.old) (E.contents errors.new) memory_line }
-    ensures refused { result ≡ 2 → ¬ IsCommandLine (behind_name words.now) }
+    ensures refused { result ≡ 2 → ¬ IsAskedLine (behind_name words.now) }
     ensures helped { result ≡ 2 → ¬ IsHelpLine (behind_name words.now) }
     ensures told { result ≡ 2 → AppendsPart (E.contents errors.old) (E.contents errors.new) refused_line }
     ensures quiet { result ≡ 0 → errors.new ≡ errors.old }

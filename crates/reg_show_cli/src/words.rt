@@ -17,6 +17,8 @@ use std::alloc::{AllocError, Global};
 pub enum Asked {
     /// To show something of the text on the input.
     Show { showing: Showing },
+    /// To count what so many plays of the workload on the input tell.
+    Outcomes { plays: u32 },
     /// How the program is used.
     Help,
 }
@@ -25,10 +27,11 @@ pub enum Asked {
 pub const HELP: &str = "\
 Shows what processes that share registers do. Each command reads standard input.
 
-usage: awshow schedule [--fair]   reads a workload, prints the schedule of its play
-       awshow trace               reads a schedule, prints what happens, event by event
-       awshow draw                reads a schedule, prints its space-time diagram as SVG
-       awshow help                prints this
+usage: awshow schedule [--fair]      reads a workload, prints the schedule of its play
+       awshow outcomes [--plays N]   reads a workload, prints what N plays of it answer, counted
+       awshow trace                  reads a schedule, prints what happens, event by event
+       awshow draw                   reads a schedule, prints its space-time diagram as SVG
+       awshow help                   prints this
 ";
 
 /// The program's command line, with a subcommand for each command.
@@ -65,7 +68,7 @@ fn named(name: &str, fair: bool) -> Option<Asked>
     Some(Asked::Show { showing })
 }
 
-/// What the words ask for. The first word is the program's name. A word `--` is refused.
+/// What the words ask to show. The first word is the program's name. A word `--` is refused.
 pub fn choose<'a>(alloc: Global, words: &'a [String]) -> Result<Asked, WordsFault>
     ensures { IsAnswer (behind_name words.entry.now) result }
 {

@@ -1,0 +1,104 @@
+-- What is known of the plays so far.
+use Rattle.std.proofs.Common.{◌≡◌, ◌≢◌, ◌⊎◌, ◌↔◌, inl, inr, ℕ, ◌+◌, ◌<◌, ◌≤◌, Bool, true, false, List, [], ◌∷◌, ◌++◌, length, Result, Ok, Err, refl, ap, ap₂, sym, ◌∙◌, subst, arith, length-append}
+use Rattle.std.specs.Prelude.{OnOk, ◌^◌, ◌-◌}
+use Rattle.std.specs.BTreeMap.{BTreeMap}
+use Rattle.std.proofs.lemmas.Bool.{cases_eq, false≢true}
+use Rattle.rand_core.specs.Pcg32Seed.{pcg32_seed}
+use Rattle.rand_pcg.specs.Lcg.{Lcg}
+use Rattle.rand_pcg.specs.Pcg.{pcg32, pcg32_of_seed}
+use Rattle.reg_base.specs.Shape.{Extent}
+use Rattle.reg_base.specs.declared.memory.Op.{Op}
+use Rattle.reg_base.specs.declared.memory.OpId.{OpId}
+use Rattle.reg_front.specs.declared.starts.Start.{Start}
+use Rattle.reg_orders.specs.declared.entries.Entry.{Entry}
+use Rattle.reg_orders.specs.History.{IsAt}
+use Rattle.reg_orders.proofs.Places.{get_push_other, same_at}
+use Rattle.reg_tables.specs.declared.outcomes.Told.{Told}
+use Rattle.reg_tables.specs.declared.tallies.Tally.{Tally}
+use Rattle.reg_tables.specs.Outcomes.{outcome_of}
+use Rattle.reg_tables.specs.Tables.{Seen, Line, IsTable, CountsUnfinished}
+use Rattle.reg_tables.specs.Inner.{IsCounted}
+use Rattle.reg_tables.proofs.Those.{at_new, those_few}
+use Rattle.reg_toml.specs.Loads.{Load}
+use Rattle.reg_workload.specs.Plays.{IsPlay}
+use Rattle.reg_workload.specs.Seeded.{seeded_play}
+use Rattle.reg_world.specs.Keys.{IsWitness}
+use Rattle.reg_world.specs.RealTime.{KeepsRealTime}
+use Rattle.reg_world.specs.World.{run_of}
+use Rattle.reg_world.specs.Worlds.{Made, run_in}
+use Rattle.reg_outcomes.specs.Outcomes.{AreOutcomes, AreSeen, IsSeen, TellsTime, play_from, seed_at}
+use Rattle.reg_outcomes.specs.Inner.{IsSeenIn}
+
+pub on_ok : {T E : Type 0} {P Q : Type 0} (r : Result T E) → (P → Q) → OnOk r P → OnOk r Q
+on_ok (Ok x) f p = f p
+on_ok (Err e) f p = tt
+
+-- the play by these words is the one from their seed
+pub is_play_from : (start : Op → ℕ → Start) (work : Load) (seed : ℕ) (made : Made) (words : Lcg) → made ≡ (seeded_play start pcg32 work.shape work.scripts work.loss work.repeat work.budget words).0.made → words ≡ pcg32_of_seed (pcg32_seed 16 seed) → made ≡ play_from start work seed
+unfolding play_from
+is_play_from start work seed made words is from = is ∙ ap (λ (w : Lcg). (seeded_play start pcg32 work.shape work.scripts work.loss work.repeat work.budget w).0.made) from
+
+-- what time it keeps, by other names of its history and its witness
+pub tells_time : (start : Op → ℕ → Start) (made : Made) (b : Bool) (entries : List Entry) (order ids : List OpId) → entries ≡ made.history → order ≡ ids → IsWitness (run_of made.registers (run_in start made)) ids → (b ≡ true) ↔ KeepsRealTime entries order → TellsTime start made b
+tells_time start made b entries order ids e f witness keeps =
+    (ids, witness, subst (λ (h : List Entry). (b ≡ true) ↔ KeepsRealTime h ids) e (subst (λ (o : List OpId). (b ≡ true) ↔ KeepsRealTime entries o) f keeps))
+
+pub told_by : (shape : Extent) (made : Made) (entries : List Entry) (outcome : List Told) → outcome ≡ outcome_of shape.processes entries → shape.processes ≡ made.processes → entries ≡ made.history → outcome ≡ outcome_of made.processes made.history
+told_by shape made entries outcome is p h = is ∙ ap₂ outcome_of p h
+
+module _ (start : Op → ℕ → Start) (work : Load) (seed : ℕ) (made : Made) (is : made ≡ play_from start work seed) where
+  moved : (P : Made → Type 0) → P made → P (play_from start work seed)
+  moved P h = subst P is h
+
+  outcome_here : (outcome : List Told) (done : Bool) → IsPlay start work.shape work.scripts work.budget made done → outcome ≡ outcome_of made.processes made.history → outcome ≡ outcome_of work.shape.processes (play_from start work seed).history
+  outcome_here outcome done play told = moved (λ m. outcome ≡ outcome_of work.shape.processes m.history) (told ∙ ap (λ n. outcome_of n made.history) play.processes)
+
+  -- a finished play
+  pub seen_finished : (s : Seen) (done : Bool) → done ≡ true → IsPlay start work.shape work.scripts work.budget made done → IsSeenIn start made seed s → IsSeen start work seed s
+  seen_finished s done all play seen = record {
+    seeded = seen.seeded;
+    finished = moved (λ m. IsPlay start work.shape work.scripts work.budget m s.is_finished) (subst (λ (b : Bool). IsPlay start work.shape work.scripts work.budget made b) (all ∙ sym seen.finished) play);
+    events = moved (λ m. s.events ≡ length m.accepted) seen.events;
+    outcome = outcome_here s.outcome done play seen.outcome;
+    time = λ _. moved (λ m. TellsTime start m s.in_time) seen.time;
+  }
+
+  -- one that is not
+  unfinished_play : Seen
+  unfinished_play = record { seed = seed; is_finished = false; events = length made.accepted; outcome = outcome_of made.processes made.history; in_time = false }
+
+  pub seen_unfinished : (done : Bool) → done ≡ false → IsPlay start work.shape work.scripts work.budget made done → (s : Seen) × IsSeen start work seed s × (s.is_finished ≡ false)
+  unfolding unfinished_play
+  seen_unfinished done open_still play = (
+    unfinished_play,
+    record {
+      seeded = refl;
+      finished = moved (λ m. IsPlay start work.shape work.scripts work.budget m false) (subst (λ (b : Bool). IsPlay start work.shape work.scripts work.budget made b) open_still play);
+      events = moved (λ m. length made.accepted ≡ length m.accepted) refl;
+      outcome = outcome_here (outcome_of made.processes made.history) done play refl;
+      time = λ e. absurd (false≢true e);
+    },
+    refl,
+  )
+
+-- no play, and one play more
+pub none_seen : (start : Op → ℕ → Start) (work : Load) → AreSeen start work 0 []
+none_seen start work = record { count = refl; each = λ k s h. absurd cc }
+
+pub seen_next : (start : Op → ℕ → Start) (work : Load) (n : ℕ) (seen : List Seen) (s : Seen) → AreSeen start work n seen → IsSeen start work (seed_at work n) s → AreSeen start work (n + 1) (seen ++ s ∷ [])
+seen_next start work n seen s known here = record {
+  count = (let c = known.count in let l = length-append seen (s ∷ []) in omega (arith, c, l));
+  each = λ k x h. elim (cases_eq k (length seen)) [
+    | inl e ↦
+        let same : s ≡ x = same_at (seen ++ s ∷ []) k s x (subst (λ (j : ℕ). IsAt (seen ++ s ∷ []) j s) (sym e) (at_new seen s)) h in
+        subst (λ (y : Seen). IsSeen start work (seed_at work k) y) same (subst (λ (j : ℕ). IsSeen start work (seed_at work j) s) (sym (e ∙ known.count)) here)
+    | inr ne ↦ known.each k x (sym (get_push_other seen k s ne) ∙ h)
+  ];
+}
+
+pub unfinished_few : {K : Type 0} (items : K → List Told) (seen : List Seen) (told : BTreeMap K Tally) (unfinished n : ℕ) → IsCounted items seen told unfinished → length seen ≡ n → n < 1000000 → unfinished < 2 ^ 32 - 1
+unfinished_few items seen told unfinished n counted many few =
+    let others = counted.others in
+    let l = those_few others.1 in
+    let e = others.2 in
+    omega (arith, l, e, many, few)

@@ -1,0 +1,76 @@
+//! Whether an order keeps the real time of its history.
+ghost use Rattle.std.specs.Prelude.{◌≡◌, ◌<◌, ◌-◌, ◌^◌, ◌↔◌, length, true, IfOk, IfSome, OnOk, List, ℕ};
+ghost use Rattle.std.specs.BTreeMap.{get};
+ghost use Rattle.reg_base.specs.declared.memory.OpId.{OpId as AnyId};
+ghost use Rattle.reg_orders.specs.History.{IsHistory};
+ghost use Rattle.reg_orders.specs.Orders.{IsDistinct};
+ghost use Rattle.reg_world.specs.RealTime.{KeepsRealTime};
+ghost use Rattle.reg_outcomes.specs.Inner.{IsPlaceOf, bound_next, id_cmp};
+
+use reg_base::OpId;
+use reg_orders::Entry;
+use std::alloc::{AllocError, Allocator};
+use std::collections::BTreeMap;
+
+/// The place of each operation of an order.
+fn places<A: Allocator + Copy>(
+    alloc: A,
+    order: &[OpId],
+) -> Result<BTreeMap<OpId, usize, A>, AllocError>
+    ensures places { IfOk result (λ m. (id : AnyId) → IsPlaceOf order.now id (get id_cmp m id)) }
+    ensures few { OnOk result (length order.now < 2 ^ 64) }
+{
+    let mut places = BTreeMap::new(alloc);
+    for (place, id) in order.iter().enumerate() {
+        places.insert(*id, place)?;
+    }
+    Ok(places)
+}
+
+/// The place behind those of all operations that were answered so far, and None where the entry calls one that stands before it.
+fn next_bound<A: Allocator + Copy>(
+    places: &BTreeMap<OpId, usize, A>,
+    bound: usize,
+    entry: Entry,
+) -> Option<usize>
+    requires { (id : AnyId) → IfSome (get id_cmp places.now id) (λ place. place < 2 ^ 64 - 1) }
+    ensures { result ≡ bound_next (get id_cmp places.now) bound entry }
+{
+    match entry {
+        Entry::Called { id, .. } => match places.get(&id) {
+            Some(place) if *place < bound => None,
+            _ => Some(bound),
+        },
+        Entry::Answered { id, .. } => match places.get(&id) {
+            Some(place) => Some(bound.max(*place + 1)),
+            None => Some(bound),
+        },
+    }
+}
+
+/// Whether in an order each operation stands behind those that were answered before its call. An operation was answered
+/// before another's call just where its answer stands before that call in the history, so one walk tells it: each call has to
+/// stand behind all that was answered so far.
+///
+/// # Errors
+///
+/// Memory was refused.
+pub fn keeps_real_time<A: Allocator + Copy>(
+    alloc: A,
+    entries: &[Entry],
+    order: &[OpId],
+) -> Result<bool, AllocError>
+    requires distinct { IsDistinct order.now }
+    requires history { (n : ℕ) × (registers : ℕ) × IsHistory n registers entries.now }
+    ensures { IfOk result (λ keeps. (keeps ≡ true) ↔ KeepsRealTime entries.now order.now) }
+{
+    let places = places(alloc, order)?;
+    let mut bound = 0;
+    for entry in entries {
+        match next_bound(&places, bound, *entry) {
+            Some(next) => bound = next,
+            None => return Ok(false),
+        }
+    }
+    Ok(true)
+}

@@ -1,0 +1,141 @@
+//! The command that plays a workload many times and prints the table of what the plays told.
+ghost use Rattle.std.specs.Prelude.{◌≡◌, ◌≢◌, ◌≤◌, ◌⊎◌, IfOk, IfErr, IfSome, IsErrOf, MatchResult, OnOk, false, length};
+ghost use Rattle.std.specs.Io.KnownBytes.{Appends};
+ghost use Rattle.reg_base.specs.declared.limits.TheConstants.{LONGEST_INPUT};
+ghost use Rattle.reg_text.specs.Writing.{AppendsPart};
+ghost use Rattle.reg_commands.specs.Answers.{Blames};
+ghost use Rattle.reg_commands.specs.Replays.{start_of};
+ghost use Rattle.reg_commands.specs.declared.command.Command.TheVariants.{Play};
+ghost use Rattle.reg_messages.specs.FaultLines.{fault_line};
+ghost use Rattle.reg_messages.specs.declared.faults.Fault.{Fault as AnyFault};
+ghost use Rattle.reg_outcomes.specs.declared.plays.TheConstants.{MOST_PLAYS};
+ghost use Rattle.reg_tables.specs.TableText.{table_text};
+ghost use Rattle.reg_show.specs.Outcomes.{ShowsOutcomes, WritesOutcomes};
+
+use reg_commands::{Fault, read_input, read_workload, write_fault};
+use reg_front::{Front, FrontEnd, Linear, LocalRead, LocalWrite};
+use reg_outcomes::{Outcomes, play_many, write_table};
+use reg_workload::Workload;
+use std::alloc::{Allocator, Global};
+use std::io::{Read, Write};
+
+/// Writes the text of a table, to the last byte.
+fn send<A: Allocator + Copy, W: Write>(
+    writer: &mut W,
+    plays: u32,
+    outcomes: &Outcomes<A>,
+) -> Result<(), Fault>
+    ensures { MatchResult result (λ _. Appends (W.contents writer.old) (W.contents writer.new) (table_text plays outcomes.now.rows.items outcomes.now.unfinished)) (λ f. (f ≡ Fault.Output) × AppendsPart (W.contents writer.old) (W.contents writer.new) (table_text plays outcomes.now.rows.items outcomes.now.unfinished)) }
+{
+    let rows = outcomes.rows.as_slice();
+    if write_table(writer, plays, rows, outcomes.unfinished).is_err() || writer.flush().is_err() {
+        return Err(Fault::Output);
+    }
+    Ok(())
+}
+
+/// Plays a workload, and writes the table of its plays.
+fn write_plays<F: FrontEnd, A: Allocator + Copy, W: Write>(
+    alloc: A,
+    work: &Workload<A>,
+    plays: u32,
+    writer: &mut W,
+) -> Result<(), Fault>
+    requires { plays ≤ MOST_PLAYS }
+    ensures ok { IfOk result (λ _. ShowsOutcomes plays F.start (Appends (W.contents writer.old) (W.contents writer.new)) work.now) }
+    ensures why { IfErr result (λ f. (f ≡ Fault.Output) ⊎ (f ≡ Fault.OutOfMemory)) }
+    ensures silent { IfErr result (λ f. f ≢ Fault.Output → writer.new ≡ writer.old) }
+    ensures part { IsErrOf result Fault.Output → ShowsOutcomes plays F.start (AppendsPart (W.contents writer.old) (W.contents writer.new)) work.now }
+{
+    let Ok(outcomes) = play_many::<F, A>(alloc, work, plays) else {
+        return Err(Fault::OutOfMemory);
+    };
+    send(writer, plays, &outcomes)?;
+    Ok(())
+}
+
+/// The same, by the front end of the workload.
+fn write_outcomes<A: Allocator + Copy, W: Write>(
+    alloc: A,
+    work: &Workload<A>,
+    plays: u32,
+    writer: &mut W,
+) -> Result<(), Fault>
+    requires { plays ≤ MOST_PLAYS }
+    ensures ok { IfOk result (λ _. ShowsOutcomes plays (start_of work.now.front) (Appends (W.contents writer.old) (W.contents writer.new)) work.now) }
+    ensures why { IfErr result (λ f. (f ≡ Fault.Output) ⊎ (f ≡ Fault.OutOfMemory)) }
+    ensures silent { IfErr result (λ f. f ≢ Fault.Output → writer.new ≡ writer.old) }
+    ensures part { IsErrOf result Fault.Output → ShowsOutcomes plays (start_of work.now.front) (AppendsPart (W.contents writer.old) (W.contents writer.new)) work.now }
+{
+    match work.front {
+        Front::Linear => write_plays::<Linear, A, W>(alloc, work, plays, writer),
+        Front::LocalRead => write_plays::<LocalRead, A, W>(alloc, work, plays, writer),
+        Front::LocalWrite => write_plays::<LocalWrite, A, W>(alloc, work, plays, writer),
+    }
+}
+
+/// Reads a workload, plays it so many times, and writes the table.
+fn outcomes<A: Allocator + Copy, W: Write>(
+    alloc: A,
+    global: Global,
+    text: &str,
+    plays: u32,
+    writer: &mut W,
+) -> Result<(), Fault>
+    requires { plays ≤ MOST_PLAYS }
+    ensures ok { IfOk result (λ _. WritesOutcomes plays (Appends (W.contents writer.old) (W.contents writer.new)) text.now) }
+    ensures why { IfErr result (λ f. Blames (Play false) f text.now) }
+    ensures silent { IfErr result (λ f. f ≢ Fault.Output → writer.new ≡ writer.old) }
+    ensures part { IsErrOf result Fault.Output → WritesOutcomes plays (AppendsPart (W.contents writer.old) (W.contents writer.new)) text.now }
+{
+    let work = read_workload(alloc, global, text)?;
+    write_outcomes(alloc, &work, plays, writer)
+}
+
+fn obey<A: Allocator + Copy, R: Read, W: Write>(
+    alloc: A,
+    global: Global,
+    plays: u32,
+    reader: &mut R,
+    writer: &mut W,
+) -> Result<(), Fault>
+    requires { plays ≤ MOST_PLAYS }
+    ensures ok { IfOk result (λ _. IfSome (R.remaining reader.old) (WritesOutcomes plays (Appends (W.contents writer.old) (W.contents writer.new)))) }
+    ensures within { OnOk result (IfSome (R.remaining reader.old) (λ xs. length xs ≤ LONGEST_INPUT)) }
+    ensures why { IfErr result (λ f. IfSome (R.remaining reader.old) (Blames (Play false) f)) }
+    ensures silent { IfErr result (λ f. f ≢ Fault.Output → writer.new ≡ writer.old) }
+    ensures part { IsErrOf result Fault.Output → IfSome (R.remaining reader.old) (WritesOutcomes plays (AppendsPart (W.contents writer.old) (W.contents writer.new))) }
+{
+    let text = read_input(alloc, reader)?;
+    outcomes(alloc, global, text.as_str(), plays, writer)
+}
+
+/// Plays the workload that the text on the reader says so many times, and writes the table of what the plays told: it reads the
+/// whole input, and writes once all plays are counted. The answer is the status: 0, or 1 where something was refused, with the
+/// line of the fault on `errors`, or where the writer failed, and then a first part of the table went out. That `errors` fails
+/// changes no status. The table of a workload is kept in the global heap, all else in the other one.
+pub fn show_outcomes<A: Allocator + Copy, R: Read, W: Write, E: Write>(
+    alloc: A,
+    global: Global,
+    plays: u32,
+    reader: &mut R,
+    writer: &mut W,
+    errors: &mut E,
+) -> u8
+    requires { plays ≤ MOST_PLAYS }
+    ensures range { result ≤ 1 }
+    ensures within { result ≡ 0 → IfSome (R.remaining reader.old) (λ xs. length xs ≤ LONGEST_INPUT) }
+    ensures shown { result ≡ 0 → IfSome (R.remaining reader.old) (WritesOutcomes plays (Appends (W.contents writer.old) (W.contents writer.new))) }
+    ensures refused { result ≡ 1 → (f : AnyFault) × IfSome (R.remaining reader.old) (Blames (Play false) f) × (f ≢ Fault.Output → writer.new ≡ writer.old)
+        × (f ≡ Fault.Output → IfSome (R.remaining reader.old) (WritesOutcomes plays (AppendsPart (W.contents writer.old) (W.contents writer.new))))
+        × AppendsPart (E.contents errors.old) (E.contents errors.new) (fault_line f) }
+    ensures quiet { result ≡ 0 → errors.new ≡ errors.old }
+{
+    match obey(alloc, global, plays, reader, writer) {
+        Ok(()) => 0,
+        Err(fault) => {
+            let _ = write_fault(errors, fault);
+            1
+        }
+    }
+}

@@ -1,0 +1,6 @@
+use Rattle.reg_words.specs.Lines.{behind_name}
+use Rattle.reg_show_cli.proofs.Counted.{chosen}
+use Rattle.reg_show_cli.proofs.asking.ask.Goals as goal
+
+pub returns-in-None : goal.returns-in-None
+returns-in-None c = chosen (behind_name c.args.words.now) c.choose.result c.in-None.ensures c.choose.ensures

@@ -1,0 +1,6 @@
+pub mod Those
+pub mod Counting
+pub mod Ordering
+pub mod Lining
+pub mod Telling
+pub mod Putting

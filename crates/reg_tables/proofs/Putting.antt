@@ -1,0 +1,62 @@
+-- What is put in several parts.
+use Rattle.std.proofs.Common.{ℕ, true, false, ◌≡◌, ◌+◌, ◌-◌, ◌<◌, List, [], ◌∷◌, ◌++◌, length, map, take, get_or, replicate, codes, Option, refl, sym, ap, subst, ◌∙◌, append-nil, append_assoc, arith}
+use Rattle.std.specs.Fmt.{decimal}
+use Rattle.std.specs.List.{flat_map}
+use Rattle.std.specs.Io.KnownBytes.{Appends}
+use Rattle.std.proofs.lemmas.Grind.{flat_map-append}
+use Rattle.std.proofs.lemmas.List.{take_more, replicate_more}
+use Rattle.std.proofs.lemmas.List.Folds.{flat_map-map}
+use Rattle.reg_text.specs.declared.writing.Sink.{Sink}
+use Rattle.reg_text.specs.Columns.{to_right}
+use Rattle.reg_text.specs.Lines.{text_of}
+use Rattle.reg_text.specs.Writing.{AppendsPart, Puts, Sends}
+use Rattle.reg_text.proofs.Sent.{puts_two, puts_as}
+use Rattle.reg_tables.specs.Tables.{Line}
+use Rattle.reg_tables.specs.TableText.{line_text, play_text, table_lines, table_text, told_text}
+use Rattle.reg_tables.specs.declared.outcomes.Told.{Told}
+
+module _ {S : Type 0} (held : S → Option (List ℕ)) where
+  pub puts_three : (a b c d : Sink S) (xs ys zs : List ℕ) → Puts held a b xs → Puts held b c ys → Puts held c d zs → Puts held a d (xs ++ (ys ++ zs))
+  puts_three a b c d xs ys zs p q r = puts_two held a b d xs (ys ++ zs) p (puts_two held b c d ys zs q r)
+
+  pub puts_four : (a b c d e : Sink S) (ws xs ys zs : List ℕ) → Puts held a b ws → Puts held b c xs → Puts held c d ys → Puts held d e zs → Puts held a e (ws ++ (xs ++ (ys ++ zs)))
+  puts_four a b c d e ws xs ys zs p q r s = puts_two held a b e ws (xs ++ (ys ++ zs)) p (puts_three b c d e xs ys zs q r s)
+
+  -- one more part of a list
+  pub puts_next : {X : Type 0} (a b c : Sink S) (f : X → List ℕ) (xs : List X) (i : ℕ) (d : X) → i < length xs → Puts held a b (flat_map f (take i xs)) → Puts held b c (f (get_or xs i d)) → Puts held a c (flat_map f (take (i + 1) xs))
+  puts_next a b c f xs i d l p q =
+      puts_as held a c (flat_map f (take i xs) ++ f (get_or xs i d)) (flat_map f (take (i + 1) xs))
+      (sym (ap (flat_map f) (take_more xs i d l) ∙ flat_map-append f (take i xs) (get_or xs i d ∷ []) ∙ ap (λ t. flat_map f (take i xs) ++ t) (append-nil (f (get_or xs i d)))))
+      (puts_two held a b c (flat_map f (take i xs)) (f (get_or xs i d)) p q)
+
+  -- one more space
+  pub puts_space : (a b c : Sink S) (n : ℕ) → Puts held a b (replicate n 32) → Puts held b c (32 ∷ []) → Puts held a c (replicate (n + 1) 32)
+  puts_space a b c n p q = puts_as held a c (replicate n 32 ++ 32 ∷ []) (replicate (n + 1) 32) (replicate_more n 32) (puts_two held a b c (replicate n 32) (32 ∷ []) p q)
+
+  -- the parts of a line
+  pub puts_line : (l : Line) (a b c d e f : Sink S) → Puts held a b (to_right 8 (decimal l.tally.count)) → Puts held b c (codes "  ") → Puts held c d (flat_map told_text l.outcome) → Puts held d e (play_text l.tally) → Puts held e f (10 ∷ [])
+      → Puts held a f (line_text l ++ 10 ∷ [])
+  puts_line l a b c d e f p q r s t =
+      puts_two held a e f (line_text l) (10 ∷ []) (puts_four a b c d e (to_right 8 (decimal l.tally.count)) (codes "  ") (flat_map told_text l.outcome) (play_text l.tally) p q r s) t
+
+  -- the lines as they are put are those of the text
+  pub puts_table : (plays unfinished : ℕ) (ls : List Line) (a b c d e : Sink S) → Puts held a b ((codes "plays " ++ decimal plays) ++ 10 ∷ []) → Puts held b c ((codes "outcomes " ++ decimal (length ls)) ++ 10 ∷ [])
+      → Puts held c d (text_of (map line_text ls)) → Puts held d e ((codes "unfinished " ++ decimal unfinished) ++ 10 ∷ []) → Puts held a e (table_text plays ls unfinished)
+  puts_table plays unfinished ls a b c d e p q r s =
+      let x : List ℕ = (codes "plays " ++ decimal plays) ++ 10 ∷ [] in
+      let y : List ℕ = (codes "outcomes " ++ decimal (length ls)) ++ 10 ∷ [] in
+      let z : List ℕ = (codes "unfinished " ++ decimal unfinished) ++ 10 ∷ [] in
+      let last : List (List ℕ) = (codes "unfinished " ++ decimal unfinished) ∷ [] in
+      puts_as held a e (x ++ (y ++ (text_of (map line_text ls) ++ z))) (table_text plays ls unfinished)
+      (ap (λ t. x ++ (y ++ t)) (ap (λ t. text_of (map line_text ls) ++ t) (sym (append-nil z)) ∙ sym (flat_map-append (λ line. line ++ 10 ∷ []) (map line_text ls) last)))
+      (puts_four a b c d e x y (text_of (map line_text ls)) z p q r s)
+
+  sent_from : (a b : Sink S) (old : S) (bs : List ℕ) → a.failed ≡ false → a.writer.now ≡ old → Puts held a b bs → Sends false b.failed (held old) (held b.writer.now) bs
+  sent_from a b old bs begun from p = rw (begun, from) at p.sent
+
+  -- what was put into a new sink went out, all of it or, where the writer failed, a first part
+  pub all_out : (a b : Sink S) (old new : S) (bs : List ℕ) → a.failed ≡ false → a.writer.now ≡ old → b.failed ≡ false → b.writer.now ≡ new → Puts held a b bs → Appends (held old) (held new) bs
+  all_out a b old new bs begun from going to p = subst (λ s. Appends (held old) (held s) bs) to (subst (λ f. Sends false f (held old) (held b.writer.now) bs) going (sent_from a b old bs begun from p))
+
+  pub part_out : (a b : Sink S) (old new : S) (bs : List ℕ) → a.failed ≡ false → a.writer.now ≡ old → b.failed ≡ true → b.writer.now ≡ new → Puts held a b bs → AppendsPart (held old) (held new) bs
+  part_out a b old new bs begun from failed to p = subst (λ s. AppendsPart (held old) (held s) bs) to (subst (λ f. Sends false f (held old) (held b.writer.now) bs) failed (sent_from a b old bs begun from p))

@@ -1,0 +1,4 @@
+pub mod Outcomes
+pub mod Tables
+pub mod Inner
+pub mod TableText
