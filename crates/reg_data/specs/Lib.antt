@@ -1,1 +1,5 @@
 pub mod Json
+pub mod Rows
+pub mod Looks
+pub mod Parts
+pub mod Data

@@ -4,8 +4,8 @@ ghost use Rattle.std.specs.Fmt.{decimal};
 ghost use Rattle.reg_text.specs.Writing.{Puts};
 ghost use Rattle.reg_data.specs.Json.{comma_at, joined, lines_text, list_text, numbers_text, quoted};
 
-use itoa::Buffer;
 use reg_base::Names;
+use reg_moments::put_number;
 use reg_text::Sink;
 use std::alloc::Allocator;
 use std::io::Write;
@@ -19,17 +19,8 @@ pub trait Part {
         ensures { Puts W.contents sink.old sink.new (part names.now self.now) };
 }
 
-/// Puts a mark, and then a number.
-pub fn put_number<W: Write>(sink: &mut Sink<'_, W>, mark: &str, number: u64)
-    ensures { Puts W.contents sink.old sink.new (mark.now ++ decimal number) }
-{
-    let mut digits = Buffer::new();
-    sink.put(mark.as_bytes());
-    sink.put(digits.format(number).as_bytes());
-}
-
 /// Puts what stands before the part at this place of a list.
-fn put_comma<W: Write>(sink: &mut Sink<'_, W>, place: usize)
+pub fn put_comma<W: Write>(sink: &mut Sink<'_, W>, place: usize)
     ensures { Puts W.contents sink.old sink.new (comma_at place) }
 {
     if place > 0 {
@@ -37,14 +28,16 @@ fn put_comma<W: Write>(sink: &mut Sink<'_, W>, place: usize)
     }
 }
 
-/// Puts a list.
+/// Puts a mark, and then a list.
 pub fn put_list<T: Part, A: Allocator + Copy, W: Write>(
     sink: &mut Sink<'_, W>,
+    mark: &str,
     names: &Names<A>,
     parts: &[T],
 )
-    ensures { Puts W.contents sink.old sink.new (list_text (T.part names.now) parts.now) }
+    ensures { Puts W.contents sink.old sink.new (mark.now ++ list_text (T.part names.now) parts.now) }
 {
+    sink.put(mark.as_bytes());
     sink.put(b"[");
     for (place, part) in parts.iter().enumerate() {
         put_comma(sink, place);
@@ -53,7 +46,7 @@ pub fn put_list<T: Part, A: Allocator + Copy, W: Write>(
     sink.put(b"]");
 }
 
-/// Puts the same, with a line for each part.
+/// Puts a mark, and then a list with a line for each part.
 pub fn put_lines<T: Part, A: Allocator + Copy, W: Write>(
     sink: &mut Sink<'_, W>,
     mark: &str,
@@ -82,4 +75,13 @@ pub fn put_numbers<W: Write>(sink: &mut Sink<'_, W>, numbers: &[u64])
         put_number(sink, "", *number);
     }
     sink.put(b"]");
+}
+
+/// Puts a text in quotes.
+pub fn put_quoted<W: Write>(sink: &mut Sink<'_, W>, text: &str)
+    ensures { Puts W.contents sink.old sink.new (quoted text.now) }
+{
+    sink.put(b"\"");
+    sink.put(text.as_bytes());
+    sink.put(b"\"");
 }

@@ -1,6 +1,15 @@
-//! The data of a run, as JSON.
+//! The data of a run, as JSON: what each event did, the states behind it, and the orders of the whole run.
 #![tactic(auto)]
 
+mod data;
 mod json;
+mod looks;
+mod parts;
+mod rows;
+mod telling;
+mod text;
 
-pub use json::{Part, put_list, put_lines, put_number, put_numbers};
+pub use data::Data;
+pub use looks::{Kept, Look};
+pub use telling::{tell_data};
+pub use text::write_data;
