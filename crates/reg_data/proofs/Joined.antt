@@ -3,8 +3,8 @@ use Rattle.std.proofs.Common.{ℕ, zero, suc, ◌≡◌, ◌+◌, ◌<◌, ◌�
 use Rattle.std.specs.Prelude.{flat_map}
 use Rattle.reg_text.specs.declared.writing.Sink.{Sink}
 use Rattle.reg_text.specs.Writing.{Puts}
-use Rattle.reg_text.proofs.Sent.{puts_two, puts_as}
 use Rattle.reg_data.specs.Json.{comma_at, joined, lines_text, list_text}
+use Rattle.reg_data.proofs.Behind.{◌▸◌, as_text}
 
 abbrev behind_comma : List ℕ → List ℕ
 behind_comma part = 44 ∷ part
@@ -29,9 +29,7 @@ joined_more f (x ∷ xs) (suc i) d l =
 
 pub puts_part : {S X : Type 0} (held : S → Option (List ℕ)) (a b c e : Sink S) (f : X → List ℕ) (xs : List X) (i : ℕ) (d : X) → i < length xs
     → Puts held a b (joined (map f (take i xs))) → Puts held b c (comma_at i) → Puts held c e (f (get_or xs i d)) → Puts held a e (joined (map f (take (i + 1) xs)))
-puts_part held a b c e f xs i d l p q r =
-    puts_as held a e (joined (map f (take i xs)) ++ (comma_at i ++ f (get_or xs i d))) (joined (map f (take (i + 1) xs))) (sym (joined_more f xs i d l))
-    (puts_two held a b e (joined (map f (take i xs))) (comma_at i ++ f (get_or xs i d)) p (puts_two held b c e (comma_at i) (f (get_or xs i d)) q r))
+puts_part held a b c e f xs i d l p q r = as_text (sym (joined_more f xs i d l)) (p ▸ (q ▸ r))
 
 all_taken : {X : Type 0} (xs : List X) (i : ℕ) → length xs ≤ i → take i xs ≡ xs
 all_taken [] zero l = refl
@@ -42,18 +40,13 @@ all_taken (x ∷ xs) (suc i) l = ap (λ t. x ∷ t) (all_taken xs i (omega (arit
 -- a list is put: its beginning, its parts and its end
 pub puts_list : {S X : Type 0} (held : S → Option (List ℕ)) (a b c e : Sink S) (f : X → List ℕ) (xs : List X) (i : ℕ) → length xs ≤ i
     → Puts held a b (codes "[") → Puts held b c (joined (map f (take i xs))) → Puts held c e (codes "]") → Puts held a e (list_text f xs)
-puts_list held a b c e f xs i l p q r =
-    puts_two held a b e (codes "[") (joined (map f xs) ++ codes "]") p
-    (puts_two held b c e (joined (map f xs)) (codes "]") (puts_as held b c (joined (map f (take i xs))) (joined (map f xs)) (ap (λ t. joined (map f t)) (all_taken xs i l)) q) r)
+puts_list held a b c e f xs i l p q r = p ▸ (as_text (ap (λ t. joined (map f t)) (all_taken xs i l)) q ▸ r)
 
 -- a value with its line feed
 abbrev pub line_by : {X : Type 0} → (X → List ℕ) → X → List ℕ
 line_by f x = f x ++ 10 ∷ []
 
--- the same of a list with a line for each value, behind a mark
-pub puts_lines : {S X : Type 0} (held : S → Option (List ℕ)) (a b c e h : Sink S) (mark : List ℕ) (f : X → List ℕ) (xs : List X) (i : ℕ) → length xs ≤ i
-    → Puts held a b mark → Puts held b c (91 ∷ 10 ∷ []) → Puts held c e (joined (map (line_by f) (take i xs))) → Puts held e h (codes "]") → Puts held a h (mark ++ lines_text f xs)
-puts_lines held a b c e h mark f xs i l p q r s =
-    puts_two held a b h mark (lines_text f xs) p
-    (puts_two held b c h (91 ∷ 10 ∷ []) (joined (map (line_by f) xs) ++ codes "]") q
-    (puts_two held c e h (joined (map (line_by f) xs)) (codes "]") (puts_as held c e (joined (map (line_by f) (take i xs))) (joined (map (line_by f) xs)) (ap (λ t. joined (map (line_by f) t)) (all_taken xs i l)) r) s))
+-- the same of a list with a line for each value
+pub puts_lines : {S X : Type 0} (held : S → Option (List ℕ)) (a b c e : Sink S) (f : X → List ℕ) (xs : List X) (i : ℕ) → length xs ≤ i
+    → Puts held a b (91 ∷ 10 ∷ []) → Puts held b c (joined (map (line_by f) (take i xs))) → Puts held c e (codes "]") → Puts held a e (lines_text f xs)
+puts_lines held a b c e f xs i l p q r = p ▸ (as_text (ap (λ t. joined (map (line_by f) t)) (all_taken xs i l)) q ▸ r)

@@ -1,6 +1,7 @@
 -- The parts of the data of a run: states, frames, events and operations.
 use Rattle.std.specs.Prelude.{ℕ, List, [], ◌∷◌, ◌++◌, codes, Option, None, Some}
 use Rattle.std.specs.Fmt.{decimal}
+use Rattle.reg_frames.specs.declared.bodies.Body.{Body}
 use Rattle.reg_frames.specs.declared.bodies.Body.TheVariants.{Cast, Ack}
 use Rattle.reg_frames.specs.declared.bodies.Frame.{Frame}
 use Rattle.reg_frames.specs.declared.bodies.Frame.TheVariants.{Numbered, Got}
@@ -44,10 +45,14 @@ look_part names l =
     ++ ((codes ",\"delivered\":" ++ decimal l.delivered)
     ++ (codes ",\"running\":" ++ (running_part l.running ++ codes "}")))))
 
--- a frame: a cast with its number, its time and its operation, an acknowledgement with its number and its time, or a count
+-- a data frame: its number, and its body's time and operation
+abbrev pub body_part : List (List ℕ) → ℕ → Body → List ℕ
+body_part names number (Cast time op) = (codes "[\"cast\"," ++ decimal number) ++ ((codes "," ++ decimal time) ++ (codes "," ++ (quoted (op_text names op) ++ codes "]")))
+body_part names number (Ack time) = (codes "[\"ack\"," ++ decimal number) ++ ((codes "," ++ decimal time) ++ codes "]")
+
+-- a frame
 abbrev pub frame_part : List (List ℕ) → Frame → List ℕ
-frame_part names (Numbered number (Cast time op)) = (codes "[\"cast\"," ++ decimal number) ++ ((codes "," ++ decimal time) ++ (codes "," ++ (quoted (op_text names op) ++ codes "]")))
-frame_part names (Numbered number (Ack time)) = (codes "[\"ack\"," ++ decimal number) ++ ((codes "," ++ decimal time) ++ codes "]")
+frame_part names (Numbered number body) = body_part names number body
 frame_part names (Got count) = (codes "[\"count\"," ++ decimal count) ++ codes "]"
 
 -- the frame that an event took, where it took one

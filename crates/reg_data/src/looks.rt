@@ -69,7 +69,7 @@ fn peers<F: FrontEnd, A: Allocator + Copy>(
 }
 
 /// Those of the first so many registers that are not 0.
-fn kept<A: Allocator + Copy>(
+fn kept_among<A: Allocator + Copy>(
     alloc: A,
     values: &Registers<A>,
     registers: u16,
@@ -87,7 +87,7 @@ fn kept<A: Allocator + Copy>(
 }
 
 /// What is told of the state of a process, the one of this number.
-fn look<F: FrontEnd, A: Allocator + Copy>(
+fn look_at<F: FrontEnd, A: Allocator + Copy>(
     alloc: A,
     shape: Shape,
     process: &Process<F, A>,
@@ -100,7 +100,7 @@ fn look<F: FrontEnd, A: Allocator + Copy>(
     Ok(Look {
         peers: peers(alloc, process, me, shape.processes() as u8)?,
         held: process.held(alloc)?,
-        copy: kept(alloc, process.registers(), shape.registers() as u16)?,
+        copy: kept_among(alloc, process.registers(), shape.registers() as u16)?,
         delivered: process.delivered_count(),
         awaited: process.awaited(),
     })
@@ -117,7 +117,7 @@ fn look_in<F: FrontEnd, A: Allocator + Copy>(
     ensures { IfOk result (λ l. l ≡ look_of (record { processes = world.now.processes; registers = world.now.registers }) ((run_in F.start world.now).nodes process).state) }
 {
     match world.process(process) {
-        Some(found) => look(alloc, world.shape(), found, process),
+        Some(found) => look_at(alloc, world.shape(), found, process),
         None => unreachable!(),
     }
 }

@@ -1,13 +1,12 @@
 //! The parts of the data: states, frames, events and operations.
-ghost use Rattle.std.specs.Prelude.{◌≡◌};
+ghost use Rattle.std.specs.Prelude.{◌≡◌, Some, option_map};
 ghost use Rattle.reg_text.specs.Writing.{Puts};
 ghost use Rattle.reg_data.specs.Json.{quoted};
 ghost use Rattle.reg_history.specs.EntryLines.{answer_text};
 ghost use Rattle.reg_text.specs.Ops.{op_text};
 ghost use Rattle.reg_schedules.specs.Schedules.{event_text};
 ghost use Rattle.reg_process.specs.Waits.{running_of};
-ghost use Rattle.std.specs.Prelude.{option_map};
-ghost use Rattle.reg_data.specs.Parts.{bar_part, end_part, frame_part, kept_part, look_part, moment_part, peer_part, reply_part, running_part, sent_part, taken_part};
+ghost use Rattle.reg_data.specs.Parts.{bar_part, body_part, end_part, frame_part, kept_part, look_part, moment_part, peer_part, reply_part, running_part, sent_part, taken_part};
 
 use crate::json::{Part, put_list, put_numbers};
 use crate::looks::{Kept, Look};
@@ -45,15 +44,24 @@ impl Part for Kept {
 }
 
 /// Puts what a running operation waits for.
+fn put_awaited<W: Write>(sink: &mut Sink<'_, W>, awaited: Awaited)
+    ensures { Puts W.contents sink.old sink.new (running_part (Some (running_of awaited))) }
+{
+    match awaited {
+        Awaited::Cast { stamp, .. } => {
+            put_number(sink, "[\"cast\",", stamp.time);
+            sink.put(b"]");
+        }
+        Awaited::Settling { .. } => sink.put(b"[\"held\"]"),
+    }
+}
+
+/// The same, where an operation runs.
 fn put_running<W: Write>(sink: &mut Sink<'_, W>, awaited: Option<Awaited>)
     ensures { Puts W.contents sink.old sink.new (running_part (option_map running_of awaited)) }
 {
     match awaited {
-        Some(Awaited::Cast { stamp, .. }) => {
-            put_number(sink, "[\"cast\",", stamp.time);
-            sink.put(b"]");
-        }
-        Some(Awaited::Settling { .. }) => sink.put(b"[\"held\"]"),
+        Some(awaited) => put_awaited(sink, awaited),
         None => sink.put(b"null"),
     }
 }
@@ -94,33 +102,44 @@ fn put_quoted_answer<W: Write>(sink: &mut Sink<'_, W>, answer: Answer)
     sink.put(b"\"");
 }
 
-impl Part for Frame {
-    ghost part = { frame_part };
+/// Puts a data frame: its number, and its body's time and operation.
+fn put_body<A: Allocator + Copy, W: Write>(
+    sink: &mut Sink<'_, W>,
+    names: &Names<A>,
+    number: u64,
+    body: Body,
+)
+    ensures { Puts W.contents sink.old sink.new (body_part names.now number body) }
+{
+    match body {
+        Body::Cast { time, op } => {
+            put_number(sink, "[\"cast\",", number);
+            put_number(sink, ",", time);
+            sink.put(b",");
+            put_quoted_op(sink, names, op);
+            sink.put(b"]");
+        }
+        Body::Ack { time } => {
+            put_number(sink, "[\"ack\",", number);
+            put_number(sink, ",", time);
+            sink.put(b"]");
+        }
+    }
+}
 
-    fn put<A: Allocator + Copy, W: Write>(&self, sink: &mut Sink<'_, W>, names: &Names<A>) {
-        match *self {
-            Frame::Numbered {
-                number,
-                body: Body::Cast { time, op },
-            } => {
-                put_number(sink, "[\"cast\",", number);
-                put_number(sink, ",", time);
-                sink.put(b",");
-                put_quoted_op(sink, names, op);
-                sink.put(b"]");
-            }
-            Frame::Numbered {
-                number,
-                body: Body::Ack { time },
-            } => {
-                put_number(sink, "[\"ack\",", number);
-                put_number(sink, ",", time);
-                sink.put(b"]");
-            }
-            Frame::Got { count } => {
-                put_number(sink, "[\"count\",", count);
-                sink.put(b"]");
-            }
+/// Puts a frame.
+fn put_frame<A: Allocator + Copy, W: Write>(
+    sink: &mut Sink<'_, W>,
+    names: &Names<A>,
+    frame: Frame,
+)
+    ensures { Puts W.contents sink.old sink.new (frame_part names.now frame) }
+{
+    match frame {
+        Frame::Numbered { number, body } => put_body(sink, names, number, body),
+        Frame::Got { count } => {
+            put_number(sink, "[\"count\",", count);
+            sink.put(b"]");
         }
     }
 }
@@ -132,7 +151,7 @@ impl Part for Sent {
         put_number(sink, "[", self.to as u64);
         put_number(sink, ",", self.place as u64);
         sink.put(b",");
-        self.frame.put(sink, names);
+        put_frame(sink, names, self.frame);
         sink.put(b"]");
     }
 }
@@ -159,7 +178,7 @@ fn put_taken<A: Allocator + Copy, W: Write>(
     ensures { Puts W.contents sink.old sink.new (taken_part names.now frame) }
 {
     match frame {
-        Some(frame) => frame.put(sink, names),
+        Some(frame) => put_frame(sink, names, frame),
         None => sink.put(b"null"),
     }
 }

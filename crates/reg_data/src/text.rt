@@ -42,35 +42,35 @@ fn put_points<A: Allocator + Copy, W: Write>(
 }
 
 /// Puts the processes, the names and the front end.
-fn put_head<A: Allocator + Copy, W: Write>(sink: &mut Sink<'_, W>, data: &Data<A>)
-    ensures { Puts W.contents sink.old sink.new (head_text data.now) }
+fn put_head<A: Allocator + Copy, W: Write>(sink: &mut Sink<'_, W>, run: &Data<A>)
+    ensures { Puts W.contents sink.old sink.new (head_text run.now) }
 {
-    put_number(sink, "{\"version\":1,\n\"processes\":", data.processes as u64);
+    put_number(sink, "{\"version\":1,\n\"processes\":", run.processes as u64);
     sink.put(b",\n\"registers\":");
-    put_names(sink, &data.names);
+    put_names(sink, &run.names);
     sink.put(b",\n\"front\":");
-    put_quoted(sink, data.front.name());
+    put_quoted(sink, run.front.name());
 }
 
 /// Puts the events, the states, the frames taken and the operations.
-fn put_run<A: Allocator + Copy, W: Write>(sink: &mut Sink<'_, W>, data: &Data<A>)
-    ensures { Puts W.contents sink.old sink.new (run_text data.now) }
+fn put_run<A: Allocator + Copy, W: Write>(sink: &mut Sink<'_, W>, run: &Data<A>)
+    ensures { Puts W.contents sink.old sink.new (run_text run.now) }
 {
-    put_lines(sink, ",\n\"events\":", &data.names, data.moments.as_slice());
-    put_lines(sink, ",\n\"states\":", &data.names, data.looks.as_slice());
-    put_lines(sink, ",\n\"arrows\":", &data.names, data.arrows.as_slice());
-    put_lines(sink, ",\n\"operations\":", &data.names, data.bars.as_slice());
+    put_lines(sink, ",\n\"events\":", &run.names, run.moments.as_slice());
+    put_lines(sink, ",\n\"states\":", &run.names, run.looks.as_slice());
+    put_lines(sink, ",\n\"arrows\":", &run.names, run.arrows.as_slice());
+    put_lines(sink, ",\n\"operations\":", &run.names, run.bars.as_slice());
 }
 
 /// Puts the one order of casts, the reads beside it, the witness and the points.
-fn put_orders<A: Allocator + Copy, W: Write>(sink: &mut Sink<'_, W>, data: &Data<A>)
-    ensures { Puts W.contents sink.old sink.new (order_text data.now) }
+fn put_orders<A: Allocator + Copy, W: Write>(sink: &mut Sink<'_, W>, run: &Data<A>)
+    ensures { Puts W.contents sink.old sink.new (order_text run.now) }
 {
-    put_lines(sink, ",\n\"order\":", &data.names, data.order.as_slice());
-    put_lines(sink, ",\n\"reads\":", &data.names, data.reads.as_slice());
-    put_lines(sink, ",\n\"witness\":", &data.names, data.witness.as_slice());
+    put_lines(sink, ",\n\"order\":", &run.names, run.order.as_slice());
+    put_lines(sink, ",\n\"reads\":", &run.names, run.reads.as_slice());
+    put_lines(sink, ",\n\"witness\":", &run.names, run.witness.as_slice());
     sink.put(b",\n\"points\":");
-    put_points(sink, &data.names, &data.points);
+    put_points(sink, &run.names, &run.points);
     sink.put(b"}");
 }
 
@@ -78,15 +78,15 @@ fn put_orders<A: Allocator + Copy, W: Write>(sink: &mut Sink<'_, W>, data: &Data
 fn put_between<A: Allocator + Copy, W: Write>(
     sink: &mut Sink<'_, W>,
     head: &str,
-    data: &Data<A>,
+    run: &Data<A>,
     tail: &str,
 )
-    ensures { Puts W.contents sink.old sink.new (head.now ++ (data_text data.now ++ tail.now)) }
+    ensures { Puts W.contents sink.old sink.new (head.now ++ (data_text run.now ++ tail.now)) }
 {
     sink.put(head.as_bytes());
-    put_head(sink, data);
-    put_run(sink, data);
-    put_orders(sink, data);
+    put_head(sink, run);
+    put_run(sink, run);
+    put_orders(sink, run);
     sink.put(tail.as_bytes());
 }
 
@@ -94,13 +94,13 @@ fn put_between<A: Allocator + Copy, W: Write>(
 pub fn write_data<A: Allocator + Copy, W: Write>(
     writer: &mut W,
     head: &str,
-    data: &Data<A>,
+    run: &Data<A>,
     tail: &str,
 ) -> Result<(), Unwritten>
-    ensures { MatchResult result (λ _. Appends (W.contents writer.old) (W.contents writer.new) (head.now ++ (data_text data.now ++ tail.now))) (λ _. AppendsPart (W.contents writer.old) (W.contents writer.new) (head.now ++ (data_text data.now ++ tail.now))) }
+    ensures { MatchResult result (λ _. Appends (W.contents writer.old) (W.contents writer.new) (head.now ++ (data_text run.now ++ tail.now))) (λ _. AppendsPart (W.contents writer.old) (W.contents writer.new) (head.now ++ (data_text run.now ++ tail.now))) }
 {
     let mut sink = Sink::new(writer);
-    put_between(&mut sink, head, data, tail);
+    put_between(&mut sink, head, run, tail);
     if sink.failed {
         return Err(Unwritten);
     }
