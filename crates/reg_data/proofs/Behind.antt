@@ -5,7 +5,6 @@ use Rattle.reg_text.specs.Writing.{Puts}
 use Rattle.reg_text.proofs.Sent.{puts_two, puts_as}
 
 infixr 5 ◌▸◌
-
 -- one thing, and then another
 pub ◌▸◌ : {S : Type 0} {held : S → Option (List ℕ)} {a b c : Sink S} {xs ys : List ℕ} → Puts held a b xs → Puts held b c ys → Puts held a c (xs ++ ys)
 ◌▸◌ {S} {held} {a} {b} {c} {xs} {ys} p q = puts_two held a b c xs ys p q

@@ -1,3 +1,4 @@
 pub mod Behind
 pub mod Joined
 pub mod Looking
+pub mod Made

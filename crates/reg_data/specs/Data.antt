@@ -57,8 +57,9 @@ abbrev pub data_of : (Op → ℕ → Start) → Plan → List OpId → Option (L
 data_of start p witness points =
     data_in p (moments_of start p.shape p.events) (looks_of start p.shape p.events) (whole start p.shape.processes p.shape.registers p.events) witness points
 
--- All that is told of the run of a plan, with its witness, and with these points or none.
+-- All events of a plan are accepted, and this is all that is told of their run, with its witness, and with these points or none.
 pub record IsDataOf (start : Op → ℕ → Start) (p : Plan) (points : Option (List Point)) (d : Data) : Type 0 where
+  pub accepted : (whole start p.shape.processes p.shape.registers p.events).accepted ≡ p.events
   pub witness : List OpId
   pub keyed : IsWitness (run_of p.shape.registers (whole start p.shape.processes p.shape.registers p.events)) witness
   pub same : d ≡ data_of start p witness points

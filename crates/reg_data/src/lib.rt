@@ -11,5 +11,5 @@ mod text;
 
 pub use data::Data;
 pub use looks::{Kept, Look};
-pub use telling::{tell_data};
+pub use telling::tell_data;
 pub use text::write_data;

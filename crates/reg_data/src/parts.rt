@@ -81,11 +81,7 @@ impl<B: Allocator + Copy> Part for Look<B> {
 }
 
 /// Puts the text of an operation in quotes.
-fn put_quoted_op<A: Allocator + Copy, W: Write>(
-    sink: &mut Sink<'_, W>,
-    names: &Names<A>,
-    op: Op,
-)
+fn put_quoted_op<A: Allocator + Copy, W: Write>(sink: &mut Sink<'_, W>, names: &Names<A>, op: Op)
     ensures { Puts W.contents sink.old sink.new (quoted (op_text names.now op)) }
 {
     sink.put(b"\"");
@@ -128,11 +124,7 @@ fn put_body<A: Allocator + Copy, W: Write>(
 }
 
 /// Puts a frame.
-fn put_frame<A: Allocator + Copy, W: Write>(
-    sink: &mut Sink<'_, W>,
-    names: &Names<A>,
-    frame: Frame,
-)
+fn put_frame<A: Allocator + Copy, W: Write>(sink: &mut Sink<'_, W>, names: &Names<A>, frame: Frame)
     ensures { Puts W.contents sink.old sink.new (frame_part names.now frame) }
 {
     match frame {

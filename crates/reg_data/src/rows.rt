@@ -59,11 +59,7 @@ impl Part for CopyRead {
     fn put<A: Allocator + Copy, W: Write>(&self, sink: &mut Sink<'_, W>, _names: &Names<A>) {
         put_numbers(
             sink,
-            &[
-                self.id.process as u64,
-                self.id.number as u64,
-                self.place,
-            ],
+            &[self.id.process as u64, self.id.number as u64, self.place],
         );
     }
 }

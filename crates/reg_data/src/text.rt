@@ -45,7 +45,11 @@ fn put_points<A: Allocator + Copy, W: Write>(
 fn put_head<A: Allocator + Copy, W: Write>(sink: &mut Sink<'_, W>, run: &Data<A>)
     ensures { Puts W.contents sink.old sink.new (head_text run.now) }
 {
-    put_number(sink, "{\"version\":1,\n\"processes\":", run.processes as u64);
+    put_number(
+        sink,
+        "{\"version\":1,\n\"processes\":",
+        run.processes as u64,
+    );
     sink.put(b",\n\"registers\":");
     put_names(sink, &run.names);
     sink.put(b",\n\"front\":");

@@ -1,4 +1,5 @@
 pub mod Schedules
 pub mod Runs
+pub mod Pages
 pub mod Showings
 pub mod Inner
