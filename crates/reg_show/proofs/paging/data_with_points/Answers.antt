@@ -10,5 +10,6 @@ pub returns-in-Ok-tell_data-clause-told : goal.returns-in-Ok-tell_data-clause-to
 returns-in-Ok-tell_data-clause-told g c =
     let start = g.F.FrontEnd.start in
     let P : Made → Type 0 = λ w. ArePoints (run_of w.registers (run_in start w)) c.in-Ok.points.items in
-    data_told start c.args.schedule c.in_ok-world.world c.in_ok-world.names c.in_ok-world.front (ShowsPoints start c.args.schedule) (Some c.in-Ok.points.items) c.in-Ok-tell_data.told
-    c.in_ok-world.ensures.ran c.in_ok-world.ensures.names c.in_ok-world.ensures.front c.in-Ok-tell_data.ensures (subst P c.in_ok-world.ensures.ran c.in-Ok.ensures.first)
+    let ran = c.in_ok-world.ensures in
+    data_told start c.args.schedule c.in_ok-world.field-0.world c.in_ok-world.field-0.names c.in_ok-world.field-0.front (ShowsPoints start c.args.schedule) (Some c.in-Ok.points.items) c.in-Ok-tell_data.told
+    ran.ran ran.names ran.front c.in-Ok-tell_data.ensures (subst P ran.ran c.in-Ok.ensures.first)
