@@ -3,3 +3,4 @@ pub mod Rows
 pub mod Looks
 pub mod Parts
 pub mod Data
+pub mod Plain

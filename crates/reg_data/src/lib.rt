@@ -3,6 +3,7 @@
 
 mod data;
 mod json;
+pub mod laws;
 mod looks;
 mod parts;
 mod rows;

@@ -28,6 +28,8 @@ Shows what processes that share registers do. Each command reads standard input.
 usage: awshow schedule [--fair]   reads a workload, prints the schedule of its play
        awshow trace               reads a schedule, prints what happens, event by event
        awshow draw                reads a schedule, prints its space-time diagram as SVG
+       awshow data                reads a schedule, prints its run as JSON
+       awshow page                reads a schedule, prints a page that steps through its run
        awshow help                prints this
 ";
 
@@ -38,7 +40,9 @@ fn command_line<'a>(alloc: Global) -> Result<clap::Command<'a>, AllocError>
     clap::Command::new(alloc, "awshow")
         .subcommand(with_fair(alloc, "schedule")?)?
         .subcommand(clap::Command::new(alloc, "trace"))?
-        .subcommand(clap::Command::new(alloc, "draw"))
+        .subcommand(clap::Command::new(alloc, "draw"))?
+        .subcommand(clap::Command::new(alloc, "data"))?
+        .subcommand(clap::Command::new(alloc, "page"))
 }
 
 /// What a refusal of the command line asks for.
@@ -60,6 +64,8 @@ fn named(name: &str, fair: bool) -> Option<Asked>
         "schedule" => Showing::Schedule { fair },
         "trace" => Showing::Trace,
         "draw" => Showing::Draw,
+        "data" => Showing::Data,
+        "page" => Showing::Page,
         _ => return None,
     };
     Some(Asked::Show { showing })
