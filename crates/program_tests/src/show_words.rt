@@ -5,7 +5,7 @@ use std::alloc::Global;
 use std::process::Abort;
 
 /// Each line, and what it asks for.
-const LINES: [(&str, Result<Asked, WordsFault>); 17] = [
+const LINES: [(&str, Result<Asked, WordsFault>); 20] = [
     (
         "schedule",
         Ok(Asked::Show {
@@ -30,6 +30,18 @@ const LINES: [(&str, Result<Asked, WordsFault>); 17] = [
             showing: Showing::Draw,
         }),
     ),
+    (
+        "data",
+        Ok(Asked::Show {
+            showing: Showing::Data,
+        }),
+    ),
+    (
+        "page",
+        Ok(Asked::Show {
+            showing: Showing::Page,
+        }),
+    ),
     ("help", Ok(Asked::Help)),
     ("-h", Ok(Asked::Help)),
     ("--help", Ok(Asked::Help)),
@@ -41,6 +53,7 @@ const LINES: [(&str, Result<Asked, WordsFault>); 17] = [
     ("play", Err(WordsFault::CommandLine)),
     ("trace --fair", Err(WordsFault::CommandLine)),
     ("draw draw", Err(WordsFault::CommandLine)),
+    ("page --fair", Err(WordsFault::CommandLine)),
     ("schedule schedule", Err(WordsFault::CommandLine)),
     ("schedule --fair --fair", Err(WordsFault::CommandLine)),
 ];
@@ -66,6 +79,6 @@ fn is_told(alloc: Global, status: u8, line: &str) -> bool {
 
 #[test]
 fn a_refused_command_line_is_told_by_a_usage_line(rt: HostRuntime) {
-    let usage = "usage: awshow schedule [--fair] | trace | draw\n";
+    let usage = "usage: awshow schedule [--fair] | trace | draw | data | page\n";
     assert!(rt; is_told(rt.alloc(), 2, usage));
 }

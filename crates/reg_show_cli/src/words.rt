@@ -4,7 +4,7 @@ ghost use Rattle.clap.specs.Words.{app_of, kind_of};
 ghost use Rattle.reg_show.specs.declared.Showing.{Showing};
 ghost use Rattle.reg_words.specs.Lines.{behind_name};
 ghost use Rattle.reg_show_cli.specs.declared.words.Asked.TheVariants.{Show};
-ghost use Rattle.reg_show_cli.specs.Words.{awshow, told_of};
+ghost use Rattle.reg_show_cli.specs.Words.{awshow, awshow_first, told_of};
 ghost use Rattle.reg_show_cli.specs.Lines.{IsAnswer, is_fair, name_of};
 
 use clap::error::ErrorKind;
@@ -33,14 +33,21 @@ usage: awshow schedule [--fair]   reads a workload, prints the schedule of its p
        awshow help                prints this
 ";
 
-/// The program's command line, with a subcommand for each command.
-fn command_line<'a>(alloc: Global) -> Result<clap::Command<'a>, AllocError>
-    ensures { IfOk result (λ c. app_of c ≡ awshow) }
+/// The program's command line with its first subcommands.
+fn first_commands<'a>(alloc: Global) -> Result<clap::Command<'a>, AllocError>
+    ensures { IfOk result (λ c. app_of c ≡ awshow_first) }
 {
     clap::Command::new(alloc, "awshow")
         .subcommand(with_fair(alloc, "schedule")?)?
         .subcommand(clap::Command::new(alloc, "trace"))?
-        .subcommand(clap::Command::new(alloc, "draw"))?
+        .subcommand(clap::Command::new(alloc, "draw"))
+}
+
+/// The program's command line, with a subcommand for each command.
+fn command_line<'a>(alloc: Global) -> Result<clap::Command<'a>, AllocError>
+    ensures { IfOk result (λ c. app_of c ≡ awshow) }
+{
+    first_commands(alloc)?
         .subcommand(clap::Command::new(alloc, "data"))?
         .subcommand(clap::Command::new(alloc, "page"))
 }
