@@ -1,5 +1,5 @@
 //! Tests of what the programs add to whole runs, over their public calls: running clusters, the words of the command lines, the
-//! lines that tell stops, and what is shown of a text. Each ends by itself, whatever the schedule.
+//! lines that tell stops, what is shown of a text, and the data of a run. Each ends by itself, whatever the schedule.
 //!
 //! They stand in a crate of their own since a crate with tests is proved twice.
 #![tactic(auto)]
@@ -10,6 +10,8 @@ mod lines;
 mod litmus;
 #[cfg(test)]
 mod live;
+#[cfg(test)]
+mod run_data;
 #[cfg(test)]
 mod show_words;
 #[cfg(test)]

@@ -5,7 +5,7 @@ use std::alloc::Global;
 use std::process::Abort;
 
 /// Each line, and what it asks for.
-const LINES: [(&str, Result<Asked, WordsFault>); 28] = [
+const LINES: [(&str, Result<Asked, WordsFault>); 31] = [
     (
         "schedule",
         Ok(Asked::Show {
@@ -36,6 +36,18 @@ const LINES: [(&str, Result<Asked, WordsFault>); 28] = [
         "outcomes --plays 1000000",
         Ok(Asked::Outcomes { plays: 1_000_000 }),
     ),
+    (
+        "data",
+        Ok(Asked::Show {
+            showing: Showing::Data,
+        }),
+    ),
+    (
+        "page",
+        Ok(Asked::Show {
+            showing: Showing::Page,
+        }),
+    ),
     ("help", Ok(Asked::Help)),
     ("-h", Ok(Asked::Help)),
     ("--help", Ok(Asked::Help)),
@@ -47,6 +59,7 @@ const LINES: [(&str, Result<Asked, WordsFault>); 28] = [
     ("play", Err(WordsFault::CommandLine)),
     ("trace --fair", Err(WordsFault::CommandLine)),
     ("draw draw", Err(WordsFault::CommandLine)),
+    ("page --fair", Err(WordsFault::CommandLine)),
     ("schedule schedule", Err(WordsFault::CommandLine)),
     ("schedule --fair --fair", Err(WordsFault::CommandLine)),
     ("outcomes --plays", Err(WordsFault::CommandLine)),
@@ -80,6 +93,6 @@ fn is_told(alloc: Global, status: u8, line: &str) -> bool {
 
 #[test]
 fn a_refused_command_line_is_told_by_a_usage_line(rt: HostRuntime) {
-    let usage = "usage: awshow schedule [--fair] | outcomes [--plays N] | trace | draw\n";
+    let usage = "usage: awshow schedule [--fair] | outcomes [--plays N] | trace | draw | data | page\n";
     assert!(rt; is_told(rt.alloc(), 2, usage));
 }

@@ -51,7 +51,7 @@ impl<A: Allocator + Copy> Model for Moment<A> {
 }
 
 /// The process that an event is of.
-fn process_of_event(event: &Event) -> u8
+pub fn process_of_event(event: &Event) -> u8
     ensures { result ≡ process_of event.now }
 {
     match event {

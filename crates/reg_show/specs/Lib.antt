@@ -1,5 +1,6 @@
 pub mod Schedules
 pub mod Runs
+pub mod Pages
 pub mod Showings
 pub mod Inner
 pub mod Outcomes

@@ -6,15 +6,20 @@ use Rattle.reg_messages.specs.FaultLines.{fault_line}
 use Rattle.reg_show.specs.declared.faults.ShowFault.{ShowFault}
 use Rattle.reg_show.specs.declared.faults.ShowFault.TheVariants.{Command, TooManyToDraw}
 use Rattle.reg_show.specs.declared.showing.Showing.{Showing}
-use Rattle.reg_show.specs.declared.showing.Showing.TheVariants.{Schedule, Trace, Draw}
+use Rattle.reg_show.specs.declared.showing.Showing.TheVariants.{Schedule, Trace, Draw, Data, Page}
+use Rattle.reg_page.specs.declared.head.TheConstants.{HEAD}
+use Rattle.reg_page.specs.declared.tail.TheConstants.{TAIL}
+use Rattle.reg_show.specs.Pages.{ShowsData}
 use Rattle.reg_show.specs.Runs.{TellsRun, DrawsRun, BlamesDrawn}
 use Rattle.reg_show.specs.Schedules.{WritesSchedule}
 
--- what was read, and for a schedule and a trace what was written: `Wrote` says how a text was
+-- what was read, and but for a drawing what was written: `Wrote` says how a text was
 abbrev pub Shows : Showing → (List ℕ → Type 0) → List ℕ → Type 0
 Shows (Schedule fair) Wrote text = WritesSchedule fair Wrote text
 Shows Trace Wrote text = TellsRun Wrote text
 Shows Draw Wrote text = DrawsRun text
+Shows Data Wrote text = ShowsData [] (10 ∷ []) Wrote text
+Shows Page Wrote text = ShowsData HEAD.now TAIL.now Wrote text
 
 -- what a fault says of the input: what the command that reads the same says by it
 abbrev pub Blames : Showing → ShowFault → List ℕ → Type 0
@@ -23,6 +28,8 @@ Blames (Schedule fair) TooManyToDraw text = ⊥
 Blames Trace (Command fault) text = BlamesCommand Replay fault text
 Blames Trace TooManyToDraw text = ⊥
 Blames Draw fault text = BlamesDrawn fault text
+Blames Data fault text = BlamesDrawn fault text
+Blames Page fault text = BlamesDrawn fault text
 
 -- the line of a fault on the error stream, with its line feed
 abbrev pub show_line : ShowFault → List ℕ

@@ -4,6 +4,7 @@
 mod commands;
 mod counting;
 mod faults;
+mod paging;
 mod running;
 mod scheduling;
 mod showing;

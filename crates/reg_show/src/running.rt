@@ -8,9 +8,12 @@ ghost use Rattle.reg_show.specs.Showings.{Blames, show_line, Shows};
 
 use crate::commands::{draw, trace};
 use crate::faults::ShowFault;
+use crate::paging::write_run;
 use crate::scheduling::schedule;
 use crate::showing::Showing;
 use reg_commands::{Fault, read_input, write_fault};
+use reg_page::head::HEAD;
+use reg_page::tail::TAIL;
 use reg_text::{Unwritten, write_bytes};
 use std::alloc::{Allocator, Global};
 use std::io::{Read, Write};
@@ -31,6 +34,8 @@ fn show<A: Allocator + Copy, W: Write>(
         Showing::Schedule { fair } => schedule(alloc, global, text, fair, writer),
         Showing::Trace => trace(alloc, text, writer),
         Showing::Draw => return draw(alloc, text, writer),
+        Showing::Data => return write_run(alloc, text, "", "\n", writer),
+        Showing::Page => return write_run(alloc, text, HEAD, TAIL, writer),
     };
     match shown {
         Ok(()) => Ok(()),

@@ -12,4 +12,8 @@ pub enum Showing {
     Trace,
     /// The space-time diagram of the run of a schedule.
     Draw,
+    /// The run of a schedule as data.
+    Data,
+    /// The run of a schedule as a page that one steps through.
+    Page,
 }

@@ -5,7 +5,7 @@ use Rattle.std.specs.Fmt.{decimal}
 use Rattle.clap.specs.Words.{Text}
 use Rattle.reg_outcomes.specs.declared.plays.TheConstants.{MOST_PLAYS}
 use Rattle.reg_show.specs.declared.Showing.{Showing}
-use Rattle.reg_show.specs.declared.Showing.TheVariants.{Draw, Schedule, Trace}
+use Rattle.reg_show.specs.declared.Showing.TheVariants.{Data, Draw, Page, Schedule, Trace}
 use Rattle.reg_words.specs.Lines.{may_ask_help, named_line}
 use Rattle.reg_show_cli.specs.declared.asking.TheConstants.{USUAL_PLAYS}
 use Rattle.reg_show_cli.specs.declared.words.Asked.{Asked}
@@ -18,6 +18,8 @@ abbrev pub name_of : Showing → Text
 name_of (Schedule fair) = codes "schedule"
 name_of Trace = codes "trace"
 name_of Draw = codes "draw"
+name_of Data = codes "data"
+name_of Page = codes "page"
 
 -- whether it is the schedule of a fair play
 abbrev pub is_fair : Showing → Bool
@@ -70,4 +72,4 @@ PlaysFit _ = ⊤
 
 -- the line for words that ask for nothing, with its line feed
 abbrev pub refused_line : List ℕ
-refused_line = codes "usage: awshow schedule [--fair] | outcomes [--plays N] | trace | draw" ++ 10 ∷ []
+refused_line = codes "usage: awshow schedule [--fair] | outcomes [--plays N] | trace | draw | data | page" ++ 10 ∷ []

@@ -9,10 +9,14 @@ use Rattle.reg_show_cli.specs.declared.words.Asked.TheVariants.{Help}
 use Rattle.reg_words.specs.declared.faults.WordsFault.{WordsFault}
 use Rattle.reg_words.specs.declared.faults.WordsFault.TheVariants.{CommandLine, OutOfMemory}
 
--- the program with its subcommands, as clap's parse reads it
-abbrev pub awshow : App
-awshow = with_subcommand (with_subcommand (with_subcommand (new_app (codes "awshow")) (fair_app (codes "schedule")).top)
+-- the program with its first subcommands, as clap's parse reads it
+abbrev pub awshow_first : App
+awshow_first = with_subcommand (with_subcommand (with_subcommand (new_app (codes "awshow")) (fair_app (codes "schedule")).top)
     (new_app (codes "trace")).top) (new_app (codes "draw")).top
+
+-- the program with all of them
+abbrev pub awshow : App
+awshow = with_subcommand (with_subcommand awshow_first (new_app (codes "data")).top) (new_app (codes "page")).top
 
 -- help is no refusal, want of memory is itself, and every other kind is the command line's
 abbrev pub told_of : ErrorKind → Result Asked WordsFault

@@ -4,7 +4,7 @@ ghost use Rattle.clap.specs.Words.{app_of, kind_of};
 ghost use Rattle.reg_show.specs.declared.Showing.{Showing};
 ghost use Rattle.reg_words.specs.Lines.{behind_name};
 ghost use Rattle.reg_show_cli.specs.declared.words.Asked.TheVariants.{Show};
-ghost use Rattle.reg_show_cli.specs.Words.{awshow, told_of};
+ghost use Rattle.reg_show_cli.specs.Words.{awshow, awshow_first, told_of};
 ghost use Rattle.reg_show_cli.specs.Lines.{IsAnswer, is_fair, name_of};
 
 use clap::error::ErrorKind;
@@ -31,17 +31,28 @@ usage: awshow schedule [--fair]      reads a workload, prints the schedule of it
        awshow outcomes [--plays N]   reads a workload, prints what N plays of it answer, counted
        awshow trace                  reads a schedule, prints what happens, event by event
        awshow draw                   reads a schedule, prints its space-time diagram as SVG
+       awshow data                   reads a schedule, prints its run as JSON
+       awshow page                   reads a schedule, prints a page that steps through its run
        awshow help                   prints this
 ";
 
-/// The program's command line, with a subcommand for each command.
-fn command_line<'a>(alloc: Global) -> Result<clap::Command<'a>, AllocError>
-    ensures { IfOk result (λ c. app_of c ≡ awshow) }
+/// The program's command line with its first subcommands.
+fn first_commands<'a>(alloc: Global) -> Result<clap::Command<'a>, AllocError>
+    ensures { IfOk result (λ c. app_of c ≡ awshow_first) }
 {
     clap::Command::new(alloc, "awshow")
         .subcommand(with_fair(alloc, "schedule")?)?
         .subcommand(clap::Command::new(alloc, "trace"))?
         .subcommand(clap::Command::new(alloc, "draw"))
+}
+
+/// The program's command line, with a subcommand for each command.
+fn command_line<'a>(alloc: Global) -> Result<clap::Command<'a>, AllocError>
+    ensures { IfOk result (λ c. app_of c ≡ awshow) }
+{
+    first_commands(alloc)?
+        .subcommand(clap::Command::new(alloc, "data"))?
+        .subcommand(clap::Command::new(alloc, "page"))
 }
 
 /// What a refusal of the command line asks for.
@@ -63,6 +74,8 @@ fn named(name: &str, fair: bool) -> Option<Asked>
         "schedule" => Showing::Schedule { fair },
         "trace" => Showing::Trace,
         "draw" => Showing::Draw,
+        "data" => Showing::Data,
+        "page" => Showing::Page,
         _ => return None,
     };
     Some(Asked::Show { showing })

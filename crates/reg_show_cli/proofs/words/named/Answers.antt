@@ -6,3 +6,9 @@ returns-in-draw c = search rules
 
 pub returns-in-schedule : goal.returns-in-schedule
 returns-in-schedule c = search rules
+
+pub returns-in-data : goal.returns-in-data
+returns-in-data c = search rules
+
+pub returns-in-page : goal.returns-in-page
+returns-in-page c = search rules

@@ -1,0 +1,211 @@
+//! The data and the page of runs, with what was worked out by hand from the definitions.
+use crate::values::shown;
+use reg_page::head::HEAD;
+use reg_page::tail::TAIL;
+use reg_show::{Showing, show_text};
+use serde_json::Value;
+use std::alloc::Global;
+use std::test::Fail;
+
+/// A write that is done once the other process has acknowledged its cast.
+const WRITE: &str = "processes 2
+registers x
+front linear
+call 0 write x 5
+take 0 1 0
+take 1 0 1
+";
+
+const WRITE_DATA: &str = r##"{"version":1,
+"processes":2,
+"registers":["x"],
+"front":"linear",
+"events":[
+{"event":"call 0 write x 5","process":0,"frame":null,"clock":1,"delivered":[],"reply":null,"sent":[[1,0,["cast",0,1,"write x 5"]]]}
+,{"event":"take 0 1 0","process":1,"frame":["cast",0,1,"write x 5"],"clock":2,"delivered":[[1,0]],"reply":null,"sent":[[0,0,["count",1]],[0,1,["ack",0,2]]]}
+,{"event":"take 1 0 1","process":0,"frame":["ack",0,2],"clock":3,"delivered":[[1,0]],"reply":{"answer":"done","place":0},"sent":[[1,1,["count",1]]]}
+],
+"states":[
+{"peers":[null,[0,0,0,1]],"held":[[1,0]],"copy":[],"delivered":0,"running":["cast",1]}
+,{"peers":[[1,1,0,1],null],"held":[],"copy":[[0,"5"]],"delivered":1,"running":null}
+,{"peers":[null,[2,1,0,1]],"held":[],"copy":[[0,"5"]],"delivered":1,"running":null}
+],
+"arrows":[
+[0,1,0,0,1]
+,[1,0,1,1,2]
+],
+"operations":[
+{"process":0,"number":0,"op":"write x 5","call":0,"answer":{"at":2,"text":"done"}}
+],
+"order":[
+[1,0,0,1]
+],
+"reads":[
+],
+"witness":[
+[0,0]
+],
+"points":[
+[0,0,1]
+]}
+"##;
+
+/// A read that is held between two deliveries of one event, of a register beside another, with the greatest value.
+const HELD: &str = "processes 2
+registers w x
+front local-write
+call 0 write x 1
+call 1 write x 18446744073709551615
+call 0 read x
+take 1 0 0
+tick 1
+";
+
+const HELD_DATA: &str = r##"{"version":1,
+"processes":2,
+"registers":["w","x"],
+"front":"local-write",
+"events":[
+{"event":"call 0 write x 1","process":0,"frame":null,"clock":1,"delivered":[],"reply":{"answer":"done","place":0},"sent":[[1,0,["cast",0,1,"write x 1"]]]}
+,{"event":"call 1 write x 18446744073709551615","process":1,"frame":null,"clock":1,"delivered":[],"reply":{"answer":"done","place":0},"sent":[[0,0,["cast",0,1,"write x 18446744073709551615"]]]}
+,{"event":"call 0 read x","process":0,"frame":null,"clock":1,"delivered":[],"reply":null,"sent":[]}
+,{"event":"take 1 0 0","process":0,"frame":["cast",0,1,"write x 18446744073709551615"],"clock":2,"delivered":[[1,0],[1,1]],"reply":{"answer":"value 1","place":1},"sent":[[1,1,["count",1]],[1,2,["ack",1,2]]]}
+,{"event":"tick 1","process":1,"frame":null,"clock":1,"delivered":[],"reply":null,"sent":[[0,1,["cast",0,1,"write x 18446744073709551615"]]]}
+],
+"states":[
+{"peers":[null,[0,0,0,1]],"held":[[1,0]],"copy":[],"delivered":0,"running":null}
+,{"peers":[[0,0,0,1],null],"held":[[1,1]],"copy":[],"delivered":0,"running":null}
+,{"peers":[null,[0,0,0,1]],"held":[[1,0]],"copy":[],"delivered":0,"running":["held"]}
+,{"peers":[null,[1,1,0,2]],"held":[],"copy":[[1,"18446744073709551615"]],"delivered":2,"running":null}
+,{"peers":[[0,0,0,1],null],"held":[[1,1]],"copy":[],"delivered":0,"running":null}
+],
+"arrows":[
+[1,0,0,1,3]
+],
+"operations":[
+{"process":0,"number":0,"op":"write x 1","call":0,"answer":{"at":0,"text":"done"}}
+,{"process":1,"number":0,"op":"write x 18446744073709551615","call":1,"answer":{"at":1,"text":"done"}}
+,{"process":0,"number":1,"op":"read x","call":2,"answer":{"at":3,"text":"value 1"}}
+],
+"order":[
+[1,0,0,3]
+,[1,1,0,3]
+],
+"reads":[
+[0,1,1]
+],
+"witness":[
+[0,0]
+,[0,1]
+,[1,0]
+],
+"points":null}
+"##;
+
+/// Whether a text is shown by this status, output and fault.
+fn tells(alloc: Global, showing: Showing, text: &str, told: (u8, &str, &str)) -> bool {
+    let (status, output, errors) = shown(alloc, showing, text.as_bytes());
+    let (wanted, written, fault) = told;
+    status == wanted
+        && output.as_slice() == written.as_bytes()
+        && errors.as_slice() == fault.as_bytes()
+}
+
+#[test]
+fn data_is_that_worked_by_hand(rt: HostRuntime) {
+    for (text, wanted) in [(WRITE, WRITE_DATA), (HELD, HELD_DATA)] {
+        assert!(rt;
+            tells(rt.alloc(), Showing::Data, text, (0, wanted, "")),
+            "{text}"
+        );
+    }
+}
+
+/// The member of this path of the data, as a number.
+fn number_at(alloc: Global, json: &str, path: &str) -> Option<u64> {
+    match Value::from_str(alloc, json) {
+        Ok(value) => value.pointer(path).and_then(Value::as_u64),
+        Err(_) => None,
+    }
+}
+
+#[test]
+fn a_json_reader_reads_the_data(rt: HostRuntime) {
+    for (json, path, wanted) in [
+        (WRITE_DATA, "/events/2/clock", 3u64),
+        (WRITE_DATA, "/states/2/peers/1/0", 2),
+        (WRITE_DATA, "/points/0/2", 1),
+        (HELD_DATA, "/operations/2/answer/at", 3),
+        (HELD_DATA, "/reads/0/2", 1),
+    ] {
+        assert!(rt; number_at(rt.alloc(), json, path) == Some(wanted), "{path}");
+    }
+}
+
+/// Whether the page is its head, the data without its last line feed, and its tail.
+fn is_framed(alloc: Global, text: &str, data_text: &str) -> bool {
+    let (status, page, errors) = shown(alloc, Showing::Page, text.as_bytes());
+    let (head, tail) = (HEAD.as_bytes(), TAIL.as_bytes());
+    let json = data_text.trim_end().as_bytes();
+    let Some(rest) = page.as_slice().strip_prefix(head) else {
+        return false;
+    };
+    let Some(rest) = rest.strip_prefix(json) else {
+        return false;
+    };
+    status == 0 && errors.is_empty() && rest == tail
+}
+
+#[test]
+fn a_page_is_its_head_the_data_and_its_tail(rt: HostRuntime) {
+    for (text, wanted) in [(WRITE, WRITE_DATA), (HELD, HELD_DATA)] {
+        assert!(rt; is_framed(rt.alloc(), text, wanted), "{text}");
+    }
+}
+
+/// Whether data for which there is so much room goes out in part.
+fn goes_out_in_part(alloc: Global, room: usize) -> bool {
+    let mut buffer = [0u8; 200];
+    if room > buffer.len() {
+        return false;
+    }
+    let mut writer = &mut buffer[..room];
+    let (mut reader, mut errors) = (WRITE.as_bytes(), Vec::new(alloc));
+    let status = show_text(
+        alloc,
+        alloc,
+        Showing::Data,
+        &mut reader,
+        &mut writer,
+        &mut errors,
+    );
+    status == 1
+        && errors.as_slice() == "output: write\n".as_bytes()
+        && WRITE_DATA.as_bytes().starts_with(&buffer[..room])
+}
+
+#[test]
+fn data_whose_writer_is_full_goes_out_in_part(rt: HostRuntime) {
+    for room in [0usize, 1, 99, 200] {
+        assert!(rt; goes_out_in_part(rt.alloc(), room), "{room}");
+    }
+}
+
+/// Whether one event more than are drawn is refused. They are put into the text, which is empty.
+fn refuses_so_many(alloc: Global, text: &mut String) -> Result<bool, Fail> {
+    text.push_str("processes 1\nregisters x\nfront linear\n")?;
+    for _ in 0..401 {
+        text.push_str("tick 0\n")?;
+    }
+    let told = (1, "", "too many events to draw\n");
+    Ok(tells(alloc, Showing::Data, text.as_str(), told)
+        && tells(alloc, Showing::Page, text.as_str(), told))
+}
+
+#[test]
+fn a_page_has_at_most_400_events(rt: HostRuntime) -> Result<(), Fail> {
+    let mut text = String::new(rt.alloc());
+    let refused = refuses_so_many(rt.alloc(), &mut text);
+    assert!(rt; refused?);
+    Ok(())
+}

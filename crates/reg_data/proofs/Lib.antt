@@ -1,0 +1,5 @@
+pub mod Behind
+pub mod Joined
+pub mod Looking
+pub mod Made
+pub mod Plain

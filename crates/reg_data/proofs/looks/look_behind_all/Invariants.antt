@@ -1,0 +1,7 @@
+use Rattle.std.proofs.Common.{◌≡◌, ◌++◌, drop, false}
+use Rattle.reg_data.specs.Looks.{looks_from}
+use Rattle.reg_data.proofs.looks.look_behind_all.Given as goal
+
+-- with those of the events that are left, all states
+abbrev pub invariant-loop-event : goal.invariant-loop-event
+invariant-loop-event g l = (l.world.failed ≡ false) × (l.looks.items ++ looks_from g.F.FrontEnd.start l.world (drop l.event-index l.events) ≡ l.fn.looks.items ++ looks_from g.F.FrontEnd.start l.fn.world l.events)

@@ -1,0 +1,16 @@
+//! The data of a run, as JSON: what each event did, the states behind it, and the orders of the whole run.
+#![tactic(auto)]
+
+mod data;
+mod json;
+pub mod laws;
+mod looks;
+mod parts;
+mod rows;
+mod telling;
+mod text;
+
+pub use data::Data;
+pub use looks::{Kept, Look};
+pub use telling::tell_data;
+pub use text::write_data;

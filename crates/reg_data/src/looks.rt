@@ -1,0 +1,179 @@
+//! What is told of the state of a process.
+ghost use Rattle.std.specs.Prelude.{◌≡◌, ◌<◌, ◌++◌, false, length, IfOk, OnOk};
+ghost use Rattle.reg_world.specs.Worlds.{run_in, with_event};
+ghost use Rattle.reg_data.specs.Looks.{kept_of, look_behind, look_of, looks_from, looks_of, peers_of};
+
+use reg_base::{Registers, Shape};
+use reg_front::FrontEnd;
+use reg_moments::process_of_event;
+use reg_process::{Awaited, Delivered, Known, Process};
+use reg_world::{Event, World, WorldFault};
+use std::alloc::{AllocError, Allocator, Global};
+use std::marker::Model;
+
+/// A register of a copy, with its value.
+#[derive(Clone, Copy, Debug, PartialEq, Eq)]
+pub struct Kept {
+    pub register: u16,
+    pub value: u64,
+}
+
+/// What is told of the state of a process.
+#[derive(Drop)]
+pub struct Look<A: Allocator + Copy = Global> {
+    /// What it knows of each process, and keeps for it. None in its own place.
+    pub peers: Vec<Option<Known>, A>,
+    /// The casts that it holds back, in the order of their stamps.
+    pub held: Vec<Delivered, A>,
+    /// The registers of its copy that are not 0.
+    pub copy: Vec<Kept, A>,
+    /// How many casts it delivered.
+    pub delivered: u64,
+    /// What the running operation waits for.
+    pub awaited: Option<Awaited>,
+}
+
+impl<A: Allocator + Copy> Model for Look<A> {
+    ghost use Rattle.std.specs.Prelude.{option_map};
+    ghost use Rattle.reg_process.specs.Waits.{running_of};
+    ghost use Rattle.reg_data.specs.Looks.{Look as AnyLook};
+
+    ghost Value = { AnyLook };
+
+    ghost view = { λ l. record { peers = l.peers.items; held = l.held.items; copy = l.copy.items; delivered = l.delivered; running = option_map running_of l.awaited } };
+}
+
+/// What a process knows of each of so many, and keeps for it.
+fn peers<F: FrontEnd, A: Allocator + Copy>(
+    alloc: A,
+    process: &Process<F, A>,
+    me: u8,
+    processes: u8,
+) -> Result<Vec<Option<Known>, A>, AllocError>
+    requires me { process.now.state.me ≡ me }
+    requires all { length process.now.state.peers ≡ processes }
+    ensures { IfOk result (λ v. v.items ≡ peers_of process.now.state processes) }
+{
+    let mut peers = Vec::new(alloc);
+    for other in 0..processes {
+        if other == me {
+            peers.push(None)?;
+        } else {
+            match process.known(other) {
+                Some(known) => peers.push(Some(known))?,
+                None => unreachable!(),
+            }
+        }
+    }
+    Ok(peers)
+}
+
+/// Those of the first so many registers that are not 0.
+fn kept_among<A: Allocator + Copy>(
+    alloc: A,
+    values: &Registers<A>,
+    registers: u16,
+) -> Result<Vec<Kept, A>, AllocError>
+    ensures { IfOk result (λ v. v.items ≡ kept_of values.now registers) }
+{
+    let mut kept = Vec::new(alloc);
+    for register in 0..registers {
+        let value = values.get(register).unwrap_or(0);
+        if value != 0 {
+            kept.push(Kept { register, value })?;
+        }
+    }
+    Ok(kept)
+}
+
+/// What is told of the state of a process, the one of this number.
+fn look_at<F: FrontEnd, A: Allocator + Copy>(
+    alloc: A,
+    shape: Shape,
+    process: &Process<F, A>,
+    me: u8,
+) -> Result<Look<A>, AllocError>
+    requires me { process.now.state.me ≡ me }
+    requires all { length process.now.state.peers ≡ shape.processes }
+    ensures { IfOk result (λ l. l ≡ look_of shape process.now.state) }
+{
+    Ok(Look {
+        peers: peers(alloc, process, me, shape.processes() as u8)?,
+        held: process.held(alloc)?,
+        copy: kept_among(alloc, process.registers(), shape.registers() as u16)?,
+        delivered: process.delivered_count(),
+        awaited: process.awaited(),
+    })
+}
+
+/// The same of a process of a world.
+fn look_in<F: FrontEnd, A: Allocator + Copy>(
+    alloc: A,
+    world: &World<F, A>,
+    process: u8,
+) -> Result<Look<A>, AllocError>
+    requires going { world.now.failed ≡ false }
+    requires process { process < world.now.processes }
+    ensures { IfOk result (λ l. l ≡ look_of (record { processes = world.now.processes; registers = world.now.registers }) ((run_in F.start world.now).nodes process).state) }
+{
+    match world.process(process) {
+        Some(found) => look_at(alloc, world.shape(), found, process),
+        None => unreachable!(),
+    }
+}
+
+/// Makes an event, and tells the state of its process behind it. The event is refused, or memory is.
+fn look_behind_event<F: FrontEnd, A: Allocator + Copy>(
+    alloc: A,
+    world: &mut World<F, A>,
+    event: &Event,
+) -> Result<Look<A>, WorldFault>
+    requires { world.old.failed ≡ false }
+    ensures made { OnOk result (world.new ≡ with_event F.start world.old event.now) }
+    ensures told { IfOk result (λ l. l ≡ look_behind F.start world.old event.now) }
+{
+    let process = process_of_event(event);
+    if u32::from(process) >= world.shape().processes() {
+        return Err(WorldFault::NoProcess);
+    }
+    world.step(event)?;
+    match look_in(alloc, world, process) {
+        Ok(look) => Ok(look),
+        Err(_) => Err(WorldFault::OutOfMemory),
+    }
+}
+
+/// Makes these events, and adds the state behind each. An event is refused, or memory is.
+fn look_behind_all<F: FrontEnd, A: Allocator + Copy>(
+    alloc: A,
+    world: &mut World<F, A>,
+    looks: &mut Vec<Look<A>, A>,
+    events: &[Event],
+) -> Result<(), WorldFault>
+    requires { world.old.failed ≡ false }
+    ensures { OnOk result (looks.new.items ≡ looks.old.items ++ looks_from F.start world.old events.now) }
+{
+    for event in events {
+        let look = look_behind_event(alloc, world, event)?;
+        if looks.push(look).is_err() {
+            return Err(WorldFault::OutOfMemory);
+        }
+    }
+    Ok(())
+}
+
+/// The states behind the events of a run. An event is refused, or memory is.
+pub fn look_behind_events<F: FrontEnd, A: Allocator + Copy>(
+    alloc: A,
+    shape: Shape,
+    events: &[Event],
+) -> Result<Vec<Look<A>, A>, WorldFault>
+    ensures { IfOk result (λ v. v.items ≡ looks_of F.start shape events.now) }
+{
+    let Ok(mut world) = World::<F, A>::new(alloc, shape) else {
+        return Err(WorldFault::OutOfMemory);
+    };
+    let mut looks = Vec::new(alloc);
+    look_behind_all(alloc, &mut world, &mut looks, events)?;
+    Ok(looks)
+}

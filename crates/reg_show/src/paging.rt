@@ -1,0 +1,131 @@
+//! The commands that show the run of a schedule as data, and as a page that one steps through.
+ghost use Rattle.std.specs.Prelude.{◌≡◌, ◌≢◌, ◌≤◌, ◌++◌, ℕ, List, None, Option, IfOk, IfErr, IsErrOf, MatchResult, length};
+ghost use Rattle.std.specs.Io.KnownBytes.{Appends};
+ghost use Rattle.reg_text.specs.Writing.{AppendsPart};
+ghost use Rattle.reg_schedules.specs.Schedules.{IsPlan, Spells};
+ghost use Rattle.reg_commands.specs.Replays.{start_of, BlamesRun, PointsOf, ShowsPoints};
+ghost use Rattle.reg_data.specs.Data.{data_text};
+ghost use Rattle.reg_orders.specs.declared.entries.Point.{Point as AnyPoint};
+ghost use Rattle.reg_show.specs.Pages.{HasData, ShowsData};
+ghost use Rattle.reg_show.specs.Runs.{BlamesDrawn};
+
+use crate::commands::MOST_DRAWN;
+use crate::faults::ShowFault;
+use reg_commands::{Fault, Ran, read_schedule, run_events};
+use reg_data::{Data, tell_data, write_data};
+use reg_front::{Front, FrontEnd, Linear, LocalRead, LocalWrite, RealTime};
+use reg_workload::Schedule;
+use reg_world::Wires;
+use std::alloc::Allocator;
+use std::io::Write;
+
+/// The schedule that a text spells, where its run is shown whole.
+fn schedule_to_show<A: Allocator + Copy>(alloc: A, text: &str) -> Result<Schedule<A>, ShowFault>
+    ensures ok { IfOk result (λ s. IsPlan s × Spells text.now s × (length s.events ≤ MOST_DRAWN)) }
+    ensures why { IfErr result (λ f. BlamesDrawn f text.now) }
+    ensures kind { IfErr result (λ f. f ≢ ShowFault.Command Fault.Output) }
+{
+    let schedule = match read_schedule(alloc, text) {
+        Ok(schedule) => schedule,
+        Err(fault) => return Err(ShowFault::Command { fault }),
+    };
+    if schedule.events.len() > MOST_DRAWN {
+        return Err(ShowFault::TooManyToDraw);
+    }
+    Ok(schedule)
+}
+
+/// Runs a schedule whose front end has no points: all that is told of the run.
+fn data_of_run<F: FrontEnd, A: Allocator + Copy>(
+    alloc: A,
+    schedule: Schedule<A>,
+) -> Result<Data<A>, Fault>
+    ensures told { let NoPoints = λ (points : Option (List AnyPoint)). points ≡ None in IfOk result (λ d. HasData F.start schedule NoPoints d) }
+    ensures why { IfErr result (λ f. BlamesRun F.start schedule f) }
+{
+    let Ran {
+        world,
+        names,
+        front,
+    } = run_events::<F, A, Wires<A>>(alloc, schedule)?;
+    match tell_data(alloc, front, names, &world, None) {
+        Ok(told) => Ok(told),
+        Err(_) => Err(Fault::OutOfMemory),
+    }
+}
+
+/// Runs a schedule whose front end has points: all that is told of the run.
+fn data_with_points<F: RealTime, A: Allocator + Copy>(
+    alloc: A,
+    schedule: Schedule<A>,
+) -> Result<Data<A>, Fault>
+    ensures told { IfOk result (λ d. HasData F.start schedule (ShowsPoints F.start schedule) d) }
+    ensures why { IfErr result (λ f. BlamesRun F.start schedule f) }
+{
+    let Ran {
+        world,
+        names,
+        front,
+    } = run_events::<F, A, Wires<A>>(alloc, schedule)?;
+    let Ok(points) = world.points() else {
+        return Err(Fault::OutOfMemory);
+    };
+    match tell_data(alloc, front, names, &world, Some(points)) {
+        Ok(told) => Ok(told),
+        Err(_) => Err(Fault::OutOfMemory),
+    }
+}
+
+/// Runs a schedule: all that is told of the run.
+fn data_of_schedule<A: Allocator + Copy>(
+    alloc: A,
+    schedule: Schedule<A>,
+) -> Result<Data<A>, Fault>
+    ensures told { IfOk result (λ d. HasData (start_of schedule.front) schedule (PointsOf schedule.front schedule) d) }
+    ensures why { IfErr result (λ f. BlamesRun (start_of schedule.front) schedule f) }
+{
+    match schedule.front {
+        Front::Linear => data_with_points::<Linear, A>(alloc, schedule),
+        Front::LocalRead => data_of_run::<LocalRead, A>(alloc, schedule),
+        Front::LocalWrite => data_of_run::<LocalWrite, A>(alloc, schedule),
+    }
+}
+
+/// Writes the data of a run between two texts, to the last byte.
+fn send_data<A: Allocator + Copy, W: Write>(
+    writer: &mut W,
+    head: &str,
+    told: &Data<A>,
+    tail: &str,
+) -> Result<(), Fault>
+    ensures { MatchResult result (λ _. Appends (W.contents writer.old) (W.contents writer.new) (head.now ++ (data_text told.now ++ tail.now))) (λ f. (f ≡ Fault.Output) × AppendsPart (W.contents writer.old) (W.contents writer.new) (head.now ++ (data_text told.now ++ tail.now))) }
+{
+    if write_data(writer, head, told, tail).is_err() || writer.flush().is_err() {
+        return Err(Fault::Output);
+    }
+    Ok(())
+}
+
+/// Reads a schedule, and writes the data of its run between two texts.
+pub(crate) fn write_run<A: Allocator + Copy, W: Write>(
+    alloc: A,
+    text: &str,
+    head: &str,
+    tail: &str,
+    writer: &mut W,
+) -> Result<(), ShowFault>
+    ensures ok { IfOk result (λ _. ShowsData head.now tail.now (Appends (W.contents writer.old) (W.contents writer.new)) text.now) }
+    ensures why { IfErr result (λ f. BlamesDrawn f text.now) }
+    ensures silent { IfErr result (λ f. f ≢ ShowFault.Command Fault.Output → writer.new ≡ writer.old) }
+    ensures part { IsErrOf result (ShowFault.Command Fault.Output) → ShowsData head.now tail.now (AppendsPart (W.contents writer.old) (W.contents writer.new)) text.now }
+{
+    let schedule = schedule_to_show(alloc, text)?;
+    let told = match data_of_schedule(alloc, schedule) {
+        Ok(told) => told,
+        Err(fault) => return Err(ShowFault::Command { fault }),
+    };
+    match send_data(writer, head, &told, tail) {
+        Ok(()) => Ok(()),
+        Err(fault) => Err(ShowFault::Command { fault }),
+    }
+}
