@@ -60,7 +60,7 @@ scripts = [[\"write x 1\"], [\"write y 1\"], [\"read x\", \"read y\"], [\"read y
 
 /// What so many plays of a test answer under a front end.
 fn table(alloc: Global, front: &str, work: &str) -> Result<String, AllocError> {
-    let text = format!(in alloc; "front = \"{front}\"\nrepeat = 20\n{work}")?;
+    let text = format!(in alloc; "front = \"{front}\"\n{work}")?;
     let mut output = Vec::new(alloc);
     let mut errors = Vec::new(alloc);
     let mut input = text.as_bytes();
