@@ -1,3 +1,4 @@
 pub mod Accepted
 pub mod Written
 pub mod Sending
+pub mod Rested

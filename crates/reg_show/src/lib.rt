@@ -3,6 +3,7 @@
 
 mod commands;
 mod faults;
+mod resting;
 mod running;
 mod scheduling;
 mod showing;

@@ -12,4 +12,6 @@ pub enum Showing {
     Trace,
     /// The space-time diagram of the run of a schedule.
     Draw,
+    /// The schedule with the ticks and takes behind it that bring its run to rest.
+    Rest,
 }
