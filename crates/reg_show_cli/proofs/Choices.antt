@@ -72,6 +72,12 @@ draw_words [] e = λ h. h
 draw_words (word ∷ rest) e = subst HasNoHelp (sym (fails_below (codes "awshow") subs (codes "draw") (word ∷ rest) UnknownArgument [] refl refl
     (plain_stray (codes "draw") word rest (no_flag word rest e)))) unknown_word
 
+rest_words : (rest : List Text) → list_any may_ask_help rest ≡ false → HasNoHelp (fault_at (codes "rest" ∷ rest))
+unfolding clap_on_literals
+rest_words [] e = λ h. h
+rest_words (word ∷ rest) e = subst HasNoHelp (sym (fails_below (codes "awshow") subs (codes "rest") (word ∷ rest) UnknownArgument [] refl refl
+    (plain_stray (codes "rest") word rest (no_flag word rest e)))) unknown_word
+
 schedule_words : (rest : List Text) → list_any may_ask_help rest ≡ false → HasNoHelp (fault_at (codes "schedule" ∷ rest))
 unfolding clap_on_literals
 schedule_words [] e = λ h. h
@@ -90,9 +96,12 @@ module _ (word : Text) (rest : List Text) (e : list_any may_ask_help (word ∷ r
         | inl is ↦ at_name (codes "trace") is (trace_words rest parts.1)
         | inr trace ↦ elim (cases_Bool (bytes_eq (codes "draw") word)) [
           | inl is ↦ at_name (codes "draw") is (draw_words rest parts.1)
-          | inr draw ↦ elim (cases_Bool (bytes_eq (codes "schedule") word)) [
-            | inl is ↦ at_name (codes "schedule") is (schedule_words rest parts.1)
-            | inr schedule ↦ subst HasNoHelp (sym (stray_first (codes "awshow") subs word rest (no_name word trace draw schedule help.0) help.1)) unknown_name
+          | inr draw ↦ elim (cases_Bool (bytes_eq (codes "rest") word)) [
+            | inl is ↦ at_name (codes "rest") is (rest_words rest parts.1)
+            | inr still ↦ elim (cases_Bool (bytes_eq (codes "schedule") word)) [
+              | inl is ↦ at_name (codes "schedule") is (schedule_words rest parts.1)
+              | inr schedule ↦ subst HasNoHelp (sym (stray_first (codes "awshow") subs word rest (no_name word trace draw still schedule help.0) help.1)) unknown_name
+            ]
           ]
         ]
       ]

@@ -3,7 +3,7 @@ use Rattle.std.specs.Prelude.{ℕ, ◌≡◌, ◌⊎◌, ⊤, Bool, true, false,
 use Rattle.std.specs.List.{list_any}
 use Rattle.clap.specs.Words.{Text}
 use Rattle.reg_show.specs.declared.Showing.{Showing}
-use Rattle.reg_show.specs.declared.Showing.TheVariants.{Draw, Schedule, Trace}
+use Rattle.reg_show.specs.declared.Showing.TheVariants.{Draw, Rest, Schedule, Trace}
 use Rattle.reg_words.specs.Lines.{may_ask_help, named_line}
 use Rattle.reg_show_cli.specs.declared.words.Asked.{Asked}
 use Rattle.reg_show_cli.specs.declared.words.Asked.TheVariants.{Help, Show}
@@ -15,6 +15,7 @@ abbrev pub name_of : Showing → Text
 name_of (Schedule fair) = codes "schedule"
 name_of Trace = codes "trace"
 name_of Draw = codes "draw"
+name_of Rest = codes "rest"
 
 -- whether it is the schedule of a fair play
 abbrev pub is_fair : Showing → Bool
@@ -43,4 +44,4 @@ IsAnswer line (Err OutOfMemory) = ⊤
 
 -- the line for words that ask for nothing, with its line feed
 abbrev pub refused_line : List ℕ
-refused_line = codes "usage: awshow schedule [--fair] | trace | draw" ++ 10 ∷ []
+refused_line = codes "usage: awshow schedule [--fair] | trace | draw | rest" ++ 10 ∷ []

@@ -11,8 +11,8 @@ use Rattle.reg_words.specs.declared.faults.WordsFault.TheVariants.{CommandLine, 
 
 -- the program with its subcommands, as clap's parse reads it
 abbrev pub awshow : App
-awshow = with_subcommand (with_subcommand (with_subcommand (new_app (codes "awshow")) (fair_app (codes "schedule")).top)
-    (new_app (codes "trace")).top) (new_app (codes "draw")).top
+awshow = with_subcommand (with_subcommand (with_subcommand (with_subcommand (new_app (codes "awshow")) (fair_app (codes "schedule")).top)
+    (new_app (codes "trace")).top) (new_app (codes "draw")).top) (new_app (codes "rest")).top
 
 -- help is no refusal, want of memory is itself, and every other kind is the command line's
 abbrev pub told_of : ErrorKind → Result Asked WordsFault

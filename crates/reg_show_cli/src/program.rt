@@ -61,7 +61,7 @@ pub fn refuse<E: Write>(fault: WordsFault, errors: &mut E) -> u8
 {
     tell(
         fault,
-        b"usage: awshow schedule [--fair] | trace | draw\n",
+        b"usage: awshow schedule [--fair] | trace | draw | rest\n",
         errors,
     )
 }

@@ -28,6 +28,7 @@ Shows what processes that share registers do. Each command reads standard input.
 usage: awshow schedule [--fair]   reads a workload, prints the schedule of its play
        awshow trace               reads a schedule, prints what happens, event by event
        awshow draw                reads a schedule, prints its space-time diagram as SVG
+       awshow rest                reads a schedule, prints it with the events that bring its run to rest
        awshow help                prints this
 ";
 
@@ -38,7 +39,8 @@ fn command_line<'a>(alloc: Global) -> Result<clap::Command<'a>, AllocError>
     clap::Command::new(alloc, "awshow")
         .subcommand(with_fair(alloc, "schedule")?)?
         .subcommand(clap::Command::new(alloc, "trace"))?
-        .subcommand(clap::Command::new(alloc, "draw"))
+        .subcommand(clap::Command::new(alloc, "draw"))?
+        .subcommand(clap::Command::new(alloc, "rest"))
 }
 
 /// What a refusal of the command line asks for.
@@ -60,6 +62,7 @@ fn named(name: &str, fair: bool) -> Option<Asked>
         "schedule" => Showing::Schedule { fair },
         "trace" => Showing::Trace,
         "draw" => Showing::Draw,
+        "rest" => Showing::Rest,
         _ => return None,
     };
     Some(Asked::Show { showing })
