@@ -5,7 +5,7 @@ use std::alloc::Global;
 use std::process::Abort;
 
 /// Each line, and what it asks for.
-const LINES: [(&str, Result<Asked, WordsFault>); 31] = [
+const LINES: [(&str, Result<Asked, WordsFault>); 32] = [
     (
         "schedule",
         Ok(Asked::Show {
@@ -46,6 +46,12 @@ const LINES: [(&str, Result<Asked, WordsFault>); 31] = [
         "page",
         Ok(Asked::Show {
             showing: Showing::Page,
+        }),
+    ),
+    (
+        "rest",
+        Ok(Asked::Show {
+            showing: Showing::Rest,
         }),
     ),
     ("help", Ok(Asked::Help)),
@@ -93,6 +99,6 @@ fn is_told(alloc: Global, status: u8, line: &str) -> bool {
 
 #[test]
 fn a_refused_command_line_is_told_by_a_usage_line(rt: HostRuntime) {
-    let usage = "usage: awshow schedule [--fair] | outcomes [--plays N] | trace | draw | data | page\n";
+    let usage = "usage: awshow schedule [--fair] | outcomes [--plays N] | trace | draw | data | page | rest\n";
     assert!(rt; is_told(rt.alloc(), 2, usage));
 }

@@ -42,7 +42,7 @@ call_known n registers w p op m =
     (λ e h. absurd (cc))
 
 -- a call names a register that there is
-abbrev IsKnown : ℕ → Event → Type 0
+abbrev pub IsKnown : ℕ → Event → Type 0
 IsKnown registers (Call p op) = register_of op < registers
 IsKnown registers (Take from to i) = Unit {0}
 IsKnown registers (Tick p) = Unit {0}
@@ -52,10 +52,10 @@ moved_known n registers w (Call p op) m is = call_known n registers w.nodes p op
 moved_known n registers w (Take from to i) m is = tt
 moved_known n registers w (Tick p) m is = tt
 
-abbrev AllKnown : ℕ → List Event → Type 0
+abbrev pub AllKnown : ℕ → List Event → Type 0
 AllKnown registers es = (k : ℕ) (e : Event) → slice_get es k ≡ Some e → IsKnown registers e
 
-all_known : (start : Op → ℕ → Start) (n registers : ℕ) (es : List Event) (w : World) → (run start n registers es w).accepted ≡ w.accepted ++ es → (k : ℕ) (e : Event) → slice_get es k ≡ Some e → IsKnown registers e
+pub all_known : (start : Op → ℕ → Start) (n registers : ℕ) (es : List Event) (w : World) → (run start n registers es w).accepted ≡ w.accepted ++ es → (k : ℕ) (e : Event) → slice_get es k ≡ Some e → IsKnown registers e
 all_known start n registers [] w all k e h = absurd (cc)
 all_known start n registers (x ∷ es) w all zero e h =
     let first = first_moved start n registers x es w (move_of n registers w x) refl all in
@@ -67,7 +67,7 @@ op_fits names (Read r) known value = known
 op_fits names (Write r v) known value = (known, value)
 op_fits names (Swap r v) known value = (known, value)
 
-event_fits : (names : List (List ℕ)) (registers : ℕ) (e : Event) → registers ≡ length names → IsKnown registers e → EventHasBits e → EventFits names e
+pub event_fits : (names : List (List ℕ)) (registers : ℕ) (e : Event) → registers ≡ length names → IsKnown registers e → EventHasBits e → EventFits names e
 event_fits names registers (Call p op) same known bits = (bits.0, op_fits names op (omega (arith, known, same)) bits.1)
 event_fits names registers (Take from to i) same known bits = bits
 event_fits names registers (Tick p) same known bits = bits

@@ -2,3 +2,4 @@ pub mod Accepted
 pub mod Written
 pub mod Sending
 pub mod Told
+pub mod Rested

@@ -11,4 +11,7 @@ pub enum ShowFault {
     /// The run has more events than a drawing shows.
     #[error("too many events to draw")]
     TooManyToDraw,
+    /// A run has no room for as many more events as rest may take.
+    #[error("too many events to rest")]
+    TooManyToRest,
 }

@@ -5,6 +5,7 @@ mod commands;
 mod counting;
 mod faults;
 mod paging;
+mod resting;
 mod running;
 mod scheduling;
 mod showing;

@@ -9,6 +9,7 @@ ghost use Rattle.reg_show.specs.Showings.{Blames, show_line, Shows};
 use crate::commands::{draw, trace};
 use crate::faults::ShowFault;
 use crate::paging::write_run;
+use crate::resting::rest;
 use crate::scheduling::schedule;
 use crate::showing::Showing;
 use reg_commands::{Fault, read_input, write_fault};
@@ -36,6 +37,7 @@ fn show<A: Allocator + Copy, W: Write>(
         Showing::Draw => return draw(alloc, text, writer),
         Showing::Data => return write_run(alloc, text, "", "\n", writer),
         Showing::Page => return write_run(alloc, text, HEAD, TAIL, writer),
+        Showing::Rest => return rest(alloc, text, writer),
     };
     match shown {
         Ok(()) => Ok(()),
@@ -69,6 +71,7 @@ fn write_show_fault<W: Write>(errors: &mut W, fault: ShowFault) -> Result<(), Un
     match fault {
         ShowFault::Command { fault } => write_fault(errors, fault),
         ShowFault::TooManyToDraw => write_bytes(errors, b"too many events to draw\n"),
+        ShowFault::TooManyToRest => write_bytes(errors, b"too many events to rest\n"),
     }
 }
 

@@ -28,7 +28,7 @@ fn event_has_bits(event: AnyEvent)
 {}
 
 // So are those of all events. It does nothing: its contract says so.
-fn events_have_bits(events: &[AnyEvent])
+pub(crate) fn events_have_bits(events: &[AnyEvent])
     ensures { (k : ℕ) (e : Event) → slice_get events.now k ≡ Some e → EventHasBits e }
 {
     for event in events {
@@ -37,7 +37,7 @@ fn events_have_bits(events: &[AnyEvent])
 }
 
 /// Writes the text of a schedule, to the last byte.
-fn send<A: Allocator + Copy, W: Write>(
+pub(crate) fn send<A: Allocator + Copy, W: Write>(
     writer: &mut W,
     shape: Shape,
     names: &Names<A>,

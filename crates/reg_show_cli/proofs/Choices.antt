@@ -84,6 +84,12 @@ page_words [] e = λ h. h
 page_words (word ∷ rest) e = subst HasNoHelp (sym (fails_below (codes "awshow") subs (codes "page") (word ∷ rest) UnknownArgument [] refl refl
     (plain_stray (codes "page") word rest (no_flag word rest e)))) unknown_word
 
+rest_words : (rest : List Text) → list_any may_ask_help rest ≡ false → HasNoHelp (fault_at (codes "rest" ∷ rest))
+unfolding clap_on_literals
+rest_words [] e = λ h. h
+rest_words (word ∷ rest) e = subst HasNoHelp (sym (fails_below (codes "awshow") subs (codes "rest") (word ∷ rest) UnknownArgument [] refl refl
+    (plain_stray (codes "rest") word rest (no_flag word rest e)))) unknown_word
+
 schedule_words : (rest : List Text) → list_any may_ask_help rest ≡ false → HasNoHelp (fault_at (codes "schedule" ∷ rest))
 unfolding clap_on_literals
 schedule_words [] e = λ h. h
@@ -106,9 +112,12 @@ module _ (word : Text) (rest : List Text) (e : list_any may_ask_help (word ∷ r
             | inl is ↦ at_name (codes "data") is (data_words rest parts.1)
             | inr data_no ↦ elim (cases_Bool (bytes_eq (codes "page") word)) [
               | inl is ↦ at_name (codes "page") is (page_words rest parts.1)
-              | inr page ↦ elim (cases_Bool (bytes_eq (codes "schedule") word)) [
-                | inl is ↦ at_name (codes "schedule") is (schedule_words rest parts.1)
-                | inr schedule ↦ subst HasNoHelp (sym (stray_first (codes "awshow") subs word rest (no_name word trace draw data_no page schedule help.0) help.1)) unknown_name
+              | inr page ↦ elim (cases_Bool (bytes_eq (codes "rest") word)) [
+                | inl is ↦ at_name (codes "rest") is (rest_words rest parts.1)
+                | inr still ↦ elim (cases_Bool (bytes_eq (codes "schedule") word)) [
+                  | inl is ↦ at_name (codes "schedule") is (schedule_words rest parts.1)
+                  | inr schedule ↦ subst HasNoHelp (sym (stray_first (codes "awshow") subs word rest (no_name word trace draw data_no page still schedule help.0) help.1)) unknown_name
+                ]
               ]
             ]
           ]

@@ -10,7 +10,7 @@ use Rattle.clap.specs.Walk.{idle, nothing_held, subcommand_met, walked}
 use Rattle.clap.specs.Faults.{built_fault, entered_fault}
 use Rattle.clap.proofs.OnLiterals.{clap_on_literals}
 use Rattle.reg_show.specs.declared.Showing.{Showing}
-use Rattle.reg_show.specs.declared.Showing.TheVariants.{Data, Draw, Page, Schedule, Trace}
+use Rattle.reg_show.specs.declared.Showing.TheVariants.{Data, Draw, Page, Rest, Schedule, Trace}
 use Rattle.reg_words.specs.Lines.{is_dashes}
 use Rattle.reg_words.proofs.Chosen.{TakesLines, met_at}
 use Rattle.reg_words.proofs.Strays.{some_kind}
@@ -27,6 +27,7 @@ taken Trace = refl
 taken Draw = refl
 taken Data = refl
 taken Page = refl
+taken Rest = refl
 
 met : (showing : Showing) → met_at awshow (line_of showing) ≡ Some (name_of showing, Some (is_fair showing))
 unfolding clap_on_literals
@@ -36,6 +37,7 @@ met Trace = refl
 met Draw = refl
 met Data = refl
 met Page = refl
+met Rest = refl
 
 -- ---- no other line passes
 
@@ -65,6 +67,10 @@ page_line : (rest : List Text) → has_none rest → passes (codes "page" ∷ re
 unfolding walked
 page_line rest none e = (Page, ap (λ ws. codes "page" ∷ ws) (plain_words (codes "page") rest (rest_of (codes "page") rest refl e) none))
 
+rest_line : (rest : List Text) → has_none rest → passes (codes "rest" ∷ rest) → IsCommandLine (codes "rest" ∷ rest)
+unfolding walked
+rest_line rest none e = (Rest, ap (λ ws. codes "rest" ∷ ws) (plain_words (codes "rest") rest (rest_of (codes "rest") rest refl e) none))
+
 schedule_line : (rest : List Text) → has_none rest → passes (codes "schedule" ∷ rest) → IsCommandLine (codes "schedule" ∷ rest)
 unfolding walked
 schedule_line rest none e = elim (fair_words (codes "schedule") rest (rest_of (codes "schedule") rest refl e) none) [
@@ -75,8 +81,8 @@ schedule_line rest none e = elim (fair_words (codes "schedule") rest (rest_of (c
 help_line : (rest : List Text) → passes (codes "help" ∷ rest) → ⊥
 help_line rest e = some_kind _ _ (first_turn (codes "awshow") subs (codes "help") rest e)
 
-pub no_name : (word : Text) → bytes_eq (codes "trace") word ≡ false → bytes_eq (codes "draw") word ≡ false → bytes_eq (codes "data") word ≡ false → bytes_eq (codes "page") word ≡ false → bytes_eq (codes "schedule") word ≡ false → bytes_eq (codes "help") word ≡ false → subcommand_met (names_of (built awshow)) idle word ≡ None
-no_name word trace draw data_no page schedule help = rw (trace, draw, data_no, page, schedule, help) refl
+pub no_name : (word : Text) → bytes_eq (codes "trace") word ≡ false → bytes_eq (codes "draw") word ≡ false → bytes_eq (codes "data") word ≡ false → bytes_eq (codes "page") word ≡ false → bytes_eq (codes "rest") word ≡ false → bytes_eq (codes "schedule") word ≡ false → bytes_eq (codes "help") word ≡ false → subcommand_met (names_of (built awshow)) idle word ≡ None
+no_name word trace draw data_no page still schedule help = rw (trace, draw, data_no, page, still, schedule, help) refl
 
 module _ (word : Text) (rest : List Text) (e : passes (word ∷ rest)) (dashes : has_none (word ∷ rest)) where
   none : (is_dashes word ≡ false) × has_none rest
@@ -94,11 +100,14 @@ module _ (word : Text) (rest : List Text) (e : passes (word ∷ rest)) (dashes :
         | inl is ↦ at (codes "data") is (data_line rest none.1)
         | inr data_no ↦ elim (cases_Bool (bytes_eq (codes "page") word)) [
           | inl is ↦ at (codes "page") is (page_line rest none.1)
-          | inr page ↦ elim (cases_Bool (bytes_eq (codes "schedule") word)) [
-            | inl is ↦ at (codes "schedule") is (schedule_line rest none.1)
-            | inr schedule ↦ elim (cases_Bool (bytes_eq (codes "help") word)) [
-              | inl is ↦ at (codes "help") is (λ h. absurd (help_line rest h))
-              | inr help ↦ absurd (no_subcommand (codes "awshow") subs word rest (no_name word trace draw data_no page schedule help) none.0 e)
+          | inr page ↦ elim (cases_Bool (bytes_eq (codes "rest") word)) [
+            | inl is ↦ at (codes "rest") is (rest_line rest none.1)
+            | inr still ↦ elim (cases_Bool (bytes_eq (codes "schedule") word)) [
+              | inl is ↦ at (codes "schedule") is (schedule_line rest none.1)
+              | inr schedule ↦ elim (cases_Bool (bytes_eq (codes "help") word)) [
+                | inl is ↦ at (codes "help") is (λ h. absurd (help_line rest h))
+                | inr help ↦ absurd (no_subcommand (codes "awshow") subs word rest (no_name word trace draw data_no page still schedule help) none.0 e)
+              ]
             ]
           ]
         ]

@@ -5,7 +5,7 @@ use Rattle.std.specs.Fmt.{decimal}
 use Rattle.clap.specs.Words.{Text}
 use Rattle.reg_outcomes.specs.declared.plays.TheConstants.{MOST_PLAYS}
 use Rattle.reg_show.specs.declared.Showing.{Showing}
-use Rattle.reg_show.specs.declared.Showing.TheVariants.{Data, Draw, Page, Schedule, Trace}
+use Rattle.reg_show.specs.declared.Showing.TheVariants.{Data, Draw, Page, Rest, Schedule, Trace}
 use Rattle.reg_words.specs.Lines.{may_ask_help, named_line}
 use Rattle.reg_show_cli.specs.declared.asking.TheConstants.{USUAL_PLAYS}
 use Rattle.reg_show_cli.specs.declared.words.Asked.{Asked}
@@ -20,6 +20,7 @@ name_of Trace = codes "trace"
 name_of Draw = codes "draw"
 name_of Data = codes "data"
 name_of Page = codes "page"
+name_of Rest = codes "rest"
 
 -- whether it is the schedule of a fair play
 abbrev pub is_fair : Showing → Bool
@@ -72,4 +73,4 @@ PlaysFit _ = ⊤
 
 -- the line for words that ask for nothing, with its line feed
 abbrev pub refused_line : List ℕ
-refused_line = codes "usage: awshow schedule [--fair] | outcomes [--plays N] | trace | draw | data | page" ++ 10 ∷ []
+refused_line = codes "usage: awshow schedule [--fair] | outcomes [--plays N] | trace | draw | data | page | rest" ++ 10 ∷ []

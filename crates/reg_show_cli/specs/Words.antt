@@ -16,7 +16,7 @@ awshow_first = with_subcommand (with_subcommand (with_subcommand (new_app (codes
 
 -- the program with all of them
 abbrev pub awshow : App
-awshow = with_subcommand (with_subcommand awshow_first (new_app (codes "data")).top) (new_app (codes "page")).top
+awshow = with_subcommand (with_subcommand (with_subcommand awshow_first (new_app (codes "data")).top) (new_app (codes "page")).top) (new_app (codes "rest")).top
 
 -- help is no refusal, want of memory is itself, and every other kind is the command line's
 abbrev pub told_of : ErrorKind → Result Asked WordsFault

@@ -66,7 +66,7 @@ pub fn refuse<E: Write>(fault: WordsFault, errors: &mut E) -> u8
 {
     tell(
         fault,
-        b"usage: awshow schedule [--fair] | outcomes [--plays N] | trace | draw | data | page\n",
+        b"usage: awshow schedule [--fair] | outcomes [--plays N] | trace | draw | data | page | rest\n",
         errors,
     )
 }

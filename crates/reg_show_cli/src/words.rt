@@ -33,6 +33,7 @@ usage: awshow schedule [--fair]      reads a workload, prints the schedule of it
        awshow draw                   reads a schedule, prints its space-time diagram as SVG
        awshow data                   reads a schedule, prints its run as JSON
        awshow page                   reads a schedule, prints a page that steps through its run
+       awshow rest                   reads a schedule, prints it with the events that bring its run to rest
        awshow help                   prints this
 ";
 
@@ -52,7 +53,8 @@ fn command_line<'a>(alloc: Global) -> Result<clap::Command<'a>, AllocError>
 {
     first_commands(alloc)?
         .subcommand(clap::Command::new(alloc, "data"))?
-        .subcommand(clap::Command::new(alloc, "page"))
+        .subcommand(clap::Command::new(alloc, "page"))?
+        .subcommand(clap::Command::new(alloc, "rest"))
 }
 
 /// What a refusal of the command line asks for.
@@ -76,6 +78,7 @@ fn named(name: &str, fair: bool) -> Option<Asked>
         "draw" => Showing::Draw,
         "data" => Showing::Data,
         "page" => Showing::Page,
+        "rest" => Showing::Rest,
         _ => return None,
     };
     Some(Asked::Show { showing })

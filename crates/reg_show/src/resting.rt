@@ -1,0 +1,97 @@
+//! The command that brings the run of a schedule to rest.
+ghost use Rattle.std.specs.Prelude.{◌≡◌, ◌≢◌, ◌⊎◌, IfOk, IfErr, IsErrOf};
+ghost use Rattle.std.specs.Io.KnownBytes.{Appends};
+ghost use Rattle.reg_text.specs.Writing.{AppendsPart};
+ghost use Rattle.reg_commands.specs.Replays.{start_of};
+ghost use Rattle.reg_schedules.specs.Schedules.{IsPlan};
+ghost use Rattle.reg_show.specs.Rests.{IsRested, WritesRest, RestsRun, BlamesRested, BlamesRest};
+
+use crate::faults::ShowFault;
+use crate::scheduling::{events_have_bits, send};
+use reg_commands::{Fault, Ran, read_schedule, run_events};
+use reg_front::{Front, FrontEnd, Linear, LocalRead, LocalWrite};
+use reg_rest::{SettleFault, settle};
+use reg_workload::Schedule;
+use reg_world::PackedWires;
+use std::alloc::Allocator;
+use std::io::Write;
+
+/// Runs a schedule, and brings its world to rest.
+fn rest_run<F: FrontEnd, A: Allocator + Copy>(
+    alloc: A,
+    schedule: Schedule<A>,
+) -> Result<Ran<F, A, PackedWires<A>>, ShowFault>
+    ensures rested { IfOk result (λ r. IsRested F.start schedule r.world) }
+    ensures names { IfOk result (λ r. r.names ≡ schedule.names) }
+    ensures front { IfOk result (λ r. r.front ≡ schedule.front) }
+    ensures why { IfErr result (λ f. BlamesRested F.start schedule f) }
+{
+    let Ran {
+        mut world,
+        names,
+        front,
+    } = match run_events::<F, A, PackedWires<A>>(alloc, schedule) {
+        Ok(ran) => ran,
+        Err(fault) => return Err(ShowFault::Command { fault }),
+    };
+    world.accepted();
+    match settle(&mut world) {
+        Ok(_) => Ok(Ran {
+            world,
+            names,
+            front,
+        }),
+        Err(SettleFault::TooManyEvents) => Err(ShowFault::TooManyToRest),
+        Err(SettleFault::OutOfMemory) => Err(ShowFault::Command {
+            fault: Fault::OutOfMemory,
+        }),
+        Err(SettleFault::Failed) => unreachable!(),
+    }
+}
+
+/// The same, and writes the schedule of all events.
+fn write_rest<F: FrontEnd, A: Allocator + Copy, W: Write>(
+    alloc: A,
+    schedule: Schedule<A>,
+    writer: &mut W,
+) -> Result<(), ShowFault>
+    requires { IsPlan schedule }
+    ensures ok { IfOk result (λ _. WritesRest F.start (Appends (W.contents writer.old) (W.contents writer.new)) schedule) }
+    ensures why { IfErr result (λ f. (f ≡ ShowFault.Command Fault.Output) ⊎ BlamesRested F.start schedule f) }
+    ensures silent { IfErr result (λ f. f ≢ ShowFault.Command Fault.Output → writer.new ≡ writer.old) }
+    ensures part { IsErrOf result (ShowFault.Command Fault.Output) → WritesRest F.start (AppendsPart (W.contents writer.old) (W.contents writer.new)) schedule }
+{
+    let Ran {
+        world,
+        names,
+        front,
+    } = rest_run::<F, A>(alloc, schedule)?;
+    let events = world.accepted();
+    events_have_bits(events);
+    match send(writer, world.shape(), &names, front, events) {
+        Ok(()) => Ok(()),
+        Err(fault) => Err(ShowFault::Command { fault }),
+    }
+}
+
+/// Reads a schedule, brings its run to rest, and writes the schedule of all events: the same, with ticks and takes behind it.
+pub(crate) fn rest<A: Allocator + Copy, W: Write>(
+    alloc: A,
+    text: &str,
+    writer: &mut W,
+) -> Result<(), ShowFault>
+    ensures ok { IfOk result (λ _. RestsRun (Appends (W.contents writer.old) (W.contents writer.new)) text.now) }
+    ensures why { IfErr result (λ f. BlamesRest f text.now) }
+    ensures silent { IfErr result (λ f. f ≢ ShowFault.Command Fault.Output → writer.new ≡ writer.old) }
+    ensures part { IsErrOf result (ShowFault.Command Fault.Output) → RestsRun (AppendsPart (W.contents writer.old) (W.contents writer.new)) text.now }
+{
+    let schedule = match read_schedule(alloc, text) {
+        Ok(schedule) => schedule,
+        Err(fault) => return Err(ShowFault::Command { fault }),
+    };
+    match schedule.front {
+        Front::Linear => write_rest::<Linear, A, W>(alloc, schedule, writer),
+        Front::LocalRead => write_rest::<LocalRead, A, W>(alloc, schedule, writer),
+        Front::LocalWrite => write_rest::<LocalWrite, A, W>(alloc, schedule, writer),
+    }
+}
