@@ -20,42 +20,42 @@ const TESTS: [Litmus; 6] = [
         work: "registers = [\"x\", \"y\"]
 scripts = [[\"write x 1\", \"read y\"], [\"write y 1\", \"read x\"]]
 ",
-        plays: 50,
+        plays: 40,
         allowed: &["01", "10", "11"],
     },
     Litmus {
         work: "registers = [\"message\", \"flag\"]
 scripts = [[\"write message 1\", \"write flag 1\"], [\"read flag\", \"read message\"]]
 ",
-        plays: 50,
+        plays: 40,
         allowed: &["00", "01", "11"],
     },
     Litmus {
         work: "registers = [\"x\"]
 scripts = [[\"write x 1\"], [\"read x\", \"read x\"]]
 ",
-        plays: 50,
+        plays: 40,
         allowed: &["00", "01", "11"],
     },
     Litmus {
         work: "registers = [\"x\", \"y\"]
 scripts = [[\"write x 1\", \"write y 2\", \"read y\"], [\"write y 1\", \"write x 2\", \"read x\"]]
 ",
-        plays: 50,
+        plays: 10,
         allowed: &["12", "21", "22"],
     },
     Litmus {
         work: "registers = [\"lock\"]
 scripts = [[\"swap lock 1\"], [\"swap lock 1\"]]
 ",
-        plays: 50,
+        plays: 40,
         allowed: &["01", "10"],
     },
     Litmus {
         work: "registers = [\"x\", \"y\"]
 scripts = [[\"write x 1\"], [\"write y 1\"], [\"read x\", \"read y\"], [\"read y\", \"read x\"]]
 ",
-        plays: 3,
+        plays: 2,
         allowed: &[
             "0000", "0001", "0010", "0011", "0100", "0101", "0110", "0111", "1000", "1001", "1011",
             "1100", "1101", "1110", "1111",
@@ -158,7 +158,10 @@ fn without_budget_no_play_is_finished(rt: HostRuntime) -> Result<(), Fail> {
     let alloc = rt.alloc();
     let work = "registers = [\"x\"]\nscripts = [[\"write x 1\"], [\"read x\"]]\nbudget = 1\n";
     let table = table(alloc, 100, "linear", work)?;
-    assert!(rt; table.as_str() == "plays 100\noutcomes 0\nunfinished 100\n", "{table}");
+    assert!(rt;
+        table.as_str() == "plays 100\noutcomes 0\nunfinished 100\n",
+        "{table}"
+    );
     Ok(())
 }
 
