@@ -3,14 +3,13 @@ use reg_show::show_outcomes;
 use std::alloc::{AllocError, Global};
 use std::test::Fail;
 
-/// A workload without its front end, and what its reads and swaps may answer, by process and number: one digit for each value.
+/// A workload without its front end, how often it is played, and what its reads and swaps may answer, by process and number: one
+/// digit for each value.
 struct Litmus {
     work: &'static str,
+    plays: u32,
     allowed: &'static [&'static str],
 }
-
-/// How many plays of each there are.
-const PLAYS: u32 = 100;
 
 const FRONTS: [&str; 3] = ["linear", "local-read", "local-write"];
 
@@ -21,36 +20,42 @@ const TESTS: [Litmus; 6] = [
         work: "registers = [\"x\", \"y\"]
 scripts = [[\"write x 1\", \"read y\"], [\"write y 1\", \"read x\"]]
 ",
+        plays: 40,
         allowed: &["01", "10", "11"],
     },
     Litmus {
         work: "registers = [\"message\", \"flag\"]
 scripts = [[\"write message 1\", \"write flag 1\"], [\"read flag\", \"read message\"]]
 ",
+        plays: 40,
         allowed: &["00", "01", "11"],
     },
     Litmus {
         work: "registers = [\"x\"]
 scripts = [[\"write x 1\"], [\"read x\", \"read x\"]]
 ",
+        plays: 40,
         allowed: &["00", "01", "11"],
     },
     Litmus {
         work: "registers = [\"x\", \"y\"]
 scripts = [[\"write x 1\", \"write y 2\", \"read y\"], [\"write y 1\", \"write x 2\", \"read x\"]]
 ",
+        plays: 10,
         allowed: &["12", "21", "22"],
     },
     Litmus {
         work: "registers = [\"lock\"]
 scripts = [[\"swap lock 1\"], [\"swap lock 1\"]]
 ",
+        plays: 40,
         allowed: &["01", "10"],
     },
     Litmus {
         work: "registers = [\"x\", \"y\"]
 scripts = [[\"write x 1\"], [\"write y 1\"], [\"read x\", \"read y\"], [\"read y\", \"read x\"]]
 ",
+        plays: 2,
         allowed: &[
             "0000", "0001", "0010", "0011", "0100", "0101", "0110", "0111", "1000", "1001", "1011",
             "1100", "1101", "1110", "1111",
@@ -58,13 +63,38 @@ scripts = [[\"write x 1\"], [\"write y 1\"], [\"read x\", \"read y\"], [\"read y
     },
 ];
 
+/// What the first hundred plays of store buffering answer under each front end, counted play by play from the schedule and the trace
+/// of each.
+const COUNTED: [&str; 3] = [
+    "plays 100
+outcomes 2
+      99  p0 #1 value 1  p1 #1 value 1  real time    124 events  seed 86
+       1  p0 #1 value 1  p1 #1 value 0  real time     47 events  seed 89
+unfinished 0
+",
+    "plays 100
+outcomes 3
+      59  p0 #1 value 1  p1 #1 value 1  real time     26 events  seed 76
+      27  p0 #1 value 1  p1 #1 value 0  real time     32 events  seed 51
+      14  p0 #1 value 0  p1 #1 value 1  real time     36 events  seed 62
+unfinished 0
+",
+    "plays 100
+outcomes 3
+      46  p0 #1 value 0  p1 #1 value 1  real time     24 events  seed 42
+      32  p0 #1 value 1  p1 #1 value 0  real time     24 events  seed 84
+      22  p0 #1 value 1  p1 #1 value 1  real time     41 events  seed 30
+unfinished 0
+",
+];
+
 /// What so many plays of a test answer under a front end.
-fn table(alloc: Global, front: &str, work: &str) -> Result<String, AllocError> {
+fn table(alloc: Global, plays: u32, front: &str, work: &str) -> Result<String, AllocError> {
     let text = format!(in alloc; "front = \"{front}\"\n{work}")?;
     let mut output = Vec::new(alloc);
     let mut errors = Vec::new(alloc);
     let mut input = text.as_bytes();
-    let status = show_outcomes(alloc, alloc, PLAYS, &mut input, &mut output, &mut errors);
+    let status = show_outcomes(alloc, alloc, plays, &mut input, &mut output, &mut errors);
     if status != 0 {
         return String::from_str(alloc, "refused");
     }
@@ -101,8 +131,8 @@ fn no_outcome_is_seen_that_sequential_consistency_forbids(rt: HostRuntime) -> Re
     let alloc = rt.alloc();
     for test in &TESTS {
         for front in &FRONTS {
-            let table = table(alloc, front, test.work)?;
-            assert!(rt; table.starts_with("plays 100\noutcomes "), "{table}");
+            let table = table(alloc, test.plays, front, test.work)?;
+            assert!(rt; table.starts_with("plays "), "{table}");
             assert!(rt; table.ends_with("\nunfinished 0\n"), "{table}");
             for line in table.lines() {
                 let good = is_allowed(alloc, line, test.allowed)?;
@@ -117,7 +147,7 @@ fn no_outcome_is_seen_that_sequential_consistency_forbids(rt: HostRuntime) -> Re
 fn nothing_is_late_where_every_operation_is_cast(rt: HostRuntime) -> Result<(), Fail> {
     let alloc = rt.alloc();
     for test in &TESTS {
-        let table = table(alloc, "linear", test.work)?;
+        let table = table(alloc, test.plays, "linear", test.work)?;
         assert!(rt; !table.contains("late"), "{table}");
     }
     Ok(())
@@ -127,7 +157,23 @@ fn nothing_is_late_where_every_operation_is_cast(rt: HostRuntime) -> Result<(), 
 fn without_budget_no_play_is_finished(rt: HostRuntime) -> Result<(), Fail> {
     let alloc = rt.alloc();
     let work = "registers = [\"x\"]\nscripts = [[\"write x 1\"], [\"read x\"]]\nbudget = 1\n";
-    let table = table(alloc, "linear", work)?;
-    assert!(rt; table.as_str() == "plays 100\noutcomes 0\nunfinished 100\n", "{table}");
+    let table = table(alloc, 100, "linear", work)?;
+    assert!(rt;
+        table.as_str() == "plays 100\noutcomes 0\nunfinished 100\n",
+        "{table}"
+    );
+    Ok(())
+}
+
+#[test]
+fn a_hundred_plays_are_counted(rt: HostRuntime) -> Result<(), Fail> {
+    let alloc = rt.alloc();
+    let work = "registers = [\"x\", \"y\"]
+scripts = [[\"write x 1\", \"read y\"], [\"write y 1\", \"read x\"]]
+";
+    for (front, counted) in FRONTS.iter().zip(COUNTED.iter()) {
+        let table = table(alloc, 100, front, work)?;
+        assert!(rt; table.as_str() == *counted, "{front}\n{table}");
+    }
     Ok(())
 }

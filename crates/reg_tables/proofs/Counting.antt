@@ -1,17 +1,14 @@
 -- What is told of one play more.
-use Rattle.std.proofs.Common.{◌≡◌, ◌≢◌, ◌⊎◌, ◌↔◌, inl, inr, ℕ, zero, suc, ◌+◌, ◌<◌, ◌≤◌, Bool, true, false, cond, List, [], ◌∷◌, ◌++◌, length, Option, Some, None, refl, ap, sym, ◌∙◌, subst, arith, length-append}
+use Rattle.std.proofs.Common.{◌≡◌, ◌⊎◌, ◌↔◌, inl, inr, ℕ, zero, suc, ◌+◌, ◌<◌, ◌≤◌, Bool, true, false, cond, List, [], ◌∷◌, ◌++◌, length, Option, Some, None, refl, ap, sym, ◌∙◌, subst, arith, length-append}
 use Rattle.std.specs.Prelude.{IfSome, ◌^◌, ◌-◌}
 use Rattle.std.specs.BTreeMap.{BTreeMap, get, Updates, is_at}
-use Rattle.std.specs.Map.{lookup}
-use Rattle.std.specs.Ordering.{is_eq}
 use Rattle.std.proofs.lemmas.Bool.{cases_Bool, false≢true}
 use Rattle.std.proofs.lemmas.Option.{same_Some}
 use Rattle.reg_orders.specs.History.{IsAt}
 use Rattle.reg_tables.specs.declared.outcomes.Told.{Told}
-use Rattle.reg_tables.specs.declared.tallies.Glance.{Glance}
 use Rattle.reg_tables.specs.declared.tallies.Tally.{Tally}
-use Rattle.reg_tables.specs.Tables.{Seen, AreThose, HasOutcome, IsNoShorter, IsTally, IsTallyOf, CountsUnfinished, Nothing}
-use Rattle.reg_tables.specs.Inner.{finished_play, IsShorter, IsShortest, TellsOf, key_cmp, IsCounted, HasRoom}
+use Rattle.reg_tables.specs.Tables.{Seen, HasOutcome, IsNoShorter, IsTally, IsTallyOf, Nothing}
+use Rattle.reg_tables.specs.Inner.{IsShorter, IsShortest, TellsOf, key_cmp, IsCounted, HasRoom}
 use Rattle.reg_tables.proofs.Those.{at_front, at_new, at_cases, those_more, those_same, no_those, those_few}
 use Rattle.reg_tables.proofs.Ordering.{same_keys, tied_keys}
 

@@ -1,19 +1,17 @@
 -- What is put in several parts.
-use Rattle.std.proofs.Common.{ℕ, true, false, ◌≡◌, ◌+◌, ◌-◌, ◌<◌, List, [], ◌∷◌, ◌++◌, length, map, take, get_or, replicate, codes, Option, refl, sym, ap, subst, ◌∙◌, append-nil, append_assoc, arith}
+use Rattle.std.proofs.Common.{ℕ, true, false, ◌≡◌, ◌+◌, ◌<◌, List, [], ◌∷◌, ◌++◌, length, map, take, get_or, replicate, codes, Option, sym, ap, subst, ◌∙◌, append-nil}
 use Rattle.std.specs.Fmt.{decimal}
 use Rattle.std.specs.List.{flat_map}
 use Rattle.std.specs.Io.KnownBytes.{Appends}
 use Rattle.std.proofs.lemmas.Grind.{flat_map-append}
 use Rattle.std.proofs.lemmas.List.{take_more, replicate_more}
-use Rattle.std.proofs.lemmas.List.Folds.{flat_map-map}
 use Rattle.reg_text.specs.declared.writing.Sink.{Sink}
 use Rattle.reg_text.specs.Columns.{to_right}
 use Rattle.reg_text.specs.Lines.{text_of}
 use Rattle.reg_text.specs.Writing.{AppendsPart, Puts, Sends}
 use Rattle.reg_text.proofs.Sent.{puts_two, puts_as}
 use Rattle.reg_tables.specs.Tables.{Line}
-use Rattle.reg_tables.specs.TableText.{line_text, play_text, table_lines, table_text, told_text}
-use Rattle.reg_tables.specs.declared.outcomes.Told.{Told}
+use Rattle.reg_tables.specs.TableText.{line_text, play_text, table_text, told_text}
 
 module _ {S : Type 0} (held : S → Option (List ℕ)) where
   pub puts_three : (a b c d : Sink S) (xs ys zs : List ℕ) → Puts held a b xs → Puts held b c ys → Puts held c d zs → Puts held a d (xs ++ (ys ++ zs))

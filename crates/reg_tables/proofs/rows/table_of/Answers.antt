@@ -1,7 +1,6 @@
-use Rattle.std.proofs.Common.{◌≡◌, map, List, subst}
+use Rattle.std.proofs.Common.{List, subst}
 use Rattle.std.specs.List.Sorted.{IsPermutation}
 use Rattle.reg_tables.specs.Tables.{Line}
-use Rattle.reg_tables.specs.Inner.{line_of}
 use Rattle.reg_tables.proofs.Lining.{is_table}
 use Rattle.reg_tables.proofs.rows.table_of.Goals as goal
 

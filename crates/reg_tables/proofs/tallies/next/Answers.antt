@@ -1,4 +1,4 @@
-use Rattle.std.proofs.Common.{◌≡◌, Option, Some, None, refl, sym, subst}
+use Rattle.std.proofs.Common.{Option, refl, sym, subst}
 use Rattle.std.specs.Prelude.{IfSome, ◌<◌, ◌-◌, ◌^◌}
 use Rattle.reg_tables.specs.declared.tallies.Tally.{Tally}
 use Rattle.reg_tables.specs.Inner.{TellsOf, finished_play}

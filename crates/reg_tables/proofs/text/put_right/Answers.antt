@@ -1,4 +1,4 @@
-use Rattle.std.proofs.Common.{◌≡◌, ◌++◌, ◌-◌, ◌∙◌, ap, length, replicate}
+use Rattle.std.proofs.Common.{◌≡◌, ◌-◌, ◌∙◌, ap, length, replicate}
 use Rattle.std.specs.Fmt.{decimal}
 use Rattle.reg_text.specs.Columns.{to_right}
 use Rattle.reg_text.proofs.Sent.{puts_two, puts_as}

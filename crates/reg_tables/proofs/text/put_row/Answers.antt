@@ -1,4 +1,4 @@
-use Rattle.std.proofs.Common.{◌≡◌, ◌++◌, ◌∷◌, [], ap}
+use Rattle.std.proofs.Common.{◌++◌, ◌∷◌, [], ap}
 use Rattle.std.specs.List.{flat_map}
 use Rattle.reg_text.proofs.Sent.{puts_as}
 use Rattle.reg_tables.specs.Tables.{Line}

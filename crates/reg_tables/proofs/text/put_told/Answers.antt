@@ -1,4 +1,4 @@
-use Rattle.std.proofs.Common.{◌≡◌, ◌++◌, ℕ, List, codes, refl, ap, ◌∙◌, append_assoc}
+use Rattle.std.proofs.Common.{◌≡◌, ◌++◌, ℕ, List, codes, refl}
 use Rattle.std.specs.Fmt.{decimal}
 use Rattle.reg_text.proofs.Sent.{puts_as}
 use Rattle.reg_tables.specs.TableText.{told_text}
