@@ -9,6 +9,8 @@ mod lines;
 #[cfg(test)]
 mod live;
 #[cfg(test)]
+mod rests_shown;
+#[cfg(test)]
 mod show_words;
 #[cfg(test)]
 mod shown;

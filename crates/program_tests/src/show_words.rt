@@ -5,7 +5,7 @@ use std::alloc::Global;
 use std::process::Abort;
 
 /// Each line, and what it asks for.
-const LINES: [(&str, Result<Asked, WordsFault>); 17] = [
+const LINES: [(&str, Result<Asked, WordsFault>); 19] = [
     (
         "schedule",
         Ok(Asked::Show {
@@ -30,6 +30,12 @@ const LINES: [(&str, Result<Asked, WordsFault>); 17] = [
             showing: Showing::Draw,
         }),
     ),
+    (
+        "rest",
+        Ok(Asked::Show {
+            showing: Showing::Rest,
+        }),
+    ),
     ("help", Ok(Asked::Help)),
     ("-h", Ok(Asked::Help)),
     ("--help", Ok(Asked::Help)),
@@ -41,6 +47,7 @@ const LINES: [(&str, Result<Asked, WordsFault>); 17] = [
     ("play", Err(WordsFault::CommandLine)),
     ("trace --fair", Err(WordsFault::CommandLine)),
     ("draw draw", Err(WordsFault::CommandLine)),
+    ("rest --fair", Err(WordsFault::CommandLine)),
     ("schedule schedule", Err(WordsFault::CommandLine)),
     ("schedule --fair --fair", Err(WordsFault::CommandLine)),
 ];
@@ -66,6 +73,6 @@ fn is_told(alloc: Global, status: u8, line: &str) -> bool {
 
 #[test]
 fn a_refused_command_line_is_told_by_a_usage_line(rt: HostRuntime) {
-    let usage = "usage: awshow schedule [--fair] | trace | draw\n";
+    let usage = "usage: awshow schedule [--fair] | trace | draw | rest\n";
     assert!(rt; is_told(rt.alloc(), 2, usage));
 }
