@@ -11,6 +11,8 @@ mod litmus;
 #[cfg(test)]
 mod live;
 #[cfg(test)]
+mod rests_shown;
+#[cfg(test)]
 mod run_data;
 #[cfg(test)]
 mod show_words;

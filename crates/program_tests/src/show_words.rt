@@ -5,7 +5,7 @@ use std::alloc::Global;
 use std::process::Abort;
 
 /// Each line, and what it asks for.
-const LINES: [(&str, Result<Asked, WordsFault>); 32] = [
+const LINES: [(&str, Result<Asked, WordsFault>); 33] = [
     (
         "schedule",
         Ok(Asked::Show {
@@ -66,6 +66,7 @@ const LINES: [(&str, Result<Asked, WordsFault>); 32] = [
     ("trace --fair", Err(WordsFault::CommandLine)),
     ("draw draw", Err(WordsFault::CommandLine)),
     ("page --fair", Err(WordsFault::CommandLine)),
+    ("rest --fair", Err(WordsFault::CommandLine)),
     ("schedule schedule", Err(WordsFault::CommandLine)),
     ("schedule --fair --fair", Err(WordsFault::CommandLine)),
     ("outcomes --plays", Err(WordsFault::CommandLine)),

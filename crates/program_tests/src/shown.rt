@@ -99,7 +99,7 @@ budget = 60
 ";
 
 /// Whether a text is shown by this status, output and fault.
-fn tells(alloc: Global, showing: Showing, text: &str, told: (u8, &str, &str)) -> bool {
+pub(crate) fn tells(alloc: Global, showing: Showing, text: &str, told: (u8, &str, &str)) -> bool {
     let (status, output, errors) = shown(alloc, showing, text.as_bytes());
     let (wanted, written, fault) = told;
     status == wanted
