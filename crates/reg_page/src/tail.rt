@@ -946,7 +946,7 @@ pub const TAIL: &str = r##"</script>
       const ahead = ORDER.filter(c => c.at <= k).length;
       if (a.read !== undefined && a.read < ahead) {
         const missed = ORDER[a.read];
-        add("older", "block", who(me),
+        add("misses", "block", who(me),
           ` has delivered ${a.read} of the ${ahead} casts that somebody has delivered. `, castChip(missed
             .time, missed.process, missed.op.op),
           " is missing, so the read stands before it in the order.");
