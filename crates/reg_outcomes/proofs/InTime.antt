@@ -1,5 +1,5 @@
 -- Whether an order keeps real time, entry by entry.
-use Rattle.std.proofs.Common.{◌≡◌, ◌≢◌, ◌⊎◌, inl, inr, ℕ, zero, suc, ◌+◌, ◌<◌, ◌≤◌, Bool, true, false, cond, max, List, [], ◌∷◌, ◌++◌, length, take, Option, Some, None, slice_get, get_or, refl, ap, sym, ◌∙◌, subst, arith, length-take}
+use Rattle.std.proofs.Common.{◌≡◌, ◌≢◌, ◌⊎◌, inl, inr, ℕ, zero, suc, ◌+◌, ◌<◌, ◌≤◌, Bool, true, false, cond, max, List, [], ◌∷◌, ◌++◌, length, take, Option, Some, None, get_or, refl, ap, sym, ◌∙◌, subst, arith, length-take}
 use Rattle.std.specs.Prelude.{nat_lt, IfSome, ◌^◌, ◌-◌}
 use Rattle.std.specs.declared.cmp.Ordering.{Ordering}
 use Rattle.std.specs.declared.cmp.Ordering.TheVariants.{Less, Equal, Greater}
@@ -15,7 +15,7 @@ use Rattle.reg_base.specs.declared.memory.Answer.{Answer}
 use Rattle.reg_base.specs.declared.memory.Op.{Op}
 use Rattle.reg_orders.specs.declared.entries.Entry.{Entry}
 use Rattle.reg_orders.specs.declared.entries.Entry.TheVariants.{Called, Answered}
-use Rattle.reg_orders.specs.History.{IsAt, IsHistory, event_of}
+use Rattle.reg_orders.specs.History.{IsAt, IsHistory}
 use Rattle.reg_orders.specs.Orders.{IsDistinct}
 use Rattle.reg_orders.proofs.Histories.{events_rise}
 use Rattle.reg_orders.proofs.Places.{get_push_other, in_take, same_at}

@@ -1,5 +1,5 @@
 -- What is known of the plays so far.
-use Rattle.std.proofs.Common.{◌≡◌, ◌≢◌, ◌⊎◌, ◌↔◌, inl, inr, ℕ, ◌+◌, ◌<◌, ◌≤◌, Bool, true, false, List, [], ◌∷◌, ◌++◌, length, Result, Ok, Err, refl, ap, ap₂, sym, ◌∙◌, subst, arith, length-append}
+use Rattle.std.proofs.Common.{◌≡◌, ◌↔◌, inl, inr, ℕ, ◌+◌, ◌<◌, Bool, true, false, List, [], ◌∷◌, ◌++◌, length, Result, Ok, Err, refl, ap, ap₂, sym, ◌∙◌, subst, arith, length-append}
 use Rattle.std.specs.Prelude.{OnOk, ◌^◌, ◌-◌}
 use Rattle.std.specs.BTreeMap.{BTreeMap}
 use Rattle.std.proofs.lemmas.Bool.{cases_eq, false≢true}
@@ -16,7 +16,7 @@ use Rattle.reg_orders.proofs.Places.{get_push_other, same_at}
 use Rattle.reg_tables.specs.declared.outcomes.Told.{Told}
 use Rattle.reg_tables.specs.declared.tallies.Tally.{Tally}
 use Rattle.reg_tables.specs.Outcomes.{outcome_of}
-use Rattle.reg_tables.specs.Tables.{Seen, Line, IsTable, CountsUnfinished}
+use Rattle.reg_tables.specs.Tables.{Seen}
 use Rattle.reg_tables.specs.Inner.{IsCounted}
 use Rattle.reg_tables.proofs.Those.{at_new, those_few}
 use Rattle.reg_toml.specs.Loads.{Load}
@@ -26,7 +26,7 @@ use Rattle.reg_world.specs.Keys.{IsWitness}
 use Rattle.reg_world.specs.RealTime.{KeepsRealTime}
 use Rattle.reg_world.specs.World.{run_of}
 use Rattle.reg_world.specs.Worlds.{Made, run_in}
-use Rattle.reg_outcomes.specs.Outcomes.{AreOutcomes, AreSeen, IsSeen, TellsTime, play_from, seed_at}
+use Rattle.reg_outcomes.specs.Outcomes.{AreSeen, IsSeen, TellsTime, play_from, seed_at}
 use Rattle.reg_outcomes.specs.Inner.{IsSeenIn}
 
 pub on_ok : {T E : Type 0} {P Q : Type 0} (r : Result T E) → (P → Q) → OnOk r P → OnOk r Q

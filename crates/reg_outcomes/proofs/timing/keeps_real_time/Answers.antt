@@ -1,4 +1,4 @@
-use Rattle.std.proofs.Common.{◌≡◌, ◌<◌, ℕ, Some, None, true, refl, length, arith, subst, take, List, take_all}
+use Rattle.std.proofs.Common.{refl, subst, List, take_all}
 use Rattle.std.specs.BTreeMap.{get}
 use Rattle.reg_orders.specs.declared.entries.Entry.{Entry}
 use Rattle.reg_outcomes.specs.Inner.{IsInTime, id_cmp}

@@ -1,4 +1,4 @@
-use Rattle.std.proofs.Common.{◌≡◌, ℕ, Option, Some, sym, subst, arith}
+use Rattle.std.proofs.Common.{ℕ, Option, sym, subst, arith}
 use Rattle.std.specs.Prelude.{IfSome, ◌<◌, ◌-◌, ◌^◌}
 use Rattle.reg_outcomes.proofs.timing.next_bound.Goals as goal
 
