@@ -198,8 +198,10 @@ fn refuses_so_many(alloc: Global, text: &mut String) -> Result<bool, Fail> {
         text.push_str("tick 0\n")?;
     }
     let told = (1, "", "too many events to draw\n");
-    Ok(tells(alloc, Showing::Data, text.as_str(), told)
-        && tells(alloc, Showing::Page, text.as_str(), told))
+    Ok(
+        tells(alloc, Showing::Data, text.as_str(), told)
+            && tells(alloc, Showing::Page, text.as_str(), told),
+    )
 }
 
 #[test]

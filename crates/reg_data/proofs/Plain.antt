@@ -45,7 +45,6 @@ use Rattle.reg_data.specs.Plain.{IsPlainText, is_plain}
 use Rattle.reg_data.specs.Rows.{arrow_row, cast_row, first_row, id_row, point_row, read_row}
 
 infixr 5 ◌⊳◌
-
 both : (xs ys : List ℕ) → list_all is_plain xs ≡ true → list_all is_plain ys ≡ true → list_all is_plain (xs ++ ys) ≡ true
 both [] ys h k = k
 both (x ∷ xs) ys h k =

@@ -77,10 +77,7 @@ fn data_with_points<F: RealTime, A: Allocator + Copy>(
 }
 
 /// Runs a schedule: all that is told of the run.
-fn data_of_schedule<A: Allocator + Copy>(
-    alloc: A,
-    schedule: Schedule<A>,
-) -> Result<Data<A>, Fault>
+fn data_of_schedule<A: Allocator + Copy>(alloc: A, schedule: Schedule<A>) -> Result<Data<A>, Fault>
     ensures told { IfOk result (λ d. HasData (start_of schedule.front) schedule (PointsOf schedule.front schedule) d) }
     ensures why { IfErr result (λ f. BlamesRun (start_of schedule.front) schedule f) }
 {
