@@ -100,6 +100,7 @@ fn is_told(alloc: Global, status: u8, line: &str) -> bool {
 
 #[test]
 fn a_refused_command_line_is_told_by_a_usage_line(rt: HostRuntime) {
-    let usage = "usage: awshow schedule [--fair] | outcomes [--plays N] | trace | draw | data | page | rest\n";
+    let usage =
+        "usage: awshow schedule [--fair] | outcomes [--plays N] | trace | draw | data | page | rest\n";
     assert!(rt; is_told(rt.alloc(), 2, usage));
 }

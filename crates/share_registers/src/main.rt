@@ -52,7 +52,10 @@ fn print_run(
     world: &World<Linear>,
 ) -> anyhow::Result<()> {
     for receipt in receipts.iter().flatten() {
-        println!(rt; "process {}: {:?}, {:?}", receipt.id.process, receipt.op, receipt.answer)?;
+        println!(rt;
+            "process {}: {:?}, {:?}",
+            receipt.id.process, receipt.op, receipt.answer
+        )?;
     }
     let (history, points) = world.linearization()?;
     let verdict = check_points(alloc, history, &points);
@@ -63,8 +66,13 @@ fn print_run(
 fn main(rt: HostRuntime) -> anyhow::Result<()> {
     let alloc = rt.alloc();
     let road = Arc::new(alloc, Rough::new(SeedWords::new(7), 20, 20))?;
-    let (running, mut passes) =
-        start::<Linear, _, _, _>(rt, alloc, Shape::new(2, 1)?, NoGate, road)?;
+    let (running, mut passes) = start::<Linear, _, _, _>(
+        rt,
+        alloc,
+        Shape::new(2, 1)?,
+        NoGate,
+        road,
+    )?;
     let performed = write_and_read(rt, &mut passes);
     let closed = running.close(&rt, alloc, passes)?;
     performed?;
