@@ -1,7 +1,5 @@
 //! Stations that stop, and frames that were changed on their way.
-use crate::live::crews::{
-    carry_all, end, join_all, last_of, parts_of, pass_of, put_back, start, told,
-};
+use crate::live::crews::{carry_all, end, join_all, parts_of, pass_of, start, told};
 use crate::values::{read, write};
 use reg_base::limits::LAST_TIME;
 use reg_base::{Op, OpId};
@@ -213,25 +211,6 @@ fn write_apart<R: Threads + Wait + Abort + Copy + Send + Sync + 'static>(
         (pass, told == Err(LiveFault::Failed))
     })
     .expect(&rt, "a thread")
-}
-
-/// The caller of the process whose cast stops another, and that of a third process, both wait for what that one never says.
-#[test]
-fn all_callers_are_told_where_a_station_stops(rt: HostRuntime) {
-    let alloc = rt.alloc();
-    let parts = parts_of::<Linear, NoGate>(&rt, alloc, (3, 1), NoGate);
-    let road = Changing::new(alloc, Change::LastTime);
-    let (mut passes, running) = start(rt, alloc, parts, road);
-    let third = write_apart(rt, last_of(&rt, &mut passes));
-    let second = last_of(&rt, &mut passes);
-    let first = write_apart(rt, last_of(&rt, &mut passes));
-    let (pass, first_told) = first.join(&rt);
-    put_back(&rt, &mut passes, pass);
-    put_back(&rt, &mut passes, second);
-    let (pass, third_told) = third.join(&rt);
-    put_back(&rt, &mut passes, pass);
-    let closed = end(&rt, alloc, running, passes);
-    assert!(rt; first_told && third_told && closed.world.history().entries().len() == 2);
 }
 
 /// No courier runs, so that each caller would wait for ever.
