@@ -1,5 +1,7 @@
 //! Stations that stop, and frames that were changed on their way.
-use crate::live::crews::{carry_all, end, join_all, parts_of, pass_of, start, told};
+use crate::live::crews::{
+    carry_all, end, join_all, last_of, parts_of, pass_of, put_back, start, told,
+};
 use crate::values::{read, write};
 use reg_base::limits::LAST_TIME;
 use reg_base::{Op, OpId};
@@ -24,7 +26,8 @@ enum Change {
     Value(u64),
 }
 
-/// Changes one frame, and hands all parcels on.
+/// Changes one frame, and hands all parcels on, but for those from process 2 to process 1, which are lost: so what comes to process 1
+/// first is the changed frame.
 #[derive(Drop)]
 struct Changing {
     alloc: Global,
@@ -71,6 +74,9 @@ fn change_bytes(alloc: Global, bytes: &mut Vec<u8>, change: Change) {
 
 impl Road for Changing {
     fn send<R: Wait>(&self, rt: &R, posts: &Posts, parcel: Parcel) {
+        if parcel.from == 2 && parcel.to == 1 {
+            return;
+        }
         let mut parcel = parcel;
         let ours = parcel.from == 0 && parcel.to == 1;
         if ours && !self.done.swap(true, Ordering::SeqCst) {
@@ -211,6 +217,25 @@ fn write_apart<R: Threads + Wait + Abort + Copy + Send + Sync + 'static>(
         (pass, told == Err(LiveFault::Failed))
     })
     .expect(&rt, "a thread")
+}
+
+/// The caller of the process whose cast stops another, and that of a third process, both wait for what that one never says.
+#[test]
+fn all_callers_are_told_where_a_station_stops(rt: HostRuntime) {
+    let alloc = rt.alloc();
+    let parts = parts_of::<Linear, NoGate>(&rt, alloc, (3, 1), NoGate);
+    let road = Changing::new(alloc, Change::LastTime);
+    let (mut passes, running) = start(rt, alloc, parts, road);
+    let third = write_apart(rt, last_of(&rt, &mut passes));
+    let second = last_of(&rt, &mut passes);
+    let first = write_apart(rt, last_of(&rt, &mut passes));
+    let (pass, first_told) = first.join(&rt);
+    put_back(&rt, &mut passes, pass);
+    put_back(&rt, &mut passes, second);
+    let (pass, third_told) = third.join(&rt);
+    put_back(&rt, &mut passes, pass);
+    let closed = end(&rt, alloc, running, passes);
+    assert!(rt; first_told && third_told && closed.world.history().entries().len() == 2);
 }
 
 /// No courier runs, so that each caller would wait for ever.
