@@ -8,23 +8,27 @@ use std::sync::{Arc, Wait};
 use std::thread;
 use std::thread::{JoinHandle, Threads};
 use tellwydar::{
-    Linear, LiveFault, NoGate, Pass, Rough, SeedWords, Shape, World, check_points, start,
+    Linear, LiveFault, Names, NoGate, Pass, Rough, SeedWords, World, check_points, shape_for, start,
 };
 
-/// The register of the lock: 0 where it is free, and else 1.
-const LOCK: u16 = 0;
-/// The register of the counter.
-const COUNTER: u16 = 1;
 /// How often each thread adds 1.
 const TIMES: u32 = 5;
+
+/// The registers that the threads share.
+#[derive(Clone, Copy)]
+struct Registers {
+    /// 0 where the lock is free, and else 1.
+    lock: u16,
+    counter: u16,
+}
 
 /// A pass, and whether all that its thread called was answered.
 type Added = (Pass<Linear, NoGate>, Result<(), LiveFault>);
 
 /// Swaps 1 in until a 0 comes out: then no other thread holds the lock.
-fn take_lock<R: Wait>(rt: &R, pass: &mut Pass<Linear, NoGate>) -> Result<(), LiveFault> {
+fn take_lock<R: Wait>(rt: &R, pass: &mut Pass<Linear, NoGate>, lock: u16) -> Result<(), LiveFault> {
     for _ in rt.forever() {
-        if pass.swap(rt, LOCK, 1)? == 0 {
+        if pass.swap(rt, lock, 1)? == 0 {
             break;
         }
     }
@@ -32,14 +36,35 @@ fn take_lock<R: Wait>(rt: &R, pass: &mut Pass<Linear, NoGate>) -> Result<(), Liv
 }
 
 /// Adds 1 to the counter, so often, each time while holding the lock.
-fn add<R: Wait>(rt: &R, pass: &mut Pass<Linear, NoGate>) -> Result<(), LiveFault> {
+fn add<R: Wait>(
+    rt: &R,
+    pass: &mut Pass<Linear, NoGate>,
+    shared: Registers,
+) -> Result<(), LiveFault> {
     for _ in 0..TIMES {
-        take_lock(rt, pass)?;
-        let count = pass.read(rt, COUNTER)?;
-        pass.write(rt, COUNTER, count.saturating_add(1))?;
-        pass.write(rt, LOCK, 0)?;
+        take_lock(rt, pass, shared.lock)?;
+        let count = pass.read(rt, shared.counter)?;
+        pass.write(rt, shared.counter, count.saturating_add(1))?;
+        pass.write(rt, shared.lock, 0)?;
     }
     Ok(())
+}
+
+/// The names of the registers.
+fn named(alloc: Global) -> anyhow::Result<Names> {
+    let mut names = Vec::new(alloc);
+    for name in ["lock", "counter"] {
+        names.push(String::from_str(alloc, name)?)?;
+    }
+    Ok(Names::new(names)?)
+}
+
+/// The registers that have these names.
+fn registers_of(names: &Names) -> anyhow::Result<Registers> {
+    match (names.number("lock"), names.number("counter")) {
+        (Some(lock), Some(counter)) => Ok(Registers { lock, counter }),
+        _ => Err(anyhow!("no such register")),
+    }
 }
 
 /// Starts a thread for each pass.
@@ -47,11 +72,12 @@ fn start_all<R: Threads + Wait + Copy + Send + Sync + 'static>(
     rt: R,
     threads: &mut Vec<JoinHandle<Added>>,
     passes: Vec<Pass<Linear, NoGate>>,
+    shared: Registers,
 ) -> anyhow::Result<()> {
     for mut pass in passes {
         threads.reserve(1)?;
         threads.push_reserved(thread::spawn(&rt, move || {
-            let added = add(&rt, &mut pass);
+            let added = add(&rt, &mut pass, shared);
             (pass, added)
         })?);
     }
@@ -63,6 +89,7 @@ fn total<R: Threads + Wait>(
     rt: &R,
     passes: &mut Vec<Pass<Linear, NoGate>>,
     threads: Vec<JoinHandle<Added>>,
+    counter: u16,
 ) -> anyhow::Result<u64> {
     let mut ended = Ok(());
     for thread in threads {
@@ -74,7 +101,7 @@ fn total<R: Threads + Wait>(
     let Some(pass) = passes.last_mut() else {
         return Err(anyhow!("no passes"));
     };
-    Ok(pass.read(rt, COUNTER)?)
+    Ok(pass.read(rt, counter)?)
 }
 
 /// Prints whether the points of the run are a linearization.
@@ -88,11 +115,14 @@ fn print_verdict(rt: &impl Print, alloc: Global, world: &World<Linear>) -> anyho
 fn main(rt: HostRuntime) -> anyhow::Result<()> {
     let alloc = rt.alloc();
     let road = Arc::new(alloc, Rough::new(SeedWords::new(11), 10, 10))?;
-    let (running, passes) = start::<Linear, _, _, _>(rt, alloc, Shape::new(4, 2)?, NoGate, road)?;
+    let names = named(alloc)?;
+    let shape = shape_for(4, &names)?;
+    let shared = registers_of(&names)?;
+    let (running, passes) = start::<Linear, _, _, _>(rt, alloc, shape, NoGate, road)?;
     let mut threads = Vec::new(alloc);
     let mut passes_back = Vec::new(alloc);
-    let started = start_all(rt, &mut threads, passes);
-    let total = total(&rt, &mut passes_back, threads);
+    let started = start_all(rt, &mut threads, passes, shared);
+    let total = total(&rt, &mut passes_back, threads, shared.counter);
     let closed = running.close(&rt, alloc, passes_back)?;
     started?;
     println!(rt; "total: {}", total?)?;

@@ -27,12 +27,25 @@ const EVENTS: [Event; 4] = [
     },
 ];
 
-/// Has the world make the events, and gives the place of the last reply.
+/// How many casts process 0 has delivered behind each event: both by the last one.
+const DELIVERED: [u64; 4] = [0, 0, 0, 2];
+
+fn has_delivered(world: &World<Mixed>, count: u64) -> bool {
+    match world.process(0) {
+        Some(process) => process.delivered_count() == count,
+        None => false,
+    }
+}
+
+/// Has the world make the events, and gives the place of the last reply, where each delivers as many casts as it should.
 fn last_place(world: &mut World<Mixed>) -> Result<Option<u64>, WorldFault> {
     let mut place = None;
-    for event in &EVENTS {
+    for (event, count) in EVENTS.iter().zip(DELIVERED.iter()) {
         if let Some(reply) = world.step_reply(event)? {
             place = Some(reply.place);
+        }
+        if !has_delivered(world, *count) {
+            return Ok(None);
         }
     }
     Ok(place)

@@ -1,5 +1,6 @@
 //! What a world tells, as a text.
 use reg_base::{Answer, Op, OpId};
+use reg_frames::{Body, Frame};
 use reg_front::{FrontEnd, Linear};
 use reg_history::{Entry, Point};
 use reg_text::OpLine;
@@ -140,14 +141,49 @@ fn push_copies<F: FrontEnd>(text: &mut String, world: &World<F>) -> Result<(), A
     Ok(())
 }
 
-/// All that a world tells, but for its wires and its points.
+fn push_frame(text: &mut String, frame: &Frame) -> Result<(), AllocError> {
+    match *frame {
+        Frame::Numbered { number, body } => match body {
+            Body::Cast { time, op } => write!(text, " cast {number} at {time} {},", op_line(op)),
+            Body::Ack { time } => write!(text, " ack {number} at {time},"),
+        },
+        Frame::Got { count } => write!(text, " got {count},"),
+    }
+}
+
+/// The frames put from one process to another, where there are any.
+fn push_wire(text: &mut String, from: u8, to: u8, frames: &[Frame]) -> Result<(), AllocError> {
+    if frames.is_empty() {
+        return Ok(());
+    }
+    write!(text, "wire {from} {to}:")?;
+    for frame in frames {
+        push_frame(text, frame)?;
+    }
+    text.push_str("\n")
+}
+
+fn push_wires<F: FrontEnd>(text: &mut String, world: &World<F>) -> Result<(), AllocError> {
+    let processes = world.shape().processes() as u8;
+    for from in 0..processes {
+        for to in 0..processes {
+            if let Some(frames) = world.wire(from, to) {
+                push_wire(text, from, to, frames)?;
+            }
+        }
+    }
+    Ok(())
+}
+
+/// All that a world tells, but for its points.
 pub(crate) fn push_told<F: FrontEnd>(
     text: &mut String,
     world: &World<F>,
 ) -> Result<(), AllocError> {
     push_kept(text, world)?;
     push_order(text, world)?;
-    push_copies(text, world)
+    push_copies(text, world)?;
+    push_wires(text, world)
 }
 
 /// Whether the world tells its history with these as its serial order.

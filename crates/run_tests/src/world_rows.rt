@@ -80,6 +80,8 @@ reads:
 order: p0 #0,
 p0 clock 3, pending 1, free, x 5
 p1 clock 2, pending 1, free, x 5
+wire 0 1: cast 0 at 1 write x 5, got 1,
+wire 1 0: got 1, ack 0 at 2,
 points: p0 #0 at 1,
 ",
     ),
@@ -99,6 +101,8 @@ reads:
 order: p0 #0,
 p0 clock 3, pending 0, free, x 5
 p1 clock 2, pending 0, free, x 5
+wire 0 1: cast 0 at 1 write x 5, got 1,
+wire 1 0: got 1, ack 0 at 2,
 points: p0 #0 at 1,
 ",
     ),
@@ -112,6 +116,8 @@ reads:
 order: p0 #0,
 p0 clock 1, pending 0, busy, x 0
 p1 clock 2, pending 1, free, x 5
+wire 0 1: cast 0 at 1 write x 5,
+wire 1 0: got 1, ack 0 at 2,
 points: p0 #0 at 1,
 ",
     ),
@@ -131,6 +137,8 @@ reads:
 order: p0 #0, p1 #0,
 p0 clock 2, pending 2, free, x 2
 p1 clock 3, pending 2, free, x 2
+wire 0 1: cast 0 at 1 write x 1, got 1, ack 1 at 2,
+wire 1 0: cast 0 at 1 write x 2, got 1, ack 1 at 2, got 2,
 points: p0 #0 at 2, p1 #0 at 3,
 ",
     ),
@@ -149,6 +157,8 @@ reads:
 order: p0 #0,
 p0 clock 3, pending 1, free, x 5
 p1 clock 2, pending 1, free, x 5
+wire 0 1: cast 0 at 1 write x 5, got 1,
+wire 1 0: got 1, ack 0 at 2, got 1,
 points: p0 #0 at 1,
 ",
     ),
@@ -168,6 +178,8 @@ reads:
 order: p0 #0, p1 #0,
 p0 clock 2, pending 2, free, x 2
 p1 clock 2, pending 2, busy, x 1
+wire 0 1: cast 0 at 1 write x 1, got 0, got 1, ack 1 at 2,
+wire 1 0: cast 0 at 1 write x 2, got 1, ack 1 at 2,
 points: p0 #0 at 2, p1 #0 at 4,
 ",
     ),
@@ -181,6 +193,8 @@ reads:
 order: p0 #0,
 p0 clock 3, pending 1, free, x 5
 p1 clock 2, pending 1, free, x 5
+wire 0 1: cast 0 at 1 write x 5, cast 0 at 1 write x 5, got 1,
+wire 1 0: got 1, ack 0 at 2,
 points: p0 #0 at 2,
 ",
     ),
@@ -204,6 +218,12 @@ order: p0 #0, p1 #0,
 p0 clock 3, pending 4, free, x 2
 p1 clock 5, pending 4, free, x 2
 p2 clock 2, pending 2, free, x 0
+wire 0 1: cast 0 at 1 write x 1, got 1, ack 1 at 2,
+wire 0 2: cast 0 at 1 write x 1, ack 1 at 2, got 1,
+wire 1 0: cast 0 at 1 write x 2, got 1, ack 1 at 4, got 2,
+wire 1 2: cast 0 at 1 write x 2, got 1, ack 1 at 4,
+wire 2 0: got 1, ack 0 at 2,
+wire 2 1: ack 0 at 2,
 points: p0 #0 at 4, p1 #0 at 6,
 ",
     ),
@@ -220,6 +240,8 @@ reads: p1 #0 place 1,
 order: p0 #0, p1 #0,
 p0 clock 1, pending 1, busy, x 0
 p1 clock 2, pending 1, free, x 5
+wire 0 1: cast 0 at 1 swap x 5,
+wire 1 0: got 1, ack 0 at 2,
 ",
     ),
     // A local read may answer an older value.
@@ -240,6 +262,12 @@ order: p1 #0, p0 #0,
 p0 clock 4, pending 2, free, x 5
 p1 clock 2, pending 2, free, x 0
 p2 clock 2, pending 2, free, x 0
+wire 0 1: cast 0 at 1 write x 5, got 1,
+wire 0 2: cast 0 at 1 write x 5, got 1,
+wire 1 0: got 1, ack 0 at 2,
+wire 1 2: ack 0 at 2,
+wire 2 0: got 1, ack 0 at 2,
+wire 2 1: ack 0 at 2,
 ",
     ),
 ];
@@ -260,6 +288,8 @@ reads:
 order: p0 #0, p0 #1,
 p0 clock 3, pending 2, free, x 6
 p1 clock 2, pending 1, free, x 5
+wire 0 1: cast 0 at 1 write x 5, cast 1 at 2 swap x 6, got 1,
+wire 1 0: got 1, ack 0 at 2,
 ",
     ),
     // A local read waits for own writes.
@@ -277,6 +307,8 @@ reads: p0 #1 place 1,
 order: p0 #0, p0 #1,
 p0 clock 3, pending 1, free, x 5
 p1 clock 2, pending 1, free, x 5
+wire 0 1: cast 0 at 1 write x 5, got 1,
+wire 1 0: got 1, ack 0 at 2,
 ",
     ),
     // A finished write that nobody delivered stands last.
@@ -289,6 +321,7 @@ reads:
 order: p0 #0,
 p0 clock 1, pending 1, free, x 0
 p1 clock 0, pending 0, free, x 0
+wire 0 1: cast 0 at 1 write x 5,
 ",
     ),
     // A waiting read answers before a later cast.
@@ -306,6 +339,8 @@ reads: p0 #1 place 1,
 order: p0 #0, p0 #1, p1 #0,
 p0 clock 2, pending 2, free, x 2
 p1 clock 1, pending 1, free, x 0
+wire 0 1: cast 0 at 1 write x 1, got 1, ack 1 at 2,
+wire 1 0: cast 0 at 1 write x 2,
 ",
     ),
 ];
