@@ -1,10 +1,10 @@
 -- What a fair play keeps, and what it has come to where it rests.
-use Rattle.std.proofs.Common.{◌≡◌, ℕ, zero, suc, ◌+◌, ◌<◌, ◌≤◌, ◌≢◌, Bool, true, false, not, List, [], ◌∷◌, ◌++◌, length, drop, Option, Some, None, refl, sym, ap, ◌∙◌, subst, inl, inr, arith, length-append}
+use Rattle.std.proofs.Common.{◌≡◌, ℕ, zero, suc, ◌+◌, ◌-◌, ◌*◌, ◌<◌, ◌≤◌, ◌≢◌, Bool, true, false, not, List, [], ◌∷◌, ◌++◌, length, drop, Option, Some, None, refl, sym, ap, ◌∙◌, subst, inl, inr, arith, length-append}
 use Rattle.std.specs.Prelude.{cond, ◌==◌, ◌&&◌, nat_lt, slice_get, slice_index_or, replicate}
 use Rattle.std.specs.Option.{is_some}
 use Rattle.std.specs.List.{range_with_len}
 use Rattle.std.proofs.lemmas.List.{append-nil}
-use Rattle.std.proofs.lemmas.Bool.{cond-true, cond-false, eq-eqb, ne_eqb, cases_eq, eqb-false, ltb-true, and_parts, not-true, false≢true}
+use Rattle.std.proofs.lemmas.Bool.{cond-true, cond-false, cond_both, eq-eqb, ne_eqb, cases_eq, eqb-false, ltb-true, and_parts, not-true, false≢true}
 use Rattle.std.proofs.lemmas.Option.{slice_get_within}
 use Rattle.reg_base.specs.declared.limits.TheConstants.{MOST_EVENTS, MOST_OPERATIONS}
 use Rattle.reg_base.specs.declared.memory.Op.{Op}
@@ -21,16 +21,18 @@ use Rattle.reg_world.specs.NodeParts.{NothingPending}
 use Rattle.reg_world.specs.Nodes.{put, after_step, take_step}
 use Rattle.reg_world.specs.World.{World, move_of, moved, world_fault}
 use Rattle.reg_world.specs.Worlds.{Made, Accepts, run_in, with_event, new_world}
-use Rattle.reg_process.specs.Process.{Peer, no_peer}
+use Rattle.reg_process.specs.Process.{Peer, no_peer, unsettled, called, taken}
 use Rattle.reg_process.proofs.Again.{replicate_at}
 use Rattle.reg_world.proofs.one_order.NodeLaws.{inv_of}
 use Rattle.reg_world.proofs.one_memory.Refusals.{refused_by_fault}
 use Rattle.reg_workload.specs.Plays.{Playing, cursor_at}
-use Rattle.reg_workload.specs.Fair.{takes_of}
-use Rattle.reg_workload.specs.FairParts.{expected_after, counted_after, InStep, IsFair, IsBehind, Leaves}
+use Rattle.reg_workload.specs.Fair.{takes_of, most_for_call}
+use Rattle.reg_workload.specs.FairParts.{expected_after, counted_after, takes_for_all, left_on, left_in, total, InStep, IsFair, IsBehind, Leaves}
 use Rattle.reg_workload.proofs.InOrder.{takes_more, ticks_same, taken_here, taken_other, range_more}
 use Rattle.reg_workload.proofs.Wires.{Takes, moves_on, all_behind, first_left}
 use Rattle.reg_workload.proofs.Moving.{none_got, one_got, called_moves, taken_moves}
+use Rattle.reg_workload.proofs.Sums.{total_same, total_none}
+use Rattle.reg_workload.proofs.Load.{calls_in, left_after, for_none, for_one, called_left, taken_left, calls_of_call, calls_of_take, more_calls}
 use Rattle.reg_world.proofs.run.Along.{one_more}
 
 -- an event that was accepted made a step
@@ -101,6 +103,16 @@ after_step_fair start m m1 e s behind now is S few =
     (subst (λ (v : World). InStep m.processes v.nodes behind × ((p q : ℕ) → behind p q ≤ length v.accepted)) (sym (one_more start m.processes m.registers m.accepted e ∙ ap (moved start w e) is))
     (S, λ p q. let l = few p q in let a = length-append w.accepted (e ∷ []) in omega (arith, l, a)))
 
+-- what was spent and is left after the step
+spent_after : (start : Op → ℕ → Start) (m m1 : Made) (e : Event) (s : ℕ × Step) (behind : ℕ → ℕ → ℕ) → m1 ≡ with_event start m e → move_of m.processes m.registers (run_in start m) e ≡ Some s
+    → length m.accepted + 1 + left_in m.processes (put (run_in start m).nodes s.0 (after_step start ((run_in start m).nodes s.0) s.1)) behind ≤ calls_in m.processes (m.accepted ++ e ∷ []) * most_for_call m.processes
+    → length m1.accepted + left_in m1.processes (run_in start m1).nodes behind ≤ calls_in m1.processes m1.accepted * most_for_call m1.processes
+spent_after start m m1 e s behind now is spent =
+    let w = run_in start m in
+    subst (λ (z : Made). length z.accepted + left_in z.processes (run_in start z).nodes behind ≤ calls_in z.processes z.accepted * most_for_call z.processes) (sym now)
+    (subst (λ (v : World). length (m.accepted ++ e ∷ []) + left_in m.processes v.nodes behind ≤ calls_in m.processes (m.accepted ++ e ∷ []) * most_for_call m.processes) (sym (one_more start m.processes m.registers m.accepted e ∙ ap (moved start w e) is))
+    (let a = length-append m.accepted (e ∷ []) in omega (arith, spent, a)))
+
 cursors_of : List (List ℕ) → ℕ → ℕ → ℕ
 cursors_of cursors a b = slice_index_or (slice_index_or cursors a []) b 0
 
@@ -111,12 +123,22 @@ call_fair start laws s s1 p op F A c =
     let w = run_in start m in
     let M = call_made m.processes m.registers w p op (accepted_moves start m s1.made (Call p op) A) in
     let I = inv_of start m.processes m.registers m.accepted in
-    let S = moves_on m.processes p w.nodes (after_step start (w.nodes p) (CallStep op)) _ none_got (cursor_at s) (cursor_at s) M.process F.in_step
-    (called_moves m.processes m.registers (length w.accepted) w.nodes I p M.process op _)
-    (record { within = λ b lb ne. F.in_step.within b p lb M.process (λ q. ne (sym q)); taken = λ b _ _. refl; same = λ a b _. refl }) in
+    let n = m.processes in
+    let T : Takes n p w.nodes none_got (cursor_at s) (cursor_at s) = record { within = λ b lb ne. F.in_step.within b p lb M.process (λ q. ne (sym q)); taken = λ b _ _. refl; same = λ a b _. refl } in
+    let S = moves_on n p w.nodes (after_step start (w.nodes p) (CallStep op)) _ none_got (cursor_at s) (cursor_at s) M.process F.in_step
+    (called_moves n m.registers (length w.accepted) w.nodes I p M.process op _) T in
+    let st = start op (unsettled (w.nodes p).state) in
+    let went = left_after n p w.nodes (after_step start (w.nodes p) (CallStep op)) (called (w.nodes p).state op st).1.frames none_got (cursor_at s) (cursor_at s) M.process F.in_step (λ b _ _. refl) T in
+    let none = for_none n p in
+    let brought = called_left n m.registers (length w.accepted) w.nodes I p M.process op st in
+    let calls = ap (λ c. c * most_for_call n) (calls_of_call n p op m.accepted M.process) ∙ more_calls n (calls_in n m.accepted) in
+    let each : most_for_call n ≡ 1 + 2 * n * (n - 1) = refl in
+    let before : length m.accepted + left_in n w.nodes (cursor_at s) ≤ calls_in n m.accepted * most_for_call n = F.spent in
+    let spent = spent_after start m s1.made (Call p op) (p, CallStep op) (cursor_at s) A.after M.step (omega (arith, went, none, brought, calls, each, before)) in
     let r = after_step_fair start m s1.made (Call p op) (p, CallStep op) (cursor_at s) A.after M.step S (λ a b. let l = F.few a b in omega (arith, l)) in
     let same : cursor_at s1 ≡ cursor_at s = ap cursors_of c in
     record {
+      spent = subst (λ (f : ℕ → ℕ → ℕ). length s1.made.accepted + left_in s1.made.processes (run_in start s1.made).nodes f ≤ calls_in s1.made.processes s1.made.accepted * most_for_call s1.made.processes) (sym same) spent;
       in_step = subst (InStep s1.made.processes (run_in start s1.made).nodes) (sym same) r.0;
       few = λ a b. let l = r.1 a b in let e = ap (λ (f : ℕ → ℕ → ℕ). f a b) same in omega (arith, l, e);
       takes = λ a b.
@@ -155,6 +177,12 @@ take_fair start laws s s1 s2 a p number F at A c L =
     } in
     let S = moves_on n p w.nodes (after_step start (w.nodes p) (TakeStep a f)) _ (one_got a f) (cursor_at s) (cursor_at s2) M.to F.in_step
     (taken_moves n m.registers (length w.accepted) w.nodes I p M.to a M.from _ f) T in
+    let went = left_after n p w.nodes (after_step start (w.nodes p) (TakeStep a f)) (taken (w.nodes p).state a f).1.frames (one_got a f) (cursor_at s) (cursor_at s2) M.to F.in_step (λ b _ _. refl) T in
+    let took = for_one n p a f M.from M.apart in
+    let brought = taken_left n m.registers (length w.accepted) w.nodes I p M.to a M.from M.apart f in
+    let calls = ap (λ c. c * most_for_call n) (calls_of_take n a p number m.accepted) in
+    let before : length m.accepted + left_in n w.nodes (cursor_at s) ≤ calls_in n m.accepted * most_for_call n = F.spent in
+    let spent = spent_after start m s1.made (Take a p number) (p, TakeStep a f) (cursor_at s2) A.after M.step (omega (arith, went, took, brought, calls, before)) in
     let few : (x y : ℕ) → cursor_at s2 x y ≤ length w.accepted + 1 = λ x y. elim (cases_eq x a) [
       | inl e ↦ elim (cases_eq y p) [
         | inl g ↦ (let l = F.few a p in let u = ap (cursor_at s2 x) g in let v = ap (λ z. cursor_at s2 z p) e in omega (arith, l, u, v, one, at))
@@ -178,7 +206,7 @@ take_fair start laws s s1 s2 a p number F at A c L =
       | inr away ↦ passed_by x y (λ q _. away q)
     ] in
     let r = after_step_fair start m s1.made (Take a p number) (p, TakeStep a f) (cursor_at s2) A.after M.step S few in
-    subst (λ (z : Made). IsFair start (record s2 { made = z })) (sym L.made) (record { in_step = r.0; few = r.1; takes = takes; ticks = ticks_same m.accepted s1.made.accepted (Take a p number) now refl ∙ F.ticks })
+    subst (λ (z : Made). IsFair start (record s2 { made = z })) (sym L.made) (record { spent = spent; in_step = r.0; few = r.1; takes = takes; ticks = ticks_same m.accepted s1.made.accepted (Take a p number) now refl ∙ F.ticks })
 
 -- where each frame is behind, nothing is pending
 pub rests : (start : Op → ℕ → Start) → KeepsLaws start → (s : Playing) → IsFair start s → ((p q : ℕ) → p < s.made.processes → q < s.made.processes → IsBehind start s p q) → NothingPending s.made.processes (run_in start s.made).nodes
@@ -190,6 +218,7 @@ rests start laws s F all =
 -- nothing happened yet
 pub begins_fair : (start : Op → ℕ → Start) (shape : Extent) (s : Playing) → s.made ≡ new_world shape → ((a b : ℕ) → cursor_at s a b ≡ 0) → IsFair start s
 begins_fair start shape s new none = subst (λ (m : Made). IsFair start (record s { made = m })) (sym new) (record {
+  spent = let z = nothing_left in omega (arith, z);
   in_step = record {
     within = λ p q _ _ _. let z = none p q in omega (arith, z);
     bodies = λ p q _ _ _. ap (λ k. expected_after (slice_index_or (replicate shape.processes no_peer) p no_peer).expected (drop k [])) (none p q) ∙ ap (λ (z : Peer). z.expected) (replicate_at shape.processes p no_peer);
@@ -199,6 +228,12 @@ begins_fair start shape s new none = subst (λ (m : Made). IsFair start (record 
   takes = λ p q. ap (range_with_len 0) (sym (none p q));
   ticks = refl;
 })
+  where
+    nothing_left : left_in shape.processes (run_in start (new_world shape)).nodes (cursor_at s) ≡ 0
+    nothing_left = total_same shape.processes (λ a. total shape.processes (left_on shape.processes (run_in start (new_world shape)).nodes (cursor_at s) a)) (λ _. 0) (λ a _.
+        total_same shape.processes (left_on shape.processes (run_in start (new_world shape)).nodes (cursor_at s) a) (λ _. 0) (λ b _.
+        cond_both (a == b) 0 (takes_for_all shape.processes (drop (cursor_at s a b) [])) (λ z. z ≡ 0) (λ _. refl) (λ _. ap (λ k. takes_for_all shape.processes (drop k [])) (none a b)))
+        ∙ total_none shape.processes) ∙ total_none shape.processes
 
 pub none_behind : (n m a b : ℕ) → let z : ℕ = 0 in slice_index_or (slice_index_or (replicate n (replicate m z)) a []) b z ≡ z
 none_behind zero m a b = refl

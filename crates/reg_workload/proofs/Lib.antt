@@ -6,6 +6,8 @@ pub mod Listing
 pub mod Turning
 pub mod Wires
 pub mod Moving
+pub mod Sums
+pub mod Load
 pub mod Fairness
 pub mod Rounding
 pub mod Rounds

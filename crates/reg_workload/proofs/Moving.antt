@@ -51,7 +51,7 @@ module _ (n registers k : ℕ) (w : Nodes) (I : Inv n registers k w) (p : ℕ) (
   not_me : (b : ℕ) → p ≢ b → b ≡ s.me → ⊥
   not_me b ne e = ne (sym (e ∙ (I.local p l).me))
 
-  data_is : (body : Body) (b : ℕ) → b < n → p ≢ b → data_frames s (Some body) b ≡ Numbered (length queued) body ∷ []
+  pub data_is : (body : Body) (b : ℕ) → b < n → p ≢ b → data_frames s (Some body) b ≡ Numbered (length queued) body ∷ []
   data_is body b lb ne =
       cond-false (b == s.me) [] (Numbered (next_of (peer_at s b)) body ∷ []) (ne_eqb b s.me (not_me b ne)) ∙ ap (λ m. Numbered m body ∷ []) (next_here b lb ne)
 

@@ -1,5 +1,6 @@
 -- Conditions of a fair play under way, and the parts of its rounds. They carry a proof: no promise speaks of them.
-use Rattle.std.specs.Prelude.{ℕ, ◌≡◌, ◌≢◌, ◌+◌, ◌<◌, ◌≤◌, max, ◌==◌, cond, Bool, true, false, List, [], ◌∷◌, length, drop}
+use Rattle.std.specs.Prelude.{ℕ, ◌≡◌, ◌≢◌, ◌+◌, ◌*◌, ◌<◌, ◌≤◌, max, ◌==◌, cond, Bool, true, false, List, [], ◌∷◌, length, drop}
+use Rattle.reg_frames.specs.declared.bodies.Body.TheVariants.{Cast, Ack}
 use Rattle.reg_frames.specs.declared.bodies.Frame.{Frame}
 use Rattle.reg_frames.specs.declared.bodies.Frame.TheVariants.{Numbered, Got}
 use Rattle.reg_front.specs.declared.starts.Start.{Start}
@@ -7,12 +8,12 @@ use Rattle.reg_base.specs.declared.memory.Op.{Op}
 use Rattle.reg_process.specs.Process.{peer_at}
 use Rattle.reg_world.specs.Nodes.{Nodes}
 use Rattle.reg_world.specs.NodeParts.{NothingPending}
-use Rattle.std.specs.List.{range_with_len}
+use Rattle.std.specs.List.{range_with_len, sum_by}
 use Rattle.reg_base.specs.declared.limits.TheConstants.{MOST_EVENTS}
 use Rattle.reg_world.specs.Worlds.{run_in}
-use Rattle.reg_workload.specs.Plays.{Playing, cursor_at}
+use Rattle.reg_workload.specs.Plays.{Playing, cursor_at, calls_of}
 use Rattle.reg_workload.specs.PlayParts.{MayCall, GoesOn}
-use Rattle.reg_workload.specs.Fair.{takes_of, ticks_of}
+use Rattle.reg_workload.specs.Fair.{takes_of, ticks_of, most_for_call}
 
 -- the number that a receiver expects after these frames, in order
 abbrev pub expected_after : ℕ → List Frame → ℕ
@@ -33,8 +34,32 @@ pub record InStep (n : ℕ) (w : Nodes) (behind : ℕ → ℕ → ℕ) : Type 0 
   pub bodies : (p q : ℕ) → p < n → q < n → p ≢ q → expected_after (peer_at (w q).state p).expected (drop (behind p q) ((w p).wire q)) ≡ length (w p).queued
   pub counts : (p q : ℕ) → p < n → q < n → p ≢ q → counted_after (peer_at (w p).state q).first (drop (behind q p) ((w q).wire p)) ≡ (peer_at (w q).state p).expected
 
+-- How many takes a frame asks for, its own among them, if from now on each frame is taken once: a cast is answered by a count, and by an
+-- acknowledgement for each other process, and that by a count.
+abbrev pub takes_for : ℕ → Frame → ℕ
+takes_for n (Numbered i (Cast t op)) = 2 * n
+takes_for n (Numbered i (Ack t)) = 2
+takes_for n (Got count) = 1
+
+-- the same of these frames
+abbrev pub takes_for_all : ℕ → List Frame → ℕ
+takes_for_all n frames = sum_by (takes_for n) frames
+
+-- the same of the frames of a wire that are not behind, where there is such a wire
+abbrev pub left_on : ℕ → Nodes → (ℕ → ℕ → ℕ) → ℕ → ℕ → ℕ
+left_on n w behind a b = cond (a == b) 0 (takes_for_all n (drop (behind a b) ((w a).wire b)))
+
+-- the sum of the values at the numbers below n
+abbrev pub total : ℕ → (ℕ → ℕ) → ℕ
+total n value = sum_by value (range_with_len 0 n)
+
+-- the same of all wires
+abbrev pub left_in : ℕ → Nodes → (ℕ → ℕ → ℕ) → ℕ
+left_in n w behind = total n (λ a. total n (left_on n w behind a))
+
 -- the frames behind are those taken, in order, and there are no more of them than events
 pub record IsFair (start : Op → ℕ → Start) (s : Playing) : Type 0 where
+  pub spent : length s.made.accepted + left_in s.made.processes (run_in start s.made).nodes (cursor_at s) ≤ total s.made.processes (λ p. length (calls_of p s.made.accepted)) * most_for_call s.made.processes
   pub in_step : InStep s.made.processes (run_in start s.made).nodes (cursor_at s)
   pub few : (p q : ℕ) → cursor_at s p q ≤ length (run_in start s.made).accepted
   pub takes : (p q : ℕ) → takes_of p q s.made.accepted ≡ range_with_len 0 (cursor_at s p q)

@@ -4,7 +4,7 @@ ghost use Rattle.reg_base.specs.declared.limits.TheConstants.{MOST_EVENTS};
 ghost use Rattle.reg_workload.specs.Plays.{IsPlay};
 ghost use Rattle.reg_workload.specs.PlayParts.{GoesOn, MayCall, ArePlayable};
 ghost use Rattle.reg_workload.specs.Rounds.{call_in_round, take_in_round, calls_in_round, takes_from_in_round, takes_in_round, round, rounds, fair_play};
-ghost use Rattle.reg_workload.specs.Fair.{TakesInOrder};
+ghost use Rattle.reg_workload.specs.Fair.{TakesInOrder, most_fair_events};
 ghost use Rattle.reg_workload.specs.FairParts.{IsFair, IsBehind, RoundPart, NoneMayCall, AllBehindFrom, AllBehind, AtRest};
 
 use crate::playing::{Play, Player};
@@ -170,7 +170,8 @@ fn play_rounds<F: FrontEnd, A: Allocator + Copy, W: WireStore<A>>(
 /// Plays scripts, one for each process of the shape, in rounds: each process that is free calls its next operation, by
 /// rising number, and then the next frame of each wire is taken, by sender and then by receiver. It ends with a round that
 /// makes no event, or once there are so many events as the budget says. So the frames of each wire are taken in order, each
-/// once, and none is put again. A play of fewer events than the budget is finished.
+/// once, and none is put again. A play of fewer events than the budget is finished. Each operation brings about one call and at
+/// most `2 * n * (n - 1)` takes among n processes, so a budget above that many events for all of them is enough.
 ///
 /// # Errors
 ///
@@ -188,6 +189,8 @@ pub(crate) fn play_fair<F: FrontEnd, A: Allocator + Copy, W: WireStore<A>>(
     ensures play { IfOk result (λ p. IsPlay F.start shape (map (λ v. v.items) scripts.now) budget p.world p.finished) }
     ensures in_order { IfOk result (λ p. TakesInOrder p.world.accepted) }
     ensures finished { IfOk result (λ p. length p.world.accepted < budget → p.finished ≡ true) }
+    ensures few { IfOk result (λ p. length p.world.accepted ≤ most_fair_events shape.processes (map (λ v. v.items) scripts.now)) }
+    ensures enough { IfOk result (λ p. most_fair_events shape.processes (map (λ v. v.items) scripts.now) < budget → p.finished ≡ true) }
 {
     let mut player = Player::new(alloc, shape, scripts)?;
     play_rounds(&mut player, budget)?;

@@ -1,6 +1,6 @@
 //! Plays of workloads.
-ghost use Rattle.std.specs.Prelude.{◌≡◌, ◌<◌, length, true, IfOk};
-ghost use Rattle.reg_workload.specs.Fair.{TakesInOrder};
+ghost use Rattle.std.specs.Prelude.{◌≡◌, ◌<◌, ◌≤◌, length, true, IfOk};
+ghost use Rattle.reg_workload.specs.Fair.{TakesInOrder, most_fair_events};
 ghost use Rattle.reg_workload.specs.Plays.{IsPlay};
 ghost use Rattle.reg_workload.specs.Rounds.{fair_play};
 ghost use Rattle.reg_workload.specs.Seeded.{seeded_play};
@@ -17,7 +17,8 @@ use std::alloc::{AllocError, Allocator};
 /// Plays a workload in rounds: each process that is free calls its next operation, by rising number, and then the next
 /// frame of each wire is taken, by sender and then by receiver. It ends with a round that makes no event, or once there are
 /// so many events as the budget says. So the frames of each wire are taken in order, each once, and none is put again. A
-/// play of fewer events than the budget is finished.
+/// play of fewer events than the budget is finished. Each operation brings about its call and at most `2 * n * (n - 1)` takes
+/// among n processes, so every budget above that many events for all operations is enough.
 ///
 /// # Errors
 ///
@@ -30,6 +31,8 @@ pub fn play_fair<F: FrontEnd, A: Allocator + Copy>(
     ensures play { IfOk result (λ p. IsPlay F.start work.now.shape work.now.scripts work.now.budget p.world p.finished) }
     ensures in_order { IfOk result (λ p. TakesInOrder p.world.accepted) }
     ensures finished { IfOk result (λ p. length p.world.accepted < work.now.budget → p.finished ≡ true) }
+    ensures few { IfOk result (λ p. length p.world.accepted ≤ most_fair_events work.now.shape.processes work.now.scripts) }
+    ensures enough { IfOk result (λ p. most_fair_events work.now.shape.processes work.now.scripts < work.now.budget → p.finished ≡ true) }
 {
     play_fair_in(alloc, work)
 }
@@ -47,6 +50,8 @@ pub fn play_fair_in<F: FrontEnd, A: Allocator + Copy, W: WireStore<A>>(
     ensures play { IfOk result (λ p. IsPlay F.start work.now.shape work.now.scripts work.now.budget p.world p.finished) }
     ensures in_order { IfOk result (λ p. TakesInOrder p.world.accepted) }
     ensures finished { IfOk result (λ p. length p.world.accepted < work.now.budget → p.finished ≡ true) }
+    ensures few { IfOk result (λ p. length p.world.accepted ≤ most_fair_events work.now.shape.processes work.now.scripts) }
+    ensures enough { IfOk result (λ p. most_fair_events work.now.shape.processes work.now.scripts < work.now.budget → p.finished ≡ true) }
 {
     fair::play_fair(alloc, work.shape, &work.scripts, work.budget)
 }

@@ -1,11 +1,15 @@
-use Rattle.std.proofs.Common.{ℕ, ◌≡◌, ◌∙◌, ap, sym, subst, map, List, length, arith}
+use Rattle.std.proofs.Common.{ℕ, ◌≡◌, ◌+◌, ◌*◌, ◌<◌, ◌≤◌, ◌∙◌, ap, sym, subst, map, Bool, List, length, arith}
+use Rattle.std.proofs.lemmas.List.{length-map}
 use Rattle.reg_base.specs.declared.memory.Op.{Op}
 use Rattle.reg_base.specs.Shape.{Extent}
 use Rattle.reg_front.specs.declared.starts.Start.{Start}
 use Rattle.reg_world.specs.Worlds.{Made}
-use Rattle.reg_workload.specs.Plays.{Playing, IsPlay, new_play}
+use Rattle.reg_workload.specs.Plays.{Playing, IsPlay, cursor_at, new_play}
 use Rattle.reg_workload.specs.Rounds.{rounds, fair_play}
-use Rattle.reg_workload.specs.Fair.{TakesInOrder}
+use Rattle.reg_world.specs.Worlds.{run_in}
+use Rattle.reg_workload.specs.Fair.{TakesInOrder, most_for_call, most_fair_events}
+use Rattle.reg_workload.specs.FairParts.{left_in, IsFair}
+use Rattle.reg_workload.proofs.Load.{calls_in, few_events}
 use Rattle.reg_workload.proofs.InOrder.{in_order}
 use Rattle.reg_workload.proofs.Fairness.{begins_fair}
 use Rattle.reg_workload.proofs.fair.play_fair.Goals as goal
@@ -42,3 +46,20 @@ play_rounds-requires-clause-few g c = let none = ap (λ (m : Made). length m.acc
 
 pub returns-clause-rounds : goal.returns-clause-rounds
 returns-clause-rounds g c = played g.F.FrontEnd.start c.args.shape (map (λ v. v.items) c.args.scripts.now) c.args.budget c.in_ok-player.player c.play_rounds.new.player c.end.result.world c.end.ensures.world c.in_ok-play_rounds.ensures.value c.in_ok-player.ensures.value
+
+-- no play has more events than its scripts can bring about
+bounded : (start : Op → ℕ → Start) (shape : Extent) (scripts : List (List Op)) (budget : ℕ) (last : Playing) (w : Made) (finished : Bool) → length scripts ≡ shape.processes → IsPlay start shape scripts budget w finished → w ≡ last.made → IsFair start last → length w.accepted ≤ most_fair_events shape.processes scripts
+bounded start shape scripts budget last w finished count P made F =
+    let spent = subst (λ (m : Made). length m.accepted + left_in m.processes (run_in start m).nodes (cursor_at last) ≤ calls_in m.processes m.accepted * most_for_call m.processes) (sym made) F.spent in
+    let here = subst (λ n. length w.accepted + left_in n (run_in start w).nodes (cursor_at last) ≤ calls_in n w.accepted * most_for_call n) P.processes spent in
+    few_events shape.processes scripts w.accepted (length w.accepted) (left_in shape.processes (run_in start w).nodes (cursor_at last)) count P.scripts here
+
+mapped : {X Y : Type 0} (f : X → Y) (xs : List X) (n : ℕ) → length xs ≡ n → length (map f xs) ≡ n
+mapped f xs n e = length-map xs f ∙ e
+
+pub returns-clause-few : goal.returns-clause-few
+returns-clause-few g c =
+    bounded g.F.FrontEnd.start c.args.shape (map (λ v. v.items) c.args.scripts.now) c.args.budget c.play_rounds.new.player c.end.result.world c.end.result.finished (mapped _ c.args.scripts.now _ c.requires.count) (returns-clause-play g c) c.end.ensures.world c.in_ok-play_rounds.ensures.fair
+
+pub returns-clause-enough : goal.returns-clause-enough
+returns-clause-enough g c = λ less. let few = returns-clause-few g c in returns-clause-finished g c (omega (arith, few, less))
