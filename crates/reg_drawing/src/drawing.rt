@@ -1,7 +1,7 @@
 //! A space-time diagram of a run, as SVG.
-use crate::layout::{BELOW, LEADING, Label, Layout, TOP};
-use crate::legend::{HEAD, show_lines, show_signs, show_tips};
-use crate::shapes::{Diamond, Span, Spot, Stub};
+use crate::layout::{BELOW, LEADING, Label, Layout, NUMBERS, TITLE, TOP};
+use crate::legend::{HEAD, Legend, ROW, show_tips};
+use crate::shapes::{Diamond, Node, Span, Spot, Stub, Way};
 use crate::words::{cast_text, frame_text};
 use reg_base::{Delivered, Names};
 use reg_frames::{Body, Frame};
@@ -22,6 +22,8 @@ pub struct Drawing<'a, A: Allocator + Copy> {
     pub(crate) labels: Vec<Label<A>, A>,
     pub(crate) arrows: Vec<Arrow, A>,
     pub(crate) layout: Layout<A>,
+    pub(crate) title: String<A>,
+    pub(crate) legend: Legend,
 }
 
 /// The class of a frame's lines.
@@ -51,6 +53,15 @@ impl<A: Allocator + Copy> Drawing<'_, A> {
             .unwrap_or(0)
     }
 
+    /// The height of the drawing, with its legend.
+    fn height(&self) -> u32 {
+        let rows = self.legend.rows(self.layout.width);
+        self.layout
+            .bottom
+            .saturating_add(24)
+            .saturating_add(rows.saturating_mul(ROW))
+    }
+
     /// Where an event stands on a process's line.
     fn spot(&self, event: usize, process: u8) -> Spot {
         Spot {
@@ -61,7 +72,7 @@ impl<A: Allocator + Copy> Drawing<'_, A> {
 
     /// Shows the page.
     fn show_page<W: fmt::Write>(&self, f: &mut fmt::Formatter<W>) -> fmt::Result {
-        let (width, height) = (self.layout.width, self.layout.height);
+        let (width, height) = (self.layout.width, self.height());
         writeln!(
             f,
             "<svg xmlns=\"http://www.w3.org/2000/svg\" class=\"awshow\" width=\"{width}\" height=\"{height}\" viewBox=\"0 0 {width} {height}\" role=\"img\">"
@@ -71,12 +82,17 @@ impl<A: Allocator + Copy> Drawing<'_, A> {
         writeln!(
             f,
             "</defs>\n<rect class=\"page\" width=\"{width}\" height=\"{height}\"/>"
+        )?;
+        let title = self.title.as_str();
+        writeln!(
+            f,
+            "<text class=\"name\" x=\"10\" y=\"{TITLE}\">{title}</text>"
         )
     }
 
     /// Shows the events' numbers, with a line each.
     fn show_events<W: fmt::Write>(&self, f: &mut fmt::Formatter<W>) -> fmt::Result {
-        let bottom = self.layout.height.saturating_sub(44);
+        let bottom = self.layout.bottom;
         for (number, x) in self.layout.events.iter().enumerate() {
             let span = Span {
                 from: Spot { x: *x, y: TOP },
@@ -84,7 +100,7 @@ impl<A: Allocator + Copy> Drawing<'_, A> {
             };
             writeln!(
                 f,
-                "<line class=\"event\" {span}/>\n<text class=\"soft\" x=\"{x}\" y=\"24\" text-anchor=\"middle\">{number}</text>"
+                "<line class=\"event\" {span}/>\n<text class=\"soft\" x=\"{x}\" y=\"{NUMBERS}\" text-anchor=\"middle\">{number}</text>"
             )?;
         }
         Ok(())
@@ -131,18 +147,42 @@ impl<A: Allocator + Copy> Drawing<'_, A> {
             from: self.spot(puts, from),
             to: self.spot(takes, to),
         };
+        let bent = self.seems_to_meet(span, arrow);
+        let way = Way { span, bent };
         let words = frame_text(self.names, from, frame);
         writeln!(
             f,
-            "<line class=\"{class}\" {span} marker-end=\"url(#{class})\"><title>take {from} {to} {place}: {words}</title></line>"
+            "<path class=\"{class}\" d=\"{way}\" marker-end=\"url(#{class})\"><title>take {from} {to} {place}: {words}</title></path>"
         )
+    }
+
+    /// Whether the straight line of an arrow seems to meet an event of a process between its ends.
+    fn seems_to_meet(&self, span: Span, arrow: &Arrow) -> bool {
+        let (above, below) = (arrow.from.min(arrow.to), arrow.from.max(arrow.to));
+        for (number, moment) in self.moments.iter().enumerate() {
+            let process = moment.process;
+            let is_between = above < process
+                && process < below
+                && arrow.puts < number
+                && number < arrow.takes;
+            if is_between && span.passes(self.spot(number, process)) {
+                return true;
+            }
+        }
+        false
+    }
+
+    /// Whether a frame is drawn: a count isn't where counts are left out.
+    fn is_drawn(&self, frame: Frame) -> bool {
+        !self.legend.counts_left_out || !matches!(frame, Frame::Got { .. })
     }
 
     /// Shows an arrow for each frame that is taken.
     fn show_arrows<W: fmt::Write>(&self, f: &mut fmt::Formatter<W>) -> fmt::Result {
         for arrow in &self.arrows {
-            if let Some(frame) = self.frame_taken(arrow.takes) {
-                self.show_arrow(f, arrow, frame)?;
+            match self.frame_taken(arrow.takes) {
+                Some(frame) if self.is_drawn(frame) => self.show_arrow(f, arrow, frame)?,
+                _ => {}
             }
         }
         Ok(())
@@ -175,7 +215,9 @@ impl<A: Allocator + Copy> Drawing<'_, A> {
             let from = self.spot(number, process);
             let mut shift = 12u32;
             for sent in &moment.sent {
-                if is_taken(self.moments, process, sent.to, sent.place) {
+                if !self.is_drawn(sent.frame)
+                    || is_taken(self.moments, process, sent.to, sent.place)
+                {
                     continue;
                 }
                 let to = from.beside(shift, sent.to > process);
@@ -256,39 +298,47 @@ impl<A: Allocator + Copy> Drawing<'_, A> {
         Ok(())
     }
 
-    /// Shows the events on their lines, and what they delivered.
+    /// Shows what the events delivered.
     fn show_deliveries<W: fmt::Write>(&self, f: &mut fmt::Formatter<W>) -> fmt::Result {
         for (number, moment) in self.moments.iter().enumerate() {
             let at = self.spot(number, moment.process);
-            let (x, y, clock) = (at.x, at.y, moment.clock);
-            writeln!(
-                f,
-                "<circle class=\"dot\" cx=\"{x}\" cy=\"{y}\" r=\"3.5\"><title>event {number}, clock {clock}</title></circle>"
-            )?;
             self.show_delivered(f, at, &moment.delivered)?;
         }
         Ok(())
     }
 
-    /// Shows what happened: frames, operations and deliveries.
+    /// Shows the events on their lines, each with the clock behind it in it.
+    fn show_dots<W: fmt::Write>(&self, f: &mut fmt::Formatter<W>) -> fmt::Result {
+        for (number, moment) in self.moments.iter().enumerate() {
+            let clock = moment.clock;
+            let node = Node {
+                middle: self.spot(number, moment.process),
+                clock,
+            };
+            writeln!(f, "{node}<title>event {number}, clock {clock}</title></g>")?;
+        }
+        Ok(())
+    }
+
+    /// Shows what happened: operations, deliveries and frames. Texts come first, so that the ground behind them cuts no arrow.
     fn show_run<W: fmt::Write>(&self, f: &mut fmt::Formatter<W>) -> fmt::Result {
+        self.show_bars(f)?;
+        self.show_deliveries(f)?;
         self.show_arrows(f)?;
         self.show_stubs(f)?;
-        self.show_bars(f)?;
         self.show_points(f)?;
-        self.show_deliveries(f)
+        self.show_dots(f)
     }
 }
 
 impl<A: Allocator + Copy> fmt::Display for Drawing<'_, A> {
     fn fmt<W: fmt::Write>(&self, f: &mut fmt::Formatter<W>) -> fmt::Result {
-        let legend = self.layout.height.saturating_sub(16);
+        let legend = self.layout.bottom.saturating_add(28);
         self.show_page(f)?;
         self.show_events(f)?;
         self.show_processes(f)?;
         self.show_run(f)?;
-        show_lines(f, legend)?;
-        show_signs(f, legend)?;
+        self.legend.show(f, legend, self.layout.width)?;
         f.write_str("</svg>\n")
     }
 }

@@ -9,18 +9,18 @@ use std::alloc::{AllocError, Allocator};
 const LEFT: u32 = 64;
 /// The least distance of two events.
 const STEP: u32 = 52;
-/// From the top to the first row, and below the last one.
-pub const TOP: u32 = 34;
+/// From the top to the title.
+pub const TITLE: u32 = 20;
+/// From the top to the events' numbers.
+pub const NUMBERS: u32 = 46;
+/// From the top to the first row.
+pub const TOP: u32 = 56;
 /// What stands above a process's line: its bars and their texts.
 const ABOVE: u32 = 58;
 /// What stands below it before its first delivery.
 pub const BELOW: u32 = 34;
 /// From one delivery of an event to the next.
 pub const LEADING: u32 = 15;
-/// The room of the legend.
-const LEGEND: u32 = 44;
-/// The least width, for the legend.
-const LEAST: u32 = 700;
 
 /// A text beside a bar.
 #[derive(Drop)]
@@ -58,11 +58,12 @@ pub struct Layout<A: Allocator + Copy> {
     pub events: Vec<u32, A>,
     pub rows: Vec<u32, A>,
     pub width: u32,
-    pub height: u32,
+    /// Where the last row ends, and the legend begins.
+    pub bottom: u32,
 }
 
 /// About how wide a text is.
-fn width_of(letters: usize) -> u32 {
+pub fn width_of(letters: usize) -> u32 {
     let letters = u32::try_from(letters).unwrap_or(u32::MAX);
     letters.saturating_mul(15) / 2
 }
@@ -106,16 +107,16 @@ fn rows_of<A: Allocator + Copy>(
     Ok((rows, y))
 }
 
-/// The layout of these moments and bars, with the text of each bar.
+/// The layout of these moments and bars, with the text of each bar, for so many processes and at least so wide.
 pub fn lay_out<A: Allocator + Copy>(
     alloc: A,
     names: &Names<A>,
-    processes: u32,
+    (processes, least): (u32, u32),
     moments: &[Moment<A>],
     bars: &[Bar],
     labels: &[Label<A>],
 ) -> Result<Layout<A>, AllocError> {
-    let mut filled = Filled::new(LEAST);
+    let mut filled = Filled::new(least);
     let mut events = Vec::new(alloc);
     let mut x = LEFT;
     for (number, moment) in moments.iter().enumerate() {
@@ -137,6 +138,6 @@ pub fn lay_out<A: Allocator + Copy>(
         events,
         rows,
         width: filled.right().saturating_add(GAP),
-        height: bottom.saturating_add(LEGEND),
+        bottom,
     })
 }

@@ -1,5 +1,6 @@
 //! The head of a drawing, and what tells a reader its signs.
-use crate::shapes::{Diamond, Soft, Span, Spot, Stub};
+use crate::layout::width_of;
+use crate::shapes::{Diamond, Node, Soft, Span, Spot, Stub};
 use std::fmt;
 
 /// The title and the colours, on light and on dark pages.
@@ -11,6 +12,7 @@ pub(crate) const HEAD: &str = "\
 .awshow text{fill:#1f2328;stroke:#ffffff;stroke-width:3px;stroke-linejoin:round;paint-order:stroke}
 .awshow .name{font-weight:bold}
 .awshow .soft{fill:#59636e}
+.awshow .clock{fill:#ffffff;stroke:none;font-size:9px;text-anchor:middle}
 .awshow .event{stroke:#d1d9e0;stroke-width:1}
 .awshow .line{stroke:#59636e;stroke-width:1.5}
 .awshow .dot{fill:#1f2328}
@@ -28,6 +30,7 @@ pub(crate) const HEAD: &str = "\
 .awshow .page{fill:#0d1117}
 .awshow text{fill:#f0f6fc;stroke:#0d1117}
 .awshow .soft{fill:#9198a1}
+.awshow .clock{fill:#0d1117;stroke:none}
 .awshow .event{stroke:#2f3742}
 .awshow .line{stroke:#9198a1}
 .awshow .dot{fill:#f0f6fc}
@@ -49,75 +52,184 @@ pub(crate) fn show_tips<W: fmt::Write>(f: &mut fmt::Formatter<W>) -> fmt::Result
     for class in ["cast", "ack", "count"] {
         writeln!(
             f,
-            "<marker id=\"{class}\" viewBox=\"0 0 8 8\" refX=\"11\" refY=\"4\" markerWidth=\"8\" markerHeight=\"8\" markerUnits=\"userSpaceOnUse\" orient=\"auto\"><path class=\"{class}-tip\" d=\"M0 0L8 4L0 8Z\"/></marker>"
+            "<marker id=\"{class}\" viewBox=\"0 0 8 8\" refX=\"16\" refY=\"4\" markerWidth=\"8\" markerHeight=\"8\" markerUnits=\"userSpaceOnUse\" orient=\"auto\"><path class=\"{class}-tip\" d=\"M0 0L8 4L0 8Z\"/></marker>"
         )?;
     }
     Ok(())
 }
 
-/// Shows what a line means.
-fn show_line<W: fmt::Write>(
-    f: &mut fmt::Formatter<W>,
-    at: Spot,
-    class: &str,
-    words: &str,
-) -> fmt::Result {
+/// A sign whose meaning is told.
+#[derive(Clone, Copy)]
+enum Sign {
+    /// The line of a frame of this class.
+    Line(&'static str),
+    NeverTaken,
+    Point,
+    Event,
+    /// Words alone.
+    Words,
+}
+
+/// Which signs stand in a drawing. Only these are explained.
+#[derive(Clone, Copy)]
+pub(crate) struct Legend {
+    pub(crate) cast: bool,
+    pub(crate) acknowledgement: bool,
+    pub(crate) count: bool,
+    pub(crate) never_taken: bool,
+    pub(crate) point: bool,
+    pub(crate) event: bool,
+    pub(crate) delivered: bool,
+    pub(crate) counts_left_out: bool,
+}
+
+/// From the left edge to the first sign.
+const BESIDE: u32 = 10;
+/// From the words of a sign to the next one.
+const APART: u32 = 18;
+/// From one row to the next.
+pub(crate) const ROW: u32 = 20;
+
+/// Shows a line from here to the right.
+fn show_line<W: fmt::Write>(f: &mut fmt::Formatter<W>, at: Spot, class: &str) -> fmt::Result {
     let span = Span {
         from: at,
-        to: Spot {
-            x: at.x.saturating_add(26),
-            y: at.y,
+        to: at.right(26),
+    };
+    write!(f, "<line class=\"{class}\" {span}/>")
+}
+
+/// Shows the line of a frame that is never taken.
+fn show_stub<W: fmt::Write>(f: &mut fmt::Formatter<W>, at: Spot) -> fmt::Result {
+    let stub = Stub {
+        class: "cast",
+        span: Span {
+            from: at,
+            to: at.right(14),
         },
     };
+    write!(f, "{stub}")
+}
+
+/// Shows an event, with a clock in it.
+fn show_event<W: fmt::Write>(f: &mut fmt::Formatter<W>, at: Spot) -> fmt::Result {
+    let node = Node {
+        middle: at.right(8),
+        clock: 3,
+    };
+    write!(f, "{node}</g>")
+}
+
+impl Sign {
+    /// From the left end of the sign to its words.
+    fn wide(self) -> u32 {
+        match self {
+            Sign::Line(_) => 32,
+            Sign::NeverTaken => 24,
+            Sign::Point => 18,
+            Sign::Event => 24,
+            Sign::Words => 0,
+        }
+    }
+
+    /// Shows the sign, from its left end on.
+    fn show<W: fmt::Write>(self, f: &mut fmt::Formatter<W>, at: Spot) -> fmt::Result {
+        match self {
+            Sign::Line(class) => show_line(f, at, class),
+            Sign::NeverTaken => show_stub(f, at),
+            Sign::Point => {
+                let diamond = Diamond {
+                    middle: at.right(6),
+                };
+                write!(f, "<path class=\"point\" d=\"{diamond}\"/>")
+            }
+            Sign::Event => show_event(f, at),
+            Sign::Words => Ok(()),
+        }
+    }
+}
+
+/// Where the sign behind this one begins.
+fn next_to(x: u32, sign: Sign, words: &str) -> u32 {
+    x.saturating_add(sign.wide())
+        .saturating_add(width_of(words.len()))
+        .saturating_add(APART)
+}
+
+/// Whether a sign that begins here reaches over the right edge of a drawing, and isn't the first of its row.
+fn is_over(x: u32, sign: Sign, words: &str, width: u32) -> bool {
+    x > BESIDE && next_to(x, sign, words) > width
+}
+
+/// Shows a sign with its words.
+fn show_sign<W: fmt::Write>(
+    f: &mut fmt::Formatter<W>,
+    at: Spot,
+    sign: Sign,
+    words: &str,
+) -> fmt::Result {
+    sign.show(f, at)?;
     let text = Soft {
         at: Spot {
-            x: at.x.saturating_add(32),
+            x: at.x.saturating_add(sign.wide()),
             y: at.y.saturating_add(4),
         },
         words,
     };
-    writeln!(f, "<line class=\"{class}\" {span}/>{text}")
+    writeln!(f, "{text}")
 }
 
-/// Shows what the lines mean.
-pub(crate) fn show_lines<W: fmt::Write>(f: &mut fmt::Formatter<W>, y: u32) -> fmt::Result {
-    for (class, words, x) in [
-        ("cast", "cast", 10u32),
-        ("ack", "acknowledgement", 82),
-        ("count", "count", 232),
-    ] {
-        show_line(f, Spot { x, y }, class, words)?;
+impl Legend {
+    /// Each sign, with its words, and whether it is there.
+    fn signs(&self) -> [(bool, Sign, &'static str); 8] {
+        [
+            (self.cast, Sign::Line("cast"), "cast"),
+            (self.acknowledgement, Sign::Line("ack"), "acknowledgement"),
+            (self.count, Sign::Line("count"), "count"),
+            (self.never_taken, Sign::NeverTaken, "never taken"),
+            (self.point, Sign::Point, "point"),
+            (self.event, Sign::Event, "event, with the clock"),
+            (self.delivered, Sign::Words, "(time, process): delivered"),
+            (self.counts_left_out, Sign::Words, "counts are left out"),
+        ]
     }
-    Ok(())
-}
 
-/// Shows what the other signs mean.
-pub(crate) fn show_signs<W: fmt::Write>(f: &mut fmt::Formatter<W>, y: u32) -> fmt::Result {
-    let base = y.saturating_add(4);
-    let stub = Stub {
-        class: "cast",
-        span: Span {
-            from: Spot { x: 312, y },
-            to: Spot { x: 326, y },
-        },
-    };
-    let never = Soft {
-        at: Spot { x: 336, y: base },
-        words: "never taken",
-    };
-    let diamond = Diamond {
-        middle: Spot { x: 436, y },
-    };
-    let point = Soft {
-        at: Spot { x: 448, y: base },
-        words: "point",
-    };
-    let delivered = Soft {
-        at: Spot { x: 504, y: base },
-        words: "(time, process): delivered",
-    };
-    writeln!(
-        f,
-        "{stub}{never}\n<path class=\"point\" d=\"{diamond}\"/>{point}\n{delivered}"
-    )
+    /// How many rows it takes, in a drawing so wide.
+    pub(crate) fn rows(&self, width: u32) -> u32 {
+        let mut rows = 1u32;
+        let mut x = BESIDE;
+        for (is_there, sign, words) in self.signs() {
+            if is_there {
+                if is_over(x, sign, words, width) {
+                    rows = rows.saturating_add(1);
+                    x = BESIDE;
+                }
+                x = next_to(x, sign, words);
+            }
+        }
+        rows
+    }
+
+    /// Shows it, with its first row at this height, in a drawing so wide.
+    pub(crate) fn show<W: fmt::Write>(
+        &self,
+        f: &mut fmt::Formatter<W>,
+        y: u32,
+        width: u32,
+    ) -> fmt::Result {
+        let mut at = Spot { x: BESIDE, y };
+        for (is_there, sign, words) in self.signs() {
+            if is_there {
+                if is_over(at.x, sign, words, width) {
+                    at = Spot {
+                        x: BESIDE,
+                        y: at.y.saturating_add(ROW),
+                    };
+                }
+                show_sign(f, at, sign, words)?;
+                at.x = next_to(at.x, sign, words);
+            }
+        }
+        Ok(())
+    }
 }

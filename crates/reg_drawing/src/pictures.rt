@@ -1,8 +1,11 @@
 //! What is told of a run, as a drawing.
 use crate::drawing::Drawing;
-use crate::layout::{Label, bar_label, lay_out};
+use crate::layout::{Label, bar_label, lay_out, width_of};
+use crate::legend::Legend;
 use reg_base::Names;
-use reg_moments::{Bar, Moment, Told, arrows, bars};
+use reg_frames::{Body, Frame};
+use reg_front::Front;
+use reg_moments::{Arrow, Bar, Moment, Sent, Told, arrows, bars, is_taken};
 use std::alloc::{AllocError, Allocator};
 
 /// The place of the reply of an operation that is answered.
@@ -33,7 +36,100 @@ fn labels_of<A: Allocator + Copy>(
     Ok(labels)
 }
 
-/// Draws what is told of a run, as a space-time diagram.
+/// With more events than this, counts are left out.
+const MOST_WITH_COUNTS: usize = 30;
+/// The least width.
+const LEAST: u32 = 380;
+/// So many registers are named in the title at most.
+const MOST_NAMED: u16 = 8;
+
+/// The title: the front end, and the registers.
+fn title_of<A: Allocator + Copy>(
+    alloc: A,
+    front: Front,
+    names: &Names<A>,
+) -> Result<String<A>, AllocError> {
+    let mut title = String::new(alloc);
+    title.push_str(front.name())?;
+    title.push_str(", registers")?;
+    for register in 0..MOST_NAMED {
+        if let Some(name) = names.name(register) {
+            title.push_str(" ")?;
+            title.push_str(name)?;
+        }
+    }
+    if names.count() > usize::from(MOST_NAMED) {
+        title.push_str(" ..")?;
+    }
+    Ok(title)
+}
+
+/// Notes the line of a frame that is drawn.
+fn note(legend: &mut Legend, frame: Frame) {
+    match frame {
+        Frame::Numbered {
+            body: Body::Cast { .. },
+            ..
+        } => legend.cast = true,
+        Frame::Numbered { .. } => legend.acknowledgement = true,
+        Frame::Got { .. } => legend.count = !legend.counts_left_out,
+    }
+}
+
+/// Whether a frame that was put is drawn as one that is never taken.
+fn is_never_taken<A: Allocator + Copy>(
+    legend: &Legend,
+    moments: &[Moment<A>],
+    from: u8,
+    sent: &Sent,
+) -> bool {
+    let is_left_out = legend.counts_left_out && matches!(sent.frame, Frame::Got { .. });
+    !is_left_out && !is_taken(moments, from, sent.to, sent.place)
+}
+
+/// Notes the lines of the frames that are never taken.
+fn note_never_taken<A: Allocator + Copy>(legend: &mut Legend, moments: &[Moment<A>]) {
+    for moment in moments {
+        for sent in &moment.sent {
+            if is_never_taken(legend, moments, moment.process, sent) {
+                legend.never_taken = true;
+                note(legend, sent.frame);
+            }
+        }
+    }
+}
+
+/// The signs that stand in the drawing of these moments.
+fn legend_of<A: Allocator + Copy>(
+    moments: &[Moment<A>],
+    arrows: &[Arrow],
+    has_points: bool,
+) -> Legend {
+    let mut legend = Legend {
+        cast: false,
+        acknowledgement: false,
+        count: false,
+        never_taken: false,
+        point: has_points,
+        event: !moments.is_empty(),
+        delivered: false,
+        counts_left_out: moments.len() > MOST_WITH_COUNTS,
+    };
+    for moment in moments {
+        legend.delivered = legend.delivered || !moment.delivered.is_empty();
+    }
+    for arrow in arrows {
+        if let Some(moment) = moments.get(arrow.takes) {
+            if let Some(frame) = moment.frame {
+                note(&mut legend, frame);
+            }
+        }
+    }
+    note_never_taken(&mut legend, moments);
+    legend
+}
+
+/// Draws what is told of a run, as a space-time diagram. With more than 30 events counts are left out.
 ///
 /// # Errors
 ///
@@ -47,11 +143,21 @@ pub fn draw_told<A: Allocator + Copy>(
     let arrows = arrows(alloc, moments)?;
     let labels = labels_of(alloc, &told.names, moments, &bars, told.points.is_none())?;
     let processes = told.history.shape().processes();
-    let layout = lay_out(alloc, &told.names, processes, moments, &bars, &labels)?;
     let points = match &told.points {
         Some(points) => points.as_slice(),
         None => &[],
     };
+    let title = title_of(alloc, told.front, &told.names)?;
+    let legend = legend_of(moments, &arrows, !points.is_empty());
+    let least = width_of(title.len()).saturating_add(20).max(LEAST);
+    let layout = lay_out(
+        alloc,
+        &told.names,
+        (processes, least),
+        moments,
+        &bars,
+        &labels,
+    )?;
     Ok(Drawing {
         names: &told.names,
         moments,
@@ -60,5 +166,7 @@ pub fn draw_told<A: Allocator + Copy>(
         labels,
         arrows,
         layout,
+        title,
+        legend,
     })
 }

@@ -22,12 +22,13 @@ fn tell_run<F: FrontEnd, A: Allocator + Copy>(
     let Ran {
         world,
         names,
-        front: _front,
+        front,
     } = run_events::<F, A, Wires<A>>(alloc, schedule)?;
     let Ok(moments) = tell_world(alloc, &world) else {
         return Err(Fault::OutOfMemory);
     };
     Ok(Told {
+        front,
         names,
         moments,
         history: world.into_history(),
@@ -47,7 +48,7 @@ fn tell_run_with_points<F: RealTime, A: Allocator + Copy>(
     let Ran {
         world,
         names,
-        front: _front,
+        front,
     } = run_events::<F, A, Wires<A>>(alloc, schedule)?;
     let Ok(moments) = tell_world(alloc, &world) else {
         return Err(Fault::OutOfMemory);
@@ -56,6 +57,7 @@ fn tell_run_with_points<F: RealTime, A: Allocator + Copy>(
         return Err(Fault::OutOfMemory);
     };
     Ok(Told {
+        front,
         names,
         moments,
         history: world.into_history(),
