@@ -29,9 +29,11 @@ pub struct Outcome<A: Allocator + Copy = Global> {
 }
 
 /// A list that a later event can put its frames in, so that it takes no memory for one. Contracts see how many frames fit.
+/// Ticks leave that list, so for speed they have one of their own, of which contracts say nothing.
 #[derive(Drop)]
 pub(crate) struct Spare<A: Allocator + Copy> {
     list: Vec<Put, A>,
+    for_ticks: Vec<Put, A>,
 }
 
 impl<A: Allocator + Copy> Model for Spare<A> {
@@ -49,6 +51,7 @@ impl<A: Allocator + Copy> Spare<A> {
     {
         Spare {
             list: Vec::new(alloc),
+            for_ticks: Vec::new(alloc),
         }
     }
 
@@ -63,12 +66,26 @@ impl<A: Allocator + Copy> Spare<A> {
         list
     }
 
-    /// Keeps a list for later, where it has more room.
+    /// The list for ticks, with nothing in it. The other one stays.
+    pub(crate) fn take_for_tick(&mut self, alloc: A) -> Vec<Put, A>
+        ensures empty { result.items ≡ [] }
+        ensures left { self.new ≡ self.old }
+    {
+        let mut list = mem::replace(&mut self.for_ticks, Vec::new(alloc));
+        list.clear();
+        list
+    }
+
+    /// Keeps a list for later, where it has more room. The one with less is kept for ticks, where that has more room.
     pub(crate) fn keep(&mut self, list: Vec<Put, A>)
         ensures { self.new ≡ max self.old (vec_capacity list) }
     {
-        if self.list.capacity() < list.capacity() {
-            self.list = list;
+        let mut other = list;
+        if self.list.capacity() < other.capacity() {
+            other = mem::replace(&mut self.list, other);
+        }
+        if self.for_ticks.capacity() < other.capacity() {
+            self.for_ticks = other;
         }
     }
 }

@@ -4,7 +4,7 @@ ghost use Rattle.reg_process.specs.Process.{pending_of, peer_at, next_of, unsett
 ghost use Rattle.reg_process.specs.Parts.{state_of, first_parts};
 ghost use Rattle.reg_process.specs.Puts.{puts};
 
-use crate::outcomes::{Outcome, Put};
+use crate::outcomes::{Outcome, Put, Spare};
 use crate::puts::{new_inboxes, new_outboxes, pending_in, resend_all};
 use crate::running::Current;
 use crate::steps::Reply;
@@ -120,11 +120,14 @@ impl<A: Allocator + Copy> Core<A> {
     }
 
     /// Puts what is pending again. Memory is wanting only where a frame is put.
-    pub(crate) fn tick(&self) -> Result<Vec<Put, A>, AllocError>
+    pub(crate) fn tick(&self, spare: &mut Spare<A>) -> Result<Vec<Put, A>, AllocError>
         ensures frames { IfOk result (λ v. v.items ≡ puts (resent self.now) (length self.now.peers)) }
         ensures memory { OnErr result (puts (resent self.now) (length self.now.peers) ≢ []) }
+        ensures list { spare.new ≡ spare.old }
     {
-        resend_all(self.alloc, &self.outboxes, self.me)
+        let mut frames = spare.take_for_tick(self.alloc);
+        resend_all(&mut frames, &self.outboxes, self.me)?;
+        Ok(frames)
     }
 
     /// What goes out of an event without a cast or a delivery.

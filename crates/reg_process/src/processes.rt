@@ -146,7 +146,7 @@ impl<F: FrontEnd, A: Allocator + Copy> Process<F, A> {
         if self.failed {
             return Err(ProcessFault::Failed);
         }
-        let Ok(frames) = self.core.tick() else {
+        let Ok(frames) = self.core.tick(&mut self.spare) else {
             self.failed = true;
             return Err(ProcessFault::OutOfMemory);
         };

@@ -165,21 +165,21 @@ fn resend_one<A: Allocator + Copy>(
     Ok(())
 }
 
-/// The same for all other processes. Memory is wanting only where a frame is put.
+/// The same for all other processes, in an empty list. Memory is wanting only where a frame is put.
 pub fn resend_all<A: Allocator + Copy>(
-    alloc: A,
+    frames: &mut Vec<Put, A>,
     outboxes: &Outboxes<A>,
     me: u8,
-) -> Result<Vec<Put, A>, AllocError>
-    requires { length (outs_of me outboxes.now) ≤ MOST_PROCESSES }
-    ensures frames { IfOk result (λ v. v.items ≡ puts (again_frames me (outs_of me outboxes.now)) (length (outs_of me outboxes.now))) }
+) -> Result<(), AllocError>
+    requires empty { frames.old.items ≡ [] }
+    requires few { length (outs_of me outboxes.now) ≤ MOST_PROCESSES }
+    ensures frames { OnOk result (frames.new.items ≡ puts (again_frames me (outs_of me outboxes.now)) (length (outs_of me outboxes.now))) }
     ensures memory { OnErr result (puts (again_frames me (outs_of me outboxes.now)) (length (outs_of me outboxes.now)) ≢ []) }
 {
-    let mut frames = Vec::new(alloc);
     for r in 0..outboxes.processes() as u8 {
-        resend_one(&mut frames, outboxes, r, me)?;
+        resend_one(frames, outboxes, r, me)?;
     }
-    Ok(frames)
+    Ok(())
 }
 
 /// How many bodies another process has not acknowledged.

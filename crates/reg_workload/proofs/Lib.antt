@@ -4,6 +4,8 @@ pub mod Loaded
 pub mod InOrder
 pub mod Listing
 pub mod Turning
+pub mod Keeping
+pub mod Placing
 pub mod Wires
 pub mod Moving
 pub mod Sums

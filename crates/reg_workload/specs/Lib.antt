@@ -4,3 +4,4 @@ pub mod Seeded
 pub mod Rounds
 pub mod PlayParts
 pub mod FairParts
+pub mod Listed

@@ -2,10 +2,11 @@
 ghost use Rattle.std.specs.Prelude.{◌≡◌, ◌≤◌, ◌<◌, ◌+◌, ℕ, [], length, false, true, None, Some, slice_get, OnOk, IfOk, IfSome, map};
 ghost use Rattle.reg_base.specs.declared.limits.TheConstants.{MOST_EVENTS};
 ghost use Rattle.reg_workload.specs.Plays.{IsPlay, cursor_at, next_frame};
+ghost use Rattle.reg_workload.specs.Listed.{AreListed};
 ghost use Rattle.reg_workload.specs.PlayParts.{GoesOn, Turns, AllStill, IsChoice, AreChoices, ArePlayable};
 ghost use Rattle.reg_workload.specs.Seeded.{says, picked, takes_or_loses, chooses, choices_of, turn, turns, seeded_play};
 
-use crate::choices::{Choice, list};
+use crate::choices::{Chance, Choice, count, list_again, list_all, nth};
 use crate::playing::{Play, Player};
 use reg_base::{Op, Shape};
 use reg_front::FrontEnd;
@@ -82,41 +83,32 @@ fn choose<F: FrontEnd, R: Words, A: Allocator + Copy, W: WireStore<A>>(
     }
 }
 
-/// The choice that a word gives.
-fn pick(choices: &[Choice], word: u32) -> Option<Choice>
-    ensures value { result ≡ picked choices.now word }
-    ensures some { IfSome result (λ c. (k : ℕ) × (slice_get choices.now k ≡ Some c)) }
-    ensures none { result ≡ None → choices.now ≡ [] }
-{
-    if choices.is_empty() {
-        return None;
-    }
-    Some(choices[word as usize % choices.len()])
-}
-
 /// A turn. Tells whether nothing can happen.
 fn play_turn<F: FrontEnd, R: Words, A: Allocator + Copy, W: WireStore<A>>(
     player: &mut Player<'_, F, A, W>,
-    choices: &mut Vec<Choice, A>,
+    chances: &mut Vec<Chance<A>, A>,
     words: &mut R,
     odds: Odds,
 ) -> Result<bool, AllocError>
     requires going { player.old.made.failed ≡ false }
+    requires listed { AreListed F.start player.old chances.old.items }
     requires room { length player.old.made.accepted < MOST_EVENTS }
     requires behind { (from to : ℕ) → cursor_at player.old from to < MOST_EVENTS }
     ensures value { OnOk result ((player.new, words.new) ≡ turn F.start R.next_word odds.loss odds.repeat (player.old, words.old)) }
+    ensures listed { OnOk result (AreListed F.start player.new chances.new.items) }
     ensures ended { IfOk result (λ ended. ended ≡ true → (choices_of F.start player.old ≡ []) × AllStill F.start player.old × (player.new ≡ player.old)) }
     ensures turns { IfOk result (λ ended. ended ≡ false → Turns odds.loss player.old player.new) }
 {
-    list(player, choices)?;
-    if choices.is_empty() {
+    let all = count(player, chances);
+    if all == 0 {
         return Ok(true);
     }
     let word = words.word();
-    let Some(choice) = pick(choices, word) else {
-        return Ok(true);
+    let Some(choice) = nth(player, chances, word as usize % all) else {
+        unreachable!()
     };
     choose(player, choice, words, odds)?;
+    list_again(player, choice, chances)?;
     Ok(false)
 }
 
@@ -136,9 +128,9 @@ fn play_turns<F: FrontEnd, R: Words, A: Allocator + Copy, W: WireStore<A>>(
     ensures on { OnOk result (GoesOn budget player.old player.new) }
     ensures ended { IfOk result (λ ended. (ended ≡ true → AllStill F.start player.new) × (ended ≡ false → odds.loss ≡ 0 → length player.new.made.accepted ≡ budget)) }
 {
-    let mut choices = Vec::new(alloc);
+    let mut chances = list_all(alloc, player)?;
     for _turn in 0..budget {
-        if play_turn(player, &mut choices, words, odds)? {
+        if play_turn(player, &mut chances, words, odds)? {
             return Ok(true);
         }
     }

@@ -1,17 +1,12 @@
-use Rattle.std.proofs.Common.{rules, ◌≡◌, ◌<◌, [], ◌∷◌, ◌++◌, Some, None, sym, subst, ◌∙◌}
+use Rattle.std.proofs.Common.{rules, ◌≡◌, [], ◌∷◌, ◌++◌, Some, None, sym, ◌∙◌}
 use Rattle.reg_workload.specs.declared.choices.Choice.TheVariants.{Take as TakeNext}
 use Rattle.reg_workload.specs.Plays.{next_frame}
-use Rattle.reg_workload.specs.PlayParts.{AreChoices}
-use Rattle.reg_workload.proofs.Listing.{none_taken_from, take_added, take_passed_by, more_choices, no_more}
+use Rattle.reg_workload.proofs.Listing.{none_taken_from, take_added, take_passed_by}
 use Rattle.reg_workload.proofs.choices.list_takes_from.Goals.{in-Some+in_ok-push, in_default}
 use Rattle.reg_workload.proofs.choices.list_takes_from.Goals as goal
 
 pub loop-to-init : goal.loop-to-init
-loop-to-init g c = record {
-  value = none_taken_from g.F.FrontEnd.start c.args.player.now c.args.from c.args.choices.now.items;
-  choices = search rules;
-  more = search rules;
-}
+loop-to-init g c = none_taken_from g.F.FrontEnd.start c.args.player.now c.args.from c.args.choices.now.items
 
 pub loop-to-preserved : goal.loop-to-preserved
 loop-to-preserved g c =
@@ -19,7 +14,6 @@ loop-to-preserved g c =
     let s = c.args.player.now in
     let from = c.args.from in
     let n = c.loop-to.to in
-    let inv = c.loop-to.invariant in
     let first = c.args.choices.now.items in
     let old = c.loop-to.choices.items in
     let new = c.match-frame.choices.items in
@@ -28,19 +22,10 @@ loop-to-preserved g c =
       | in-Some+in_ok-push w ↦
           let number = w.in-Some.number in
           let grown : new ≡ old ++ TakeNext from n number ∷ [] = search rules in
-          let within : n < s.made.processes = search rules in
           let next : next_frame start s from n ≡ Some number = sym is ∙ w.in-Some.is in
-          record {
-            value = take_added start s from n number first old new inv.value next grown;
-            choices = more_choices start s old new (TakeNext from n number) inv.choices grown (c.requires.from, within, next);
-            more = λ e. absurd (no_more old new (TakeNext from n number) grown e);
-          }
+          take_added start s from n number first old new c.loop-to.invariant next grown
       | in_default w ↦
           let kept : new ≡ old = search rules in
           let next : next_frame start s from n ≡ None = sym is ∙ search rules in
-          record {
-            value = kept ∙ take_passed_by start s from n first old inv.value next;
-            choices = subst (AreChoices start s) (sym kept) inv.choices;
-            more = λ e. inv.more (sym kept ∙ e);
-          }
+          kept ∙ take_passed_by start s from n first old c.loop-to.invariant next
     ]
