@@ -1,10 +1,14 @@
 -- The lines of a report behind its head, up to its first wrong line.
-use Rattle.std.proofs.Common.{ℕ, ◌≡◌, ◌+◌, ◌⊎◌, ◌-◌, ◌^◌, inl, inr, ◌<◌, ◌≤◌, true, false, List, [], ◌∷◌, ◌++◌, length, map, codes, Option, None, Some, Result, Ok, Err, refl, sym, ap, ◌∙◌, subst, arith, append-nil, append_assoc}
+use Rattle.std.proofs.Common.{nat_eq, nat_lt, cond, ℕ, ◌≡◌, ◌+◌, ◌⊎◌, ◌-◌, ◌^◌, inl, inr, ◌<◌, ◌≤◌, true, false, List, [], ◌∷◌, ◌++◌, length, map, codes, Option, None, Some, Result, Ok, Err, refl, sym, ap, ◌∙◌, subst, arith, append-nil, append_assoc}
 use Rattle.std.specs.Prelude.{IfErr}
 use Rattle.std.specs.Result.{OnOk}
 use Rattle.std.specs.Fmt.{decimal}
 use Rattle.reg_base.specs.Names.{names_fault}
-use Rattle.reg_base.specs.Shape.{Extent}
+use Rattle.std.proofs.lemmas.Bool.Decides.{nat_tests}
+use Rattle.reg_base.specs.Shape.{Extent, shape_of}
+use Rattle.reg_base.specs.declared.limits.TheConstants.{MOST_PROCESSES, MOST_REGISTERS}
+use Rattle.reg_base.specs.declared.shapes.ShapeFault.{ShapeFault}
+use Rattle.reg_base.specs.declared.shapes.ShapeFault.TheVariants.{NoProcess, TooManyProcesses, NoRegister, TooManyRegisters}
 use Rattle.reg_base.specs.declared.memory.OpId.{OpId}
 use Rattle.reg_orders.specs.declared.entries.Entry.{Entry}
 use Rattle.reg_orders.specs.declared.entries.Point.{Point}
@@ -78,6 +82,13 @@ history_item version names shape s count same few before next why w =
     counted_more (codes "history ") 0 MOST_ENTRIES (entry_text names) (Follows version names shape) (IsNoNextEntry version names shape) count (omega arith) few before next why
     (subst (λ (x : Extent). IsWrongItem (entry_text names) (Follows version names x) (IsNoNextEntry version names x) count before next why) same w)
 
+-- of a history, its first wrong line
+abbrev pub history_wrong : Version → List (List ℕ) → Extent → List (List ℕ) → Option (List ℕ) → ReadWhy → Type 0
+history_wrong version names shape = IsWrongCounted (codes "history ") 0 MOST_ENTRIES (entry_text names) (Follows version names shape) (IsNoNextEntry version names shape)
+
+pub behind : (head part now rest : List (List ℕ)) → now ≡ part ++ rest → head ++ now ≡ (head ++ part) ++ rest
+behind head part now rest e = ap (λ l. head ++ l) e ∙ sym (append_assoc head part rest)
+
 module _ (version : Version) (front : List ℕ) (processes : ℕ) (names : List (List ℕ)) (shape : Extent) (front_is : is_front front ≡ true) (some : 0 < processes) (few : processes ≤ most_processes version)
     (spelt : names_fault names ≡ None) (few_names : length names ≤ most_registers version) (is : shape ≡ record { processes = processes; registers = length names }) where
   pub body_wrong : (before : List (List ℕ)) (next : Option (List ℕ)) (why : ReadWhy) → IsWrongBody version names shape before next why → IsFirstWrong (head_lines version front processes names [] ++ before) next why
@@ -98,10 +109,25 @@ module _ (version : Version) (front : List ℕ) (processes : ℕ) (names : List 
 
   pub lists_wrong : (entries : List Entry) (old rest : List (List ℕ)) → IsCounted (codes "history ") (entry_text names) (Follows version names shape) MOST_ENTRIES old rest entries
       → (before : List (List ℕ)) (next : Option (List ℕ)) (why : ReadWhy) → IsWrongLists version before next why
-      → IsFirstWrong (head_lines version front processes names [] ++ (((codes "history " ++ decimal (length entries)) ∷ map (entry_text names) entries) ++ before)) next why
+      → IsFirstWrong ((head_lines version front processes names [] ++ ((codes "history " ++ decimal (length entries)) ∷ map (entry_text names) entries)) ++ before) next why
   lists_wrong entries old rest c before next why w =
-      body_wrong (((codes "history " ++ decimal (length entries)) ∷ map (entry_text names) entries) ++ before) next why
-      (inr (entries, before, record { lines = refl; fit = c.fit; few = c.few }, w))
+      subst (λ (l : List (List ℕ)). IsFirstWrong l next why) (sym (append_assoc (head_lines version front processes names []) ((codes "history " ++ decimal (length entries)) ∷ map (entry_text names) entries) before))
+      (body_wrong (((codes "history " ++ decimal (length entries)) ∷ map (entry_text names) entries) ++ before) next why
+      (inr (entries, before, record { lines = refl; fit = c.fit; few = c.few }, w)))
+
+-- a shape within the limits is one
+pub shape_made : (res : Result Extent ShapeFault) (p n : ℕ) → res ≡ shape_of p n → 0 < p → p ≤ MOST_PROCESSES → 0 < n → n ≤ MOST_REGISTERS → res ≡ Ok (record { processes = p; registers = n })
+shape_made res p n is some few one least =
+    let a : nat_eq p 0 ≡ false = grind (arith, nat_tests) in
+    let b : nat_lt MOST_PROCESSES p ≡ false = grind (arith, nat_tests) in
+    let d : nat_eq n 0 ≡ false = grind (arith, nat_tests) in
+    let e : nat_lt MOST_REGISTERS n ≡ false = grind (arith, nat_tests) in
+    let shape : Result Extent ShapeFault = Ok (record { processes = p; registers = n }) in
+    is
+    ∙ ap (λ x. cond x (Err NoProcess) (cond (nat_lt MOST_PROCESSES p) (Err TooManyProcesses) (cond (nat_eq n 0) (Err NoRegister) (cond (nat_lt MOST_REGISTERS n) (Err TooManyRegisters) shape)))) a
+    ∙ ap (λ x. cond x (Err TooManyProcesses) (cond (nat_eq n 0) (Err NoRegister) (cond (nat_lt MOST_REGISTERS n) (Err TooManyRegisters) shape))) b
+    ∙ ap (λ x. cond x (Err NoRegister) (cond (nat_lt MOST_REGISTERS n) (Err TooManyRegisters) shape)) d
+    ∙ ap (λ x. cond x (Err TooManyRegisters) shape) e
 
 -- the line of the text
 numbered : (whole before middle : List (List ℕ)) (number : ℕ) (next : Option (List ℕ)) → whole ≡ before ++ middle → IsNext middle next → number ≡ length before + 1 → IsNumbered false whole number before next
