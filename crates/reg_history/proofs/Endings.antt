@@ -1,7 +1,6 @@
 -- The lines of a report behind its head, up to its first wrong line.
 use Rattle.std.proofs.Common.{nat_eq, nat_lt, cond, ℕ, ◌≡◌, ◌+◌, ◌⊎◌, ◌-◌, ◌^◌, inl, inr, ◌<◌, ◌≤◌, true, false, List, [], ◌∷◌, ◌++◌, length, map, codes, Option, None, Some, Result, Ok, Err, refl, sym, ap, ◌∙◌, subst, arith, append-nil, append_assoc}
 use Rattle.std.specs.Prelude.{IfErr}
-use Rattle.std.specs.Result.{OnOk}
 use Rattle.std.specs.Fmt.{decimal}
 use Rattle.reg_base.specs.Names.{names_fault}
 use Rattle.std.proofs.lemmas.Bool.Decides.{nat_tests}
@@ -12,20 +11,20 @@ use Rattle.reg_base.specs.declared.shapes.ShapeFault.TheVariants.{NoProcess, Too
 use Rattle.reg_base.specs.declared.memory.OpId.{OpId}
 use Rattle.reg_orders.specs.declared.entries.Entry.{Entry}
 use Rattle.reg_orders.specs.declared.entries.Point.{Point}
-use Rattle.reg_text.specs.Inner.{GoesOn, IsBlock, IsNext}
+use Rattle.reg_text.specs.Inner.{IsBlock, IsNext}
 use Rattle.reg_text.specs.Lines.{lines_of, IsNumbered, Rest, IsAsked}
 use Rattle.reg_text.specs.declared.faults.Why.{Why}
 use Rattle.reg_text.specs.declared.faults.Why.TheVariants.{Form as TextForm, End as TextEnd}
 use Rattle.reg_text.specs.declared.faults.TextFault.{TextFault}
 use Rattle.reg_text.specs.declared.faults.TextFault.TheVariants.{Line as TextLine}
-use Rattle.reg_text.proofs.Numbered.{goes_on, few_lines, starts}
+use Rattle.reg_text.proofs.Numbered.{few_lines, starts}
 use Rattle.reg_history.specs.EntryLines.{entry_text}
 use Rattle.reg_history.specs.IdLines.{id_text, IdFits, point_text, PointFits}
 use Rattle.reg_history.specs.LineForms.{Follows, IsCounted}
 use Rattle.reg_history.specs.ReadFaults.{read_fault, why_of}
 use Rattle.reg_history.specs.Reports.{head_lines, is_front}
-use Rattle.reg_history.specs.Refusals.{IsFirstWrong, IsNoEnd, IsNoNextEntry, IsWrongBehind, IsWrongBody, IsWrongCounted, IsWrongItem, IsWrongLists, IsWrongTail, RefusesLine}
-use Rattle.reg_history.specs.Stops.{IsFailure, IsFurther, IsPlaced, IsStop, IsWrongEnd, IsWrongPoints}
+use Rattle.reg_history.specs.Refusals.{IsFirstWrong, IsNoNextEntry, IsWrongBody, IsWrongCounted, IsWrongItem, IsWrongLists, IsWrongTail, RefusesLine}
+use Rattle.reg_history.specs.Stops.{IsFailure, IsFurther, IsWrongEnd, IsWrongPoints}
 use Rattle.reg_history.specs.declared.report_faults.ReadFault.{ReadFault}
 use Rattle.reg_history.specs.declared.report_faults.ReadFault.TheVariants.{Line, OutOfMemory}
 use Rattle.reg_history.specs.declared.report_faults.ReadWhy.{ReadWhy}

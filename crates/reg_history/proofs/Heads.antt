@@ -1,18 +1,17 @@
 -- The head of a report up to its first wrong line.
-use Rattle.std.proofs.Common.{ℕ, ◌≡◌, ◌⊎◌, inl, inr, ◌<◌, ◌≤◌, true, false, List, [], ◌∷◌, ◌++◌, length, map, codes, Option, None, Some, Result, Err, refl, sym, ap, ◌∙◌, append_assoc}
+use Rattle.std.proofs.Common.{ℕ, ◌≡◌, ◌⊎◌, inl, inr, ◌≤◌, true, List, [], ◌∷◌, ◌++◌, length, map, codes, Option, None, Some, Result, Err, refl, sym, ap, ◌∙◌, append_assoc}
 use Rattle.std.specs.Fmt.{decimal}
 use Rattle.reg_base.specs.Names.{names_fault}
 use Rattle.reg_text.specs.Words.{names_text, AreWords, HasWords, IsNamesWhy}
-use Rattle.reg_text.specs.Lines.{AllFit, Rest, IsAsked}
+use Rattle.reg_text.specs.Lines.{Rest, IsAsked}
 use Rattle.reg_text.specs.declared.faults.Why.{Why}
 use Rattle.reg_text.specs.declared.faults.Why.TheVariants.{Form as TextForm, End as TextEnd}
 use Rattle.reg_text.specs.declared.faults.TextFault.{TextFault}
 use Rattle.reg_text.specs.declared.faults.TextFault.TheVariants.{Line as TextLine, OutOfMemory as TextOutOfMemory}
 use Rattle.reg_history.specs.ReadFaults.{read_fault, why_of}
 use Rattle.reg_history.specs.Reports.{head_lines, is_front}
-use Rattle.reg_history.specs.Refusals.{IsNoCount, IsNoFront, IsNoNames, IsNoVersion, IsWrongCounted, IsWrongHead, IsWrongItem, IsWrongNames, IsWrongNext}
+use Rattle.reg_history.specs.Refusals.{IsNoCount, IsNoFront, IsNoVersion, IsWrongCounted, IsWrongHead, IsWrongItem, IsWrongNames}
 use Rattle.reg_history.specs.Stops.{IsFailure, IsFirst}
-use Rattle.reg_history.specs.declared.report_faults.ReadFault.TheVariants.{Line}
 use Rattle.reg_history.specs.declared.report_faults.ReadWhy.{ReadWhy}
 use Rattle.reg_history.specs.declared.versions.Version.{Version}
 use Rattle.reg_history.specs.declared.versions.Version.TheVariants.{One, Two}
@@ -77,8 +76,7 @@ names_fail {A = A} old new f asked end words form whole (inr (why, is)) = go old
     go : (left : List (List ℕ)) → old.left ≡ left → IsFailure (IsWrongNames One) old (read_fault f)
     go [] e = stops_now (IsWrongNames One) old new (read_fault f) (why_of why) None (ap read_fault is) asked e (refl, ap why_of (told_why {A = A} new.number f why TextEnd is (end e)))
     go (line ∷ rest) e =
-        stops_now (IsWrongNames One) old new (read_fault f) (why_of why) (Some line) (ap read_fault is) asked (rest, e)
-        (
+        stops_now (IsWrongNames One) old new (read_fault f) (why_of why) (Some line) (ap read_fault is) asked (rest, e) (
           refl,
           record {
             none = λ names spelt few same. no_memory new.number why (sym is ∙ whole names rest spelt few (e ∙ ap (λ l. l ∷ rest) same));

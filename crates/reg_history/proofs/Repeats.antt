@@ -1,5 +1,5 @@
 -- The first of well spelt names that stands earlier too.
-use Rattle.std.proofs.Common.{ℕ, zero, suc, ◌≡◌, ◌+◌, ◌⊎◌, inl, inr, ◌<◌, ◌≤◌, ◌^◌, ◌||◌, not, nat_lt, nat_eq, Bool, true, false, cond, List, [], ◌∷◌, ◌++◌, length, map, Option, None, Some, slice_get, refl, sym, ap, ◌∙◌, subst, arith, rules, length-append, append_assoc, append-nil}
+use Rattle.std.proofs.Common.{ℕ, zero, suc, ◌≡◌, ◌+◌, ◌⊎◌, inl, inr, ◌<◌, ◌≤◌, ◌^◌, ◌||◌, not, nat_lt, nat_eq, true, false, cond, List, [], ◌∷◌, ◌++◌, length, Option, None, Some, slice_get, refl, sym, ap, ◌∙◌, subst, arith, rules, length-append, append_assoc, append-nil}
 use Rattle.std.specs.List.{list_any, position_from}
 use Rattle.std.specs.Str.{bytes_eq}
 use Rattle.std.proofs.lemmas.Slice.Eq.{bytes_eq-Decides}
@@ -188,6 +188,7 @@ spelt_fails old names count stop fault few memory same other (inr w) = go (names
       placed = w.placed;
       wrong = record { items = names; are = sym (map_same names); fit = all_differ names w.fit (omega (arith, w.fewer, few)) none; fewer = w.fewer; wrong = no_name names w.next w.why w.wrong };
     })
+
     go : (f : Option NamesFault) → names_fault names ≡ f → IsFailure (IsWrongItem (λ n. n) IsNewName IsNoNewName count) old fault
     go None e = none_else (λ place s. let bad : None ≡ Some (SameName place) = sym e ∙ s in absurd (cc))
     go (Some NoName) e = none_else (λ place s. let bad : Some NoName ≡ Some (SameName place) = sym e ∙ s in absurd (cc))

@@ -1,26 +1,25 @@
 -- Readers that stop at a line, and what is passed on of it.
-use Rattle.std.proofs.Common.{ℕ, ◌≡◌, ◌+◌, ◌⊎◌, inl, inr, ◌<◌, ◌≤◌, ◌^◌, true, false, List, [], ◌∷◌, ◌++◌, length, map, Option, None, Some, Result, Ok, Err, refl, sym, ap, ◌∙◌, subst, arith, append_assoc, append-nil, length-append}
+use Rattle.std.proofs.Common.{ℕ, ◌≡◌, ◌+◌, inl, inr, ◌<◌, ◌≤◌, true, false, List, [], ◌∷◌, ◌++◌, length, map, Option, None, Some, Result, Ok, Err, refl, sym, ap, ◌∙◌, subst, arith, append_assoc, append-nil, length-append}
 use Rattle.std.specs.Prelude.{IfErr}
-use Rattle.std.specs.Result.{IsErrAnd, IfOk, OnOk}
+use Rattle.std.specs.Result.{IsErrAnd, OnOk}
 use Rattle.std.specs.Fmt.{decimal}
 use Rattle.reg_text.specs.Forms.{is_numeral}
 use Rattle.reg_text.specs.Inner.{GoesOn, IsNext}
 use Rattle.reg_text.specs.Lines.{Rest, StandsIn, IsAsked}
 use Rattle.reg_text.specs.declared.faults.Why.{Why}
-use Rattle.reg_text.specs.declared.faults.Why.TheVariants.{Form as TextForm, Range as TextRange, Name as TextName, End as TextEnd}
+use Rattle.reg_text.specs.declared.faults.Why.TheVariants.{Form as TextForm, Range as TextRange, End as TextEnd}
 use Rattle.reg_text.specs.declared.faults.TextFault.{TextFault}
-use Rattle.reg_text.specs.declared.faults.TextFault.TheVariants.{Line as TextLine, OutOfMemory as TextOutOfMemory}
+use Rattle.reg_text.specs.declared.faults.TextFault.TheVariants.{Line as TextLine}
 use Rattle.reg_text.proofs.Formed.{number_form, no_truth}
 use Rattle.reg_text.proofs.Numbered.{asked_on, goes_on}
 use Rattle.reg_text.proofs.Turns.{Taken}
 use Rattle.reg_history.specs.ReadFaults.{read_fault, why_of}
 use Rattle.reg_history.specs.Refusals.{IsNoCount, IsWrongItem, IsWrongNext}
-use Rattle.reg_history.specs.Stops.{IsFailure, IsFirst, IsPlaced, IsStop}
+use Rattle.reg_history.specs.Stops.{IsFailure, IsFirst, IsPlaced}
 use Rattle.reg_history.specs.declared.report_faults.ReadFault.{ReadFault}
-use Rattle.reg_history.specs.declared.report_faults.ReadFault.TheVariants.{Line, OutOfMemory}
+use Rattle.reg_history.specs.declared.report_faults.ReadFault.TheVariants.{Line}
 use Rattle.reg_history.specs.declared.report_faults.ReadWhy.{ReadWhy}
-use Rattle.reg_history.specs.declared.report_faults.ReadWhy.TheVariants.{Range, End}
-use Rattle.reg_history.proofs.Firsts.{first_line}
+use Rattle.reg_history.specs.declared.report_faults.ReadWhy.TheVariants.{Range}
 
 abbrev pub Wrongs : Type 1
 Wrongs = List (List ℕ) → Option (List ℕ) → ReadWhy → Type 0
@@ -132,8 +131,10 @@ count_fails {A = A} mark limit old new f why is asked end range form whole least
   where
     told : read_fault f ≡ Line new.number (why_of why)
     told = ap read_fault is
+
     spoken : (w : Why) → why ≡ w → why_of why ≡ why_of w
     spoken w e = ap why_of e
+
     go : (left : List (List ℕ)) → old.left ≡ left → IsFailure (IsFirst (IsNoCount mark least limit)) old (read_fault f)
     go [] e = stops_first (IsNoCount mark least limit) old new (read_fault f) (why_of why) None told asked e (spoken TextEnd (told_why {A = A} new.number f why TextEnd is (end e)))
     go (line ∷ rest) e =

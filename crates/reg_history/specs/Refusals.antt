@@ -3,7 +3,6 @@ use Rattle.std.specs.Prelude.{ℕ, ◌≡◌, ◌≢◌, ◌<◌, ◌≤◌, ◌
 use Rattle.std.specs.Fmt.{decimal}
 use Rattle.reg_base.specs.Names.{is_name, names_fault}
 use Rattle.reg_base.specs.Shape.{Extent}
-use Rattle.reg_base.specs.declared.limits.TheConstants.{MOST_REGISTERS}
 use Rattle.reg_text.specs.Forms.{is_numeral, is_word}
 use Rattle.reg_text.specs.Lines.{AllFit, IsNumbered, lines_of}
 use Rattle.reg_text.specs.Words.{names_text, AreWords, HasWords, IsNamesWhy}

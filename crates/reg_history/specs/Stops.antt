@@ -1,5 +1,5 @@
 -- Readers that stop at a line. They carry a proof: no promise speaks of them.
-use Rattle.std.specs.Prelude.{ℕ, ◌≡◌, ◌≢◌, ◌+◌, ◌<◌, ◌⊎◌, ⊤, true, false, List, [], ◌∷◌, ◌++◌, length, codes, Option, Some, if◌then◌else◌}
+use Rattle.std.specs.Prelude.{ℕ, ◌≡◌, ◌≢◌, ◌+◌, ◌<◌, ◌⊎◌, true, false, List, [], ◌∷◌, ◌++◌, length, codes, Option, Some, if◌then◌else◌}
 use Rattle.reg_base.specs.Names.{is_name}
 use Rattle.reg_text.specs.Forms.{is_word}
 use Rattle.reg_text.specs.Inner.{HasValue, IsBlock, IsNext}

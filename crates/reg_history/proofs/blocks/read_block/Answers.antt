@@ -49,10 +49,12 @@ returns-clause-read g c =
 pub loop-place-preserved : goal.loop-place-preserved
 loop-place-preserved g c =
     let grown : c.push.new.self.items ≡ c.loop-place.items.items ++ c.in_ok-item.item ∷ [] = search rules in
-    let P : List _ → Type 0 = λ l. Taken g.T.Listed.line_of (λ _ x. g.T.Listed.Fits c.args.version x) c.args.count c.args.lines.now.left c.read_item.new.lines.left l (c.loop-place._place + 1) in
-    (subst P (sym grown) (steps g.T.Listed.line_of (λ _ x. g.T.Listed.Fits c.args.version x) c.args.count c.args.lines.now.left c.loop-place.lines.left c.loop-place.items.items c.loop-place._place c.loop-place-test.true c.loop-place.invariant.0
-    (g.T.Listed.line_of c.in_ok-item.item) c.read_item.new.lines.left c.in_ok-item.item c.in_ok-item.ensures.read.1 refl c.in_ok-item.ensures.read.0
-    (λ y fits e. let one = c.in_ok-item.ensures.whole y c.read_item.new.lines.left fits (c.in_ok-item.ensures.read.1 ∙ ap (λ l. l ∷ c.read_item.new.lines.left) e) in cc)), goes_on c.args.lines.now c.loop-place.lines c.read_item.new.lines c.loop-place.invariant.1 (asked_on c.loop-place.lines c.read_item.new.lines (g.T.Listed.line_of c.in_ok-item.item) c.read_item.new.lines.left c.in_ok-item.ensures.asked c.in_ok-item.ensures.read.1))
+    let P : List _ → Type 0 = λ l. Taken g.T.Listed.line_of (λ _ x. g.T.Listed.Fits c.args.version x) c.args.count c.args.lines.now.left c.read_item.new.lines.left l (c.loop-place._place + 1) in (
+      subst P (sym grown) (steps g.T.Listed.line_of (λ _ x. g.T.Listed.Fits c.args.version x) c.args.count c.args.lines.now.left c.loop-place.lines.left c.loop-place.items.items c.loop-place._place c.loop-place-test.true c.loop-place.invariant.0
+          (g.T.Listed.line_of c.in_ok-item.item) c.read_item.new.lines.left c.in_ok-item.item c.in_ok-item.ensures.read.1 refl c.in_ok-item.ensures.read.0
+          (λ y fits e. let one = c.in_ok-item.ensures.whole y c.read_item.new.lines.left fits (c.in_ok-item.ensures.read.1 ∙ ap (λ l. l ∷ c.read_item.new.lines.left) e) in cc)),
+      goes_on c.args.lines.now c.loop-place.lines c.read_item.new.lines c.loop-place.invariant.1 (asked_on c.loop-place.lines c.read_item.new.lines (g.T.Listed.line_of c.in_ok-item.item) c.read_item.new.lines.left c.in_ok-item.ensures.asked c.in_ok-item.ensures.read.1),
+    )
 
 pub returns-clause-whole : goal.returns-clause-whole
 returns-clause-whole g c = λ ys rest b.

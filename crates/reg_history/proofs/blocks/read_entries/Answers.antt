@@ -1,4 +1,4 @@
-use Rattle.std.proofs.Common.{sym, ap, ◌∙◌, subst, arith, refl, inl, inr, ◌≡◌, ℕ, ◌+◌, List, [], ◌∷◌, ◌++◌, None, Some}
+use Rattle.std.proofs.Common.{sym, ◌∙◌, subst, arith, refl, inl, inr, ◌≡◌, ℕ, ◌+◌, List, None, Some}
 use Rattle.reg_base.specs.Shape.{Extent}
 use Rattle.reg_orders.specs.declared.entries.Entry.{Entry}
 use Rattle.reg_history.specs.declared.versions.Version.{Version}

@@ -1,4 +1,4 @@
-use Rattle.std.proofs.Common.{None, Some, refl, sym, ap, inl, inr, ◌∙◌, subst, arith, rules, ◌≡◌, ℕ, ◌+◌, List, [], ◌∷◌, ◌++◌, true, string_bytes}
+use Rattle.std.proofs.Common.{None, Some, refl, sym, ap, inl, ◌∙◌, subst, arith, rules, ◌≡◌, ℕ, ◌+◌, List, [], ◌∷◌, ◌++◌, true, string_bytes}
 use Rattle.std.proofs.lemmas.List.{map-append}
 use Rattle.reg_base.specs.Names.{is_name, texts}
 use Rattle.reg_text.proofs.Numbered.{asked_on, goes_on, stays}
@@ -31,9 +31,11 @@ loop-place-preserved g c =
     let grown : c.push.new.self.items ≡ c.loop-place.names.items ++ c.in-Ok-Some.name ∷ [] = search rules in
     let good = (rw c.in-Ok-Some.field-0-is at c.in-Ok-Some.ensures) in
     let all : texts c.push.new.self.items ≡ texts c.loop-place.names.items ++ c.in-Some.line.now ∷ [] = ap texts grown ∙ map-append string_bytes c.loop-place.names.items (c.in-Ok-Some.name ∷ []) ∙ ap (λ w. texts c.loop-place.names.items ++ w ∷ []) good.0 in
-    let P : List (List ℕ) → Type 0 = λ l. Taken (λ n. n) Spelled c.args.count c.args.lines.now.left c.next.new.self.left l (c.loop-place._place + 1) in
-    (subst P (sym all) (steps (λ n. n) Spelled c.args.count c.args.lines.now.left c.loop-place.lines.left (texts c.loop-place.names.items) c.loop-place._place c.loop-place-test.true c.loop-place.invariant.0
-    c.in-Some.line.now c.next.new.self.left c.in-Some.line.now c.in-Some.ensures.line refl good.1 (λ y fits e. e)), goes_on c.args.lines.now c.loop-place.lines c.next.new.self c.loop-place.invariant.1 (asked_on c.loop-place.lines c.next.new.self c.in-Some.line.now c.next.new.self.left c.next.ensures.asked c.in-Some.ensures.line))
+    let P : List (List ℕ) → Type 0 = λ l. Taken (λ n. n) Spelled c.args.count c.args.lines.now.left c.next.new.self.left l (c.loop-place._place + 1) in (
+      subst P (sym all) (steps (λ n. n) Spelled c.args.count c.args.lines.now.left c.loop-place.lines.left (texts c.loop-place.names.items) c.loop-place._place c.loop-place-test.true c.loop-place.invariant.0
+          c.in-Some.line.now c.next.new.self.left c.in-Some.line.now c.in-Some.ensures.line refl good.1 (λ y fits e. e)),
+      goes_on c.args.lines.now c.loop-place.lines c.next.new.self c.loop-place.invariant.1 (asked_on c.loop-place.lines c.next.new.self c.in-Some.line.now c.next.new.self.left c.next.ensures.asked c.in-Some.ensures.line),
+    )
 
 pub returns-clause-whole : goal.returns-clause-whole
 returns-clause-whole g c = λ ys rest b.

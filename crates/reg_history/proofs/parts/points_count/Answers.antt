@@ -1,7 +1,5 @@
-use Rattle.std.proofs.Common.{Some, None, refl, sym, ap, ◌∙◌, arith}
+use Rattle.std.proofs.Common.{refl}
 use Rattle.std.specs.Fmt.{decimal}
-use Rattle.reg_text.proofs.Formed.{no_truth}
-use Rattle.reg_history.specs.ReadFaults.{why_of}
 use Rattle.reg_history.specs.declared.report_faults.ReadWhy.TheVariants.{Form}
 use Rattle.reg_history.proofs.parts.points_count.Goals as goal
 

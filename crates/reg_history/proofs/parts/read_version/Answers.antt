@@ -1,4 +1,4 @@
-use Rattle.std.proofs.Common.{ap, refl, sym, ◌∙◌, None, Some}
+use Rattle.std.proofs.Common.{refl, None, Some}
 use Rattle.reg_text.proofs.Numbered.{asked_on}
 use Rattle.reg_history.specs.Refusals.{IsNoVersion}
 use Rattle.reg_history.specs.declared.report_faults.ReadWhy.TheVariants.{Form, End}
