@@ -23,7 +23,7 @@ use Rattle.reg_history.specs.IdLines.{id_text, IdFits, point_text, PointFits}
 use Rattle.reg_history.specs.LineForms.{Follows, IsCounted}
 use Rattle.reg_history.specs.ReadFaults.{read_fault, why_of}
 use Rattle.reg_history.specs.Reports.{head_lines, is_front}
-use Rattle.reg_history.specs.Refusals.{IsFirstWrong, IsNoNextEntry, IsWrongBody, IsWrongCounted, IsWrongItem, IsWrongLists, IsWrongTail, RefusesLine}
+use Rattle.reg_history.specs.Refusals.{IsFirstWrong, IsNoNextEntry, IsWrongBody, IsWrongCounted, IsWrongItem, IsWrongLists, IsWrongTail, RefusesReportLine}
 use Rattle.reg_history.specs.Stops.{IsFailure, IsFurther, IsWrongEnd, IsWrongPoints}
 use Rattle.reg_history.specs.declared.report_faults.ReadFault.{ReadFault}
 use Rattle.reg_history.specs.declared.report_faults.ReadFault.TheVariants.{Line, OutOfMemory}
@@ -136,7 +136,7 @@ numbered whole before middle number None read comes n =
 numbered whole before middle number (Some line) read comes n = (before, comes.0, read ∙ ap (λ l. before ++ l) comes.1, refl, refl, n)
 
 pub text_line : {T : Type 0} (text : List ℕ) (old : Rest) (r : Result T ReadFault) → length text < 2 ^ 64 - 1 → old.left ≡ lines_of text → old.all ≡ lines_of text → old.number ≡ 0 → old.skips ≡ false
-    → IfErr r (IsFailure IsFirstWrong old) → IfErr r (λ f. (f ≡ OutOfMemory) ⊎ ((number : ℕ) × (why : ReadWhy) × (f ≡ Line number why) × RefusesLine number why text))
+    → IfErr r (IsFailure IsFirstWrong old) → IfErr r (λ f. (f ≡ OutOfMemory) ⊎ ((number : ℕ) × (why : ReadWhy) × (f ≡ Line number why) × RefusesReportLine number why text))
 text_line text old (Ok x) few left all number skips w = tt
 text_line text old (Err f) few left all number skips (inl memory) = inl memory
 text_line text old (Err f) few left all number skips (inr s) =

@@ -144,7 +144,7 @@ abbrev pub IsFirstWrong : List (List ℕ) → Option (List ℕ) → ReadWhy → 
 IsFirstWrong before next why = IsWrongHead before next why ⊎ IsWrongBehind before next why
 
 -- Of the lines of a text, the one with this number is the first with which no report goes on.
-pub record RefusesLine (number : ℕ) (why : ReadWhy) (text : List ℕ) : Type 0 where
+pub record RefusesReportLine (number : ℕ) (why : ReadWhy) (text : List ℕ) : Type 0 where
   pub before : List (List ℕ)
   pub next : Option (List ℕ)
   pub numbered : IsNumbered false (lines_of text) number before next

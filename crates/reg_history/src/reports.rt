@@ -3,7 +3,7 @@ ghost use Rattle.std.specs.Prelude.{◌≡◌, ◌↔◌, ◌⊎◌, ◌-◌, �
 ghost use Rattle.std.specs.Io.KnownBytes.{Appends};
 ghost use Rattle.reg_text.specs.Writing.{AppendsPart, Puts};
 ghost use Rattle.reg_orders.specs.declared.entries.Entry.{Entry};
-ghost use Rattle.reg_history.specs.Refusals.{IsFirstWrong, RefusesLine};
+ghost use Rattle.reg_history.specs.Refusals.{IsFirstWrong, RefusesReportLine};
 ghost use Rattle.reg_history.specs.Stops.{EntryHasValue, IsFailure};
 ghost use Rattle.reg_history.specs.declared.report_faults.ReadWhy.{ReadWhy as Why};
 ghost use Rattle.reg_history.specs.declared.versions.Version.{Version};
@@ -221,7 +221,7 @@ pub fn read_report<A: Allocator + Copy>(alloc: A, text: &str) -> Result<Report<A
     ensures read { IfOk result (λ r. SpellsReport text.now r) }
     ensures good { IfOk result (λ r. IsReport r) }
     ensures whole { (r : Contents) → SpellsReport text.now r → MatchResult result (λ w. w ≡ r) (λ f. f ≡ ReadFault.OutOfMemory) }
-    ensures line { length text.now < 2 ^ 64 - 1 → IfErr result (λ f. (f ≡ ReadFault.OutOfMemory) ⊎ ((number : ℕ) × (why : Why) × (f ≡ ReadFault.Line number why) × RefusesLine number why text.now)) }
+    ensures line { length text.now < 2 ^ 64 - 1 → IfErr result (λ f. (f ≡ ReadFault.OutOfMemory) ⊎ ((number : ℕ) × (why : Why) × (f ≡ ReadFault.Line number why) × RefusesReportLine number why text.now)) }
 {
     let mut lines = Lines::new(text.as_bytes());
     read_lines(alloc, &mut lines)

@@ -7,6 +7,7 @@ use Rattle.reg_history.specs.declared.versions.Version.TheVariants.{Two}
 use Rattle.reg_history.specs.Reports.{registers_lines}
 use Rattle.reg_history.proofs.Listed.{map_same, some_name, counted_names}
 use Rattle.reg_text.proofs.Numbered.{asked_on}
+use Rattle.reg_history.specs.ReadFaults.{read_fault}
 use Rattle.reg_history.specs.Refusals.{IsNewName, IsNoCount, IsNoNewName, IsWrongItem, IsWrongNames}
 use Rattle.reg_history.specs.Stops.{IsFirst}
 use Rattle.reg_history.proofs.Heads.{counted_first, counted_more}
@@ -48,7 +49,7 @@ pub returns-in_err-count-clause-stopped : goal.returns-in_err-count-clause-stopp
 returns-in_err-count-clause-stopped g c =
     let told = c.in_err-count.ensures in
     failure_passed_on c.from_residual.result _ _ c.from_residual.ensures.1
-    (fails_as (IsWrongNames Two) (IsFirst (IsNoCount (codes "registers ") 1 MOST_REGISTERS)) c.args.lines.now _ (counted_first (codes "registers ") 1 MOST_REGISTERS (λ n. n) IsNewName IsNoNewName)
+    (fails_as (IsWrongNames Two) (IsFirst (IsNoCount (codes "registers ") 1 MOST_REGISTERS)) c.args.lines.now (read_fault c.in_err-count.field-0.0) (counted_first (codes "registers ") 1 MOST_REGISTERS (λ n. n) IsNewName IsNoNewName)
     (count_fails (codes "registers ") MOST_REGISTERS c.args.lines.now c.read_count.new.lines c.in_err-count.field-0.0 told.fault.0 told.fault.1 told.asked told.end told.range told.form told.whole 1))
 
 pub returns-then-count-eq0-clause-stopped : goal.returns-then-count-eq0-clause-stopped

@@ -8,6 +8,7 @@ use Rattle.reg_history.specs.LineForms.{IsCounted, Follows}
 use Rattle.reg_history.specs.EntryLines.{entry_text}
 use Rattle.reg_history.specs.declared.versions.Version.{Version}
 use Rattle.reg_history.specs.declared.report_limits.TheConstants.{MOST_ENTRIES}
+use Rattle.reg_history.specs.ReadFaults.{read_fault}
 use Rattle.reg_history.specs.Refusals.{IsNoCount, IsNoNextEntry, IsWrongCounted, IsWrongItem}
 use Rattle.reg_history.specs.Stops.{IsFirst}
 use Rattle.reg_history.proofs.Counted.{block_of, counted_of}
@@ -74,7 +75,7 @@ pub returns-in_err-count-clause-stopped : goal.returns-in_err-count-clause-stopp
 returns-in_err-count-clause-stopped g c =
     let told = c.in_err-count.ensures in
     failure_passed_on c.from_residual.result _ _ c.from_residual.ensures.1
-    (fails_as (IsWrongCounted (codes "history ") 0 MOST_ENTRIES (entry_text c.args.names.now) (Follows c.args.version c.args.names.now c.args.shape) (IsNoNextEntry c.args.version c.args.names.now c.args.shape)) (IsFirst (IsNoCount (codes "history ") 0 MOST_ENTRIES)) c.args.lines.now _
+    (fails_as (IsWrongCounted (codes "history ") 0 MOST_ENTRIES (entry_text c.args.names.now) (Follows c.args.version c.args.names.now c.args.shape) (IsNoNextEntry c.args.version c.args.names.now c.args.shape)) (IsFirst (IsNoCount (codes "history ") 0 MOST_ENTRIES)) c.args.lines.now (read_fault c.in_err-count.field-0.0)
     (counted_first (codes "history ") 0 MOST_ENTRIES (entry_text c.args.names.now) (Follows c.args.version c.args.names.now c.args.shape) (IsNoNextEntry c.args.version c.args.names.now c.args.shape))
     (count_fails (codes "history ") MOST_ENTRIES c.args.lines.now c.read_count.new.lines c.in_err-count.field-0.0 told.fault.0 told.fault.1 told.asked told.end told.range told.form told.whole 0))
 

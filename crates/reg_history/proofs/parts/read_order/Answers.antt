@@ -6,6 +6,7 @@ use Rattle.reg_history.specs.declared.report_limits.TheConstants.{MOST_IDS}
 use Rattle.reg_history.specs.IdLines.{id_text, IdFits}
 use Rattle.reg_text.proofs.Numbered.{asked_on}
 use Rattle.reg_history.specs.LineForms.{HasIdForm, IsBadLine}
+use Rattle.reg_history.specs.ReadFaults.{read_fault}
 use Rattle.reg_history.specs.Refusals.{IsNoCount, IsWrongCounted, IsWrongItem}
 use Rattle.reg_history.specs.Stops.{IsFirst}
 use Rattle.reg_history.proofs.Counted.{block_of, counted_of}
@@ -30,7 +31,7 @@ pub returns-in_err-count-clause-stopped : goal.returns-in_err-count-clause-stopp
 returns-in_err-count-clause-stopped g c =
     let told = c.in_err-count.ensures in
     failure_passed_on c.from_residual.result _ _ c.from_residual.ensures.1
-    (fails_as (IsWrongCounted (codes "order ") 0 MOST_IDS id_text (λ (_ : List OpId) (x : OpId). IdFits c.args.version x) (λ _. IsBadLine id_text (IdFits c.args.version) HasIdForm)) (IsFirst (IsNoCount (codes "order ") 0 MOST_IDS)) c.args.lines.now _ (counted_first (codes "order ") 0 MOST_IDS id_text (λ (_ : List OpId) (x : OpId). IdFits c.args.version x) (λ _. IsBadLine id_text (IdFits c.args.version) HasIdForm))
+    (fails_as (IsWrongCounted (codes "order ") 0 MOST_IDS id_text (λ (_ : List OpId) (x : OpId). IdFits c.args.version x) (λ _. IsBadLine id_text (IdFits c.args.version) HasIdForm)) (IsFirst (IsNoCount (codes "order ") 0 MOST_IDS)) c.args.lines.now (read_fault c.in_err-count.field-0.0) (counted_first (codes "order ") 0 MOST_IDS id_text (λ (_ : List OpId) (x : OpId). IdFits c.args.version x) (λ _. IsBadLine id_text (IdFits c.args.version) HasIdForm))
     (count_fails (codes "order ") MOST_IDS c.args.lines.now c.read_count.new.lines c.in_err-count.field-0.0 told.fault.0 told.fault.1 told.asked told.end told.range told.form told.whole 0))
 
 pub returns-clause-stopped : goal.returns-clause-stopped
