@@ -17,5 +17,5 @@ returns-in-Err-Line-clause-why g c = (
   λ r spells.
       let none = (rw c.in-Err-Line.field-0-is at (c.in-Err-Line.ensures.whole r spells)) in
       absurd (cc),
-  λ short. refused c.args.text.now c.in-Err-Line.field-0.line c.in-Err-Line.field-0.why (rw c.in-Err-Line.field-0-is at (c.in-Err-Line.ensures.line (omega (arith, short)))),
+  λ short. refused c.args.text.now c.in-Err-Line.line c.in-Err-Line.why (rw c.in-Err-Line.field-0-is at (c.in-Err-Line.ensures.line (omega (arith, short)))),
 )
