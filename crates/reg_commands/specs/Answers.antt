@@ -5,6 +5,7 @@ use Rattle.reg_text.specs.Writing.{AppendsPart}
 use Rattle.reg_text.specs.declared.faults.Why.{Why}
 use Rattle.reg_base.specs.declared.limits.TheConstants.{LONGEST_INPUT}
 use Rattle.reg_history.specs.ReadFaults.{why_of}
+use Rattle.reg_history.specs.Refusals.{RefusesReportLine}
 use Rattle.reg_history.specs.Reports.{Contents, IsReport, SpellsReport}
 use Rattle.reg_history.specs.declared.report_faults.ReadWhy.{ReadWhy}
 use Rattle.reg_commands.specs.declared.command.Command.{Command}
@@ -41,11 +42,11 @@ Answers (Play fair) agrees Wrote text = (agrees ≡ true) × Plays fair Wrote te
 abbrev pub AnswersInPart : Command → Option (List ℕ) → Option (List ℕ) → List ℕ → Type 0
 AnswersInPart command old new text = (agrees : Bool) × Answers command agrees (AppendsPart old new) text
 
--- the text is none of those that the command reads, as a line shows: of a schedule's, the first with which no schedule goes on, with its
--- number and its reason; no line of a document is named
+-- the text is none of those that the command reads, as a line shows: of a schedule's, the first with which no schedule goes on, and of a
+-- report's, the first that may not follow those before it, with its number and its reason; no line of a document is named
 abbrev pub IsRefused : Command → ℕ → ReadWhy → List ℕ → Type 0
 IsRefused Replay line why text = ((p : Plan) → IsPlan p → ¬ Spells text p) × (length text ≤ LONGEST_INPUT → (told : Why) × (why ≡ why_of told) × RefusesLine line told text)
-IsRefused Check line why text = (r : Contents) → ¬ SpellsReport text r
+IsRefused Check line why text = ((r : Contents) → ¬ SpellsReport text r) × (length text ≤ LONGEST_INPUT → RefusesReportLine line why text)
 IsRefused (Play fair) line why text = ⊥
 
 -- the text's events are refused at this one, for this cause

@@ -10,4 +10,8 @@ mod Counted
 mod PassedOn
 mod Firsts
 mod Formed
+mod Stopping
+mod Heads
+mod Repeats
+mod Endings
 pub mod Tails

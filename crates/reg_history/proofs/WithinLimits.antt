@@ -8,7 +8,7 @@ use Rattle.reg_text.proofs.Spelling.{op_fits}
 use Rattle.reg_orders.specs.declared.entries.Entry.{Entry}
 use Rattle.reg_orders.specs.declared.entries.Entry.TheVariants.{Called, Answered}
 use Rattle.reg_history.specs.EntryLines.{EntryFits, ColumnsFit}
-use Rattle.reg_history.specs.LineForms.{EntryHasValue}
+use Rattle.reg_history.specs.Stops.{EntryHasValue}
 use Rattle.reg_history.specs.declared.versions.Version.TheVariants.{Two}
 use Rattle.reg_orders.specs.History.{IsHistory, MayCall, MayAnswer}
 use Rattle.reg_orders.proofs.Places.{in_take}

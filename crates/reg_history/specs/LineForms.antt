@@ -1,27 +1,19 @@
--- The forms of lines, whatever the limits, and lines that are being read. They carry a proof: no promise speaks of them.
-use Rattle.std.specs.Prelude.{ℕ, ◌≡◌, ◌≢◌, ◌<◌, ◌≤◌, ◌⊎◌, true, List, [], ◌++◌, codes, length, map, ◌∷◌, if◌then◌else◌}
+-- The forms of lines, whatever the limits, and why a line is none of an entry's or of an item's. To be believed: a promise speaks of them.
+use Rattle.std.specs.Prelude.{ℕ, ◌≡◌, ◌≢◌, ◌≤◌, ◌⊎◌, true, List, ◌++◌, codes, length, ◌∷◌}
 use Rattle.std.specs.Fmt.{decimal}
 use Rattle.reg_base.specs.Shape.{Extent}
-use Rattle.reg_base.specs.Names.{is_name}
-use Rattle.reg_text.specs.Inner.{HasValue}
-use Rattle.reg_text.specs.Forms.{is_numeral, is_word, HasOpForm, IsOpWhy}
+use Rattle.reg_text.specs.Forms.{is_numeral, HasOpForm, IsOpWhy}
 use Rattle.reg_text.specs.declared.faults.Why.{Why}
 use Rattle.reg_text.specs.declared.faults.Why.TheVariants.{Range}
 use Rattle.reg_history.specs.declared.report_faults.ReadWhy.{ReadWhy}
-use Rattle.reg_history.specs.declared.report_faults.ReadWhy.TheVariants.{Form as Misspelt, Range as BeyondLimit, Name as BadName, Place as OutOfPlace, End as NoLine}
+use Rattle.reg_history.specs.declared.report_faults.ReadWhy.TheVariants.{Form as Misspelt, Range as BeyondLimit, Place as OutOfPlace}
 use Rattle.reg_orders.specs.declared.entries.Entry.{Entry}
-use Rattle.reg_orders.specs.declared.entries.Entry.TheVariants.{Called, Answered}
 use Rattle.reg_history.specs.declared.versions.Version.{Version}
 use Rattle.reg_orders.specs.History.{IsInPlace}
-use Rattle.reg_history.specs.EntryLines.{columns_of, entry_text, AnswerFits, ColumnsFit, EntryFits}
+use Rattle.reg_history.specs.EntryLines.{columns_of, entry_text, ColumnsFit, EntryFits}
 use Rattle.reg_text.specs.Lines.{AllFit}
 use Rattle.reg_history.specs.ReadFaults.{why_of}
 use Rattle.reg_history.specs.Reports.{counted_lines}
-
--- the value of its operation or answer has 64 bits
-abbrev pub EntryHasValue : Entry → Type 0
-EntryHasValue (Called at id op) = HasValue op
-EntryHasValue (Answered at id answer) = AnswerFits answer
 
 -- the entry is within the limits, and in place after those before it
 abbrev pub Follows : Version → List (List ℕ) → Extent → List Entry → Entry → Type 0
@@ -81,33 +73,6 @@ pub record IsMisplaced (version : Version) (names : List (List ℕ)) (shape : Ex
   pub misplaced : ¬ (IsInPlace shape.processes shape.registers before entry)
   pub told : why ≡ OutOfPlace
 
--- no line is left; or the next one is refused, and these stand behind it
-abbrev pub IsWrongLine : Version → List (List ℕ) → Extent → List Entry → List (List ℕ) → List (List ℕ) → ReadWhy → Type 0
-IsWrongLine version names shape before [] rest why = why ≡ NoLine
-IsWrongLine version names shape before (line ∷ after) rest why = (after ≡ rest) × (IsNoEntry version names line why ⊎ IsMisplaced version names shape before line why)
-
--- Fewer lines than the count says are of entries in place, and the next one is wrong.
-pub record IsWrongEntry (version : Version) (names : List (List ℕ)) (shape : Extent) (count : ℕ) (old rest : List (List ℕ)) (why : ReadWhy) : Type 0 where
-  pub before : List Entry
-  pub now : List (List ℕ)
-  pub lines : old ≡ map (entry_text names) before ++ now
-  pub fit : AllFit (Follows version names shape) before
-  pub fewer : length before < count
-  pub wrong : IsWrongLine version names shape before now rest why
-
--- no line is left; or the next one is no name, though it may be a word, and these stand behind it
-abbrev pub IsNoName : List (List ℕ) → List (List ℕ) → ReadWhy → Type 0
-IsNoName [] rest why = why ≡ NoLine
-IsNoName (line ∷ after) rest why = (after ≡ rest) × (is_name line ≢ true) × (why ≡ (if is_word line then BadName else Misspelt))
-
--- Fewer lines than the count says are these names, each well spelt, and the next one is wrong.
-pub record IsWrongName (count : ℕ) (old rest : List (List ℕ)) (names : List (List ℕ)) (why : ReadWhy) : Type 0 where
-  pub now : List (List ℕ)
-  pub lines : old ≡ names ++ now
-  pub fit : AllFit (λ _ n. is_name n ≡ true) names
-  pub fewer : length names < count
-  pub wrong : IsNoName now rest why
-
 -- the line has the form of an operation's, whatever the limits: these numerals in their places
 abbrev pub IsIdForm : List ℕ → List ℕ → List ℕ → Type 0
 IsIdForm line process number = (is_numeral process ≡ true) × (is_numeral number ≡ true) × (line ≡ codes "p" ++ (process ++ 32 ∷ (codes "#" ++ number)))
@@ -128,11 +93,6 @@ pub record IsBadLine {X : Type 0} (line_of : X → List ℕ) (Fits : X → Type 
   pub none : (x : X) → Fits x → line ≢ line_of x
   pub range : HasForm line → why ≡ BeyondLimit
   pub form : (¬ HasForm line) → why ≡ Misspelt
-
--- no line is left, or the next one is none of an item's
-abbrev pub IsBadNext : {X : Type 0} → (X → List ℕ) → (X → Type 0) → (List ℕ → Type 0) → List (List ℕ) → ReadWhy → Type 0
-IsBadNext line_of Fits HasForm [] why = why ≡ NoLine
-IsBadNext line_of Fits HasForm (line ∷ rest) why = IsBadLine line_of Fits HasForm line why
 
 -- the lines are those of a count and of as many elements, each fit, no more than the limit, and then the rest
 pub record IsCounted {X : Type 0} (mark : List ℕ) (line_of : X → List ℕ) (Fits : List X → X → Type 0) (limit : ℕ) (old rest : List (List ℕ)) (xs : List X) : Type 0 where

@@ -1,12 +1,13 @@
 //! Readers of the registers of a report.
-ghost use Rattle.std.specs.Prelude.{◌≡◌, ◌≢◌, ◌<◌, ◌≤◌, ◌+◌, ◌^◌, ◌⊎◌, ◌++◌, ℕ, List, length, true, None, Some, IfOk, IfNone, IfSome, MatchResult, MatchOption, string_bytes, codes, if◌then◌else◌};
+ghost use Rattle.std.specs.Prelude.{◌≡◌, ◌≢◌, ◌<◌, ◌≤◌, ◌+◌, ◌^◌, ◌⊎◌, ◌++◌, ℕ, List, length, true, None, Some, IfOk, IfErr, OnOk, IfNone, IfSome, MatchResult, MatchOption, string_bytes, codes, if◌then◌else◌};
 ghost use Rattle.reg_base.specs.Names.{is_name as is_name_of, names_fault, texts};
-ghost use Rattle.reg_text.specs.Inner.{IsBlock};
+ghost use Rattle.reg_text.specs.Inner.{GoesOn, IsBlock};
 ghost use Rattle.reg_text.specs.Forms.{is_word as is_word_of};
 ghost use Rattle.reg_history.specs.declared.versions.Version.{Version};
 ghost use Rattle.reg_history.specs.declared.versions.Version.TheVariants.{One, Two};
-ghost use Rattle.reg_history.specs.declared.report_faults.ReadWhy.{ReadWhy as Why};
-ghost use Rattle.reg_history.specs.LineForms.{IsWrongName};
+ghost use Rattle.reg_history.specs.Refusals.{IsNewName, IsNoNewName, IsWrongItem, IsWrongNames};
+ghost use Rattle.reg_history.specs.Stops.{IsFailure, IsWrongName};
+ghost use Rattle.reg_base.specs.declared.limits.TheConstants.{MOST_REGISTERS};
 ghost use Rattle.reg_history.specs.Versions.{most_registers};
 ghost use Rattle.reg_history.specs.Reports.{registers_lines};
 
@@ -54,7 +55,8 @@ fn read_spelt<A: Allocator + Copy>(alloc: A, lines: &mut Lines<'_>, count: u32) 
     ensures read { IfNone result.stop (IsBlock (λ n. n) (λ _ n. is_name_of n ≡ true) count lines.old.left lines.new.left (texts result.names.items)) }
     ensures whole { (ys rest : List (List ℕ)) → IsBlock (λ n. n) (λ _ n. is_name_of n ≡ true) count lines.old.left rest ys
         → MatchOption result.stop ((texts result.names.items ≡ ys) × (lines.new.left ≡ rest)) (λ f. f ≡ ReadFault.OutOfMemory) }
-    ensures wrong { IfSome result.stop (λ f. (f ≡ ReadFault.OutOfMemory) ⊎ ((why : Why) × (f ≡ ReadFault.Line lines.new.number why) × IsWrongName count lines.old.left lines.new.left (texts result.names.items) why)) }
+    ensures wrong { IfSome result.stop (λ f. (f ≡ ReadFault.OutOfMemory) ⊎ IsWrongName count lines.old (texts result.names.items) f) }
+    ensures on { IfNone result.stop (GoesOn lines.old lines.new) }
 {
     let mut names = Vec::new(alloc);
     for _place in 0..count {
@@ -84,7 +86,7 @@ fn read_spelt<A: Allocator + Copy>(alloc: A, lines: &mut Lines<'_>, count: u32) 
 /// The fault of the first name that stands earlier too, by the number of the line before the first name; and else the
 /// other fault.
 fn first_fault(fault: NamesFault, before: u64, other: ReadFault) -> ReadFault
-    ensures same { (place : ℕ) → fault ≡ NamesFault.SameName place → before + place + 1 < 2 ^ 64 → result ≡ ReadFault.Line (before + place + 1) ReadWhy.Name }
+    ensures same { (place : ℕ) → fault ≡ NamesFault.SameName place → (number : ℕ) × (result ≡ ReadFault.Line number ReadWhy.Name) × (before + place + 1 < 2 ^ 64 → number ≡ before + place + 1) }
     ensures other { ((place : ℕ) → fault ≢ NamesFault.SameName place) → result ≡ other }
 {
     match fault {
@@ -104,7 +106,7 @@ fn stopped_at<A: Allocator + Copy>(
     stop: ReadFault,
 ) -> ReadFault
     ensures memory { stop ≡ ReadFault.OutOfMemory → result ≡ ReadFault.OutOfMemory }
-    ensures same { (place : ℕ) → stop ≢ ReadFault.OutOfMemory → names_fault (texts names.items) ≡ Some (NamesFault.SameName place) → before + place + 1 < 2 ^ 64 → result ≡ ReadFault.Line (before + place + 1) ReadWhy.Name }
+    ensures same { (place : ℕ) → stop ≢ ReadFault.OutOfMemory → names_fault (texts names.items) ≡ Some (NamesFault.SameName place) → (number : ℕ) × (result ≡ ReadFault.Line number ReadWhy.Name) × (before + place + 1 < 2 ^ 64 → number ≡ before + place + 1) }
     ensures other { ((place : ℕ) → ¬ (names_fault (texts names.items) ≡ Some (NamesFault.SameName place))) → result ≡ stop }
 {
     if stop == ReadFault::OutOfMemory {
@@ -126,6 +128,8 @@ fn read_listed<A: Allocator + Copy>(
     ensures read { IfOk result (λ n. (lines.old.left ≡ n ++ lines.new.left) × (length n ≡ count) × (names_fault n ≡ None)) }
     ensures whole { (ns rest : List (List ℕ)) → names_fault ns ≡ None → length ns ≡ count → lines.old.left ≡ ns ++ rest
         → MatchResult result (λ n. (n ≡ ns) × (lines.new.left ≡ rest)) (λ f. f ≡ ReadFault.OutOfMemory) }
+    ensures stopped { 0 < count → count ≤ MOST_REGISTERS → IfErr result (IsFailure (IsWrongItem (λ n. n) IsNewName IsNoNewName count) lines.old) }
+    ensures on { OnOk result (GoesOn lines.old lines.new) }
 {
     let before = lines.number();
     let Spelt { names, stop } = read_spelt(alloc, lines, count);
@@ -149,6 +153,8 @@ fn read_older_registers<A: Allocator + Copy>(
     ensures read { IfOk result (λ n. (lines.old.left ≡ registers_lines One n lines.new.left) × (names_fault n ≡ None) × (length n ≤ most_registers One)) }
     ensures whole { (names rest : List (List ℕ)) → names_fault names ≡ None → length names ≤ most_registers One → lines.old.left ≡ registers_lines One names rest
         → MatchResult result (λ n. (n ≡ names) × (lines.new.left ≡ rest)) (λ f. f ≡ ReadFault.OutOfMemory) }
+    ensures stopped { IfErr result (IsFailure (IsWrongNames One) lines.old) }
+    ensures on { OnOk result (GoesOn lines.old lines.new) }
 {
     let names = read_names(alloc, lines, OLDER_REGISTERS)?;
     Ok(names)
@@ -162,6 +168,8 @@ fn read_newer_registers<A: Allocator + Copy>(
     ensures read { IfOk result (λ n. (lines.old.left ≡ registers_lines Two n lines.new.left) × (names_fault n ≡ None) × (length n ≤ most_registers Two)) }
     ensures whole { (names rest : List (List ℕ)) → names_fault names ≡ None → length names ≤ most_registers Two → lines.old.left ≡ registers_lines Two names rest
         → MatchResult result (λ n. (n ≡ names) × (lines.new.left ≡ rest)) (λ f. f ≡ ReadFault.OutOfMemory) }
+    ensures stopped { IfErr result (IsFailure (IsWrongNames Two) lines.old) }
+    ensures on { OnOk result (GoesOn lines.old lines.new) }
 {
     let count = read_count(lines, b"registers ", MOST_REGISTERS as u64)?;
     if count == 0 {
@@ -179,6 +187,8 @@ pub fn read_registers<A: Allocator + Copy>(
     ensures read { IfOk result (λ n. (lines.old.left ≡ registers_lines version n lines.new.left) × (names_fault n ≡ None) × (length n ≤ most_registers version)) }
     ensures whole { (names rest : List (List ℕ)) → names_fault names ≡ None → length names ≤ most_registers version → lines.old.left ≡ registers_lines version names rest
         → MatchResult result (λ n. (n ≡ names) × (lines.new.left ≡ rest)) (λ f. f ≡ ReadFault.OutOfMemory) }
+    ensures stopped { IfErr result (IsFailure (IsWrongNames version) lines.old) }
+    ensures on { OnOk result (GoesOn lines.old lines.new) }
 {
     match version {
         Version::One => read_older_registers(alloc, lines),

@@ -1,5 +1,5 @@
 //! The counted parts of a report.
-ghost use Rattle.std.specs.Prelude.{◌≡◌, ◌≢◌, ◌<◌, ◌≤◌, length, ℕ, List, [], ◌∷◌, ◌++◌, None, Some, Ok, Err, IfOk, IfErr, OnOk, MatchResult, codes, Option, option_map, string_bytes, true, false};
+ghost use Rattle.std.specs.Prelude.{◌≡◌, ◌<◌, ◌≤◌, length, ℕ, List, [], ◌∷◌, ◌++◌, None, Ok, IfOk, IfErr, OnOk, MatchResult, codes, Option, option_map, string_bytes, true};
 ghost use Rattle.std.specs.Fmt.{decimal};
 ghost use Rattle.reg_base.specs.Names.{names_fault};
 ghost use Rattle.reg_base.specs.declared.memory.OpId.{OpId};
@@ -8,9 +8,11 @@ ghost use Rattle.reg_orders.specs.declared.entries.Point.{Point};
 ghost use Rattle.reg_history.specs.EntryLines.{entry_text};
 ghost use Rattle.reg_history.specs.Reports.{is_front as is_front_of};
 ghost use Rattle.reg_history.specs.IdLines.{id_text, IdFits, point_text, PointFits};
-ghost use Rattle.reg_text.specs.Forms.{is_numeral};
-ghost use Rattle.reg_text.specs.Inner.{IsBlock};
-ghost use Rattle.reg_history.specs.LineForms.{Follows, IsCounted};
+ghost use Rattle.reg_text.specs.Inner.{GoesOn, IsBlock};
+ghost use Rattle.reg_history.specs.LineForms.{Follows, HasIdForm, IsBadLine, IsCounted};
+ghost use Rattle.reg_history.specs.Refusals.{IsNoCount, IsNoFront, IsNoNextEntry, IsNoVersion, IsWrongCounted, IsWrongHead, IsWrongLists, IsWrongTail};
+ghost use Rattle.reg_history.specs.Stops.{IsFailure, IsFirst, IsFurther, IsWrongEnd, IsWrongPoints};
+ghost use Rattle.reg_history.specs.declared.report_faults.ReadWhy.{ReadWhy as Why};
 ghost use Rattle.reg_history.specs.Reports.{tail_lines, PointsFit, head_lines};
 ghost use Rattle.reg_history.specs.declared.versions.Version.{Version};
 ghost use Rattle.reg_history.specs.Versions.{most_processes, most_registers, version_line};
@@ -39,8 +41,8 @@ fn read_front<A: Allocator + Copy>(alloc: A, lines: &mut Lines<'_>) -> Result<St
     ensures read { IfOk result (λ s. (lines.old.left ≡ (codes "front " ++ string_bytes s) ∷ lines.new.left) × (is_front_of (string_bytes s) ≡ true)) }
     ensures whole { (front : List ℕ) (rest : List (List ℕ)) → is_front_of front ≡ true → lines.old.left ≡ (codes "front " ++ front) ∷ rest
         → MatchResult result (λ s. (string_bytes s ≡ front) × (lines.new.left ≡ rest)) (λ f. f ≡ ReadFault.OutOfMemory) }
-    ensures end { lines.old.left ≡ [] → result ≡ Err (ReadFault.Line lines.new.number ReadWhy.End) }
-    ensures form { (line : List ℕ) (rest : List (List ℕ)) → lines.old.left ≡ line ∷ rest → ((word : List ℕ) → line ≡ codes "front " ++ word → is_front_of word ≡ false) → result ≡ Err (ReadFault.Line lines.new.number ReadWhy.Form) }
+    ensures stopped { IfErr result (IsFailure (IsFirst IsNoFront) lines.old) }
+    ensures on { OnOk result (GoesOn lines.old lines.new) }
 {
     let Some(line) = lines.next() else {
         return Err(at_line(lines, ReadWhy::End));
@@ -63,8 +65,8 @@ fn read_version(lines: &mut Lines<'_>) -> Result<Version, ReadFault>
     ensures read { IfOk result (λ version. lines.old.left ≡ version_line version ∷ lines.new.left) }
     ensures whole { (version : Version) (rest : List (List ℕ)) → lines.old.left ≡ version_line version ∷ rest
         → MatchResult result (λ v. (v ≡ version) × (lines.new.left ≡ rest)) (λ _. ⊥) }
-    ensures end { lines.old.left ≡ [] → result ≡ Err (ReadFault.Line lines.new.number ReadWhy.End) }
-    ensures form { (line : List ℕ) (rest : List (List ℕ)) → lines.old.left ≡ line ∷ rest → ((version : Version) → line ≢ version_line version) → result ≡ Err (ReadFault.Line lines.new.number ReadWhy.Form) }
+    ensures stopped { IfErr result (IsFailure (IsFirst IsNoVersion) lines.old) }
+    ensures on { OnOk result (GoesOn lines.old lines.new) }
 {
     let Some(line) = lines.next() else {
         return Err(at_line(lines, ReadWhy::End));
@@ -80,9 +82,8 @@ fn read_processes(lines: &mut Lines<'_>, version: Version) -> Result<u32, ReadFa
     ensures read { IfOk result (λ n. (lines.old.left ≡ (codes "processes " ++ decimal n) ∷ lines.new.left) × (0 < n) × (n ≤ most_processes version)) }
     ensures whole { (n : ℕ) (rest : List (List ℕ)) → 0 < n → n ≤ most_processes version → lines.old.left ≡ (codes "processes " ++ decimal n) ∷ rest
         → MatchResult result (λ m. (m ≡ n) × (lines.new.left ≡ rest)) (λ _. ⊥) }
-    ensures end { lines.old.left ≡ [] → result ≡ Err (ReadFault.Line lines.new.number ReadWhy.End) }
-    ensures range { (digits : List ℕ) (rest : List (List ℕ)) → is_numeral digits ≡ true → lines.old.left ≡ (codes "processes " ++ digits) ∷ rest → IfErr result (λ f. f ≡ ReadFault.Line lines.new.number ReadWhy.Range) }
-    ensures form { (line : List ℕ) (rest : List (List ℕ)) → lines.old.left ≡ line ∷ rest → ((digits : List ℕ) → line ≡ codes "processes " ++ digits → is_numeral digits ≡ false) → result ≡ Err (ReadFault.Line lines.new.number ReadWhy.Form) }
+    ensures stopped { IfErr result (IsFailure (IsFirst (IsNoCount (codes "processes ") 1 (most_processes version))) lines.old) }
+    ensures on { OnOk result (GoesOn lines.old lines.new) }
 {
     let processes = read_count(lines, b"processes ", version.most_processes() as u64)?;
     if processes == 0 {
@@ -101,6 +102,8 @@ pub fn read_head<A: Allocator + Copy>(
         → is_front_of front ≡ true → 0 < processes → processes ≤ most_processes version → names_fault names ≡ None → length names ≤ most_registers version
         → lines.old.left ≡ head_lines version front processes names rest
         → MatchResult result (λ h. (h.0 ≡ version) × (string_bytes h.1 ≡ front) × (h.2 ≡ processes) × (h.3 ≡ names) × (lines.new.left ≡ rest)) (λ f. f ≡ ReadFault.OutOfMemory) }
+    ensures stopped { IfErr result (IsFailure (IsWrongHead) lines.old) }
+    ensures on { OnOk result (GoesOn lines.old lines.new) }
 {
     let version = read_version(lines)?;
     let front = read_front(alloc, lines)?;
@@ -122,6 +125,8 @@ pub fn read_history<A: Allocator + Copy>(
     ensures read { IfOk result (λ h. IsCounted (codes "history ") (entry_text names.now) (Follows version names.now shape) MOST_ENTRIES lines.old.left lines.new.left h.entries) }
     ensures whole { (ys : List Entry) (rest : List (List ℕ)) → IsCounted (codes "history ") (entry_text names.now) (Follows version names.now shape) MOST_ENTRIES lines.old.left rest ys
         → MatchResult result (λ h. (h.entries ≡ ys) × (lines.new.left ≡ rest)) (λ f. f ≡ ReadFault.OutOfMemory) }
+    ensures stopped { IfErr result (IsFailure (IsWrongCounted (codes "history ") 0 MOST_ENTRIES (entry_text names.now) (Follows version names.now shape) (IsNoNextEntry version names.now shape)) lines.old) }
+    ensures on { OnOk result (GoesOn lines.old lines.new) }
 {
     let count = read_count(lines, b"history ", MOST_ENTRIES as u64)?;
     let Ok(mut history) = History::new(alloc, shape) else {
@@ -140,6 +145,8 @@ fn read_order<A: Allocator + Copy>(
     ensures read { IfOk result (λ v. IsCounted (codes "order ") id_text (λ _ x. IdFits version x) MOST_IDS lines.old.left lines.new.left v.items) }
     ensures whole { (ys : List OpId) (rest : List (List ℕ)) → IsCounted (codes "order ") id_text (λ _ x. IdFits version x) MOST_IDS lines.old.left rest ys
         → MatchResult result (λ v. (v.items ≡ ys) × (lines.new.left ≡ rest)) (λ f. f ≡ ReadFault.OutOfMemory) }
+    ensures stopped { IfErr result (IsFailure (IsWrongCounted (codes "order ") 0 MOST_IDS id_text (λ _ id. IdFits version id) (λ _. IsBadLine id_text (IdFits version) HasIdForm)) lines.old) }
+    ensures on { OnOk result (GoesOn lines.old lines.new) }
 {
     let count = read_count(lines, b"order ", MOST_IDS as u64)?;
     read_block(alloc, lines, count as u32, version)
@@ -149,18 +156,19 @@ fn read_order<A: Allocator + Copy>(
 fn expect_none(lines: &mut Lines<'_>) -> Result<(), ReadFault>
     ensures read { OnOk result (lines.old.left ≡ []) }
     ensures whole { lines.old.left ≡ [] → result ≡ Ok tt }
-    ensures further { (line : List ℕ) (rest : List (List ℕ)) → lines.old.left ≡ line ∷ rest → result ≡ Err (ReadFault.Line lines.new.number ReadWhy.End) }
+    ensures stopped { IfErr result (IsFailure (IsFurther) lines.old) }
 {
-    if lines.next().is_some() {
-        return Err(at_line(lines, ReadWhy::End));
+    match lines.next() {
+        Some(_) => Err(at_line(lines, ReadWhy::End)),
+        None => Ok(()),
     }
-    Ok(())
 }
 
 /// The last line, with none behind it.
 fn read_end(lines: &mut Lines<'_>) -> Result<(), ReadFault>
     ensures read { OnOk result (lines.old.left ≡ codes "end" ∷ []) }
     ensures whole { lines.old.left ≡ codes "end" ∷ [] → result ≡ Ok tt }
+    ensures stopped { IfErr result (IsFailure (IsWrongEnd) lines.old) }
 {
     expect_line(lines, b"end")?;
     expect_none(lines)
@@ -170,8 +178,7 @@ fn read_end(lines: &mut Lines<'_>) -> Result<(), ReadFault>
 fn points_count(lines: &Lines<'_>, line: &[u8]) -> Result<u32, ReadFault>
     ensures read { IfOk result (λ n. (line.now ≡ codes "points " ++ decimal n) × (n ≤ MOST_IDS)) }
     ensures whole { (n : ℕ) → n ≤ MOST_IDS → line.now ≡ codes "points " ++ decimal n → result ≡ Ok n }
-    ensures form { ((digits : List ℕ) → line.now ≡ codes "points " ++ digits → is_numeral digits ≡ false) → result ≡ Err (ReadFault.Line lines.now.number ReadWhy.Form) }
-    ensures range { (digits : List ℕ) → is_numeral digits ≡ true → line.now ≡ codes "points " ++ digits → ((n : ℕ) → n ≤ MOST_IDS → ¬ (digits ≡ decimal n)) → result ≡ Err (ReadFault.Line lines.now.number ReadWhy.Range) }
+    ensures none { IfErr result (λ f. (why : Why) × (f ≡ ReadFault.Line lines.now.number why) × IsNoCount (codes "points ") 0 MOST_IDS line.now why) }
 {
     let Some(digits) = skip(line, b"points ") else {
         return Err(at_line(lines, ReadWhy::Form));
@@ -192,28 +199,11 @@ fn read_points<A: Allocator + Copy>(
     ensures read { IfOk result (λ v. IsBlock point_text (λ _ p. PointFits version p) count lines.old.left (codes "end" ∷ []) v.items) }
     ensures whole { (ys : List Point) → IsBlock point_text (λ _ p. PointFits version p) count lines.old.left (codes "end" ∷ []) ys
         → MatchResult result (λ v. v.items ≡ ys) (λ f. f ≡ ReadFault.OutOfMemory) }
+    ensures stopped { IfErr result (IsFailure (IsWrongPoints version count) lines.old) }
 {
     let points = read_block(alloc, lines, count, version)?;
     read_end(lines)?;
     Ok(points)
-}
-
-/// The points behind the line that announces them, and the last line.
-fn read_listed_points<A: Allocator + Copy>(
-    alloc: A,
-    lines: &mut Lines<'_>,
-    line: &[u8],
-    version: Version,
-) -> Result<Option<Vec<Point, A>>, ReadFault>
-    ensures read { IfOk result (λ o. let points = option_map (λ v. v.items) o in (line.now ∷ lines.old.left ≡ tail_lines points) × PointsFit version points) }
-    ensures whole { (points : List Point) → PointsFit version (Some points) → line.now ∷ lines.old.left ≡ tail_lines (Some points)
-        → MatchResult result (λ o. option_map (λ v. v.items) o ≡ Some points) (λ f. f ≡ ReadFault.OutOfMemory) }
-    ensures form { ((digits : List ℕ) → line.now ≡ codes "points " ++ digits → is_numeral digits ≡ false) → result ≡ Err (ReadFault.Line lines.new.number ReadWhy.Form) }
-    ensures range { (digits : List ℕ) → is_numeral digits ≡ true → line.now ≡ codes "points " ++ digits → ((n : ℕ) → n ≤ MOST_IDS → ¬ (digits ≡ decimal n)) → result ≡ Err (ReadFault.Line lines.new.number ReadWhy.Range) }
-{
-    let count = points_count(lines, line)?;
-    let points = read_points(alloc, lines, count, version)?;
-    Ok(Some(points))
 }
 
 /// The points of a report, if it has any, and its last line.
@@ -225,10 +215,7 @@ fn read_tail<A: Allocator + Copy>(
     ensures read { IfOk result (λ o. let points = option_map (λ v. v.items) o in (lines.old.left ≡ tail_lines points) × PointsFit version points) }
     ensures whole { (points : Option (List Point)) → PointsFit version points → lines.old.left ≡ tail_lines points
         → MatchResult result (λ o. option_map (λ v. v.items) o ≡ points) (λ f. f ≡ ReadFault.OutOfMemory) }
-    ensures end { lines.old.left ≡ [] → result ≡ Err (ReadFault.Line lines.new.number ReadWhy.End) }
-    ensures form { (line : List ℕ) (rest : List (List ℕ)) → lines.old.left ≡ line ∷ rest → line ≢ codes "end" → ((digits : List ℕ) → line ≡ codes "points " ++ digits → is_numeral digits ≡ false) → result ≡ Err (ReadFault.Line lines.new.number ReadWhy.Form) }
-    ensures range { (digits : List ℕ) (rest : List (List ℕ)) → is_numeral digits ≡ true → lines.old.left ≡ (codes "points " ++ digits) ∷ rest → ((n : ℕ) → n ≤ MOST_IDS → ¬ (digits ≡ decimal n)) → result ≡ Err (ReadFault.Line lines.new.number ReadWhy.Range) }
-    ensures further { (line : List ℕ) (rest : List (List ℕ)) → lines.old.left ≡ codes "end" ∷ line ∷ rest → result ≡ Err (ReadFault.Line lines.new.number ReadWhy.End) }
+    ensures stopped { IfErr result (IsFailure (IsWrongTail version) lines.old) }
 {
     let Some(line) = lines.next() else {
         return Err(at_line(lines, ReadWhy::End));
@@ -237,7 +224,9 @@ fn read_tail<A: Allocator + Copy>(
         expect_none(lines)?;
         return Ok(None);
     }
-    read_listed_points(alloc, lines, line, version)
+    let count = points_count(lines, line)?;
+    let points = read_points(alloc, lines, count, version)?;
+    Ok(Some(points))
 }
 
 /// The lists of a report: its order, and its points, if it has any. The last line is behind them.
@@ -249,6 +238,7 @@ pub fn read_lists<A: Allocator + Copy>(
     ensures read { IfOk result (λ p. let points = option_map (λ v. v.items) p.1 in (mid : List (List ℕ)) × IsCounted (codes "order ") id_text (λ _ x. IdFits version x) MOST_IDS lines.old.left mid p.0.items × (mid ≡ tail_lines points) × PointsFit version points) }
     ensures whole { (order : List OpId) (points : Option (List Point)) → IsCounted (codes "order ") id_text (λ _ x. IdFits version x) MOST_IDS lines.old.left (tail_lines points) order → PointsFit version points
         → MatchResult result (λ p. (p.0.items ≡ order) × (option_map (λ v. v.items) p.1 ≡ points)) (λ f. f ≡ ReadFault.OutOfMemory) }
+    ensures stopped { IfErr result (IsFailure (IsWrongLists version) lines.old) }
 {
     let order = read_order(alloc, lines, version)?;
     let points = read_tail(alloc, lines, version)?;

@@ -1,9 +1,11 @@
 //! Reports, and their texts.
-ghost use Rattle.std.specs.Prelude.{◌≡◌, ◌↔◌, ◌<◌, ◌≤◌, ℕ, Some, IfOk, OnOk, MatchOption, MatchResult, IsTrue, option_map, slice_get, string_bytes};
+ghost use Rattle.std.specs.Prelude.{◌≡◌, ◌↔◌, ◌⊎◌, ◌-◌, ◌^◌, ◌<◌, ◌≤◌, ℕ, length, Some, IfOk, IfErr, OnOk, MatchOption, MatchResult, IsTrue, option_map, slice_get, string_bytes};
 ghost use Rattle.std.specs.Io.KnownBytes.{Appends};
 ghost use Rattle.reg_text.specs.Writing.{AppendsPart, Puts};
 ghost use Rattle.reg_orders.specs.declared.entries.Entry.{Entry};
-ghost use Rattle.reg_history.specs.LineForms.{EntryHasValue};
+ghost use Rattle.reg_history.specs.Refusals.{IsFirstWrong, RefusesReportLine};
+ghost use Rattle.reg_history.specs.Stops.{EntryHasValue, IsFailure};
+ghost use Rattle.reg_history.specs.declared.report_faults.ReadWhy.{ReadWhy as Why};
 ghost use Rattle.reg_history.specs.declared.versions.Version.{Version};
 ghost use Rattle.reg_history.specs.declared.versions.Version.TheVariants.{Two};
 ghost use Rattle.reg_history.specs.Reports.{lines_in, report_text, IsReport, IsReportIn, IsReportFault, InRange, PointsFit, SpellsReport, Contents};
@@ -192,6 +194,7 @@ impl<A: Allocator + Copy> Report<A> {
 fn read_lines<A: Allocator + Copy>(alloc: A, lines: &mut Lines<'_>) -> Result<Report<A>, ReadFault>
     ensures read { IfOk result (λ r. (version : Version) × IsReportIn version r × (lines.old.left ≡ lines_in version r)) }
     ensures whole { (version : Version) (r : Contents) → IsReportIn version r → lines.old.left ≡ lines_in version r → MatchResult result (λ w. w ≡ r) (λ f. f ≡ ReadFault.OutOfMemory) }
+    ensures stopped { IfErr result (IsFailure IsFirstWrong lines.old) }
 {
     let (version, front, processes, names) = read_head(alloc, lines)?;
     let Ok(shape) = Shape::new(processes, names.count() as u32) else {
@@ -218,6 +221,7 @@ pub fn read_report<A: Allocator + Copy>(alloc: A, text: &str) -> Result<Report<A
     ensures read { IfOk result (λ r. SpellsReport text.now r) }
     ensures good { IfOk result (λ r. IsReport r) }
     ensures whole { (r : Contents) → SpellsReport text.now r → MatchResult result (λ w. w ≡ r) (λ f. f ≡ ReadFault.OutOfMemory) }
+    ensures line { length text.now < 2 ^ 64 - 1 → IfErr result (λ f. (f ≡ ReadFault.OutOfMemory) ⊎ ((number : ℕ) × (why : Why) × (f ≡ ReadFault.Line number why) × RefusesReportLine number why text.now)) }
 {
     let mut lines = Lines::new(text.as_bytes());
     read_lines(alloc, &mut lines)

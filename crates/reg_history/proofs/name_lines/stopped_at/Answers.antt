@@ -14,8 +14,11 @@ pub returns-then-eq-clause-other : goal.returns-then-eq-clause-other
 returns-then-eq-clause-other g c = λ none. refl
 
 pub returns-clause-same : goal.returns-clause-same
-returns-clause-same g c = λ place stopped named small.
-    elim c.match-new.branch [ in-Ok w ↦ absurd (none_some place (sym w.in-Ok.ensures.1 ∙ named)) | in-Err w ↦ w.result-is ∙ w.first_fault.ensures.same place (same_Some _ _ (sym w.in-Err.ensures ∙ named)) small ]
+returns-clause-same g c = λ place stopped named.
+    elim c.match-new.branch [
+      | in-Ok w ↦ absurd (none_some place (sym w.in-Ok.ensures.1 ∙ named))
+      | in-Err w ↦ let told = w.first_fault.ensures.same place (same_Some _ _ (sym w.in-Err.ensures ∙ named)) in (told.0, w.result-is ∙ told.1, told.2)
+    ]
 
 pub returns-clause-other : goal.returns-clause-other
 returns-clause-other g c = λ none.

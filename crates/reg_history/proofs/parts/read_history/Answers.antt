@@ -1,13 +1,20 @@
-use Rattle.std.proofs.Common.{◌≡◌, ◌≤◌, ℕ, List, ◌∷◌, ◌++◌, codes, refl, sym, subst, ◌∙◌, arith}
+use Rattle.std.proofs.Common.{[], inl, ◌≡◌, ◌≤◌, ℕ, List, ◌∷◌, ◌++◌, codes, refl, sym, subst, ◌∙◌, arith}
 use Rattle.std.specs.Fmt.{decimal}
 use Rattle.reg_base.specs.Shape.{Extent}
 use Rattle.reg_orders.specs.declared.entries.Entry.{Entry}
 use Rattle.reg_text.specs.Inner.{IsBlock}
+use Rattle.reg_text.proofs.Numbered.{asked_on, goes_on}
 use Rattle.reg_history.specs.LineForms.{IsCounted, Follows}
 use Rattle.reg_history.specs.EntryLines.{entry_text}
 use Rattle.reg_history.specs.declared.versions.Version.{Version}
 use Rattle.reg_history.specs.declared.report_limits.TheConstants.{MOST_ENTRIES}
+use Rattle.reg_history.specs.ReadFaults.{read_fault}
+use Rattle.reg_history.specs.Refusals.{IsNoCount, IsNoNextEntry, IsWrongCounted, IsWrongItem}
+use Rattle.reg_history.specs.Stops.{IsFirst}
 use Rattle.reg_history.proofs.Counted.{block_of, counted_of}
+use Rattle.reg_history.proofs.Endings.{history_item}
+use Rattle.reg_history.proofs.Heads.{counted_first}
+use Rattle.reg_history.proofs.Stopping.{count_fails, failure_passed_on, fails_as, fails_behind, not_failed}
 use Rattle.reg_history.proofs.PassedOn.{memory_passed_on, nothing_read}
 use Rattle.reg_history.proofs.parts.read_history.Goals as goal
 
@@ -63,3 +70,35 @@ returns-in_err-read_entries-clause-read g c = nothing_read c.from_residual-in_er
 
 pub returns-clause-shape : goal.returns-clause-shape
 returns-clause-shape g c = c.in_ok-read_entries.ensures.shape ∙ c.in-Ok.ensures.0
+
+pub returns-in_err-count-clause-stopped : goal.returns-in_err-count-clause-stopped
+returns-in_err-count-clause-stopped g c =
+    let told = c.in_err-count.ensures in
+    failure_passed_on c.from_residual.result _ _ c.from_residual.ensures.1
+    (fails_as (IsWrongCounted (codes "history ") 0 MOST_ENTRIES (entry_text c.args.names.now) (Follows c.args.version c.args.names.now c.args.shape) (IsNoNextEntry c.args.version c.args.names.now c.args.shape)) (IsFirst (IsNoCount (codes "history ") 0 MOST_ENTRIES)) c.args.lines.now (read_fault c.in_err-count.field-0.0)
+    (counted_first (codes "history ") 0 MOST_ENTRIES (entry_text c.args.names.now) (Follows c.args.version c.args.names.now c.args.shape) (IsNoNextEntry c.args.version c.args.names.now c.args.shape))
+    (count_fails (codes "history ") MOST_ENTRIES c.args.lines.now c.read_count.new.lines c.in_err-count.field-0.0 told.fault.0 told.fault.1 told.asked told.end told.range told.form told.whole 0))
+
+pub returns-in_default-clause-stopped : goal.returns-in_default-clause-stopped
+returns-in_default-clause-stopped g c = inl refl
+
+pub returns-in_err-read_entries-clause-stopped : goal.returns-in_err-read_entries-clause-stopped
+returns-in_err-read_entries-clause-stopped g c =
+    let read = c.in_ok-count.ensures in
+    let s = c.in-Ok.history.shape in
+    failure_passed_on c.from_residual-in_err-read_entries.result _ _ c.from_residual-in_err-read_entries.ensures.1
+    (fails_behind (IsWrongCounted (codes "history ") 0 MOST_ENTRIES (entry_text c.args.names.now) (Follows c.args.version c.args.names.now c.args.shape) (IsNoNextEntry c.args.version c.args.names.now c.args.shape))
+    (IsWrongItem (entry_text c.args.names.now) (Follows c.args.version c.args.names.now s) (IsNoNextEntry c.args.version c.args.names.now s) c.in_ok-count.count)
+    ((codes "history " ++ decimal c.in_ok-count.count) ∷ []) c.args.lines.now c.read_count.new.lines c.in_err-read_entries.field-0.0 read.read.0 (asked_on c.args.lines.now c.read_count.new.lines _ c.read_count.new.lines.left read.asked read.read.0)
+    (history_item c.args.version c.args.names.now c.args.shape s c.in_ok-count.count c.in-Ok.ensures.0 read.read.1) c.in_err-read_entries.ensures.stopped)
+
+pub returns-in_err-count-clause-on : goal.returns-in_err-count-clause-on
+returns-in_err-count-clause-on g c = not_failed c.from_residual.result _ _ c.from_residual.ensures.1
+
+pub returns-in_err-read_entries-clause-on : goal.returns-in_err-read_entries-clause-on
+returns-in_err-read_entries-clause-on g c = not_failed c.from_residual-in_err-read_entries.result _ _ c.from_residual-in_err-read_entries.ensures.1
+
+pub returns-clause-on : goal.returns-clause-on
+returns-clause-on g c =
+    let read = c.in_ok-count.ensures in
+    goes_on c.args.lines.now c.read_count.new.lines c.read_entries.new.lines (asked_on c.args.lines.now c.read_count.new.lines _ c.read_count.new.lines.left read.asked read.read.0) c.in_ok-read_entries.ensures.on

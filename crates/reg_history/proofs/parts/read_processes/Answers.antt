@@ -1,8 +1,8 @@
-use Rattle.std.proofs.Common.{refl, sym, ◌∙◌, arith}
-use Rattle.std.specs.Fmt.{decimal}
-use Rattle.reg_text.proofs.Formed.{number_form, no_truth}
-use Rattle.reg_history.proofs.Firsts.{none_first, first_line}
+use Rattle.std.proofs.Common.{arith, codes}
+use Rattle.reg_text.proofs.Numbered.{asked_on}
+use Rattle.reg_history.specs.Versions.{most_processes}
 use Rattle.reg_history.proofs.PassedOn.{nothing_read}
+use Rattle.reg_history.proofs.Stopping.{count_fails, failure_passed_on, not_failed, zero_fails}
 use Rattle.reg_history.proofs.parts.read_processes.Goals as goal
 
 pub returns-in_err-processes-clause-whole : goal.returns-in_err-processes-clause-whole
@@ -20,27 +20,24 @@ returns-clause-whole c = λ n rest some few e. c.in_ok-processes.ensures.whole n
 pub returns-in_err-processes-clause-read : goal.returns-in_err-processes-clause-read
 returns-in_err-processes-clause-read c = nothing_read c.from_residual.result _ _ c.from_residual.ensures.1
 
-pub returns-then-processes-eq0-clause-end : goal.returns-then-processes-eq0-clause-end
-returns-then-processes-eq0-clause-end c = λ e. none_first (sym e ∙ c.in_ok-processes.ensures.read.0)
-
-pub returns-then-processes-eq0-clause-range : goal.returns-then-processes-eq0-clause-range
-returns-then-processes-eq0-clause-range c = λ digits rest numeral e. c.at_line.ensures
-
-pub returns-then-processes-eq0-clause-form : goal.returns-then-processes-eq0-clause-form
-returns-then-processes-eq0-clause-form c = λ line rest e none.
-    let n = c.in_ok-processes.processes in
-    no_truth (sym (none (decimal n) (first_line (sym e ∙ c.in_ok-processes.ensures.read.0))) ∙ number_form (decimal n) n (omega (arith, c.in_ok-processes.ensures.read.1, c.most_processes.ensures)) refl)
-
-pub returns-clause-end : goal.returns-clause-end
-returns-clause-end c = λ e. none_first (sym e ∙ c.in_ok-processes.ensures.read.0)
-
-pub returns-clause-range : goal.returns-clause-range
-returns-clause-range c = λ digits rest numeral e. tt
-
-pub returns-clause-form : goal.returns-clause-form
-returns-clause-form c = λ line rest e none.
-    let n = c.in_ok-processes.processes in
-    no_truth (sym (none (decimal n) (first_line (sym e ∙ c.in_ok-processes.ensures.read.0))) ∙ number_form (decimal n) n (omega (arith, c.in_ok-processes.ensures.read.1, c.most_processes.ensures)) refl)
-
 pub returns-clause-read : goal.returns-clause-read
 returns-clause-read c = (c.in_ok-processes.ensures.read.0, omega (arith, c.if-processes-eq0.false), omega (arith, c.in_ok-processes.ensures.read.1, c.most_processes.ensures))
+
+pub returns-in_err-processes-clause-stopped : goal.returns-in_err-processes-clause-stopped
+returns-in_err-processes-clause-stopped c =
+    let told = c.in_err-processes.ensures in
+    failure_passed_on c.from_residual.result _ _ c.from_residual.ensures.1
+    (count_fails (codes "processes ") (most_processes c.args.version) c.args.lines.now c.read_count.new.lines c.in_err-processes.field-0.0 told.fault.0 told.fault.1 told.asked told.end told.range told.form
+    (λ k rest few e. told.whole k rest (omega (arith, few, c.most_processes.ensures)) e) 1)
+
+pub returns-then-processes-eq0-clause-stopped : goal.returns-then-processes-eq0-clause-stopped
+returns-then-processes-eq0-clause-stopped c =
+    let read = c.in_ok-processes.ensures in
+    zero_fails (codes "processes ") (most_processes c.args.version) c.in_ok-processes.processes c.args.lines.now c.read_count.new.lines c.at_line.result c.at_line.ensures read.asked read.read.0 (omega (arith, c.if-processes-eq0.true))
+    (λ k rest few e. (read.whole k rest (omega (arith, few, c.most_processes.ensures)) e).0)
+
+pub returns-in_err-processes-clause-on : goal.returns-in_err-processes-clause-on
+returns-in_err-processes-clause-on c = not_failed c.from_residual.result _ _ c.from_residual.ensures.1
+
+pub returns-clause-on : goal.returns-clause-on
+returns-clause-on c = asked_on c.args.lines.now c.read_count.new.lines _ c.read_count.new.lines.left c.in_ok-processes.ensures.asked c.in_ok-processes.ensures.read.0

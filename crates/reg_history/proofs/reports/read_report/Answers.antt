@@ -4,6 +4,7 @@ use Rattle.reg_history.specs.declared.versions.Version.{Version}
 use Rattle.reg_text.specs.Lines.{lines_of}
 use Rattle.reg_history.specs.Reports.{Contents, lines_in, IsReport, IsReportIn, SpellsReport}
 use Rattle.reg_history.proofs.Lacking.{report_lack, report_ends, lines_with, text_with}
+use Rattle.reg_history.proofs.Endings.{text_line}
 use Rattle.reg_history.proofs.Older.{widened}
 use Rattle.reg_history.proofs.reports.read_report.Goals as goal
 
@@ -27,3 +28,8 @@ returns-clause-good g c = within c.read_lines.result c.new-lines.result.left c.r
 pub returns-clause-whole : goal.returns-clause-whole
 returns-clause-whole g c = λ r t.
     c.read_lines.ensures.whole t.0 r t.1 (c.new-lines.ensures.lines.0 ∙ ap lines_of c.as_bytes.ensures.value ∙ lines_with c.args.text.now (lines_in t.0 r) (report_lack t.0 r t.1) (report_ends t.0 r) t.2)
+
+pub returns-clause-line : goal.returns-clause-line
+returns-clause-line g c few =
+    let start = c.new-lines.ensures in
+    text_line c.args.text.now c.new-lines.result c.read_lines.result few (start.lines.0 ∙ ap lines_of c.as_bytes.ensures.value) (start.lines.1 ∙ ap lines_of c.as_bytes.ensures.value) start.number.0 start.number.1 c.read_lines.ensures.stopped

@@ -1,6 +1,6 @@
 use Rattle.std.proofs.Common.{ℕ, ◌≡◌, ◌<◌, Some, slice_get}
 use Rattle.reg_orders.specs.declared.entries.Entry.{Entry}
-use Rattle.reg_history.specs.LineForms.{EntryHasValue}
+use Rattle.reg_history.specs.Stops.{EntryHasValue}
 use Rattle.reg_history.proofs.reports.values_have_bits.Given as goal
 
 abbrev pub invariant-loop-entry : goal.invariant-loop-entry
