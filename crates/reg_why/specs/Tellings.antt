@@ -1,0 +1,2 @@
+-- What is told of a text.
+use Rattle.std.specs.Prelude.{ℕ}
