@@ -10,14 +10,17 @@ use Rattle.reg_messages.specs.declared.verdicts.Verdicts.{Verdicts}
 abbrev pub counted : ℕ → List ℕ → List ℕ → List ℕ
 counted n one many = decimal n ++ (if n == 1 then one else many)
 
--- what an accepted text is
+-- What an accepted text is: its kind, the numbers of its processes and registers, its front end, and how many events, operations or
+-- entries it has.
 abbrev pub subject_text : List ℕ → ℕ → ℕ → List ℕ → ℕ → List ℕ → List ℕ → List ℕ
 subject_text name processes registers front count one many =
-    name ++ (counted processes (codes " process, ") (codes " processes, ") ++ (counted registers (codes " register, ") (codes " registers, ") ++ (front ++ (codes ", " ++ counted count one many))))
+    ((((name ++ counted processes (codes " process, ") (codes " processes, ")) ++ counted registers (codes " register, ") (codes " registers, ")) ++ front) ++ codes ", ") ++ counted count one many
+
+-- the line of the first of two verdicts that is no
+abbrev pub no_line : Verdict → Verdicts → List ℕ
+no_line Yes v = points_line v.points
+no_line (No reason) v = verdict_line (codes "serial") (No reason)
 
 -- the line of the first verdict that is no, where one is
 abbrev pub first_no : Verdicts → List ℕ
-first_no v = first_no_of v.serial v where
-  first_no_of : Verdict → Verdicts → List ℕ
-  first_no_of Yes w = points_line w.points
-  first_no_of (No reason) w = verdict_line (codes "serial") (No reason)
+first_no v = no_line v.serial v
