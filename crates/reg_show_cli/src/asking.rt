@@ -76,7 +76,10 @@ fn plays_asked(words: &[String]) -> Option<u32>
 fn is_why(words: &[String]) -> bool
     ensures { result ≡ true ↔ IsWhyLine (behind_name words.now) }
 {
-    words.len() == 2 && is_at(words, 1, "why")
+    if words.len() != 2 {
+        return false;
+    }
+    is_at(words, 1, "why")
 }
 
 /// What the words ask for. The first word is the program's name. A word `--` is refused.

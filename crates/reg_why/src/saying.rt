@@ -131,7 +131,7 @@ fn put_found<W: Write>(sink: &mut Sink<'_, W>, found: &[u8]) {
         [b' ', ..] => put_spaces(sink, spaces as u64),
         [first, ..] if *first >= 0x80 => {
             put_quoted(sink, character_of(found));
-            sink.put(b", which is no ASCII");
+            sink.put(b", which is not ASCII");
         }
         _ if token.is_empty() => sink.put(b"a control character"),
         _ => put_quoted(sink, front_of(token, LONGEST_SHOWN)),
