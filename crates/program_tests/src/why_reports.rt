@@ -2,7 +2,7 @@
 use crate::why::is_told;
 
 /// A text, whether it is accepted, and what is told of it, worked out by hand.
-const ROWS: [(&str, bool, &str); 23] = [
+const ROWS: [(&str, bool, &str); 27] = [
     (
         "awreg report 2\nfront linear\nprocesses 2\nregisters 1\nx\nhistory 4\n       0  p0    #0       call    write x 5\n       2  p0    #0       answer  done\n       3  p1    #0       call    read x\n       5  p1    #0       answer  value 5\norder 2\np0 #0\np1 #0\npoints 2\np0 #0 at 1\np1 #0 at 4\nend\n",
         true,
@@ -117,6 +117,26 @@ const ROWS: [(&str, bool, &str); 23] = [
         "awreg report 2\nfront linear\nprocesses 2\nregisters 1\nx\nhistory 4\n       0  p0    #0       call    write x 5\n       1  p1    #0       call    read x\n       4  p0    #0       answer  done\n       5  p1    #0       answer  value 5\norder 2\np0 #0\np1 #0\npoints 2\np0 #0 at 3\np1 #0 at 2\nend\n",
         false,
         "points no: falling at 1\n16 | p1 #0 at 2\n   | ^\nthe point before it is at event 3: points never fall\n",
+    ),
+    (
+        "awreg report 2\nfront linear\nprocesses 2\nregisters 1\nx\nhistory 3\n       0  p0    #0       call    write x 5\n       2  p0    #0       answer  done\n       3  p1    #0       call    read x\n       5  p1    #0       answer  value 5\norder 2\np0 #0\np1 #0\npoints 2\np0 #0 at 1\np1 #0 at 4\nend\n",
+        false,
+        "line 10: form\n10 |        5  p1    #0       answer  value 5\n   | ^\nexpected order, found 7 spaces\nmore lines of the history stand here than its count says\n",
+    ),
+    (
+        "awreg report 2\nfront linear\nprocesses 2\nregisters 1\nx\nhistory 5\n       0  p0    #0       call    write x 5\n       2  p0    #0       answer  done\n       3  p1    #0       call    read x\n       5  p1    #0       answer  value 5\norder 2\np0 #0\np1 #0\npoints 2\np0 #0 at 1\np1 #0 at 4\nend\n",
+        false,
+        "line 11: form\n11 | order 2\n   | ^\nexpected an event at the right of 8 places, found \"order\"\nfewer lines of the history stand here than its count says\n",
+    ),
+    (
+        "awreg report 2\nfront linear\nprocesses 2\nregisters 1\nx\nhistory 4\n       0  p0    #0       call    write x 5\n       2  p0    #0       answer  done\n       3  p1    #0       call    read x\n       5  p1    #0       answer  value 5\norder 1\np0 #0\np1 #0\npoints 2\np0 #0 at 1\np1 #0 at 4\nend\n",
+        false,
+        "line 13: form\n13 | p1 #0\n   | ^\nexpected points or end, found \"p1\"\nmore lines of the order stand here than its count says\n",
+    ),
+    (
+        "awreg report 2\nfront linear\nprocesses 2\nregisters 1\nx\nhistory 4\n       0  p0    #0       call    write x 5\n       2  p0    #0       answer  done\n       3  p1    #0       call    read x\n       5  p1    #0       answer  value 5\norder 2\np0 #0\np1 #0\npoints 3\np0 #0 at 1\np1 #0 at 4\nend\n",
+        false,
+        "line 17: form\n17 | end\n   | ^\nexpected p and a process, as in p0 #0, found \"end\"\nfewer points stand here than their count says\n",
     ),
 ];
 

@@ -6,7 +6,8 @@ use crate::facts::Listing;
 use crate::kinds::Kind;
 use crate::lines_at::{kept_before, line_at};
 use crate::orders::{explain_list, listing};
-use crate::report_lines::{Part, report_names, scan_line as scan_report, walk_to, wanted_part};
+use crate::report_lines::{Part, report_names, scan_line as scan_report, walk_to};
+use crate::report_words::{miscounted, wanted_part};
 use crate::saying::{put_misfit, put_place};
 use crate::schedule_lines::{head_line, scan_line as scan_schedule, schedule_names};
 use crate::wanting::Misfit;
@@ -96,12 +97,13 @@ fn explain_report_line<A: Allocator + Copy, W: Write>(
     }
     let names = report_names(alloc, text)?;
     match scan_report(walk, line, names.as_slice(), why != ReadWhy::Form) {
-        Err(misfit) => put_refused(alloc, sink, number, line, names.as_slice(), misfit),
-        Ok(()) => {
-            put_place(sink, number, line, 0);
-            Ok(())
+        Err(misfit) => {
+            put_refused(alloc, sink, number, line, names.as_slice(), misfit)?;
+            sink.put(miscounted(walk.part, line).as_bytes());
         }
+        Ok(()) => put_place(sink, number, line, 0),
     }
+    Ok(())
 }
 
 fn explain_line<A: Allocator + Copy, W: Write>(

@@ -12,6 +12,7 @@ mod kinds;
 mod lines_at;
 mod orders;
 mod report_lines;
+mod report_words;
 mod saying;
 mod scanning;
 mod schedule_lines;

@@ -369,22 +369,3 @@ pub fn scan_line<'a>(
         Part::Behind => Ok(()),
     }
 }
-
-/// What is wanted where a text ends.
-pub fn wanted_part(part: Part) -> &'static str {
-    match part {
-        Part::Version => "awreg report 2",
-        Part::Front => "front and a word, as in front linear",
-        Part::Processes => "processes and a number, as in processes 2",
-        Part::Registers => "registers and their number, as in registers 1",
-        Part::Name => "the name of a register",
-        Part::History => "history and a number, as in history 4",
-        Part::Entry => "a line of the history",
-        Part::Order => "order and a number, as in order 2",
-        Part::Id => "an operation of the order, as in p0 #0",
-        Part::Tail => "end, or points and a number, as in points 2",
-        Part::Point => "a point, as in p0 #0 at 3",
-        Part::End => "end",
-        Part::Behind => "nothing",
-    }
-}
