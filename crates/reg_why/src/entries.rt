@@ -1,4 +1,6 @@
 //! Why an entry of a report may not come after those before it.
+ghost use Rattle.std.specs.Prelude.{◌≤◌, IfSome};
+
 use crate::events::put_id;
 use crate::report_lines::{Part, Walk};
 use crate::scanning::{behind, front_of, spaces_of, token_of};
@@ -24,7 +26,9 @@ enum Tail {
 }
 
 /// The number that begins a column, behind spaces.
-fn column_number(line: &[u8], start: usize, most: u64) -> Option<u64> {
+fn column_number(line: &[u8], start: usize, most: u64) -> Option<u64>
+    ensures { IfSome result (λ n. n ≤ most) }
+{
     let column = behind(line, start);
     numeral_within(token_of(behind(column, spaces_of(column))), most)
 }

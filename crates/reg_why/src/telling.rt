@@ -151,7 +151,7 @@ fn tell_run<A: Allocator + Copy>(
         processes: schedule.shape.processes(),
         registers: schedule.shape.registers(),
         front: schedule.front.name(),
-        count: schedule.events.len(),
+        count: schedule.events.as_slice().len(),
         one: " event",
         many: " events",
     };
