@@ -1,14 +1,13 @@
 -- Answers that were written, and what stops before one.
-use Rattle.std.proofs.Common.{ℕ, ◌≡◌, ◌≢◌, Bool, false, List, [], Option, Some, None, Result, Ok, Err, sym, subst, ◌∙◌, append-nil}
-use Rattle.std.specs.Prelude.{IfSome, MatchResult}
-use Rattle.std.specs.Io.KnownBytes.{Appends, Keeps}
-use Rattle.reg_text.specs.Writing.{AppendsPart}
+use Rattle.std.proofs.Common.{ℕ, ◌≡◌, Bool, false, List, Option, Some, None, subst, ◌∙◌}
+use Rattle.std.specs.Prelude.{IfSome}
 use Rattle.reg_messages.specs.declared.faults.Fault.{Fault}
 use Rattle.reg_messages.specs.declared.faults.Fault.TheVariants.{Unread, TooLong, NotText, Output, Line, Event, Workload, OutOfMemory}
 use Rattle.reg_commands.specs.Answers.{Blames}
 use Rattle.reg_commands.specs.declared.command.Command.{Command}
 use Rattle.reg_commands.specs.declared.command.Command.TheVariants.{Replay, Play}
-use Rattle.reg_why.specs.Tellings.{Halts}
+use Rattle.reg_why.specs.Kinds.{kind_of}
+use Rattle.reg_why.specs.Tellings.{Answers, Halts, Tells}
 
 -- a fault that every command can tell of the input is none of a text
 pub halts_all : (fault : Fault) (xs : List ℕ) → ((command : Command) → Blames command fault xs) → Halts fault xs
@@ -29,3 +28,7 @@ halts_input fault (Some xs) blamed = halts_all fault xs blamed
 pub of_input : (P : List ℕ → Type 0) (input : Option (List ℕ)) (read text : List ℕ) → IfSome input (λ xs. read ≡ xs) → text ≡ read → P text → IfSome input P
 of_input P None read text e same p = tt
 of_input P (Some xs) read text e same p = subst P (same ∙ e) p
+
+-- the answer of a text that was written
+pub answered : (is_accepted : Bool) (Wrote : List ℕ → Type 0) (text answer written : List ℕ) → Tells (kind_of text) is_accepted answer text → written ≡ answer → Wrote written → Answers is_accepted Wrote text
+answered is_accepted Wrote text answer written told same wrote = (answer, told, subst Wrote same wrote)

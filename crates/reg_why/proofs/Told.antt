@@ -98,7 +98,7 @@ tells_load w is_accepted answer text processes registers front count holds ep er
 pub agrees : (r : Contents) (v : Verdicts) (answer text : List ℕ) (processes registers : ℕ) (front : List ℕ) (count : ℕ) (tail : List ℕ) → IsReport r → SpellsReport text r → Judges r v → all_yes v ≡ true
     → processes ≡ r.shape.processes → registers ≡ r.shape.registers → front ≡ r.front → count ≡ length r.entries → tail ≡ yes_text r.points
     → answer ≡ subject_text (codes "a report: ") processes registers front count (codes " entry") (codes " entries") ++ tail → Agrees answer text
-agrees r v answer text processes registers front count tail good read judged yes ep er ef ec et said =
+agrees r v answer text processes registers front count tail good read judged all ep er ef ec et said =
     let same : subject_text (codes "a report: ") processes registers front count (codes " entry") (codes " entries") ++ tail ≡ subject_text (codes "a report: ") r.shape.processes r.shape.registers r.front (length r.entries) (codes " entry") (codes " entries") ++ yes_text r.points =
     λ i. subject_text (codes "a report: ") (ep i) (er i) (ef i) (ec i) (codes " entry") (codes " entries") ++ et i in
-    record { report = r; good = good; read = read; verdicts = v; judged = judged; yes = yes; said = said ∙ same }
+    record { report = r; good = good; read = read; verdicts = v; judged = judged; yes = all; said = said ∙ same }

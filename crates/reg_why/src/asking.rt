@@ -51,7 +51,10 @@ fn obey<A: Allocator + Copy, R: Read, W: Write>(
     ensures silent { IfErr result (λ f. f ≢ Fault.Output → writer.new ≡ writer.old) }
     ensures part { IsErrOf result Fault.Output → IfSome (R.remaining reader.old) (AnswersAny (AppendsPart (W.contents writer.old) (W.contents writer.new))) }
 {
-    let text = read_input(alloc, reader)?;
+    let text = match read_input(alloc, reader) {
+        Ok(text) => text,
+        Err(fault) => return Err(fault),
+    };
     answer(alloc, global, text.as_str(), writer)
 }
 

@@ -3,6 +3,7 @@ ghost use Rattle.std.specs.Prelude.{◌≡◌, ◌≢◌, ◌++◌, ℕ, List, I
 ghost use Rattle.reg_history.specs.Reports.{IsReport, SpellsReport};
 ghost use Rattle.reg_commands.specs.Answers.{Blames};
 ghost use Rattle.reg_commands.specs.Plays.{Holds};
+ghost use Rattle.reg_commands.specs.declared.command.Command.TheVariants.{Check};
 ghost use Rattle.reg_commands.specs.Replays.{BlamesRun, start_of, run_by};
 ghost use Rattle.reg_schedules.specs.Schedules.{IsPlan, Spells};
 ghost use Rattle.reg_messages.specs.FaultLines.{fault_line};
@@ -291,6 +292,20 @@ fn tell_judged<A: Allocator + Copy>(
     }
 }
 
+/// The report that a text spells.
+fn read<A: Allocator + Copy>(alloc: A, text: &str) -> Result<Report<A>, Fault>
+    ensures read { IfOk result (λ r. SpellsReport text.now r × IsReport r) }
+    ensures why { IfErr result (λ f. Blames Check f text.now) }
+    ensures kind { IfErr result (λ f. f ≢ Fault.Output) }
+{
+    match read_report(alloc, text) {
+        Ok(report) => Ok(report),
+        Err(ReadFault::Line { line, why }) => Err(Fault::Line { line, why }),
+        Err(ReadFault::OutOfMemory) => Err(Fault::OutOfMemory),
+    }
+}
+
+#[tactic(auto, using(crate::proofs::Told::tells_refused))]
 fn tell_report<A: Allocator + Copy>(
     alloc: A,
     global: Global,
@@ -300,16 +315,12 @@ fn tell_report<A: Allocator + Copy>(
     ensures why { IfErr result (λ f. Halts f text.now) }
     ensures kind { IfErr result (λ f. f ≢ Fault.Output) }
 {
-    let told = match read_report(alloc, text) {
-        Ok(report) => tell_judged(alloc, text, &report),
-        Err(ReadFault::Line { line, why }) => {
-            refused(alloc, global, Kind::Report, text, Fault::Line { line, why })
-        }
-        Err(ReadFault::OutOfMemory) => Err(AllocError),
-    };
-    match told {
-        Ok(told) => Ok(told),
-        Err(_) => Err(Fault::OutOfMemory),
+    match read(alloc, text) {
+        Ok(report) => match tell_judged(alloc, text, &report) {
+            Ok(told) => Ok(told),
+            Err(_) => Err(Fault::OutOfMemory),
+        },
+        Err(fault) => refused_or_halted(alloc, global, Kind::Report, text, fault),
     }
 }
 
