@@ -1,5 +1,5 @@
 -- The first line of an answer.
-use Rattle.std.specs.Prelude.{ℕ, ◌==◌, List, [], ◌++◌, codes, if◌then◌else◌}
+use Rattle.std.specs.Prelude.{ℕ, ◌==◌, List, ◌++◌, codes, if◌then◌else◌}
 use Rattle.std.specs.Fmt.{decimal}
 use Rattle.reg_messages.specs.Verdicts.{points_line, verdict_line}
 use Rattle.reg_messages.specs.declared.verdicts.Verdict.{Verdict}

@@ -1,5 +1,5 @@
 -- Which of the three texts a text is.
-use Rattle.std.specs.Prelude.{ℕ, Bool, false, true, List, [], ◌∷◌, drop, codes, nat_eq, if◌then◌else◌}
+use Rattle.std.specs.Prelude.{ℕ, false, List, [], ◌∷◌, drop, codes, nat_eq, if◌then◌else◌}
 use Rattle.std.specs.List.{starts_with}
 use Rattle.reg_text.specs.Lines.{kept, lines_of}
 use Rattle.reg_commands.specs.declared.command.Command.{Command}

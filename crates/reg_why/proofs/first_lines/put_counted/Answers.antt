@@ -1,4 +1,4 @@
-use Rattle.std.proofs.Common.{◌≡◌, ◌++◌, ◌==◌, List, ℕ, ap, refl, sym, rules}
+use Rattle.std.proofs.Common.{◌≡◌, ◌++◌, ◌==◌, ap, refl}
 use Rattle.std.specs.Prelude.{if◌then◌else◌}
 use Rattle.std.specs.Fmt.{decimal}
 use Rattle.reg_text.proofs.Sent.{puts_two, puts_as}
