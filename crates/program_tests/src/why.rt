@@ -9,9 +9,7 @@ pub(crate) fn is_told(alloc: Global, text: &str, is_accepted: bool, answer: &str
     let mut reader = text.as_bytes();
     let (mut output, mut errors) = (Vec::new(alloc), Vec::new(alloc));
     let status = why_text(alloc, alloc, &mut reader, &mut output, &mut errors);
-    status == u8::from(!is_accepted)
-        && output.as_slice() == answer.as_bytes()
-        && errors.is_empty()
+    status == u8::from(!is_accepted) && output.as_slice() == answer.as_bytes() && errors.is_empty()
 }
 
 /// A schedule of which the last event is refused, and what is told of it.

@@ -84,7 +84,11 @@ fn put_kind_of_key<W: Write>(sink: &mut Sink<'_, W>, key: Key) {
 }
 
 /// Puts the message of the reader of TOML.
-fn explain_toml<W: Write>(global: Global, sink: &mut Sink<'_, W>, text: &str) -> Result<(), AllocError> {
+fn explain_toml<W: Write>(
+    global: Global,
+    sink: &mut Sink<'_, W>,
+    text: &str,
+) -> Result<(), AllocError> {
     let Err(error) = table_from_str(global, text) else {
         return Ok(());
     };
@@ -107,7 +111,9 @@ fn put_hint<A: Allocator + Copy, W: Write>(
         return Ok(());
     };
     let word = token_of(kept.line);
-    if crate::saying::near(alloc, word, "processes registers front call take tick")?.is_some() && !kept.line.contains(&b'=') {
+    if crate::saying::near(alloc, word, "processes registers front call take tick")?.is_some()
+        && !kept.line.contains(&b'=')
+    {
         sink.put(b"a schedule begins with processes and a number, as in processes 2\n");
     } else if crate::saying::near(alloc, word, "awreg")?.is_some() {
         sink.put(b"a report begins with awreg report 2\n");
@@ -260,7 +266,12 @@ fn explain_range<A: Allocator + Copy, W: Write>(
         (Key::Front, _) => {
             put_key_place(sink, text, b"front");
             let name = value.as_str().unwrap_or("");
-            put_wanted_words(alloc, sink, "linear local-read local-write", name.as_bytes())?;
+            put_wanted_words(
+                alloc,
+                sink,
+                "linear local-read local-write",
+                name.as_bytes(),
+            )?;
             sink.put(b"\n");
         }
         _ => explain_number(sink, text, key, value.as_integer().unwrap_or(0)),

@@ -123,13 +123,18 @@ fn put_call<W: Write>(sink: &mut Sink<'_, W>, entry: Columns, before: Before) {
 }
 
 fn put_next<W: Write>(sink: &mut Sink<'_, W>, entry: Columns, number: u64) {
-    put_numbered(sink, "the next operation of process ", entry.id.process as u64);
+    put_numbered(
+        sink,
+        "the next operation of process ",
+        entry.id.process as u64,
+    );
     put_numbered(sink, " is #", number);
 }
 
 /// Puts why an answer may not come here.
 fn put_answer<W: Write>(sink: &mut Sink<'_, W>, entry: Columns, before: Before, is_done: bool) {
-    let own = before.own.filter(|c| c.tail != Tail::Answer { is_done: true } && c.tail != Tail::Answer { is_done: false });
+    let own = before.own.filter(|c| c.tail != Tail::Answer { is_done: true }
+        && c.tail != Tail::Answer { is_done: false });
     let Some(own) = own else {
         put_numbered(sink, "process ", entry.id.process as u64);
         sink.put(b" runs no operation");
@@ -159,7 +164,11 @@ pub fn explain_entry<W: Write>(sink: &mut Sink<'_, W>, text: &[u8], number: u64,
     let before = stands_before(text, number, entry.id.process);
     if entry.id.process as u64 >= before.processes {
         put_numbered(sink, "there is no process ", entry.id.process as u64);
-        put_numbered(sink, ": the report has processes 0 to ", before.processes.saturating_sub(1));
+        put_numbered(
+            sink,
+            ": the report has processes 0 to ",
+            before.processes.saturating_sub(1),
+        );
     } else {
         match entry.tail {
             Tail::Call { .. } => put_call(sink, entry, before),

@@ -36,11 +36,7 @@ fn word_at(line: &[u8], place: usize) -> usize {
 fn blamed_word(event: Event, fault: WorldFault, processes: u32) -> usize {
     match (event, fault) {
         (Event::Take { from, .. }, WorldFault::NoProcess) => {
-            if from as u32 >= processes {
-                1
-            } else {
-                2
-            }
+            if from as u32 >= processes { 1 } else { 2 }
         }
         (Event::Take { .. }, _) => 3,
         _ => 1,
@@ -72,7 +68,11 @@ fn put_processes<W: Write>(sink: &mut Sink<'_, W>, number: u8, processes: u32) {
     if processes == 1 {
         sink.put(b": the process is 0\n");
     } else {
-        put_numbered(sink, ": the processes are 0 to ", (processes as u64).saturating_sub(1));
+        put_numbered(
+            sink,
+            ": the processes are 0 to ",
+            (processes as u64).saturating_sub(1),
+        );
         sink.put(b"\n");
     }
 }
@@ -113,7 +113,11 @@ fn put_refusal<F: FrontEnd, A: Allocator + Copy, W: Write>(
     let processes = world.shape().processes();
     match (event, fault) {
         (Event::Take { from, to, .. }, WorldFault::NoProcess) => {
-            put_processes(sink, if from as u32 >= processes { from } else { to }, processes);
+            put_processes(
+                sink,
+                if from as u32 >= processes { from } else { to },
+                processes,
+            );
         }
         (Event::Call { process, .. }, WorldFault::NoProcess) => {
             put_processes(sink, process, processes);

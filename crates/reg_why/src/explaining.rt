@@ -156,7 +156,14 @@ fn explain_no<A: Allocator + Copy, W: Write>(
         return explain_list(alloc, sink, text, report, list, reason);
     }
     if let Some(Verdict::No(reason)) = verdicts.points {
-        return explain_list(alloc, sink, text, report, listing(text, report, true), reason);
+        return explain_list(
+            alloc,
+            sink,
+            text,
+            report,
+            listing(text, report, true),
+            reason,
+        );
     }
     Ok(())
 }

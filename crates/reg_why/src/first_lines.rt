@@ -41,7 +41,12 @@ fn put_subject<W: Write>(sink: &mut Sink<'_, W>, subject: Subject<'_>)
 {
     sink.put(subject.name.as_bytes());
     put_counted(sink, subject.processes as u64, " process, ", " processes, ");
-    put_counted(sink, subject.registers as u64, " register, ", " registers, ");
+    put_counted(
+        sink,
+        subject.registers as u64,
+        " register, ",
+        " registers, ",
+    );
     sink.put(subject.front.as_bytes());
     sink.put(b", ");
     put_counted(sink, subject.count as u64, subject.one, subject.many);

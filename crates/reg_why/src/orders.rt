@@ -224,12 +224,7 @@ fn put_outside<A: Allocator + Copy, W: Write>(
 }
 
 /// A point below the one before it.
-fn put_falling<W: Write>(
-    sink: &mut Sink<'_, W>,
-    text: &[u8],
-    list: Listing<'_>,
-    place: usize,
-) {
+fn put_falling<W: Write>(sink: &mut Sink<'_, W>, text: &[u8], list: Listing<'_>, place: usize) {
     put_line(sink, text, list.line(place));
     if let Some(point) = list.points.get(place.saturating_sub(1)) {
         put_numbered(sink, "the point before it is at event ", point.at as u64);

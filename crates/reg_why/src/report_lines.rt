@@ -4,8 +4,7 @@ use crate::schedule_lines::{VALUE, scan_names, scan_op, scan_processes, words_of
 use crate::wanting::{Misfit, Range, Wanted};
 use reg_base::limits::{LAST_EVENT, MOST_OPERATIONS, MOST_PROCESSES, MOST_REGISTERS};
 use reg_history::{LONGEST_FRONT, MOST_ENTRIES, MOST_IDS, OLDER_PROCESSES, OLDER_REGISTERS};
-use reg_text::{
-    Lines, are_front_letters, in_front, is_numeral, numeral_within, skip};
+use reg_text::{Lines, are_front_letters, in_front, is_numeral, numeral_within, skip};
 use std::alloc::{AllocError, Allocator};
 
 /// What stands on a line of a report.
@@ -121,7 +120,10 @@ pub fn walk_to(text: &[u8], number: u64) -> Walk {
 }
 
 /// The names that a report gives its registers.
-pub fn report_names<A: Allocator + Copy>(alloc: A, text: &[u8]) -> Result<Vec<&[u8], A>, AllocError> {
+pub fn report_names<A: Allocator + Copy>(
+    alloc: A,
+    text: &[u8],
+) -> Result<Vec<&[u8], A>, AllocError> {
     let mut names = Vec::new(alloc);
     let mut lines = Lines::new(text);
     let mut walk = Walk::new();
@@ -228,11 +230,7 @@ fn scan_registers<'a>(scan: &mut Scan<'a>, is_older: bool) -> Result<(), Misfit<
     scan_count(scan, "registers", REGISTERS)
 }
 
-fn scan_count<'a>(
-    scan: &mut Scan<'a>,
-    word: &'static str,
-    range: Range,
-) -> Result<(), Misfit<'a>> {
+fn scan_count<'a>(scan: &mut Scan<'a>, word: &'static str, range: Range) -> Result<(), Misfit<'a>> {
     scan.word(word)?;
     scan.space()?;
     scan.last_number(range)
@@ -277,7 +275,12 @@ fn scan_column<'a>(
 fn scan_columns<'a>(scan: &mut Scan<'a>, is_older: bool) -> Result<(), Misfit<'a>> {
     scan_event(scan)?;
     scan.signs(b"  p", "two spaces and p")?;
-    scan_column(scan, 3, "a process at the left of 3 places", process(is_older))?;
+    scan_column(
+        scan,
+        3,
+        "a process at the left of 3 places",
+        process(is_older),
+    )?;
     scan.signs(b"  #", "two spaces and #")?;
     scan_column(scan, 6, "a number at the left of 6 places", OPERATION)?;
     scan.signs(b"  ", "two spaces")
@@ -292,11 +295,7 @@ fn scan_answer<'a>(scan: &mut Scan<'a>) -> Result<(), Misfit<'a>> {
     scan.last_number(VALUE)
 }
 
-fn scan_entry<'a>(
-    scan: &mut Scan<'a>,
-    names: &[&[u8]],
-    is_older: bool,
-) -> Result<(), Misfit<'a>> {
+fn scan_entry<'a>(scan: &mut Scan<'a>, names: &[&[u8]], is_older: bool) -> Result<(), Misfit<'a>> {
     scan_columns(scan, is_older)?;
     let word = scan.word("call answer")?;
     if word == b"call".as_slice() {

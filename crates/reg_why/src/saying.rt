@@ -112,7 +112,11 @@ fn put_words<W: Write>(sink: &mut Sink<'_, W>, words: &str) {
         }
         rest = crate::scanning::behind(rest, word.len().saturating_add(1));
         if !is_first {
-            sink.put(if rest.is_empty() { b" or ".as_slice() } else { b", ".as_slice() });
+            sink.put(if rest.is_empty() {
+                b" or ".as_slice()
+            } else {
+                b", ".as_slice()
+            });
         }
         sink.put(word);
         is_first = false;

@@ -306,11 +306,7 @@ fn read<A: Allocator + Copy>(alloc: A, text: &str) -> Result<Report<A>, Fault>
 }
 
 #[tactic(auto, using(crate::proofs::Told::tells_refused))]
-fn tell_report<A: Allocator + Copy>(
-    alloc: A,
-    global: Global,
-    text: &str,
-) -> Result<Told<A>, Fault>
+fn tell_report<A: Allocator + Copy>(alloc: A, global: Global, text: &str) -> Result<Told<A>, Fault>
     ensures told { IfOk result (λ t. Tells Kind.Report t.is_accepted t.answer.items text.now) }
     ensures why { IfErr result (λ f. Halts f text.now) }
     ensures kind { IfErr result (λ f. f ≢ Fault.Output) }
