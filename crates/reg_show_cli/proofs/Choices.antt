@@ -141,6 +141,11 @@ never_counted DisplayHelp plays e = cc
 never_counted NoMemory plays e = cc
 never_counted _ plays e = cc
 
+never_asked : (k : ErrorKind) → told_of k ≡ Ok Why → ⊥
+never_asked DisplayHelp e = cc
+never_asked NoMemory e = cc
+never_asked _ e = cc
+
 only_help : (k : ErrorKind) → told_of k ≡ Ok Help → k ≡ DisplayHelp
 only_help DisplayHelp e = refl
 only_help NoMemory e = cc
@@ -168,7 +173,7 @@ refused words error memory kinds = go (told_of (kind_of error)) refl
     go : (r : Result Asked WordsFault) → told_of (kind_of error) ≡ r → IsAnswer (drop 1 words) r
     go (Ok (Show showing)) is = absurd (never_shown (kind_of error) showing is)
     go (Ok (Outcomes plays)) is = absurd (never_counted (kind_of error) plays is)
-    go (Ok Why) is = absurd (never_counted (kind_of error) plays is)
+    go (Ok Why) is = absurd (never_asked (kind_of error) is)
     go (Ok Help) is = (shows_nothing (Ok Help) is (λ e. cc), asked is)
     go (Err OutOfMemory) is = tt
     go (Err CommandLine) is = (shows_nothing (Err CommandLine) is (λ e. cc), helped is)
