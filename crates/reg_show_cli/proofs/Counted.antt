@@ -1,5 +1,5 @@
 -- Which words ask to count what the plays of a workload tell.
-use Rattle.std.proofs.Common.{◌≡◌, ◌⊎◌, inl, inr, ℕ, zero, suc, ◌+◌, ◌<◌, ◌≤◌, get_or, Bool, true, false, List, [], ◌∷◌, length, drop, map, Option, Some, None, Result, Ok, Err, String, string_bytes, codes, refl, ap, sym, ◌∙◌, subst, arith}
+use Rattle.std.proofs.Common.{◌≡◌, ◌⊎◌, inl, inr, ℕ, zero, suc, ◌+◌, ◌<◌, ◌≤◌, get_or, Bool, true, List, [], ◌∷◌, length, drop, map, Option, Some, None, Result, Ok, Err, String, string_bytes, codes, refl, ap, sym, ◌∙◌, arith}
 use Rattle.std.specs.Prelude.{slice_get, IfSome, MatchOption}
 use Rattle.std.specs.Fmt.{decimal}
 use Rattle.std.specs.Str.{bytes_eq}
@@ -8,7 +8,7 @@ use Rattle.std.proofs.lemmas.Option.{same_Some}
 use Rattle.clap.specs.Words.{Text}
 use Rattle.reg_show_cli.specs.declared.words.Asked.{Asked}
 use Rattle.reg_show_cli.specs.declared.words.Asked.TheVariants.{Help, Outcomes, Show, Why}
-use Rattle.reg_show_cli.specs.Lines.{IsAnswer, IsAskedLine, IsChoice, IsCommandLine, IsOutcomesLine, IsWhyLine, PlaysFit}
+use Rattle.reg_show_cli.specs.Lines.{IsAnswer, IsChoice, IsOutcomesLine, IsWhyLine, PlaysFit}
 use Rattle.reg_words.specs.declared.faults.WordsFault.{WordsFault}
 use Rattle.reg_words.specs.declared.faults.WordsFault.TheVariants.{CommandLine, OutOfMemory}
 

@@ -1,4 +1,4 @@
-use Rattle.std.proofs.Common.{◌≡◌, ◌∙◌, sym, true, false, length, map, string_bytes}
+use Rattle.std.proofs.Common.{◌≡◌, ◌∙◌, sym, length, map, string_bytes}
 use Rattle.std.proofs.lemmas.Bool.{false≢true}
 use Rattle.std.proofs.lemmas.List.{length-map}
 use Rattle.reg_show_cli.proofs.Counted.{why_length, why_named, why_words}
