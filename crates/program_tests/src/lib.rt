@@ -22,4 +22,12 @@ mod shown;
 mod stop_lines;
 pub mod values;
 #[cfg(test)]
+mod why;
+#[cfg(test)]
+mod why_reports;
+#[cfg(test)]
+mod why_schedules;
+#[cfg(test)]
+mod why_workloads;
+#[cfg(test)]
 mod words;

@@ -5,7 +5,7 @@ use std::alloc::Global;
 use std::process::Abort;
 
 /// Each line, and what it asks for.
-const LINES: [(&str, Result<Asked, WordsFault>); 33] = [
+const LINES: [(&str, Result<Asked, WordsFault>); 36] = [
     (
         "schedule",
         Ok(Asked::Show {
@@ -54,6 +54,7 @@ const LINES: [(&str, Result<Asked, WordsFault>); 33] = [
             showing: Showing::Rest,
         }),
     ),
+    ("why", Ok(Asked::Why)),
     ("help", Ok(Asked::Help)),
     ("-h", Ok(Asked::Help)),
     ("--help", Ok(Asked::Help)),
@@ -67,6 +68,8 @@ const LINES: [(&str, Result<Asked, WordsFault>); 33] = [
     ("draw draw", Err(WordsFault::CommandLine)),
     ("page --fair", Err(WordsFault::CommandLine)),
     ("rest --fair", Err(WordsFault::CommandLine)),
+    ("why why", Err(WordsFault::CommandLine)),
+    ("why --fair", Err(WordsFault::CommandLine)),
     ("schedule schedule", Err(WordsFault::CommandLine)),
     ("schedule --fair --fair", Err(WordsFault::CommandLine)),
     ("outcomes --plays", Err(WordsFault::CommandLine)),
@@ -101,6 +104,6 @@ fn is_told(alloc: Global, status: u8, line: &str) -> bool {
 #[test]
 fn a_refused_command_line_is_told_by_a_usage_line(rt: HostRuntime) {
     let usage =
-        "usage: awshow schedule [--fair] | outcomes [--plays N] | trace | draw | data | page | rest\n";
+        "usage: awshow schedule [--fair] | outcomes [--plays N] | trace | draw | data | page | rest | why\n";
     assert!(rt; is_told(rt.alloc(), 2, usage));
 }

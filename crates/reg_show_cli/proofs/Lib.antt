@@ -1,3 +1,4 @@
 pub mod Lines
 pub mod Choices
 pub mod Counted
+pub mod Telling

@@ -9,7 +9,7 @@ use Rattle.reg_show.specs.declared.Showing.TheVariants.{Data, Draw, Page, Rest, 
 use Rattle.reg_words.specs.Lines.{may_ask_help, named_line}
 use Rattle.reg_show_cli.specs.declared.asking.TheConstants.{USUAL_PLAYS}
 use Rattle.reg_show_cli.specs.declared.words.Asked.{Asked}
-use Rattle.reg_show_cli.specs.declared.words.Asked.TheVariants.{Help, Outcomes, Show}
+use Rattle.reg_show_cli.specs.declared.words.Asked.TheVariants.{Help, Outcomes, Show, Why}
 use Rattle.reg_words.specs.declared.faults.WordsFault.{WordsFault}
 use Rattle.reg_words.specs.declared.faults.WordsFault.TheVariants.{CommandLine, OutOfMemory}
 
@@ -40,9 +40,13 @@ abbrev pub IsOutcomesLine : List Text → ℕ → Type 0
 IsOutcomesLine line plays =
     ((line ≡ codes "outcomes" ∷ []) × (plays ≡ USUAL_PLAYS)) ⊎ ((line ≡ codes "outcomes" ∷ codes "--plays" ∷ decimal plays ∷ []) × (1 ≤ plays) × (plays ≤ MOST_PLAYS))
 
--- the words ask for either
+-- the words ask what is wrong with a text
+abbrev pub IsWhyLine : List Text → Type 0
+IsWhyLine line = line ≡ codes "why" ∷ []
+
+-- the words ask for one of these
 abbrev pub IsAskedLine : List Text → Type 0
-IsAskedLine line = IsCommandLine line ⊎ ((plays : ℕ) × IsOutcomesLine line plays)
+IsAskedLine line = IsCommandLine line ⊎ (((plays : ℕ) × IsOutcomesLine line plays) ⊎ IsWhyLine line)
 
 -- the words ask for help by a flag alone
 abbrev pub IsHelpLine : List Text → Type 0
@@ -53,15 +57,17 @@ IsHelpLine line = (line ≡ codes "-h" ∷ []) ⊎ (line ≡ codes "--help" ∷ 
 abbrev pub IsAnswer : List Text → Result Asked WordsFault → Type 0
 IsAnswer line (Ok (Show showing)) = line ≡ line_of showing
 IsAnswer line (Ok (Outcomes plays)) = ⊥
+IsAnswer line (Ok Why) = ⊥
 IsAnswer line (Ok Help) = ¬ IsCommandLine line × (list_any may_ask_help line ≡ true)
 IsAnswer line (Err CommandLine) = ¬ IsCommandLine line × ¬ IsHelpLine line
 IsAnswer line (Err OutOfMemory) = ⊤
 
--- an answer of the words: just what they ask to show or to count; else help, only where a word may ask for it, or CommandLine
+-- an answer of the words: just what they ask to show, to count or to explain; else help, only where a word may ask for it, or CommandLine
 -- where no flag alone asks for help
 abbrev pub IsChoice : List Text → Result Asked WordsFault → Type 0
 IsChoice line (Ok (Show showing)) = line ≡ line_of showing
 IsChoice line (Ok (Outcomes plays)) = IsOutcomesLine line plays
+IsChoice line (Ok Why) = IsWhyLine line
 IsChoice line (Ok Help) = ¬ IsAskedLine line × (list_any may_ask_help line ≡ true)
 IsChoice line (Err CommandLine) = ¬ IsAskedLine line × ¬ IsHelpLine line
 IsChoice line (Err OutOfMemory) = ⊤
@@ -73,4 +79,4 @@ PlaysFit _ = ⊤
 
 -- the line for words that ask for nothing, with its line feed
 abbrev pub refused_line : List ℕ
-refused_line = codes "usage: awshow schedule [--fair] | outcomes [--plays N] | trace | draw | data | page | rest" ++ 10 ∷ []
+refused_line = codes "usage: awshow schedule [--fair] | outcomes [--plays N] | trace | draw | data | page | rest | why" ++ 10 ∷ []

@@ -15,6 +15,7 @@ use crate::words::{Asked, HELP};
 use reg_commands::{Fault, write_fault};
 use reg_show::{show_outcomes, show_text};
 use reg_text::write_bytes;
+use reg_why::why_text;
 use reg_words::{WordsFault, tell, words_of};
 use std::io::{self, BufWriter, Read, Write};
 use std::rt::Env;
@@ -55,6 +56,7 @@ fn obey<R: AllocGlobal, I: Read, O: Write, E: Write>(
         Asked::Outcomes { plays } => {
             show_outcomes(rt.alloc(), rt.alloc(), plays, reader, writer, errors)
         }
+        Asked::Why => why_text(rt.alloc(), rt.alloc(), reader, writer, errors),
     }
 }
 
@@ -66,7 +68,7 @@ pub fn refuse<E: Write>(fault: WordsFault, errors: &mut E) -> u8
 {
     tell(
         fault,
-        b"usage: awshow schedule [--fair] | outcomes [--plays N] | trace | draw | data | page | rest\n",
+        b"usage: awshow schedule [--fair] | outcomes [--plays N] | trace | draw | data | page | rest | why\n",
         errors,
     )
 }

@@ -19,6 +19,8 @@ pub enum Asked {
     Show { showing: Showing },
     /// To count what so many plays of the workload on the input tell.
     Outcomes { plays: u32 },
+    /// To tell what is wrong with the text on the input.
+    Why,
     /// How the program is used.
     Help,
 }
@@ -34,6 +36,7 @@ usage: awshow schedule [--fair]      reads a workload, prints the schedule of it
        awshow data                   reads a schedule, prints its run as JSON
        awshow page                   reads a schedule, prints a page that steps through its run
        awshow rest                   reads a schedule, prints it with the events that bring its run to rest
+       awshow why                    reads any of the three texts, prints what is wrong with it, and where
        awshow help                   prints this
 ";
 

@@ -1,4 +1,4 @@
-use Rattle.std.proofs.Common.{true, false, string_bytes, arith}
+use Rattle.std.proofs.Common.{string_bytes}
 use Rattle.std.proofs.lemmas.Bool.{false≢true}
 use Rattle.reg_show_cli.proofs.Counted.{bytes_at, no_bytes, tells_word}
 use Rattle.reg_show_cli.proofs.asking.is_at.Goals as goal

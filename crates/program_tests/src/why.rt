@@ -1,0 +1,78 @@
+//! How it is told what is wrong with a text: all of the answer, a first part where the writer fails, and nothing where there is no memory.
+use refusing::{Trial, refusals};
+use reg_why::why_text;
+use std::alloc::{Allocator, Global};
+use std::test::Fail;
+
+/// Whether this is told of a text, with the status that goes with it.
+pub(crate) fn is_told(alloc: Global, text: &str, is_accepted: bool, answer: &str) -> bool {
+    let mut reader = text.as_bytes();
+    let (mut output, mut errors) = (Vec::new(alloc), Vec::new(alloc));
+    let status = why_text(alloc, alloc, &mut reader, &mut output, &mut errors);
+    status == u8::from(!is_accepted) && output.as_slice() == answer.as_bytes() && errors.is_empty()
+}
+
+/// A schedule of which the last event is refused, and what is told of it.
+const REFUSED: &str = "processes 1
+registers x
+front linear
+call 0 read x
+tick 1
+";
+
+const REFUSED_TOLD: &str = "event 1: no process
+5 | tick 1
+  |      ^
+there is no process 1: the process is 0
+";
+
+/// Whether an answer for which there is so much room goes out in part.
+fn goes_out_in_part(alloc: Global, room: usize) -> bool {
+    let mut buffer = [0u8; 80];
+    if room > buffer.len() {
+        return false;
+    }
+    let mut writer = &mut buffer[..room];
+    let (mut reader, mut errors) = (REFUSED.as_bytes(), Vec::new(alloc));
+    let status = why_text(alloc, alloc, &mut reader, &mut writer, &mut errors);
+    status == 1
+        && errors.as_slice() == "output: write\n".as_bytes()
+        && REFUSED_TOLD.as_bytes().starts_with(&buffer[..room])
+}
+
+#[test]
+fn an_answer_whose_writer_is_full_goes_out_in_part(rt: HostRuntime) {
+    for room in [0usize, 1, 25, 80] {
+        assert!(rt; goes_out_in_part(rt.alloc(), room), "{room}");
+    }
+}
+
+/// What is told of a text.
+struct Asked {
+    text: &'static str,
+}
+
+impl Trial for Asked {
+    fn answer<A: Allocator + Copy>(&self, alloc: A, ample: Global) -> Result<Option<String>, Fail> {
+        let mut reader = self.text.as_bytes();
+        let (mut output, mut errors) = (Vec::new(ample), Vec::new(ample));
+        why_text(alloc, ample, &mut reader, &mut output, &mut errors);
+        if errors.as_slice() == "out of memory\n".as_bytes() && output.is_empty() {
+            return Ok(None);
+        }
+        match String::from_utf8(output) {
+            Ok(told) => Ok(Some(told)),
+            Err(_) => Ok(Some(String::new(ample))),
+        }
+    }
+}
+
+#[test]
+fn want_of_memory_is_told_and_nothing_else(rt: HostRuntime) -> Result<(), Fail> {
+    let alloc = rt.alloc();
+    let misspelt = "processes 1\nregisters x\nfront linear\ncal 0 read x\n";
+    for text in [REFUSED, misspelt, "front = 1\n"] {
+        assert!(rt; refusals(&Asked { text }, alloc)? > 3, "{text}");
+    }
+    Ok(())
+}

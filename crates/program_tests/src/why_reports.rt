@@ -1,0 +1,148 @@
+//! What is told of reports: what an accepted one is, and where one is wrong that has a mistake.
+use crate::why::is_told;
+
+/// A text, whether it is accepted, and what is told of it, worked out by hand.
+const ROWS: [(&str, bool, &str); 27] = [
+    (
+        "awreg report 2\nfront linear\nprocesses 2\nregisters 1\nx\nhistory 4\n       0  p0    #0       call    write x 5\n       2  p0    #0       answer  done\n       3  p1    #0       call    read x\n       5  p1    #0       answer  value 5\norder 2\np0 #0\np1 #0\npoints 2\np0 #0 at 1\np1 #0 at 4\nend\n",
+        true,
+        "a report: 2 processes, 1 register, linear, 4 entries; serial yes; points yes\n",
+    ),
+    (
+        "awreg report 2\nfront linear\nprocesses 2\nregisters 1\nx\nhistory 4\n       0  p0    #0       call    write x 5\n       2  p0    #0       answer  done\n       3  p1    #0       call    read x\n       5  p1    #0       answer  value 5\norder 2\np0 #0\np1 #0\nend\n",
+        true,
+        "a report: 2 processes, 1 register, linear, 4 entries; serial yes\n",
+    ),
+    (
+        "awreg report 3\nfront linear\nprocesses 2\nregisters 1\nx\nhistory 4\n       0  p0    #0       call    write x 5\n       2  p0    #0       answer  done\n       3  p1    #0       call    read x\n       5  p1    #0       answer  value 5\norder 2\np0 #0\np1 #0\npoints 2\np0 #0 at 1\np1 #0 at 4\nend\n",
+        false,
+        "line 1: form\n1 | awreg report 3\n  |              ^\nexpected 1 or 2, found \"3\"\n",
+    ),
+    (
+        "awreg report 2\nfront linear\nprocesses 2\nregisters 1\nx\nhistroy 4\n       0  p0    #0       call    write x 5\n       2  p0    #0       answer  done\n       3  p1    #0       call    read x\n       5  p1    #0       answer  value 5\norder 2\np0 #0\np1 #0\npoints 2\np0 #0 at 1\np1 #0 at 4\nend\n",
+        false,
+        "line 6: form\n6 | histroy 4\n  | ^\n\"histroy\": did you mean history?\n",
+    ),
+    (
+        "awreg report 2\nfront linear\nprocesses 2\nregisters 1\nx\nhistory 4\n       0  p0    #0       call    write x 5\n      2  p0    #0       answer  done\n       3  p1    #0       call    read x\n       5  p1    #0       answer  value 5\norder 2\np0 #0\np1 #0\npoints 2\np0 #0 at 1\np1 #0 at 4\nend\n",
+        false,
+        "line 8: form\n8 |       2  p0    #0       answer  done\n  | ^\nexpected an event at the right of 8 places, found 6 spaces\n",
+    ),
+    (
+        "awreg report 2\nfront linear\nprocesses 2\nregisters 1\nx\nhistory 4\n       0  p0    #0       call    write x 5\n       2  p0    #0       answer  done\n       3  p1    #0       call read x\n       5  p1    #0       answer  value 5\norder 2\np0 #0\np1 #0\npoints 2\np0 #0 at 1\np1 #0 at 4\nend\n",
+        false,
+        "line 9: form\n9 |        3  p1    #0       call read x\n  |                              ^\nexpected four spaces, found a space\n",
+    ),
+    (
+        "awreg report 2\nfront linear\nprocesses 2\nregisters 1\nx\nhistory 4\n       0  p0    #0       call    write x 5\n       2  p0    #0       answer  done\n       3  p1    #0       call    read x\n       5  p1    #0       answer  valeu 5\norder 2\np0 #0\np1 #0\npoints 2\np0 #0 at 1\np1 #0 at 4\nend\n",
+        false,
+        "line 10: form\n10 |        5  p1    #0       answer  valeu 5\n   |                                  ^\n\"valeu\": did you mean value?\n",
+    ),
+    (
+        "awreg report 2\nfront linear\nprocesses 2\nregisters 1\nx\nhistory 4\n       0  p0    #0       call    write x 5\n       2  p0    #0       answer  done\n       3  p1    #0       call    read y\n       5  p1    #0       answer  value 5\norder 2\np0 #0\np1 #0\npoints 2\np0 #0 at 1\np1 #0 at 4\nend\n",
+        false,
+        "line 9: name\n9 |        3  p1    #0       call    read y\n  |                                       ^\nno register \"y\": the register is x\n",
+    ),
+    (
+        "awreg report 2\nfront linear\nprocesses 2\nregisters 1\nx\nhistory 4\n       0  p0    #0       call    write x 5\n       2  p0    #0       answer  done\n       2  p1    #0       call    read x\n       5  p1    #0       answer  value 5\norder 2\np0 #0\np1 #0\npoints 2\np0 #0 at 1\np1 #0 at 4\nend\n",
+        false,
+        "line 9: place\n9 |        2  p1    #0       call    read x\n  | ^\nevent 2 doesn't come behind event 2, of the line before\n",
+    ),
+    (
+        "awreg report 2\nfront linear\nprocesses 2\nregisters 1\nx\nhistory 4\n       0  p0    #0       call    write x 5\n       2  p0    #0       answer  done\n       3  p1    #1       call    read x\n       5  p1    #0       answer  value 5\norder 2\np0 #0\np1 #0\npoints 2\np0 #0 at 1\np1 #0 at 4\nend\n",
+        false,
+        "line 9: place\n9 |        3  p1    #1       call    read x\n  | ^\nthe next operation of process 1 is #0\n",
+    ),
+    (
+        "awreg report 2\nfront linear\nprocesses 2\nregisters 1\nx\nhistory 4\n       0  p0    #0       call    write x 5\n       2  p0    #0       answer  value 0\n       3  p1    #0       call    read x\n       5  p1    #0       answer  value 5\norder 2\np0 #0\np1 #0\npoints 2\np0 #0 at 1\np1 #0 at 4\nend\n",
+        false,
+        "line 8: place\n8 |        2  p0    #0       answer  value 0\n  | ^\na write is answered by done\n",
+    ),
+    (
+        "awreg report 2\nfront linear\nprocesses 2\nregisters 1\nx\nhistory 4\n       0  p0    #0       call    write x 5\n       2  p0    #0       answer  done\n       3  p1    #0       call    read x\n       5  p0    #0       answer  value 5\norder 2\np0 #0\np1 #0\npoints 2\np0 #0 at 1\np1 #0 at 4\nend\n",
+        false,
+        "line 10: place\n10 |        5  p0    #0       answer  value 5\n   | ^\nprocess 0 runs no operation\n",
+    ),
+    (
+        "awreg report 2\nfront linear\nprocesses 2\nregisters 1\nx\nhistory 4\n       0  p0    #0       call    write x 5\n       2  p0    #0       answer  done\n       3  p1    #0       call    read x\n       5  p2    #0       answer  value 5\norder 2\np0 #0\np1 #0\npoints 2\np0 #0 at 1\np1 #0 at 4\nend\n",
+        false,
+        "line 10: place\n10 |        5  p2    #0       answer  value 5\n   | ^\nthere is no process 2: the report has processes 0 to 1\n",
+    ),
+    (
+        "awreg report 2\nfront linear\nprocesses 2\nregisters 1\nx\nhistory 4\n       0  p0    #0       call    write x 5\n       2  p0    #0       answer  done\n       3  p1    #0       call    read x\n       5  p1    #0       answer  value 5\norder 2\np0 #0\np1 0\npoints 2\np0 #0 at 1\np1 #0 at 4\nend\n",
+        false,
+        "line 13: form\n13 | p1 0\n   |    ^\nexpected # and a number, as in p0 #0, found \"0\"\n",
+    ),
+    (
+        "awreg report 2\nfront linear\nprocesses 2\nregisters 1\nx\nhistory 4\n       0  p0    #0       call    write x 5\n       2  p0    #0       answer  done\n       3  p1    #0       call    read x\n       5  p1    #0       answer  value 5\norder 2\np0 #0\np1 #0\npoints 2\np0 #0 at 1\np1 #0 at 4\n",
+        false,
+        "line 17: end\nthe text ends before a line that it needs: end\n",
+    ),
+    (
+        "awreg report 2\nfront linear\nprocesses 2\nregisters 1\nx\nhistory 4\n       0  p0    #0       call    write x 5\n       2  p0    #0       answer  done\n       3  p1    #0       call    read x\n       5  p1    #0       answer  value 5\norder 2\np0 #0\np1 #0\npoints 2\np0 #0 at 1\np1 #0 at 4\nend\n\n",
+        false,
+        "line 18: end\n18 | \n   | ^\na report ends with the line end: no line stands behind it\n",
+    ),
+    (
+        "awreg report 2\nfront linear\nprocesses 2\nregisters 1\nx\nhistory 4\n       0  p0    #0       call    write x 5\n       2  p0    #0       answer  done\n       3  p1    #0       call    read x\n       5  p1    #0       answer  value 7\norder 2\np0 #0\np1 #0\npoints 2\np0 #0 at 1\np1 #0 at 4\nend\n",
+        false,
+        "serial no: answer at 1\n13 | p1 #0\n   | ^\np1 #0 is read x: memory answers value 5 there, and the report says value 7 on line 10\n",
+    ),
+    (
+        "awreg report 2\nfront linear\nprocesses 2\nregisters 1\nx\nhistory 4\n       0  p0    #0       call    write x 5\n       2  p0    #0       answer  done\n       3  p1    #0       call    read x\n       5  p1    #0       answer  value 5\norder 2\np1 #0\np0 #0\npoints 2\np0 #0 at 1\np1 #0 at 4\nend\n",
+        false,
+        "serial no: answer at 0\n12 | p1 #0\n   | ^\np1 #0 is read x: memory answers value 0 there, and the report says value 5 on line 10\n",
+    ),
+    (
+        "awreg report 2\nfront linear\nprocesses 2\nregisters 1\nx\nhistory 4\n       0  p0    #0       call    write x 5\n       2  p0    #0       answer  done\n       3  p1    #0       call    read x\n       5  p1    #0       answer  value 5\norder 2\np0 #0\np1 #3\npoints 2\np0 #0 at 1\np1 #0 at 4\nend\n",
+        false,
+        "serial no: unknown\n13 | p1 #3\n   | ^\nthe history has no call of p1 #3\n",
+    ),
+    (
+        "awreg report 2\nfront linear\nprocesses 2\nregisters 1\nx\nhistory 4\n       0  p0    #0       call    write x 5\n       2  p0    #0       answer  done\n       3  p1    #0       call    read x\n       5  p1    #0       answer  value 5\norder 2\np0 #0\np0 #0\npoints 2\np0 #0 at 1\np1 #0 at 4\nend\n",
+        false,
+        "serial no: twice\n13 | p0 #0\n   | ^\np0 #0 stands on line 12 too\n",
+    ),
+    (
+        "awreg report 2\nfront linear\nprocesses 2\nregisters 1\nx\nhistory 4\n       0  p0    #0       call    write x 5\n       2  p0    #0       answer  done\n       3  p1    #0       call    read x\n       5  p1    #0       answer  value 5\norder 1\np0 #0\npoints 2\np0 #0 at 1\np1 #0 at 4\nend\n",
+        false,
+        "serial no: missing\n10 |        5  p1    #0       answer  value 5\n   | ^\np1 #0 is answered here, and doesn't stand in the order\n",
+    ),
+    (
+        "awreg report 2\nfront linear\nprocesses 2\nregisters 1\nx\nhistory 4\n       0  p0    #0       call    write x 5\n       2  p0    #0       answer  done\n       3  p1    #0       call    read x\n       5  p1    #0       answer  value 5\norder 2\np0 #0\np1 #0\npoints 2\np0 #0 at 1\np1 #0 at 2\nend\n",
+        false,
+        "points no: outside at 1\n16 | p1 #0 at 2\n   | ^\np1 #0 is called at event 3 and answered at event 5: its point is not between them\n",
+    ),
+    (
+        "awreg report 2\nfront linear\nprocesses 2\nregisters 1\nx\nhistory 4\n       0  p0    #0       call    write x 5\n       1  p1    #0       call    read x\n       4  p0    #0       answer  done\n       5  p1    #0       answer  value 5\norder 2\np0 #0\np1 #0\npoints 2\np0 #0 at 3\np1 #0 at 2\nend\n",
+        false,
+        "points no: falling at 1\n16 | p1 #0 at 2\n   | ^\nthe point before it is at event 3: points never fall\n",
+    ),
+    (
+        "awreg report 2\nfront linear\nprocesses 2\nregisters 1\nx\nhistory 3\n       0  p0    #0       call    write x 5\n       2  p0    #0       answer  done\n       3  p1    #0       call    read x\n       5  p1    #0       answer  value 5\norder 2\np0 #0\np1 #0\npoints 2\np0 #0 at 1\np1 #0 at 4\nend\n",
+        false,
+        "line 10: form\n10 |        5  p1    #0       answer  value 5\n   | ^\nexpected order, found 7 spaces\nmore lines of the history stand here than its count says\n",
+    ),
+    (
+        "awreg report 2\nfront linear\nprocesses 2\nregisters 1\nx\nhistory 5\n       0  p0    #0       call    write x 5\n       2  p0    #0       answer  done\n       3  p1    #0       call    read x\n       5  p1    #0       answer  value 5\norder 2\np0 #0\np1 #0\npoints 2\np0 #0 at 1\np1 #0 at 4\nend\n",
+        false,
+        "line 11: form\n11 | order 2\n   | ^\nexpected an event at the right of 8 places, found \"order\"\nfewer lines of the history stand here than its count says\n",
+    ),
+    (
+        "awreg report 2\nfront linear\nprocesses 2\nregisters 1\nx\nhistory 4\n       0  p0    #0       call    write x 5\n       2  p0    #0       answer  done\n       3  p1    #0       call    read x\n       5  p1    #0       answer  value 5\norder 1\np0 #0\np1 #0\npoints 2\np0 #0 at 1\np1 #0 at 4\nend\n",
+        false,
+        "line 13: form\n13 | p1 #0\n   | ^\nexpected points or end, found \"p1\"\nmore lines of the order stand here than its count says\n",
+    ),
+    (
+        "awreg report 2\nfront linear\nprocesses 2\nregisters 1\nx\nhistory 4\n       0  p0    #0       call    write x 5\n       2  p0    #0       answer  done\n       3  p1    #0       call    read x\n       5  p1    #0       answer  value 5\norder 2\np0 #0\np1 #0\npoints 3\np0 #0 at 1\np1 #0 at 4\nend\n",
+        false,
+        "line 17: form\n17 | end\n   | ^\nexpected p and a process, as in p0 #0, found \"end\"\nfewer points stand here than their count says\n",
+    ),
+];
+
+#[test]
+fn reports_are_told_as_worked_by_hand(rt: HostRuntime) {
+    for (text, is_accepted, answer) in &ROWS {
+        assert!(rt; is_told(rt.alloc(), text, *is_accepted, answer), "{text}");
+    }
+}

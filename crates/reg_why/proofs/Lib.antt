@@ -1,0 +1,4 @@
+pub mod Counting
+pub mod Told
+pub mod Asked
+pub mod Sending

@@ -1,0 +1,11 @@
+use Rattle.std.proofs.Common.{◌∙◌, ap}
+use Rattle.reg_front.specs.Table.{front_name}
+use Rattle.reg_toml.specs.Loads.{Load}
+use Rattle.reg_why.proofs.Told.{if_ok, tells_load}
+use Rattle.reg_why.proofs.telling.tell_load.Goals as goal
+
+pub returns : goal.returns
+returns g c =
+    let is = c.work.view_is in
+    if_ok _ _ c.accepted.result (λ t h. tells_load c.args.work.now t.is_accepted t.answer.items c.args.text.now _ _ _ _ c.requires
+    (c.processes.ensures.value ∙ ap (λ (w : Load). w.shape.processes) is) (c.registers.ensures.value ∙ ap (λ (w : Load). w.shape.registers) is) (c.name.ensures ∙ ap (λ (w : Load). front_name w.front) is) h.0 h.1) c.accepted.ensures

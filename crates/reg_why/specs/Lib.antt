@@ -1,0 +1,4 @@
+pub mod Kinds
+pub mod FirstLines
+pub mod Tellings
+pub mod Inner
