@@ -48,6 +48,7 @@ fn an_answer_whose_writer_is_full_goes_out_in_part(rt: HostRuntime) {
 }
 
 /// What is told of a text.
+#[derive(Clone, Copy)]
 struct Asked {
     text: &'static str,
 }
