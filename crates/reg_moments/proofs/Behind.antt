@@ -1,5 +1,5 @@
 -- What an event did, by what its world answers before and after it.
-use Rattle.std.proofs.Common.{ℕ, zero, suc, ◌≡◌, ◌+◌, ◌<◌, ◌≤◌, ◌⊎◌, inl, inr, Bool, true, false, List, [], ◌∷◌, ◌++◌, length, drop, take, map, get_or, set, append_assoc, append-nil, Option, None, refl, sym, ap, ap₂, ◌∙◌, arith, drop-cons}
+use Rattle.std.proofs.Common.{ℕ, zero, suc, ◌≡◌, ◌+◌, ◌<◌, ◌≤◌, ◌⊎◌, inl, inr, Bool, true, false, List, [], ◌∷◌, ◌++◌, length, drop, take, map, get_or, set, append_assoc, append-nil, Option, None, refl, sym, ap, ap₂, ◌∙◌, arith, drop-cons, Some}
 use Rattle.std.proofs.lemmas.List.{get_or-set_same, get_or-set_other, drop_all}
 use Rattle.std.specs.Prelude.{slice_index, cond, ◌==◌, ◌&&◌, not, nat_lt, slice_get}
 use Rattle.std.proofs.lemmas.Bool.{cases_eq, cases_order, ne_eqb, eq-eqb, lt-ltb, le-ltb}
@@ -7,7 +7,10 @@ use Rattle.reg_base.specs.declared.stamps.Delivered.{Delivered}
 use Rattle.reg_base.specs.declared.memory.Op.{Op}
 use Rattle.reg_frames.specs.declared.bodies.Frame.{Frame}
 use Rattle.reg_front.specs.declared.starts.Start.{Start}
+use Rattle.reg_process.specs.declared.known.Known.{Known}
 use Rattle.reg_process.specs.declared.steps.Reply.{Reply}
+use Rattle.reg_process.specs.Known.{IsNoPeer, known_of}
+use Rattle.reg_process.specs.Process.{State, peer_at}
 use Rattle.reg_world.specs.declared.events.Event.{Event}
 use Rattle.reg_world.specs.declared.events.Event.TheVariants.{Take}
 use Rattle.reg_world.specs.Nodes.{Nodes}
@@ -15,7 +18,7 @@ use Rattle.reg_world.specs.World.{delivered_of}
 use Rattle.reg_world.specs.Histories.{process_of}
 use Rattle.reg_world.specs.Worlds.{Made, run_in, with_event, reply_in}
 use Rattle.reg_moments.specs.declared.moments.Sent.{Sent}
-use Rattle.reg_moments.specs.Moments.{Fact, frame_taken, placed, puts_since, moment_between, moment_of, moments_from}
+use Rattle.reg_moments.specs.Moments.{Fact, expected_by, frame_taken, out_of_turn, placed, puts_since, moment_between, moment_of, moments_from}
 
 pub placed_end : (to place : ℕ) (frames : List Frame) → length frames ≤ place → placed to place (drop place frames) ≡ []
 placed_end to place frames h = ap (placed to place) (none place frames h)
@@ -82,22 +85,35 @@ frame_nowhere n w from to place h = sym (ap (λ t. cond t (slice_get ((w from).w
         last true false = refl
         last false y = refl
 
+-- the number expected of the sender of a take, by the state of its receiver
+pub expected_there : (n : ℕ) (w : Nodes) (s : State) (from to place : ℕ) (k : Known) → s ≡ (w to).state → length s.peers ≡ n → s.me ≡ to → to < n → (IsNoPeer s from → ⊥) → k ≡ known_of (peer_at s from) → Some k.expected ≡ expected_by n w (Take from to place)
+expected_there n w s from to place k same size me b peer is = by (cases_eq from to) (cases_order from n)
+  where
+    by : (from ≡ to) ⊎ (from ≡ to → ⊥) → (from ≡ n) ⊎ ((from < n) ⊎ (n < from)) → Some k.expected ≡ expected_by n w (Take from to place)
+    by (inl e) o = absurd (peer (inr (e ∙ sym me)))
+    by (inr ne) (inl e) = absurd (peer (inl (omega (arith, e, size))))
+    by (inr ne) (inr (inr g)) = absurd (peer (inl (omega (arith, g, size))))
+    by (inr ne) (inr (inl a)) =
+        let test : (nat_lt from n && (nat_lt to n && not (from == to))) ≡ true = rw (lt-ltb from n a, lt-ltb to n b, ne_eqb from to ne) refl in
+        ap (λ (x : Known). Some x.expected) is ∙ (ap (λ (x : State). Some (peer_at x from).expected) same ∙ sym (ap (λ t. cond t (Some (peer_at (w to).state from).expected) None) test))
+
 -- an event told with its parts
-pub told_is : (start : Op → ℕ → Start) (w : Made) (e : Event) (new : Made) (p : ℕ) (frame : Option Frame) (clock : ℕ) (delivered : List Delivered) (reply : Option Reply) (sent : List Sent) (before after : ℕ) (lengths : ℕ → ℕ)
-    → new ≡ with_event start w e → p ≡ process_of e → frame ≡ frame_taken w.processes (run_in start w).nodes e → clock ≡ ((run_in start new).nodes p).state.clock
+pub told_is : (start : Op → ℕ → Start) (w : Made) (e : Event) (new : Made) (p : ℕ) (frame : Option Frame) (awaited expected : Option ℕ) (clock : ℕ) (delivered : List Delivered) (reply : Option Reply) (sent : List Sent) (before after : ℕ) (lengths : ℕ → ℕ)
+    → new ≡ with_event start w e → p ≡ process_of e → frame ≡ frame_taken w.processes (run_in start w).nodes e → awaited ≡ expected_by w.processes (run_in start w).nodes e → expected ≡ out_of_turn frame awaited → clock ≡ ((run_in start new).nodes p).state.clock
     → before ≡ ((run_in start w).nodes p).state.delivered → after ≡ ((run_in start new).nodes p).state.delivered → delivered ≡ drop before (take after (map delivered_of (run_in start new).order))
     → reply ≡ reply_in start w e → ((to : ℕ) → to < w.processes → (to ≡ p → ⊥) → lengths to ≡ length (((run_in start w).nodes p).wire to))
     → sent ≡ puts_since p lengths ((run_in start new).nodes p).wire new.processes
-    → record { event = e; process = p; frame = frame; clock = clock; delivered = delivered; reply = reply; sent = sent } ≡ moment_of start w e
-told_is start w e new p frame clock delivered reply sent before after lengths is_new is_p is_frame is_clock is_before is_after is_delivered is_reply are_lengths is_sent =
+    → record { event = e; process = p; frame = frame; expected = expected; clock = clock; delivered = delivered; reply = reply; sent = sent } ≡ moment_of start w e
+told_is start w e new p frame awaited expected clock delivered reply sent before after lengths is_new is_p is_frame is_awaited is_expected is_clock is_before is_after is_delivered is_reply are_lengths is_sent =
     let same : puts_since p lengths ((run_in start new).nodes p).wire w.processes ≡ puts_since p (λ to. length (((run_in start w).nodes p).wire to)) ((run_in start new).nodes p).wire w.processes =
     puts_same p lengths (λ to. length (((run_in start w).nodes p).wire to)) ((run_in start new).nodes p).wire w.processes are_lengths in
     let count : new.processes ≡ w.processes = ap Made.processes is_new in
     let sent_is : sent ≡ puts_since p (λ to. length (((run_in start w).nodes p).wire to)) ((run_in start new).nodes p).wire w.processes = is_sent ∙ (ap (puts_since p lengths ((run_in start new).nodes p).wire) count ∙ same) in
     let delivered_is : delivered ≡ drop ((run_in start w).nodes p).state.delivered (take ((run_in start new).nodes p).state.delivered (map delivered_of (run_in start new).order)) =
     is_delivered ∙ ap₂ (λ (a b : ℕ). drop a (take b (map delivered_of (run_in start new).order))) is_before is_after in
-    let here : record { event = e; process = p; frame = frame; clock = clock; delivered = delivered; reply = reply; sent = sent } ≡ moment_between w.processes e p (reply_in start w e) (run_in start w) (run_in start new) =
-    λ i. record { event = e; process = p; frame = is_frame i; clock = is_clock i; delivered = delivered_is i; reply = is_reply i; sent = sent_is i } in
+    let turn : expected ≡ out_of_turn (frame_taken w.processes (run_in start w).nodes e) (expected_by w.processes (run_in start w).nodes e) = is_expected ∙ ap₂ out_of_turn is_frame is_awaited in
+    let here : record { event = e; process = p; frame = frame; expected = expected; clock = clock; delivered = delivered; reply = reply; sent = sent } ≡ moment_between w.processes e p (reply_in start w e) (run_in start w) (run_in start new) =
+    λ i. record { event = e; process = p; frame = is_frame i; expected = turn i; clock = is_clock i; delivered = delivered_is i; reply = is_reply i; sent = sent_is i } in
     here ∙ ap₂ (λ (q : ℕ) (v : Made). moment_between w.processes e q (reply_in start w e) (run_in start w) (run_in start v)) is_p is_new
 
 -- one more length
