@@ -1,5 +1,5 @@
 -- What an event did, by what its world answers before and after it.
-use Rattle.std.proofs.Common.{ℕ, zero, suc, ◌≡◌, ◌+◌, ◌<◌, ◌≤◌, ◌⊎◌, inl, inr, Bool, true, false, List, [], ◌∷◌, ◌++◌, length, drop, take, map, get_or, set, append_assoc, append-nil, Option, None, refl, sym, ap, ap₂, ◌∙◌, arith, drop-cons, Some}
+use Rattle.std.proofs.Common.{ℕ, zero, suc, ◌≡◌, ◌+◌, ◌<◌, ◌≤◌, ◌⊎◌, inl, inr, Bool, true, false, List, [], ◌∷◌, ◌++◌, length, drop, take, map, get_or, set, append_assoc, append-nil, Option, None, refl, sym, ap, ap₂, ◌∙◌, arith, drop-cons}
 use Rattle.std.proofs.lemmas.List.{get_or-set_same, get_or-set_other, drop_all}
 use Rattle.std.specs.Prelude.{slice_index, cond, ◌==◌, ◌&&◌, not, nat_lt, slice_get}
 use Rattle.std.proofs.lemmas.Bool.{cases_eq, cases_order, ne_eqb, eq-eqb, lt-ltb, le-ltb}
@@ -7,10 +7,9 @@ use Rattle.reg_base.specs.declared.stamps.Delivered.{Delivered}
 use Rattle.reg_base.specs.declared.memory.Op.{Op}
 use Rattle.reg_frames.specs.declared.bodies.Frame.{Frame}
 use Rattle.reg_front.specs.declared.starts.Start.{Start}
-use Rattle.reg_process.specs.declared.known.Known.{Known}
 use Rattle.reg_process.specs.declared.steps.Reply.{Reply}
-use Rattle.reg_process.specs.Known.{IsNoPeer, known_of}
-use Rattle.reg_process.specs.Process.{State, peer_at}
+use Rattle.reg_process.specs.Known.{IsNoPeer}
+use Rattle.reg_process.specs.Process.{State}
 use Rattle.reg_world.specs.declared.events.Event.{Event}
 use Rattle.reg_world.specs.declared.events.Event.TheVariants.{Take}
 use Rattle.reg_world.specs.Nodes.{Nodes}
@@ -85,17 +84,10 @@ frame_nowhere n w from to place h = sym (ap (λ t. cond t (slice_get ((w from).w
         last true false = refl
         last false y = refl
 
--- the number expected of the sender of a take, by the state of its receiver
-pub expected_there : (n : ℕ) (w : Nodes) (s : State) (from to place : ℕ) (k : Known) → s ≡ (w to).state → length s.peers ≡ n → s.me ≡ to → to < n → (IsNoPeer s from → ⊥) → k ≡ known_of (peer_at s from) → Some k.expected ≡ expected_by n w (Take from to place)
-expected_there n w s from to place k same size me b peer is = by (cases_eq from to) (cases_order from n)
-  where
-    by : (from ≡ to) ⊎ (from ≡ to → ⊥) → (from ≡ n) ⊎ ((from < n) ⊎ (n < from)) → Some k.expected ≡ expected_by n w (Take from to place)
-    by (inl e) o = absurd (peer (inr (e ∙ sym me)))
-    by (inr ne) (inl e) = absurd (peer (inl (omega (arith, e, size))))
-    by (inr ne) (inr (inr g)) = absurd (peer (inl (omega (arith, g, size))))
-    by (inr ne) (inr (inl a)) =
-        let test : (nat_lt from n && (nat_lt to n && not (from == to))) ≡ true = rw (lt-ltb from n a, lt-ltb to n b, ne_eqb from to ne) refl in
-        ap (λ (x : Known). Some x.expected) is ∙ (ap (λ (x : State). Some (peer_at x from).expected) same ∙ sym (ap (λ t. cond t (Some (peer_at (w to).state from).expected) None) test))
+-- all other processes are peers
+pub is_peer : (s : State) (n from to : ℕ) → length s.peers ≡ n → s.me ≡ to → from < n → (from ≡ to → ⊥) → IsNoPeer s from → ⊥
+is_peer s n from to size me l ne (inl ge) = absurd (omega (arith, size, l, ge))
+is_peer s n from to size me l ne (inr e) = ne (e ∙ me)
 
 -- an event told with its parts
 pub told_is : (start : Op → ℕ → Start) (w : Made) (e : Event) (new : Made) (p : ℕ) (frame : Option Frame) (awaited expected : Option ℕ) (clock : ℕ) (delivered : List Delivered) (reply : Option Reply) (sent : List Sent) (before after : ℕ) (lengths : ℕ → ℕ)

@@ -1,5 +1,5 @@
 -- The lines of a trace as they are put are its text.
-use Rattle.std.proofs.Common.{ℕ, zero, suc, ◌≡◌, ◌+◌, ◌<◌, List, [], ◌∷◌, ◌++◌, length, take, map, flat_map, get_or, codes, Option, sym, ap, ◌∙◌, arith, append_assoc, append-nil}
+use Rattle.std.proofs.Common.{ℕ, zero, suc, ◌≡◌, ◌+◌, ◌<◌, List, [], ◌∷◌, ◌++◌, length, take, map, flat_map, get_or, codes, cond, Bool, true, false, Option, None, Some, refl, sym, ap, ◌∙◌, arith, append_assoc, append-nil}
 use Rattle.std.specs.Fmt.{decimal}
 use Rattle.std.proofs.lemmas.Grind.{flat_map-append}
 use Rattle.std.proofs.lemmas.List.{take_more}
@@ -18,7 +18,7 @@ use Rattle.reg_moments.proofs.Putting.{puts_three, puts_four}
 pub one_line : (line : List ℕ) → line ++ 10 ∷ [] ≡ text_of (line ∷ [])
 one_line line = sym (append-nil (line ++ 10 ∷ []))
 
-pub text_append : (xs ys : List (List ℕ)) → text_of (xs ++ ys) ≡ text_of xs ++ text_of ys
+text_append : (xs ys : List (List ℕ)) → text_of (xs ++ ys) ≡ text_of xs ++ text_of ys
 text_append xs ys = flat_map-append (λ line. line ++ 10 ∷ []) xs ys
 
 text_map : {X : Type 0} (f : X → List ℕ) (xs : List X) → text_of (map f xs) ≡ lines_by f xs
@@ -57,6 +57,18 @@ moment_put held names number f a b t c d e h k one two turn three four five six 
     let puts : List ℕ = lines_by (puts_line names f.process) f.sent in
     puts_as held a k (head ++ (takes ++ (drops ++ (clock ++ (delivers ++ (answers ++ puts)))))) (text_of (moment_lines names number f)) (moment_parts names number f)
     (puts_four held a b t c k head takes drops (clock ++ (delivers ++ (answers ++ puts))) one two turn (puts_four held c d e h k clock delivers answers puts three four five six))
+
+-- the lines of a value, where there is one
+lines_at : (ℕ → List (List ℕ)) → Option ℕ → List (List ℕ)
+lines_at f None = []
+lines_at f (Some x) = f x
+
+pub lines_if : (f : ℕ → List (List ℕ)) (b : Bool) (x : ℕ) (o : Option ℕ) → o ≡ cond b (Some x) None → lines_at f o ≡ cond b (f x) []
+lines_if f b x o is = ap (lines_at f) is ∙ chosen b
+  where
+    chosen : (b : Bool) → lines_at f (cond b (Some x) None) ≡ cond b (f x) []
+    chosen true = refl
+    chosen false = refl
 
 -- the lines of one more of these
 block_more : {X : Type 0} (f : X → List (List ℕ)) (xs : List X) (i : ℕ) (d : X) → i < length xs → text_of (flat_map f (take (i + 1) xs)) ≡ text_of (flat_map f (take i xs)) ++ text_of (f (get_or xs i d))

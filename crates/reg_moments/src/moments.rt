@@ -1,5 +1,6 @@
 //! What each event of a run did.
 ghost use Rattle.std.specs.Prelude.{◌≡◌, ◌<◌, ◌++◌, ℕ, false, drop, length, map, take, slice_index, IfOk, OnOk};
+ghost use Rattle.reg_process.specs.Process.{peer_at};
 ghost use Rattle.reg_world.specs.Histories.{process_of};
 ghost use Rattle.reg_world.specs.World.{delivered_of};
 ghost use Rattle.reg_world.specs.Worlds.{run_in, with_event};
@@ -77,6 +78,27 @@ fn frame_of<F: FrontEnd, A: Allocator + Copy>(world: &World<F, A>, event: &Event
     }
 }
 
+/// The number that a process expects of the next data frame of another one.
+fn expected_from<F: FrontEnd, A: Allocator + Copy>(
+    world: &World<F, A>,
+    from: u8,
+    to: u8,
+) -> u64
+    requires going { world.now.failed ≡ false }
+    requires from { from < world.now.processes }
+    requires to { to < world.now.processes }
+    requires other { from ≡ to → ⊥ }
+    ensures { result ≡ (peer_at ((run_in F.start world.now).nodes to).state from).expected }
+{
+    match world.process(to) {
+        Some(process) => match process.known(from) {
+            Some(known) => known.expected,
+            None => unreachable!(),
+        },
+        None => unreachable!(),
+    }
+}
+
 /// The number that the receiver of a take expects of the sender's next data frame.
 fn expected_of<F: FrontEnd, A: Allocator + Copy>(
     world: &World<F, A>,
@@ -86,11 +108,8 @@ fn expected_of<F: FrontEnd, A: Allocator + Copy>(
     ensures { result ≡ expected_by world.now.processes (run_in F.start world.now).nodes event.now }
 {
     match event {
-        Event::Take { from, to, .. } => match world.process(*to) {
-            Some(process) => match process.known(*from) {
-                Some(known) => Some(known.expected),
-                None => None,
-            },
+        Event::Take { from, to, .. } => match world.wire(*from, *to) {
+            Some(_) => Some(expected_from(world, *from, *to)),
             None => None,
         },
         _ => None,

@@ -1,4 +1,4 @@
-use Rattle.std.proofs.Common.{◌∷◌, ◌++◌, [], ap, sym, ◌∙◌, append-nil}
+use Rattle.std.proofs.Common.{◌∷◌, ◌++◌, []}
 use Rattle.reg_text.specs.Lines.{text_of}
 use Rattle.reg_text.proofs.Sent.{puts_two}
 use Rattle.reg_moments.specs.Traces.{copy_lines, delivers_line}
