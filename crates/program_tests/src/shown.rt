@@ -21,12 +21,14 @@ const WRITE_TRACE: &str = "0 call 0 write x 5
     takes data 0: cast (1, 0) write x 5
     clock 2
     delivers (1, 0) write x 5
+    copy x 5
     puts count 1 (take 1 0 0)
     puts data 0: acknowledgement (2, 1) (take 1 0 1)
 2 take 1 0 1
     takes data 0: acknowledgement (2, 1)
     clock 3
     delivers (1, 0) write x 5
+    copy x 5
     answers done, place 0
     puts count 1 (take 0 1 1)
 ";
@@ -55,7 +57,9 @@ const HELD_TRACE: &str = "0 call 0 write x 1
     takes data 0: cast (1, 1) write x 2
     clock 2
     delivers (1, 0) write x 1
+    copy x 1
     delivers (1, 1) write x 2
+    copy x 2
     answers value 1, place 1
     puts count 1 (take 0 1 1)
     puts data 1: acknowledgement (2, 0) (take 0 1 2)
@@ -81,10 +85,12 @@ const AGAIN_TRACE: &str = "0 call 0 swap x 7
     takes data 0: cast (1, 0) swap x 7
     clock 2
     delivers (1, 0) swap x 7
+    copy x 7
     puts count 1 (take 1 0 0)
     puts data 0: acknowledgement (2, 1) (take 1 0 1)
 3 take 0 1 0
     takes data 0: cast (1, 0) swap x 7
+    drops it: number 1 is expected
     clock 2
     puts count 1 (take 1 0 2)
 ";

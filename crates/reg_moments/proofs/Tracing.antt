@@ -59,7 +59,7 @@ moment_put held names number f a b t c d e h k one two turn three four five six 
     (puts_four held a b t c k head takes drops (clock ++ (delivers ++ (answers ++ puts))) one two turn (puts_four held c d e h k clock delivers answers puts three four five six))
 
 -- the lines of a value, where there is one
-lines_at : (ℕ → List (List ℕ)) → Option ℕ → List (List ℕ)
+abbrev pub lines_at : (ℕ → List (List ℕ)) → Option ℕ → List (List ℕ)
 lines_at f None = []
 lines_at f (Some x) = f x
 
