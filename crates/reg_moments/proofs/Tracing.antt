@@ -1,5 +1,5 @@
 -- The lines of a trace as they are put are its text.
-use Rattle.std.proofs.Common.{ℕ, zero, suc, ◌≡◌, ◌+◌, ◌<◌, List, [], ◌∷◌, ◌++◌, length, take, map, flat_map, get_or, codes, cond, Bool, true, false, Option, None, Some, refl, sym, ap, ◌∙◌, arith, append_assoc, append-nil}
+use Rattle.std.proofs.Common.{ℕ, zero, suc, ◌≡◌, ◌+◌, ◌<◌, List, [], ◌∷◌, ◌++◌, length, take, map, flat_map, get_or, codes, cond, Bool, true, false, Option, None, Some, refl, sym, ap, ap₂, ◌∙◌, arith, append_assoc, append-nil}
 use Rattle.std.specs.Fmt.{decimal}
 use Rattle.std.proofs.lemmas.Grind.{flat_map-append}
 use Rattle.std.proofs.lemmas.List.{take_more}
@@ -11,7 +11,7 @@ use Rattle.reg_text.proofs.Sent.{puts_two, puts_as}
 use Rattle.reg_history.specs.Written.{lines_by}
 use Rattle.reg_schedules.specs.Schedules.{event_text}
 use Rattle.reg_moments.specs.Moments.{Fact}
-use Rattle.reg_moments.specs.Traces.{answers_lines, delivers_lines, drops_lines, moment_lines, puts_line, takes_lines, trace_lines, trace_text}
+use Rattle.reg_moments.specs.Traces.{answers_lines, delivers_lines, drops_lines, holds_line, moment_lines, puts_line, takes_lines, trace_lines, trace_text}
 use Rattle.reg_moments.proofs.Putting.{puts_three, puts_four}
 
 -- the text of one line
@@ -26,7 +26,7 @@ text_map f xs = flat_map-map (λ line. line ++ 10 ∷ []) f xs
 
 -- the parts of an event, as they are put
 moment_parts : (names : List (List ℕ)) (number : ℕ) (f : Fact)
-    → ((decimal number ++ (codes " " ++ event_text names f.event)) ++ 10 ∷ []) ++ (text_of (takes_lines names f.event f.frame) ++ (text_of (drops_lines f.expected) ++ (((codes "    clock " ++ decimal f.clock) ++ 10 ∷ []) ++ (text_of (flat_map (delivers_lines names) f.delivered) ++ (text_of (answers_lines f.reply) ++ lines_by (puts_line names f.process) f.sent)))))
+    → ((decimal number ++ (codes " " ++ event_text names f.event)) ++ 10 ∷ []) ++ (text_of (takes_lines names f.event f.frame) ++ (text_of (drops_lines f.expected) ++ (((codes "    clock " ++ decimal f.clock) ++ 10 ∷ []) ++ (text_of (flat_map (delivers_lines names) f.delivered) ++ (text_of (answers_lines f.reply) ++ (lines_by holds_line f.waits ++ lines_by (puts_line names f.process) f.sent))))))
     ≡ text_of (moment_lines names number f)
 moment_parts names number f =
     let head : List ℕ = (decimal number ++ (codes " " ++ event_text names f.event)) ++ 10 ∷ [] in
@@ -35,28 +35,31 @@ moment_parts names number f =
     let line : List ℕ = codes "    clock " ++ decimal f.clock in
     let delivers : List (List ℕ) = flat_map (delivers_lines names) f.delivered in
     let answers : List (List ℕ) = answers_lines f.reply in
+    let holds : List (List ℕ) = map holds_line f.waits in
     let puts : List (List ℕ) = map (puts_line names f.process) f.sent in
     sym (
-    ap (λ l. head ++ l) (text_append takes (drops ++ (line ∷ (delivers ++ (answers ++ puts))))
-    ∙ ap (λ l. text_of takes ++ l) (text_append drops (line ∷ (delivers ++ (answers ++ puts)))
-    ∙ ap (λ l. text_of drops ++ ((line ++ 10 ∷ []) ++ l)) (text_append delivers (answers ++ puts)
-    ∙ ap (λ l. text_of delivers ++ l) (text_append answers puts
-    ∙ ap (λ l. text_of answers ++ l) (text_map (puts_line names f.process) f.sent)))))
+    ap (λ l. head ++ l) (text_append takes (drops ++ (line ∷ (delivers ++ (answers ++ (holds ++ puts)))))
+    ∙ ap (λ l. text_of takes ++ l) (text_append drops (line ∷ (delivers ++ (answers ++ (holds ++ puts))))
+    ∙ ap (λ l. text_of drops ++ ((line ++ 10 ∷ []) ++ l)) (text_append delivers (answers ++ (holds ++ puts))
+    ∙ ap (λ l. text_of delivers ++ l) (text_append answers (holds ++ puts)
+    ∙ ap (λ l. text_of answers ++ l) (text_append holds puts
+    ∙ ap₂ (λ (x y : List ℕ). x ++ y) (text_map holds_line f.waits) (text_map (puts_line names f.process) f.sent))))))
     )
 
-pub moment_put : {S : Type 0} (held : S → Option (List ℕ)) (names : List (List ℕ)) (number : ℕ) (f : Fact) (a b t c d e h k : Sink S)
+pub moment_put : {S : Type 0} (held : S → Option (List ℕ)) (names : List (List ℕ)) (number : ℕ) (f : Fact) (a b t c d e h j k : Sink S)
     → Puts held a b ((decimal number ++ (codes " " ++ event_text names f.event)) ++ 10 ∷ []) → Puts held b t (text_of (takes_lines names f.event f.frame)) → Puts held t c (text_of (drops_lines f.expected)) → Puts held c d ((codes "    clock " ++ decimal f.clock) ++ 10 ∷ [])
-    → Puts held d e (text_of (flat_map (delivers_lines names) f.delivered)) → Puts held e h (text_of (answers_lines f.reply)) → Puts held h k (lines_by (puts_line names f.process) f.sent) → Puts held a k (text_of (moment_lines names number f))
-moment_put held names number f a b t c d e h k one two turn three four five six =
+    → Puts held d e (text_of (flat_map (delivers_lines names) f.delivered)) → Puts held e h (text_of (answers_lines f.reply)) → Puts held h j (lines_by holds_line f.waits) → Puts held j k (lines_by (puts_line names f.process) f.sent) → Puts held a k (text_of (moment_lines names number f))
+moment_put held names number f a b t c d e h j k one two turn three four five waits six =
     let head : List ℕ = (decimal number ++ (codes " " ++ event_text names f.event)) ++ 10 ∷ [] in
     let takes : List ℕ = text_of (takes_lines names f.event f.frame) in
     let drops : List ℕ = text_of (drops_lines f.expected) in
     let clock : List ℕ = (codes "    clock " ++ decimal f.clock) ++ 10 ∷ [] in
     let delivers : List ℕ = text_of (flat_map (delivers_lines names) f.delivered) in
     let answers : List ℕ = text_of (answers_lines f.reply) in
+    let holds : List ℕ = lines_by holds_line f.waits in
     let puts : List ℕ = lines_by (puts_line names f.process) f.sent in
-    puts_as held a k (head ++ (takes ++ (drops ++ (clock ++ (delivers ++ (answers ++ puts)))))) (text_of (moment_lines names number f)) (moment_parts names number f)
-    (puts_four held a b t c k head takes drops (clock ++ (delivers ++ (answers ++ puts))) one two turn (puts_four held c d e h k clock delivers answers puts three four five six))
+    puts_as held a k (head ++ (takes ++ (drops ++ (clock ++ (delivers ++ (answers ++ (holds ++ puts))))))) (text_of (moment_lines names number f)) (moment_parts names number f)
+    (puts_four held a b t c k head takes drops (clock ++ (delivers ++ (answers ++ (holds ++ puts)))) one two turn (puts_four held c d e h k clock delivers answers (holds ++ puts) three four five (puts_two held h j k holds puts waits six)))
 
 -- the lines of a value, where there is one
 abbrev pub lines_at : (ℕ → List (List ℕ)) → Option ℕ → List (List ℕ)

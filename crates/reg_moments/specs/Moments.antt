@@ -15,9 +15,12 @@ use Rattle.reg_world.specs.Nodes.{Nodes}
 use Rattle.reg_world.specs.World.{World, delivered_of}
 use Rattle.reg_world.specs.Worlds.{Made, run_in, with_event, new_world, reply_in}
 use Rattle.reg_moments.specs.declared.moments.Sent.{Sent}
+use Rattle.reg_moments.specs.declared.waiting.Waiting.{Waiting}
+use Rattle.reg_moments.specs.Waits.{waits_of}
 
 -- What an event did: the process that it is of, the frame that a take took, the number that was expected where that is a data
--- frame out of turn, the clock of the process behind it, the casts that the process delivered, the reply, and the frames that it put, each with its wire's end and its place there.
+-- frame out of turn, the clock of the process behind it, the casts that the process delivered, the reply, the casts that it holds back, each with whom it
+-- waits for, and the frames that it put, each with its wire's end and its place there.
 pub record Fact : Type 0 where
   pub event : Event
   pub process : ℕ
@@ -26,6 +29,7 @@ pub record Fact : Type 0 where
   pub clock : ℕ
   pub delivered : List Delivered
   pub reply : Option Reply
+  pub waits : List Waiting
   pub sent : List Sent
 
 -- the frame that an event takes: the one at that place of that wire
@@ -66,6 +70,7 @@ moment_between n e p reply before after = record {
   clock = (after.nodes p).state.clock;
   delivered = drop (before.nodes p).state.delivered (take (after.nodes p).state.delivered (map delivered_of after.order));
   reply = reply;
+  waits = waits_of n (after.nodes p).state (after.nodes p).state.held;
   sent = puts_since p (λ to. length ((before.nodes p).wire to)) (after.nodes p).wire n;
 }
 

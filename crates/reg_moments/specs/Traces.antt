@@ -17,6 +17,7 @@ use Rattle.reg_world.specs.declared.events.Event.{Event}
 use Rattle.reg_world.specs.declared.events.Event.TheVariants.{Call, Take, Tick}
 use Rattle.reg_schedules.specs.Schedules.{event_text}
 use Rattle.reg_moments.specs.declared.moments.Sent.{Sent}
+use Rattle.reg_moments.specs.declared.waiting.Waiting.{Waiting}
 use Rattle.reg_moments.specs.Moments.{Fact}
 
 -- a stamp: its time and its process
@@ -74,19 +75,23 @@ abbrev pub answers_lines : Option Reply → List (List ℕ)
 answers_lines None = []
 answers_lines (Some reply) = (codes "    answers " ++ (answer_text reply.answer ++ (codes ", place " ++ decimal reply.place))) ∷ []
 
+-- the line of a cast that is held back: with the process that it waits for
+abbrev pub holds_line : Waiting → List ℕ
+holds_line wait = codes "    holds " ++ (stamp_text wait.stamp ++ (codes ": p" ++ (decimal wait.unheard ++ codes " was not heard past it")))
+
 -- the line of a frame that this process put, with the event that takes it
 abbrev pub puts_line : List (List ℕ) → ℕ → Sent → List ℕ
 puts_line names from sent = codes "    puts " ++ (frame_text names from sent.frame ++ (codes " (" ++ (event_text names (Take from sent.to sent.place) ++ codes ")")))
 
 -- the lines of an event: its number and its words; the frame that it took, and whether it was dropped; its process's clock behind it;
--- the casts delivered, each with the copy behind it; the reply; and the frames put
+-- the casts delivered, each with the copy behind it; the reply; the casts held back; and the frames put
 abbrev pub moment_lines : List (List ℕ) → ℕ → Fact → List (List ℕ)
 moment_lines names number f =
     (decimal number ++ (codes " " ++ event_text names f.event))
     ∷ (takes_lines names f.event f.frame
     ++ (drops_lines f.expected
     ++ ((codes "    clock " ++ decimal f.clock)
-    ∷ (flat_map (delivers_lines names) f.delivered ++ (answers_lines f.reply ++ map (puts_line names f.process) f.sent)))))
+    ∷ (flat_map (delivers_lines names) f.delivered ++ (answers_lines f.reply ++ (map holds_line f.waits ++ map (puts_line names f.process) f.sent))))))
 
 -- the lines of these events, the first of which has this number
 abbrev pub trace_lines : List (List ℕ) → ℕ → List Fact → List (List ℕ)

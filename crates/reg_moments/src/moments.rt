@@ -6,6 +6,7 @@ ghost use Rattle.reg_world.specs.World.{delivered_of};
 ghost use Rattle.reg_world.specs.Worlds.{run_in, with_event};
 ghost use Rattle.reg_moments.specs.Moments.{expected_by, frame_taken, moment_of, moments_from, moments_of, out_of_turn, placed, puts_since};
 
+use crate::waiting::{Waiting, waits_in};
 use reg_base::Shape;
 use reg_base::limits::MOST_PROCESSES;
 use reg_frames::Frame;
@@ -41,6 +42,8 @@ pub struct Moment<A: Allocator + Copy = Global> {
     pub delivered: Vec<Delivered, A>,
     /// The reply that the event gave.
     pub reply: Option<Reply>,
+    /// The casts that the process holds back behind the event, in the order of their stamps.
+    pub waits: Vec<Waiting, A>,
     /// The frames that the process put, by rising receiver and place.
     pub sent: Vec<Sent, A>,
 }
@@ -50,7 +53,7 @@ impl<A: Allocator + Copy> Model for Moment<A> {
 
     ghost Value = { Fact };
 
-    ghost view = { λ m. record { event = m.event; process = m.process; frame = m.frame; expected = m.expected; clock = m.clock; delivered = m.delivered.items; reply = m.reply; sent = m.sent.items } };
+    ghost view = { λ m. record { event = m.event; process = m.process; frame = m.frame; expected = m.expected; clock = m.clock; delivered = m.delivered.items; reply = m.reply; waits = m.waits.items; sent = m.sent.items } };
 }
 
 /// The process that an event is of.
@@ -258,6 +261,9 @@ fn tell<F: FrontEnd, A: Allocator + Copy>(
     let Ok(sent) = sent_since(alloc, world, process, &lengths) else {
         return Err(WorldFault::OutOfMemory);
     };
+    let Ok(waits) = waits_in(alloc, world, process) else {
+        return Err(WorldFault::OutOfMemory);
+    };
     Ok(Moment {
         event: *event,
         process,
@@ -266,6 +272,7 @@ fn tell<F: FrontEnd, A: Allocator + Copy>(
         clock,
         delivered,
         reply,
+        waits,
         sent,
     })
 }

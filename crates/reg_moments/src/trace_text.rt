@@ -8,10 +8,11 @@ ghost use Rattle.reg_text.specs.Writing.{AppendsPart, Puts};
 ghost use Rattle.reg_history.specs.EntryLines.{answer_text};
 ghost use Rattle.reg_history.specs.Written.{lines_by};
 ghost use Rattle.reg_schedules.specs.Schedules.{event_text};
-ghost use Rattle.reg_moments.specs.Traces.{answers_lines, body_text, cast_text, copy_lines, delivers_line, delivers_lines, drops_lines, value_behind, frame_text, moment_lines, puts_line, stamp_text, taken_lines, takes_lines, trace_text};
+ghost use Rattle.reg_moments.specs.Traces.{answers_lines, body_text, cast_text, copy_lines, delivers_line, delivers_lines, drops_lines, holds_line, value_behind, frame_text, moment_lines, puts_line, stamp_text, taken_lines, takes_lines, trace_text};
 
 use crate::moments::{Moment, Sent};
 use crate::schedule_text::{put_event, put_number, put_take};
+use crate::waiting::Waiting;
 use reg_base::{Answer, Names, Op, Stamp};
 use reg_frames::{Body, Frame};
 use reg_process::{Delivered, Reply};
@@ -229,6 +230,25 @@ fn put_reply<W: Write>(sink: &mut Sink<'_, W>, reply: Option<Reply>)
     }
 }
 
+/// Puts the line of a cast that is held back.
+fn put_wait<W: Write>(sink: &mut Sink<'_, W>, wait: Waiting)
+    ensures { Puts W.contents sink.old sink.new (holds_line wait ++ 10 ∷ []) }
+{
+    sink.put(b"    holds ");
+    put_stamp(sink, wait.stamp);
+    put_number(sink, ": p", wait.unheard as u64);
+    sink.put(b" was not heard past it\n");
+}
+
+/// Puts a line for each cast that is held back.
+fn put_waits<W: Write>(sink: &mut Sink<'_, W>, waits: &[Waiting])
+    ensures { Puts W.contents sink.old sink.new (lines_by holds_line waits.now) }
+{
+    for wait in waits {
+        put_wait(sink, *wait);
+    }
+}
+
 /// Puts the line of a frame that this process put, with the event that takes it.
 fn put_sent<A: Allocator + Copy, W: Write>(
     sink: &mut Sink<'_, W>,
@@ -274,6 +294,7 @@ fn put_moment<A: Allocator + Copy, W: Write>(
     put_clock(sink, moment.clock);
     put_deliveries(sink, names, moment.delivered.as_slice());
     put_reply(sink, moment.reply);
+    put_waits(sink, moment.waits.as_slice());
     put_all_sent(sink, names, moment.process, moment.sent.as_slice());
 }
 
