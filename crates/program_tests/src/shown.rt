@@ -16,6 +16,7 @@ take 1 0 1
 
 const WRITE_TRACE: &str = "0 call 0 write x 5
     clock 1
+    holds (1, 0): p1 was not heard past it
     puts data 0: cast (1, 0) write x 5 (take 0 1 0)
 1 take 0 1 0
     takes data 0: cast (1, 0) write x 5
@@ -46,13 +47,16 @@ take 1 0 0
 const HELD_TRACE: &str = "0 call 0 write x 1
     clock 1
     answers done, place 0
+    holds (1, 0): p1 was not heard past it
     puts data 0: cast (1, 0) write x 1 (take 0 1 0)
 1 call 1 write x 2
     clock 1
     answers done, place 0
+    holds (1, 1): p0 was not heard past it
     puts data 0: cast (1, 1) write x 2 (take 1 0 0)
 2 call 0 read x
     clock 1
+    holds (1, 0): p1 was not heard past it
 3 take 1 0 0
     takes data 0: cast (1, 1) write x 2
     clock 2
@@ -77,9 +81,11 @@ take 0 1 0
 
 const AGAIN_TRACE: &str = "0 call 0 swap x 7
     clock 1
+    holds (1, 0): p1 was not heard past it
     puts data 0: cast (1, 0) swap x 7 (take 0 1 0)
 1 tick 0
     clock 1
+    holds (1, 0): p1 was not heard past it
     puts data 0: cast (1, 0) swap x 7 (take 0 1 1)
 2 take 0 1 1
     takes data 0: cast (1, 0) swap x 7

@@ -1,7 +1,7 @@
 //! The casts that a process holds back, and whom each waits for.
-ghost use Rattle.std.specs.Prelude.{◌≡◌, ◌<◌, false, length, IfOk};
+ghost use Rattle.std.specs.Prelude.{◌≡◌, ◌<◌, ◌++◌, false, length, IfOk, OnOk};
 ghost use Rattle.reg_world.specs.Worlds.{run_in};
-ghost use Rattle.reg_moments.specs.Waits.{first_unheard as lowest_unheard, is_unheard as unheard_by, waits_of};
+ghost use Rattle.reg_moments.specs.Waits.{first_unheard as lowest_unheard, is_unheard as unheard_by, wait_for, waits_of};
 
 use reg_base::Stamp;
 use reg_front::FrontEnd;
@@ -58,6 +58,20 @@ fn first_unheard<F: FrontEnd, A: Allocator + Copy>(
     lowest
 }
 
+/// Adds a cast that waits for a process, if it does.
+fn push_wait<A: Allocator + Copy>(
+    waits: &mut Vec<Waiting, A>,
+    stamp: Stamp,
+    lowest: Option<u8>,
+) -> Result<(), AllocError>
+    ensures { OnOk result (waits.new.items ≡ waits.old.items ++ wait_for stamp lowest) }
+{
+    if let Some(unheard) = lowest {
+        waits.push(Waiting { stamp, unheard })?;
+    }
+    Ok(())
+}
+
 /// The casts that a process holds back, each with the process that it waits for.
 fn waits_at<F: FrontEnd, A: Allocator + Copy>(
     alloc: A,
@@ -72,10 +86,8 @@ fn waits_at<F: FrontEnd, A: Allocator + Copy>(
     let held = process.held(alloc)?;
     let mut waits = Vec::new(alloc);
     for cast in &held {
-        let stamp = cast.stamp;
-        if let Some(unheard) = first_unheard(process, me, processes, stamp) {
-            waits.push(Waiting { stamp, unheard })?;
-        }
+        let lowest = first_unheard(process, me, processes, cast.stamp);
+        push_wait(&mut waits, cast.stamp, lowest)?;
     }
     Ok(waits)
 }

@@ -4,4 +4,4 @@ use Rattle.reg_moments.proofs.waiting.waits_at.Given as goal
 
 -- with those of the casts that are left, all waits
 abbrev pub invariant-loop-cast : goal.invariant-loop-cast
-invariant-loop-cast g l = l.waits.items ++ waits_of l.processes l.process.state (drop l.cast-index l.held.items) ≡ waits_of l.processes l.process.state l.held.items
+invariant-loop-cast g l = l.waits.items ++ waits_of l.processes l.process.state (drop l.cast-index l.cast-items) ≡ waits_of l.processes l.process.state l.process.state.held

@@ -9,3 +9,9 @@ waits_at-requires-clause-me g c =
     let w = c.args.world.now in
     let own = (inv_of g.F.FrontEnd.start w.processes w.registers w.accepted).local c.args.process c.requires.process in
     ap (λ (s : State). s.me) (c.in-Some.ensures.process.1 c.requires.going).1 ∙ own.me
+
+pub waits_at-requires-clause-all : goal.waits_at-requires-clause-all
+waits_at-requires-clause-all g c =
+    let w = c.args.world.now in
+    let own = (inv_of g.F.FrontEnd.start w.processes w.registers w.accepted).local c.args.process c.requires.process in
+    ap (λ (s : State). length s.peers) (c.in-Some.ensures.process.1 c.requires.going).1 ∙ (own.size ∙ sym (c.processes.ensures.value ∙ ap (λ (e : Extent). e.processes) c.shape.ensures))
