@@ -17,7 +17,7 @@ use Rattle.reg_world.specs.World.{delivered_of}
 use Rattle.reg_world.specs.Histories.{process_of}
 use Rattle.reg_world.specs.Worlds.{Made, run_in, with_event, reply_in}
 use Rattle.reg_moments.specs.declared.moments.Sent.{Sent}
-use Rattle.reg_moments.specs.declared.waiting.Waiting.{Waiting}
+use Rattle.reg_moments.specs.declared.waits.Wait.{Wait}
 use Rattle.reg_moments.specs.Waits.{waits_of}
 use Rattle.reg_moments.specs.Moments.{Fact, expected_by, frame_taken, out_of_turn, placed, puts_since, moment_between, moment_of, moments_from}
 
@@ -92,7 +92,7 @@ is_peer s n from to size me l ne (inl ge) = absurd (omega (arith, size, l, ge))
 is_peer s n from to size me l ne (inr e) = ne (e ∙ me)
 
 -- an event told with its parts
-pub told_is : (start : Op → ℕ → Start) (w : Made) (e : Event) (new : Made) (p : ℕ) (frame : Option Frame) (awaited expected : Option ℕ) (clock : ℕ) (delivered : List Delivered) (reply : Option Reply) (waits : List Waiting) (sent : List Sent) (before after : ℕ) (lengths : ℕ → ℕ)
+pub told_is : (start : Op → ℕ → Start) (w : Made) (e : Event) (new : Made) (p : ℕ) (frame : Option Frame) (awaited expected : Option ℕ) (clock : ℕ) (delivered : List Delivered) (reply : Option Reply) (waits : List Wait) (sent : List Sent) (before after : ℕ) (lengths : ℕ → ℕ)
     → new ≡ with_event start w e → p ≡ process_of e → frame ≡ frame_taken w.processes (run_in start w).nodes e → awaited ≡ expected_by w.processes (run_in start w).nodes e → expected ≡ out_of_turn frame awaited → clock ≡ ((run_in start new).nodes p).state.clock
     → before ≡ ((run_in start w).nodes p).state.delivered → after ≡ ((run_in start new).nodes p).state.delivered → delivered ≡ drop before (take after (map delivered_of (run_in start new).order))
     → reply ≡ reply_in start w e → ((to : ℕ) → to < w.processes → (to ≡ p → ⊥) → lengths to ≡ length (((run_in start w).nodes p).wire to))

@@ -15,7 +15,7 @@ use Rattle.reg_world.specs.Nodes.{Nodes}
 use Rattle.reg_world.specs.World.{World, delivered_of}
 use Rattle.reg_world.specs.Worlds.{Made, run_in, with_event, new_world, reply_in}
 use Rattle.reg_moments.specs.declared.moments.Sent.{Sent}
-use Rattle.reg_moments.specs.declared.waiting.Waiting.{Waiting}
+use Rattle.reg_moments.specs.declared.waits.Wait.{Wait}
 use Rattle.reg_moments.specs.Waits.{waits_of}
 
 -- What an event did: the process that it is of, the frame that a take took, the number that was expected where that is a data
@@ -29,7 +29,7 @@ pub record Fact : Type 0 where
   pub clock : ℕ
   pub delivered : List Delivered
   pub reply : Option Reply
-  pub waits : List Waiting
+  pub waits : List Wait
   pub sent : List Sent
 
 -- the frame that an event takes: the one at that place of that wire

@@ -17,7 +17,7 @@ use Rattle.reg_world.specs.declared.events.Event.{Event}
 use Rattle.reg_world.specs.declared.events.Event.TheVariants.{Call, Take, Tick}
 use Rattle.reg_schedules.specs.Schedules.{event_text}
 use Rattle.reg_moments.specs.declared.moments.Sent.{Sent}
-use Rattle.reg_moments.specs.declared.waiting.Waiting.{Waiting}
+use Rattle.reg_moments.specs.declared.waits.Wait.{Wait}
 use Rattle.reg_moments.specs.Moments.{Fact}
 
 -- a stamp: its time and its process
@@ -76,7 +76,7 @@ answers_lines None = []
 answers_lines (Some reply) = (codes "    answers " ++ (answer_text reply.answer ++ (codes ", place " ++ decimal reply.place))) ∷ []
 
 -- the line of a cast that is held back: with the process that it waits for
-abbrev pub holds_line : Waiting → List ℕ
+abbrev pub holds_line : Wait → List ℕ
 holds_line wait = codes "    holds " ++ (stamp_text wait.stamp ++ (codes ": p" ++ (decimal wait.unheard ++ codes " was not heard past it")))
 
 -- the line of a frame that this process put, with the event that takes it

@@ -4,7 +4,7 @@ use Rattle.reg_base.specs.declared.stamps.Stamp.{Stamp}
 use Rattle.reg_base.specs.declared.stamps.Delivered.{Delivered}
 use Rattle.reg_base.specs.Order.{below, stamp_at}
 use Rattle.reg_process.specs.Process.{State, seen_at}
-use Rattle.reg_moments.specs.declared.waiting.Waiting.{Waiting}
+use Rattle.reg_moments.specs.declared.waits.Wait.{Wait}
 
 -- whether r is another process, and was not heard past this stamp
 abbrev pub is_unheard : State → Stamp → ℕ → Bool
@@ -21,11 +21,11 @@ first_unheard s stamp zero = None
 first_unheard s stamp (suc r) = none_before (first_unheard s stamp r) (is_unheard s stamp r) r
 
 -- a cast that waits for a process
-abbrev pub wait_for : Stamp → Option ℕ → List Waiting
+abbrev pub wait_for : Stamp → Option ℕ → List Wait
 wait_for stamp None = []
 wait_for stamp (Some r) = record { stamp = stamp; unheard = r } ∷ []
 
 -- these casts, each with the lowest process that its process hasn't heard past it
-abbrev pub waits_of : ℕ → State → List Delivered → List Waiting
+abbrev pub waits_of : ℕ → State → List Delivered → List Wait
 waits_of n s [] = []
 waits_of n s (c ∷ cs) = wait_for c.stamp (first_unheard s c.stamp n) ++ waits_of n s cs

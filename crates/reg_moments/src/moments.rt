@@ -6,7 +6,7 @@ ghost use Rattle.reg_world.specs.World.{delivered_of};
 ghost use Rattle.reg_world.specs.Worlds.{run_in, with_event};
 ghost use Rattle.reg_moments.specs.Moments.{expected_by, frame_taken, moment_of, moments_from, moments_of, out_of_turn, placed, puts_since};
 
-use crate::waiting::{Waiting, waits_in};
+use crate::waits::{Wait, waits_in};
 use reg_base::Shape;
 use reg_base::limits::MOST_PROCESSES;
 use reg_frames::Frame;
@@ -43,7 +43,7 @@ pub struct Moment<A: Allocator + Copy = Global> {
     /// The reply that the event gave.
     pub reply: Option<Reply>,
     /// The casts that the process holds back behind the event, in the order of their stamps.
-    pub waits: Vec<Waiting, A>,
+    pub waits: Vec<Wait, A>,
     /// The frames that the process put, by rising receiver and place.
     pub sent: Vec<Sent, A>,
 }
@@ -82,11 +82,7 @@ fn frame_of<F: FrontEnd, A: Allocator + Copy>(world: &World<F, A>, event: &Event
 }
 
 /// The number that a process expects of the next data frame of another one.
-fn expected_from<F: FrontEnd, A: Allocator + Copy>(
-    world: &World<F, A>,
-    from: u8,
-    to: u8,
-) -> u64
+fn expected_from<F: FrontEnd, A: Allocator + Copy>(world: &World<F, A>, from: u8, to: u8) -> u64
     requires going { world.now.failed ≡ false }
     requires from { from < world.now.processes }
     requires to { to < world.now.processes }
@@ -103,10 +99,7 @@ fn expected_from<F: FrontEnd, A: Allocator + Copy>(
 }
 
 /// The number that the receiver of a take expects of the sender's next data frame.
-fn expected_of<F: FrontEnd, A: Allocator + Copy>(
-    world: &World<F, A>,
-    event: &Event,
-) -> Option<u64>
+fn expected_of<F: FrontEnd, A: Allocator + Copy>(world: &World<F, A>, event: &Event) -> Option<u64>
     requires { world.now.failed ≡ false }
     ensures { result ≡ expected_by world.now.processes (run_in F.start world.now).nodes event.now }
 {

@@ -12,7 +12,7 @@ ghost use Rattle.reg_moments.specs.Traces.{answers_lines, body_text, cast_text, 
 
 use crate::moments::{Moment, Sent};
 use crate::schedule_text::{put_event, put_number, put_take};
-use crate::waiting::Waiting;
+use crate::waits::Wait;
 use reg_base::{Answer, Names, Op, Stamp};
 use reg_frames::{Body, Frame};
 use reg_process::{Delivered, Reply};
@@ -231,7 +231,7 @@ fn put_reply<W: Write>(sink: &mut Sink<'_, W>, reply: Option<Reply>)
 }
 
 /// Puts the line of a cast that is held back.
-fn put_wait<W: Write>(sink: &mut Sink<'_, W>, wait: Waiting)
+fn put_wait<W: Write>(sink: &mut Sink<'_, W>, wait: Wait)
     ensures { Puts W.contents sink.old sink.new (holds_line wait ++ 10 ∷ []) }
 {
     sink.put(b"    holds ");
@@ -241,7 +241,7 @@ fn put_wait<W: Write>(sink: &mut Sink<'_, W>, wait: Waiting)
 }
 
 /// Puts a line for each cast that is held back.
-fn put_waits<W: Write>(sink: &mut Sink<'_, W>, waits: &[Waiting])
+fn put_waits<W: Write>(sink: &mut Sink<'_, W>, waits: &[Wait])
     ensures { Puts W.contents sink.old sink.new (lines_by holds_line waits.now) }
 {
     for wait in waits {

@@ -1,6 +1,6 @@
 use Rattle.std.proofs.Common.{◌≡◌}
 use Rattle.reg_moments.specs.Waits.{first_unheard}
-use Rattle.reg_moments.proofs.waiting.first_unheard.Given as goal
+use Rattle.reg_moments.proofs.waits.first_unheard.Given as goal
 
 -- the lowest of the processes so far
 abbrev pub invariant-loop-other : goal.invariant-loop-other

@@ -2,7 +2,7 @@ use Rattle.std.proofs.Common.{length, ap, ◌∙◌, sym}
 use Rattle.reg_base.specs.Shape.{Extent}
 use Rattle.reg_process.specs.Process.{State}
 use Rattle.reg_world.proofs.one_order.NodeLaws.{inv_of}
-use Rattle.reg_moments.proofs.waiting.waits_in.Goals as goal
+use Rattle.reg_moments.proofs.waits.waits_in.Goals as goal
 
 pub waits_at-requires-clause-me : goal.waits_at-requires-clause-me
 waits_at-requires-clause-me g c =

@@ -11,7 +11,7 @@ use std::alloc::{AllocError, Allocator};
 
 /// A cast that a process holds back, and the lowest process that it hasn't heard past its stamp.
 #[derive(Clone, Copy, Debug, PartialEq, Eq)]
-pub struct Waiting {
+pub struct Wait {
     pub stamp: Stamp,
     pub unheard: u8,
 }
@@ -60,14 +60,14 @@ fn first_unheard<F: FrontEnd, A: Allocator + Copy>(
 
 /// Adds a cast that waits for a process, if it does.
 fn push_wait<A: Allocator + Copy>(
-    waits: &mut Vec<Waiting, A>,
+    waits: &mut Vec<Wait, A>,
     stamp: Stamp,
     lowest: Option<u8>,
 ) -> Result<(), AllocError>
     ensures { OnOk result (waits.new.items ≡ waits.old.items ++ wait_for stamp lowest) }
 {
     if let Some(unheard) = lowest {
-        waits.push(Waiting { stamp, unheard })?;
+        waits.push(Wait { stamp, unheard })?;
     }
     Ok(())
 }
@@ -78,7 +78,7 @@ fn waits_at<F: FrontEnd, A: Allocator + Copy>(
     process: &Process<F, A>,
     me: u8,
     processes: u8,
-) -> Result<Vec<Waiting, A>, AllocError>
+) -> Result<Vec<Wait, A>, AllocError>
     requires me { process.now.state.me ≡ me }
     requires all { length process.now.state.peers ≡ processes }
     ensures { IfOk result (λ v. v.items ≡ waits_of processes process.now.state process.now.state.held) }
@@ -97,7 +97,7 @@ pub(crate) fn waits_in<F: FrontEnd, A: Allocator + Copy>(
     alloc: A,
     world: &World<F, A>,
     process: u8,
-) -> Result<Vec<Waiting, A>, AllocError>
+) -> Result<Vec<Wait, A>, AllocError>
     requires going { world.now.failed ≡ false }
     requires process { process < world.now.processes }
     ensures { IfOk result (λ v. v.items ≡ waits_of world.now.processes ((run_in F.start world.now).nodes process).state ((run_in F.start world.now).nodes process).state.held) }

@@ -1,6 +1,6 @@
 use Rattle.std.proofs.Common.{◌≡◌, ◌++◌, drop}
 use Rattle.reg_moments.specs.Waits.{waits_of}
-use Rattle.reg_moments.proofs.waiting.waits_at.Given as goal
+use Rattle.reg_moments.proofs.waits.waits_at.Given as goal
 
 -- with those of the casts that are left, all waits
 abbrev pub invariant-loop-cast : goal.invariant-loop-cast
