@@ -16,17 +16,20 @@ take 1 0 1
 
 const WRITE_TRACE: &str = "0 call 0 write x 5
     clock 1
+    holds (1, 0): p1 was not heard past it
     puts data 0: cast (1, 0) write x 5 (take 0 1 0)
 1 take 0 1 0
     takes data 0: cast (1, 0) write x 5
     clock 2
     delivers (1, 0) write x 5
+    copy x 5
     puts count 1 (take 1 0 0)
     puts data 0: acknowledgement (2, 1) (take 1 0 1)
 2 take 1 0 1
     takes data 0: acknowledgement (2, 1)
     clock 3
     delivers (1, 0) write x 5
+    copy x 5
     answers done, place 0
     puts count 1 (take 0 1 1)
 ";
@@ -44,18 +47,23 @@ take 1 0 0
 const HELD_TRACE: &str = "0 call 0 write x 1
     clock 1
     answers done, place 0
+    holds (1, 0): p1 was not heard past it
     puts data 0: cast (1, 0) write x 1 (take 0 1 0)
 1 call 1 write x 2
     clock 1
     answers done, place 0
+    holds (1, 1): p0 was not heard past it
     puts data 0: cast (1, 1) write x 2 (take 1 0 0)
 2 call 0 read x
     clock 1
+    holds (1, 0): p1 was not heard past it
 3 take 1 0 0
     takes data 0: cast (1, 1) write x 2
     clock 2
     delivers (1, 0) write x 1
+    copy x 1
     delivers (1, 1) write x 2
+    copy x 2
     answers value 1, place 1
     puts count 1 (take 0 1 1)
     puts data 1: acknowledgement (2, 0) (take 0 1 2)
@@ -73,18 +81,22 @@ take 0 1 0
 
 const AGAIN_TRACE: &str = "0 call 0 swap x 7
     clock 1
+    holds (1, 0): p1 was not heard past it
     puts data 0: cast (1, 0) swap x 7 (take 0 1 0)
 1 tick 0
     clock 1
+    holds (1, 0): p1 was not heard past it
     puts data 0: cast (1, 0) swap x 7 (take 0 1 1)
 2 take 0 1 1
     takes data 0: cast (1, 0) swap x 7
     clock 2
     delivers (1, 0) swap x 7
+    copy x 7
     puts count 1 (take 1 0 0)
     puts data 0: acknowledgement (2, 1) (take 1 0 1)
 3 take 0 1 0
     takes data 0: cast (1, 0) swap x 7
+    drops it: number 1 is expected
     clock 2
     puts count 1 (take 1 0 2)
 ";

@@ -8,6 +8,8 @@ use Rattle.reg_base.specs.declared.memory.Op.{Op}
 use Rattle.reg_frames.specs.declared.bodies.Frame.{Frame}
 use Rattle.reg_front.specs.declared.starts.Start.{Start}
 use Rattle.reg_process.specs.declared.steps.Reply.{Reply}
+use Rattle.reg_process.specs.Known.{IsNoPeer}
+use Rattle.reg_process.specs.Process.{State}
 use Rattle.reg_world.specs.declared.events.Event.{Event}
 use Rattle.reg_world.specs.declared.events.Event.TheVariants.{Take}
 use Rattle.reg_world.specs.Nodes.{Nodes}
@@ -15,7 +17,9 @@ use Rattle.reg_world.specs.World.{delivered_of}
 use Rattle.reg_world.specs.Histories.{process_of}
 use Rattle.reg_world.specs.Worlds.{Made, run_in, with_event, reply_in}
 use Rattle.reg_moments.specs.declared.moments.Sent.{Sent}
-use Rattle.reg_moments.specs.Moments.{Fact, frame_taken, placed, puts_since, moment_between, moment_of, moments_from}
+use Rattle.reg_moments.specs.declared.waits.Wait.{Wait}
+use Rattle.reg_moments.specs.Waits.{waits_of}
+use Rattle.reg_moments.specs.Moments.{Fact, expected_by, frame_taken, out_of_turn, placed, puts_since, moment_between, moment_of, moments_from}
 
 pub placed_end : (to place : ℕ) (frames : List Frame) → length frames ≤ place → placed to place (drop place frames) ≡ []
 placed_end to place frames h = ap (placed to place) (none place frames h)
@@ -82,22 +86,30 @@ frame_nowhere n w from to place h = sym (ap (λ t. cond t (slice_get ((w from).w
         last true false = refl
         last false y = refl
 
+-- all other processes are peers
+pub is_peer : (s : State) (n from to : ℕ) → length s.peers ≡ n → s.me ≡ to → from < n → (from ≡ to → ⊥) → IsNoPeer s from → ⊥
+is_peer s n from to size me l ne (inl ge) = absurd (omega (arith, size, l, ge))
+is_peer s n from to size me l ne (inr e) = ne (e ∙ me)
+
 -- an event told with its parts
-pub told_is : (start : Op → ℕ → Start) (w : Made) (e : Event) (new : Made) (p : ℕ) (frame : Option Frame) (clock : ℕ) (delivered : List Delivered) (reply : Option Reply) (sent : List Sent) (before after : ℕ) (lengths : ℕ → ℕ)
-    → new ≡ with_event start w e → p ≡ process_of e → frame ≡ frame_taken w.processes (run_in start w).nodes e → clock ≡ ((run_in start new).nodes p).state.clock
+pub told_is : (start : Op → ℕ → Start) (w : Made) (e : Event) (new : Made) (p : ℕ) (frame : Option Frame) (awaited expected : Option ℕ) (clock : ℕ) (delivered : List Delivered) (reply : Option Reply) (waits : List Wait) (sent : List Sent) (before after : ℕ) (lengths : ℕ → ℕ)
+    → new ≡ with_event start w e → p ≡ process_of e → frame ≡ frame_taken w.processes (run_in start w).nodes e → awaited ≡ expected_by w.processes (run_in start w).nodes e → expected ≡ out_of_turn frame awaited → clock ≡ ((run_in start new).nodes p).state.clock
     → before ≡ ((run_in start w).nodes p).state.delivered → after ≡ ((run_in start new).nodes p).state.delivered → delivered ≡ drop before (take after (map delivered_of (run_in start new).order))
     → reply ≡ reply_in start w e → ((to : ℕ) → to < w.processes → (to ≡ p → ⊥) → lengths to ≡ length (((run_in start w).nodes p).wire to))
+    → waits ≡ waits_of new.processes ((run_in start new).nodes p).state ((run_in start new).nodes p).state.held
     → sent ≡ puts_since p lengths ((run_in start new).nodes p).wire new.processes
-    → record { event = e; process = p; frame = frame; clock = clock; delivered = delivered; reply = reply; sent = sent } ≡ moment_of start w e
-told_is start w e new p frame clock delivered reply sent before after lengths is_new is_p is_frame is_clock is_before is_after is_delivered is_reply are_lengths is_sent =
+    → record { event = e; process = p; frame = frame; expected = expected; clock = clock; delivered = delivered; reply = reply; waits = waits; sent = sent } ≡ moment_of start w e
+told_is start w e new p frame awaited expected clock delivered reply waits sent before after lengths is_new is_p is_frame is_awaited is_expected is_clock is_before is_after is_delivered is_reply are_lengths is_waits is_sent =
     let same : puts_since p lengths ((run_in start new).nodes p).wire w.processes ≡ puts_since p (λ to. length (((run_in start w).nodes p).wire to)) ((run_in start new).nodes p).wire w.processes =
     puts_same p lengths (λ to. length (((run_in start w).nodes p).wire to)) ((run_in start new).nodes p).wire w.processes are_lengths in
     let count : new.processes ≡ w.processes = ap Made.processes is_new in
     let sent_is : sent ≡ puts_since p (λ to. length (((run_in start w).nodes p).wire to)) ((run_in start new).nodes p).wire w.processes = is_sent ∙ (ap (puts_since p lengths ((run_in start new).nodes p).wire) count ∙ same) in
+    let waits_is : waits ≡ waits_of w.processes ((run_in start new).nodes p).state ((run_in start new).nodes p).state.held = is_waits ∙ ap (λ n. waits_of n ((run_in start new).nodes p).state ((run_in start new).nodes p).state.held) count in
     let delivered_is : delivered ≡ drop ((run_in start w).nodes p).state.delivered (take ((run_in start new).nodes p).state.delivered (map delivered_of (run_in start new).order)) =
     is_delivered ∙ ap₂ (λ (a b : ℕ). drop a (take b (map delivered_of (run_in start new).order))) is_before is_after in
-    let here : record { event = e; process = p; frame = frame; clock = clock; delivered = delivered; reply = reply; sent = sent } ≡ moment_between w.processes e p (reply_in start w e) (run_in start w) (run_in start new) =
-    λ i. record { event = e; process = p; frame = is_frame i; clock = is_clock i; delivered = delivered_is i; reply = is_reply i; sent = sent_is i } in
+    let turn : expected ≡ out_of_turn (frame_taken w.processes (run_in start w).nodes e) (expected_by w.processes (run_in start w).nodes e) = is_expected ∙ ap₂ out_of_turn is_frame is_awaited in
+    let here : record { event = e; process = p; frame = frame; expected = expected; clock = clock; delivered = delivered; reply = reply; waits = waits; sent = sent } ≡ moment_between w.processes e p (reply_in start w e) (run_in start w) (run_in start new) =
+    λ i. record { event = e; process = p; frame = is_frame i; expected = turn i; clock = is_clock i; delivered = delivered_is i; reply = is_reply i; waits = waits_is i; sent = sent_is i } in
     here ∙ ap₂ (λ (q : ℕ) (v : Made). moment_between w.processes e q (reply_in start w e) (run_in start w) (run_in start v)) is_p is_new
 
 -- one more length

@@ -1,7 +1,8 @@
 -- The lines of a trace as they are put are its text.
-use Rattle.std.proofs.Common.{ℕ, zero, suc, ◌≡◌, ◌+◌, ◌<◌, List, [], ◌∷◌, ◌++◌, length, take, map, get_or, codes, Option, sym, ap, ◌∙◌, arith, append_assoc, append-nil}
+use Rattle.std.proofs.Common.{ℕ, zero, suc, ◌≡◌, ◌+◌, ◌<◌, List, [], ◌∷◌, ◌++◌, length, take, map, flat_map, get_or, codes, cond, Bool, true, false, Option, None, Some, refl, sym, ap, ap₂, ◌∙◌, arith, append_assoc, append-nil}
 use Rattle.std.specs.Fmt.{decimal}
 use Rattle.std.proofs.lemmas.Grind.{flat_map-append}
+use Rattle.std.proofs.lemmas.List.{take_more}
 use Rattle.std.proofs.lemmas.List.Folds.{flat_map-map}
 use Rattle.reg_text.specs.declared.writing.Sink.{Sink}
 use Rattle.reg_text.specs.Lines.{text_of}
@@ -10,7 +11,7 @@ use Rattle.reg_text.proofs.Sent.{puts_two, puts_as}
 use Rattle.reg_history.specs.Written.{lines_by}
 use Rattle.reg_schedules.specs.Schedules.{event_text}
 use Rattle.reg_moments.specs.Moments.{Fact}
-use Rattle.reg_moments.specs.Traces.{answers_lines, delivers_line, moment_lines, puts_line, takes_lines, trace_lines, trace_text}
+use Rattle.reg_moments.specs.Traces.{answers_lines, delivers_lines, drops_lines, holds_line, moment_lines, puts_line, takes_lines, trace_lines, trace_text}
 use Rattle.reg_moments.proofs.Putting.{puts_three, puts_four}
 
 -- the text of one line
@@ -25,35 +26,65 @@ text_map f xs = flat_map-map (λ line. line ++ 10 ∷ []) f xs
 
 -- the parts of an event, as they are put
 moment_parts : (names : List (List ℕ)) (number : ℕ) (f : Fact)
-    → ((decimal number ++ (codes " " ++ event_text names f.event)) ++ 10 ∷ []) ++ (text_of (takes_lines names f.event f.frame) ++ (((codes "    clock " ++ decimal f.clock) ++ 10 ∷ []) ++ (lines_by (delivers_line names) f.delivered ++ (text_of (answers_lines f.reply) ++ lines_by (puts_line names f.process) f.sent))))
+    → ((decimal number ++ (codes " " ++ event_text names f.event)) ++ 10 ∷ []) ++ (text_of (takes_lines names f.event f.frame) ++ (text_of (drops_lines f.expected) ++ (((codes "    clock " ++ decimal f.clock) ++ 10 ∷ []) ++ (text_of (flat_map (delivers_lines names) f.delivered) ++ (text_of (answers_lines f.reply) ++ (lines_by holds_line f.waits ++ lines_by (puts_line names f.process) f.sent))))))
     ≡ text_of (moment_lines names number f)
 moment_parts names number f =
     let head : List ℕ = (decimal number ++ (codes " " ++ event_text names f.event)) ++ 10 ∷ [] in
     let takes : List (List ℕ) = takes_lines names f.event f.frame in
+    let drops : List (List ℕ) = drops_lines f.expected in
     let line : List ℕ = codes "    clock " ++ decimal f.clock in
-    let delivers : List (List ℕ) = map (delivers_line names) f.delivered in
+    let delivers : List (List ℕ) = flat_map (delivers_lines names) f.delivered in
     let answers : List (List ℕ) = answers_lines f.reply in
+    let holds : List (List ℕ) = map holds_line f.waits in
     let puts : List (List ℕ) = map (puts_line names f.process) f.sent in
     sym (
-    ap (λ l. head ++ l) (text_append takes (line ∷ (delivers ++ (answers ++ puts)))
-    ∙ ap (λ l. text_of takes ++ ((line ++ 10 ∷ []) ++ l)) (text_append delivers (answers ++ puts)
-    ∙ ap (λ l. l ++ text_of (answers ++ puts)) (text_map (delivers_line names) f.delivered)
-    ∙ ap (λ l. lines_by (delivers_line names) f.delivered ++ l) (text_append answers puts
-    ∙ ap (λ l. text_of answers ++ l) (text_map (puts_line names f.process) f.sent))))
+    ap (λ l. head ++ l) (text_append takes (drops ++ (line ∷ (delivers ++ (answers ++ (holds ++ puts)))))
+    ∙ ap (λ l. text_of takes ++ l) (text_append drops (line ∷ (delivers ++ (answers ++ (holds ++ puts))))
+    ∙ ap (λ l. text_of drops ++ ((line ++ 10 ∷ []) ++ l)) (text_append delivers (answers ++ (holds ++ puts))
+    ∙ ap (λ l. text_of delivers ++ l) (text_append answers (holds ++ puts)
+    ∙ ap (λ l. text_of answers ++ l) (text_append holds puts
+    ∙ ap₂ (λ (x y : List ℕ). x ++ y) (text_map holds_line f.waits) (text_map (puts_line names f.process) f.sent))))))
     )
 
-pub moment_put : {S : Type 0} (held : S → Option (List ℕ)) (names : List (List ℕ)) (number : ℕ) (f : Fact) (a b c d e h k : Sink S)
-    → Puts held a b ((decimal number ++ (codes " " ++ event_text names f.event)) ++ 10 ∷ []) → Puts held b c (text_of (takes_lines names f.event f.frame)) → Puts held c d ((codes "    clock " ++ decimal f.clock) ++ 10 ∷ [])
-    → Puts held d e (lines_by (delivers_line names) f.delivered) → Puts held e h (text_of (answers_lines f.reply)) → Puts held h k (lines_by (puts_line names f.process) f.sent) → Puts held a k (text_of (moment_lines names number f))
-moment_put held names number f a b c d e h k one two three four five six =
+pub moment_put : {S : Type 0} (held : S → Option (List ℕ)) (names : List (List ℕ)) (number : ℕ) (f : Fact) (a b t c d e h j k : Sink S)
+    → Puts held a b ((decimal number ++ (codes " " ++ event_text names f.event)) ++ 10 ∷ []) → Puts held b t (text_of (takes_lines names f.event f.frame)) → Puts held t c (text_of (drops_lines f.expected)) → Puts held c d ((codes "    clock " ++ decimal f.clock) ++ 10 ∷ [])
+    → Puts held d e (text_of (flat_map (delivers_lines names) f.delivered)) → Puts held e h (text_of (answers_lines f.reply)) → Puts held h j (lines_by holds_line f.waits) → Puts held j k (lines_by (puts_line names f.process) f.sent) → Puts held a k (text_of (moment_lines names number f))
+moment_put held names number f a b t c d e h j k one two turn three four five waits six =
     let head : List ℕ = (decimal number ++ (codes " " ++ event_text names f.event)) ++ 10 ∷ [] in
     let takes : List ℕ = text_of (takes_lines names f.event f.frame) in
+    let drops : List ℕ = text_of (drops_lines f.expected) in
     let clock : List ℕ = (codes "    clock " ++ decimal f.clock) ++ 10 ∷ [] in
-    let delivers : List ℕ = lines_by (delivers_line names) f.delivered in
+    let delivers : List ℕ = text_of (flat_map (delivers_lines names) f.delivered) in
     let answers : List ℕ = text_of (answers_lines f.reply) in
+    let holds : List ℕ = lines_by holds_line f.waits in
     let puts : List ℕ = lines_by (puts_line names f.process) f.sent in
-    puts_as held a k (head ++ (takes ++ (clock ++ (delivers ++ (answers ++ puts))))) (text_of (moment_lines names number f)) (moment_parts names number f)
-    (puts_three held a b c k head takes (clock ++ (delivers ++ (answers ++ puts))) one two (puts_four held c d e h k clock delivers answers puts three four five six))
+    puts_as held a k (head ++ (takes ++ (drops ++ (clock ++ (delivers ++ (answers ++ (holds ++ puts))))))) (text_of (moment_lines names number f)) (moment_parts names number f)
+    (puts_four held a b t c k head takes drops (clock ++ (delivers ++ (answers ++ (holds ++ puts)))) one two turn (puts_four held c d e h k clock delivers answers (holds ++ puts) three four five (puts_two held h j k holds puts waits six)))
+
+-- the lines of a value, where there is one
+abbrev pub lines_at : (ℕ → List (List ℕ)) → Option ℕ → List (List ℕ)
+lines_at f None = []
+lines_at f (Some x) = f x
+
+pub lines_if : (f : ℕ → List (List ℕ)) (b : Bool) (x : ℕ) (o : Option ℕ) → o ≡ cond b (Some x) None → lines_at f o ≡ cond b (f x) []
+lines_if f b x o is = ap (lines_at f) is ∙ chosen b
+  where
+    chosen : (b : Bool) → lines_at f (cond b (Some x) None) ≡ cond b (f x) []
+    chosen true = refl
+    chosen false = refl
+
+-- the lines of one more of these
+block_more : {X : Type 0} (f : X → List (List ℕ)) (xs : List X) (i : ℕ) (d : X) → i < length xs → text_of (flat_map f (take (i + 1) xs)) ≡ text_of (flat_map f (take i xs)) ++ text_of (f (get_or xs i d))
+block_more f xs i d l =
+    ap (λ t. text_of (flat_map f t)) (take_more xs i d l)
+    ∙ (ap text_of (flat_map-append f (take i xs) (get_or xs i d ∷ []) ∙ ap (λ t. flat_map f (take i xs) ++ t) (append-nil (f (get_or xs i d))))
+    ∙ text_append (flat_map f (take i xs)) (f (get_or xs i d)))
+
+-- one more of these was put
+pub block_put : {S X : Type 0} (held : S → Option (List ℕ)) (a b c : Sink S) (f : X → List (List ℕ)) (xs : List X) (i : ℕ) (d : X) → i < length xs → Puts held a b (text_of (flat_map f (take i xs))) → Puts held b c (text_of (f (get_or xs i d))) → Puts held a c (text_of (flat_map f (take (i + 1) xs)))
+block_put held a b c f xs i d l p q =
+    puts_as held a c (text_of (flat_map f (take i xs)) ++ text_of (f (get_or xs i d))) (text_of (flat_map f (take (i + 1) xs))) (sym (block_more f xs i d l))
+    (puts_two held a b c (text_of (flat_map f (take i xs))) (text_of (f (get_or xs i d))) p q)
 
 -- the lines of one more event
 lines_more : (names : List (List ℕ)) (number : ℕ) (facts : List Fact) (i : ℕ) (d : Fact) → i < length facts → trace_lines names number (take (i + 1) facts) ≡ trace_lines names number (take i facts) ++ moment_lines names (number + i) (get_or facts i d)

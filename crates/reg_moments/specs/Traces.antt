@@ -1,6 +1,8 @@
 -- The text of a trace: what each event of a run did.
-use Rattle.std.specs.Prelude.{ℕ, ◌+◌, List, [], ◌∷◌, ◌++◌, map, codes, Option, None, Some}
+use Rattle.std.specs.Prelude.{ℕ, ◌+◌, List, [], ◌∷◌, ◌++◌, map, codes, Option, None, Some, cond, flat_map, slice_index}
 use Rattle.std.specs.Fmt.{decimal}
+use Rattle.reg_base.specs.Memory.{after, blank, register_of, updates}
+use Rattle.reg_base.specs.declared.memory.Op.{Op}
 use Rattle.reg_base.specs.declared.stamps.Stamp.{Stamp}
 use Rattle.reg_base.specs.declared.stamps.Delivered.{Delivered}
 use Rattle.reg_frames.specs.declared.bodies.Body.{Body}
@@ -9,12 +11,13 @@ use Rattle.reg_frames.specs.declared.bodies.Frame.{Frame}
 use Rattle.reg_frames.specs.declared.bodies.Frame.TheVariants.{Numbered, Got}
 use Rattle.reg_process.specs.declared.steps.Reply.{Reply}
 use Rattle.reg_text.specs.Lines.{text_of}
-use Rattle.reg_text.specs.Ops.{op_text}
+use Rattle.reg_text.specs.Ops.{op_text, valued}
 use Rattle.reg_history.specs.EntryLines.{answer_text}
 use Rattle.reg_world.specs.declared.events.Event.{Event}
 use Rattle.reg_world.specs.declared.events.Event.TheVariants.{Call, Take, Tick}
 use Rattle.reg_schedules.specs.Schedules.{event_text}
 use Rattle.reg_moments.specs.declared.moments.Sent.{Sent}
+use Rattle.reg_moments.specs.declared.waits.Wait.{Wait}
 use Rattle.reg_moments.specs.Moments.{Fact}
 
 -- a stamp: its time and its process
@@ -46,27 +49,49 @@ takes_lines names (Call p op) frame = []
 takes_lines names (Take from to place) frame = taken_lines names from frame
 takes_lines names (Tick p) frame = []
 
+-- the line of a frame that was dropped, where one was: with the number that was expected
+abbrev pub drops_lines : Option ℕ → List (List ℕ)
+drops_lines None = []
+drops_lines (Some number) = (codes "    drops it: number " ++ (decimal number ++ codes " is expected")) ∷ []
+
+-- the value that a memory has of an operation's register behind it, where the operation changes that
+abbrev pub value_behind : Op → ℕ
+value_behind op = slice_index (after op (blank (register_of op + 1))) (register_of op)
+
+-- the line of a copy behind the delivery of an operation, where that changes it
+abbrev pub copy_lines : List (List ℕ) → Op → List (List ℕ)
+copy_lines names op = cond (updates op) ((codes "    copy " ++ valued names (register_of op) (value_behind op)) ∷ []) []
+
 -- the line of a cast that was delivered
 abbrev pub delivers_line : List (List ℕ) → Delivered → List ℕ
 delivers_line names cast = codes "    delivers " ++ cast_text names cast
+
+-- the lines of a cast that was delivered: with the copy behind it
+abbrev pub delivers_lines : List (List ℕ) → Delivered → List (List ℕ)
+delivers_lines names cast = delivers_line names cast ∷ copy_lines names cast.op
 
 -- the line of a reply, where there is one
 abbrev pub answers_lines : Option Reply → List (List ℕ)
 answers_lines None = []
 answers_lines (Some reply) = (codes "    answers " ++ (answer_text reply.answer ++ (codes ", place " ++ decimal reply.place))) ∷ []
 
+-- the line of a cast that is held back: with the process that it waits for
+abbrev pub holds_line : Wait → List ℕ
+holds_line wait = codes "    holds " ++ (stamp_text wait.stamp ++ (codes ": p" ++ (decimal wait.unheard ++ codes " was not heard past it")))
+
 -- the line of a frame that this process put, with the event that takes it
 abbrev pub puts_line : List (List ℕ) → ℕ → Sent → List ℕ
 puts_line names from sent = codes "    puts " ++ (frame_text names from sent.frame ++ (codes " (" ++ (event_text names (Take from sent.to sent.place) ++ codes ")")))
 
--- the lines of an event: its number and its words; the frame that it took; its process's clock behind it; the casts delivered;
--- the reply; and the frames put
+-- the lines of an event: its number and its words; the frame that it took, and whether it was dropped; its process's clock behind it;
+-- the casts delivered, each with the copy behind it; the reply; the casts held back; and the frames put
 abbrev pub moment_lines : List (List ℕ) → ℕ → Fact → List (List ℕ)
 moment_lines names number f =
     (decimal number ++ (codes " " ++ event_text names f.event))
     ∷ (takes_lines names f.event f.frame
+    ++ (drops_lines f.expected
     ++ ((codes "    clock " ++ decimal f.clock)
-    ∷ (map (delivers_line names) f.delivered ++ (answers_lines f.reply ++ map (puts_line names f.process) f.sent))))
+    ∷ (flat_map (delivers_lines names) f.delivered ++ (answers_lines f.reply ++ (map holds_line f.waits ++ map (puts_line names f.process) f.sent))))))
 
 -- the lines of these events, the first of which has this number
 abbrev pub trace_lines : List (List ℕ) → ℕ → List Fact → List (List ℕ)

@@ -8,6 +8,7 @@ mod rooms;
 mod schedule_text;
 mod told;
 mod trace_text;
+mod waits;
 
 pub use figures::{Arrow, Bar, End, arrows, bars, is_taken};
 pub use moments::{Moment, Sent, process_of_event, tell_world};
@@ -15,3 +16,4 @@ pub use rooms::{Filled, GAP};
 pub use schedule_text::{put_event, put_number, write_schedule};
 pub use told::Told;
 pub use trace_text::{put_answer, put_cast, put_frame, write_trace};
+pub use waits::Wait;

@@ -1,10 +1,12 @@
 //! What each event of a run did.
 ghost use Rattle.std.specs.Prelude.{◌≡◌, ◌<◌, ◌++◌, ℕ, false, drop, length, map, take, slice_index, IfOk, OnOk};
+ghost use Rattle.reg_process.specs.Process.{peer_at};
 ghost use Rattle.reg_world.specs.Histories.{process_of};
 ghost use Rattle.reg_world.specs.World.{delivered_of};
 ghost use Rattle.reg_world.specs.Worlds.{run_in, with_event};
-ghost use Rattle.reg_moments.specs.Moments.{frame_taken, moment_of, moments_from, moments_of, placed, puts_since};
+ghost use Rattle.reg_moments.specs.Moments.{expected_by, frame_taken, moment_of, moments_from, moments_of, out_of_turn, placed, puts_since};
 
+use crate::waits::{Wait, waits_in};
 use reg_base::Shape;
 use reg_base::limits::MOST_PROCESSES;
 use reg_frames::Frame;
@@ -32,12 +34,16 @@ pub struct Moment<A: Allocator + Copy = Global> {
     pub process: u8,
     /// The frame that a take took.
     pub frame: Option<Frame>,
+    /// The number that was expected, where the frame is a data frame of another number: it was dropped.
+    pub expected: Option<u64>,
     /// The clock of the process behind the event.
     pub clock: u64,
     /// The casts that the process delivered, in order.
     pub delivered: Vec<Delivered, A>,
     /// The reply that the event gave.
     pub reply: Option<Reply>,
+    /// The casts that the process holds back behind the event, in the order of their stamps.
+    pub waits: Vec<Wait, A>,
     /// The frames that the process put, by rising receiver and place.
     pub sent: Vec<Sent, A>,
 }
@@ -47,7 +53,7 @@ impl<A: Allocator + Copy> Model for Moment<A> {
 
     ghost Value = { Fact };
 
-    ghost view = { λ m. record { event = m.event; process = m.process; frame = m.frame; clock = m.clock; delivered = m.delivered.items; reply = m.reply; sent = m.sent.items } };
+    ghost view = { λ m. record { event = m.event; process = m.process; frame = m.frame; expected = m.expected; clock = m.clock; delivered = m.delivered.items; reply = m.reply; waits = m.waits.items; sent = m.sent.items } };
 }
 
 /// The process that an event is of.
@@ -69,6 +75,56 @@ fn frame_of<F: FrontEnd, A: Allocator + Copy>(world: &World<F, A>, event: &Event
     match event {
         Event::Take { from, to, number } => match world.wire(*from, *to) {
             Some(frames) => frames.get(*number as usize).copied(),
+            None => None,
+        },
+        _ => None,
+    }
+}
+
+/// The number that a process expects of the next data frame of another one.
+fn expected_from<F: FrontEnd, A: Allocator + Copy>(world: &World<F, A>, from: u8, to: u8) -> u64
+    requires going { world.now.failed ≡ false }
+    requires from { from < world.now.processes }
+    requires to { to < world.now.processes }
+    requires other { from ≡ to → ⊥ }
+    ensures { result ≡ (peer_at ((run_in F.start world.now).nodes to).state from).expected }
+{
+    match world.process(to) {
+        Some(process) => match process.known(from) {
+            Some(known) => known.expected,
+            None => unreachable!(),
+        },
+        None => unreachable!(),
+    }
+}
+
+/// The number that the receiver of a take expects of the sender's next data frame.
+fn expected_of<F: FrontEnd, A: Allocator + Copy>(world: &World<F, A>, event: &Event) -> Option<u64>
+    requires { world.now.failed ≡ false }
+    ensures { result ≡ expected_by world.now.processes (run_in F.start world.now).nodes event.now }
+{
+    match event {
+        Event::Take { from, to, .. } => match world.wire(*from, *to) {
+            Some(_) => Some(expected_from(world, *from, *to)),
+            None => None,
+        },
+        _ => None,
+    }
+}
+
+/// The number expected, where the frame is a data frame of another number: one that is dropped.
+fn unexpected(frame: Option<Frame>, expected: Option<u64>) -> Option<u64>
+    ensures { result ≡ out_of_turn frame expected }
+{
+    match frame {
+        Some(Frame::Numbered { number, .. }) => match expected {
+            Some(expected) => {
+                if number == expected {
+                    None
+                } else {
+                    Some(expected)
+                }
+            }
             None => None,
         },
         _ => None,
@@ -186,6 +242,7 @@ fn tell<F: FrontEnd, A: Allocator + Copy>(
         return Err(WorldFault::NoProcess);
     }
     let frame = frame_of(world, event);
+    let expected = unexpected(frame, expected_of(world, event));
     let lengths = lengths(world, process);
     let before = delivered_count(world, process);
     let reply = world.step_reply(event)?;
@@ -197,13 +254,18 @@ fn tell<F: FrontEnd, A: Allocator + Copy>(
     let Ok(sent) = sent_since(alloc, world, process, &lengths) else {
         return Err(WorldFault::OutOfMemory);
     };
+    let Ok(waits) = waits_in(alloc, world, process) else {
+        return Err(WorldFault::OutOfMemory);
+    };
     Ok(Moment {
         event: *event,
         process,
         frame,
+        expected,
         clock,
         delivered,
         reply,
+        waits,
         sent,
     })
 }

@@ -1,5 +1,6 @@
 //! What happens in a run, event by event, as text.
-ghost use Rattle.std.specs.Prelude.{◌≡◌, ◌++◌, ◌∷◌, [], MatchResult, codes, map};
+ghost use Rattle.std.specs.Prelude.{◌≡◌, ◌++◌, ◌∷◌, [], MatchResult, Option, ℕ, cond, codes, flat_map, map, None, Some};
+ghost use Rattle.reg_base.specs.Memory.{updates};
 ghost use Rattle.std.specs.Fmt.{decimal};
 ghost use Rattle.std.specs.Io.KnownBytes.{Appends};
 ghost use Rattle.reg_text.specs.Lines.{text_of};
@@ -7,14 +8,15 @@ ghost use Rattle.reg_text.specs.Writing.{AppendsPart, Puts};
 ghost use Rattle.reg_history.specs.EntryLines.{answer_text};
 ghost use Rattle.reg_history.specs.Written.{lines_by};
 ghost use Rattle.reg_schedules.specs.Schedules.{event_text};
-ghost use Rattle.reg_moments.specs.Traces.{answers_lines, body_text, cast_text, delivers_line, frame_text, moment_lines, puts_line, stamp_text, taken_lines, takes_lines, trace_text};
+ghost use Rattle.reg_moments.specs.Traces.{answers_lines, body_text, cast_text, copy_lines, delivers_line, delivers_lines, drops_lines, holds_line, value_behind, frame_text, moment_lines, puts_line, stamp_text, taken_lines, takes_lines, trace_text};
 
 use crate::moments::{Moment, Sent};
 use crate::schedule_text::{put_event, put_number, put_take};
-use reg_base::{Answer, Names, Stamp};
+use crate::waits::Wait;
+use reg_base::{Answer, Names, Op, Stamp};
 use reg_frames::{Body, Frame};
 use reg_process::{Delivered, Reply};
-use reg_text::{Sink, Unwritten, put_op};
+use reg_text::{Sink, Unwritten, name_at, put_op};
 use reg_world::Event;
 use std::alloc::Allocator;
 use std::io::Write;
@@ -137,6 +139,16 @@ fn put_takes<A: Allocator + Copy, W: Write>(
     }
 }
 
+/// Puts the line of a frame that was dropped, if one was.
+fn put_drops<W: Write>(sink: &mut Sink<'_, W>, expected: Option<u64>)
+    ensures { Puts W.contents sink.old sink.new (text_of (drops_lines expected)) }
+{
+    if let Some(number) = expected {
+        put_number(sink, "    drops it: number ", number);
+        sink.put(b" is expected\n");
+    }
+}
+
 /// Puts the line of a clock.
 fn put_clock<W: Write>(sink: &mut Sink<'_, W>, clock: u64)
     ensures { Puts W.contents sink.old sink.new ((codes "    clock " ++ decimal clock) ++ 10 ∷ []) }
@@ -158,16 +170,51 @@ fn put_delivery<A: Allocator + Copy, W: Write>(
     sink.put(b"\n");
 }
 
-/// Puts a line for each cast that was delivered.
+/// The value that an operation leaves in its register, if it changes that.
+fn value_left(op: Op) -> Option<u64>
+    ensures { result ≡ cond (updates op) (Some (value_behind op)) None }
+{
+    match op {
+        Op::Read { .. } => None,
+        Op::Write { value, .. } => Some(value),
+        Op::Swap { value, .. } => Some(value),
+    }
+}
+
+/// Puts the line of the copy behind the delivery of an operation, if that changes it.
+fn put_copy<A: Allocator + Copy, W: Write>(sink: &mut Sink<'_, W>, names: &Names<A>, op: Op)
+    ensures { Puts W.contents sink.old sink.new (text_of (copy_lines names.now op)) }
+{
+    if let Some(value) = value_left(op) {
+        sink.put(b"    copy ");
+        sink.put(name_at(names, op.register()).as_bytes());
+        put_number(sink, " ", value);
+        sink.put(b"\n");
+    }
+}
+
+/// Puts the lines of a cast that was delivered, with the copy behind it.
+fn put_delivered<A: Allocator + Copy, W: Write>(
+    sink: &mut Sink<'_, W>,
+    names: &Names<A>,
+    cast: Delivered,
+)
+    ensures { Puts W.contents sink.old sink.new (text_of (delivers_lines names.now cast)) }
+{
+    put_delivery(sink, names, cast);
+    put_copy(sink, names, cast.op);
+}
+
+/// Puts the lines of each cast that was delivered.
 fn put_deliveries<A: Allocator + Copy, W: Write>(
     sink: &mut Sink<'_, W>,
     names: &Names<A>,
     casts: &[Delivered],
 )
-    ensures { Puts W.contents sink.old sink.new (lines_by (delivers_line names.now) casts.now) }
+    ensures { Puts W.contents sink.old sink.new (text_of (flat_map (delivers_lines names.now) casts.now)) }
 {
     for cast in casts {
-        put_delivery(sink, names, *cast);
+        put_delivered(sink, names, *cast);
     }
 }
 
@@ -180,6 +227,25 @@ fn put_reply<W: Write>(sink: &mut Sink<'_, W>, reply: Option<Reply>)
         put_answer(sink, reply.answer);
         put_number(sink, ", place ", reply.place);
         sink.put(b"\n");
+    }
+}
+
+/// Puts the line of a cast that is held back.
+fn put_wait<W: Write>(sink: &mut Sink<'_, W>, wait: Wait)
+    ensures { Puts W.contents sink.old sink.new (holds_line wait ++ 10 ∷ []) }
+{
+    sink.put(b"    holds ");
+    put_stamp(sink, wait.stamp);
+    put_number(sink, ": p", wait.unheard as u64);
+    sink.put(b" was not heard past it\n");
+}
+
+/// Puts a line for each cast that is held back.
+fn put_waits<W: Write>(sink: &mut Sink<'_, W>, waits: &[Wait])
+    ensures { Puts W.contents sink.old sink.new (lines_by holds_line waits.now) }
+{
+    for wait in waits {
+        put_wait(sink, *wait);
     }
 }
 
@@ -224,9 +290,11 @@ fn put_moment<A: Allocator + Copy, W: Write>(
 {
     put_head(sink, names, number, moment.event);
     put_takes(sink, names, moment.event, moment.frame);
+    put_drops(sink, moment.expected);
     put_clock(sink, moment.clock);
     put_deliveries(sink, names, moment.delivered.as_slice());
     put_reply(sink, moment.reply);
+    put_waits(sink, moment.waits.as_slice());
     put_all_sent(sink, names, moment.process, moment.sent.as_slice());
 }
 
