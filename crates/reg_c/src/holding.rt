@@ -1,5 +1,5 @@
 //! A world that a caller holds.
-ghost use Rattle.std.specs.Prelude.{◌≡◌, Some, IfOk, IfSome, None, vec_capacity};
+ghost use Rattle.std.specs.Prelude.{◌≡◌, ◌<◌, [], Some, IfErr, IfOk, IfSome, None, vec_capacity};
 ghost use Rattle.reg_orders.specs.Orders.{IsSerial, IsPointOrder};
 ghost use Rattle.reg_c.specs.declared.holding.Kept.{Kept};
 ghost use Rattle.reg_c.specs.Events.{event_of};
@@ -46,7 +46,8 @@ pub struct Held {
 
 /// A world of the front end of this number, in which nothing happened yet.
 fn begin(alloc: Global, front: u32, shape: Shape) -> Result<Kept, u32>
-    ensures { IfOk result (λ kept. kept_at_first front shape ≡ Some kept) }
+    ensures world { IfOk result (λ kept. kept_at_first front shape ≡ Some kept) }
+    ensures refused { IfErr result (λ code. 0 < code) }
 {
     let refused = code_of_fault(WorldFault::OutOfMemory);
     match front {
@@ -68,7 +69,9 @@ fn begin(alloc: Global, front: u32, shape: Shape) -> Result<Kept, u32>
 
 /// A world of this shape, in which nothing happened yet: 0, 1 and 2 are the front ends linear, local-read and local-write.
 pub fn open(alloc: Global, front: u32, processes: u32, registers: u32) -> Result<Box<Held>, u32>
-    ensures { IfOk result (λ b. kept_at_first front (record { processes = processes; registers = registers }) ≡ Some b.value.world) }
+    ensures world { IfOk result (λ b. kept_at_first front (record { processes = processes; registers = registers }) ≡ Some b.value.world) }
+    ensures nothing_else { IfOk result (λ b. (b.value.reply ≡ None) × (b.value.order.items ≡ []) × (b.value.points.items ≡ [])) }
+    ensures refused { IfErr result (λ code. 0 < code) }
 {
     let Ok(shape) = Shape::new(processes, registers) else {
         return Err(NO_SHAPE);

@@ -1,5 +1,5 @@
 //! Worlds that a caller holds by a pointer.
-ghost use Rattle.std.specs.Prelude.{◌≡◌, None, vec_capacity};
+ghost use Rattle.std.specs.Prelude.{◌≡◌, ◌<◌, None, vec_capacity};
 ghost use Rattle.std.specs.Borrow.{full_share, sem};
 ghost use Rattle.std.specs.Ptr.{lies_at};
 ghost use Rattle.reg_c.specs.declared.holding.Held.{Held};
@@ -18,7 +18,7 @@ fn opaque(held: *mut Held) -> *mut u8
     held as *mut u8
 }
 
-/// Makes a world in which nothing happened yet. Where the result is 0 there is one behind the handle.
+/// Makes a world in which nothing happened yet. Where the result is 0 there is one behind the handle, and else the handle is as it was.
 #[unsafe(no_mangle)]
 pub extern "C" fn tellwydar_world_new(
     alloc: Global,
@@ -26,7 +26,10 @@ pub extern "C" fn tellwydar_world_new(
     processes: u32,
     registers: u32,
     handle: &mut *mut u8,
-) -> u32 {
+) -> u32
+    ensures room { 0 < result → handle.new ≡ handle.old }
+    ensures front { result ≡ 0 → front < 3 }
+{
     match open(alloc, front, processes, registers) {
         Ok(held) => {
             *handle = opaque(Box::into_raw(held));
