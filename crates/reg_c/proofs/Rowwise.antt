@@ -3,9 +3,9 @@ use Rattle.std.proofs.Common.{◌≡◌, ◌<◌, ◌⊎◌, ◌++◌, ◌∷◌
 use Rattle.std.specs.Prelude.{MatchOption}
 use Rattle.std.proofs.lemmas.Option.{slice_get-get_or}
 use Rattle.reg_base.specs.Shape.{Extent}
-use Rattle.reg_orders.specs.declared.entries.Entry.{Entry}
-use Rattle.reg_orders.specs.History.{IsHistory, IsInPlace}
-use Rattle.reg_orders.proofs.OwnOrder.{zip_more}
+use Rattle.reg_histories.specs.declared.entries.Entry.{Entry}
+use Rattle.reg_histories.specs.History.{IsHistory, IsInPlace}
+use Rattle.reg_histories.proofs.OwnOrder.{zip_more}
 use Rattle.reg_c.specs.declared.reading.Unread.{Unread}
 use Rattle.reg_c.specs.declared.reading.Unread.TheVariants.{OutOfPlace, OutOfMemory}
 use Rattle.reg_c.specs.declared.rows.EntryRow.{EntryRow}

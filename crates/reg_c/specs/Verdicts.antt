@@ -2,13 +2,13 @@
 use Rattle.std.specs.Prelude.{ℕ, ◌≡◌, List, map, take, Err, MatchOption}
 use Rattle.reg_base.specs.Shape.{shape_of}
 use Rattle.reg_base.specs.declared.shapes.ShapeFault.{ShapeFault}
-use Rattle.reg_orders.specs.declared.entries.Entry.{Entry}
-use Rattle.reg_orders.specs.declared.faults.CheckFault.{CheckFault}
-use Rattle.reg_orders.specs.declared.faults.CheckFault.TheVariants.{Unknown, Twice, Missing, OwnOrder, Answer, Outside, Falling}
-use Rattle.reg_orders.specs.declared.faults.CheckFault.TheVariants.{OutOfMemory as NoMemory}
-use Rattle.reg_orders.specs.History.{IsAt, IsHistory, IsInPlace}
-use Rattle.reg_orders.specs.Orders.{IsSerial, IsPointOrder}
-use Rattle.reg_orders.specs.Checks.{IsSerialFault, IsPointFault}
+use Rattle.reg_histories.specs.declared.entries.Entry.{Entry}
+use Rattle.reg_histories.specs.declared.faults.CheckFault.{CheckFault}
+use Rattle.reg_histories.specs.declared.faults.CheckFault.TheVariants.{Unknown, Twice, Missing, OwnOrder, Answer, Outside, Falling}
+use Rattle.reg_histories.specs.declared.faults.CheckFault.TheVariants.{OutOfMemory as NoMemory}
+use Rattle.reg_histories.specs.History.{IsAt, IsHistory, IsInPlace}
+use Rattle.reg_histories.specs.Orders.{IsSerial, IsPointOrder}
+use Rattle.reg_histories.specs.Checks.{IsSerialFault, IsPointFault}
 use Rattle.reg_c.specs.declared.reading.Unread.{Unread}
 use Rattle.reg_c.specs.declared.reading.Unread.TheVariants.{NoShape, OutOfPlace, OutOfMemory}
 use Rattle.reg_c.specs.declared.judging.Verdict.{Verdict}

@@ -1,6 +1,6 @@
 //! A world that a caller holds.
 ghost use Rattle.std.specs.Prelude.{◌≡◌, ◌<◌, [], Some, IfErr, IfOk, IfSome, None, vec_capacity};
-ghost use Rattle.reg_orders.specs.Orders.{IsSerial, IsPointOrder};
+ghost use Rattle.reg_histories.specs.Orders.{IsSerial, IsPointOrder};
 ghost use Rattle.reg_c.specs.declared.holding.Kept.{Kept};
 ghost use Rattle.reg_c.specs.Events.{event_of};
 ghost use Rattle.reg_c.specs.Worlds.{Goes, GoesIn, HasOrders, Steps, events_in, history_in, kept_at_first, looked, number_of};
@@ -9,7 +9,7 @@ use crate::events::{code_of_fault, code_of_reply, event, value_of_answer};
 use crate::looking::{Look, look_at, of_entry, of_id, of_point};
 use reg_base::{OpId, Shape};
 use reg_front::{FrontEnd, Linear, LocalRead, LocalWrite, RealTime};
-use reg_orders::{Entry, Point};
+use reg_histories::{Entry, Point};
 use reg_process::Reply;
 use reg_world::{Event, PackedWires, World, WorldFault};
 use std::alloc::Global;

@@ -7,7 +7,7 @@ ghost use Rattle.reg_c.specs.Verdicts.{IsSerialVerdict, IsPointVerdict, fault_co
 use crate::reading::{Unread, read};
 use crate::rows::{EntryRow, IdRow, PointRow, id, point};
 use reg_base::OpId;
-use reg_orders::{CheckFault, Point, check_points, check_serial};
+use reg_histories::{CheckFault, Point, check_points, check_serial};
 use std::alloc::{AllocError, Global};
 
 /// What is told of an order.

@@ -4,7 +4,7 @@ ghost use Rattle.reg_c.specs.Worlds.{entry_part, event_of_entry, id_part, point_
 
 use crate::events::value_of_answer;
 use reg_base::{Answer, Op, OpId};
-use reg_orders::{Entry, Point};
+use reg_histories::{Entry, Point};
 
 /// What an entry of a history has.
 #[derive(Clone, Copy)]

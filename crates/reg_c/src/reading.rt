@@ -1,13 +1,13 @@
 //! Histories that a caller lends as rows.
 ghost use Rattle.std.specs.Prelude.{◌≡◌, ◌⊎◌, ◌++◌, ◌∷◌, [], Some, MatchOption, MatchResult};
-ghost use Rattle.reg_orders.specs.History.{IsHistory, IsInPlace};
-ghost use Rattle.reg_orders.specs.declared.entries.Entry.{Entry};
+ghost use Rattle.reg_histories.specs.History.{IsHistory, IsInPlace};
+ghost use Rattle.reg_histories.specs.declared.entries.Entry.{Entry};
 ghost use Rattle.reg_c.specs.Rows.{Say, entry_of};
 ghost use Rattle.reg_c.specs.Verdicts.{IsUnread};
 
 use crate::rows::{EntryRow, entry};
 use reg_base::Shape;
-use reg_orders::{History, HistoryFault};
+use reg_histories::{History, HistoryFault};
 use std::alloc::Global;
 
 /// Why rows say no history.

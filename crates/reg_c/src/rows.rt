@@ -1,10 +1,10 @@
 //! Entries, ids and points as C lays them out.
 ghost use Rattle.std.specs.Prelude.{◌≡◌};
-ghost use Rattle.reg_orders.specs.declared.entries.Entry.{Entry};
+ghost use Rattle.reg_histories.specs.declared.entries.Entry.{Entry};
 ghost use Rattle.reg_c.specs.Rows.{entry_of, id_of, point_of};
 
 use reg_base::{Answer, Op, OpId};
-use reg_orders::{Entry, Point};
+use reg_histories::{Entry, Point};
 
 /// An entry of a history.
 #[repr(C)]

@@ -7,11 +7,11 @@ use Rattle.reg_front.specs.declared.starts.Start.{Start}
 use Rattle.reg_front.specs.declared.named.Front.{Front}
 use Rattle.reg_front.specs.Table.{front_name}
 use Rattle.reg_base.specs.Shape.{Extent}
-use Rattle.reg_orders.specs.declared.entries.Entry.{Entry}
-use Rattle.reg_orders.specs.declared.entries.Point.{Point}
-use Rattle.reg_orders.specs.Orders.{IsSerial}
-use Rattle.reg_orders.specs.Log.{Log}
-use Rattle.reg_history.specs.Reports.{Contents}
+use Rattle.reg_histories.specs.declared.entries.Entry.{Entry}
+use Rattle.reg_histories.specs.declared.entries.Point.{Point}
+use Rattle.reg_histories.specs.Orders.{IsSerial}
+use Rattle.reg_histories.specs.Log.{Log}
+use Rattle.reg_reports.specs.Reports.{Contents}
 use Rattle.reg_world.specs.World.{run_of}
 use Rattle.reg_world.specs.Keys.{IsWitness}
 use Rattle.reg_world.specs.RealTime.{KeepsUpdates}

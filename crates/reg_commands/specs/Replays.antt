@@ -6,11 +6,11 @@ use Rattle.reg_front.specs.declared.starts.Start.{Start}
 use Rattle.reg_front.specs.declared.named.Front.{Front}
 use Rattle.reg_front.specs.declared.named.Front.TheVariants.{Linear, LocalRead, LocalWrite}
 use Rattle.reg_front.specs.Table.{linear, local_read, local_write, front_name}
-use Rattle.reg_orders.specs.declared.entries.Entry.{Entry}
-use Rattle.reg_orders.specs.declared.entries.Point.{Point}
-use Rattle.reg_orders.specs.History.{IsAt}
-use Rattle.reg_orders.specs.Orders.{IsSerial, IsPointOrder}
-use Rattle.reg_history.specs.Reports.{Contents, report_text}
+use Rattle.reg_histories.specs.declared.entries.Entry.{Entry}
+use Rattle.reg_histories.specs.declared.entries.Point.{Point}
+use Rattle.reg_histories.specs.History.{IsAt}
+use Rattle.reg_histories.specs.Orders.{IsSerial, IsPointOrder}
+use Rattle.reg_reports.specs.Reports.{Contents, report_text}
 use Rattle.reg_world.specs.RealTime.{KeepsUpdates}
 use Rattle.reg_world.specs.World.{World, run_of, whole, world_fault}
 use Rattle.reg_world.specs.declared.events.Event.{Event}

@@ -1,8 +1,8 @@
 //! The command that plays a workload and prints the report of what happened.
 ghost use Rattle.std.specs.Prelude.{◌≡◌, ◌≢◌, ◌⊎◌, Bool, IfOk, IfErr, IsErrOf};
 ghost use Rattle.std.specs.Io.KnownBytes.{Appends};
-ghost use Rattle.reg_toml.specs.declared.faults.WorkloadFault.TheVariants.{OutOfMemory};
-ghost use Rattle.reg_toml.specs.Loads.{Load};
+ghost use Rattle.reg_workloads.specs.declared.faults.WorkloadFault.TheVariants.{OutOfMemory};
+ghost use Rattle.reg_workloads.specs.Loads.{Load};
 ghost use Rattle.reg_commands.specs.Answers.{AnswersInPart, Blames};
 ghost use Rattle.reg_commands.specs.Replays.{ShowsPoints};
 ghost use Rattle.reg_commands.specs.Plays.{Holds, RefusesDocument, IsPlayBy, ShowsPlay, IsReportOfPlay, Plays};
@@ -11,11 +11,11 @@ ghost use Rattle.reg_commands.specs.Inner.{HasNoPoints};
 use crate::command::Command;
 use crate::reporting::{report_run, report_run_with_points, write_out};
 use reg_front::{Front, FrontEnd, Linear, LocalRead, LocalWrite, RealTime};
-use reg_history::Report;
 use reg_messages::Fault;
-use reg_workload::{
+use reg_players::{
     Play, SeedWords, Workload, WorkloadFault, play_fair_in, play_seeded_in, read_table,
 };
+use reg_reports::Report;
 use reg_world::{PackedWires, WireStore};
 use std::alloc::{AllocError, Allocator, Global};
 use std::io::Write;

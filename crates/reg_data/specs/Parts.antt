@@ -5,7 +5,7 @@ use Rattle.reg_frames.specs.declared.bodies.Body.{Body}
 use Rattle.reg_frames.specs.declared.bodies.Body.TheVariants.{Cast, Ack}
 use Rattle.reg_frames.specs.declared.bodies.Frame.{Frame}
 use Rattle.reg_frames.specs.declared.bodies.Frame.TheVariants.{Numbered, Got}
-use Rattle.reg_history.specs.EntryLines.{answer_text}
+use Rattle.reg_reports.specs.EntryLines.{answer_text}
 use Rattle.reg_moments.specs.declared.figures.Bar.{Bar}
 use Rattle.reg_moments.specs.declared.figures.End.{End}
 use Rattle.reg_moments.specs.declared.moments.Sent.{Sent}

@@ -2,8 +2,8 @@
 use crate::looks::Look;
 use reg_base::{Names, OpId};
 use reg_front::Front;
+use reg_histories::Point;
 use reg_moments::{Arrow, Bar, Moment};
-use reg_orders::Point;
 use reg_world::{CopyRead, First};
 use std::alloc::{Allocator, Global};
 use std::marker::Model;

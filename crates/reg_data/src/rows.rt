@@ -4,8 +4,8 @@ ghost use Rattle.reg_data.specs.Rows.{arrow_row, cast_row, first_row, id_row, po
 
 use crate::json::{Part, put_numbers};
 use reg_base::{Names, OpId};
+use reg_histories::Point;
 use reg_moments::Arrow;
-use reg_orders::Point;
 use reg_process::Delivered;
 use reg_text::Sink;
 use reg_world::{CopyRead, First};

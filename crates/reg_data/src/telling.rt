@@ -7,8 +7,8 @@ use crate::data::Data;
 use crate::looks::look_behind_events;
 use reg_base::Names;
 use reg_front::{Front, FrontEnd};
+use reg_histories::Point;
 use reg_moments::{arrows, bars, tell_world};
-use reg_orders::Point;
 use reg_world::World;
 use std::alloc::{AllocError, Allocator};
 

@@ -5,7 +5,7 @@ use crate::legend::Legend;
 use reg_base::Names;
 use reg_frames::{Body, Frame};
 use reg_front::Front;
-use reg_moments::{Arrow, Bar, Moment, Sent, Told, arrows, bars, is_taken};
+use reg_moments::{Arrow, Bar, Moment, Sent, TracedRun, arrows, bars, is_taken};
 use std::alloc::{AllocError, Allocator};
 
 /// The place of the reply of an operation that is answered.
@@ -136,7 +136,7 @@ fn legend_of<A: Allocator + Copy>(
 /// Where memory is refused.
 pub fn draw_told<A: Allocator + Copy>(
     alloc: A,
-    told: &Told<A>,
+    told: &TracedRun<A>,
 ) -> Result<Drawing<'_, A>, AllocError> {
     let moments = told.moments.as_slice();
     let bars = bars(alloc, told.history.entries())?;

@@ -74,12 +74,12 @@ impl<F: FrontEnd, G: Gate> Shared<F, G> {
         desk: &Desk<F>,
         station: MutexGuard<'_, Station<F>>,
         process: u8,
-        front: u64,
+        floor: u64,
         step: &Step,
     ) -> Result<Section, LiveFault>
         ensures own { IfOk result (λ section. section.spot.process ≡ process) }
-        ensures front { IfOk result (λ section. front ≤ section.spot.place) }
-        ensures refusal { IfErr result (λ fault. IsRefusal self.now.shape.registers front step.now fault) }
+        ensures floor { IfOk result (λ section. floor ≤ section.spot.place) }
+        ensures refusal { IfErr result (λ fault. IsRefusal self.now.shape.registers floor step.now fault) }
     {
         let mut station = station;
         let registers = self.shape.registers();
@@ -89,7 +89,7 @@ impl<F: FrontEnd, G: Gate> Shared<F, G> {
             &self.gate,
             process,
             registers,
-            front,
+            floor,
             step,
         );
         let ends = station.ends_waiting();

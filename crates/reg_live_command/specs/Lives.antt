@@ -2,10 +2,10 @@
 use Rattle.std.specs.Prelude.{ℕ, ◌≡◌, Bool, List, map, Option}
 use Rattle.reg_base.specs.declared.memory.Op.{Op}
 use Rattle.reg_front.specs.declared.starts.Start.{Start}
-use Rattle.reg_orders.specs.declared.entries.Point.{Point}
-use Rattle.reg_history.specs.Reports.{Contents, report_text}
+use Rattle.reg_histories.specs.declared.entries.Point.{Point}
+use Rattle.reg_reports.specs.Reports.{Contents, report_text}
 use Rattle.reg_world.specs.Worlds.{Made}
-use Rattle.reg_toml.specs.Loads.{Load}
+use Rattle.reg_workloads.specs.Loads.{Load}
 use Rattle.reg_schedules.specs.Schedules.{Plan}
 use Rattle.reg_records.specs.declared.entries.Receipt.{Receipt}
 use Rattle.reg_live.specs.Passes.{IsLived}

@@ -2,7 +2,7 @@
 ghost use Rattle.std.specs.Prelude.{◌≡◌, ◌≢◌, ◌≤◌, IfOk, IfErr, IsErrOf, IfSome};
 ghost use Rattle.std.specs.Io.KnownBytes.{Appends};
 ghost use Rattle.reg_text.specs.Writing.{AppendsPart};
-ghost use Rattle.reg_toml.specs.Loads.{Load};
+ghost use Rattle.reg_workloads.specs.Loads.{Load};
 ghost use Rattle.reg_commands.specs.Plays.{Holds};
 ghost use Rattle.reg_commands.specs.Inner.{HasNoPoints};
 ghost use Rattle.reg_commands.specs.Replays.{ShowsPoints};
@@ -19,9 +19,9 @@ use reg_commands::{
     Fault, read_input, read_workload, report_run, report_run_with_points, write_out,
 };
 use reg_front::{Front, FrontEnd, Linear, LocalRead, LocalWrite, RealTime};
-use reg_history::Report;
+use reg_players::Workload;
+use reg_reports::Report;
 use reg_scripts::run_scripts;
-use reg_workload::Workload;
 use std::alloc::Global;
 use std::io::{Read, Write};
 use std::sync::Wait;

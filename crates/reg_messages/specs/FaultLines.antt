@@ -1,13 +1,13 @@
 -- The line of each fault on the error stream.
 use Rattle.std.specs.Prelude.{ℕ, List, [], ◌∷◌, ◌++◌, codes}
 use Rattle.std.specs.Fmt.{decimal}
-use Rattle.reg_history.specs.declared.report_faults.ReadWhy.{ReadWhy}
-use Rattle.reg_history.specs.declared.report_faults.ReadWhy.TheVariants.{Form, Range, Name, Place, End}
+use Rattle.reg_reports.specs.declared.report_faults.ReadWhy.{ReadWhy}
+use Rattle.reg_reports.specs.declared.report_faults.ReadWhy.TheVariants.{Form, Range, Name, Place, End}
 use Rattle.reg_world.specs.declared.faults.WorldFault.{WorldFault}
 use Rattle.reg_world.specs.declared.faults.WorldFault.TheVariants.{Failed, TooManyEvents, NoProcess, Busy, NoRegister, TooManyOperations, NoFrame, OutOfMemory as WorldOutOfMemory}
-use Rattle.reg_toml.specs.declared.faults.WorkloadFault.{WorkloadFault}
-use Rattle.reg_toml.specs.declared.faults.WorkloadFault.TheVariants.{Toml, UnknownKey, Missing, Kind, Range as RangeOfKey, Script, OutOfMemory as WorkloadOutOfMemory}
-use Rattle.reg_toml.specs.Keys.{key_name}
+use Rattle.reg_workloads.specs.declared.faults.WorkloadFault.{WorkloadFault}
+use Rattle.reg_workloads.specs.declared.faults.WorkloadFault.TheVariants.{Toml, UnknownKey, Missing, Kind, Range as RangeOfKey, Script, OutOfMemory as WorkloadOutOfMemory}
+use Rattle.reg_workloads.specs.Keys.{key_name}
 use Rattle.reg_messages.specs.declared.faults.Fault.{Fault}
 use Rattle.reg_messages.specs.declared.faults.Fault.TheVariants.{Unread, TooLong, NotText, Output, Line, Event, Workload, OutOfMemory}
 

@@ -1,6 +1,6 @@
 -- What the answers of a checker tell. It carries a proof: no promise speaks of it.
 use Rattle.std.specs.Prelude.{◌≡◌, Result, Ok, Err}
-use Rattle.reg_orders.specs.declared.faults.CheckFault.{CheckFault}
+use Rattle.reg_histories.specs.declared.faults.CheckFault.{CheckFault}
 use Rattle.reg_messages.specs.declared.verdicts.Verdict.{Verdict}
 use Rattle.reg_messages.specs.declared.verdicts.Verdict.TheVariants.{Yes, No}
 use Rattle.reg_messages.specs.Verdicts.{fault_of}

@@ -1,12 +1,12 @@
 -- What a report read is told.
 use Rattle.std.specs.Prelude.{ℕ, Bool, true, false, ◌&&◌, List, [], ◌∷◌, ◌++◌, codes, Option, None, Some}
 use Rattle.std.specs.Fmt.{decimal}
-use Rattle.reg_orders.specs.declared.entries.Point.{Point}
-use Rattle.reg_orders.specs.declared.faults.CheckFault.{CheckFault}
-use Rattle.reg_orders.specs.declared.faults.CheckFault.TheVariants.{Unknown as UnknownFault, Twice as TwiceFault, Missing as MissingFault, OwnOrder as OwnOrderFault, Answer as AnswerFault, Outside as OutsideFault, Falling as FallingFault}
-use Rattle.reg_orders.specs.Orders.{IsSerial, IsPointOrder}
-use Rattle.reg_orders.specs.Checks.{IsSerialFault, IsPointFault}
-use Rattle.reg_history.specs.Reports.{Contents}
+use Rattle.reg_histories.specs.declared.entries.Point.{Point}
+use Rattle.reg_histories.specs.declared.faults.CheckFault.{CheckFault}
+use Rattle.reg_histories.specs.declared.faults.CheckFault.TheVariants.{Unknown as UnknownFault, Twice as TwiceFault, Missing as MissingFault, OwnOrder as OwnOrderFault, Answer as AnswerFault, Outside as OutsideFault, Falling as FallingFault}
+use Rattle.reg_histories.specs.Orders.{IsSerial, IsPointOrder}
+use Rattle.reg_histories.specs.Checks.{IsSerialFault, IsPointFault}
+use Rattle.reg_reports.specs.Reports.{Contents}
 use Rattle.reg_messages.specs.declared.verdicts.Reason.{Reason}
 use Rattle.reg_messages.specs.declared.verdicts.Reason.TheVariants.{Unknown, Twice, Missing, OwnOrder, Answer, Outside, Falling}
 use Rattle.reg_messages.specs.declared.verdicts.Verdict.{Verdict}

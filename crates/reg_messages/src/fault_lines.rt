@@ -3,14 +3,14 @@ ghost use Rattle.std.specs.Prelude.{◌≡◌, ◌++◌, codes, MatchResult};
 ghost use Rattle.std.specs.Fmt.{decimal};
 ghost use Rattle.std.specs.Io.KnownBytes.{Appends};
 ghost use Rattle.reg_text.specs.Writing.{AppendsPart, Puts};
-ghost use Rattle.reg_toml.specs.Keys.{key_name};
+ghost use Rattle.reg_workloads.specs.Keys.{key_name};
 ghost use Rattle.reg_messages.specs.FaultLines.{why_text, refusal_text, workload_text, fault_text, fault_line};
 
 use crate::faults::Fault;
 use itoa::Buffer;
-use reg_history::ReadWhy;
+use reg_reports::ReadWhy;
 use reg_text::{Sink, Unwritten};
-use reg_toml::{Key, WorkloadFault};
+use reg_workloads::{Key, WorkloadFault};
 use reg_world::WorldFault;
 use std::io::Write;
 

@@ -1,6 +1,6 @@
 //! Why a command gives no answer.
-use reg_history::ReadWhy;
-use reg_toml::WorkloadFault;
+use reg_reports::ReadWhy;
+use reg_workloads::WorkloadFault;
 use reg_world::WorldFault;
 use thiserror::Error;
 

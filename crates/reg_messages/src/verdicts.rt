@@ -8,7 +8,7 @@ ghost use Rattle.reg_messages.specs.Inner.{Tells};
 
 use crate::faults::Fault;
 use itoa::Buffer;
-use reg_history::{CheckFault, Point, Report, check_points, check_serial};
+use reg_reports::{CheckFault, Point, Report, check_points, check_serial};
 use reg_text::Sink;
 use std::alloc::{AllocError, Allocator};
 use std::io::Write;

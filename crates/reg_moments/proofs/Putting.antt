@@ -10,7 +10,7 @@ use Rattle.reg_text.specs.declared.writing.Sink.{Sink}
 use Rattle.reg_text.specs.Words.{names_text}
 use Rattle.reg_text.specs.Writing.{AppendsPart, Puts, Sends}
 use Rattle.reg_text.proofs.Sent.{puts_two, puts_as}
-use Rattle.reg_history.specs.Written.{lines_by}
+use Rattle.reg_reports.specs.Written.{lines_by}
 use Rattle.reg_schedules.specs.Schedules.{Plan, event_text}
 use Rattle.reg_moments.specs.ScheduleText.{schedule_text}
 

@@ -8,7 +8,7 @@ use Rattle.reg_text.specs.declared.writing.Sink.{Sink}
 use Rattle.reg_text.specs.Lines.{text_of}
 use Rattle.reg_text.specs.Writing.{Puts}
 use Rattle.reg_text.proofs.Sent.{puts_two, puts_as}
-use Rattle.reg_history.specs.Written.{lines_by}
+use Rattle.reg_reports.specs.Written.{lines_by}
 use Rattle.reg_schedules.specs.Schedules.{event_text}
 use Rattle.reg_moments.specs.Moments.{Fact}
 use Rattle.reg_moments.specs.Traces.{answers_lines, delivers_lines, drops_lines, holds_line, moment_lines, puts_line, takes_lines, trace_lines, trace_text}

@@ -8,7 +8,7 @@ ghost use Rattle.reg_moments.specs.Moments.{Fact};
 
 use crate::moments::{Moment, Sent};
 use reg_base::{Answer, Op, OpId};
-use reg_orders::Entry;
+use reg_histories::Entry;
 use reg_world::Event;
 use std::alloc::{AllocError, Allocator};
 

@@ -5,7 +5,7 @@ ghost use Rattle.std.specs.Io.KnownBytes.{Appends};
 ghost use Rattle.reg_front.specs.Table.{front_name};
 ghost use Rattle.reg_text.specs.Words.{names_text};
 ghost use Rattle.reg_text.specs.Writing.{AppendsPart, Puts};
-ghost use Rattle.reg_history.specs.Written.{lines_by};
+ghost use Rattle.reg_reports.specs.Written.{lines_by};
 ghost use Rattle.reg_schedules.specs.Schedules.{Plan, event_text};
 ghost use Rattle.reg_moments.specs.ScheduleText.{schedule_text};
 

@@ -2,12 +2,12 @@
 use crate::moments::Moment;
 use reg_base::Names;
 use reg_front::Front;
-use reg_orders::{History, Point};
+use reg_histories::{History, Point};
 use std::alloc::Allocator;
 
 /// What is told of a schedule's run: its front end and names, what each event did, the history, and the points where there are any.
 #[derive(Drop)]
-pub struct Told<A: Allocator + Copy> {
+pub struct TracedRun<A: Allocator + Copy> {
     pub front: Front,
     pub names: Names<A>,
     pub moments: Vec<Moment<A>, A>,

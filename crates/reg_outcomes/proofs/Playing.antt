@@ -10,18 +10,18 @@ use Rattle.reg_base.specs.Shape.{Extent}
 use Rattle.reg_base.specs.declared.memory.Op.{Op}
 use Rattle.reg_base.specs.declared.memory.OpId.{OpId}
 use Rattle.reg_front.specs.declared.starts.Start.{Start}
-use Rattle.reg_orders.specs.declared.entries.Entry.{Entry}
-use Rattle.reg_orders.specs.History.{IsAt}
-use Rattle.reg_orders.proofs.Places.{get_push_other, same_at}
-use Rattle.reg_tables.specs.declared.outcomes.Told.{Told}
+use Rattle.reg_histories.specs.declared.entries.Entry.{Entry}
+use Rattle.reg_histories.specs.History.{IsAt}
+use Rattle.reg_histories.proofs.Places.{get_push_other, same_at}
+use Rattle.reg_tables.specs.declared.outcomes.ToldValue.{ToldValue}
 use Rattle.reg_tables.specs.declared.tallies.Tally.{Tally}
 use Rattle.reg_tables.specs.Outcomes.{outcome_of}
 use Rattle.reg_tables.specs.Tables.{Seen}
 use Rattle.reg_tables.specs.Inner.{IsCounted}
 use Rattle.reg_tables.proofs.Those.{at_new, those_few}
-use Rattle.reg_toml.specs.Loads.{Load}
-use Rattle.reg_workload.specs.Plays.{IsPlay}
-use Rattle.reg_workload.specs.Seeded.{seeded_play}
+use Rattle.reg_workloads.specs.Loads.{Load}
+use Rattle.reg_players.specs.Plays.{IsPlay}
+use Rattle.reg_players.specs.Seeded.{seeded_play}
 use Rattle.reg_world.specs.Keys.{IsWitness}
 use Rattle.reg_world.specs.RealTime.{KeepsRealTime}
 use Rattle.reg_world.specs.World.{run_of}
@@ -43,14 +43,14 @@ pub tells_time : (start : Op → ℕ → Start) (made : Made) (b : Bool) (entrie
 tells_time start made b entries order ids e f witness keeps =
     (ids, witness, subst (λ (h : List Entry). (b ≡ true) ↔ KeepsRealTime h ids) e (subst (λ (o : List OpId). (b ≡ true) ↔ KeepsRealTime entries o) f keeps))
 
-pub told_by : (shape : Extent) (made : Made) (entries : List Entry) (outcome : List Told) → outcome ≡ outcome_of shape.processes entries → shape.processes ≡ made.processes → entries ≡ made.history → outcome ≡ outcome_of made.processes made.history
+pub told_by : (shape : Extent) (made : Made) (entries : List Entry) (outcome : List ToldValue) → outcome ≡ outcome_of shape.processes entries → shape.processes ≡ made.processes → entries ≡ made.history → outcome ≡ outcome_of made.processes made.history
 told_by shape made entries outcome is p h = is ∙ ap₂ outcome_of p h
 
 module _ (start : Op → ℕ → Start) (work : Load) (seed : ℕ) (made : Made) (is : made ≡ play_from start work seed) where
   moved : (P : Made → Type 0) → P made → P (play_from start work seed)
   moved P h = subst P is h
 
-  outcome_here : (outcome : List Told) (done : Bool) → IsPlay start work.shape work.scripts work.budget made done → outcome ≡ outcome_of made.processes made.history → outcome ≡ outcome_of work.shape.processes (play_from start work seed).history
+  outcome_here : (outcome : List ToldValue) (done : Bool) → IsPlay start work.shape work.scripts work.budget made done → outcome ≡ outcome_of made.processes made.history → outcome ≡ outcome_of work.shape.processes (play_from start work seed).history
   outcome_here outcome done play told = moved (λ m. outcome ≡ outcome_of work.shape.processes m.history) (told ∙ ap (λ n. outcome_of n made.history) play.processes)
 
   -- a finished play
@@ -96,7 +96,7 @@ seen_next start work n seen s known here = record {
   ];
 }
 
-pub unfinished_few : {K : Type 0} (items : K → List Told) (seen : List Seen) (told : BTreeMap K Tally) (unfinished n : ℕ) → IsCounted items seen told unfinished → length seen ≡ n → n < 1000000 → unfinished < 2 ^ 32 - 1
+pub unfinished_few : {K : Type 0} (items : K → List ToldValue) (seen : List Seen) (told : BTreeMap K Tally) (unfinished n : ℕ) → IsCounted items seen told unfinished → length seen ≡ n → n < 1000000 → unfinished < 2 ^ 32 - 1
 unfinished_few items seen told unfinished n counted many few =
     let others = counted.others in
     let l = those_few others.1 in

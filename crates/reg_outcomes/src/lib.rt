@@ -5,5 +5,5 @@ mod plays;
 mod timing;
 
 pub use plays::{MOST_PLAYS, Outcomes, play_many};
-pub use reg_tables::{Row, Tally, Told, write_table};
+pub use reg_tables::{Row, Tally, ToldValue, write_table};
 pub use timing::keeps_real_time;

@@ -7,8 +7,8 @@ ghost use Rattle.reg_outcomes.specs.Inner.{IsSeenIn};
 
 use crate::timing::keeps_real_time;
 use reg_front::FrontEnd;
+use reg_players::{Play, SeedWords, Workload, play_seeded_in};
 use reg_tables::{Glance, Row, Tallies, table_of, tell};
-use reg_workload::{Play, SeedWords, Workload, play_seeded_in};
 use reg_world::{PackedWires, World};
 use std::alloc::{AllocError, Allocator, Global};
 

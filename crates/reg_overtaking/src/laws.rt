@@ -3,10 +3,10 @@
 ghost use Rattle.std.specs.Prelude.{ℕ, List};
 ghost use Rattle.reg_base.specs.declared.memory.OpId.{OpId};
 ghost use Rattle.reg_front.specs.Table.{local_read, local_write};
-ghost use Rattle.reg_orders.specs.declared.entries.Entry.{Entry};
-ghost use Rattle.reg_orders.specs.declared.entries.Point.{Point};
-ghost use Rattle.reg_orders.specs.History.{IsHistory};
-ghost use Rattle.reg_orders.specs.Orders.{IsPointOrder};
+ghost use Rattle.reg_histories.specs.declared.entries.Entry.{Entry};
+ghost use Rattle.reg_histories.specs.declared.entries.Point.{Point};
+ghost use Rattle.reg_histories.specs.History.{IsHistory};
+ghost use Rattle.reg_histories.specs.Orders.{IsPointOrder};
 ghost use Rattle.reg_world.specs.World.{op_id};
 ghost use Rattle.reg_overtaking.specs.Overtaking.{Gives, Overtakes};
 ghost use Rattle.reg_overtaking.specs.Runs.{stale_read, stale_read_history, stale_after_swap, stale_after_swap_history, new_then_old, new_then_old_history, new_then_old_at_once_history, unseen_write, unseen_write_history, overtaking_swap, overtaking_swap_history, overtaking_write, overtaking_write_history};

@@ -4,20 +4,20 @@ use Rattle.std.proofs.lemmas.Bool.{cases_order, cases_eq}
 use Rattle.reg_base.specs.declared.memory.Op.{Op}
 use Rattle.reg_base.specs.declared.memory.OpId.{OpId}
 use Rattle.reg_base.specs.declared.memory.Answer.{Answer}
-use Rattle.reg_orders.specs.declared.entries.Entry.{Entry}
-use Rattle.reg_orders.specs.declared.entries.Entry.TheVariants.{Called, Answered}
-use Rattle.reg_orders.specs.History.{IsAt, IsCalled, IsAnswered, IsFinished, WasCalled, IsHistory, MayCall, MayAnswer}
-use Rattle.reg_orders.specs.Progress.{op_of, IsState, IsProgressOf}
-use Rattle.reg_orders.proofs.Histories.{answered_was_called, call_is, answer_is}
-use Rattle.reg_orders.proofs.Adding.{after_call, after_answer, call_elsewhere, answer_elsewhere}
-use Rattle.reg_orders.proofs.OneMore.{IsOneMore, one_more}
-use Rattle.reg_orders.proofs.Noting.{history_front}
-use Rattle.reg_orders.proofs.Places.{element_at, within, same_at, in_take, at_map}
-use Rattle.reg_orders.proofs.Placing.{runs_last}
+use Rattle.reg_histories.specs.declared.entries.Entry.{Entry}
+use Rattle.reg_histories.specs.declared.entries.Entry.TheVariants.{Called, Answered}
+use Rattle.reg_histories.specs.History.{IsAt, IsCalled, IsAnswered, IsFinished, WasCalled, IsHistory, MayCall, MayAnswer}
+use Rattle.reg_histories.specs.Progress.{op_of, IsState, IsProgressOf}
+use Rattle.reg_histories.proofs.Histories.{answered_was_called, call_is, answer_is}
+use Rattle.reg_histories.proofs.Adding.{after_call, after_answer, call_elsewhere, answer_elsewhere}
+use Rattle.reg_histories.proofs.OneMore.{IsOneMore, one_more}
+use Rattle.reg_histories.proofs.Noting.{history_front}
+use Rattle.reg_histories.proofs.Places.{element_at, within, same_at, in_take, at_map}
+use Rattle.reg_histories.proofs.Placing.{runs_last}
 use Rattle.reg_world.specs.World.{op_id}
 use Rattle.reg_records.specs.declared.entries.Receipt.{Receipt}
 use Rattle.reg_records.specs.declared.telling.Pending.{Pending}
-use Rattle.reg_records.specs.declared.telling.Told.{Told}
+use Rattle.reg_records.specs.declared.telling.Matched.{Matched}
 use Rattle.reg_records.specs.Receipts.{IsReceipt, AreFinished}
 use Rattle.reg_records.specs.Telling.{receipt_by, IsNextReceipt, IsAfter, IsOther, progress_of, IsToldIn}
 
@@ -56,11 +56,11 @@ finished_below count registers es good p done (Some call) kept k fin = by (cases
 
 module _ (count registers : ℕ) (h : List Entry) (good : IsHistory count registers h) (p : ℕ) (receipts : List Receipt) where
   -- the same where another process went on
-  other_goes : (es ys : List Entry) (e : Entry) (told : Told) → IsOneMore es e ys → IsToldIn es p receipts told → IsProgressOf ys p (progress_of told.done told.running) → IsToldIn ys p receipts told
+  other_goes : (es ys : List Entry) (e : Entry) (told : Matched) → IsOneMore es e ys → IsToldIn es p receipts told → IsProgressOf ys p (progress_of told.done told.running) → IsToldIn ys p receipts told
   other_goes es ys e told more t kept = record { progress = kept; within = t.within; each = λ k r lt at. receipt_more es ys e (op_id p k) r more (t.each k r lt at) }
 
   -- one call more
-  told_call : (i at : ℕ) (id : OpId) (op : Op) (told next : Told) → IsAt h i (Called at id op) → IsToldIn (take i h) p receipts told → IsAfter told p receipts (Called at id op) next → IsToldIn (take (suc i) h) p receipts next
+  told_call : (i at : ℕ) (id : OpId) (op : Op) (told next : Matched) → IsAt h i (Called at id op) → IsToldIn (take i h) p receipts told → IsAfter told p receipts (Called at id op) next → IsToldIn (take (suc i) h) p receipts next
   told_call i at id op told next here t is = by (cases_eq id.process p)
     where
       more : IsOneMore (take i h) (Called at id op) (take (suc i) h)
@@ -89,12 +89,12 @@ module _ (count registers : ℕ) (h : List Entry) (good : IsHistory count regist
           absurd (r.1 (may.idle (op_of p done) same (call.at, call.op, r.0)))
 
       by : (id.process ≡ p) ⊎ (id.process ≡ p → ⊥) → IsToldIn (take (suc i) h) p receipts next
-      by (inl same) = subst (λ (x : Told). IsToldIn (take (suc i) h) p receipts x) (sym (is.0 same)) (record {
+      by (inl same) = subst (λ (x : Matched). IsToldIn (take (suc i) h) p receipts x) (sym (is.0 same)) (record {
         progress = runs told.done told.running t.progress (sym same);
         within = t.within;
         each = λ k r lt stands. receipt_more (take i h) (take (suc i) h) (Called at id op) (op_id p k) r more (t.each k r lt stands);
       })
-      by (inr other) = subst (λ (x : Told). IsToldIn (take (suc i) h) p receipts x) (sym (is.1 other))
+      by (inr other) = subst (λ (x : Matched). IsToldIn (take (suc i) h) p receipts x) (sym (is.1 other))
           (other_goes (take i h) (take (suc i) h) (Called at id op) told more t (call_elsewhere (take i h) (take (suc i) h) p (progress_of told.done told.running) at id op (λ e. other (sym e)) t.progress more))
 
   -- the answer is that of the call that runs
@@ -107,7 +107,7 @@ module _ (count registers : ℕ) (h : List Entry) (good : IsHistory count regist
       (λ k. record { process = same k; number = number k })
 
   -- one answer more
-  told_answer : (i at : ℕ) (id : OpId) (a : Answer) (told next : Told) → IsAt h i (Answered at id a) → IsToldIn (take i h) p receipts told → IsAfter told p receipts (Answered at id a) next → IsToldIn (take (suc i) h) p receipts next
+  told_answer : (i at : ℕ) (id : OpId) (a : Answer) (told next : Matched) → IsAt h i (Answered at id a) → IsToldIn (take i h) p receipts told → IsAfter told p receipts (Answered at id a) next → IsToldIn (take (suc i) h) p receipts next
   told_answer i at id a told next here t is = by (cases_eq id.process p)
     where
       more : IsOneMore (take i h) (Answered at id a) (take (suc i) h)
@@ -150,17 +150,17 @@ module _ (count registers : ℕ) (h : List Entry) (good : IsHistory count regist
               go (inr (inr gt)) = absurd (omega arith)
 
       by : (id.process ≡ p) ⊎ (id.process ≡ p → ⊥) → IsToldIn (take (suc i) h) p receipts next
-      by (inl same) = let r = is.0 same in subst (λ (x : Told). IsToldIn (take (suc i) h) p receipts x) (sym r.1) (ends r.0.0 r.0.1 r.0.2 same)
-      by (inr other) = subst (λ (x : Told). IsToldIn (take (suc i) h) p receipts x) (sym (is.1 other))
+      by (inl same) = let r = is.0 same in subst (λ (x : Matched). IsToldIn (take (suc i) h) p receipts x) (sym r.1) (ends r.0.0 r.0.1 r.0.2 same)
+      by (inr other) = subst (λ (x : Matched). IsToldIn (take (suc i) h) p receipts x) (sym (is.1 other))
           (other_goes (take i h) (take (suc i) h) (Answered at id a) told more t (answer_elsewhere (take i h) (take (suc i) h) p (progress_of told.done told.running) at id a (λ e. other (sym e)) t.progress more))
 
   -- one entry more
-  pub told_more : (i : ℕ) (e : Entry) (told next : Told) → IsAt h i e → IsToldIn (take i h) p receipts told → IsAfter told p receipts e next → IsToldIn (take (suc i) h) p receipts next
+  pub told_more : (i : ℕ) (e : Entry) (told next : Matched) → IsAt h i e → IsToldIn (take i h) p receipts told → IsAfter told p receipts e next → IsToldIn (take (suc i) h) p receipts next
   told_more i (Called at id op) told next here t is = told_call i at id op told next here t is
   told_more i (Answered at id a) told next here t is = told_answer i at id a told next here t is
 
   -- another receipt is none of the finished operations
-  pub told_other : (i : ℕ) (e : Entry) (told : Told) → IsAt h i e → IsToldIn (take i h) p receipts told → IsOther told p receipts e → AreFinished h p receipts → ⊥
+  pub told_other : (i : ℕ) (e : Entry) (told : Matched) → IsAt h i e → IsToldIn (take i h) p receipts told → IsOther told p receipts e → AreFinished h p receipts → ⊥
   told_other i (Called at id op) told here t is all = is
   told_other i (Answered at id a) told here t is all = is.1 (go told.running refl)
     where
@@ -201,7 +201,7 @@ module _ (count registers : ℕ) (h : List Entry) (good : IsHistory count regist
           same k = record { id = (is_r.id_is ∙ sym name) k; op = call_same.1 k; answer = answer_same.1 k; called = call_same.0 k; answered = answer_same.0 k }
 
   -- at the end the receipts are just those of the finished operations, or there are more of them
-  pub told_all : (told : Told) → IsToldIn h p receipts told → told.done ≡ length receipts ↔ AreFinished h p receipts
+  pub told_all : (told : Matched) → IsToldIn h p receipts told → told.done ≡ length receipts ↔ AreFinished h p receipts
   told_all told t = (there, back)
     where
       there : told.done ≡ length receipts → AreFinished h p receipts

@@ -2,15 +2,15 @@
 use Rattle.std.specs.Prelude.{ℕ, ◌≡◌, ◌≢◌, ◌<◌, ◌≤◌, ◌+◌, List, length, Option, Some, None}
 use Rattle.reg_base.specs.declared.memory.OpId.{OpId}
 use Rattle.reg_base.specs.declared.memory.Answer.{Answer}
-use Rattle.reg_orders.specs.declared.entries.Entry.{Entry}
-use Rattle.reg_orders.specs.declared.entries.Entry.TheVariants.{Called, Answered}
-use Rattle.reg_orders.specs.declared.place.Progress.{Progress}
-use Rattle.reg_orders.specs.Progress.{IsProgressOf}
-use Rattle.reg_orders.specs.History.{IsAt}
+use Rattle.reg_histories.specs.declared.entries.Entry.{Entry}
+use Rattle.reg_histories.specs.declared.entries.Entry.TheVariants.{Called, Answered}
+use Rattle.reg_histories.specs.declared.place.Progress.{Progress}
+use Rattle.reg_histories.specs.Progress.{IsProgressOf}
+use Rattle.reg_histories.specs.History.{IsAt}
 use Rattle.reg_world.specs.World.{op_id}
 use Rattle.reg_records.specs.declared.entries.Receipt.{Receipt}
 use Rattle.reg_records.specs.declared.telling.Pending.{Pending}
-use Rattle.reg_records.specs.declared.telling.Told.{Told}
+use Rattle.reg_records.specs.declared.telling.Matched.{Matched}
 use Rattle.reg_records.specs.Receipts.{IsReceipt}
 
 -- the receipt of an answer to this call
@@ -18,18 +18,18 @@ abbrev pub receipt_by : OpId → Pending → ℕ → Answer → Receipt
 receipt_by id call at answer = record { id = id; op = call.op; answer = answer; called = call.at; answered = at }
 
 -- the next receipt is that of this answer
-abbrev pub IsNextReceipt : Told → List Receipt → ℕ → OpId → Answer → Type 0
+abbrev pub IsNextReceipt : Matched → List Receipt → ℕ → OpId → Answer → Type 0
 IsNextReceipt told receipts at id answer = (call : Pending) × (told.running ≡ Some call) × IsAt receipts told.done (receipt_by id call at answer)
 
 -- after one more entry
-abbrev pub IsAfter : Told → ℕ → List Receipt → Entry → Told → Type 0
+abbrev pub IsAfter : Matched → ℕ → List Receipt → Entry → Matched → Type 0
 IsAfter told p receipts (Called at id op) next =
     (id.process ≡ p → next ≡ record { done = told.done; running = Some (record { at = at; op = op }) }) × (id.process ≢ p → next ≡ told)
 IsAfter told p receipts (Answered at id answer) next =
     (id.process ≡ p → IsNextReceipt told receipts at id answer × (next ≡ record { done = told.done + 1; running = None })) × (id.process ≢ p → next ≡ told)
 
 -- the entry is an answer of the process, and the next receipt isn't its
-abbrev pub IsOther : Told → ℕ → List Receipt → Entry → Type 0
+abbrev pub IsOther : Matched → ℕ → List Receipt → Entry → Type 0
 IsOther told p receipts (Called at id op) = ⊥
 IsOther told p receipts (Answered at id answer) = (id.process ≡ p) × (IsNextReceipt told receipts at id answer → ⊥)
 
@@ -39,7 +39,7 @@ progress_of done None = record { next = done; running = None }
 progress_of done (Some call) = record { next = done + 1; running = Some (record { at = call.at; op = call.op }) }
 
 -- so many operations of the process are finished in these entries, each as its receipt says
-pub record IsToldIn (es : List Entry) (p : ℕ) (receipts : List Receipt) (told : Told) : Type 0 where
+pub record IsToldIn (es : List Entry) (p : ℕ) (receipts : List Receipt) (told : Matched) : Type 0 where
   pub progress : IsProgressOf es p (progress_of told.done told.running)
   pub within : told.done ≤ length receipts
   pub each : (k : ℕ) (r : Receipt) → k < told.done → IsAt receipts k r → IsReceipt es (op_id p k) r

@@ -1,13 +1,13 @@
 //! Receipts against a history.
 ghost use Rattle.std.specs.Prelude.{◌≡◌, ◌≤◌, ◌+◌, ℕ, length, map, IsTrue, ◌↔◌, MatchOption, slice_get};
 ghost use Rattle.reg_base.specs.declared.limits.TheConstants.{MOST_PROCESSES};
-ghost use Rattle.reg_orders.specs.History.{IsAt, IsHistory};
+ghost use Rattle.reg_histories.specs.History.{IsAt, IsHistory};
 ghost use Rattle.reg_records.specs.Receipts.{AreFinished, AreTold, IsFirstUntold};
 ghost use Rattle.reg_records.specs.Telling.{IsAfter, IsOther};
 
 use crate::entries::Receipt;
 use reg_base::{Op, Shape};
-use reg_orders::Entry;
+use reg_histories::Entry;
 use std::alloc::Allocator;
 
 /// A call that is not yet answered.
@@ -20,7 +20,7 @@ pub(crate) struct Pending {
 /// How far one process is, over the first entries of a history: how many of its operations are finished, each of them as its
 /// receipt says, and the call that runs.
 #[derive(Clone, Copy)]
-pub(crate) struct Told {
+pub(crate) struct Matched {
     done: usize,
     running: Option<Pending>,
 }
@@ -50,7 +50,7 @@ fn stands_at(receipts: &[Receipt], place: usize, receipt: Receipt) -> bool
 }
 
 /// How far the process is after one more entry. None where that is an answer, and the next receipt isn't its.
-fn after(told: Told, entry: &Entry, process: u8, receipts: &[Receipt]) -> Option<Told>
+fn after(told: Matched, entry: &Entry, process: u8, receipts: &[Receipt]) -> Option<Matched>
     ensures { MatchOption result (IsOther told process receipts.now entry.now) (λ next. IsAfter told process receipts.now entry.now next) }
 {
     match *entry {
@@ -58,7 +58,7 @@ fn after(told: Told, entry: &Entry, process: u8, receipts: &[Receipt]) -> Option
             if id.process != process {
                 return Some(told);
             }
-            Some(Told {
+            Some(Matched {
                 done: told.done,
                 running: Some(Pending { at, op }),
             })
@@ -80,7 +80,7 @@ fn after(told: Told, entry: &Entry, process: u8, receipts: &[Receipt]) -> Option
             if !stands_at(receipts, told.done, receipt) {
                 return None;
             }
-            Some(Told {
+            Some(Matched {
                 done: told.done + 1,
                 running: None,
             })
@@ -93,7 +93,7 @@ fn is_told(shape: Shape, entries: &[Entry], process: u8, receipts: &[Receipt]) -
     requires { IsHistory shape.processes shape.registers entries.now }
     ensures { IsTrue result ↔ AreFinished entries.now process receipts.now }
 {
-    let mut told = Told {
+    let mut told = Matched {
         done: 0,
         running: None,
     };

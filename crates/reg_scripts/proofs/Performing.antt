@@ -2,9 +2,9 @@
 use Rattle.std.proofs.Common.{◌≡◌, ℕ, zero, suc, ◌+◌, ◌⊎◌, inl, inr, List, [], ◌∷◌, ◌++◌, length, map, drop, refl, ap, sym, subst, ◌∙◌, arith, Some, Result, Ok, Err, OnOk}
 use Rattle.std.proofs.lemmas.Option.{same_Some}
 use Rattle.reg_base.specs.declared.memory.Op.{Op}
-use Rattle.reg_orders.specs.History.{IsAt}
-use Rattle.reg_orders.proofs.Places.{at_map}
-use Rattle.reg_orders.proofs.Pushing.{at_push}
+use Rattle.reg_histories.specs.History.{IsAt}
+use Rattle.reg_histories.proofs.Places.{at_map}
+use Rattle.reg_histories.proofs.Pushing.{at_push}
 use Rattle.reg_records.specs.declared.entries.Receipt.{Receipt}
 use Rattle.reg_live.specs.Passes.{Held, AreOwn, IsListOf}
 use Rattle.reg_scripts.specs.Scripts.{ops_of, IsBack, AreStarted, ArePerformed}

@@ -14,7 +14,7 @@ use Rattle.reg_front.specs.declared.starts.Start.{Start}
 use Rattle.reg_process.specs.declared.steps.Step.{Step}
 use Rattle.reg_text.specs.Ops.{OpFits}
 use Rattle.reg_text.specs.Inner.{HasValue}
-use Rattle.reg_toml.specs.Loads.{Load, IsLoad}
+use Rattle.reg_workloads.specs.Loads.{Load, IsLoad}
 use Rattle.reg_world.specs.declared.events.Event.{Event}
 use Rattle.reg_world.specs.declared.events.Event.TheVariants.{Call, Take, Tick}
 use Rattle.reg_world.specs.World.{World, empty_world, move_of, happens, run}

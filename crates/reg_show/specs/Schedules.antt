@@ -2,7 +2,7 @@
 use Rattle.std.specs.Prelude.{ℕ, Bool, List}
 use Rattle.reg_base.specs.declared.memory.Op.{Op}
 use Rattle.reg_front.specs.declared.starts.Start.{Start}
-use Rattle.reg_toml.specs.Loads.{Load}
+use Rattle.reg_workloads.specs.Loads.{Load}
 use Rattle.reg_world.specs.Worlds.{Made}
 use Rattle.reg_moments.specs.ScheduleText.{IsScheduleText, schedule_text}
 use Rattle.reg_commands.specs.Replays.{start_of}

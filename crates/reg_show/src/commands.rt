@@ -15,7 +15,7 @@ use crate::telling::tell_schedule;
 use reg_base::Names;
 use reg_commands::{Fault, read_schedule};
 use reg_drawing::{Drawing, draw_told, write_drawing};
-use reg_moments::{Moment, Told, write_trace};
+use reg_moments::{Moment, TracedRun, write_trace};
 use std::alloc::Allocator;
 use std::io::Write;
 
@@ -23,7 +23,7 @@ use std::io::Write;
 pub const MOST_DRAWN: usize = 400;
 
 /// What is told of the schedule that a text spells.
-fn told<A: Allocator + Copy>(alloc: A, text: &str) -> Result<Told<A>, Fault>
+fn told<A: Allocator + Copy>(alloc: A, text: &str) -> Result<TracedRun<A>, Fault>
     ensures ok { IfOk result (λ t. (p : Plan) × IsPlan p × Spells text.now p × IsTold (start_of p.front) p t.names t.moments.items t.history.entries) }
     ensures why { IfErr result (λ f. Blames Replay f text.now) }
     ensures kind { IfErr result (λ f. f ≢ Fault.Output) }
@@ -63,7 +63,7 @@ pub(crate) fn trace<A: Allocator + Copy, W: Write>(
 }
 
 /// What is told of the schedule that a text spells, where it is drawn.
-fn told_to_draw<A: Allocator + Copy>(alloc: A, text: &str) -> Result<Told<A>, ShowFault>
+fn told_to_draw<A: Allocator + Copy>(alloc: A, text: &str) -> Result<TracedRun<A>, ShowFault>
     ensures ok { IfOk result (λ _. DrawsRun text.now) }
     ensures why { IfErr result (λ f. BlamesDrawn f text.now) }
     ensures kind { IfErr result (λ f. f ≢ ShowFault.Command Fault.Output) }

@@ -15,7 +15,7 @@ ghost use Rattle.reg_show.specs.Outcomes.{ShowsOutcomes, WritesOutcomes};
 use reg_commands::{Fault, read_input, read_workload, write_fault};
 use reg_front::{Front, FrontEnd, Linear, LocalRead, LocalWrite};
 use reg_outcomes::{Outcomes, play_many, write_table};
-use reg_workload::Workload;
+use reg_players::Workload;
 use std::alloc::{Allocator, Global};
 use std::io::{Read, Write};
 

@@ -5,7 +5,7 @@ ghost use Rattle.reg_text.specs.Writing.{AppendsPart};
 ghost use Rattle.reg_schedules.specs.Schedules.{IsPlan, Spells};
 ghost use Rattle.reg_commands.specs.Replays.{start_of, BlamesRun, PointsOf, ShowsPoints};
 ghost use Rattle.reg_data.specs.Data.{data_text};
-ghost use Rattle.reg_orders.specs.declared.entries.Point.{Point as AnyPoint};
+ghost use Rattle.reg_histories.specs.declared.entries.Point.{Point as AnyPoint};
 ghost use Rattle.reg_show.specs.Pages.{HasData, ShowsData};
 ghost use Rattle.reg_show.specs.Runs.{BlamesDrawn};
 
@@ -14,7 +14,7 @@ use crate::faults::ShowFault;
 use reg_commands::{Fault, Ran, read_schedule, run_events};
 use reg_data::{Data, tell_data, write_data};
 use reg_front::{Front, FrontEnd, Linear, LocalRead, LocalWrite, RealTime};
-use reg_workload::Schedule;
+use reg_players::Schedule;
 use reg_world::Wires;
 use std::alloc::Allocator;
 use std::io::Write;

@@ -17,7 +17,7 @@ use reg_base::{Names, Shape};
 use reg_commands::{Fault, play_by, read_workload};
 use reg_front::{Front, FrontEnd, Linear, LocalRead, LocalWrite};
 use reg_moments::write_schedule;
-use reg_workload::Workload;
+use reg_players::Workload;
 use reg_world::{Event as AnyEvent, PackedWires};
 use std::alloc::{Allocator, Global};
 use std::io::Write;

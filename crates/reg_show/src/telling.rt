@@ -5,8 +5,8 @@ ghost use Rattle.reg_show.specs.Inner.{IsTold};
 
 use reg_commands::{Fault, Ran, read_schedule, run_events};
 use reg_front::{Front, FrontEnd, Linear, LocalRead, LocalWrite, RealTime};
-use reg_moments::{Told, tell_world};
-use reg_workload::Schedule;
+use reg_moments::{TracedRun, tell_world};
+use reg_players::Schedule;
 use reg_world::Wires;
 use std::alloc::Allocator;
 
@@ -14,7 +14,7 @@ use std::alloc::Allocator;
 fn tell_run<F: FrontEnd, A: Allocator + Copy>(
     alloc: A,
     schedule: Schedule<A>,
-) -> Result<Told<A>, Fault>
+) -> Result<TracedRun<A>, Fault>
     ensures told { IfOk result (λ t. IsTold F.start schedule t.names t.moments.items t.history.entries) }
     ensures points { IfOk result (λ t. t.points ≡ None) }
     ensures why { IfErr result (λ f. BlamesRun F.start schedule f) }
@@ -27,7 +27,7 @@ fn tell_run<F: FrontEnd, A: Allocator + Copy>(
     let Ok(moments) = tell_world(alloc, &world) else {
         return Err(Fault::OutOfMemory);
     };
-    Ok(Told {
+    Ok(TracedRun {
         front,
         names,
         moments,
@@ -40,7 +40,7 @@ fn tell_run<F: FrontEnd, A: Allocator + Copy>(
 fn tell_run_with_points<F: RealTime, A: Allocator + Copy>(
     alloc: A,
     schedule: Schedule<A>,
-) -> Result<Told<A>, Fault>
+) -> Result<TracedRun<A>, Fault>
     ensures told { IfOk result (λ t. IsTold F.start schedule t.names t.moments.items t.history.entries) }
     ensures points { IfOk result (λ t. ShowsPoints F.start schedule (option_map (λ v. v.items) t.points)) }
     ensures why { IfErr result (λ f. BlamesRun F.start schedule f) }
@@ -56,7 +56,7 @@ fn tell_run_with_points<F: RealTime, A: Allocator + Copy>(
     let Ok(points) = world.points() else {
         return Err(Fault::OutOfMemory);
     };
-    Ok(Told {
+    Ok(TracedRun {
         front,
         names,
         moments,
@@ -66,7 +66,10 @@ fn tell_run_with_points<F: RealTime, A: Allocator + Copy>(
 }
 
 /// Runs a schedule, and tells what happened.
-pub fn tell_schedule<A: Allocator + Copy>(alloc: A, schedule: Schedule<A>) -> Result<Told<A>, Fault>
+pub fn tell_schedule<A: Allocator + Copy>(
+    alloc: A,
+    schedule: Schedule<A>,
+) -> Result<TracedRun<A>, Fault>
     ensures told { IfOk result (λ t. IsTold (start_of schedule.front) schedule t.names t.moments.items t.history.entries) }
     ensures points { IfOk result (λ t. PointsOf schedule.front schedule (option_map (λ v. v.items) t.points)) }
     ensures why { IfErr result (λ f. BlamesRun (start_of schedule.front) schedule f) }

@@ -70,11 +70,11 @@ abbrev pub with_frames : List (List Put) → List Put → List (List Put)
 with_frames lists [] = lists
 with_frames lists (p ∷ ps) = lists ++ (p ∷ ps) ∷ []
 
--- why a journal of so many sections doesn't take one at the front or behind it: the first of these that applies
+-- why a journal of so many sections doesn't take one at the floor or behind it: the first of these that applies
 abbrev pub IsUnplaced : ℕ → ℕ → AppendFault → Type 0
-IsUnplaced length front IsBehind = length < front
-IsUnplaced length front IsFull = (front ≤ length) × (MOST_EVENTS ≤ length)
-IsUnplaced length front NoMemory = (front ≤ length) × (length < MOST_EVENTS)
+IsUnplaced length floor IsBehind = length < floor
+IsUnplaced length floor IsFull = (floor ≤ length) × (MOST_EVENTS ≤ length)
+IsUnplaced length floor NoMemory = (floor ≤ length) × (length < MOST_EVENTS)
 
 -- what the caller is told where its section isn't appended
 abbrev pub told_of_append : AppendFault → LiveFault

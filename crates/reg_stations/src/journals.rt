@@ -51,7 +51,7 @@ impl Spot {
 /// Why a section isn't appended: the first of these that applies.
 #[derive(Clone, Copy)]
 pub(crate) enum AppendFault {
-    /// The journal hasn't come as far as the front.
+    /// The journal hasn't come as far as the floor.
     Behind,
     /// It has all the sections that it may have.
     Full,
@@ -77,16 +77,16 @@ impl<A: Allocator + Copy> Journal<A> {
         self.order.len() as u64
     }
 
-    /// Adds a section of a process at the end, at a place not below the front, and tells both.
-    pub(crate) fn append(&mut self, process: u8, front: u64) -> Result<Spot, AppendFault>
+    /// Adds a section of a process at the end, at a place not below the floor, and tells both.
+    pub(crate) fn append(&mut self, process: u8, floor: u64) -> Result<Spot, AppendFault>
         ensures spot { IfOk result (λ spot. (spot.process ≡ process) × (spot.place ≡ length self.old)) }
-        ensures front { IfOk result (λ spot. front ≤ spot.place) }
+        ensures floor { IfOk result (λ spot. floor ≤ spot.place) }
         ensures added { IfOk result (λ spot. self.new ≡ self.old ++ process ∷ []) }
-        ensures fault { IfErr result (λ fault. IsUnplaced (length self.old) front fault) }
+        ensures fault { IfErr result (λ fault. IsUnplaced (length self.old) floor fault) }
         ensures same { OnErr result (self.new ≡ self.old) }
     {
         let place = self.order.len() as u64;
-        if place < front {
+        if place < floor {
             return Err(AppendFault::Behind);
         }
         if place >= u64::from(MOST_EVENTS) {

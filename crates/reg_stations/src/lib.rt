@@ -11,4 +11,4 @@ mod stations;
 pub use faults::LiveFault;
 pub use gates::{Gate, NoGate};
 pub use journals::{Journal, Spot};
-pub use stations::{Section, Station, Told};
+pub use stations::{PlacedAnswer, Section, Station};

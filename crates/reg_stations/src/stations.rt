@@ -22,7 +22,7 @@ use std::sync::{Mutex, Wait};
 
 /// An answer with its place in the journal.
 #[derive(Clone, Copy)]
-pub struct Told {
+pub struct PlacedAnswer {
     pub answer: Answer,
     pub place: u64,
 }
@@ -49,7 +49,7 @@ pub struct Station<F: FrontEnd, A: Allocator + Copy = Global> {
     /// Whether the last operation called runs.
     runs: bool,
     /// Its answer.
-    told: Option<Told>,
+    told: Option<PlacedAnswer>,
     /// Whether the journal had no place left after a section of this station.
     filled: bool,
     /// Whether no caller waits here any more.
@@ -104,15 +104,15 @@ fn refusal(fault: ProcessFault) -> LiveFault
 }
 
 /// Why a step isn't made at all, where the journal has so many sections.
-fn early(registers: u32, length: u64, front: u64, step: &Step) -> Option<LiveFault>
-    ensures { result ≡ early_fault registers length front step.now }
+fn early(registers: u32, length: u64, floor: u64, step: &Step) -> Option<LiveFault>
+    ensures { result ≡ early_fault registers length floor step.now }
 {
     if let Step::Call { op } = *step {
         if u32::from(op.register()) >= registers {
             return Some(LiveFault::NoRegister);
         }
     }
-    if length < front {
+    if length < floor {
         return Some(LiveFault::Behind { length });
     }
     if length >= u64::from(MOST_EVENTS) {
@@ -184,7 +184,7 @@ impl<F: FrontEnd, A: Allocator + Copy> Station<F, A> {
 
     /// The answer of the last operation called, for the caller that waited. Where there is none the station stops, so that
     /// none is written down later.
-    pub fn settle(&mut self) -> Option<Told>
+    pub fn settle(&mut self) -> Option<PlacedAnswer>
         ensures me { self.new.me ≡ self.old.me }
         ensures shape { self.new.shape ≡ self.old.shape }
         ensures log { self.new.log ≡ self.old.log }
@@ -223,7 +223,7 @@ impl<F: FrontEnd, A: Allocator + Copy> Station<F, A> {
         }
         if let Some(reply) = reply {
             self.runs = false;
-            self.told = Some(Told {
+            self.told = Some(PlacedAnswer {
                 answer: reply.answer,
                 place,
             });
@@ -300,7 +300,7 @@ impl<F: FrontEnd, A: Allocator + Copy> Station<F, A> {
 
     /// One section of this process: the step with its entry in the log, the gate, the place in the journal, and its frames behind
     /// those of earlier sections. It adds one entry to the log, or none. A call of a register past these many isn't made, nor is
-    /// a step where the journal hasn't come as far as the front, or is full, nor one of a process that isn't the station's.
+    /// a step where the journal hasn't come as far as the floor, or is full, nor one of a process that isn't the station's.
     pub fn section<G: Gate, R: Wait>(
         &mut self,
         rt: &R,
@@ -308,24 +308,24 @@ impl<F: FrontEnd, A: Allocator + Copy> Station<F, A> {
         gate: &G,
         process: u8,
         registers: u32,
-        front: u64,
+        floor: u64,
         step: &Step,
     ) -> Result<Section, LiveFault>
         ensures me { self.new.me ≡ self.old.me }
         ensures shape { self.new.shape ≡ self.old.shape }
         ensures own { IfOk result (λ s. (process ≡ self.old.me) × (s.spot.process ≡ process)) }
         ensures added { IfOk result (λ s. self.new.log ≡ self.old.log ++ record { step = step.now; reply = s.reply } ∷ []) }
-        ensures front { IfOk result (λ s. front ≤ s.spot.place) }
+        ensures floor { IfOk result (λ s. floor ≤ s.spot.place) }
         ensures sends { IfOk result (λ s. (s.sends ≡ false) ↔ (frames_of F.start self.old.process step.now ≡ [])) }
         ensures frames { OnOk result (self.new.outgoing ≡ with_frames self.old.outgoing (frames_of F.start self.old.process step.now)) }
         ensures same { OnErr result ((self.new.log ≡ self.old.log) × (self.new.outgoing ≡ self.old.outgoing)) }
-        ensures refusal { IfErr result (λ fault. IsRefusal registers front step.now fault) }
+        ensures refusal { IfErr result (λ fault. IsRefusal registers floor step.now fault) }
     {
         if self.stopped || process != self.me {
             return Err(LiveFault::Failed);
         }
         let length = journal.lock(rt).len();
-        if let Some(fault) = early(registers, length, front, step) {
+        if let Some(fault) = early(registers, length, floor, step) {
             return Err(fault);
         }
         if self.make_room().is_err() {
@@ -334,7 +334,7 @@ impl<F: FrontEnd, A: Allocator + Copy> Station<F, A> {
         let made = self.advance(step);
         gate.held(process);
         let (frames, reply) = made?;
-        let appended = journal.lock(rt).append(process, front);
+        let appended = journal.lock(rt).append(process, floor);
         match appended {
             Ok(spot) => {
                 let sends = !frames.is_empty();

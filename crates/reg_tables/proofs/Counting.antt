@@ -4,8 +4,8 @@ use Rattle.std.specs.Prelude.{IfSome, ◌^◌, ◌-◌}
 use Rattle.std.specs.BTreeMap.{BTreeMap, get, Updates, is_at}
 use Rattle.std.proofs.lemmas.Bool.{cases_Bool, false≢true}
 use Rattle.std.proofs.lemmas.Option.{same_Some}
-use Rattle.reg_orders.specs.History.{IsAt}
-use Rattle.reg_tables.specs.declared.outcomes.Told.{Told}
+use Rattle.reg_histories.specs.History.{IsAt}
+use Rattle.reg_tables.specs.declared.outcomes.ToldValue.{ToldValue}
 use Rattle.reg_tables.specs.declared.tallies.Tally.{Tally}
 use Rattle.reg_tables.specs.Tables.{Seen, HasOutcome, IsNoShorter, IsTally, IsTallyOf, Nothing}
 use Rattle.reg_tables.specs.Inner.{IsShorter, IsShortest, TellsOf, key_cmp, IsCounted, HasRoom}
@@ -98,14 +98,14 @@ pub told_more : (plays : List Seen) (s : Seen) (t v : Tally) → s.is_finished �
 told_more plays s t v done (those, are, tally) more = (those ++ s ∷ [], those_more s (record { finished = done; same = refl }) are, more those tally)
 
 -- and where it has another, or isn't finished
-pub told_still : (plays : List Seen) (s : Seen) (outcome : List Told) (o : Option Tally) → ¬ HasOutcome outcome s → TellsOf plays outcome o → TellsOf (plays ++ s ∷ []) outcome o
+pub told_still : (plays : List Seen) (s : Seen) (outcome : List ToldValue) (o : Option Tally) → ¬ HasOutcome outcome s → TellsOf plays outcome o → TellsOf (plays ++ s ∷ []) outcome o
 told_still plays s outcome None other none = λ k x h done same. elim (at_cases plays s k x h) [
   | inl old ↦ none k x old done same
   | inr new ↦ other (subst (λ (y : Seen). HasOutcome outcome y) (sym new) (record { finished = done; same = same }))
 ]
 told_still plays s outcome (Some t) other (those, are, tally) = (those, those_same s other are, tally)
 
-module _ {K : Type 0} (items : K → List Told) where
+module _ {K : Type 0} (items : K → List ToldValue) where
   -- the map after the play was counted
   pub tells_next : (plays : List Seen) (told new : BTreeMap K Tally) (key : K) (s : Seen) (v : Tally) → s.is_finished ≡ true → items key ≡ s.outcome → Updates (key_cmp items) told new key (Some v)
       → IsTallyOf (plays ++ s ∷ []) s.outcome v → ((q : K) → TellsOf plays (items q) (get (key_cmp items) told q)) → (q : K) → TellsOf (plays ++ s ∷ []) (items q) (get (key_cmp items) new q)

@@ -10,9 +10,9 @@ use Rattle.std.proofs.lemmas.Option.{slice_get_within}
 use Rattle.std.proofs.lemmas.List.Sorted.{IsPermutation-sym, Contains-permutation, sorted_far, ranks_by}
 use Rattle.std.proofs.lemmas.Map.Entries.{place_from_lookup, btree_map_get_place}
 use Rattle.std.proofs.lemmas.Map.Keys.{IsDistinct-from_sorted, IsDistinct-IsPermutation, apart_from_distinct}
-use Rattle.reg_orders.specs.History.{IsAt}
-use Rattle.reg_orders.proofs.Places.{IsAt-map, at_map}
-use Rattle.reg_tables.specs.declared.outcomes.Told.{Told}
+use Rattle.reg_histories.specs.History.{IsAt}
+use Rattle.reg_histories.proofs.Places.{IsAt-map, at_map}
+use Rattle.reg_tables.specs.declared.outcomes.ToldValue.{ToldValue}
 use Rattle.reg_tables.specs.declared.tallies.Tally.{Tally}
 use Rattle.reg_tables.specs.Tables.{Seen, Line, IsTallyOf, IsTable, StandsBefore}
 use Rattle.reg_tables.specs.Inner.{TellsOf, IsCounted, key_cmp, line_cmp, line_of}
@@ -25,7 +25,7 @@ moved xs ys k x same at =
     let there = Contains-permutation xs ys x same (contains_at xs k x at) in
     (there.0, at_of ys there.0 x there.1 there.2)
 
-module _ {K : Type 0} (items : K → List Told) where
+module _ {K : Type 0} (items : K → List ToldValue) where
   apart : (k : K) (t : Tally) (es : List (K × Tally)) → AllByRecursion (λ q. eq_by_cmp (key_cmp items) k q ≡ false) (keys_of es) → AllByRecursion (λ l. same_outcome (line_of items (k, t)) l ≡ false) (map (line_of items) es)
   apart k t [] h = tt
   apart k t (e ∷ es) h = (h.0, apart k t es h.1)

@@ -13,7 +13,7 @@ use denote.Ref.{Bor}
 use Rattle.std.specs.Cmp.Lexicographic.{slice_cmp}
 use Rattle.std.proofs.lemmas.Cmp.{nat_cmp_total, on_total, then_total, lists_total, back_total, tied_itself, ranked}
 use Rattle.std.proofs.lemmas.Map.Lookups.{CmpEqualImpliesEq, exact_unsigned, exact_pairs}
-use Rattle.reg_tables.specs.declared.outcomes.Told.{Told}
+use Rattle.reg_tables.specs.declared.outcomes.ToldValue.{ToldValue}
 use Rattle.reg_tables.specs.Tables.{Line, StandsBefore, told_cmp}
 use Rattle.reg_tables.specs.Inner.{line_cmp}
 
@@ -23,7 +23,7 @@ told_total = then_total (on_total (λ t. t.process) nat_cmp_total) (then_total (
 pub outcomes_total : IsTotalOrder (slice_cmp told_cmp)
 outcomes_total = lists_total told_total
 
-pub keys_total : {K : Type 0} (items : K → List Told) → IsTotalOrder (λ a b. slice_cmp told_cmp (items a) (items b))
+pub keys_total : {K : Type 0} (items : K → List ToldValue) → IsTotalOrder (λ a b. slice_cmp told_cmp (items a) (items b))
 keys_total items = on_total items outcomes_total
 
 told_exact : CmpEqualImpliesEq told_cmp
@@ -49,10 +49,10 @@ equal_is Equal h = refl
 equal_is Greater h = absurd cc
 
 -- outcomes that compare alike are one
-pub same_keys : (a b : List Told) → is_eq (slice_cmp told_cmp a b) ≡ true → a ≡ b
+pub same_keys : (a b : List ToldValue) → is_eq (slice_cmp told_cmp a b) ≡ true → a ≡ b
 same_keys a b h = outcomes_exact a b (equal_is (slice_cmp told_cmp a b) h)
 
-pub tied_keys : (a b : List Told) → a ≡ b → is_eq (slice_cmp told_cmp a b) ≡ true
+pub tied_keys : (a b : List ToldValue) → a ≡ b → is_eq (slice_cmp told_cmp a b) ≡ true
 tied_keys a b e = ap (λ l. is_eq (slice_cmp told_cmp a l)) (sym e) ∙ ap is_eq (tied_itself outcomes_total a)
 
 -- whether two lines have one outcome

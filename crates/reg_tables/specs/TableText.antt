@@ -4,12 +4,12 @@ use Rattle.std.specs.List.{flat_map}
 use Rattle.std.specs.Fmt.{decimal}
 use Rattle.reg_text.specs.Columns.{to_right}
 use Rattle.reg_text.specs.Lines.{text_of}
-use Rattle.reg_tables.specs.declared.outcomes.Told.{Told}
+use Rattle.reg_tables.specs.declared.outcomes.ToldValue.{ToldValue}
 use Rattle.reg_tables.specs.declared.tallies.Tally.{Tally}
 use Rattle.reg_tables.specs.Tables.{Line}
 
 -- an operation and its value, and two spaces
-abbrev pub told_text : Told → List ℕ
+abbrev pub told_text : ToldValue → List ℕ
 told_text t = codes "p" ++ (decimal t.process ++ (codes " #" ++ (decimal t.number ++ (codes " value " ++ (decimal t.value ++ codes "  ")))))
 
 abbrev pub time_text : Bool → List ℕ

@@ -4,8 +4,8 @@ use Rattle.std.specs.Ordering.{nat_cmp, ordering_then}
 use Rattle.std.specs.declared.cmp.Ordering.{Ordering}
 use Rattle.std.specs.declared.cmp.Ordering.TheVariants.{Less}
 use Rattle.std.specs.Cmp.Lexicographic.{slice_cmp}
-use Rattle.reg_orders.specs.History.{IsAt}
-use Rattle.reg_tables.specs.declared.outcomes.Told.{Told}
+use Rattle.reg_histories.specs.History.{IsAt}
+use Rattle.reg_tables.specs.declared.outcomes.ToldValue.{ToldValue}
 use Rattle.reg_tables.specs.declared.tallies.Tally.{Tally}
 
 -- What is known of a play: the seed of its words, whether it is finished, the number of its events, the values that its operations
@@ -14,12 +14,12 @@ pub record Seen : Type 0 where
   pub seed : ℕ
   pub is_finished : Bool
   pub events : ℕ
-  pub outcome : List Told
+  pub outcome : List ToldValue
   pub in_time : Bool
 
 -- a line of a table: an outcome, and what is told of it
 pub record Line : Type 0 where
-  pub outcome : List Told
+  pub outcome : List ToldValue
   pub tally : Tally
 
 -- ys are the xs of which P holds, in their order
@@ -29,7 +29,7 @@ pub data AreThose {X : Type 0} (P : X → Type 0) : List X → List X → Type 0
   Leaves : {x : X} {xs ys : List X} → ¬ P x → AreThose P xs ys → AreThose P (x ∷ xs) ys
 
 -- the play is finished, with this outcome
-pub record HasOutcome (outcome : List Told) (s : Seen) : Type 0 where
+pub record HasOutcome (outcome : List ToldValue) (s : Seen) : Type 0 where
   pub finished : s.is_finished ≡ true
   pub same : s.outcome ≡ outcome
 
@@ -46,11 +46,11 @@ pub record IsTally (plays : List Seen) (t : Tally) : Type 0 where
   pub in_time : (t.in_time ≡ true) ↔ ((k : ℕ) × (s : Seen) × IsAt plays k s × (s.in_time ≡ true))
 
 -- what is told of the plays with this outcome
-abbrev pub IsTallyOf : List Seen → List Told → Tally → Type 0
+abbrev pub IsTallyOf : List Seen → List ToldValue → Tally → Type 0
 IsTallyOf plays outcome t = (those : List Seen) × AreThose (HasOutcome outcome) plays those × IsTally those t
 
 -- by process, then by number, then by value
-abbrev pub told_cmp : Told → Told → Ordering
+abbrev pub told_cmp : ToldValue → ToldValue → Ordering
 told_cmp a b = ordering_then (nat_cmp a.process b.process) (ordering_then (nat_cmp a.number b.number) (nat_cmp a.value b.value))
 
 -- a line with a larger count stands before one with a smaller, and of two with the same count the one with the smaller outcome: the

@@ -6,7 +6,7 @@ mod rows;
 mod tallies;
 mod text;
 
-pub use outcomes::{Told, tell};
+pub use outcomes::{ToldValue, tell};
 pub use rows::{Row, table_of};
 pub use tallies::{Glance, Tallies, Tally};
 pub use text::write_table;

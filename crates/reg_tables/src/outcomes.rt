@@ -4,12 +4,12 @@ ghost use Rattle.reg_tables.specs.Outcomes.{outcome_of, told_at, told_of};
 
 use reg_base::limits::MOST_PROCESSES;
 use reg_base::{Answer, OpId};
-use reg_orders::{Entry, History};
+use reg_histories::{Entry, History};
 use std::alloc::{AllocError, Allocator};
 
 /// A value that an operation answered: that of a read or a swap.
 #[derive(Clone, Copy, Debug, PartialEq, Eq, PartialOrd, Ord)]
-pub struct Told {
+pub struct ToldValue {
     /// The process that called the operation.
     pub process: u8,
     /// The operation's number there, from 0.
@@ -18,7 +18,7 @@ pub struct Told {
 }
 
 /// What an entry told this process.
-fn told_by(process: u8, entry: Entry) -> Option<Told>
+fn told_by(process: u8, entry: Entry) -> Option<ToldValue>
     ensures { MatchOption result (told_at process entry ≡ []) (λ told. told_at process entry ≡ told ∷ []) }
 {
     match entry {
@@ -28,7 +28,7 @@ fn told_by(process: u8, entry: Entry) -> Option<Told>
             Answer::Value(value) => {
                 if id.process == process {
                     let OpId { process, number } = id;
-                    Some(Told {
+                    Some(ToldValue {
                         process,
                         number,
                         value,
@@ -43,7 +43,7 @@ fn told_by(process: u8, entry: Entry) -> Option<Told>
 
 /// Adds what a process was told.
 fn tell_process<A: Allocator + Copy>(
-    outcome: &mut Vec<Told, A>,
+    outcome: &mut Vec<ToldValue, A>,
     process: u8,
     entries: &[Entry],
 ) -> Result<(), AllocError>
@@ -63,7 +63,10 @@ fn tell_process<A: Allocator + Copy>(
 /// # Errors
 ///
 /// Memory was refused.
-pub fn tell<A: Allocator + Copy>(alloc: A, history: &History<A>) -> Result<Vec<Told, A>, AllocError>
+pub fn tell<A: Allocator + Copy>(
+    alloc: A,
+    history: &History<A>,
+) -> Result<Vec<ToldValue, A>, AllocError>
     ensures { IfOk result (λ v. v.items ≡ outcome_of history.now.shape.processes history.now.entries) }
 {
     let processes = history.shape().processes() as u8;

@@ -1,11 +1,11 @@
 //! What is told of the plays of each outcome.
 ghost use Rattle.std.specs.Prelude.{◌≡◌, ◌++◌, ◌<◌, [], ◌∷◌, List, false, OnOk};
 ghost use Rattle.std.specs.BTreeMap.{get};
-ghost use Rattle.reg_tables.specs.declared.outcomes.Told.{Told};
+ghost use Rattle.reg_tables.specs.declared.outcomes.ToldValue.{ToldValue};
 ghost use Rattle.reg_tables.specs.Tables.{Seen, IsTally, IsTallyOf};
 ghost use Rattle.reg_tables.specs.Inner.{HasRoom, IsCounted, IsShortest, TellsOf, finished_play, key_cmp};
 
-use crate::outcomes::Told;
+use crate::outcomes::ToldValue;
 use std::alloc::{AllocError, Allocator, Global};
 use std::collections::BTreeMap;
 
@@ -37,14 +37,14 @@ pub struct Glance {
 #[derive(Drop)]
 pub struct Tallies<A: Allocator + Copy = Global> {
     /// What is told of the plays of each outcome.
-    pub told: BTreeMap<Vec<Told, A>, Tally, A>,
+    pub told: BTreeMap<Vec<ToldValue, A>, Tally, A>,
     /// How many plays are not finished.
     pub unfinished: u32,
 }
 
 /// What is told of one play.
 fn first(glance: Glance) -> Tally
-    ensures { (outcome : List Told) → IsTally (finished_play outcome glance ∷ []) result }
+    ensures { (outcome : List ToldValue) → IsTally (finished_play outcome glance ∷ []) result }
 {
     Tally {
         count: 1,
@@ -56,7 +56,7 @@ fn first(glance: Glance) -> Tally
 
 /// The number of events and the seed of the shortest play, of these plays and one more.
 fn shortest(tally: Tally, glance: Glance) -> (u32, u64)
-    ensures { (outcome : List Told) → IsShortest (finished_play outcome glance) tally result.0 result.1 }
+    ensures { (outcome : List ToldValue) → IsShortest (finished_play outcome glance) tally result.0 result.1 }
 {
     if glance.events < tally.events {
         return (glance.events, glance.seed);
@@ -70,7 +70,7 @@ fn shortest(tally: Tally, glance: Glance) -> (u32, u64)
 /// What is told of these plays and one more.
 fn joined(tally: Tally, glance: Glance) -> Tally
     requires { tally.count < u32.MAX }
-    ensures { (plays : List Seen) (outcome : List Told) → IsTally plays tally → IsTally (plays ++ finished_play outcome glance ∷ []) result }
+    ensures { (plays : List Seen) (outcome : List ToldValue) → IsTally plays tally → IsTally (plays ++ finished_play outcome glance ∷ []) result }
 {
     let (events, seed) = shortest(tally, glance);
     Tally {
@@ -83,8 +83,8 @@ fn joined(tally: Tally, glance: Glance) -> Tally
 
 /// What is told of the plays with this outcome and one more.
 fn next<A: Allocator + Copy>(
-    told: &BTreeMap<Vec<Told, A>, Tally, A>,
-    outcome: &Vec<Told, A>,
+    told: &BTreeMap<Vec<ToldValue, A>, Tally, A>,
+    outcome: &Vec<ToldValue, A>,
     glance: Glance,
 ) -> Tally
     requires { HasRoom (λ v. v.items) told.now }
@@ -112,7 +112,7 @@ impl<A: Allocator + Copy> Tallies<A> {
     /// # Errors
     ///
     /// Memory was refused.
-    pub fn add(&mut self, outcome: Vec<Told, A>, glance: Glance) -> Result<(), AllocError>
+    pub fn add(&mut self, outcome: Vec<ToldValue, A>, glance: Glance) -> Result<(), AllocError>
         requires { HasRoom (λ v. v.items) self.old.told }
         ensures { OnOk result ((plays : List Seen) → IsCounted (λ v. v.items) plays self.old.told self.old.unfinished → IsCounted (λ v. v.items) (plays ++ finished_play outcome.items glance ∷ []) self.new.told self.new.unfinished) }
     {

@@ -8,7 +8,7 @@ ghost use Rattle.reg_text.specs.Lines.{text_of};
 ghost use Rattle.reg_text.specs.Writing.{AppendsPart, Puts};
 ghost use Rattle.reg_tables.specs.TableText.{line_text, play_text, table_text, time_text, told_text};
 
-use crate::outcomes::Told;
+use crate::outcomes::ToldValue;
 use crate::rows::Row;
 use crate::tallies::Tally;
 use itoa::Buffer;
@@ -53,7 +53,7 @@ fn put_right<W: Write>(sink: &mut Sink<'_, W>, number: u64, places: usize)
 }
 
 /// Puts a value that an operation answered.
-fn put_told<W: Write>(sink: &mut Sink<'_, W>, told: Told)
+fn put_told<W: Write>(sink: &mut Sink<'_, W>, told: ToldValue)
     ensures { Puts W.contents sink.old sink.new (told_text told) }
 {
     put_number(sink, b"p", told.process as u64);
@@ -63,7 +63,7 @@ fn put_told<W: Write>(sink: &mut Sink<'_, W>, told: Told)
 }
 
 /// Puts an outcome.
-fn put_outcome<W: Write>(sink: &mut Sink<'_, W>, outcome: &[Told])
+fn put_outcome<W: Write>(sink: &mut Sink<'_, W>, outcome: &[ToldValue])
     ensures { Puts W.contents sink.old sink.new (flat_map told_text outcome.now) }
 {
     for told in outcome {

@@ -2,8 +2,8 @@
 use Rattle.std.proofs.Common.{ℕ, ◌≡◌, ◌≢◌, Bool, true, false, List, [], ◌∷◌, ◌++◌, length, codes, inl, Result, Ok, Err, sym, ap, subst, ◌∙◌}
 use Rattle.std.specs.Prelude.{IfOk}
 use Rattle.reg_front.specs.Table.{front_name}
-use Rattle.reg_history.specs.Reports.{Contents, IsReport, SpellsReport}
-use Rattle.reg_toml.specs.Loads.{Load}
+use Rattle.reg_reports.specs.Reports.{Contents, IsReport, SpellsReport}
+use Rattle.reg_workloads.specs.Loads.{Load}
 use Rattle.reg_schedules.specs.Schedules.{Plan, IsPlan, Spells}
 use Rattle.reg_messages.specs.FaultLines.{fault_line}
 use Rattle.reg_messages.specs.Verdicts.{Judges, all_yes}

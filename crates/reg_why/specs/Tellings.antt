@@ -3,9 +3,9 @@ use Rattle.std.specs.Prelude.{ℕ, ◌≡◌, ◌<◌, ◌⊎◌, ⊤, Bool, tru
 use Rattle.std.specs.Str.{IsUtf8}
 use Rattle.reg_base.specs.declared.limits.TheConstants.{LONGEST_INPUT}
 use Rattle.reg_front.specs.Table.{front_name}
-use Rattle.reg_orders.specs.declared.entries.Point.{Point}
-use Rattle.reg_history.specs.Reports.{Contents, IsReport, SpellsReport}
-use Rattle.reg_toml.specs.Loads.{Load}
+use Rattle.reg_histories.specs.declared.entries.Point.{Point}
+use Rattle.reg_reports.specs.Reports.{Contents, IsReport, SpellsReport}
+use Rattle.reg_workloads.specs.Loads.{Load}
 use Rattle.reg_schedules.specs.Schedules.{Plan, IsPlan, Spells}
 use Rattle.reg_messages.specs.FaultLines.{fault_line}
 use Rattle.reg_messages.specs.Verdicts.{Judges, all_yes}

@@ -1,6 +1,6 @@
 //! What is told of a text.
 ghost use Rattle.std.specs.Prelude.{◌≡◌, ◌≢◌, ◌++◌, ℕ, List, IfOk, IfErr, true, false};
-ghost use Rattle.reg_history.specs.Reports.{IsReport, SpellsReport};
+ghost use Rattle.reg_reports.specs.Reports.{IsReport, SpellsReport};
 ghost use Rattle.reg_commands.specs.Answers.{Blames};
 ghost use Rattle.reg_commands.specs.Plays.{Holds};
 ghost use Rattle.reg_commands.specs.declared.command.Command.TheVariants.{Check};
@@ -13,32 +13,32 @@ ghost use Rattle.reg_why.specs.Inner.{is_of_text as is_of_text_fault};
 ghost use Rattle.reg_why.specs.Kinds.{command_of as command_of_kind, kind_of as kind_of_text};
 ghost use Rattle.reg_why.specs.Tellings.{Agrees, Disagrees, Halts, Refuses, Tells};
 
-use crate::explaining::{explain_fault, explain_verdicts};
 use crate::first_lines::{Subject, line_of_fault, line_of_no, line_of_subject};
-use crate::kinds::{Kind, kind_of};
+use crate::kinds::{Kind, command_of, kind_of};
 use reg_commands::{Fault, Ran, read_schedule, read_workload, run_events};
 use reg_front::{Front, FrontEnd, Linear, LocalRead, LocalWrite};
-use reg_history::{ReadFault, Report, read_report};
 use reg_messages::{Verdicts, all_yes, judge};
+use reg_players::Workload;
+use reg_reasons::{explain_fault, explain_verdicts};
+use reg_reports::{ReadFault, Report, read_report};
 use reg_schedules::Schedule;
-use reg_workload::Workload;
 use reg_world::PackedWires;
 use std::alloc::{AllocError, Allocator, Global};
 
 /// What is told of a text: the bytes of the answer, and whether the text is accepted.
 #[derive(Drop)]
-pub struct Told<A: Allocator + Copy> {
+pub struct Explanation<A: Allocator + Copy> {
     pub answer: Vec<u8, A>,
     pub is_accepted: bool,
 }
 
 /// The first line of an answer with what explains it.
-fn joined<A: Allocator + Copy>(line: Vec<u8, A>, notes: &[u8]) -> Result<Told<A>, AllocError>
+fn joined<A: Allocator + Copy>(line: Vec<u8, A>, notes: &[u8]) -> Result<Explanation<A>, AllocError>
     ensures { IfOk result (λ t. (t.answer.items ≡ line.items ++ notes.now) × (t.is_accepted ≡ false)) }
 {
     let mut answer = line;
     answer.extend_from_slice(notes)?;
-    Ok(Told {
+    Ok(Explanation {
         answer,
         is_accepted: false,
     })
@@ -49,11 +49,11 @@ fn accepted<A: Allocator + Copy>(
     alloc: A,
     subject: Subject<'_>,
     tail: &str,
-) -> Result<Told<A>, AllocError>
+) -> Result<Explanation<A>, AllocError>
     ensures { IfOk result (λ t. (t.answer.items ≡ subject_text subject.entry.name.now subject.entry.processes subject.entry.registers subject.entry.front.now subject.entry.count subject.entry.one.now subject.entry.many.now ++ tail.now) × (t.is_accepted ≡ true)) }
 {
     let answer = line_of_subject(alloc, subject, tail)?;
-    Ok(Told {
+    Ok(Explanation {
         answer,
         is_accepted: true,
     })
@@ -66,11 +66,11 @@ fn refused<A: Allocator + Copy>(
     kind: Kind,
     text: &str,
     fault: Fault,
-) -> Result<Told<A>, AllocError>
+) -> Result<Explanation<A>, AllocError>
     ensures { IfOk result (λ t. (rest : List ℕ) × (t.answer.items ≡ fault_line fault ++ rest) × (t.is_accepted ≡ false)) }
 {
     let line = line_of_fault(alloc, fault)?;
-    let notes = explain_fault(alloc, global, kind, text, fault)?;
+    let notes = explain_fault(alloc, global, command_of(kind), text, fault)?;
     joined(line, notes.as_slice())
 }
 
@@ -92,7 +92,7 @@ fn refused_or_halted<A: Allocator + Copy>(
     kind: Kind,
     text: &str,
     fault: Fault,
-) -> Result<Told<A>, Fault>
+) -> Result<Explanation<A>, Fault>
     requires blamed { Blames (command_of_kind kind) fault text.now }
     requires kind { fault ≢ Fault.Output }
     ensures told { IfOk result (λ t. Refuses (command_of_kind kind) t.answer.items text.now × (t.is_accepted ≡ false)) }
@@ -140,7 +140,7 @@ fn tell_run<A: Allocator + Copy>(
     global: Global,
     text: &str,
     schedule: Schedule<A>,
-) -> Result<Told<A>, Fault>
+) -> Result<Explanation<A>, Fault>
     requires good { IsPlan schedule }
     requires read { Spells text.now schedule }
     ensures told { IfOk result (λ t. Tells Kind.Schedule t.is_accepted t.answer.items text.now) }
@@ -169,7 +169,7 @@ fn tell_schedule<A: Allocator + Copy>(
     alloc: A,
     global: Global,
     text: &str,
-) -> Result<Told<A>, Fault>
+) -> Result<Explanation<A>, Fault>
     ensures told { IfOk result (λ t. Tells Kind.Schedule t.is_accepted t.answer.items text.now) }
     ensures why { IfErr result (λ f. Halts f text.now) }
     ensures kind { IfErr result (λ f. f ≢ Fault.Output) }
@@ -194,7 +194,7 @@ fn tell_load<A: Allocator + Copy>(
     alloc: A,
     text: &str,
     work: &Workload<A>,
-) -> Result<Told<A>, AllocError>
+) -> Result<Explanation<A>, AllocError>
     requires { Holds text.now work.now }
     ensures { IfOk result (λ t. Tells Kind.Workload t.is_accepted t.answer.items text.now) }
 {
@@ -214,7 +214,7 @@ fn tell_workload<A: Allocator + Copy>(
     alloc: A,
     global: Global,
     text: &str,
-) -> Result<Told<A>, Fault>
+) -> Result<Explanation<A>, Fault>
     ensures told { IfOk result (λ t. Tells Kind.Workload t.is_accepted t.answer.items text.now) }
     ensures why { IfErr result (λ f. Halts f text.now) }
     ensures kind { IfErr result (λ f. f ≢ Fault.Output) }
@@ -234,7 +234,7 @@ fn agree<A: Allocator + Copy>(
     text: &str,
     report: &Report<A>,
     verdicts: Verdicts,
-) -> Result<Told<A>, AllocError>
+) -> Result<Explanation<A>, AllocError>
     requires read { SpellsReport text.now report.now }
     requires judged { Judges report.now verdicts }
     requires yes { all_yes_of verdicts ≡ true }
@@ -262,7 +262,7 @@ fn disagree<A: Allocator + Copy>(
     text: &str,
     report: &Report<A>,
     verdicts: Verdicts,
-) -> Result<Told<A>, AllocError>
+) -> Result<Explanation<A>, AllocError>
     requires good { IsReport report.now }
     requires read { SpellsReport text.now report.now }
     requires judged { Judges report.now verdicts }
@@ -279,7 +279,7 @@ fn tell_judged<A: Allocator + Copy>(
     alloc: A,
     text: &str,
     report: &Report<A>,
-) -> Result<Told<A>, AllocError>
+) -> Result<Explanation<A>, AllocError>
     requires good { IsReport report.now }
     requires read { SpellsReport text.now report.now }
     ensures { IfOk result (λ t. Tells Kind.Report t.is_accepted t.answer.items text.now) }
@@ -306,7 +306,11 @@ fn read<A: Allocator + Copy>(alloc: A, text: &str) -> Result<Report<A>, Fault>
 }
 
 #[tactic(auto, using(crate::proofs::Told::tells_refused))]
-fn tell_report<A: Allocator + Copy>(alloc: A, global: Global, text: &str) -> Result<Told<A>, Fault>
+fn tell_report<A: Allocator + Copy>(
+    alloc: A,
+    global: Global,
+    text: &str,
+) -> Result<Explanation<A>, Fault>
     ensures told { IfOk result (λ t. Tells Kind.Report t.is_accepted t.answer.items text.now) }
     ensures why { IfErr result (λ f. Halts f text.now) }
     ensures kind { IfErr result (λ f. f ≢ Fault.Output) }
@@ -325,7 +329,11 @@ fn tell_report<A: Allocator + Copy>(alloc: A, global: Global, text: &str) -> Res
 /// # Errors
 ///
 /// `OutOfMemory`; nothing else stops before an answer.
-pub fn tell<A: Allocator + Copy>(alloc: A, global: Global, text: &str) -> Result<Told<A>, Fault>
+pub fn tell<A: Allocator + Copy>(
+    alloc: A,
+    global: Global,
+    text: &str,
+) -> Result<Explanation<A>, Fault>
     ensures told { IfOk result (λ t. Tells (kind_of_text text.now) t.is_accepted t.answer.items text.now) }
     ensures why { IfErr result (λ f. Halts f text.now) }
     ensures kind { IfErr result (λ f. f ≢ Fault.Output) }

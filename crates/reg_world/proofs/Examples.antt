@@ -10,7 +10,7 @@ use Rattle.reg_world.specs.declared.events.Event.TheVariants.{Call, Take, Tick}
 use Rattle.reg_process.specs.Process.{cast_at}
 use Rattle.reg_world.specs.Nodes.{Said}
 use Rattle.reg_world.specs.declared.order.First.{First}
-use Rattle.reg_orders.specs.declared.entries.Entry.TheVariants.{Called, Answered}
+use Rattle.reg_histories.specs.declared.entries.Entry.TheVariants.{Called, Answered}
 use Rattle.reg_world.specs.World.{World, whole, delivered_of, op_id}
 
 abbrev told : World → ℕ → List Reply

@@ -10,7 +10,7 @@ use Rattle.reg_process.specs.declared.steps.Reply.{Reply}
 use Rattle.reg_process.specs.declared.steps.Step.{Step}
 use Rattle.reg_process.specs.declared.steps.Step.TheVariants.{Call as CallStep, Take as TakeStep, Tick as TickStep}
 use Rattle.reg_process.specs.Parts.{state_of, first_parts}
-use Rattle.reg_orders.specs.History.{IsAt}
+use Rattle.reg_histories.specs.History.{IsAt}
 use Rattle.reg_world.specs.declared.events.Event.{Event}
 use Rattle.reg_world.specs.declared.events.Event.TheVariants.{Call, Take, Tick}
 use Rattle.reg_world.specs.declared.faults.WorldFault.{WorldFault}
@@ -20,7 +20,7 @@ use Rattle.reg_world.specs.Histories.{Grows, Makes}
 use Rattle.reg_world.specs.Tallies.{Tally}
 use Rattle.reg_world.specs.Books.{AreTallies}
 use Rattle.reg_world.specs.Pages.{Pages, tally_at}
-use Rattle.reg_world.specs.Stations.{Standing, listed}
+use Rattle.reg_world.specs.Members.{Standing, listed}
 use Rattle.reg_world.specs.Worlds.{Made, run_in, with_event, reply_in, Accepts, Refuses}
 
 -- what the book tells is what the run of its events tells
@@ -36,16 +36,16 @@ abbrev pub standing_of : ℕ → World → ℕ → Standing
 standing_of n w p = record { failed = false; state = (w.nodes p).state; wires = listed (w.nodes p).wire n }
 
 -- the processes stand as the run has them
-pub record Stand (start : Op → ℕ → Start) (b : Pages) (stations : List Standing) : Type 0 where
-  pub each : (p : ℕ) → p < b.shape.processes → IsAt stations p (standing_of b.shape.processes (whole start b.shape.processes b.shape.registers b.accepted) p)
+pub record Stand (start : Op → ℕ → Start) (b : Pages) (members : List Standing) : Type 0 where
+  pub each : (p : ℕ) → p < b.shape.processes → IsAt members p (standing_of b.shape.processes (whole start b.shape.processes b.shape.registers b.accepted) p)
 
 -- What is true of the parts of a world. After a stop nothing is claimed of the processes and wires.
-pub record IsWorld (start : Op → ℕ → Start) (failed : Bool) (stations : List Standing) (b : Pages) : Type 0 where
+pub record IsWorld (start : Op → ℕ → Start) (failed : Bool) (members : List Standing) (b : Pages) : Type 0 where
   pub few : b.shape.processes ≤ MOST_PROCESSES
-  pub size : length stations ≡ b.shape.processes
+  pub size : length members ≡ b.shape.processes
   pub tells : Tells start b
   pub makes : Makes b.accepted b.entries
-  pub stand : failed ≡ false → Stand start b stations
+  pub stand : failed ≡ false → Stand start b members
 
 abbrev pub made_of : Bool → Pages → Made
 made_of failed b = record { failed = failed; processes = b.shape.processes; registers = b.shape.registers; accepted = b.accepted; history = b.entries }
@@ -67,8 +67,8 @@ frame_or None = Err NoFrame
 frame_or (Some frame) = Ok frame
 
 abbrev pub frame_in : List Standing → ℕ → ℕ → ℕ → Result Frame WorldFault
-frame_in stations from to number =
-    cond (nat_lt from (length stations)) (cond (nat_lt to (length stations)) (cond (from == to) (Err NoFrame) (frame_or (slice_get (wire_in (slice_get stations from) to) number))) (Err NoProcess)) (Err NoProcess)
+frame_in members from to number =
+    cond (nat_lt from (length members)) (cond (nat_lt to (length members)) (cond (from == to) (Err NoFrame) (frame_or (slice_get (wire_in (slice_get members from) to) number))) (Err NoProcess)) (Err NoProcess)
 
 abbrev pub call_or : Option WorldFault → ℕ → Op → Result (ℕ × Step) WorldFault
 call_or None p op = Ok (p, CallStep op)
@@ -79,26 +79,26 @@ take_or (Ok frame) from to = Ok (to, TakeStep from frame)
 take_or (Err fault) from to = Err fault
 
 abbrev pub found_step : List Standing → Pages → Event → Result (ℕ × Step) WorldFault
-found_step stations b (Call p op) = call_or (call_refusal b.tallies b.shape.registers p op) p op
-found_step stations b (Take from to number) = take_or (frame_in stations from to number) from to
-found_step stations b (Tick p) = cond (nat_lt p (length stations)) (Ok (p, TickStep)) (Err NoProcess)
+found_step members b (Call p op) = call_or (call_refusal b.tallies b.shape.registers p op) p op
+found_step members b (Take from to number) = take_or (frame_in members from to number) from to
+found_step members b (Tick p) = cond (nat_lt p (length members)) (Ok (p, TickStep)) (Err NoProcess)
 
 abbrev pub found : List Standing → Pages → Event → Result (ℕ × Step) WorldFault
-found stations b e = cond (nat_lt (length b.accepted) MOST_EVENTS) (found_step stations b e) (Err TooManyEvents)
+found members b e = cond (nat_lt (length b.accepted) MOST_EVENTS) (found_step members b e) (Err TooManyEvents)
 
 abbrev pub IsMove : (Op → ℕ → Start) → Pages → Event → ℕ × Step → Type 0
 IsMove start b e m = move_of b.shape.processes b.shape.registers (run_in start (made_of false b)) e ≡ Some m
 
 -- the event was made, with this reply
-pub record Advances (start : Op → ℕ → Start) (old : Pages) (e : Event) (answer : Option Reply) (stations : List Standing) (new : Pages) : Type 0 where
-  pub world : IsWorld start false stations new
+pub record Advances (start : Op → ℕ → Start) (old : Pages) (e : Event) (answer : Option Reply) (members : List Standing) (new : Pages) : Type 0 where
+  pub world : IsWorld start false members new
   pub made : made_of false new ≡ with_event start (made_of false old) e
   pub reply : answer ≡ reply_in start (made_of false old) e
   pub grows : Grows (length old.accepted) old.entries e answer new.entries
 
 -- the parts of a world after an event, which is no longer ahead
-pub record PartsGoOn (start : Op → ℕ → Start) (old : Pages) (e : Event) (stations : List Standing) (new : Pages) : Type 0 where
-  pub world : IsWorld start false stations new
+pub record PartsGoOn (start : Op → ℕ → Start) (old : Pages) (e : Event) (members : List Standing) (new : Pages) : Type 0 where
+  pub world : IsWorld start false members new
   pub accepts : Accepts start (made_of false old) e (made_of false new)
   pub ahead : new.ahead ≡ drop 1 old.ahead
 

@@ -6,7 +6,7 @@ use crate::books::Book;
 use crate::callers::Caller;
 use crate::events::Event;
 use crate::faults::WorldFault;
-use crate::stations::Station;
+use crate::members::Member;
 use reg_base::Op;
 use reg_base::limits::{MOST_EVENTS, MOST_OPERATIONS};
 use reg_frames::Frame;
@@ -43,15 +43,15 @@ fn call_refusal<A: Allocator + Copy>(
 /// The frame at this place, from 0, of all frames ever put from one process to another.
 #[inline(always)]
 fn frame_from<F: FrontEnd, A: Allocator + Copy, W: WireStore<A>>(
-    stations: &[Station<F, A, W>],
+    members: &[Member<F, A, W>],
     from: u8,
     to: u8,
     number: u32,
 ) -> Option<Frame>
-    ensures { result ≡ slice_get (wire_in (slice_get stations.now from) to) number }
+    ensures { result ≡ slice_get (wire_in (slice_get members.now from) to) number }
 {
-    match stations.get(usize::from(from)) {
-        Some(station) => station.frame_at(to, number),
+    match members.get(usize::from(from)) {
+        Some(member) => member.frame_at(to, number),
         None => None,
     }
 }
@@ -68,14 +68,14 @@ fn frame_or_fault(frame: Option<Frame>) -> Result<Frame, WorldFault>
 
 /// The frame at this place of a wire, from 0.
 fn frame_at<F: FrontEnd, A: Allocator + Copy, W: WireStore<A>>(
-    stations: &[Station<F, A, W>],
+    members: &[Member<F, A, W>],
     from: u8,
     to: u8,
     number: u32,
 ) -> Result<Frame, WorldFault>
-    ensures { result ≡ frame_in stations.now from to number }
+    ensures { result ≡ frame_in members.now from to number }
 {
-    let count = stations.len();
+    let count = members.len();
     if usize::from(from) >= count {
         return Err(WorldFault::NoProcess);
     }
@@ -85,7 +85,7 @@ fn frame_at<F: FrontEnd, A: Allocator + Copy, W: WireStore<A>>(
     if from == to {
         return Err(WorldFault::NoFrame);
     }
-    frame_or_fault(frame_from(stations, from, to, number))
+    frame_or_fault(frame_from(members, from, to, number))
 }
 
 /// The step of a call, unless it is refused.
@@ -109,11 +109,11 @@ fn take_step(frame: Result<Frame, WorldFault>, from: u8, to: u8) -> Result<(u8, 
 /// The same, of an event that isn't one too many.
 #[inline(always)]
 fn found_step<F: FrontEnd, A: Allocator + Copy, W: WireStore<A>>(
-    stations: &[Station<F, A, W>],
+    members: &[Member<F, A, W>],
     book: &Book<A>,
     event: &Event,
 ) -> Result<(u8, Step), WorldFault>
-    ensures { result ≡ found_step_of stations.now book.now event.now }
+    ensures { result ≡ found_step_of members.now book.now event.now }
 {
     match *event {
         Event::Call { process, op } => {
@@ -125,12 +125,12 @@ fn found_step<F: FrontEnd, A: Allocator + Copy, W: WireStore<A>>(
             )
         }
         Event::Take { from, to, number } => take_step(
-            frame_at(stations, from, to, number),
+            frame_at(members, from, to, number),
             from,
             to,
         ),
         Event::Tick { process } => {
-            if usize::from(process) < stations.len() {
+            if usize::from(process) < members.len() {
                 Ok((process, Step::Tick))
             } else {
                 Err(WorldFault::NoProcess)
@@ -142,14 +142,14 @@ fn found_step<F: FrontEnd, A: Allocator + Copy, W: WireStore<A>>(
 /// Which process makes which step in the event, or the first fault that applies.
 #[inline(always)]
 pub(crate) fn found<F: FrontEnd, A: Allocator + Copy, W: WireStore<A>>(
-    stations: &[Station<F, A, W>],
+    members: &[Member<F, A, W>],
     book: &Book<A>,
     event: &Event,
 ) -> Result<(u8, Step), WorldFault>
-    ensures { result ≡ found_of stations.now book.now event.now }
+    ensures { result ≡ found_of members.now book.now event.now }
 {
     if book.accepted().len() >= MOST_EVENTS as usize {
         return Err(WorldFault::TooManyEvents);
     }
-    found_step(stations, book, event)
+    found_step(members, book, event)
 }

@@ -8,9 +8,9 @@ mod events;
 mod faults;
 mod finding;
 pub mod laws;
+mod members;
 mod order;
 mod running;
-mod stations;
 mod witnesses;
 
 pub use events::Event;

@@ -1,7 +1,7 @@
 //! All processes and wires of a run, one event after another.
 ghost use Rattle.std.specs.Prelude.{◌≡◌, ◌<◌, ◌≤◌, ◌⊎◌, ◌++◌, ◌∷◌, List, false, length, take, drop, Option, Some, IfOk, OnOk, [], MatchOption, MatchResult};
-ghost use Rattle.reg_orders.specs.History.{IsHistory};
-ghost use Rattle.reg_orders.specs.Orders.{IsSerial, IsPointOrder};
+ghost use Rattle.reg_histories.specs.History.{IsHistory};
+ghost use Rattle.reg_histories.specs.Orders.{IsSerial, IsPointOrder};
 ghost use Rattle.reg_process.specs.declared.steps.Reply.{Reply};
 ghost use Rattle.reg_world.specs.declared.events.Event.{Event};
 ghost use Rattle.reg_world.specs.Histories.{Grows, Makes};
@@ -17,14 +17,14 @@ use crate::books::Book;
 use crate::events::Event;
 use crate::faults::{RunFault, WorldFault};
 use crate::finding::found;
+use crate::members::{Member, new_members};
 use crate::order::{CopyRead, First};
-use crate::stations::{Station, new_stations};
 use crate::witnesses::{points_of, witness_of};
 use reg_base::limits::MOST_EVENTS;
 use reg_base::{OpId, Shape};
 use reg_frames::Frame;
 use reg_front::{FrontEnd, RealTime};
-use reg_orders::{History, Point};
+use reg_histories::{History, Point};
 use reg_process::{Process, Reply, Step};
 use reg_wires::{WireStore, Wires};
 use std::alloc::{AllocError, Allocator, Global};
@@ -38,7 +38,7 @@ use std::marker::Model;
 pub struct World<F: FrontEnd, A: Allocator + Copy = Global, W: WireStore<A> = Wires<A>> {
     alloc: A,
     failed: bool,
-    stations: Vec<Station<F, A, W>, A>,
+    members: Vec<Member<F, A, W>, A>,
     book: Book<A>,
 }
 
@@ -50,43 +50,43 @@ impl<F: FrontEnd, A: Allocator + Copy, W: WireStore<A>> Model for World<F, A, W>
 
     ghost view = { λ w. record { failed = w.failed; processes = w.book.shape.processes; registers = w.book.shape.registers; accepted = w.book.accepted; history = w.book.entries } };
 
-    ghost invariant = { λ w. IsWorld F.start w.failed w.stations.items w.book };
+    ghost invariant = { λ w. IsWorld F.start w.failed w.members.items w.book };
 }
 
 /// Makes the step of an event. Where memory is refused the book hasn't changed.
 #[inline(always)]
 fn advance<F: FrontEnd, A: Allocator + Copy, W: WireStore<A>>(
-    stations: &mut Vec<Station<F, A, W>, A>,
+    members: &mut Vec<Member<F, A, W>, A>,
     book: &mut Book<A>,
     event: Event,
     process: u8,
     step: &Step,
 ) -> Result<Option<Reply>, AllocError>
-    requires world { IsWorld F.start false stations.old.items book.old }
+    requires world { IsWorld F.start false members.old.items book.old }
     requires moves { IsMove F.start book.old event (process, step.now) }
-    ensures made { MatchResult result (λ reply. Advances F.start book.old event reply stations.new.items book.new) (λ _. (book.new ≡ book.old) × (length stations.new.items ≡ length stations.old.items)) }
+    ensures made { MatchResult result (λ reply. Advances F.start book.old event reply members.new.items book.new) (λ _. (book.new ≡ book.old) × (length members.new.items ≡ length members.old.items)) }
     ensures ahead { OnOk result (book.new.ahead ≡ drop 1 book.old.ahead) }
 {
-    let station = &mut stations[usize::from(process)];
-    let outcome = station.act(step)?;
-    let runs = station.process().busy();
+    let member = &mut members[usize::from(process)];
+    let outcome = member.act(step)?;
+    let runs = member.process().busy();
     book.enter(event, process, step, runs, &outcome)?;
-    station.reuse(outcome.frames);
+    member.reuse(outcome.frames);
     Ok(outcome.reply)
 }
 
 /// Makes an event, or tells why it is refused.
 #[inline(always)]
 fn step_parts<F: FrontEnd, A: Allocator + Copy, W: WireStore<A>>(
-    stations: &mut Vec<Station<F, A, W>, A>,
+    members: &mut Vec<Member<F, A, W>, A>,
     book: &mut Book<A>,
     event: Event,
 ) -> Result<(), WorldFault>
-    requires { IsWorld F.start false stations.old.items book.old }
-    ensures made { MatchResult result (λ _. PartsGoOn F.start book.old event stations.new.items book.new) (λ fault. PartsRefuse F.start book.old event fault) }
+    requires { IsWorld F.start false members.old.items book.old }
+    ensures made { MatchResult result (λ _. PartsGoOn F.start book.old event members.new.items book.new) (λ fault. PartsRefuse F.start book.old event fault) }
 {
-    let (process, step) = found(stations, book, &event)?;
-    match advance(stations, book, event, process, &step) {
+    let (process, step) = found(members, book, &event)?;
+    match advance(members, book, event, process, &step) {
         Ok(_) => Ok(()),
         Err(_) => Err(WorldFault::OutOfMemory),
     }
@@ -94,14 +94,14 @@ fn step_parts<F: FrontEnd, A: Allocator + Copy, W: WireStore<A>>(
 
 /// Makes the events that are ahead, one after another, up to the first that is refused.
 fn run_ahead<F: FrontEnd, A: Allocator + Copy, W: WireStore<A>>(
-    stations: &mut Vec<Station<F, A, W>, A>,
+    members: &mut Vec<Member<F, A, W>, A>,
     book: &mut Book<A>,
     count: usize,
 ) -> Result<(), RunFault>
-    requires world { IsWorld F.start false stations.old.items book.old }
+    requires world { IsWorld F.start false members.old.items book.old }
     requires none { book.old.accepted ≡ [] }
     requires count { count ≡ length book.old.ahead }
-    ensures world { OnOk result (IsWorld F.start false stations.new.items book.new) }
+    ensures world { OnOk result (IsWorld F.start false members.new.items book.new) }
     ensures made { MatchResult result (λ _. made_of false book.new ≡ after_events F.start book.old.shape book.old.ahead) (λ f. RunRefuses F.start book.old.shape book.old.ahead f.at f.fault) }
     ensures accepted { MatchResult result (λ _. (run_in F.start (after_events F.start book.old.shape book.old.ahead)).accepted ≡ book.old.ahead) (λ f. (run_in F.start (after_events F.start book.old.shape (take f.at book.old.ahead))).accepted ≡ take f.at book.old.ahead) }
 {
@@ -109,7 +109,7 @@ fn run_ahead<F: FrontEnd, A: Allocator + Copy, W: WireStore<A>>(
         let Some(event) = book.next_ahead() else {
             unreachable!()
         };
-        if let Err(fault) = step_parts(stations, book, event) {
+        if let Err(fault) = step_parts(members, book, event) {
             return Err(RunFault { at, fault });
         }
     }
@@ -121,12 +121,12 @@ impl<F: FrontEnd, A: Allocator + Copy, W: WireStore<A>> World<F, A, W> {
     pub fn new(alloc: A, shape: Shape) -> Result<World<F, A, W>, AllocError>
         ensures { IfOk result (λ w. w ≡ new_world shape) }
     {
-        let stations = new_stations(alloc, shape)?;
+        let members = new_members(alloc, shape)?;
         let book = Book::new(alloc, shape)?;
         Ok(World {
             alloc,
             failed: false,
-            stations,
+            members,
             book,
         })
     }
@@ -152,8 +152,8 @@ impl<F: FrontEnd, A: Allocator + Copy, W: WireStore<A>> World<F, A, W> {
         if self.failed {
             return Err(WorldFault::Failed);
         }
-        let (process, step) = found(&self.stations, &self.book, event)?;
-        match advance(&mut self.stations, &mut self.book, *event, process, &step) {
+        let (process, step) = found(&self.members, &self.book, event)?;
+        match advance(&mut self.members, &mut self.book, *event, process, &step) {
             Ok(reply) => Ok(reply),
             Err(_) => {
                 self.failed = true;
@@ -192,7 +192,7 @@ impl<F: FrontEnd, A: Allocator + Copy, W: WireStore<A>> World<F, A, W> {
         };
         let count = events.len();
         world.book.put_ahead(events);
-        run_ahead(&mut world.stations, &mut world.book, count)?;
+        run_ahead(&mut world.members, &mut world.book, count)?;
         world.history();
         Ok(world)
     }
@@ -267,8 +267,8 @@ impl<F: FrontEnd, A: Allocator + Copy, W: WireStore<A>> World<F, A, W> {
         ensures process { MatchOption result (self.now.processes ≤ process) (λ p. IsProcess F.start self.now process p.now) }
         ensures quiescent { AllAcknowledged self.now.processes (run_in F.start self.now).nodes → IsQuiescent self.now.processes (run_in F.start self.now).nodes }
     {
-        match self.stations.get(usize::from(process)) {
-            Some(station) => Some(station.process()),
+        match self.members.get(usize::from(process)) {
+            Some(member) => Some(member.process()),
             None => None,
         }
     }
@@ -281,11 +281,11 @@ impl<F: FrontEnd, A: Allocator + Copy, W: WireStore<A>> World<F, A, W> {
         if from == to {
             return None;
         }
-        if usize::from(to) >= self.stations.len() {
+        if usize::from(to) >= self.members.len() {
             return None;
         }
-        match self.stations.get(usize::from(from)) {
-            Some(station) => Some(station.count(to)),
+        match self.members.get(usize::from(from)) {
+            Some(member) => Some(member.count(to)),
             None => None,
         }
     }
@@ -298,11 +298,11 @@ impl<F: FrontEnd, A: Allocator + Copy, W: WireStore<A>> World<F, A, W> {
         if from == to {
             return None;
         }
-        if usize::from(to) >= self.stations.len() {
+        if usize::from(to) >= self.members.len() {
             return None;
         }
-        match self.stations.get(usize::from(from)) {
-            Some(station) => station.frame_at(to, number),
+        match self.members.get(usize::from(from)) {
+            Some(member) => member.frame_at(to, number),
             None => None,
         }
     }
@@ -352,11 +352,11 @@ impl<F: FrontEnd, A: Allocator + Copy> World<F, A, Wires<A>> {
         if from == to {
             return None;
         }
-        if usize::from(to) >= self.stations.len() {
+        if usize::from(to) >= self.members.len() {
             return None;
         }
-        match self.stations.get(usize::from(from)) {
-            Some(station) => Some(station.wire(to)),
+        match self.members.get(usize::from(from)) {
+            Some(member) => Some(member.wire(to)),
             None => None,
         }
     }

@@ -14,15 +14,15 @@ use tellwydar::{
     start, write,
 };
 
-/// Reads at a place of the journal that is not below the front.
+/// Reads at a place of the journal that is not below the floor.
 fn read_from<R: Wait>(
     rt: &R,
     pass: &mut Pass<Linear, NoGate>,
-    front: u64,
+    floor: u64,
 ) -> Result<Receipt, LiveFault>
-    ensures { IfOk result (λ receipt. front ≤ receipt.called) }
+    ensures { IfOk result (λ receipt. floor ≤ receipt.called) }
 {
-    pass.perform_after(rt, read(0), front)
+    pass.perform_after(rt, read(0), floor)
 }
 
 /// Writes with one pass, and has another thread read with the other from behind the answer on.
@@ -33,9 +33,9 @@ fn write_and_read<R: Threads + Wait + Copy + Send + Sync + 'static>(
     let (Some(mut reader), Some(writer)) = (passes.pop(), passes.last_mut()) else {
         return Err(anyhow!("no passes"));
     };
-    let front = writer.perform(&rt, write(0, 5))?.answered.saturating_add(1);
+    let floor = writer.perform(&rt, write(0, 5))?.answered.saturating_add(1);
     let other = thread::spawn(&rt, move || {
-        let seen = read_from(&rt, &mut reader, front);
+        let seen = read_from(&rt, &mut reader, floor);
         (reader, seen)
     })?;
     let (reader, seen) = other.join(&rt);

@@ -12,20 +12,20 @@ pub use operations::{read, swap, write};
 pub use reg_base::{Answer, Names, NamesFault, Op, OpId, Shape, ShapeFault, Stamp, limits};
 pub use reg_frames::{Body, Frame};
 pub use reg_front::{Front, FrontEnd, Linear, LocalRead, LocalWrite, RealTime, Start};
-pub use reg_history::{
-    CheckFault, Entry, History, HistoryFault, Point, ReadFault, ReadWhy, Report, ReportFault,
-    WriteFault, check_points, check_serial, read_report, write_report,
-};
 pub use reg_live::{
     CloseFault, Closed, Cluster, Courier, Gate, Honest, LiveFault, LogEntry, NoGate, Pacer, Parcel,
     Parts, Pass, Posts, Receipt, Road, Rough, close, set_up, verify,
 };
-pub use reg_process::{Reply, Step};
-pub use reg_rest::{SettleFault, settle};
-pub use reg_running::{Running, StartFault, start};
-pub use reg_scripts::{RunStop, run_scripts};
-pub use reg_workload::{
+pub use reg_players::{
     Key, Play, Schedule, ScheduleFault, SeedWords, Words, Workload, WorkloadFault, parse_schedule,
     play_fair, play_seeded,
 };
+pub use reg_process::{Reply, Step};
+pub use reg_reports::{
+    CheckFault, Entry, History, HistoryFault, Point, ReadFault, ReadWhy, Report, ReportFault,
+    WriteFault, check_points, check_serial, read_report, write_report,
+};
+pub use reg_rest::{SettleFault, settle};
+pub use reg_running::{Running, StartFault, start};
+pub use reg_scripts::{RunStop, run_scripts};
 pub use reg_world::{CopyRead, Event, First, RunFault, WireStore, Wires, World, WorldFault};

@@ -46,13 +46,13 @@ fn reads_all(rt: &impl Wait, passes: &mut Vec<Pass<LocalRead, NoGate>>) -> bool 
 }
 
 /// A pass, and what it was told.
-type Told = (Pass<LocalRead, NoGate>, Result<Receipt, LiveFault>);
+type Performed = (Pass<LocalRead, NoGate>, Result<Receipt, LiveFault>);
 
 /// Writes in a thread of its own.
 fn write_apart<R: Threads + Wait + Abort + Copy + Send + Sync + 'static>(
     rt: R,
     pass: Pass<LocalRead, NoGate>,
-) -> JoinHandle<Told> {
+) -> JoinHandle<Performed> {
     let mut pass = pass;
     thread::spawn(&rt, move || {
         let told = pass.perform(&rt, write(0, 1));

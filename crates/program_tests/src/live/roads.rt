@@ -5,8 +5,8 @@ use crate::live::crews::{
 use crate::values::{read, write};
 use reg_base::Answer;
 use reg_front::{FrontEnd, Linear, LocalRead, LocalWrite};
+use reg_histories::{check_points, check_serial};
 use reg_live::{Closed, LiveFault, NoGate, Pass, Rough};
-use reg_orders::{check_points, check_serial};
 use reg_random::SeedWords;
 use std::alloc::Global;
 use std::process::Abort;

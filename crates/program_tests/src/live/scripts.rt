@@ -23,14 +23,14 @@ fn front_of(pass: &Pass<LocalWrite, NoGate>) -> u64 {
 }
 
 /// A pass, and what it was told.
-type Told = (Pass<LocalWrite, NoGate>, Result<Receipt, LiveFault>);
+type Performed = (Pass<LocalWrite, NoGate>, Result<Receipt, LiveFault>);
 
 /// Reads from this place on, in a thread of its own.
 fn read_apart<R: Threads + Wait + Abort + Copy + Send + Sync + 'static>(
     rt: R,
     pass: Pass<LocalWrite, NoGate>,
     front: u64,
-) -> JoinHandle<Told> {
+) -> JoinHandle<Performed> {
     let mut pass = pass;
     thread::spawn(&rt, move || {
         let told = pass.perform_after(&rt, read(0), front);

@@ -6,7 +6,7 @@ use Rattle.reg_base.specs.Shape.{Extent}
 use Rattle.reg_front.specs.declared.starts.Start.{Start}
 use Rattle.reg_world.specs.declared.events.Event.{Event}
 use Rattle.reg_world.specs.Pages.{Pages}
-use Rattle.reg_world.specs.Stations.{Standing}
+use Rattle.reg_world.specs.Members.{Standing}
 use Rattle.reg_world.specs.WorldParts.{IsWorld}
 
 first_of : (at : ℕ) (events : List Event) (e : Event) → Some e ≡ slice_get (drop at events) 0 → (at < length events) × (get_or events at e ≡ e)
@@ -30,8 +30,8 @@ next_ahead at events old new is e =
     e ∙ ap (drop 1) is ∙ drop_next at events ∙ ap (λ n. drop n events) k
 
 -- the events ahead are no part of a world
-pub with_ahead : (start : Op → ℕ → Start) (failed : Bool) (stations : List Standing) (b new : Pages) (events : List Event) → IsWorld start failed stations b → failed ≡ false → new ≡ record b { ahead = events } → IsWorld start false stations new
-with_ahead start failed stations b new events I no_stop is = subst (λ (z : Pages). IsWorld start false stations z) (sym is) (record {
+pub with_ahead : (start : Op → ℕ → Start) (failed : Bool) (members : List Standing) (b new : Pages) (events : List Event) → IsWorld start failed members b → failed ≡ false → new ≡ record b { ahead = events } → IsWorld start false members new
+with_ahead start failed members b new events I no_stop is = subst (λ (z : Pages). IsWorld start false members z) (sym is) (record {
   few = I.few;
   size = I.size;
   tells = record { accepted = I.tells.accepted; entries = I.tells.entries; order = I.tells.order; reads = I.tells.reads; tallies = I.tells.tallies };

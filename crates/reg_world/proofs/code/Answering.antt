@@ -14,8 +14,8 @@ use Rattle.reg_front.specs.declared.starts.Start.{Start}
 use Rattle.reg_front.specs.Fronts.{KeepsLaws}
 use Rattle.reg_process.specs.Events.{Kept}
 use Rattle.reg_process.specs.declared.steps.Step.{Step}
-use Rattle.reg_orders.specs.declared.entries.Point.{Point}
-use Rattle.reg_orders.specs.History.{IsAt}
+use Rattle.reg_histories.specs.declared.entries.Point.{Point}
+use Rattle.reg_histories.specs.History.{IsAt}
 use Rattle.reg_world.specs.declared.events.Event.{Event}
 use Rattle.reg_world.specs.declared.faults.WorldFault.{WorldFault}
 use Rattle.reg_world.specs.declared.faults.WorldFault.TheVariants.{Failed, TooManyEvents, NoProcess, Busy, NoRegister, TooManyOperations, NoFrame, OutOfMemory}
@@ -26,7 +26,7 @@ use Rattle.reg_world.specs.World.{World, run_of, world_fault, move_of, moved, wh
 use Rattle.reg_world.specs.Tallies.{Tally}
 use Rattle.reg_world.specs.Witnesses.{is_kept, point_of, IsMerged}
 use Rattle.reg_world.specs.Pages.{Pages}
-use Rattle.reg_world.specs.Stations.{Standing, listed}
+use Rattle.reg_world.specs.Members.{Standing, listed}
 use Rattle.reg_world.specs.Worlds.{Made, run_in, refusal, with_event, Accepts, Refuses, after_events, RunRefuses, IsProcess, IsWire}
 use Rattle.reg_world.specs.WorldParts.{IsWorld, made_of, standing_of}
 use Rattle.reg_world.proofs.code.Noted.{at_index}
@@ -39,7 +39,7 @@ pub if_ok : {T E : Type 0} (r : Result T E) (P Q : T → Type 0) → IfOk r P �
 if_ok (Ok x) P Q h f = f x h
 if_ok (Err e) P Q h f = tt
 
-module _ (start : Op → ℕ → Start) (laws : KeepsLaws start) (failed : Bool) (b : Pages) (stations : List Standing) (I : IsWorld start failed stations b) where
+module _ (start : Op → ℕ → Start) (laws : KeepsLaws start) (failed : Bool) (b : Pages) (members : List Standing) (I : IsWorld start failed members b) where
   abbrev w : World
   w = whole start b.shape.processes b.shape.registers b.accepted
 
@@ -60,20 +60,20 @@ module _ (start : Op → ℕ → Start) (laws : KeepsLaws start) (failed : Bool)
         let exact : points ≡ map point_of (filter (is_kept b.tallies) w.order) = same ∙ (ap (λ z. map point_of (filter (is_kept z) order)) et ∙ ap (λ z. map point_of (filter (is_kept b.tallies) z)) (eo ∙ sym I.tells.order)) in
         subst (λ (z : Made). ArePoints (run_of z.registers (run_in start z)) points) is (subst (ArePoints (run_of b.shape.registers w)) (sym exact) (points_are start b.shape.processes b.shape.registers laws b.accepted b.tallies I.tells.tallies))
 
-    stands : (p : ℕ) (s : Standing) → IsAt stations p s → p < length stations → failed ≡ false → s ≡ standing_of b.shape.processes w p
+    stands : (p : ℕ) (s : Standing) → IsAt members p s → p < length members → failed ≡ false → s ≡ standing_of b.shape.processes w p
     stands p s at l f = let size = I.size in same_Some s (standing_of b.shape.processes w p) (sym at ∙ (I.stand f).each p (omega (arith, l, size)))
 
-    pub process_told : (p k : ℕ) (s : Standing) (q : Kept) → k ≡ p → k < length stations → s ≡ get_or stations k s → q.failed ≡ s.failed → q.state ≡ s.state → IsProcess start m p q
+    pub process_told : (p k : ℕ) (s : Standing) (q : Kept) → k ≡ p → k < length members → s ≡ get_or members k s → q.failed ≡ s.failed → q.state ≡ s.state → IsProcess start m p q
     process_told p k s q same l at failing state =
-        let place : IsAt stations p s = subst (λ j. IsAt stations j s) same (at_index stations k s l at) in
+        let place : IsAt members p s = subst (λ j. IsAt members j s) same (at_index members k s l at) in
         subst (λ (z : Made). IsProcess start z p q) is (
           (let size = I.size in omega (arith, same, l, size)),
           λ f. let here = stands p s place (omega (arith, same, l)) f in (failing ∙ ap (λ (z : Standing). z.failed) here, state ∙ ap (λ (z : Standing). z.state) here),
         )
 
-    pub wire_told : (from to k : ℕ) (s : Standing) (frames : List Frame) → k ≡ from → k < length stations → s ≡ get_or stations k s → to < length stations → (from ≡ to → ⊥) → frames ≡ get_or s.wires to [] → IsWire start m from to frames
+    pub wire_told : (from to k : ℕ) (s : Standing) (frames : List Frame) → k ≡ from → k < length members → s ≡ get_or members k s → to < length members → (from ≡ to → ⊥) → frames ≡ get_or s.wires to [] → IsWire start m from to frames
     wire_told from to k s frames same l at lt ne is_wire =
-        let place : IsAt stations from s = subst (λ j. IsAt stations j s) same (at_index stations k s l at) in
+        let place : IsAt members from s = subst (λ j. IsAt members j s) same (at_index members k s l at) in
         let size = I.size in
         subst (λ (z : Made). IsWire start z from to frames) is (
           omega (arith, same, l, size),

@@ -7,12 +7,12 @@ use Rattle.reg_base.specs.Shape.{Extent}
 use Rattle.reg_front.specs.declared.starts.Start.{Start}
 use Rattle.reg_process.specs.Process.{Peer, no_peer}
 use Rattle.reg_process.specs.Parts.{merged, nothing, state_of, first_parts}
-use Rattle.reg_orders.specs.History.{IsAt}
+use Rattle.reg_histories.specs.History.{IsAt}
 use Rattle.reg_world.specs.Histories.{Nothing}
 use Rattle.reg_world.specs.Nodes.{first_state}
 use Rattle.reg_world.specs.Tallies.{no_calls}
 use Rattle.reg_world.specs.Pages.{Pages}
-use Rattle.reg_world.specs.Stations.{Standing, listed}
+use Rattle.reg_world.specs.Members.{Standing, listed}
 use Rattle.reg_world.specs.WorldParts.{IsWorld, first_standing}
 use Rattle.reg_world.proofs.code.Sending.{length-listed, listed_empty}
 use Rattle.reg_world.proofs.code.Telling.{at_listed}
@@ -32,9 +32,9 @@ at_replicate (suc n) (suc p) x l = at_replicate n p x (omega arith)
 abbrev pub blank_book : Extent → Pages
 blank_book shape = record { shape = shape; accepted = []; ahead = []; entries = []; order = []; reads = []; tallies = replicate shape.processes no_calls }
 
-pub new_is : (start : Op → ℕ → Start) (shape : Extent) (stations : List Standing) (b : Pages) → shape.processes ≤ MOST_PROCESSES → stations ≡ listed (first_standing shape) shape.processes → b ≡ blank_book shape → IsWorld start false stations b
-new_is start shape stations b few stand is =
-    subst (λ z. IsWorld start false stations z) (sym is) (subst (λ z. IsWorld start false z (blank_book shape)) (sym stand) (record {
+pub new_is : (start : Op → ℕ → Start) (shape : Extent) (members : List Standing) (b : Pages) → shape.processes ≤ MOST_PROCESSES → members ≡ listed (first_standing shape) shape.processes → b ≡ blank_book shape → IsWorld start false members b
+new_is start shape members b few stand is =
+    subst (λ z. IsWorld start false members z) (sym is) (subst (λ z. IsWorld start false z (blank_book shape)) (sym stand) (record {
       few = few;
       size = length-listed (first_standing shape) shape.processes;
       tells = record {

@@ -6,11 +6,11 @@ use Rattle.std.proofs.lemmas.List.{append_assoc, drop_more, take_at, take-append
 use Rattle.reg_base.specs.declared.stamps.Stamp.{Stamp}
 use Rattle.reg_base.specs.declared.stamps.Delivered.{Delivered}
 use Rattle.reg_base.specs.Order.{In}
-use Rattle.reg_orders.specs.declared.entries.Entry.{Entry}
-use Rattle.reg_orders.specs.declared.faults.HistoryFault.{HistoryFault}
-use Rattle.reg_orders.specs.declared.faults.HistoryFault.TheVariants.{OutOfPlace, OutOfMemory}
-use Rattle.reg_orders.specs.History.{IsAt, IsHistory, IsInPlace}
-use Rattle.reg_orders.specs.Log.{Log, Refuses}
+use Rattle.reg_histories.specs.declared.entries.Entry.{Entry}
+use Rattle.reg_histories.specs.declared.faults.HistoryFault.{HistoryFault}
+use Rattle.reg_histories.specs.declared.faults.HistoryFault.TheVariants.{OutOfPlace, OutOfMemory}
+use Rattle.reg_histories.specs.History.{IsAt, IsHistory, IsInPlace}
+use Rattle.reg_histories.specs.Log.{Log, Refuses}
 use Rattle.reg_world.specs.declared.order.First.{First}
 use Rattle.reg_world.specs.Tallies.{Tally, no_calls}
 use Rattle.reg_world.specs.Witnesses.{is_after}

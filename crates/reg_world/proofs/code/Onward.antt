@@ -13,8 +13,8 @@ use Rattle.reg_process.specs.declared.steps.Step.{Step}
 use Rattle.reg_process.specs.declared.steps.Step.TheVariants.{Call as CallStep, Take as TakeStep, Tick as TickStep}
 use Rattle.reg_process.specs.Process.{State, Outcome, step}
 use Rattle.reg_process.specs.Puts.{puts}
-use Rattle.reg_orders.specs.declared.entries.Entry.{Entry}
-use Rattle.reg_orders.specs.History.{IsAt, IsHistory}
+use Rattle.reg_histories.specs.declared.entries.Entry.{Entry}
+use Rattle.reg_histories.specs.History.{IsAt, IsHistory}
 use Rattle.reg_world.specs.declared.events.Event.{Event}
 use Rattle.reg_world.specs.declared.order.First.{First}
 use Rattle.reg_world.specs.declared.order.CopyRead.{CopyRead}
@@ -25,7 +25,7 @@ use Rattle.reg_world.specs.Books.{tally_of, AreTallies}
 use Rattle.reg_world.specs.Witnesses.{last_stamp}
 use Rattle.reg_world.specs.Pages.{Pages, tally_after, tally_at, tallies_after, read_in, firsts_in, entries_after, entered, CallFits, MayEnter}
 use Rattle.reg_wires.specs.Sent.{sent}
-use Rattle.reg_world.specs.Stations.{Standing, listed, Acts}
+use Rattle.reg_world.specs.Members.{Standing, listed, Acts}
 use Rattle.reg_world.specs.WorldParts.{Tells, Stand, IsWorld, standing_of}
 use Rattle.reg_world.proofs.one_order.Allowed.{Allowed, StepAllowed, allowed}
 use Rattle.reg_world.specs.Histories.{Grows, More}
@@ -132,20 +132,20 @@ module _ (start : Op → ℕ → Start) (laws : KeepsLaws start) (b : Pages) (T 
       let state : new.state ≡ (v.nodes p).state = B.state ∙ ap (λ (z : Node). z.state) (sym node) in
       (λ i. record { failed = B.runs i; state = state i; wires = wires i }, B.cast, B.delivered, B.reply)
 
-  pub stand_now : (stations : List Standing) (new : Standing) → length stations ≡ n → Stand start b stations → new ≡ standing_of n v p → Stand start after (set stations p new)
-  stand_now stations new size S is = record {
-    each = λ q l. subst (λ (z : World). IsAt (set stations p new) q (standing_of n z q)) (sym next) (elim (cases_eq q p) [
-      | inl same ↦ subst (λ k. IsAt (set stations p new) k (standing_of n v k)) (sym same) (at_set_same stations p new (let h = here in omega (arith, h, size)) ∙ ap Some is)
-      | inr ne ↦ at_set_other stations p q new ne ∙ (S.each q l ∙ ap (λ (z : Node). Some (record { failed = false; state = z.state; wires = listed z.wire n })) (sym (node_there start n registers laws b.accepted e p st move q ne)))
+  pub stand_now : (members : List Standing) (new : Standing) → length members ≡ n → Stand start b members → new ≡ standing_of n v p → Stand start after (set members p new)
+  stand_now members new size S is = record {
+    each = λ q l. subst (λ (z : World). IsAt (set members p new) q (standing_of n z q)) (sym next) (elim (cases_eq q p) [
+      | inl same ↦ subst (λ k. IsAt (set members p new) k (standing_of n v k)) (sym same) (at_set_same members p new (let h = here in omega (arith, h, size)) ∙ ap Some is)
+      | inr ne ↦ at_set_other members p q new ne ∙ (S.each q l ∙ ap (λ (z : Node). Some (record { failed = false; state = z.state; wires = listed z.wire n })) (sym (node_there start n registers laws b.accepted e p st move q ne)))
     ]);
   }
 
   -- the world after the event
-  pub world_now : (stations : List Standing) (new : Standing) (now : Pages) → IsWorld start false stations b → new ≡ standing_of n v p → now ≡ after → IsWorld start false (set stations p new) now
-  world_now stations new now I is same = subst (λ (z : Pages). IsWorld start false (set stations p new) z) (sym same) (record {
+  pub world_now : (members : List Standing) (new : Standing) (now : Pages) → IsWorld start false members b → new ≡ standing_of n v p → now ≡ after → IsWorld start false (set members p new) now
+  world_now members new now I is same = subst (λ (z : Pages). IsWorld start false (set members p new) z) (sym same) (record {
     few = I.few;
-    size = length-set stations p new ∙ I.size;
+    size = length-set members p new ∙ I.size;
     tells = tells_now;
     makes = More e r.1.reply I.makes grows_now;
-    stand = λ f. stand_now stations new I.size (I.stand refl) is;
+    stand = λ f. stand_now members new I.size (I.stand refl) is;
   })

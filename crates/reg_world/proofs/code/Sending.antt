@@ -6,7 +6,7 @@ use Rattle.reg_frames.specs.declared.bodies.Frame.{Frame}
 use Rattle.reg_process.specs.declared.outcomes.Put.{Put}
 use Rattle.reg_process.specs.Puts.{puts, put_to}
 use Rattle.reg_wires.specs.Sent.{sent}
-use Rattle.reg_world.specs.Stations.{listed}
+use Rattle.reg_world.specs.Members.{listed}
 use Rattle.reg_base.proofs.Lists.{in_cases}
 use Rattle.reg_world.proofs.lists.Members.{map_in}
 

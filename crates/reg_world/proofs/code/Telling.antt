@@ -18,7 +18,7 @@ use Rattle.reg_world.specs.Nodes.{Nodes, step_of, take_step}
 use Rattle.reg_world.specs.World.{World, frame_fault, event_fault, world_fault, move_of, whole}
 use Rattle.reg_world.specs.Books.{tally_of}
 use Rattle.reg_world.specs.Pages.{Pages, tally_at}
-use Rattle.reg_world.specs.Stations.{Standing, listed}
+use Rattle.reg_world.specs.Members.{Standing, listed}
 use Rattle.reg_world.specs.WorldParts.{Tells, Stand, tally_fault, call_refusal, wire_in, frame_or, frame_in, call_or, take_or, found_step, found}
 use Rattle.reg_world.proofs.lists.Bodies.{place_first, place_last}
 use Rattle.reg_world.proofs.code.Tallied.{at_or}
@@ -60,14 +60,14 @@ at_listed f (suc n) k l = elim (cases_eq k n) [
   | inr ne ↦ place_first (listed f n) (f n ∷ []) k (f k) (at_listed f n k (omega (arith, l, ne)))
 ]
 
-module _ (start : Op → ℕ → Start) (b : Pages) (stations : List Standing) (size : length stations ≡ b.shape.processes) (T : Tells start b) (S : Stand start b stations) where
+module _ (start : Op → ℕ → Start) (b : Pages) (members : List Standing) (size : length members ≡ b.shape.processes) (T : Tells start b) (S : Stand start b members) where
   abbrev n : ℕ
   n = b.shape.processes
 
   abbrev w : World
   w = whole start b.shape.processes b.shape.registers b.accepted
 
-  call_right : (p : ℕ) (op : Op) → IsFound (event_fault n b.shape.registers w.nodes (Call p op)) (step_of n b.shape.registers w.nodes (Call p op)) (found_step stations b (Call p op))
+  call_right : (p : ℕ) (op : Op) → IsFound (event_fault n b.shape.registers w.nodes (Call p op)) (step_of n b.shape.registers w.nodes (Call p op)) (found_step members b (Call p op))
   call_right p op =
       let s = (w.nodes p).state in
       let a = nat_lt p n in
@@ -86,40 +86,40 @@ module _ (start : Op → ℕ → Start) (b : Pages) (stations : List Standing) (
       ] in
       subst (λ o. IsFound (event_fault n b.shape.registers w.nodes (Call p op)) (step_of n b.shape.registers w.nodes (Call p op)) (call_or o p op)) same it
 
-  wire_is : (from to : ℕ) → from < n → to < n → wire_in (slice_get stations from) to ≡ (w.nodes from).wire to
+  wire_is : (from to : ℕ) → from < n → to < n → wire_in (slice_get members from) to ≡ (w.nodes from).wire to
   wire_is from to lf lt =
       ap (λ o. wire_in o to) (S.each from lf) ∙ at_or (listed (w.nodes from).wire n) to ((w.nodes from).wire to) [] (at_listed (w.nodes from).wire n to lt)
 
-  take_right : (from to number : ℕ) → IsFound (event_fault n b.shape.registers w.nodes (Take from to number)) (step_of n b.shape.registers w.nodes (Take from to number)) (found_step stations b (Take from to number))
+  take_right : (from to number : ℕ) → IsFound (event_fault n b.shape.registers w.nodes (Take from to number)) (step_of n b.shape.registers w.nodes (Take from to number)) (found_step members b (Take from to number))
   take_right from to number =
       let o = slice_get ((w.nodes from).wire to) number in
       let it = take_found (nat_lt from n) (nat_lt to n) (from == to) o from to in
-      let same : cond (nat_lt from n) (cond (nat_lt to n) (cond (from == to) (Err NoFrame) (frame_or o)) (Err NoProcess)) (Err NoProcess) ≡ frame_in stations from to number =
+      let same : cond (nat_lt from n) (cond (nat_lt to n) (cond (from == to) (Err NoFrame) (frame_or o)) (Err NoProcess)) (Err NoProcess) ≡ frame_in members from to number =
       ap (λ m. cond (nat_lt from m) (cond (nat_lt to m) (cond (from == to) (Err NoFrame) (frame_or o)) (Err NoProcess)) (Err NoProcess)) (sym size)
       ∙ elim (cases_lt from n) [
         | inl lf ↦ elim (cases_lt to n) [
-          | inl lt ↦ ap (λ l. cond (nat_lt from (length stations)) (cond (nat_lt to (length stations)) (cond (from == to) (Err NoFrame) (frame_or (slice_get l number))) (Err NoProcess)) (Err NoProcess)) (sym (wire_is from to lf lt))
+          | inl lt ↦ ap (λ l. cond (nat_lt from (length members)) (cond (nat_lt to (length members)) (cond (from == to) (Err NoFrame) (frame_or (slice_get l number))) (Err NoProcess)) (Err NoProcess)) (sym (wire_is from to lf lt))
           | inr h ↦
-              let no_to : nat_lt to (length stations) ≡ false = not_less to (length stations) (omega (arith, h, size)) in
-              ap (λ z. cond (nat_lt from (length stations)) (cond z (cond (from == to) (Err NoFrame) (frame_or o)) (Err NoProcess)) (Err NoProcess)) no_to
-              ∙ sym (ap (λ z. cond (nat_lt from (length stations)) (cond z (cond (from == to) (Err NoFrame) (frame_or (slice_get (wire_in (slice_get stations from) to) number))) (Err NoProcess)) (Err NoProcess)) no_to)
+              let no_to : nat_lt to (length members) ≡ false = not_less to (length members) (omega (arith, h, size)) in
+              ap (λ z. cond (nat_lt from (length members)) (cond z (cond (from == to) (Err NoFrame) (frame_or o)) (Err NoProcess)) (Err NoProcess)) no_to
+              ∙ sym (ap (λ z. cond (nat_lt from (length members)) (cond z (cond (from == to) (Err NoFrame) (frame_or (slice_get (wire_in (slice_get members from) to) number))) (Err NoProcess)) (Err NoProcess)) no_to)
         ]
         | inr h ↦
-            let no_from : nat_lt from (length stations) ≡ false = not_less from (length stations) (omega (arith, h, size)) in
-            ap (λ z. cond z (cond (nat_lt to (length stations)) (cond (from == to) (Err NoFrame) (frame_or o)) (Err NoProcess)) (Err NoProcess)) no_from
-            ∙ sym (ap (λ z. cond z (cond (nat_lt to (length stations)) (cond (from == to) (Err NoFrame) (frame_or (slice_get (wire_in (slice_get stations from) to) number))) (Err NoProcess)) (Err NoProcess)) no_from)
+            let no_from : nat_lt from (length members) ≡ false = not_less from (length members) (omega (arith, h, size)) in
+            ap (λ z. cond z (cond (nat_lt to (length members)) (cond (from == to) (Err NoFrame) (frame_or o)) (Err NoProcess)) (Err NoProcess)) no_from
+            ∙ sym (ap (λ z. cond z (cond (nat_lt to (length members)) (cond (from == to) (Err NoFrame) (frame_or (slice_get (wire_in (slice_get members from) to) number))) (Err NoProcess)) (Err NoProcess)) no_from)
       ] in
       subst (λ x. IsFound (event_fault n b.shape.registers w.nodes (Take from to number)) (step_of n b.shape.registers w.nodes (Take from to number)) (take_or x from to)) same it
 
-  step_right : (e : Event) → IsFound (event_fault n b.shape.registers w.nodes e) (step_of n b.shape.registers w.nodes e) (found_step stations b e)
+  step_right : (e : Event) → IsFound (event_fault n b.shape.registers w.nodes e) (step_of n b.shape.registers w.nodes e) (found_step members b e)
   step_right (Call p op) = call_right p op
   step_right (Take from to number) = take_right from to number
   step_right (Tick p) = subst (λ m. IsFound (cond (nat_lt p n) None (Some NoProcess)) (cond (nat_lt p n) (Some (p, TickStep)) None) (cond (nat_lt p m) (Ok (p, TickStep)) (Err NoProcess))) (sym size) (tick_found (nat_lt p n) p)
 
-  pub found_right : (e : Event) → IsFound (world_fault n b.shape.registers w e) (move_of n b.shape.registers w e) (found stations b e)
+  pub found_right : (e : Event) → IsFound (world_fault n b.shape.registers w e) (move_of n b.shape.registers w e) (found members b e)
   found_right e =
-      subst (λ l. IsFound (world_fault n b.shape.registers w e) (move_of n b.shape.registers w e) (cond (nat_lt (length l) MOST_EVENTS) (found_step stations b e) (Err TooManyEvents))) T.accepted
-      (events_found (nat_lt (length w.accepted) MOST_EVENTS) (event_fault n b.shape.registers w.nodes e) (step_of n b.shape.registers w.nodes e) (found_step stations b e) (step_right e))
+      subst (λ l. IsFound (world_fault n b.shape.registers w e) (move_of n b.shape.registers w e) (cond (nat_lt (length l) MOST_EVENTS) (found_step members b e) (Err TooManyEvents))) T.accepted
+      (events_found (nat_lt (length w.accepted) MOST_EVENTS) (event_fault n b.shape.registers w.nodes e) (step_of n b.shape.registers w.nodes e) (found_step members b e) (step_right e))
 
 -- no fault of an event is want of memory, or that the world has stopped
 abbrev IsOrdinary : Option WorldFault → Type 0

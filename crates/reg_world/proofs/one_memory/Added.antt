@@ -13,7 +13,7 @@ use Rattle.reg_base.specs.Order.{In}
 use Rattle.reg_process.specs.declared.steps.Reply.{Reply}
 use Rattle.reg_process.specs.declared.steps.Step.{Step}
 use Rattle.reg_process.specs.declared.steps.Step.TheVariants.{Call, Take, Tick}
-use Rattle.reg_orders.specs.declared.entries.Entry.TheVariants.{Called, Answered}
+use Rattle.reg_histories.specs.declared.entries.Entry.TheVariants.{Called, Answered}
 use Rattle.reg_world.specs.declared.order.First.{First}
 use Rattle.reg_world.specs.declared.order.CopyRead.{CopyRead}
 use Rattle.reg_world.specs.Nodes.{unseen}

@@ -16,9 +16,9 @@ use Rattle.reg_front.specs.Fronts.{KeepsLaws}
 use Rattle.reg_process.specs.declared.steps.Reply.{Reply}
 use Rattle.reg_process.specs.declared.steps.Step.{Step}
 use Rattle.reg_process.specs.Process.{State, Outcome, step}
-use Rattle.reg_orders.specs.declared.entries.Entry.TheVariants.{Answered}
-use Rattle.reg_orders.specs.History.{IsAt, IsAnswered}
-use Rattle.reg_orders.proofs.Histories.{answer_is}
+use Rattle.reg_histories.specs.declared.entries.Entry.TheVariants.{Answered}
+use Rattle.reg_histories.specs.History.{IsAt, IsAnswered}
+use Rattle.reg_histories.proofs.Histories.{answer_is}
 use Rattle.reg_world.specs.declared.events.Event.{Event}
 use Rattle.reg_world.specs.declared.order.First.{First}
 use Rattle.reg_world.specs.declared.order.CopyRead.{CopyRead}

@@ -36,7 +36,7 @@ use Rattle.reg_world.proofs.one_memory.History.{PastsOk, whole_pasts}
 use Rattle.reg_world.proofs.one_memory.Standing.{RunsAs, PastOk, own_placed}
 use Rattle.reg_world.proofs.one_memory.Turns.{answered_one}
 use Rattle.reg_world.proofs.one_order.Allowed.{calls_made}
-use Rattle.reg_orders.specs.declared.entries.Entry.TheVariants.{Called as HistoryCalled}
+use Rattle.reg_histories.specs.declared.entries.Entry.TheVariants.{Called as HistoryCalled}
 use Rattle.reg_world.specs.World.{World, op_id, move_of, moved, whole}
 use Rattle.reg_world.proofs.lists.Members.{from_end}
 use Rattle.reg_world.proofs.run.Along.{one_more, traced_more}

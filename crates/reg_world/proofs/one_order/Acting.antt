@@ -28,7 +28,7 @@ use Rattle.reg_world.specs.declared.events.Event.TheVariants.{Call, Take, Tick}
 use Rattle.reg_world.specs.Nodes.{step_of, take_step}
 use Rattle.reg_world.specs.Laws.{IsAhead, IsStale, IsFull, names_register}
 use Rattle.reg_world.specs.World.{World, move_of, whole}
-use Rattle.reg_world.specs.Stations.{MayAct}
+use Rattle.reg_world.specs.Members.{MayAct}
 use Rattle.reg_world.specs.WorldParts.{standing_of}
 use Rattle.reg_world.proofs.lists.Bodies.{place_in}
 use Rattle.reg_world.proofs.one_order.Wholes.{whole_replicas}

@@ -11,8 +11,8 @@ use Rattle.reg_process.specs.declared.steps.Reply.{Reply}
 use Rattle.reg_process.specs.declared.steps.Step.{Step}
 use Rattle.reg_process.specs.declared.steps.Step.TheVariants.{Call, Take, Tick}
 use Rattle.reg_process.specs.Process.{State, Outcome, step}
-use Rattle.reg_orders.specs.declared.entries.Entry.{Entry}
-use Rattle.reg_orders.specs.History.{event_of}
+use Rattle.reg_histories.specs.declared.entries.Entry.{Entry}
+use Rattle.reg_histories.specs.History.{event_of}
 use Rattle.reg_world.specs.declared.events.Event.{Event}
 use Rattle.reg_world.specs.declared.order.First.{First}
 use Rattle.reg_world.specs.declared.order.CopyRead.{CopyRead}

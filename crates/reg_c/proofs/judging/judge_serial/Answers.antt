@@ -1,7 +1,7 @@
 use Rattle.std.proofs.Common.{ℕ, List, ◌∙◌}
 use Rattle.reg_base.specs.declared.memory.OpId.{OpId}
-use Rattle.reg_orders.specs.declared.entries.Entry.{Entry}
-use Rattle.reg_orders.specs.Checks.{IsSerialFault}
+use Rattle.reg_histories.specs.declared.entries.Entry.{Entry}
+use Rattle.reg_histories.specs.Checks.{IsSerialFault}
 use Rattle.reg_c.proofs.Rowwise.{judged}
 use Rattle.reg_c.proofs.judging.judge_serial.Goals as goal
 

@@ -1,6 +1,6 @@
 use Rattle.std.proofs.Common.{◌∙◌}
 use Rattle.reg_text.proofs.Sent.{puts_two, puts_as}
-use Rattle.reg_toml.specs.Keys.{key_name}
+use Rattle.reg_workloads.specs.Keys.{key_name}
 use Rattle.reg_messages.proofs.fault_lines.put_key.Goals as goal
 
 pub returns : goal.returns

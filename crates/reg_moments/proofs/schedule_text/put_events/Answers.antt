@@ -1,5 +1,5 @@
 use Rattle.reg_schedules.specs.Schedules.{event_text}
-use Rattle.reg_history.proofs.Writing.{puts_line}
+use Rattle.reg_reports.proofs.Writing.{puts_line}
 use Rattle.reg_moments.proofs.schedule_text.put_events.Goals as goal
 
 pub loop-event-preserved : goal.loop-event-preserved

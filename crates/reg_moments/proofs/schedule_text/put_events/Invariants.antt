@@ -1,6 +1,6 @@
 use Rattle.std.proofs.Common.{take}
 use Rattle.reg_text.specs.Writing.{Puts}
-use Rattle.reg_history.specs.Written.{lines_by}
+use Rattle.reg_reports.specs.Written.{lines_by}
 use Rattle.reg_schedules.specs.Schedules.{event_text}
 use Rattle.reg_moments.proofs.schedule_text.put_events.Given as goal
 

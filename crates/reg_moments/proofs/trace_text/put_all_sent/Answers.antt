@@ -1,4 +1,4 @@
-use Rattle.reg_history.proofs.Writing.{puts_line as line_put}
+use Rattle.reg_reports.proofs.Writing.{puts_line as line_put}
 use Rattle.reg_moments.specs.Traces.{puts_line}
 use Rattle.reg_moments.proofs.trace_text.put_all_sent.Goals as goal
 

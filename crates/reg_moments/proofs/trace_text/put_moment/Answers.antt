@@ -2,7 +2,7 @@ use Rattle.std.proofs.Common.{ap, flat_map, subst}
 use Rattle.reg_text.specs.Lines.{text_of}
 use Rattle.reg_text.specs.Writing.{Puts}
 use Rattle.reg_text.proofs.Sent.{puts_as}
-use Rattle.reg_history.specs.Written.{lines_by}
+use Rattle.reg_reports.specs.Written.{lines_by}
 use Rattle.reg_moments.specs.Moments.{Fact}
 use Rattle.reg_moments.specs.Traces.{delivers_lines, holds_line, moment_lines, puts_line}
 use Rattle.reg_moments.proofs.Tracing.{moment_put}

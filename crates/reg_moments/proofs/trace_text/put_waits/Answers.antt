@@ -1,4 +1,4 @@
-use Rattle.reg_history.proofs.Writing.{puts_line as line_put}
+use Rattle.reg_reports.proofs.Writing.{puts_line as line_put}
 use Rattle.reg_moments.specs.Traces.{holds_line}
 use Rattle.reg_moments.proofs.trace_text.put_waits.Goals as goal
 

@@ -1,6 +1,6 @@
 use Rattle.std.proofs.Common.{take}
 use Rattle.reg_text.specs.Writing.{Puts}
-use Rattle.reg_history.specs.Written.{lines_by}
+use Rattle.reg_reports.specs.Written.{lines_by}
 use Rattle.reg_moments.specs.Traces.{holds_line}
 use Rattle.reg_moments.proofs.trace_text.put_waits.Given as goal
 

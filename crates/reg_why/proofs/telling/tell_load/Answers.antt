@@ -1,6 +1,6 @@
 use Rattle.std.proofs.Common.{◌∙◌, ap}
 use Rattle.reg_front.specs.Table.{front_name}
-use Rattle.reg_toml.specs.Loads.{Load}
+use Rattle.reg_workloads.specs.Loads.{Load}
 use Rattle.reg_why.proofs.Told.{if_ok, tells_load}
 use Rattle.reg_why.proofs.telling.tell_load.Goals as goal
 

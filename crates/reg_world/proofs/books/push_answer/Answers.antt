@@ -1,6 +1,6 @@
 use Rattle.std.proofs.Common.{◌++◌, Option, subst}
-use Rattle.reg_orders.specs.declared.entries.Entry.TheVariants.{Answered}
-use Rattle.reg_orders.specs.History.{IsHistory}
+use Rattle.reg_histories.specs.declared.entries.Entry.TheVariants.{Answered}
+use Rattle.reg_histories.specs.History.{IsHistory}
 use Rattle.reg_process.specs.declared.steps.Reply.{Reply}
 use Rattle.reg_world.specs.World.{answers_in}
 use Rattle.reg_world.proofs.code.Entering.{not_refused}

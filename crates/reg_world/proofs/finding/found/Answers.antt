@@ -5,9 +5,9 @@ use Rattle.reg_world.proofs.finding.found.Goals as goal
 pub returns : goal.returns
 returns g c =
     let a = ap length c.accepted.ensures in let l = c.if-accepted.false in
-    c.found_step.ensures ∙ one_more c.args.stations.now c.args.book.now c.args.event.now (omega (arith, a, l))
+    c.found_step.ensures ∙ one_more c.args.members.now c.args.book.now c.args.event.now (omega (arith, a, l))
 
 pub returns-then-accepted : goal.returns-then-accepted
 returns-then-accepted g c =
     let a = ap length c.accepted.ensures in let l = c.if-accepted.true in
-    none_more c.args.stations.now c.args.book.now c.args.event.now (omega (arith, a, l))
+    none_more c.args.members.now c.args.book.now c.args.event.now (omega (arith, a, l))

@@ -18,12 +18,12 @@ returns-in-Take g c = rw c.in-Take.is (c.take_step.ensures ∙ ap (λ f. take_or
 tick : (p count : ℕ) (t : Bool) → nat_lt p count ≡ t → cond {A = Result (ℕ × Step) WorldFault} t (Ok (p, Tick)) (Err NoProcess) ≡ cond (nat_lt p count) (Ok (p, Tick)) (Err NoProcess)
 tick p count t is = sym (ap (λ (b : Bool). cond {A = Result (ℕ × Step) WorldFault} b (Ok (p, Tick)) (Err NoProcess)) is)
 
-pub returns-then-from-stations : goal.returns-then-from-stations
-returns-then-from-stations g c =
-    let a = c.from.ensures in let l = c.if-from-stations.true in let p = c.in-Tick.process in let count = length c.args.stations.now in
+pub returns-then-from-members : goal.returns-then-from-members
+returns-then-from-members g c =
+    let a = c.from.ensures in let l = c.if-from-members.true in let p = c.in-Tick.process in let count = length c.args.members.now in
     rw c.in-Tick.is (tick p count true (less_true p count (omega (arith, a, l))))
 
-pub returns-else-from-stations : goal.returns-else-from-stations
-returns-else-from-stations g c =
-    let a = c.from.ensures in let l = c.if-from-stations.false in let p = c.in-Tick.process in let count = length c.args.stations.now in
+pub returns-else-from-members : goal.returns-else-from-members
+returns-else-from-members g c =
+    let a = c.from.ensures in let l = c.if-from-members.false in let p = c.in-Tick.process in let count = length c.args.members.now in
     rw c.in-Tick.is (tick p count false (not_less p count (omega (arith, a, l))))

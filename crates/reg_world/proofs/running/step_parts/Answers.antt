@@ -12,7 +12,7 @@ returns-in_err-process g c =
     rw (p.1, p.2) record {
       made = (
         made_of false b,
-        refuses_is g.F.FrontEnd.start false b c.args.stations.now.items c.requires refl c.args.event (made_of false b) refl c.in_err-process.field-0.0
+        refuses_is g.F.FrontEnd.start false b c.args.members.now.items c.requires refl c.args.event (made_of false b) refl c.in_err-process.field-0.0
             (ap (λ l. found l b c.args.event) (sym c.deref.ensures.value) ∙ (sym c.found.ensures ∙ c.in_err-process.was)),
       );
     }
@@ -20,7 +20,7 @@ returns-in_err-process g c =
 pub advance-requires-clause-moves : goal.advance-requires-clause-moves
 advance-requires-clause-moves g c =
     let b = c.args.book.now in
-    move_found g.F.FrontEnd.start false b c.args.stations.now.items c.requires refl c.args.event (made_of false b) refl (c.in_ok-process.process, c.in_ok-process.step)
+    move_found g.F.FrontEnd.start false b c.args.members.now.items c.requires refl c.args.event (made_of false b) refl (c.in_ok-process.process, c.in_ok-process.step)
     (ap (λ l. found l b c.args.event) (sym c.deref.ensures.value) ∙ (sym c.found.ensures ∙ c.in_ok-process.was))
 
 pub returns-in-Ok : goal.returns-in-Ok
@@ -29,8 +29,8 @@ returns-in-Ok g c =
     record {
       made = record {
         world = c.in-Ok.ensures.made.world;
-        accepts = (accepts_is g.F.FrontEnd.start false b c.args.stations.now.items c.requires refl c.args.event (made_of false b) refl (c.in_ok-process.process, c.in_ok-process.step)
-            (ap (λ l. found l b c.args.event) (sym c.deref.ensures.value) ∙ (sym c.found.ensures ∙ c.in_ok-process.was)) c.in-Ok.field-0 c.advance.new.stations.items c.advance.new.book c.in-Ok.ensures.made).0;
+        accepts = (accepts_is g.F.FrontEnd.start false b c.args.members.now.items c.requires refl c.args.event (made_of false b) refl (c.in_ok-process.process, c.in_ok-process.step)
+            (ap (λ l. found l b c.args.event) (sym c.deref.ensures.value) ∙ (sym c.found.ensures ∙ c.in_ok-process.was)) c.in-Ok.field-0 c.advance.new.members.items c.advance.new.book c.in-Ok.ensures.made).0;
         ahead = c.in-Ok.ensures.ahead;
       };
     }
@@ -38,6 +38,6 @@ returns-in-Ok g c =
 pub returns-in-Err : goal.returns-in-Err
 returns-in-Err g c =
     let b = c.args.book.now in
-    let none = none_is g.F.FrontEnd.start false b c.args.stations.now.items c.requires refl c.args.event (made_of false b) refl (c.in_ok-process.process, c.in_ok-process.step)
+    let none = none_is g.F.FrontEnd.start false b c.args.members.now.items c.requires refl c.args.event (made_of false b) refl (c.in_ok-process.process, c.in_ok-process.step)
     (ap (λ l. found l b c.args.event) (sym c.deref.ensures.value) ∙ (sym c.found.ensures ∙ c.in_ok-process.was)) in
     record { made = (stopped (made_of false b), (none, refl)) }

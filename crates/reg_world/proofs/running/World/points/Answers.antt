@@ -9,7 +9,7 @@ use Rattle.reg_world.proofs.running.World.points.Goals as goal
 pub returns-clause-first : goal.returns-clause-first
 returns-clause-first g c =
     if_ok c.points_of.result _ _ c.points_of.ensures (λ v h.
-    points_told g.F.FrontEnd.start g.met.F.FrontEnd.lawful c.self.inside.failed c.self.inside.book c.self.inside.stations.items c.self.invariant c.args.self.now c.self.view_is c.order.result.now c.callers.result.now v.items c.order.ensures c.callers.ensures h)
+    points_told g.F.FrontEnd.start g.met.F.FrontEnd.lawful c.self.inside.failed c.self.inside.book c.self.inside.members.items c.self.invariant c.args.self.now c.self.view_is c.order.result.now c.callers.result.now v.items c.order.ensures c.callers.ensures h)
 
 pub returns-clause-ordered : goal.returns-clause-ordered
 returns-clause-ordered g c =

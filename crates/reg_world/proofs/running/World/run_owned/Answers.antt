@@ -10,7 +10,7 @@ use Rattle.reg_world.proofs.running.World.run_owned.Goals as goal
 pub run_ahead-requires-clause-world : goal.run_ahead-requires-clause-world
 run_ahead-requires-clause-world g c =
     let going : c.world.inside.failed ≡ false = ap Made.failed c.world.view_is ∙ ap Made.failed c.in-Ok.ensures in
-    with_ahead g.F.FrontEnd.start c.world.inside.failed c.world.inside.stations.items c.world.inside.book c.put_ahead.new.self c.args.events.items c.world.invariant going c.put_ahead.ensures
+    with_ahead g.F.FrontEnd.start c.world.inside.failed c.world.inside.members.items c.world.inside.book c.put_ahead.new.self c.args.events.items c.world.invariant going c.put_ahead.ensures
 
 pub returns-in_err-run_ahead-clause-world : goal.returns-in_err-run_ahead-clause-world
 returns-in_err-run_ahead-clause-world g c =

@@ -8,7 +8,7 @@ use Rattle.reg_world.proofs.running.World.witness.Goals as goal
 pub returns-clause-keyed : goal.returns-clause-keyed
 returns-clause-keyed g c =
     if_ok c.witness_of.result _ _ c.witness_of.ensures (λ v h.
-    witness_told g.F.FrontEnd.start g.met.F.FrontEnd.lawful c.self.inside.failed c.self.inside.book c.self.inside.stations.items c.self.invariant c.args.self.now c.self.view_is c.order.result.now c.reads.result.now c.callers.result.now v.items c.order.ensures c.reads.ensures c.callers.ensures h)
+    witness_told g.F.FrontEnd.start g.met.F.FrontEnd.lawful c.self.inside.failed c.self.inside.book c.self.inside.members.items c.self.invariant c.args.self.now c.self.view_is c.order.result.now c.reads.result.now c.callers.result.now v.items c.order.ensures c.reads.ensures c.callers.ensures h)
 
 pub returns-clause-serial : goal.returns-clause-serial
 returns-clause-serial g c =

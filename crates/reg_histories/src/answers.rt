@@ -1,0 +1,57 @@
+//! The pass that answers the operations of an order anew, one after another.
+ghost use Rattle.std.specs.Prelude.{◌≡◌, ℕ, ◌<◌, ◌↔◌, All, IfOk, IsTrue, MatchOption, length};
+ghost use Rattle.reg_base.specs.Memory.{register_of, after};
+ghost use Rattle.reg_histories.specs.Checks.{IsFirst};
+ghost use Rattle.reg_histories.specs.Facts.{IsWrongOn, IsWrongFact};
+
+use reg_base::{Answer, Op, Registers, Shape};
+use std::alloc::{AllocError, Allocator};
+
+/// An answer, and the event that gave it.
+#[derive(Clone, Copy)]
+pub struct Given {
+    pub at: u32,
+    pub answer: Answer,
+}
+
+/// What a history says of one operation.
+#[derive(Clone, Copy)]
+pub struct Fact {
+    pub op: Op,
+    pub called: u32,
+    pub answered: Option<Given>,
+    /// The operation stands in the order that is checked.
+    pub stands: bool,
+}
+
+/// Whether the fact has another answer than that of the values, on which the operation is done.
+fn is_wrong<A: Allocator + Copy>(values: &mut Registers<A>, fact: Fact) -> bool
+    requires { register_of fact.op < length values.old }
+    ensures verdict { IsTrue result ↔ IsWrongOn values.old fact }
+    ensures left { values.new ≡ after fact.op values.old }
+{
+    let answer = values.answer(&fact.op);
+    let _ = values.apply(&fact.op);
+    match fact.answered {
+        Some(given) => given.answer != answer,
+        None => false,
+    }
+}
+
+/// The first place whose answer is not that of the memory after the operations before it.
+pub fn first_wrong<A: Allocator + Copy>(
+    alloc: A,
+    shape: Shape,
+    facts: &[Fact],
+) -> Result<Option<usize>, AllocError>
+    requires { All (λ f. register_of f.op < shape.registers) facts.now }
+    ensures { IfOk result (λ o. MatchOption o ((k : ℕ) → ¬ IsWrongFact shape.registers facts.now k) (λ k. IsFirst (IsWrongFact shape.registers facts.now) k)) }
+{
+    let mut values = Registers::new(alloc, shape.registers() as u16)?;
+    for place in 0..facts.len() {
+        if is_wrong(&mut values, facts[place]) {
+            return Ok(Some(place));
+        }
+    }
+    Ok(None)
+}

@@ -1,0 +1,15 @@
+//! Plays of workloads, which are runs in which each process calls the operations of its script. Workloads and schedules are passed on
+//! from below.
+#![tactic(auto)]
+
+mod choices;
+mod fair;
+mod playing;
+mod plays;
+mod seeded;
+
+pub use playing::Play;
+pub use plays::{play_fair, play_fair_in, play_seeded, play_seeded_in};
+pub use reg_random::{SeedWords, Words};
+pub use reg_schedules::{Schedule, ScheduleFault, parse_schedule};
+pub use reg_workloads::{Key, Workload, WorkloadFault, read_table};
