@@ -49,6 +49,7 @@ fn judge_serial(
         Ok(history) => history,
         Err(why) => return Verdict::NoHistory { why },
     };
+    // (for the proof: by this getter's contract the history is one, each entry in place)
     history.entries();
     let Ok(ids) = ids_of(alloc, ids) else {
         let why = Unread::OutOfMemory;
@@ -74,6 +75,7 @@ fn judge_points(
         Ok(history) => history,
         Err(why) => return Verdict::NoHistory { why },
     };
+    // (for the proof: by this getter's contract the history is one, each entry in place)
     history.entries();
     let Ok(points) = points_of(alloc, points) else {
         let why = Unread::OutOfMemory;

@@ -26,6 +26,7 @@ fn add(history: &mut History, row: &EntryRow, place: usize) -> Result<(), Unread
     ensures ok { MatchResult result (λ _. (e : Entry) × (entry_of row.now ≡ Some e) × (history.new.entries ≡ history.old.entries ++ e ∷ [])) (λ why. (why ≡ Unread.OutOfMemory) ⊎ ((why ≡ Unread.OutOfPlace place) × IsHistory history.old.shape.processes history.old.shape.registers history.old.entries × MatchOption (entry_of row.now) (Unit {0}) (λ e. ¬ IsInPlace history.old.shape.processes history.old.shape.registers history.old.entries e))) }
     ensures shape { history.new.shape ≡ history.old.shape }
 {
+    // (for the proof: by this getter's contract the history is one, each entry in place)
     history.entries();
     let Some(entry) = entry(row) else {
         return Err(Unread::OutOfPlace { place });

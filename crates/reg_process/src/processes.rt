@@ -156,6 +156,7 @@ impl<F: FrontEnd, A: Allocator + Copy> Process<F, A> {
     /// Takes a frame that another process put for it. A data frame out of turn is dropped and answered by the count of those
     /// accepted; an expected one is accepted, and what is clear then is delivered. A count takes no memory. Nor does, where the
     /// kept list has room for the answer, a dropped frame, or an acknowledgement that makes no cast clear.
+    // (in line: it runs at each take, and a frame handed on by a call would be copied once more)
     #[inline(always)]
     pub fn take(&mut self, from: u8, frame: &Frame) -> Result<Outcome<A>, ProcessFault>
         ensures taken { MatchResult result (λ o. Steps F.start self.old (Take from frame.now) o.frames.items o.cast o.delivered.items o.reply self.new) (λ fault. Refused F.start self.old (Take from frame.now) fault self.new) }

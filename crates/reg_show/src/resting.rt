@@ -34,6 +34,7 @@ fn rest_run<F: FrontEnd, A: Allocator + Copy>(
         Ok(ran) => ran,
         Err(fault) => return Err(ShowFault::Command { fault }),
     };
+    // (for the proof: by this getter's contract the world is the run of these events)
     world.accepted();
     match settle(&mut world) {
         Ok(_) => Ok(Ran {

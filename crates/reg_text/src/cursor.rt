@@ -8,6 +8,7 @@ use memchr::memchr;
 use std::marker::Model;
 
 /// The first line of a text, with no line feed, and the rest.
+// (in line: it runs once for each line, and often does less than a call costs)
 #[inline(always)]
 fn cut_line(text: &[u8]) -> Option<(&[u8], &[u8])>
     ensures lines { MatchOption result (lines_of text.now ≡ []) (λ p. lines_of text.now ≡ p.0.now ∷ lines_of p.1.now) }

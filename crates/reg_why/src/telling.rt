@@ -118,6 +118,7 @@ fn run<F: FrontEnd, A: Allocator + Copy>(alloc: A, schedule: Schedule<A>) -> Res
         names: _names,
         front: _front,
     } = run_events::<F, A, PackedWires<A>>(alloc, schedule)?;
+    // (for the proof: by this getter's contract the world is the run of these events)
     world.accepted();
     Ok(())
 }

@@ -39,6 +39,7 @@ impl<A: Allocator + Copy> Tables<A> {
     }
 
     /// The frame of a slot.
+    // (in line: it runs for each frame put or taken, and does little more than a call costs)
     #[inline(always)]
     fn frame(&self, slot: Slot) -> Frame
         requires { IsKept self.now slot }
@@ -57,6 +58,7 @@ impl<A: Allocator + Copy> Tables<A> {
     }
 
     /// Whether the body is kept under this number. The next one is from now on.
+    // (in line: it runs for each frame put or taken, and does little more than a call costs)
     #[inline(always)]
     fn keeps(&mut self, number: u64, body: Body) -> Result<bool, AllocError>
         ensures few { IfOk result (λ keeps. keeps ≡ true → number < FIRST_COUNT) }
@@ -95,6 +97,7 @@ impl<A: Allocator + Copy> Tables<A> {
     }
 
     /// The slot of a frame. What was kept stays.
+    // (in line: it runs for each frame put or taken, and does little more than a call costs)
     #[inline(always)]
     fn slot(&mut self, frame: &Frame) -> Result<Slot, AllocError>
         ensures room { IfOk result HasRoom }
@@ -144,6 +147,7 @@ impl<A: Allocator + Copy> Model for PackedWires<A> {
 
 impl<A: Allocator + Copy> PackedWires<A> {
     /// Puts a frame on its wire.
+    // (in line: it runs for each frame put or taken, and does little more than a call costs)
     #[inline(always)]
     fn put(&mut self, put: &Put) -> Result<(), AllocError>
         requires { put.now.to < length self.old }
@@ -167,6 +171,7 @@ impl<A: Allocator + Copy> WireStore<A> for PackedWires<A> {
         self.strips.count(usize::from(to))
     }
 
+    // (in line: it runs for each frame put or taken, and does little more than a call costs)
     #[inline(always)]
     fn frame_at(&self, to: u8, number: u32) -> Option<Frame> {
         match self.strips.at(usize::from(to), number) {
@@ -175,6 +180,7 @@ impl<A: Allocator + Copy> WireStore<A> for PackedWires<A> {
         }
     }
 
+    // (in line: it runs for each frame put or taken, and does little more than a call costs)
     #[inline(always)]
     fn put_all(&mut self, puts: &[Put]) -> Result<(), AllocError> {
         for put in puts {

@@ -30,6 +30,7 @@ fn make_room<A: Allocator + Copy>(frames: &mut Vec<Frame, A>) -> Result<(), Allo
 }
 
 /// Puts a frame at the end.
+// (in line: it runs for each frame that is put, and does little more than a call costs)
 #[inline(always)]
 fn push<A: Allocator + Copy>(frames: &mut Vec<Frame, A>, frame: Frame) -> Result<(), AllocError>
     ensures put { OnOk result (frames.new.items ≡ frames.old.items ++ frame ∷ []) }
@@ -94,6 +95,7 @@ impl<A: Allocator + Copy> Wire<A> {
     }
 
     /// Puts a frame. It is kept once where it is the next one of the common frames, or can be.
+    // (in line: it runs for each frame that is put, and does little more than a call costs)
     #[inline(always)]
     fn put(&mut self, common: &mut Vec<Frame, A>, frame: Frame) -> Result<(), AllocError>
         requires { self.old.shared ≤ length common.old.items }
@@ -160,6 +162,7 @@ impl<A: Allocator + Copy> Wires<A> {
     }
 
     /// Puts a frame on its wire.
+    // (in line: it runs for each frame that is put, and does little more than a call costs)
     #[inline(always)]
     fn put(&mut self, put: &Put) -> Result<(), AllocError>
         requires { put.now.to < length self.old }

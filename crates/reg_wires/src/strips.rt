@@ -16,6 +16,7 @@ const MANY: usize = 4096;
 
 /// Makes room for a word more. Growing a list can copy its words, while room that isn't used costs next to nothing: so a
 /// list that isn't short gets much at once. Nothing else changes.
+// (apart: it runs seldom, and would take room in what runs for each frame)
 #[cold]
 #[inline(never)]
 fn make_room<A: Allocator + Copy>(words: &mut Vec<Word, A>) -> Result<(), AllocError>
@@ -29,6 +30,7 @@ fn make_room<A: Allocator + Copy>(words: &mut Vec<Word, A>) -> Result<(), AllocE
 }
 
 /// Puts a slot at the end.
+// (in line: it runs for each frame put or taken, and does little more than a call costs)
 #[inline(always)]
 fn push<A: Allocator + Copy>(words: &mut Vec<Word, A>, slot: Slot) -> Result<(), AllocError>
     requires { HasRoom slot }
@@ -69,6 +71,7 @@ impl<A: Allocator + Copy> Line<A> {
     }
 
     /// All words of the wire, where `common` has those that it shares.
+    // (in line: it runs for each frame put or taken, and does little more than a call costs)
     #[inline(always)]
     fn words<'w>(&'w self, common: &'w [Word]) -> &'w [Word]
         requires { self.now.shared ≤ length common.now }
@@ -82,6 +85,7 @@ impl<A: Allocator + Copy> Line<A> {
     }
 
     /// Puts a slot that isn't the next one of the common words: from now on the wire has its own.
+    // (apart: it runs seldom, and would take room in what runs for each frame)
     #[cold]
     #[inline(never)]
     fn part(&mut self, common: &[Word], slot: Slot) -> Result<(), AllocError>
@@ -98,6 +102,7 @@ impl<A: Allocator + Copy> Line<A> {
     }
 
     /// Puts a slot. It is kept once where it is the next one of the common words, or can be.
+    // (in line: it runs for each frame put or taken, and does little more than a call costs)
     #[inline(always)]
     fn put(&mut self, common: &mut Vec<Word, A>, slot: Slot) -> Result<(), AllocError>
         requires shared { self.old.shared ≤ length common.old.items }
@@ -164,6 +169,7 @@ impl<A: Allocator + Copy> Strips<A> {
     }
 
     /// All words of a wire, none where there is no such one.
+    // (in line: it runs for each frame put or taken, and does little more than a call costs)
     #[inline(always)]
     fn to(&self, to: usize) -> &[Word]
         ensures { result.now ≡ slice_index_or self.now to [] }
@@ -182,6 +188,7 @@ impl<A: Allocator + Copy> Strips<A> {
     }
 
     /// The slot at this place of a wire, from 0.
+    // (in line: it runs for each frame put or taken, and does little more than a call costs)
     #[inline(always)]
     pub(crate) fn at(&self, to: usize, number: u32) -> Option<Slot>
         ensures { result ≡ slice_get (slice_index_or self.now to []) number }
@@ -193,6 +200,7 @@ impl<A: Allocator + Copy> Strips<A> {
     }
 
     /// Puts a slot at the end of a wire.
+    // (in line: it runs for each frame put or taken, and does little more than a call costs)
     #[inline(always)]
     pub(crate) fn push(&mut self, to: usize, slot: Slot) -> Result<(), AllocError>
         requires within { to < length self.old }

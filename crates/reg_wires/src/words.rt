@@ -46,6 +46,7 @@ impl Model for Word {
 
 impl Word {
     /// The word for a slot.
+    // (in line: it is a test or two, and runs for each frame put or taken)
     #[inline(always)]
     pub(crate) fn pack(slot: Slot) -> Word
         requires { HasRoom slot }
@@ -63,6 +64,7 @@ impl Word {
     }
 
     /// The slot that it is the word for.
+    // (in line: it is a test or two, and runs for each frame put or taken)
     #[inline(always)]
     pub(crate) fn unpack(&self) -> Slot
         ensures { result ≡ self.now }

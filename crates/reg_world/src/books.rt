@@ -195,6 +195,7 @@ fn push_first<A: Allocator + Copy>(
 }
 
 /// Adds the casts that come after the last one that was delivered.
+// (in line: it runs at each event, and its lists stay in registers from one push to the next)
 #[inline(always)]
 fn push_firsts<A: Allocator + Copy>(
     order: &mut Vec<First, A>,
@@ -290,6 +291,7 @@ impl<A: Allocator + Copy> Book<A> {
     }
 
     /// Enters an event in which the process made this step. Where memory is refused nothing has changed.
+    // (in line: it runs at each event, and its lists stay in registers from one push to the next)
     #[inline(always)]
     pub(crate) fn enter(
         &mut self,

@@ -41,6 +41,7 @@ fn call_refusal<A: Allocator + Copy>(
 }
 
 /// The frame at this place, from 0, of all frames ever put from one process to another.
+// (in line: it runs at each event, and a step handed back by a call would be copied once more)
 #[inline(always)]
 fn frame_from<F: FrontEnd, A: Allocator + Copy, W: WireStore<A>>(
     members: &[Member<F, A, W>],
@@ -107,6 +108,7 @@ fn take_step(frame: Result<Frame, WorldFault>, from: u8, to: u8) -> Result<(u8, 
 }
 
 /// The same, of an event that isn't one too many.
+// (in line: it runs at each event, and a step handed back by a call would be copied once more)
 #[inline(always)]
 fn found_step<F: FrontEnd, A: Allocator + Copy, W: WireStore<A>>(
     members: &[Member<F, A, W>],
@@ -140,6 +142,7 @@ fn found_step<F: FrontEnd, A: Allocator + Copy, W: WireStore<A>>(
 }
 
 /// Which process makes which step in the event, or the first fault that applies.
+// (in line: it runs at each event, and a step handed back by a call would be copied once more)
 #[inline(always)]
 pub(crate) fn found<F: FrontEnd, A: Allocator + Copy, W: WireStore<A>>(
     members: &[Member<F, A, W>],

@@ -57,6 +57,7 @@ impl<F: FrontEnd, A: Allocator + Copy, W: WireStore<A>> Member<F, A, W> {
     }
 
     /// The frame at this place, from 0, of all frames ever put for a process.
+    // (in line: it runs at each event, and an outcome handed back by a call would be copied once more)
     #[inline(always)]
     pub(crate) fn frame_at(&self, to: u8, number: u32) -> Option<Frame>
         ensures { result ≡ slice_get (slice_index_or self.now.wires to []) number }
@@ -66,6 +67,7 @@ impl<F: FrontEnd, A: Allocator + Copy, W: WireStore<A>> Member<F, A, W> {
 
     /// Makes a step that no fault applies to, and puts its frames on their wires. It fails for want of memory alone;
     /// nothing is claimed of the member then.
+    // (in line: it runs at each event, and an outcome handed back by a call would be copied once more)
     #[inline(always)]
     pub(crate) fn act(&mut self, step: &Step) -> Result<Outcome<A>, AllocError>
         requires { MayAct F.start self.old step.now }
@@ -94,6 +96,7 @@ impl<F: FrontEnd, A: Allocator + Copy> Member<F, A, Wires<A>> {
 }
 
 /// Makes a step that no fault applies to.
+// (in line: it runs at each event, and an outcome handed back by a call would be copied once more)
 #[inline(always)]
 fn act<F: FrontEnd, A: Allocator + Copy>(
     process: &mut Process<F, A>,

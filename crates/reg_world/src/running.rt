@@ -54,6 +54,7 @@ impl<F: FrontEnd, A: Allocator + Copy, W: WireStore<A>> Model for World<F, A, W>
 }
 
 /// Makes the step of an event. Where memory is refused the book hasn't changed.
+// (in line: it runs at each event, and an outcome handed back by a call would be copied once more)
 #[inline(always)]
 fn advance<F: FrontEnd, A: Allocator + Copy, W: WireStore<A>>(
     members: &mut Vec<Member<F, A, W>, A>,
@@ -76,6 +77,7 @@ fn advance<F: FrontEnd, A: Allocator + Copy, W: WireStore<A>>(
 }
 
 /// Makes an event, or tells why it is refused.
+// (in line: it runs at each event, and an outcome handed back by a call would be copied once more)
 #[inline(always)]
 fn step_parts<F: FrontEnd, A: Allocator + Copy, W: WireStore<A>>(
     members: &mut Vec<Member<F, A, W>, A>,
@@ -193,6 +195,7 @@ impl<F: FrontEnd, A: Allocator + Copy, W: WireStore<A>> World<F, A, W> {
         let count = events.len();
         world.book.put_ahead(events);
         run_ahead(&mut world.members, &mut world.book, count)?;
+        // (for the proof: by this getter's contract the history is that of the accepted events)
         world.history();
         Ok(world)
     }
@@ -338,6 +341,7 @@ impl<F: FrontEnd, A: Allocator + Copy, W: WireStore<A>> World<F, A, W> {
     {
         let ids = self.witness()?;
         let history = self.history();
+        // (for the proof: by this getter's contract the history is one, each entry in place)
         history.entries();
         Ok((history, ids))
     }
@@ -383,6 +387,7 @@ impl<F: RealTime, A: Allocator + Copy, W: WireStore<A>> World<F, A, W> {
     {
         let points = self.points()?;
         let history = self.history();
+        // (for the proof: by this getter's contract the history is one, each entry in place)
         history.entries();
         Ok((history, points))
     }

@@ -86,6 +86,7 @@ impl<A: Allocator + Copy> Core<A> {
     }
 
     /// Takes a frame. An answer to one with a body is put into the spare list.
+    // (in line: it runs at each take, and a frame handed on by a call would be copied once more)
     #[inline(always)]
     pub(crate) fn take_frame(
         &mut self,
@@ -133,6 +134,7 @@ impl<A: Allocator + Copy> Core<A> {
     }
 
     /// Takes a data frame.
+    // (in line: it runs at each take, and a frame handed on by a call would be copied once more)
     #[inline(always)]
     fn take_body(
         &mut self,
