@@ -1,1 +1,2 @@
+mod Received
 mod Rowwise

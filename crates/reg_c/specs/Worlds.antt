@@ -1,6 +1,6 @@
 -- A world that a caller holds, under one of the three front ends.
-use Rattle.std.specs.Prelude.{ℕ, List, [], ◌≡◌, ◌==◌, ◌⊎◌, length, slice_get, Option, Some, None, option_map, unwrap_or, if◌then◌else◌}
-use Rattle.reg_base.specs.Shape.{Extent}
+use Rattle.std.specs.Prelude.{nat_lt, is_err, ℕ, List, [], ◌≡◌, ◌==◌, ◌⊎◌, length, slice_get, Option, Some, None, option_map, unwrap_or, if◌then◌else◌}
+use Rattle.reg_base.specs.Shape.{Extent, shape_of}
 use Rattle.reg_base.specs.declared.memory.Op.{Op}
 use Rattle.reg_base.specs.declared.memory.OpId.{OpId}
 use Rattle.reg_base.specs.declared.memory.Op.TheVariants.{Read, Write, Swap}
@@ -15,6 +15,7 @@ use Rattle.reg_histories.specs.Orders.{IsSerial, IsPointOrder}
 use Rattle.reg_process.specs.declared.steps.Reply.{Reply}
 use Rattle.reg_world.specs.declared.events.Event.{Event}
 use Rattle.reg_world.specs.declared.faults.WorldFault.{WorldFault}
+use Rattle.reg_world.specs.declared.faults.WorldFault.TheVariants.{OutOfMemory}
 use Rattle.reg_world.specs.Worlds.{Made, Accepts, Refuses, new_world, reply_in}
 use Rattle.reg_c.specs.declared.holding.Kept.{Kept}
 use Rattle.reg_c.specs.declared.holding.Kept.TheVariants.{Linear, LocalRead, LocalWrite, Closed}
@@ -35,6 +36,18 @@ kept_at_first front shape =
     (if front == 0 then Some (Linear (new_world shape)) else
     (if front == 1 then Some (LocalRead (new_world shape)) else
     (if front == 2 then Some (LocalWrite (new_world shape)) else None)))
+
+-- why there is no world of a shape: there was no memory, or this number names no front end
+abbrev pub unmade : ℕ → ℕ
+unmade front = (if nat_lt front 3 then fault_code OutOfMemory else 35)
+
+-- why there is no world: these numbers are no shape, or what is told of a shape
+abbrev pub refusal_of : ℕ → ℕ → ℕ → ℕ
+refusal_of front processes registers = (if is_err (shape_of processes registers) then 34 else unmade front)
+
+-- what a caller holds at first: such a world, with no reply yet, and no orders that it asked for
+abbrev pub IsOpened : ℕ → Extent → Held → Type 0
+IsOpened front shape h = (kept_at_first front shape ≡ Some h.world) × (h.reply ≡ None) × (h.order.items ≡ []) × (h.points.items ≡ [])
 
 -- an event was accepted, with its reply and that reply's number, or refused, with its fault's and no reply
 abbrev pub Goes : (Op → ℕ → Start) → Event → Made → Made → Option Reply → ℕ → Type 0

@@ -3,10 +3,11 @@ ghost use Rattle.std.specs.Prelude.{◌≡◌, ◌<◌, [], Some, IfErr, IfOk, I
 ghost use Rattle.reg_histories.specs.Orders.{IsSerial, IsPointOrder};
 ghost use Rattle.reg_c.specs.declared.holding.Kept.{Kept};
 ghost use Rattle.reg_c.specs.Events.{event_of};
-ghost use Rattle.reg_c.specs.Worlds.{Goes, GoesIn, HasOrders, Steps, events_in, history_in, kept_at_first, looked, number_of};
+ghost use Rattle.reg_c.specs.Worlds.{Goes, GoesIn, HasOrders, Steps, events_in, history_in, kept_at_first, looked, number_of, refusal_of, unmade};
 
 use crate::events::{code_of_fault, code_of_reply, event, value_of_answer};
 use crate::looking::{Look, look_at, of_entry, of_id, of_point};
+use crate::unboxed::Unboxed;
 use reg_base::{OpId, Shape};
 use reg_front::{FrontEnd, Linear, LocalRead, LocalWrite, RealTime};
 use reg_histories::{Entry, Point};
@@ -47,7 +48,7 @@ pub struct Held {
 /// A world of the front end of this number, in which nothing happened yet.
 fn begin(alloc: Global, front: u32, shape: Shape) -> Result<Kept, u32>
     ensures world { IfOk result (λ kept. kept_at_first front shape ≡ Some kept) }
-    ensures refused { IfErr result (λ code. 0 < code) }
+    ensures why { IfErr result (λ code. code ≡ unmade front) }
 {
     let refused = code_of_fault(WorldFault::OutOfMemory);
     match front {
@@ -68,10 +69,11 @@ fn begin(alloc: Global, front: u32, shape: Shape) -> Result<Kept, u32>
 }
 
 /// A world of this shape, in which nothing happened yet: 0, 1 and 2 are the front ends linear, local-read and local-write.
-pub fn open(alloc: Global, front: u32, processes: u32, registers: u32) -> Result<Box<Held>, u32>
+pub fn open(alloc: Global, front: u32, processes: u32, registers: u32) -> Result<Unboxed<Held>, u32>
     ensures world { IfOk result (λ b. kept_at_first front (record { processes = processes; registers = registers }) ≡ Some b.value.world) }
     ensures nothing_else { IfOk result (λ b. (b.value.reply ≡ None) × (b.value.order.items ≡ []) × (b.value.points.items ≡ [])) }
     ensures refused { IfErr result (λ code. 0 < code) }
+    ensures why { IfErr result (λ code. code ≡ refusal_of front processes registers) }
 {
     let Ok(shape) = Shape::new(processes, registers) else {
         return Err(NO_SHAPE);
@@ -84,7 +86,7 @@ pub fn open(alloc: Global, front: u32, processes: u32, registers: u32) -> Result
         points: Vec::new(alloc),
     };
     match Box::new(alloc, held) {
-        Ok(held) => Ok(held),
+        Ok(held) => Ok(Unboxed::of(held)),
         Err(_) => Err(code_of_fault(WorldFault::OutOfMemory)),
     }
 }

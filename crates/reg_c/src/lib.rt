@@ -8,6 +8,7 @@ mod looking;
 mod reading;
 mod rows;
 mod texts;
+mod unboxed;
 mod worlds;
 
 pub use holding::Held;

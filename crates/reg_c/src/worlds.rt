@@ -6,16 +6,17 @@ ghost use Rattle.reg_c.specs.declared.holding.Held.{Held};
 ghost use Rattle.reg_c.specs.declared.holding.Kept.{Kept};
 ghost use Rattle.reg_c.specs.contracts.holding.Held.{the_row};
 ghost use Rattle.reg_c.specs.Events.{event_of};
-ghost use Rattle.reg_c.specs.Worlds.{HasOrders, Steps, number_of};
+ghost use Rattle.reg_c.specs.Worlds.{HasOrders, IsOpened, Steps, number_of, refusal_of};
 
 use crate::holding::{Held, arrange, close, look, open, step};
+use crate::unboxed::Unboxed;
 use std::alloc::Global;
 
-/// The pointer as one to bytes: what it points to is not for C to look into.
-fn opaque(held: *mut Held) -> *mut u8
-    ensures { result ≡ held }
+/// Writes the pointer for the caller, as one to bytes: what it points to is not for C to look into.
+fn put(handle: &mut *mut u8, held: *mut Held)
+    ensures { handle.new ≡ held }
 {
-    held as *mut u8
+    *handle = held as *mut u8;
 }
 
 /// Makes a world in which nothing happened yet. Where the result is 0 there is one behind the handle, and else the handle is as it was.
@@ -28,11 +29,14 @@ pub extern "C" fn tellwydar_world_new(
     handle: &mut *mut u8,
 ) -> u32
     ensures room { 0 < result → handle.new ≡ handle.old }
+    ensures why { 0 < result → result ≡ refusal_of front processes registers }
     ensures front { result ≡ 0 → front < 3 }
+    ensures* world { ⌜ result ≡ 0 ⌝ -∗ ∃ₛ (λ (held : Held). sem 𝓛 (lies_at the_row full_share handle.new held) ∗ ⌜ IsOpened front (record { processes = processes; registers = registers }) held ⌝) }
 {
     match open(alloc, front, processes, registers) {
         Ok(held) => {
-            *handle = opaque(Box::into_raw(held));
+            let Unboxed { at } = held;
+            put(handle, at);
             0
         }
         Err(code) => code,
