@@ -26,8 +26,8 @@ enum Change {
     Value(u64),
 }
 
-/// Changes one frame, and hands all parcels on, but for those from process 2 to process 1, which are lost: so what comes to process 1
-/// first is the changed frame.
+/// Changes one frame, and hands all parcels on, but for those from process 2 to process 1, which are lost: so the first cast that comes
+/// to process 1 is the changed one, also where process 0 has answered another one before.
 #[derive(Drop)]
 struct Changing {
     alloc: Global,
@@ -45,31 +45,27 @@ impl Changing {
     }
 }
 
-/// The frame after a change.
-fn changed(frame: Frame, change: Change) -> Frame {
+/// The frame after a change, where it is a cast.
+fn changed(frame: Frame, change: Change) -> Option<Frame> {
     let Frame::Numbered {
         number,
         body: Body::Cast { time, op },
     } = frame
     else {
-        return frame;
+        return None;
     };
     let (time, op) = match change {
         Change::LastTime => (LAST_TIME, op),
         Change::Value(value) => (time, Op::Write { register: 0, value }),
     };
     let body = Body::Cast { time, op };
-    Frame::Numbered { number, body }
+    Some(Frame::Numbered { number, body })
 }
 
-/// Changes the frame that a parcel's bytes are of.
-fn change_bytes(alloc: Global, bytes: &mut Vec<u8>, change: Change) {
-    let Ok(frame) = decode(bytes.as_slice()) else {
-        return;
-    };
-    if let Ok(other) = encode(alloc, &changed(frame, change)) {
-        *bytes = other;
-    }
+/// The bytes of a parcel after a change, where they are those of a cast.
+fn changed_bytes(alloc: Global, bytes: &[u8], change: Change) -> Option<Vec<u8>> {
+    let frame = changed(decode(bytes).ok()?, change)?;
+    encode(alloc, &frame).ok()
 }
 
 impl Road for Changing {
@@ -79,8 +75,11 @@ impl Road for Changing {
         }
         let mut parcel = parcel;
         let ours = parcel.from == 0 && parcel.to == 1;
-        if ours && !self.done.swap(true, Ordering::SeqCst) {
-            change_bytes(self.alloc, &mut parcel.bytes, self.change);
+        if ours && !self.done.load(Ordering::SeqCst) {
+            if let Some(bytes) = changed_bytes(self.alloc, parcel.bytes.as_slice(), self.change) {
+                self.done.store(true, Ordering::SeqCst);
+                parcel.bytes = bytes;
+            }
         }
         let _came = posts.put(rt, parcel);
     }
