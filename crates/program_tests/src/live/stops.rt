@@ -1,6 +1,7 @@
 //! Stations that stop, and frames that were changed on their way.
+use crate::live::closing::wait;
 use crate::live::crews::{
-    carry_all, end, join_all, last_of, parts_of, pass_of, put_back, start, told,
+    carry_all, end, join_all, last_of, parts_of, pass_of, put_back, shut, start, told,
 };
 use crate::values::{read, write};
 use reg_base::limits::LAST_TIME;
@@ -237,26 +238,35 @@ fn all_callers_are_told_where_a_station_stops(rt: HostRuntime) {
     assert!(rt; first_told && third_told && closed.world.history().entries().len() == 2);
 }
 
+/// Counts turns until so many sections were made, and some more, in which their callers begin to wait.
+fn wait_for_callers(rt: &impl Wait, pass: &mut Pass<Linear, NoGate>, sections: u64) {
+    let made = Err(LiveFault::Behind { length: sections });
+    for _turn in 0..1_000_000_000u32 {
+        if pass.perform_after(rt, read(0), 2_000_000) == made {
+            break;
+        }
+    }
+    wait(&AtomicBool::new(false), 30_000_000);
+}
+
 /// No courier runs, so that each caller would wait for ever.
 #[test]
 fn no_caller_waits_once_the_cluster_is_stopped(rt: HostRuntime) {
     let alloc = rt.alloc();
-    let Parts {
-        cluster,
-        passes,
-        couriers,
-        pacer,
-    } = parts_of::<Linear, NoGate>(&rt, alloc, (3, 1), NoGate);
+    let mut parts = parts_of::<Linear, NoGate>(&rt, alloc, (4, 1), NoGate);
+    let mut fourth = last_of(&rt, &mut parts.passes);
     let mut callers = Vec::new(alloc);
-    for pass in passes {
-        callers.push(write_apart(rt, pass)).expect(&rt, "memory");
+    for _caller in 0..3u8 {
+        let caller = write_apart(rt, last_of(&rt, &mut parts.passes));
+        callers.push(caller).expect(&rt, "memory");
     }
-    let mut told = cluster.stop(&rt).is_ok();
-    let mut passes = Vec::new(alloc);
+    wait_for_callers(&rt, &mut fourth, 3);
+    let mut told = parts.cluster.stop(&rt).is_ok();
+    put_back(&rt, &mut parts.passes, fourth);
     for (pass, failed) in join_all(&rt, alloc, callers) {
-        passes.push(pass).expect(&rt, "memory");
+        put_back(&rt, &mut parts.passes, pass);
         told = told && failed;
     }
-    let closed = close(&rt, alloc, cluster, passes, couriers, pacer).is_ok();
-    assert!(rt; told && closed);
+    let closed = shut(&rt, alloc, parts);
+    assert!(rt; told && closed.world.events() == 3);
 }
