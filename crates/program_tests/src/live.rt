@@ -1,5 +1,5 @@
 //! Tests of running clusters: passes and records worked by hand, stations that are held, that stop and that are lied to, rough
-//! roads, and limits.
+//! roads, limits, and clusters that run.
 mod closes;
 mod closing;
 mod crews;
@@ -11,5 +11,6 @@ mod passes;
 mod records;
 mod reports;
 mod roads;
+mod running;
 mod scripts;
 mod stops;

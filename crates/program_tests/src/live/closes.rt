@@ -108,6 +108,21 @@ fn passes_too_many_are_counted(rt: HostRuntime) {
     assert!(rt; fault_with_two_more(&rt, alloc) == mismatch(1));
 }
 
+/// Closes a cluster of two with passes of processes 3, 2 and 3 of other clusters beside its own.
+fn fault_with_three_beyond(rt: &(impl Wait + Abort), alloc: Global) -> Option<CloseFault> {
+    let mut parts = cluster(rt, alloc, 2);
+    for processes in [4u32, 3, 4] {
+        put_back(rt, &mut parts.passes, foreign(rt, alloc, processes));
+    }
+    close_parts(rt, alloc, parts).err()
+}
+
+#[test]
+fn the_lowest_process_that_is_not_there_is_told(rt: HostRuntime) {
+    let alloc = rt.alloc();
+    assert!(rt; fault_with_three_beyond(&rt, alloc) == mismatch(2));
+}
+
 #[test]
 fn a_pass_of_another_cluster_is_told_by_its_receipts(rt: HostRuntime) {
     let alloc = rt.alloc();

@@ -35,7 +35,7 @@ impl Flags {
 }
 
 /// Counts turns until the flag is set, or there were so many.
-fn wait(flag: &AtomicBool, turns: u32) {
+pub fn wait(flag: &AtomicBool, turns: u32) {
     for _ in 0..turns {
         if flag.load(Ordering::SeqCst) {
             return;

@@ -1,5 +1,6 @@
 //! When frames are put again, and that an honest road needs none of it.
 use crate::live::crews::{carry_all, join_all, parts_of, pass_of, shut};
+use crate::live::parcels::carry;
 use crate::values::{read, write};
 use reg_base::limits::MOST_EVENTS;
 use reg_front::{Linear, LocalWrite};
@@ -90,6 +91,60 @@ fn a_silent_link_makes_its_station_tick(rt: HostRuntime) {
     let right = ticks_in_turn(&rt, &mut parts);
     let closed = shut(&rt, alloc, parts);
     assert!(rt; right && closed.world.events() == 3);
+}
+
+/// How many sections the journal has after nine looks.
+fn length_after_looks(
+    rt: &(impl Wait + Abort),
+    parts: &mut Parts<LocalWrite, NoGate>,
+) -> Option<u64> {
+    for _look in 0..9u8 {
+        parts.pacer.look(rt);
+    }
+    length_of(rt, pass_of(rt, &mut parts.passes, 1))
+}
+
+/// Whether no look makes a tick after a write, while its own courier has mail and while the other one has.
+fn waits_for_mail(rt: &(impl Wait + Abort), parts: &mut Parts<LocalWrite, NoGate>) -> bool {
+    let written = pass_of(rt, &mut parts.passes, 0).perform(rt, write(0, 1));
+    let own = length_after_looks(rt, parts);
+    let stopped = parts.cluster.stop(rt).is_ok();
+    parts
+        .couriers
+        .get_mut(0)
+        .expect(rt, "a courier")
+        .run(rt, &Honest);
+    let other = length_after_looks(rt, parts);
+    written.is_ok() && stopped && own == Some(1) && other == Some(1)
+}
+
+#[test]
+fn a_link_with_mail_makes_no_tick(rt: HostRuntime) {
+    let alloc = rt.alloc();
+    let mut parts = parts_of::<LocalWrite, NoGate>(&rt, alloc, (2, 1), NoGate);
+    let right = waits_for_mail(&rt, &mut parts);
+    let closed = shut(&rt, alloc, parts);
+    assert!(rt; right && closed.world.events() == 1);
+}
+
+/// Whether no look makes a tick behind the five sections of a write whose frames all come: its call, the take of its cast, of the count
+/// and the acknowledgement that answer it, and of the count that answers this.
+fn rests(rt: &(impl Wait + Abort), parts: &mut Parts<LocalWrite, NoGate>) -> bool {
+    let written = pass_of(rt, &mut parts.passes, 0).perform(rt, write(0, 1));
+    let mut carried = true;
+    for _round in 0..6u8 {
+        carried = carry(rt, parts, &Honest) && carried;
+    }
+    written.is_ok() && carried && length_after_looks(rt, parts) == Some(5)
+}
+
+#[test]
+fn an_acknowledged_link_makes_no_tick(rt: HostRuntime) {
+    let alloc = rt.alloc();
+    let mut parts = parts_of::<LocalWrite, NoGate>(&rt, alloc, (2, 1), NoGate);
+    let right = rests(&rt, &mut parts);
+    let closed = shut(&rt, alloc, parts);
+    assert!(rt; right && closed.world.events() == 5);
 }
 
 /// Writes and reads so often, in a thread of its own. The pass, and whether all were answered.

@@ -130,7 +130,7 @@ fn counts_of(alloc: Global, frames: &[Frame]) -> Vec<u64> {
 }
 
 /// Runs the couriers one after another until each has taken what is there.
-fn carry(rt: &impl Wait, parts: &mut Parts<LocalWrite, NoGate>, road: &impl Road) -> bool {
+pub fn carry(rt: &impl Wait, parts: &mut Parts<LocalWrite, NoGate>, road: &impl Road) -> bool {
     let stopped = parts.cluster.stop(rt).is_ok();
     for courier in &mut parts.couriers {
         courier.run(rt, road);

@@ -1,6 +1,7 @@
 //! Stations that stop, and frames that were changed on their way.
+use crate::live::closing::wait;
 use crate::live::crews::{
-    carry_all, end, join_all, last_of, parts_of, pass_of, put_back, start, told,
+    carry_all, end, join_all, last_of, parts_of, pass_of, put_back, shut, start, told,
 };
 use crate::values::{read, write};
 use reg_base::limits::LAST_TIME;
@@ -26,8 +27,8 @@ enum Change {
     Value(u64),
 }
 
-/// Changes one frame, and hands all parcels on, but for those from process 2 to process 1, which are lost: so what comes to process 1
-/// first is the changed frame.
+/// Changes one frame, and hands all parcels on, but for those from process 2 to process 1, which are lost: so the first cast that comes
+/// to process 1 is the changed one, also where process 0 has answered another one before.
 #[derive(Drop)]
 struct Changing {
     alloc: Global,
@@ -45,31 +46,27 @@ impl Changing {
     }
 }
 
-/// The frame after a change.
-fn changed(frame: Frame, change: Change) -> Frame {
+/// The frame after a change, where it is a cast.
+fn changed(frame: Frame, change: Change) -> Option<Frame> {
     let Frame::Numbered {
         number,
         body: Body::Cast { time, op },
     } = frame
     else {
-        return frame;
+        return None;
     };
     let (time, op) = match change {
         Change::LastTime => (LAST_TIME, op),
         Change::Value(value) => (time, Op::Write { register: 0, value }),
     };
     let body = Body::Cast { time, op };
-    Frame::Numbered { number, body }
+    Some(Frame::Numbered { number, body })
 }
 
-/// Changes the frame that a parcel's bytes are of.
-fn change_bytes(alloc: Global, bytes: &mut Vec<u8>, change: Change) {
-    let Ok(frame) = decode(bytes.as_slice()) else {
-        return;
-    };
-    if let Ok(other) = encode(alloc, &changed(frame, change)) {
-        *bytes = other;
-    }
+/// The bytes of a parcel after a change, where they are those of a cast.
+fn changed_bytes(alloc: Global, bytes: &[u8], change: Change) -> Option<Vec<u8>> {
+    let frame = changed(decode(bytes).ok()?, change)?;
+    encode(alloc, &frame).ok()
 }
 
 impl Road for Changing {
@@ -79,8 +76,11 @@ impl Road for Changing {
         }
         let mut parcel = parcel;
         let ours = parcel.from == 0 && parcel.to == 1;
-        if ours && !self.done.swap(true, Ordering::SeqCst) {
-            change_bytes(self.alloc, &mut parcel.bytes, self.change);
+        if ours && !self.done.load(Ordering::SeqCst) {
+            if let Some(bytes) = changed_bytes(self.alloc, parcel.bytes.as_slice(), self.change) {
+                self.done.store(true, Ordering::SeqCst);
+                parcel.bytes = bytes;
+            }
         }
         let _came = posts.put(rt, parcel);
     }
@@ -238,26 +238,35 @@ fn all_callers_are_told_where_a_station_stops(rt: HostRuntime) {
     assert!(rt; first_told && third_told && closed.world.history().entries().len() == 2);
 }
 
+/// Counts turns until so many sections were made, and some more, in which their callers begin to wait.
+fn wait_for_callers(rt: &impl Wait, pass: &mut Pass<Linear, NoGate>, sections: u64) {
+    let made = Err(LiveFault::Behind { length: sections });
+    for _turn in 0..1_000_000_000u32 {
+        if pass.perform_after(rt, read(0), 2_000_000) == made {
+            break;
+        }
+    }
+    wait(&AtomicBool::new(false), 30_000_000);
+}
+
 /// No courier runs, so that each caller would wait for ever.
 #[test]
 fn no_caller_waits_once_the_cluster_is_stopped(rt: HostRuntime) {
     let alloc = rt.alloc();
-    let Parts {
-        cluster,
-        passes,
-        couriers,
-        pacer,
-    } = parts_of::<Linear, NoGate>(&rt, alloc, (3, 1), NoGate);
+    let mut parts = parts_of::<Linear, NoGate>(&rt, alloc, (4, 1), NoGate);
+    let mut fourth = last_of(&rt, &mut parts.passes);
     let mut callers = Vec::new(alloc);
-    for pass in passes {
-        callers.push(write_apart(rt, pass)).expect(&rt, "memory");
+    for _caller in 0..3u8 {
+        let caller = write_apart(rt, last_of(&rt, &mut parts.passes));
+        callers.push(caller).expect(&rt, "memory");
     }
-    let mut told = cluster.stop(&rt).is_ok();
-    let mut passes = Vec::new(alloc);
+    wait_for_callers(&rt, &mut fourth, 3);
+    let mut told = parts.cluster.stop(&rt).is_ok();
+    put_back(&rt, &mut parts.passes, fourth);
     for (pass, failed) in join_all(&rt, alloc, callers) {
-        passes.push(pass).expect(&rt, "memory");
+        put_back(&rt, &mut parts.passes, pass);
         told = told && failed;
     }
-    let closed = close(&rt, alloc, cluster, passes, couriers, pacer).is_ok();
-    assert!(rt; told && closed);
+    let closed = shut(&rt, alloc, parts);
+    assert!(rt; told && closed.world.events() == 3);
 }
