@@ -17,13 +17,14 @@ take 1 0 1
 ";
 
 const WRITE_DATA: &str = r##"{"version":1,
+"title":"",
 "processes":2,
 "registers":["x"],
 "front":"linear",
 "events":[
-{"event":"call 0 write x 5","process":0,"frame":null,"clock":1,"delivered":[],"reply":null,"sent":[[1,0,["cast",0,1,"write x 5"]]]}
-,{"event":"take 0 1 0","process":1,"frame":["cast",0,1,"write x 5"],"clock":2,"delivered":[[1,0]],"reply":null,"sent":[[0,0,["count",1]],[0,1,["ack",0,2]]]}
-,{"event":"take 1 0 1","process":0,"frame":["ack",0,2],"clock":3,"delivered":[[1,0]],"reply":{"answer":"done","place":0},"sent":[[1,1,["count",1]]]}
+{"event":"call 0 write x 5","process":0,"frame":null,"clock":1,"delivered":[],"reply":null,"sent":[[1,0,["cast",0,1,"write x 5"]]],"note":""}
+,{"event":"take 0 1 0","process":1,"frame":["cast",0,1,"write x 5"],"clock":2,"delivered":[[1,0]],"reply":null,"sent":[[0,0,["count",1]],[0,1,["ack",0,2]]],"note":""}
+,{"event":"take 1 0 1","process":0,"frame":["ack",0,2],"clock":3,"delivered":[[1,0]],"reply":{"answer":"done","place":0},"sent":[[1,1,["count",1]]],"note":""}
 ],
 "states":[
 {"peers":[null,[0,0,0,1]],"held":[[1,0]],"copy":[],"delivered":0,"running":["cast",1]}
@@ -62,15 +63,16 @@ tick 1
 ";
 
 const HELD_DATA: &str = r##"{"version":1,
+"title":"",
 "processes":2,
 "registers":["w","x"],
 "front":"local-write",
 "events":[
-{"event":"call 0 write x 1","process":0,"frame":null,"clock":1,"delivered":[],"reply":{"answer":"done","place":0},"sent":[[1,0,["cast",0,1,"write x 1"]]]}
-,{"event":"call 1 write x 18446744073709551615","process":1,"frame":null,"clock":1,"delivered":[],"reply":{"answer":"done","place":0},"sent":[[0,0,["cast",0,1,"write x 18446744073709551615"]]]}
-,{"event":"call 0 read x","process":0,"frame":null,"clock":1,"delivered":[],"reply":null,"sent":[]}
-,{"event":"take 1 0 0","process":0,"frame":["cast",0,1,"write x 18446744073709551615"],"clock":2,"delivered":[[1,0],[1,1]],"reply":{"answer":"value 1","place":1},"sent":[[1,1,["count",1]],[1,2,["ack",1,2]]]}
-,{"event":"tick 1","process":1,"frame":null,"clock":1,"delivered":[],"reply":null,"sent":[[0,1,["cast",0,1,"write x 18446744073709551615"]]]}
+{"event":"call 0 write x 1","process":0,"frame":null,"clock":1,"delivered":[],"reply":{"answer":"done","place":0},"sent":[[1,0,["cast",0,1,"write x 1"]]],"note":""}
+,{"event":"call 1 write x 18446744073709551615","process":1,"frame":null,"clock":1,"delivered":[],"reply":{"answer":"done","place":0},"sent":[[0,0,["cast",0,1,"write x 18446744073709551615"]]],"note":""}
+,{"event":"call 0 read x","process":0,"frame":null,"clock":1,"delivered":[],"reply":null,"sent":[],"note":""}
+,{"event":"take 1 0 0","process":0,"frame":["cast",0,1,"write x 18446744073709551615"],"clock":2,"delivered":[[1,0],[1,1]],"reply":{"answer":"value 1","place":1},"sent":[[1,1,["count",1]],[1,2,["ack",1,2]]],"note":""}
+,{"event":"tick 1","process":1,"frame":null,"clock":1,"delivered":[],"reply":null,"sent":[[0,1,["cast",0,1,"write x 18446744073709551615"]]],"note":""}
 ],
 "states":[
 {"peers":[null,[0,0,0,1]],"held":[[1,0]],"copy":[],"delivered":0,"running":null}
@@ -102,6 +104,59 @@ const HELD_DATA: &str = r##"{"version":1,
 "points":null}
 "##;
 
+/// Comments that a page could take for its own, with characters that a string of JSON can't have, and letters beyond ASCII.
+const NOTED: &str = "# </script><script>alert(1)</script>
+#  He said \"no\" & left \\ here.
+
+processes 1
+# of no event
+registers x
+front linear
+#no space
+# \u{e9} \u{2603} \u{1f600}
+tick 0
+#\ttab\u{7f}
+tick 0
+tick 0
+# <!--
+#
+
+# -->
+tick 0
+# behind the last event
+";
+
+const NOTED_DATA: &str = r##"{"version":1,
+"title":"\u003c/script\u003e\u003cscript\u003ealert(1)\u003c/script\u003e  He said \u0022no\u0022 \u0026 left \u005c here.",
+"processes":1,
+"registers":["x"],
+"front":"linear",
+"events":[
+{"event":"tick 0","process":0,"frame":null,"clock":0,"delivered":[],"reply":null,"sent":[],"note":"no space \u00e9 \u2603 \ud83d\ude00"}
+,{"event":"tick 0","process":0,"frame":null,"clock":0,"delivered":[],"reply":null,"sent":[],"note":"\u0009tab\u007f"}
+,{"event":"tick 0","process":0,"frame":null,"clock":0,"delivered":[],"reply":null,"sent":[],"note":""}
+,{"event":"tick 0","process":0,"frame":null,"clock":0,"delivered":[],"reply":null,"sent":[],"note":"\u003c!-- --\u003e"}
+],
+"states":[
+{"peers":[null],"held":[],"copy":[],"delivered":0,"running":null}
+,{"peers":[null],"held":[],"copy":[],"delivered":0,"running":null}
+,{"peers":[null],"held":[],"copy":[],"delivered":0,"running":null}
+,{"peers":[null],"held":[],"copy":[],"delivered":0,"running":null}
+],
+"arrows":[
+],
+"operations":[
+],
+"order":[
+],
+"reads":[
+],
+"witness":[
+],
+"points":[
+]}
+"##;
+
 /// Whether a text is shown by this status, output and fault.
 fn tells(alloc: Global, showing: Showing, text: &str, told: (u8, &str, &str)) -> bool {
     let (status, output, errors) = shown(alloc, showing, text.as_bytes());
@@ -113,7 +168,7 @@ fn tells(alloc: Global, showing: Showing, text: &str, told: (u8, &str, &str)) ->
 
 #[test]
 fn data_is_that_worked_by_hand(rt: HostRuntime) {
-    for (text, wanted) in [(WRITE, WRITE_DATA), (HELD, HELD_DATA)] {
+    for (text, wanted) in [(WRITE, WRITE_DATA), (HELD, HELD_DATA), (NOTED, NOTED_DATA)] {
         assert!(rt;
             tells(rt.alloc(), Showing::Data, text, (0, wanted, "")),
             "{text}"
@@ -142,6 +197,33 @@ fn a_json_reader_reads_the_data(rt: HostRuntime) {
     }
 }
 
+/// Whether the member of this path of the data is this string.
+fn is_string_at(alloc: Global, json: &str, path: &str, wanted: &str) -> bool {
+    match Value::from_str(alloc, json) {
+        Ok(value) => value.pointer(path).and_then(Value::as_str) == Some(wanted),
+        Err(_) => false,
+    }
+}
+
+#[test]
+fn a_json_reader_reads_the_comments(rt: HostRuntime) {
+    for (path, wanted) in [
+        (
+            "/title",
+            "</script><script>alert(1)</script>  He said \"no\" & left \\ here.",
+        ),
+        ("/events/0/note", "no space \u{e9} \u{2603} \u{1f600}"),
+        ("/events/1/note", "\ttab\u{7f}"),
+        ("/events/2/note", ""),
+        ("/events/3/note", "<!-- -->"),
+    ] {
+        assert!(rt;
+            is_string_at(rt.alloc(), NOTED_DATA, path, wanted),
+            "{path}"
+        );
+    }
+}
+
 /// Whether the page is its head, the data without its last line feed, and its tail.
 fn is_framed(alloc: Global, text: &str, data_text: &str) -> bool {
     let (status, page, errors) = shown(alloc, Showing::Page, text.as_bytes());
@@ -158,7 +240,7 @@ fn is_framed(alloc: Global, text: &str, data_text: &str) -> bool {
 
 #[test]
 fn a_page_is_its_head_the_data_and_its_tail(rt: HostRuntime) {
-    for (text, wanted) in [(WRITE, WRITE_DATA), (HELD, HELD_DATA)] {
+    for (text, wanted) in [(WRITE, WRITE_DATA), (HELD, HELD_DATA), (NOTED, NOTED_DATA)] {
         assert!(rt; is_framed(rt.alloc(), text, wanted), "{text}");
     }
 }

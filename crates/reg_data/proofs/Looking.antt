@@ -8,7 +8,7 @@ use Rattle.reg_front.specs.declared.starts.Start.{Start}
 use Rattle.reg_world.specs.declared.events.Event.{Event}
 use Rattle.reg_world.specs.Worlds.{Made, with_event}
 use Rattle.reg_data.specs.declared.looks.Kept.{Kept}
-use Rattle.reg_data.specs.Looks.{Look, kept_at, kept_of, look_behind, looks_from}
+use Rattle.reg_data.specs.Looks.{Look, kept_of, look_behind, looks_from}
 
 -- one more state told
 pub one_told : (start : Op → ℕ → Start) (w new : Made) (looks pushed all : List Look) (m : Look) (events : List Event) (i : ℕ) (d : Event) → i < length events → new ≡ with_event start w (get_or events i d) → m ≡ look_behind start w (get_or events i d) → pushed ≡ looks ++ m ∷ [] → looks ++ looks_from start w (drop i events) ≡ all → pushed ++ looks_from start new (drop (i + 1) events) ≡ all

@@ -6,6 +6,7 @@ use Rattle.reg_front.specs.declared.starts.Start.{Start}
 use Rattle.reg_moments.specs.Figures.{arrows_of, bars_of}
 use Rattle.reg_moments.specs.Moments.{moments_of}
 use Rattle.reg_histories.specs.declared.entries.Point.{Point}
+use Rattle.reg_notes.specs.Notes.{Notes}
 use Rattle.reg_schedules.specs.Schedules.{Plan}
 use Rattle.reg_world.specs.World.{World, whole}
 use Rattle.reg_data.specs.Data.{Data, data_of}
@@ -14,10 +15,11 @@ use Rattle.reg_data.specs.Looks.{looks_of}
 abbrev run_of_plan : (Op → ℕ → Start) → Plan → World
 run_of_plan start p = whole start p.shape.processes p.shape.registers p.events
 
-pub data_made : (start : Op → ℕ → Start) (p : Plan) (witness : List OpId) (points : Option (List Point)) (d : Data) → d.processes ≡ p.shape.processes → d.names ≡ p.names → d.front ≡ p.front
+pub data_made : (start : Op → ℕ → Start) (p : Plan) (notes : Notes) (witness : List OpId) (points : Option (List Point)) (d : Data) → d.notes ≡ notes → d.processes ≡ p.shape.processes → d.names ≡ p.names → d.front ≡ p.front
     → d.facts ≡ moments_of start p.shape p.events → d.looks ≡ looks_of start p.shape p.events → d.arrows ≡ arrows_of (moments_of start p.shape p.events) → d.bars ≡ bars_of (run_of_plan start p).history
-    → d.order ≡ (run_of_plan start p).order → d.reads ≡ (run_of_plan start p).reads → d.witness ≡ witness → d.points ≡ points → d ≡ data_of start p witness points
-data_made start p witness points d processes names front facts looks arrows bars order reads witnessed pointed = λ i. record {
+    → d.order ≡ (run_of_plan start p).order → d.reads ≡ (run_of_plan start p).reads → d.witness ≡ witness → d.points ≡ points → d ≡ data_of start p notes witness points
+data_made start p notes witness points d noted processes names front facts looks arrows bars order reads witnessed pointed = λ i. record {
+  notes = noted i;
   processes = processes i;
   names = names i;
   front = front i;

@@ -9,7 +9,6 @@ use Rattle.reg_reports.specs.EntryLines.{answer_text}
 use Rattle.reg_moments.specs.declared.figures.Bar.{Bar}
 use Rattle.reg_moments.specs.declared.figures.End.{End}
 use Rattle.reg_moments.specs.declared.moments.Sent.{Sent}
-use Rattle.reg_moments.specs.Moments.{Fact}
 use Rattle.reg_process.specs.declared.known.Known.{Known}
 use Rattle.reg_process.specs.declared.steps.Reply.{Reply}
 use Rattle.reg_process.specs.Process.{Running, Own, Held}
@@ -18,7 +17,9 @@ use Rattle.reg_text.specs.Ops.{op_text}
 use Rattle.reg_data.specs.declared.looks.Kept.{Kept}
 use Rattle.reg_data.specs.Json.{list_text, numbers_text, quoted}
 use Rattle.reg_data.specs.Looks.{Look}
+use Rattle.reg_data.specs.Noted.{Noted}
 use Rattle.reg_data.specs.Rows.{cast_row}
+use Rattle.reg_data.specs.Strings.{string_text}
 
 -- what a process knows of another: the time of the last body accepted from it, the number of the next one, the first number that
 -- it has not acknowledged, and that of the next body to it
@@ -69,17 +70,17 @@ abbrev pub reply_part : Option Reply → List ℕ
 reply_part None = codes "null"
 reply_part (Some reply) = codes "{\"answer\":" ++ (quoted (answer_text reply.answer) ++ ((codes ",\"place\":" ++ decimal reply.place) ++ codes "}"))
 
--- an event and what it did
-abbrev pub moment_part : List (List ℕ) → Fact → List ℕ
-moment_part names f =
-    codes "{\"event\":" ++ (quoted (event_text names f.event)
-    ++ ((codes ",\"process\":" ++ decimal f.process)
-    ++ (codes ",\"frame\":" ++ (taken_part names f.frame
-    ++ ((codes ",\"clock\":" ++ decimal f.clock)
-    ++ ((codes ",\"delivered\":" ++ list_text (cast_row names) f.delivered)
-    ++ (codes ",\"reply\":" ++ (reply_part f.reply
-    ++ ((codes ",\"sent\":" ++ list_text (sent_part names) f.sent)
-    ++ codes "}")))))))))
+-- an event, what it did, and its note
+abbrev pub moment_part : List (List ℕ) → Noted → List ℕ
+moment_part names n =
+    codes "{\"event\":" ++ (quoted (event_text names n.fact.event)
+    ++ ((codes ",\"process\":" ++ decimal n.fact.process)
+    ++ (codes ",\"frame\":" ++ (taken_part names n.fact.frame
+    ++ ((codes ",\"clock\":" ++ decimal n.fact.clock)
+    ++ ((codes ",\"delivered\":" ++ list_text (cast_row names) n.fact.delivered)
+    ++ (codes ",\"reply\":" ++ (reply_part n.fact.reply
+    ++ ((codes ",\"sent\":" ++ list_text (sent_part names) n.fact.sent)
+    ++ (codes ",\"note\":" ++ (string_text n.note ++ codes "}")))))))))))
 
 -- the answer of an operation, where it has one
 abbrev pub end_part : Option End → List ℕ

@@ -4,13 +4,17 @@ use reg_base::{Names, OpId};
 use reg_front::Front;
 use reg_histories::Point;
 use reg_moments::{Arrow, Bar, Moment};
+use reg_notes::Notes;
 use reg_world::{CopyRead, First};
 use std::alloc::{Allocator, Global};
 use std::marker::Model;
 
-/// What is told of a run: of each event, of the frames taken, of the operations, and of the orders of the whole run.
+/// What is told of a run: of each event, of the frames taken, of the operations, and of the orders of the whole run; and what the
+/// comments of its schedule say.
 #[derive(Drop)]
 pub struct Data<A: Allocator + Copy = Global> {
+    /// The title, and the note of each event.
+    pub notes: Notes<A>,
     /// How many processes there are.
     pub processes: u32,
     /// The names of the registers.
@@ -41,5 +45,5 @@ impl<A: Allocator + Copy> Model for Data<A> {
 
     ghost Value = { AnyData };
 
-    ghost view = { λ d. record { processes = d.processes; names = d.names; front = d.front; facts = d.moments.items; looks = d.looks.items; arrows = d.arrows.items; bars = d.bars.items; order = d.order.items; reads = d.reads.items; witness = d.witness.items; points = option_map (λ v. v.items) d.points } };
+    ghost view = { λ d. record { notes = d.notes; processes = d.processes; names = d.names; front = d.front; facts = d.moments.items; looks = d.looks.items; arrows = d.arrows.items; bars = d.bars.items; order = d.order.items; reads = d.reads.items; witness = d.witness.items; points = option_map (λ v. v.items) d.points } };
 }

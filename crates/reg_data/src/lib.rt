@@ -2,11 +2,13 @@
 #![tactic(auto)]
 
 mod data;
+mod events;
 mod json;
 pub mod laws;
 mod looks;
 mod parts;
 mod rows;
+mod strings;
 mod telling;
 mod text;
 

@@ -10,6 +10,7 @@ ghost use Rattle.reg_data.specs.Parts.{bar_part, body_part, end_part, frame_part
 
 use crate::json::{Part, put_list, put_numbers};
 use crate::looks::{Kept, Look};
+use crate::strings::put_string;
 use reg_base::{Answer, Names, Op};
 use reg_frames::{Body, Frame};
 use reg_moments::{Bar, End, Moment, Sent, put_answer, put_event, put_number};
@@ -190,22 +191,28 @@ fn put_reply<W: Write>(sink: &mut Sink<'_, W>, reply: Option<Reply>)
     }
 }
 
-impl<B: Allocator + Copy> Part for Moment<B> {
-    ghost part = { moment_part };
-
-    fn put<A: Allocator + Copy, W: Write>(&self, sink: &mut Sink<'_, W>, names: &Names<A>) {
-        sink.put(b"{\"event\":");
-        put_quoted_event(sink, names, self.event);
-        put_number(sink, ",\"process\":", self.process as u64);
-        sink.put(b",\"frame\":");
-        put_taken(sink, names, self.frame);
-        put_number(sink, ",\"clock\":", self.clock);
-        put_list(sink, ",\"delivered\":", names, self.delivered.as_slice());
-        sink.put(b",\"reply\":");
-        put_reply(sink, self.reply);
-        put_list(sink, ",\"sent\":", names, self.sent.as_slice());
-        sink.put(b"}");
-    }
+/// Puts an event, what it did, and its note.
+pub fn put_moment<A: Allocator + Copy, B: Allocator + Copy, W: Write>(
+    sink: &mut Sink<'_, W>,
+    names: &Names<A>,
+    moment: &Moment<B>,
+    note: &str,
+)
+    ensures { Puts W.contents sink.old sink.new (moment_part names.now (record { fact = moment.now; note = note.now })) }
+{
+    sink.put(b"{\"event\":");
+    put_quoted_event(sink, names, moment.event);
+    put_number(sink, ",\"process\":", moment.process as u64);
+    sink.put(b",\"frame\":");
+    put_taken(sink, names, moment.frame);
+    put_number(sink, ",\"clock\":", moment.clock);
+    put_list(sink, ",\"delivered\":", names, moment.delivered.as_slice());
+    sink.put(b",\"reply\":");
+    put_reply(sink, moment.reply);
+    put_list(sink, ",\"sent\":", names, moment.sent.as_slice());
+    sink.put(b",\"note\":");
+    put_string(sink, note);
+    sink.put(b"}");
 }
 
 /// Puts the answer of an operation, where it has one.

@@ -9,10 +9,11 @@ use reg_base::Names;
 use reg_front::{Front, FrontEnd};
 use reg_histories::Point;
 use reg_moments::{arrows, bars, tell_world};
+use reg_notes::Notes;
 use reg_world::World;
 use std::alloc::{AllocError, Allocator};
 
-/// All that is told of what a world did, under these names, with these points or none.
+/// All that is told of what a world did, under these names, with these notes, and with these points or none.
 ///
 /// # Errors
 ///
@@ -21,17 +22,19 @@ pub fn tell_data<F: FrontEnd, A: Allocator + Copy>(
     alloc: A,
     front: Front,
     names: Names<A>,
+    notes: Notes<A>,
     world: &World<F, A>,
     points: Option<Vec<Point, A>>,
 ) -> Result<Data<A>, AllocError>
     ensures { let plan : Plan = record { shape = record { processes = world.now.processes; registers = world.now.registers }; names = names; front = front; events = world.now.accepted } in
-        IfOk result (λ d. IsDataOf F.start plan (option_map (λ v. v.items) points) d) }
+        IfOk result (λ d. IsDataOf F.start plan notes (option_map (λ v. v.items) points) d) }
 {
     let moments = tell_world(alloc, world)?;
     let Ok(looks) = look_behind_events::<F, A>(alloc, world.shape(), world.accepted()) else {
         return Err(AllocError);
     };
     Ok(Data {
+        notes,
         processes: world.shape().processes(),
         names,
         front,

@@ -7,7 +7,9 @@ ghost use Rattle.reg_data.specs.Json.{list_text, quoted};
 ghost use Rattle.std.specs.Prelude.{option_map};
 
 use crate::data::Data;
+use crate::events::put_events;
 use crate::json::{put_comma, put_lines, put_quoted};
+use crate::strings::put_string;
 use reg_base::Names;
 use reg_histories::Point;
 use reg_moments::put_number;
@@ -41,26 +43,25 @@ fn put_points<A: Allocator + Copy, W: Write>(
     }
 }
 
-/// Puts the processes, the names and the front end.
+/// Puts the title, the processes, the names and the front end.
 fn put_head<A: Allocator + Copy, W: Write>(sink: &mut Sink<'_, W>, run: &Data<A>)
     ensures { Puts W.contents sink.old sink.new (head_text run.now) }
 {
-    put_number(
-        sink,
-        "{\"version\":1,\n\"processes\":",
-        run.processes as u64,
-    );
+    sink.put(b"{\"version\":1,\n\"title\":");
+    put_string(sink, run.notes.title());
+    put_number(sink, ",\n\"processes\":", run.processes as u64);
     sink.put(b",\n\"registers\":");
     put_names(sink, &run.names);
     sink.put(b",\n\"front\":");
     put_quoted(sink, run.front.name());
 }
 
-/// Puts the events, the states, the frames taken and the operations.
+/// Puts the events with their notes, the states, the frames taken and the operations.
 fn put_run<A: Allocator + Copy, W: Write>(sink: &mut Sink<'_, W>, run: &Data<A>)
     ensures { Puts W.contents sink.old sink.new (run_text run.now) }
 {
-    put_lines(sink, ",\n\"events\":", &run.names, run.moments.as_slice());
+    sink.put(b",\n\"events\":");
+    put_events(sink, &run.names, run.moments.as_slice(), &run.notes);
     put_lines(sink, ",\n\"states\":", &run.names, run.looks.as_slice());
     put_lines(sink, ",\n\"arrows\":", &run.names, run.arrows.as_slice());
     put_lines(sink, ",\n\"operations\":", &run.names, run.bars.as_slice());

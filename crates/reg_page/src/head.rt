@@ -635,6 +635,19 @@ svg text {
   text-wrap: pretty
 }
 
+.note {
+  margin: 0 0 10px;
+  padding: 7px 11px;
+  border-left: 3px solid var(--now);
+  background: var(--panel);
+  border-radius: 0 6px 6px 0
+}
+
+.note::before {
+  content: "Note: ";
+  font-weight: 600
+}
+
 .why {
   list-style: none;
   margin: 0;

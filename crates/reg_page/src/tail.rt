@@ -1355,7 +1355,9 @@ pub const TAIL: &str = r##"</script>
         }, e.event)]),
       h("p", {
         class: "lead"
-      }, told.lead), h("ul", {
+      }, told.lead), e && e.note ? h("p", {
+        class: "note"
+      }, e.note) : "", h("ul", {
         class: "why"
       }, told.lines.map(([cls, word, body]) => h("li", {
         class: cls
@@ -1636,6 +1638,10 @@ pub const TAIL: &str = r##"</script>
     "local-read": "reads are answered from the copy: sequentially consistent",
     "local-write": "writes are answered at once, reads wait for the own writes: sequentially consistent"
   };
+  if (D.title) {
+    $("title").textContent = D.title;
+    document.title = D.title;
+  }
   $("facts").append(h("b", {}, `${N} ${plural(N, "process", "processes")}`),
     ` \u00b7 ${plural(D.registers.length, "register")} `, h("b", {}, D.registers.slice(0, 8).join(", ") +
       (D.registers.length > 8 ? ` and ${D.registers.length - 8} more` : "")), " \u00b7 front end ", h(

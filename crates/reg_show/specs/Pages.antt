@@ -5,22 +5,23 @@ use Rattle.reg_commands.specs.Replays.{start_of, PointsOf}
 use Rattle.reg_data.specs.Data.{Data, IsDataOf, data_text}
 use Rattle.reg_front.specs.declared.starts.Start.{Start}
 use Rattle.reg_histories.specs.declared.entries.Point.{Point}
+use Rattle.reg_notes.specs.Notes.{Notes, notes_of}
 use Rattle.reg_schedules.specs.Schedules.{Plan, IsPlan, Spells}
 use Rattle.reg_show.specs.declared.commands.TheConstants.{MOST_DRAWN}
 
--- All events of a plan are accepted, and this is all that is told of their run, with such points.
-pub record HasData (start : Op → ℕ → Start) (p : Plan) (ArePoints : Option (List Point) → Type 0) (d : Data) : Type 0 where
+-- All events of a plan are accepted, and this is all that is told of their run, with these notes and with such points.
+pub record HasData (start : Op → ℕ → Start) (p : Plan) (notes : Notes) (ArePoints : Option (List Point) → Type 0) (d : Data) : Type 0 where
   pub points : Option (List Point)
   pub pointed : ArePoints points
-  pub told : IsDataOf start p points d
+  pub told : IsDataOf start p notes points d
 
--- The text is that of a plan with no more events than can be drawn, all of them accepted, and the data of its run was written between
--- these two texts: `Wrote` says how a text was.
+-- The text is that of a plan with no more events than can be drawn, all of them accepted, and the data of its run, with the notes of the
+-- text, was written between these two texts: `Wrote` says how a text was.
 pub record ShowsData (head tail : List ℕ) (Wrote : List ℕ → Type 0) (text : List ℕ) : Type 0 where
   pub plan : Plan
   pub good : IsPlan plan
   pub read : Spells text plan
   pub few : length plan.events ≤ MOST_DRAWN
   pub data_in : Data
-  pub has : HasData (start_of plan.front) plan (PointsOf plan.front plan) data_in
+  pub has : HasData (start_of plan.front) plan (notes_of text) (PointsOf plan.front plan) data_in
   pub written : Wrote (head ++ (data_text data_in ++ tail))

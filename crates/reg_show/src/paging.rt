@@ -6,6 +6,7 @@ ghost use Rattle.reg_schedules.specs.Schedules.{IsPlan, Spells};
 ghost use Rattle.reg_commands.specs.Replays.{start_of, BlamesRun, PointsOf, ShowsPoints};
 ghost use Rattle.reg_data.specs.Data.{data_text};
 ghost use Rattle.reg_histories.specs.declared.entries.Point.{Point as AnyPoint};
+ghost use Rattle.reg_notes.specs.Notes.{notes_of};
 ghost use Rattle.reg_show.specs.Pages.{HasData, ShowsData};
 ghost use Rattle.reg_show.specs.Runs.{BlamesDrawn};
 
@@ -14,6 +15,7 @@ use crate::faults::ShowFault;
 use reg_commands::{Fault, Ran, read_schedule, run_events};
 use reg_data::{Data, tell_data, write_data};
 use reg_front::{Front, FrontEnd, Linear, LocalRead, LocalWrite, RealTime};
+use reg_notes::{Notes, read_notes};
 use reg_players::Schedule;
 use reg_world::Wires;
 use std::alloc::Allocator;
@@ -35,12 +37,13 @@ fn schedule_to_show<A: Allocator + Copy>(alloc: A, text: &str) -> Result<Schedul
     Ok(schedule)
 }
 
-/// Runs a schedule whose front end has no points: all that is told of the run.
+/// Runs a schedule whose front end has no points: all that is told of the run, with these notes.
 fn data_of_run<F: FrontEnd, A: Allocator + Copy>(
     alloc: A,
     schedule: Schedule<A>,
+    notes: Notes<A>,
 ) -> Result<Data<A>, Fault>
-    ensures told { let NoPoints = λ (points : Option (List AnyPoint)). points ≡ None in IfOk result (λ d. HasData F.start schedule NoPoints d) }
+    ensures told { let NoPoints = λ (points : Option (List AnyPoint)). points ≡ None in IfOk result (λ d. HasData F.start schedule notes NoPoints d) }
     ensures why { IfErr result (λ f. BlamesRun F.start schedule f) }
 {
     let Ran {
@@ -48,18 +51,19 @@ fn data_of_run<F: FrontEnd, A: Allocator + Copy>(
         names,
         front,
     } = run_events::<F, A, Wires<A>>(alloc, schedule)?;
-    match tell_data(alloc, front, names, &world, None) {
+    match tell_data(alloc, front, names, notes, &world, None) {
         Ok(told) => Ok(told),
         Err(_) => Err(Fault::OutOfMemory),
     }
 }
 
-/// Runs a schedule whose front end has points: all that is told of the run.
+/// Runs a schedule whose front end has points: all that is told of the run, with these notes.
 fn data_with_points<F: RealTime, A: Allocator + Copy>(
     alloc: A,
     schedule: Schedule<A>,
+    notes: Notes<A>,
 ) -> Result<Data<A>, Fault>
-    ensures told { IfOk result (λ d. HasData F.start schedule (ShowsPoints F.start schedule) d) }
+    ensures told { IfOk result (λ d. HasData F.start schedule notes (ShowsPoints F.start schedule) d) }
     ensures why { IfErr result (λ f. BlamesRun F.start schedule f) }
 {
     let Ran {
@@ -70,21 +74,40 @@ fn data_with_points<F: RealTime, A: Allocator + Copy>(
     let Ok(points) = world.points() else {
         return Err(Fault::OutOfMemory);
     };
-    match tell_data(alloc, front, names, &world, Some(points)) {
+    match tell_data(alloc, front, names, notes, &world, Some(points)) {
         Ok(told) => Ok(told),
         Err(_) => Err(Fault::OutOfMemory),
     }
 }
 
-/// Runs a schedule: all that is told of the run.
-fn data_of_schedule<A: Allocator + Copy>(alloc: A, schedule: Schedule<A>) -> Result<Data<A>, Fault>
-    ensures told { IfOk result (λ d. HasData (start_of schedule.front) schedule (PointsOf schedule.front schedule) d) }
+/// Runs a schedule: all that is told of the run, with these notes.
+fn data_of_schedule<A: Allocator + Copy>(
+    alloc: A,
+    schedule: Schedule<A>,
+    notes: Notes<A>,
+) -> Result<Data<A>, Fault>
+    ensures told { IfOk result (λ d. HasData (start_of schedule.front) schedule notes (PointsOf schedule.front schedule) d) }
     ensures why { IfErr result (λ f. BlamesRun (start_of schedule.front) schedule f) }
 {
     match schedule.front {
-        Front::Linear => data_with_points::<Linear, A>(alloc, schedule),
-        Front::LocalRead => data_of_run::<LocalRead, A>(alloc, schedule),
-        Front::LocalWrite => data_of_run::<LocalWrite, A>(alloc, schedule),
+        Front::Linear => data_with_points::<Linear, A>(alloc, schedule, notes),
+        Front::LocalRead => data_of_run::<LocalRead, A>(alloc, schedule, notes),
+        Front::LocalWrite => data_of_run::<LocalWrite, A>(alloc, schedule, notes),
+    }
+}
+
+/// Runs the schedule of a text: all that is told of the run, with what the comments of the text say.
+fn data_of_text<A: Allocator + Copy>(
+    alloc: A,
+    schedule: Schedule<A>,
+    text: &str,
+) -> Result<Data<A>, Fault>
+    ensures told { IfOk result (λ d. HasData (start_of schedule.front) schedule (notes_of text.now) (PointsOf schedule.front schedule) d) }
+    ensures why { IfErr result (λ f. BlamesRun (start_of schedule.front) schedule f) }
+{
+    match read_notes(alloc, text) {
+        Ok(notes) => data_of_schedule(alloc, schedule, notes),
+        Err(_) => Err(Fault::OutOfMemory),
     }
 }
 
@@ -117,7 +140,7 @@ pub(crate) fn write_run<A: Allocator + Copy, W: Write>(
     ensures part { IsErrOf result (ShowFault.Command Fault.Output) → ShowsData head.now tail.now (AppendsPart (W.contents writer.old) (W.contents writer.new)) text.now }
 {
     let schedule = schedule_to_show(alloc, text)?;
-    let told = match data_of_schedule(alloc, schedule) {
+    let told = match data_of_text(alloc, schedule, text) {
         Ok(told) => told,
         Err(fault) => return Err(ShowFault::Command { fault }),
     };

@@ -1,6 +1,5 @@
-use Rattle.std.proofs.Common.{◌≤◌, length, get_or, ap, arith}
+use Rattle.std.proofs.Common.{◌≤◌, length, arith}
 use Rattle.std.specs.Fmt.{decimal}
-use Rattle.reg_text.proofs.Sent.{puts_as}
 use Rattle.reg_data.proofs.Joined.{puts_part, puts_list}
 use Rattle.reg_data.proofs.json.put_numbers.Goals as goal
 

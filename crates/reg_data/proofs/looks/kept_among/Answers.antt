@@ -1,4 +1,4 @@
-use Rattle.std.proofs.Common.{ℕ, ◌≡◌, List, [], ◌∷◌, ◌++◌, ap, sym, ◌∙◌, unwrap_or}
+use Rattle.std.proofs.Common.{◌≡◌, List, [], ◌∷◌, ◌++◌, ap, sym, ◌∙◌, unwrap_or}
 use Rattle.std.specs.Prelude.{slice_index}
 use Rattle.reg_data.specs.declared.looks.Kept.{Kept}
 use Rattle.reg_data.proofs.Looking.{kept_more, kept_same, value_is}

@@ -2,6 +2,7 @@ use Rattle.std.proofs.Common.{ap, codes, ◌++◌}
 use Rattle.reg_data.proofs.Behind.{◌▸◌, as_text}
 use Rattle.reg_data.specs.Data.{run_text}
 use Rattle.reg_data.specs.Json.{lines_text}
+use Rattle.reg_data.specs.Noted.{noted}
 use Rattle.reg_data.specs.Parts.{bar_part, look_part, moment_part}
 use Rattle.reg_data.specs.Rows.{arrow_row}
 use Rattle.reg_data.proofs.text.put_run.Goals as goal
@@ -10,7 +11,7 @@ pub returns : goal.returns
 returns g c =
     let names = c.run.inside.names in
     as_text (ap run_text c.run.view_is)
-    (as_text (ap (λ xs. codes ",\n\"events\":" ++ lines_text (moment_part names) xs) c.as_slice.ensures.value) c.put_lines.ensures
-    ▸ (as_text (ap (λ xs. codes ",\n\"states\":" ++ lines_text (look_part names) xs) c.as_slice-2.ensures.value) c.put_lines-2.ensures
-    ▸ (as_text (ap (λ xs. codes ",\n\"arrows\":" ++ lines_text (arrow_row names) xs) c.as_slice-3.ensures.value) c.put_lines-3.ensures
-    ▸ as_text (ap (λ xs. codes ",\n\"operations\":" ++ lines_text (bar_part names) xs) c.as_slice-4.ensures.value) c.put_lines-4.ensures)))
+    ((c.put.ensures ▸ as_text (ap (λ xs. lines_text (moment_part names) (noted xs c.run.inside.notes.notes)) c.as_slice.ensures.value) c.put_events.ensures)
+    ▸ (as_text (ap (λ xs. codes ",\n\"states\":" ++ lines_text (look_part names) xs) c.as_slice-2.ensures.value) c.put_lines.ensures
+    ▸ (as_text (ap (λ xs. codes ",\n\"arrows\":" ++ lines_text (arrow_row names) xs) c.as_slice-3.ensures.value) c.put_lines-2.ensures
+    ▸ as_text (ap (λ xs. codes ",\n\"operations\":" ++ lines_text (bar_part names) xs) c.as_slice-4.ensures.value) c.put_lines-3.ensures)))

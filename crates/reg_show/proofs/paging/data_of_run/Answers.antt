@@ -7,5 +7,5 @@ pub returns-in-Ok-clause-told : goal.returns-in-Ok-clause-told
 returns-in-Ok-clause-told g c =
     let NoPoints : Option (List Point) → Type 0 = λ points. points ≡ None in
     let ran = c.in_ok-world.ensures in
-    data_told g.F.FrontEnd.start c.args.schedule c.in_ok-world.field-0.world c.in_ok-world.field-0.names c.in_ok-world.field-0.front NoPoints None c.in-Ok.told
+    data_told g.F.FrontEnd.start c.args.schedule c.args.notes c.in_ok-world.field-0.world c.in_ok-world.field-0.names c.in_ok-world.field-0.front NoPoints None c.in-Ok.told
     ran.ran ran.names ran.front c.in-Ok.ensures refl

@@ -11,5 +11,5 @@ returns-in-Ok-tell_data-clause-told g c =
     let start = g.F.FrontEnd.start in
     let P : Made → Type 0 = λ w. ArePoints (run_of w.registers (run_in start w)) c.in-Ok.points.items in
     let ran = c.in_ok-world.ensures in
-    data_told start c.args.schedule c.in_ok-world.field-0.world c.in_ok-world.field-0.names c.in_ok-world.field-0.front (ShowsPoints start c.args.schedule) (Some c.in-Ok.points.items) c.in-Ok-tell_data.told
+    data_told start c.args.schedule c.args.notes c.in_ok-world.field-0.world c.in_ok-world.field-0.names c.in_ok-world.field-0.front (ShowsPoints start c.args.schedule) (Some c.in-Ok.points.items) c.in-Ok-tell_data.told
     ran.ran ran.names ran.front c.in-Ok-tell_data.ensures (subst P ran.ran c.in-Ok.ensures.first)

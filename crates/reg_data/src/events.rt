@@ -1,0 +1,33 @@
+//! The events of the data, each with its note.
+ghost use Rattle.std.specs.Prelude.{◌≡◌, ◌++◌};
+ghost use Rattle.reg_text.specs.Writing.{Puts};
+ghost use Rattle.reg_data.specs.Json.{lines_text};
+ghost use Rattle.reg_data.specs.Noted.{noted};
+ghost use Rattle.reg_data.specs.Parts.{moment_part};
+
+use crate::json::put_comma;
+use crate::parts::put_moment;
+use reg_base::Names;
+use reg_moments::Moment;
+use reg_notes::Notes;
+use reg_text::Sink;
+use std::alloc::Allocator;
+use std::io::Write;
+
+/// Puts what each event did and its note, with a line for each.
+pub fn put_events<A: Allocator + Copy, W: Write>(
+    sink: &mut Sink<'_, W>,
+    names: &Names<A>,
+    moments: &[Moment<A>],
+    notes: &Notes<A>,
+)
+    ensures { Puts W.contents sink.old sink.new (lines_text (moment_part names.now) (noted moments.now notes.now.notes)) }
+{
+    sink.put(b"[\n");
+    for (place, moment) in moments.iter().enumerate() {
+        put_comma(sink, place);
+        put_moment(sink, names, moment, notes.note(place));
+        sink.put(b"\n");
+    }
+    sink.put(b"]");
+}
