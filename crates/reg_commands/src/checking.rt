@@ -11,7 +11,12 @@ use reg_reports::{ReadFault, Report, read_report};
 use std::alloc::Allocator;
 use std::io::Write;
 
-fn read<A: Allocator + Copy>(alloc: A, text: &str) -> Result<Report<A>, Fault>
+/// The report that a text spells.
+///
+/// # Errors
+///
+/// `Line`, the first line that may not follow those before it; or `OutOfMemory`.
+pub fn read_report_text<A: Allocator + Copy>(alloc: A, text: &str) -> Result<Report<A>, Fault>
     ensures read { IfOk result (λ r. SpellsReport text.now r × IsReport r) }
     ensures why { IfErr result (λ f. Blames Command.Check f text.now) }
     ensures kind { IfErr result (λ f. (f ≢ Fault.Output) × (f ≢ Fault.Unread)) }
@@ -28,7 +33,7 @@ fn checked<A: Allocator + Copy>(alloc: A, text: &str) -> Result<Verdicts, Fault>
     ensures why { IfErr result (λ f. Blames Command.Check f text.now) }
     ensures kind { IfErr result (λ f. (f ≢ Fault.Output) × (f ≢ Fault.Unread)) }
 {
-    let report = read(alloc, text)?;
+    let report = read_report_text(alloc, text)?;
     match judge(alloc, &report) {
         Ok(verdicts) => Ok(verdicts),
         Err(_) => Err(Fault::OutOfMemory),

@@ -9,6 +9,7 @@ mod replaying;
 mod reporting;
 mod running;
 
+pub use checking::read_report_text;
 pub use command::Command;
 pub use input::read_input;
 pub use playing::{play_by, read_workload};

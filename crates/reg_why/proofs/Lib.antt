@@ -1,4 +1,5 @@
 pub mod Counting
+pub mod Operations
 pub mod Told
 pub mod Asked
 pub mod Sending

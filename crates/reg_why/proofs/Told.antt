@@ -1,6 +1,6 @@
 -- What an answer says of a text, by the fault that it tells and by what was read.
 use Rattle.std.proofs.Common.{ℕ, ◌≡◌, ◌≢◌, Bool, true, false, List, [], ◌∷◌, ◌++◌, length, codes, inl, Result, Ok, Err, sym, ap, subst, ◌∙◌}
-use Rattle.std.specs.Prelude.{IfOk}
+use Rattle.std.specs.Prelude.{IfOk, sum_by}
 use Rattle.reg_front.specs.Table.{front_name}
 use Rattle.reg_reports.specs.Reports.{Contents, IsReport, SpellsReport}
 use Rattle.reg_workloads.specs.Loads.{Load}
@@ -87,12 +87,12 @@ if_ok P Q (Err e) f h = tt
 
 -- a workload
 pub tells_load : (w : Load) (is_accepted : Bool) (answer text : List ℕ) (processes registers : ℕ) (front : List ℕ) (count : ℕ) → Holds text w
-    → processes ≡ w.shape.processes → registers ≡ w.shape.registers → front ≡ front_name w.front
+    → processes ≡ w.shape.processes → registers ≡ w.shape.registers → front ≡ front_name w.front → count ≡ sum_by length w.scripts
     → answer ≡ subject_text (codes "a workload: ") processes registers front count (codes " operation") (codes " operations") ++ 10 ∷ [] → is_accepted ≡ true → Tells WorkloadKind is_accepted answer text
-tells_load w is_accepted answer text processes registers front count holds ep er ef said e =
-    let same : subject_text (codes "a workload: ") processes registers front count (codes " operation") (codes " operations") ≡ subject_text (codes "a workload: ") w.shape.processes w.shape.registers (front_name w.front) count (codes " operation") (codes " operations") =
-    λ i. subject_text (codes "a workload: ") (ep i) (er i) (ef i) count (codes " operation") (codes " operations") in
-    subst (λ b. Tells WorkloadKind b answer text) (sym e) (record { work = w; holds = holds; operations = count; said = said ∙ ap (λ t. t ++ 10 ∷ []) same })
+tells_load w is_accepted answer text processes registers front count holds ep er ef ec said e =
+    let same : subject_text (codes "a workload: ") processes registers front count (codes " operation") (codes " operations") ≡ subject_text (codes "a workload: ") w.shape.processes w.shape.registers (front_name w.front) (sum_by length w.scripts) (codes " operation") (codes " operations") =
+    λ i. subject_text (codes "a workload: ") (ep i) (er i) (ef i) (ec i) (codes " operation") (codes " operations") in
+    subst (λ b. Tells WorkloadKind b answer text) (sym e) (record { work = w; holds = holds; said = said ∙ ap (λ t. t ++ 10 ∷ []) same })
 
 -- a report of which every verdict is yes
 pub agrees : (r : Contents) (v : Verdicts) (answer text : List ℕ) (processes registers : ℕ) (front : List ℕ) (count : ℕ) (tail : List ℕ) → IsReport r → SpellsReport text r → Judges r v → all_yes v ≡ true

@@ -1,5 +1,5 @@
 -- What is told of a text: which answer it gets, and what stops before an answer.
-use Rattle.std.specs.Prelude.{ℕ, ◌≡◌, ◌<◌, ◌⊎◌, ⊤, Bool, true, false, List, [], ◌∷◌, ◌++◌, length, codes, Option, Some, None}
+use Rattle.std.specs.Prelude.{ℕ, ◌≡◌, ◌<◌, ◌⊎◌, ⊤, Bool, true, false, List, [], ◌∷◌, ◌++◌, length, sum_by, codes, Option, Some, None}
 use Rattle.std.specs.Str.{IsUtf8}
 use Rattle.reg_base.specs.declared.limits.TheConstants.{LONGEST_INPUT}
 use Rattle.reg_front.specs.Table.{front_name}
@@ -63,8 +63,7 @@ pub record IsSchedule (answer text : List ℕ) : Type 0 where
 pub record IsWorkload (answer text : List ℕ) : Type 0 where
   pub work : Load
   pub holds : Holds text work
-  pub operations : ℕ
-  pub said : answer ≡ subject_text (codes "a workload: ") work.shape.processes work.shape.registers (front_name work.front) operations (codes " operation") (codes " operations") ++ 10 ∷ []
+  pub said : answer ≡ subject_text (codes "a workload: ") work.shape.processes work.shape.registers (front_name work.front) (sum_by length work.scripts) (codes " operation") (codes " operations") ++ 10 ∷ []
 
 -- what stands behind the numbers of a report of which every verdict is yes
 abbrev pub yes_text : Option (List Point) → List ℕ

@@ -1,9 +1,9 @@
 //! What is told of a text.
-ghost use Rattle.std.specs.Prelude.{◌≡◌, ◌≢◌, ◌++◌, ℕ, List, IfOk, IfErr, true, false};
+ghost use Rattle.std.specs.Prelude.{◌≡◌, ◌≢◌, ◌≤◌, ◌++◌, ◌*◌, ℕ, List, IfOk, IfErr, true, false, length, sum_by};
+ghost use Rattle.reg_base.specs.declared.limits.TheConstants.{MOST_OPERATIONS, MOST_PROCESSES};
 ghost use Rattle.reg_reports.specs.Reports.{IsReport, SpellsReport};
 ghost use Rattle.reg_commands.specs.Answers.{Blames};
 ghost use Rattle.reg_commands.specs.Plays.{Holds};
-ghost use Rattle.reg_commands.specs.declared.command.Command.TheVariants.{Check};
 ghost use Rattle.reg_commands.specs.Replays.{BlamesRun, start_of, run_by};
 ghost use Rattle.reg_schedules.specs.Schedules.{IsPlan, Spells};
 ghost use Rattle.reg_messages.specs.FaultLines.{fault_line};
@@ -15,12 +15,13 @@ ghost use Rattle.reg_why.specs.Tellings.{Agrees, Disagrees, Halts, Refuses, Tell
 
 use crate::first_lines::{Subject, line_of_fault, line_of_no, line_of_subject};
 use crate::kinds::{Kind, command_of, kind_of};
-use reg_commands::{Fault, Ran, read_schedule, read_workload, run_events};
+use reg_base::Op;
+use reg_commands::{Fault, Ran, read_report_text, read_schedule, read_workload, run_events};
 use reg_front::{Front, FrontEnd, Linear, LocalRead, LocalWrite};
 use reg_messages::{Verdicts, all_yes, judge};
 use reg_players::Workload;
 use reg_reasons::{explain_fault, explain_verdicts};
-use reg_reports::{ReadFault, Report, read_report};
+use reg_reports::Report;
 use reg_schedules::Schedule;
 use reg_world::PackedWires;
 use std::alloc::{AllocError, Allocator, Global};
@@ -181,11 +182,14 @@ fn tell_schedule<A: Allocator + Copy>(
     }
 }
 
-/// How many operations the scripts have.
-fn operations_of<A: Allocator + Copy, T>(scripts: &[Vec<T, A>]) -> usize {
-    let mut count = 0usize;
+/// How many operations the scripts have, which can be counted where they are those of a workload.
+fn operations_of<A: Allocator + Copy>(scripts: &[Vec<Op, A>]) -> usize
+    requires { sum_by (λ script. length script.items) scripts.now ≤ MOST_PROCESSES * MOST_OPERATIONS }
+    ensures { result ≡ sum_by (λ script. length script.items) scripts.now }
+{
+    let mut count = 0;
     for script in scripts {
-        count = count.saturating_add(script.len());
+        count += script.len();
     }
     count
 }
@@ -293,19 +297,6 @@ fn tell_judged<A: Allocator + Copy>(
     }
 }
 
-/// The report that a text spells.
-fn read<A: Allocator + Copy>(alloc: A, text: &str) -> Result<Report<A>, Fault>
-    ensures read { IfOk result (λ r. SpellsReport text.now r × IsReport r) }
-    ensures why { IfErr result (λ f. Blames Check f text.now) }
-    ensures kind { IfErr result (λ f. f ≢ Fault.Output) }
-{
-    match read_report(alloc, text) {
-        Ok(report) => Ok(report),
-        Err(ReadFault::Line { line, why }) => Err(Fault::Line { line, why }),
-        Err(ReadFault::OutOfMemory) => Err(Fault::OutOfMemory),
-    }
-}
-
 #[tactic(auto, using(crate::proofs::Told::tells_refused))]
 fn tell_report<A: Allocator + Copy>(
     alloc: A,
@@ -316,7 +307,7 @@ fn tell_report<A: Allocator + Copy>(
     ensures why { IfErr result (λ f. Halts f text.now) }
     ensures kind { IfErr result (λ f. f ≢ Fault.Output) }
 {
-    match read(alloc, text) {
+    match read_report_text(alloc, text) {
         Ok(report) => match tell_judged(alloc, text, &report) {
             Ok(told) => Ok(told),
             Err(_) => Err(Fault::OutOfMemory),

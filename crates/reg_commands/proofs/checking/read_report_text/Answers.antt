@@ -2,7 +2,7 @@ use Rattle.std.proofs.Common.{ℕ, ◌≡◌, ◌⊎◌, inl, inr, List, sym, su
 use Rattle.reg_reports.specs.declared.report_faults.ReadFault.TheVariants.{Line, OutOfMemory}
 use Rattle.reg_reports.specs.declared.report_faults.ReadWhy.{ReadWhy}
 use Rattle.reg_reports.specs.Refusals.{RefusesReportLine}
-use Rattle.reg_why.proofs.telling.read.Goals as goal
+use Rattle.reg_commands.proofs.checking.read_report_text.Goals as goal
 
 -- the line that is told is the one that is refused
 refused : (text : List ℕ) (line : ℕ) (why : ReadWhy) → (Line line why ≡ OutOfMemory) ⊎ ((number : ℕ) × (told : ReadWhy) × (Line line why ≡ Line number told) × RefusesReportLine number told text) → RefusesReportLine line why text

@@ -1,0 +1,30 @@
+-- How many operations the scripts of a workload have.
+use Rattle.std.proofs.Common.{ℕ, suc, ◌≡◌, ◌+◌, ◌*◌, ◌≤◌, List, [], ◌∷◌, length, map, refl, sym, ap, ◌∙◌, Some, arith}
+use Rattle.std.specs.Prelude.{slice_get}
+use Rattle.std.specs.List.{sum_by}
+use Rattle.std.proofs.lemmas.List.Sums.{sum_by-cons}
+use Rattle.std.proofs.Math.Nat.{suc-mul, mul-le-mul_right}
+use Rattle.reg_base.specs.declared.limits.TheConstants.{MOST_PROCESSES, MOST_OPERATIONS}
+use Rattle.reg_workloads.specs.Loads.{Load, IsLoad}
+
+-- the sum over what each element is seen as
+pub sum_seen : {X Y : Type 0} (f : Y → ℕ) (g : X → Y) (xs : List X) → sum_by f (map g xs) ≡ sum_by (λ x. f (g x)) xs
+sum_seen f g [] = refl
+sum_seen f g (x ∷ xs) = sum_by-cons f (g x) (map g xs) ∙ (ap (λ n. f (g x) + n) (sum_seen f g xs) ∙ sym (sum_by-cons (λ y. f (g y)) x xs))
+
+-- a sum of lengths, none of them above a limit
+sum_few : {X : Type 0} (most : ℕ) (xs : List (List X)) → ((k : ℕ) (x : List X) → slice_get xs k ≡ Some x → length x ≤ most) → sum_by length xs ≤ length xs * most
+sum_few most [] few = omega arith
+sum_few most (x ∷ xs) few =
+    let first = few 0 x refl in
+    let rest = sum_few most xs (λ k y is. few (suc k) y is) in
+    let sum = sum_by-cons length x xs in
+    let size = suc-mul (length xs) most in
+    omega (arith, first, rest, sum, size)
+
+-- those of a workload can be counted
+pub load_few : (w : Load) → IsLoad w → sum_by length w.scripts ≤ MOST_PROCESSES * MOST_OPERATIONS
+load_few w load =
+    let all = sum_few MOST_OPERATIONS w.scripts (λ k x is. (load.scripts k x is).few) in
+    let most = mul-le-mul_right MOST_OPERATIONS load.few_processes in
+    omega (arith, all, most)
