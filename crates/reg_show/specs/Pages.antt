@@ -1,5 +1,5 @@
 -- The data of the run of a schedule.
-use Rattle.std.specs.Prelude.{ℕ, ◌≡◌, ◌≤◌, List, ◌++◌, length, Option}
+use Rattle.std.specs.Prelude.{ℕ, ◌≤◌, List, ◌++◌, length, Option}
 use Rattle.reg_base.specs.declared.memory.Op.{Op}
 use Rattle.reg_commands.specs.Replays.{start_of, PointsOf}
 use Rattle.reg_data.specs.Data.{Data, IsDataOf, data_text}

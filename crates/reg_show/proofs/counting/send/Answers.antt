@@ -1,4 +1,4 @@
-use Rattle.std.proofs.Common.{◌≡◌, ◌∙◌, List, refl, sym, subst}
+use Rattle.std.proofs.Common.{◌∙◌, List, refl, sym, subst}
 use Rattle.reg_text.specs.Writing.{AppendsPart}
 use Rattle.reg_tables.specs.Tables.{Line}
 use Rattle.reg_tables.specs.TableText.{table_text}
