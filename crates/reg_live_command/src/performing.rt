@@ -21,7 +21,8 @@ use reg_commands::{
 use reg_front::{Front, FrontEnd, Linear, LocalRead, LocalWrite, RealTime};
 use reg_players::Workload;
 use reg_reports::Report;
-use reg_scripts::run_scripts;
+use reg_scripts::run_scripts_in;
+use reg_world::PackedWires;
 use std::alloc::Global;
 use std::io::{Read, Write};
 use std::sync::Wait;
@@ -43,7 +44,7 @@ fn report_of<
     ensures shows { IfOk result (λ r. ShowsLive F.start work HasNoPoints r) }
     ensures why { IfErr result (λ stop. IsOfThreads stop) }
 {
-    match run_scripts::<F, R>(rt, alloc, work.shape, work.scripts) {
+    match run_scripts_in::<F, R, PackedWires>(rt, alloc, work.shape, work.scripts) {
         Ok(closed) => match report_run(alloc, work.front, work.names, closed.world) {
             Ok(report) => Ok(report),
             Err(fault) => Err(told(fault)),
@@ -60,7 +61,7 @@ fn report_with_points<
     ensures shows { IfOk result (λ r. ShowsLive F.start work (ShowsPoints F.start) r) }
     ensures why { IfErr result (λ stop. IsOfThreads stop) }
 {
-    match run_scripts::<F, R>(rt, alloc, work.shape, work.scripts) {
+    match run_scripts_in::<F, R, PackedWires>(rt, alloc, work.shape, work.scripts) {
         Ok(closed) => match report_run_with_points(alloc, work.front, work.names, closed.world) {
             Ok(report) => Ok(report),
             Err(fault) => Err(told(fault)),

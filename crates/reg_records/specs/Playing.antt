@@ -2,6 +2,7 @@
 use Rattle.std.specs.Prelude.{ℕ, ◌≡◌, ◌<◌, Bool, true, false, List, length, take, Some, slice_index}
 use Rattle.reg_base.specs.declared.memory.Op.{Op}
 use Rattle.reg_base.specs.Shape.{Extent}
+use Rattle.reg_frames.specs.declared.bodies.Frame.{Frame}
 use Rattle.reg_front.specs.declared.starts.Start.{Start}
 use Rattle.reg_process.specs.declared.steps.Step.{Step}
 use Rattle.reg_process.specs.declared.steps.Step.TheVariants.{Call, Take, Tick}
@@ -15,6 +16,14 @@ use Rattle.reg_records.specs.declared.entries.LogEntry.{LogEntry}
 use Rattle.reg_records.specs.declared.faults.CloseFault.{CloseFault}
 use Rattle.reg_records.specs.declared.faults.CloseFault.TheVariants.{Unfaithful, Mismatch, OutOfMemory}
 use Rattle.reg_records.specs.Records.{Turn, FailsAt, mentions}
+
+-- two processes of the world, between which there is a wire
+abbrev pub AreTwo : Made → ℕ → ℕ → Type 0
+AreTwo w from to = (from < w.processes) × (to < w.processes) × (from ≡ to → ⊥)
+
+-- all frames ever put from one process to another
+abbrev pub frames_on : (Op → ℕ → Start) → Made → ℕ → ℕ → List Frame
+frames_on start w from to = ((run_in start w).nodes from).wire to
 
 -- in the event the process makes this step, unless it is refused
 abbrev pub IsEventOf : Nodes → ℕ → Step → Event → Type 0

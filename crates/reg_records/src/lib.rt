@@ -13,4 +13,4 @@ mod verifying;
 
 pub use entries::{LogEntry, Receipt};
 pub use faults::CloseFault;
-pub use verifying::verify;
+pub use verifying::{verify, verify_in};

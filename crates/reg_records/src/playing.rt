@@ -11,7 +11,7 @@ use crate::tallies::{bump, entry_at, is_left, no_counts};
 use reg_base::Shape;
 use reg_front::FrontEnd;
 use reg_process::Reply;
-use reg_world::{World, WorldFault};
+use reg_world::{WireStore, World, WorldFault};
 use std::alloc::{AllocError, Allocator};
 
 /// Whether a fault is want of memory.
@@ -30,8 +30,8 @@ fn is_same(reply: Option<Reply>, other: Option<Reply>) -> bool
 
 /// Makes the step of an entry, and tells whether it is an event that gives the entry's reply. Where it isn't, nothing is
 /// claimed of the world.
-fn make<F: FrontEnd, A: Allocator + Copy>(
-    world: &mut World<F, A>,
+fn make<F: FrontEnd, A: Allocator + Copy, W: WireStore<A>>(
+    world: &mut World<F, A, W>,
     hints: &mut Hints<A>,
     process: u8,
     entry: &LogEntry,
@@ -56,8 +56,8 @@ fn make<F: FrontEnd, A: Allocator + Copy>(
 
 /// Plays one more mention, and tells whether it stands for an entry that comes next in a run. Where it doesn't, nothing is
 /// claimed of the world.
-fn turn<F: FrontEnd, A: Allocator + Copy>(
-    world: &mut World<F, A>,
+fn turn<F: FrontEnd, A: Allocator + Copy, W: WireStore<A>>(
+    world: &mut World<F, A, W>,
     hints: &mut Hints<A>,
     counts: &[usize],
     order: &[u8],
@@ -91,12 +91,12 @@ fn unfaithful(place: usize) -> CloseFault
 }
 
 /// Plays a record as a run, and gives the world that it ends in.
-pub(crate) fn play<F: FrontEnd, A: Allocator + Copy>(
+pub(crate) fn play<F: FrontEnd, A: Allocator + Copy, W: WireStore<A>>(
     alloc: A,
     shape: Shape,
     order: &[u8],
     logs: &[Vec<LogEntry, A>],
-) -> Result<World<F, A>, CloseFault>
+) -> Result<World<F, A, W>, CloseFault>
     requires { length logs.now ≡ shape.processes }
     ensures { MatchResult result (λ w. IsFaithful F.start shape order.now (map (λ v. v.items) logs.now) w) (λ fault. IsPlayFault F.start shape order.now (map (λ v. v.items) logs.now) fault) }
 {

@@ -8,7 +8,7 @@ use crate::playing::play;
 use crate::telling::first_untold;
 use reg_base::Shape;
 use reg_front::FrontEnd;
-use reg_world::World;
+use reg_world::{WireStore, World};
 use std::alloc::Allocator;
 
 /// The run of a record: the order names the processes of its steps, and the k-th mention of a process stands for the k-th
@@ -25,7 +25,22 @@ pub fn verify<F: FrontEnd, A: Allocator + Copy>(
     requires receipts { length receipts.now ≡ shape.processes }
     ensures { MatchResult result (λ w. IsRecord F.start shape order.now (map (λ v. v.items) logs.now) (map (λ v. v.items) receipts.now) w) (λ fault. IsRecordFault F.start shape order.now (map (λ v. v.items) logs.now) (map (λ v. v.items) receipts.now) fault) }
 {
-    let world = play::<F, A>(alloc, shape, order, logs)?;
+    verify_in(alloc, shape, order, logs, receipts)
+}
+
+/// The same, in a world that keeps its wires in a store of the caller's choice.
+pub fn verify_in<F: FrontEnd, A: Allocator + Copy, W: WireStore<A>>(
+    alloc: A,
+    shape: Shape,
+    order: &[u8],
+    logs: &[Vec<LogEntry, A>],
+    receipts: &[Vec<Receipt, A>],
+) -> Result<World<F, A, W>, CloseFault>
+    requires logs { length logs.now ≡ shape.processes }
+    requires receipts { length receipts.now ≡ shape.processes }
+    ensures { MatchResult result (λ w. IsRecord F.start shape order.now (map (λ v. v.items) logs.now) (map (λ v. v.items) receipts.now) w) (λ fault. IsRecordFault F.start shape order.now (map (λ v. v.items) logs.now) (map (λ v. v.items) receipts.now) fault) }
+{
+    let world = play::<F, A, W>(alloc, shape, order, logs)?;
     match first_untold(shape, world.history().entries(), receipts) {
         Some(process) => Err(CloseFault::Mismatch { process }),
         None => Ok(world),

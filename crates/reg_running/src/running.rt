@@ -6,8 +6,9 @@ use crate::crews::{carry_all, halt, join_couriers, pace};
 use reg_base::Shape;
 use reg_front::FrontEnd;
 use reg_live::{
-    CloseFault, Closed, Cluster, Courier, Gate, Pacer, Parts, Pass, Road, close, set_up,
+    CloseFault, Closed, Cluster, Courier, Gate, Pacer, Parts, Pass, Road, close_in, set_up,
 };
+use reg_world::WireStore;
 use std::alloc::{AllocError, Global};
 use std::marker::Model;
 use std::sync::{Arc, Wait};
@@ -68,6 +69,26 @@ impl<F: FrontEnd, G: Gate + Drop> Running<F, G> {
         ensures time { IfOk result (λ c. RespectTime c.world.registers c.world.history (map (λ v. v.items) c.receipts.items)) }
         ensures updates { IfOk result (λ c. RespectUpdates F.start c.world.history (map (λ v. v.items) c.receipts.items)) }
     {
+        self.close_in(rt, alloc, passes)
+    }
+
+    /// The same, with the run in a world that keeps its wires in a store of the caller's choice.
+    ///
+    /// # Errors
+    ///
+    /// Those of `close`.
+    pub fn close_in<R: Threads + Wait, W: WireStore<Global>>(
+        self,
+        rt: &R,
+        alloc: Global,
+        passes: Vec<Pass<F, G>>,
+    ) -> Result<Closed<F, W>, CloseFault>
+        ensures lived { IfOk result (λ c. IsLived F.start self (map (λ v. v.items) c.receipts.items) c.world) }
+        ensures each { IfOk result (λ c. AreOneEach passes.items self.processes) }
+        ensures own { IfOk result (λ c. AreOwn passes.items (map (λ v. v.items) c.receipts.items)) }
+        ensures time { IfOk result (λ c. RespectTime c.world.registers c.world.history (map (λ v. v.items) c.receipts.items)) }
+        ensures updates { IfOk result (λ c. RespectUpdates F.start c.world.history (map (λ v. v.items) c.receipts.items)) }
+    {
         let Running {
             cluster,
             couriers,
@@ -76,7 +97,7 @@ impl<F: FrontEnd, G: Gate + Drop> Running<F, G> {
         halt(rt, &cluster);
         join_couriers(rt, couriers);
         let pacer = pacer.join(rt);
-        close(rt, alloc, cluster, passes, Vec::new(alloc), pacer)
+        close_in(rt, alloc, cluster, passes, Vec::new(alloc), pacer)
     }
 }
 

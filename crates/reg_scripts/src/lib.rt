@@ -3,4 +3,4 @@
 
 mod running;
 
-pub use running::{RunStop, run_scripts};
+pub use running::{RunStop, run_scripts, run_scripts_in};

@@ -8,6 +8,7 @@ use reg_base::{Op, Shape};
 use reg_front::FrontEnd;
 use reg_live::{CloseFault, Closed, Honest, LiveFault, NoGate, Pass};
 use reg_running::{Running, StartFault, start};
+use reg_world::{WireStore, Wires};
 use std::alloc::{AllocError, Global};
 use std::snapshot::Snapshot;
 use std::sync::{Arc, Wait};
@@ -186,17 +187,17 @@ fn join_callers<F: FrontEnd, R: Threads + Wait>(
 }
 
 /// Closes a cluster whose callers have ended, and whose passes have performed these scripts.
-fn close_ended<F: FrontEnd, R: Threads + Wait>(
+fn close_ended<F: FrontEnd, R: Threads + Wait, W: WireStore<Global>>(
     rt: &R,
     alloc: Global,
     running: Running<F, NoGate>,
     passes: Vec<Pass<F, NoGate>>,
-) -> Result<Closed<F>, RunStop>
+) -> Result<Closed<F, W>, RunStop>
     ensures lived { IfOk result (λ c. IsLived F.start running (map (λ v. v.items) c.receipts.items) c.world) }
     ensures time { IfOk result (λ c. RespectTime c.world.registers c.world.history (map (λ v. v.items) c.receipts.items)) }
     ensures performed { IfOk result (λ c. (scripts : List (List Op)) → ArePerformed scripts passes.items → map ops_of (map (λ v. v.items) c.receipts.items) ≡ scripts) }
 {
-    match running.close(rt, alloc, passes) {
+    match running.close_in(rt, alloc, passes) {
         Ok(closed) => Ok(closed),
         Err(CloseFault::OutOfMemory) => Err(RunStop::OutOfMemory),
         Err(fault) => Err(RunStop::Close { fault }),
@@ -215,13 +216,13 @@ fn give_up<F: FrontEnd, R: Threads + Wait>(
 }
 
 /// Waits for all threads, and closes the cluster.
-fn end<F: FrontEnd, R: Threads + Wait>(
+fn end<F: FrontEnd, R: Threads + Wait, W: WireStore<Global>>(
     rt: &R,
     alloc: Global,
     running: Running<F, NoGate>,
     callers: Vec<PromisedHandle<Caller<F>, Performs>>,
     all: bool,
-) -> Result<Closed<F>, RunStop>
+) -> Result<Closed<F, W>, RunStop>
     ensures all { OnOk result (all ≡ true) }
     ensures lived { IfOk result (λ c. IsLived F.start running (map (λ v. v.items) c.receipts.items) c.world) }
     ensures time { IfOk result (λ c. RespectTime c.world.registers c.world.history (map (λ v. v.items) c.receipts.items)) }
@@ -248,6 +249,24 @@ pub fn run_scripts<
     F: FrontEnd + Send + Sync + 'static,
     R: Threads + Wait + Clock + Copy + Send + Sync + 'static,
 >(rt: R, alloc: Global, shape: Shape, scripts: Vec<Vec<Op>>) -> Result<Closed<F>, RunStop>
+    requires { vec_len scripts ≡ shape.processes }
+    ensures lived { IfOk result (λ c. IsLived F.start shape (map (λ v. v.items) c.receipts.items) c.world) }
+    ensures time { IfOk result (λ c. RespectTime c.world.registers c.world.history (map (λ v. v.items) c.receipts.items)) }
+    ensures performed { IfOk result (λ c. map ops_of (map (λ v. v.items) c.receipts.items) ≡ map (λ s. s.items) scripts.items) }
+{
+    run_scripts_in::<F, R, Wires<Global>>(rt, alloc, shape, scripts)
+}
+
+/// The same, with the run in a world that keeps its wires in a store of the caller's choice.
+///
+/// # Errors
+///
+/// Those of `run_scripts`.
+pub fn run_scripts_in<
+    F: FrontEnd + Send + Sync + 'static,
+    R: Threads + Wait + Clock + Copy + Send + Sync + 'static,
+    W: WireStore<Global>,
+>(rt: R, alloc: Global, shape: Shape, scripts: Vec<Vec<Op>>) -> Result<Closed<F, W>, RunStop>
     requires { vec_len scripts ≡ shape.processes }
     ensures lived { IfOk result (λ c. IsLived F.start shape (map (λ v. v.items) c.receipts.items) c.world) }
     ensures time { IfOk result (λ c. RespectTime c.world.registers c.world.history (map (λ v. v.items) c.receipts.items)) }

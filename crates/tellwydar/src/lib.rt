@@ -14,11 +14,11 @@ pub use reg_frames::{Body, Frame};
 pub use reg_front::{Front, FrontEnd, Linear, LocalRead, LocalWrite, RealTime, Start};
 pub use reg_live::{
     CloseFault, Closed, Cluster, Courier, Gate, Honest, LiveFault, LogEntry, NoGate, Pacer, Parcel,
-    Parts, Pass, Posts, Receipt, Road, Rough, close, set_up, verify,
+    Parts, Pass, Posts, Receipt, Road, Rough, close, close_in, set_up, verify, verify_in,
 };
 pub use reg_players::{
     Key, Play, Schedule, ScheduleFault, SeedWords, Words, Workload, WorkloadFault, parse_schedule,
-    play_fair, play_seeded,
+    play_fair, play_fair_in, play_seeded, play_seeded_in,
 };
 pub use reg_process::{Reply, Step};
 pub use reg_reports::{
@@ -27,5 +27,7 @@ pub use reg_reports::{
 };
 pub use reg_rest::{SettleFault, settle};
 pub use reg_running::{Running, StartFault, start};
-pub use reg_scripts::{RunStop, run_scripts};
-pub use reg_world::{CopyRead, Event, First, RunFault, WireStore, Wires, World, WorldFault};
+pub use reg_scripts::{RunStop, run_scripts, run_scripts_in};
+pub use reg_world::{
+    CopyRead, Event, First, PackedWires, RunFault, WireStore, Wires, World, WorldFault,
+};

@@ -2,4 +2,4 @@ use Rattle.std.proofs.Common.{arith}
 use Rattle.reg_records.proofs.finding.place_of.Goals as goal
 
 pub loop-place-init : goal.loop-place-init
-loop-place-init c = λ k lt. absurd (omega arith)
+loop-place-init g c = λ k lt. absurd (omega arith)

@@ -1,6 +1,6 @@
 use Rattle.std.proofs.Common.{length, map}
 use Rattle.reg_records.proofs.Turns.{history_of}
-use Rattle.reg_records.proofs.verifying.verify.Goals as goal
+use Rattle.reg_records.proofs.verifying.verify_in.Goals as goal
 
 pub first_untold-requires-clause-history : goal.first_untold-requires-clause-history
 first_untold-requires-clause-history g c =
