@@ -1,13 +1,15 @@
 //! What is told of the state of a process.
-ghost use Rattle.std.specs.Prelude.{◌≡◌, ◌<◌, ◌++◌, false, length, IfOk, OnOk};
-ghost use Rattle.reg_world.specs.Worlds.{run_in, with_event};
+ghost use Rattle.std.specs.Prelude.{◌≡◌, ◌<◌, ◌++◌, None, false, length, IfOk, OnOk};
+ghost use Rattle.reg_world.specs.Histories.{process_of};
+ghost use Rattle.reg_world.specs.Worlds.{new_world, refusal, run_in, with_event};
+ghost use Rattle.reg_moments.specs.Moments.{AcceptsAll};
 ghost use Rattle.reg_data.specs.Looks.{kept_of, look_behind, look_of, looks_from, looks_of, peers_of};
 
 use reg_base::{Registers, Shape};
 use reg_front::FrontEnd;
 use reg_moments::process_of_event;
 use reg_process::{Awaited, Delivered, Known, Process};
-use reg_world::{Event, World, WorldFault};
+use reg_world::{Event, World};
 use std::alloc::{AllocError, Allocator, Global};
 use std::marker::Model;
 
@@ -122,57 +124,58 @@ fn look_in<F: FrontEnd, A: Allocator + Copy>(
     }
 }
 
-/// Makes an event, and tells the state of its process behind it. The event is refused, or memory is.
+/// Makes an event to which no fault applies, and tells the state of its process behind it.
 fn look_behind_event<F: FrontEnd, A: Allocator + Copy>(
     alloc: A,
     world: &mut World<F, A>,
     event: &Event,
-) -> Result<Look<A>, WorldFault>
-    requires { world.old.failed ≡ false }
+) -> Result<Look<A>, AllocError>
+    requires going { world.old.failed ≡ false }
+    requires process { process_of event.now < world.old.processes }
+    requires accepted { refusal F.start world.old event.now ≡ None }
     ensures made { OnOk result (world.new ≡ with_event F.start world.old event.now) }
     ensures told { IfOk result (λ l. l ≡ look_behind F.start world.old event.now) }
 {
     let process = process_of_event(event);
-    if u32::from(process) >= world.shape().processes() {
-        return Err(WorldFault::NoProcess);
+    // (since no fault applies, memory was refused)
+    if world.step(event).is_err() {
+        return Err(AllocError);
     }
-    world.step(event)?;
-    match look_in(alloc, world, process) {
-        Ok(look) => Ok(look),
-        Err(_) => Err(WorldFault::OutOfMemory),
-    }
+    look_in(alloc, world, process)
 }
 
-/// Makes these events, and adds the state behind each. An event is refused, or memory is.
+/// Makes these events, all of which are accepted, and adds the state behind each.
 fn look_behind_all<F: FrontEnd, A: Allocator + Copy>(
     alloc: A,
     world: &mut World<F, A>,
     looks: &mut Vec<Look<A>, A>,
     events: &[Event],
-) -> Result<(), WorldFault>
-    requires { world.old.failed ≡ false }
+) -> Result<(), AllocError>
+    requires going { world.old.failed ≡ false }
+    requires accepted { AcceptsAll F.start world.old events.now }
     ensures { OnOk result (looks.new.items ≡ looks.old.items ++ looks_from F.start world.old events.now) }
 {
     for event in events {
         let look = look_behind_event(alloc, world, event)?;
-        if looks.push(look).is_err() {
-            return Err(WorldFault::OutOfMemory);
-        }
+        looks.push(look)?;
     }
     Ok(())
 }
 
-/// The states behind the events of a run. An event is refused, or memory is.
+/// The states behind the events of a run that accepts them all.
+///
+/// # Errors
+///
+/// Memory is refused.
 pub fn look_behind_events<F: FrontEnd, A: Allocator + Copy>(
     alloc: A,
     shape: Shape,
     events: &[Event],
-) -> Result<Vec<Look<A>, A>, WorldFault>
+) -> Result<Vec<Look<A>, A>, AllocError>
+    requires { AcceptsAll F.start (new_world shape) events.now }
     ensures { IfOk result (λ v. v.items ≡ looks_of F.start shape events.now) }
 {
-    let Ok(mut world) = World::<F, A>::new(alloc, shape) else {
-        return Err(WorldFault::OutOfMemory);
-    };
+    let mut world = World::<F, A>::new(alloc, shape)?;
     let mut looks = Vec::new(alloc);
     look_behind_all(alloc, &mut world, &mut looks, events)?;
     Ok(looks)

@@ -30,9 +30,7 @@ pub fn tell_data<F: FrontEnd, A: Allocator + Copy>(
         IfOk result (λ d. IsDataOf F.start plan notes (option_map (λ v. v.items) points) d) }
 {
     let moments = tell_world(alloc, world)?;
-    let Ok(looks) = look_behind_events::<F, A>(alloc, world.shape(), world.accepted()) else {
-        return Err(AllocError);
-    };
+    let looks = look_behind_events::<F, A>(alloc, world.shape(), world.accepted())?;
     Ok(Data {
         notes,
         processes: world.shape().processes(),

@@ -12,7 +12,7 @@ use Rattle.reg_reports.specs.Written.{lines_by}
 use Rattle.reg_schedules.specs.Schedules.{event_text}
 use Rattle.reg_moments.specs.Moments.{Fact}
 use Rattle.reg_moments.specs.Traces.{answers_lines, delivers_lines, drops_lines, holds_line, moment_lines, puts_line, takes_lines, trace_lines, trace_text}
-use Rattle.reg_moments.proofs.Putting.{puts_three, puts_four}
+use Rattle.reg_moments.proofs.Putting.{puts_four}
 
 -- the text of one line
 pub one_line : (line : List ℕ) → line ++ 10 ∷ [] ≡ text_of (line ∷ [])

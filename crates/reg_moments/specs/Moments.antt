@@ -1,5 +1,5 @@
 -- What the events of a run do, by the runs before and after each of them.
-use Rattle.std.specs.Prelude.{ℕ, zero, suc, ◌+◌, ◌==◌, ◌&&◌, not, nat_lt, cond, List, [], ◌∷◌, ◌++◌, length, map, take, drop, Option, None, Some, slice_get}
+use Rattle.std.specs.Prelude.{ℕ, zero, suc, ◌≡◌, ◌+◌, ◌==◌, ◌&&◌, not, nat_lt, cond, List, [], ◌∷◌, ◌++◌, length, map, take, drop, Option, None, Some, slice_get}
 use Rattle.reg_base.specs.Shape.{Extent}
 use Rattle.reg_base.specs.declared.memory.Op.{Op}
 use Rattle.reg_base.specs.declared.stamps.Delivered.{Delivered}
@@ -12,7 +12,7 @@ use Rattle.reg_world.specs.declared.events.Event.{Event}
 use Rattle.reg_world.specs.declared.events.Event.TheVariants.{Call, Take, Tick}
 use Rattle.reg_world.specs.Histories.{process_of}
 use Rattle.reg_world.specs.Nodes.{Nodes}
-use Rattle.reg_world.specs.World.{World, delivered_of}
+use Rattle.reg_world.specs.World.{World, delivered_of, run}
 use Rattle.reg_world.specs.Worlds.{Made, run_in, with_event, new_world, reply_in}
 use Rattle.reg_moments.specs.declared.moments.Sent.{Sent}
 use Rattle.reg_moments.specs.declared.waits.Wait.{Wait}
@@ -85,3 +85,7 @@ moments_from start w (e ∷ es) = moment_of start w e ∷ moments_from start (wi
 -- the moments of a run of these events
 abbrev pub moments_of : (Op → ℕ → Start) → Extent → List Event → List Fact
 moments_of start shape events = moments_from start (new_world shape) events
+
+-- in this world these events are accepted, all of them, one after another
+abbrev pub AcceptsAll : (Op → ℕ → Start) → Made → List Event → Type 0
+AcceptsAll start w events = (run start w.processes w.registers events (run_in start w)).accepted ≡ (run_in start w).accepted ++ events

@@ -1,10 +1,10 @@
 //! What each event of a run did.
-ghost use Rattle.std.specs.Prelude.{◌≡◌, ◌<◌, ◌++◌, ℕ, false, drop, length, map, take, slice_index, IfOk, OnOk};
+ghost use Rattle.std.specs.Prelude.{◌≡◌, ◌<◌, ◌++◌, ℕ, None, false, drop, length, map, take, slice_index, IfOk, OnOk};
 ghost use Rattle.reg_process.specs.Process.{peer_at};
 ghost use Rattle.reg_world.specs.Histories.{process_of};
 ghost use Rattle.reg_world.specs.World.{delivered_of};
-ghost use Rattle.reg_world.specs.Worlds.{run_in, with_event};
-ghost use Rattle.reg_moments.specs.Moments.{expected_by, frame_taken, moment_of, moments_from, moments_of, out_of_turn, placed, puts_since};
+ghost use Rattle.reg_world.specs.Worlds.{new_world, refusal, run_in, with_event};
+ghost use Rattle.reg_moments.specs.Moments.{AcceptsAll, expected_by, frame_taken, moment_of, moments_from, moments_of, out_of_turn, placed, puts_since};
 
 use crate::waits::{Wait, waits_in};
 use reg_base::Shape;
@@ -12,7 +12,7 @@ use reg_base::limits::MOST_PROCESSES;
 use reg_frames::Frame;
 use reg_front::FrontEnd;
 use reg_process::{Delivered, Reply};
-use reg_world::{Event, World, WorldFault};
+use reg_world::{Event, World};
 use std::alloc::{AllocError, Allocator, Global};
 use std::marker::Model;
 
@@ -227,36 +227,32 @@ fn casts_between<F: FrontEnd, A: Allocator + Copy>(
         .collect(alloc)
 }
 
-/// Makes an event, and tells what it did. The event is refused, or memory is.
+/// Makes an event to which no fault applies, and tells what it did.
 fn tell<F: FrontEnd, A: Allocator + Copy>(
     alloc: A,
     world: &mut World<F, A>,
     event: &Event,
-) -> Result<Moment<A>, WorldFault>
-    requires { world.old.failed ≡ false }
+) -> Result<Moment<A>, AllocError>
+    requires going { world.old.failed ≡ false }
+    requires process { process_of event.now < world.old.processes }
+    requires accepted { refusal F.start world.old event.now ≡ None }
     ensures made { OnOk result (world.new ≡ with_event F.start world.old event.now) }
     ensures told { IfOk result (λ m. m ≡ moment_of F.start world.old event.now) }
 {
     let process = process_of_event(event);
-    if u32::from(process) >= world.shape().processes() {
-        return Err(WorldFault::NoProcess);
-    }
     let frame = frame_of(world, event);
     let expected = unexpected(frame, expected_of(world, event));
     let lengths = lengths(world, process);
     let before = delivered_count(world, process);
-    let reply = world.step_reply(event)?;
+    // (since no fault applies, memory was refused)
+    let Ok(reply) = world.step_reply(event) else {
+        return Err(AllocError);
+    };
     let clock = clock_of(world, process);
     let after = delivered_count(world, process);
-    let Ok(delivered) = casts_between(alloc, world, before, after) else {
-        return Err(WorldFault::OutOfMemory);
-    };
-    let Ok(sent) = sent_since(alloc, world, process, &lengths) else {
-        return Err(WorldFault::OutOfMemory);
-    };
-    let Ok(waits) = waits_in(alloc, world, process) else {
-        return Err(WorldFault::OutOfMemory);
-    };
+    let delivered = casts_between(alloc, world, before, after)?;
+    let sent = sent_since(alloc, world, process, &lengths)?;
+    let waits = waits_in(alloc, world, process)?;
     Ok(Moment {
         event: *event,
         process,
@@ -270,36 +266,34 @@ fn tell<F: FrontEnd, A: Allocator + Copy>(
     })
 }
 
-/// Makes these events, and adds what each did. An event is refused, or memory is.
+/// Makes these events, all of which are accepted, and adds what each did.
 fn tell_all<F: FrontEnd, A: Allocator + Copy>(
     alloc: A,
     world: &mut World<F, A>,
     moments: &mut Vec<Moment<A>, A>,
     events: &[Event],
-) -> Result<(), WorldFault>
-    requires { world.old.failed ≡ false }
+) -> Result<(), AllocError>
+    requires going { world.old.failed ≡ false }
+    requires accepted { AcceptsAll F.start world.old events.now }
     ensures { OnOk result (moments.new.items ≡ moments.old.items ++ moments_from F.start world.old events.now) }
 {
     for event in events {
         let moment = tell(alloc, world, event)?;
-        if moments.push(moment).is_err() {
-            return Err(WorldFault::OutOfMemory);
-        }
+        moments.push(moment)?;
     }
     Ok(())
 }
 
-/// What each of these events does in a run of them. An event is refused, or memory is.
+/// What each of these events does in a run that accepts them all.
 fn tell_events<F: FrontEnd, A: Allocator + Copy>(
     alloc: A,
     shape: Shape,
     events: &[Event],
-) -> Result<Vec<Moment<A>, A>, WorldFault>
+) -> Result<Vec<Moment<A>, A>, AllocError>
+    requires { AcceptsAll F.start (new_world shape) events.now }
     ensures { IfOk result (λ v. v.items ≡ moments_of F.start shape events.now) }
 {
-    let Ok(mut world) = World::<F, A>::new(alloc, shape) else {
-        return Err(WorldFault::OutOfMemory);
-    };
+    let mut world = World::<F, A>::new(alloc, shape)?;
     let mut moments = Vec::new(alloc);
     tell_all(alloc, &mut world, &mut moments, events)?;
     Ok(moments)
@@ -316,8 +310,5 @@ pub fn tell_world<F: FrontEnd, A: Allocator + Copy>(
 ) -> Result<Vec<Moment<A>, A>, AllocError>
     ensures { IfOk result (λ v. v.items ≡ moments_of F.start (record { processes = world.now.processes; registers = world.now.registers }) world.now.accepted) }
 {
-    match tell_events::<F, A>(alloc, world.shape(), world.accepted()) {
-        Ok(moments) => Ok(moments),
-        Err(_) => Err(AllocError),
-    }
+    tell_events::<F, A>(alloc, world.shape(), world.accepted())
 }

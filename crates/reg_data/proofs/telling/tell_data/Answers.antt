@@ -18,7 +18,7 @@ returns g c =
       keyed = c.in_ok-witness.ensures.keyed;
       same = data_made start plan c.args.notes c.in_ok-witness.field-0.items (option_map (λ v. v.items) c.args.points) _
           c.notes.view_is (c.processes.ensures.value ∙ ap (λ (s : Extent). s.processes) c.shape-2.ensures) c.names.view_is refl c.in_ok-moments.ensures
-          (c.in-Ok.ensures ∙ ap₂ (looks_of start) c.shape.ensures c.accepted.ensures.value)
+          (c.in_ok-looks.ensures ∙ ap₂ (looks_of start) c.shape.ensures c.accepted.ensures.value)
           (c.in_ok-arrows.ensures ∙ ap arrows_of (c.as_slice.ensures.value ∙ c.in_ok-moments.ensures))
           (c.in_ok-bars.ensures ∙ ap bars_of (c.entries.ensures.value ∙ c.history.ensures.entries))
           (search rules) (search rules) refl refl;

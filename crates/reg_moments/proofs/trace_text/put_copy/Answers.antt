@@ -1,4 +1,4 @@
-use Rattle.std.proofs.Common.{ℕ, ◌≡◌, List, ◌∷◌, ◌++◌, [], codes, cond, Option, Some, None, ap, sym, ◌∙◌, append_assoc}
+use Rattle.std.proofs.Common.{ℕ, ◌≡◌, List, ◌∷◌, ◌++◌, [], codes, cond, Some, None, ap, sym, ◌∙◌, append_assoc}
 use Rattle.std.specs.Fmt.{decimal}
 use Rattle.reg_base.specs.Memory.{register_of, updates}
 use Rattle.reg_text.specs.Lines.{text_of}
