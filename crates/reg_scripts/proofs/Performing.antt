@@ -1,5 +1,6 @@
 -- What the threads of a crew performed.
-use Rattle.std.proofs.Common.{◌≡◌, ℕ, zero, suc, ◌+◌, ◌⊎◌, inl, inr, List, [], ◌∷◌, ◌++◌, length, map, drop, refl, ap, sym, subst, ◌∙◌, arith, Some, Result, Ok, Err, OnOk}
+use Rattle.std.proofs.Common.{◌≡◌, ℕ, zero, suc, ◌+◌, ◌⊎◌, inl, inr, Bool, true, false, List, [], ◌∷◌, ◌++◌, length, map, drop, refl, ap, sym, subst, ◌∙◌, arith, Some, Result, Ok, Err, OnOk, IfOk}
+use Rattle.std.specs.Prelude.{is_ok}
 use Rattle.std.proofs.lemmas.Option.{same_Some}
 use Rattle.reg_base.specs.declared.memory.Op.{Op}
 use Rattle.reg_histories.specs.History.{IsAt}
@@ -90,3 +91,9 @@ told_step (Err e) (Ok v) p q f = absurd (let bad = q.0 in cc)
 pub told_so : {E P : Type 0} (told : Result (Unit {0}) E) (u : Unit {0}) → told ≡ Ok u → OnOk told P → P
 told_so (Ok v) u is p = p
 told_so (Err e) u is p = absurd cc
+
+-- what is told of any scripts that were started, told of those that were, where all callers were started
+pub where_all : {T X E Y L : Type 0} (started : Result X E) (all : Bool) (told : Result T Y) (A : L → Type 0) (Q : T → L → Type 0) (s : L) → all ≡ is_ok started → OnOk started (A s) → OnOk told (all ≡ true) → IfOk told (λ (c : T). (l : L) → A l → Q c l) → IfOk told (λ (c : T). Q c s)
+where_all started all (Err y) A Q s is are was each = tt
+where_all (Ok x) all (Ok c) A Q s is are was each = each s are
+where_all (Err e) all (Ok c) A Q s is are was each = absurd (cc)
