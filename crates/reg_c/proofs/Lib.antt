@@ -1,2 +1,1 @@
 mod Received
-mod Rowwise

@@ -2,28 +2,15 @@
 //! come; the other reads from there on, so it reads what was written. It prints the same whatever the schedule.
 #![tactic(auto)]
 
-ghost use Rattle.std.specs.Prelude.{◌≤◌, IfOk};
-
 use anyhow::anyhow;
 use std::alloc::Global;
 use std::sync::{Arc, Wait};
 use std::thread;
 use std::thread::Threads;
 use tellwydar::{
-    Linear, LiveFault, NoGate, Pass, Receipt, Rough, SeedWords, Shape, World, check_points, read,
-    start, write,
+    Linear, NoGate, Pass, Receipt, Rough, SeedWords, Shape, World, check_points, read_from, start,
+    write,
 };
-
-/// Reads at a place of the journal that is not below the floor.
-fn read_from<R: Wait>(
-    rt: &R,
-    pass: &mut Pass<Linear, NoGate>,
-    floor: u64,
-) -> Result<Receipt, LiveFault>
-    ensures { IfOk result (λ receipt. floor ≤ receipt.called) }
-{
-    pass.perform_after(rt, read(0), floor)
-}
 
 /// Writes with one pass, and has another thread read with the other from behind the answer on.
 fn write_and_read<R: Threads + Wait + Copy + Send + Sync + 'static>(
@@ -35,7 +22,7 @@ fn write_and_read<R: Threads + Wait + Copy + Send + Sync + 'static>(
     };
     let floor = writer.perform(&rt, write(0, 5))?.answered.saturating_add(1);
     let other = thread::spawn(&rt, move || {
-        let seen = read_from(&rt, &mut reader, floor);
+        let seen = read_from(&rt, &mut reader, 0, floor);
         (reader, seen)
     })?;
     let (reader, seen) = other.join(&rt);

@@ -1,12 +1,15 @@
 //! Shared registers over totally ordered broadcast: what a program of one's own needs, in one place. `docs/LIBRARY.md` is the
-//! tour. But for three short names of operations, a shape made from names and the first call of a world, all of it is what the crates below offer, under their own contracts.
+//! tour. But for three short names of operations, a shape made from names, the first call of a world and a read from a floor, all of it is
+//! what the crates below offer, under their own contracts.
 #![tactic(auto)]
 
 mod beginning;
+mod floors;
 mod naming;
 mod operations;
 
 pub use beginning::call_first;
+pub use floors::read_from;
 pub use naming::shape_for;
 pub use operations::{read, swap, write};
 pub use reg_base::{Answer, Names, NamesFault, Op, OpId, Shape, ShapeFault, Stamp, limits};
