@@ -1,4 +1,4 @@
-use Rattle.std.proofs.Common.{Some, ap, sym}
+use Rattle.std.proofs.Common.{rules, Some, ap, sym}
 use Rattle.reg_process.specs.Waits.{running_of}
 use Rattle.reg_data.proofs.Behind.{◌▸◌, as_text}
 use Rattle.reg_data.specs.Parts.{running_part}
@@ -6,3 +6,6 @@ use Rattle.reg_data.proofs.parts.put_awaited.Goals as goal
 
 pub returns-in-Cast : goal.returns-in-Cast
 returns-in-Cast g c = as_text (ap (λ a. running_part (Some (running_of a))) (sym c.in-Cast.is)) (c.put_number.ensures ▸ c.put.ensures)
+
+pub returns-in-Settling : goal.returns-in-Settling
+returns-in-Settling g c = search rules

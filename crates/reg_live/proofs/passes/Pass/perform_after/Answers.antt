@@ -8,3 +8,6 @@ returns-clause-added g c = search rules
 
 pub returns-clause-own : goal.returns-clause-own
 returns-clause-own g c = (refl, ap (λ (h : Held). op_id h.me h.called) c.self.view_is)
+
+pub returns-clause-form : goal.returns-clause-form
+returns-clause-form g c = search rules
