@@ -1,0 +1,20 @@
+use Rattle.std.proofs.Common.{rules}
+use Rattle.reg_show_cli.proofs.program.obey.Goals as goal
+
+pub returns-in-Outcomes-clause-obeyed : goal.returns-in-Outcomes-clause-obeyed
+returns-in-Outcomes-clause-obeyed g c = search rules
+
+pub returns-in-Outcomes-clause-stopped : goal.returns-in-Outcomes-clause-stopped
+returns-in-Outcomes-clause-stopped g c = search rules
+
+pub returns-in-Show-clause-obeyed : goal.returns-in-Show-clause-obeyed
+returns-in-Show-clause-obeyed g c = search rules
+
+pub returns-in-Show-clause-stopped : goal.returns-in-Show-clause-stopped
+returns-in-Show-clause-stopped g c = search rules
+
+pub returns-in-Why-clause-obeyed : goal.returns-in-Why-clause-obeyed
+returns-in-Why-clause-obeyed g c = search rules
+
+pub returns-in-Why-clause-stopped : goal.returns-in-Why-clause-stopped
+returns-in-Why-clause-stopped g c = search rules
