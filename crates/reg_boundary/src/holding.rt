@@ -1,8 +1,9 @@
 //! A world that a caller holds.
 ghost use Rattle.std.specs.Prelude.{◌≡◌, ◌<◌, [], Some, IfErr, IfOk, IfSome, None, vec_capacity};
 ghost use Rattle.reg_histories.specs.Orders.{IsSerial, IsPointOrder};
+ghost use Rattle.reg_world.specs.declared.faults.WorldFault.{WorldFault};
 ghost use Rattle.reg_boundary.specs.declared.holding.Kept.{Kept};
-ghost use Rattle.reg_boundary.specs.Events.{event_of};
+ghost use Rattle.reg_boundary.specs.Events.{event_of, fault_code};
 ghost use Rattle.reg_boundary.specs.Worlds.{Goes, GoesIn, HasOrders, Steps, events_in, history_in, kept_at_first, looked, number_of, refusal_of, unmade};
 
 use crate::events::{code_of_fault, code_of_reply, event, value_of_answer};
@@ -160,6 +161,7 @@ fn orders(alloc: Global, kept: &Kept) -> Option<(Vec<OpId>, Vec<Point>)>
 pub fn arrange(held: &mut Held) -> u32
     ensures same { (held.new.world ≡ held.old.world) × (held.new.reply ≡ held.old.reply) }
     ensures right { result ≡ 0 → HasOrders held.new.world held.new.order.items held.new.points.items }
+    ensures why { 0 < result → result ≡ fault_code WorldFault.OutOfMemory }
 {
     let alloc = *held.order.allocator();
     let Some((order, points)) = orders(alloc, &held.world) else {

@@ -2,10 +2,11 @@
 ghost use Rattle.std.specs.Prelude.{◌≡◌, ◌<◌, None, vec_capacity};
 ghost use Rattle.std.specs.Borrow.{full_share, sem};
 ghost use Rattle.std.specs.Ptr.{lies_at};
+ghost use Rattle.reg_world.specs.declared.faults.WorldFault.{WorldFault};
 ghost use Rattle.reg_boundary.specs.declared.holding.Held.{Held};
 ghost use Rattle.reg_boundary.specs.declared.holding.Kept.{Kept};
 ghost use Rattle.reg_boundary.specs.contracts.holding.Held.{the_row};
-ghost use Rattle.reg_boundary.specs.Events.{event_of};
+ghost use Rattle.reg_boundary.specs.Events.{event_of, fault_code};
 ghost use Rattle.reg_boundary.specs.Worlds.{HasOrders, IsOpened, Steps, number_of, refusal_of};
 
 use reg_boundary::Unboxed;
@@ -67,12 +68,13 @@ pub unsafe extern "C" fn tellwydar_world_step(
     )
 }
 
-/// Asks the world behind the handle for its serial order and, where its front end has one, its point order.
+/// Asks the world behind the handle for its serial order and, where its front end has one, its point order. Where the result isn't 0,
+/// memory was refused.
 #[unsafe(no_mangle)]
 pub unsafe extern "C" fn tellwydar_world_arrange(handle: *mut u8) -> u32
     ghost held: { Held }
     requires* { sem 𝓛 (lies_at the_row full_share handle held) }
-    ensures* { ∃ₛ (λ (after : Held). sem 𝓛 (lies_at the_row full_share handle after) ∗ ⌜ (after.world ≡ held.world) × (after.reply ≡ held.reply) × (result ≡ 0 → HasOrders after.world after.order.items after.points.items) ⌝) }
+    ensures* { ∃ₛ (λ (after : Held). sem 𝓛 (lies_at the_row full_share handle after) ∗ ⌜ (after.world ≡ held.world) × (after.reply ≡ held.reply) × (result ≡ 0 → HasOrders after.world after.order.items after.points.items) × (0 < result → result ≡ fault_code WorldFault.OutOfMemory) ⌝) }
 {
     arrange(&mut *(handle as *mut Held))
 }
