@@ -95,10 +95,10 @@ fn refused_or_halted<A: Allocator + Copy>(
     fault: Fault,
 ) -> Result<Explanation<A>, Fault>
     requires blamed { Blames (command_of_kind kind) fault text.now }
-    requires kind { fault ≢ Fault.Output }
+    requires kind { (fault ≢ Fault.Output) × (fault ≢ Fault.Unread) }
     ensures told { IfOk result (λ t. Refuses (command_of_kind kind) t.answer.items text.now × (t.is_accepted ≡ false)) }
     ensures why { IfErr result (λ f. Halts f text.now) }
-    ensures kind { IfErr result (λ f. f ≢ Fault.Output) }
+    ensures kind { IfErr result (λ f. (f ≢ Fault.Output) × (f ≢ Fault.Unread)) }
 {
     if !is_of_text(fault) {
         return Err(fault);
@@ -147,7 +147,7 @@ fn tell_run<A: Allocator + Copy>(
     requires read { Spells text.now schedule }
     ensures told { IfOk result (λ t. Tells Kind.Schedule t.is_accepted t.answer.items text.now) }
     ensures why { IfErr result (λ f. Halts f text.now) }
-    ensures kind { IfErr result (λ f. f ≢ Fault.Output) }
+    ensures kind { IfErr result (λ f. (f ≢ Fault.Output) × (f ≢ Fault.Unread)) }
 {
     let subject = Subject {
         name: "a schedule: ",
@@ -174,7 +174,7 @@ fn tell_schedule<A: Allocator + Copy>(
 ) -> Result<Explanation<A>, Fault>
     ensures told { IfOk result (λ t. Tells Kind.Schedule t.is_accepted t.answer.items text.now) }
     ensures why { IfErr result (λ f. Halts f text.now) }
-    ensures kind { IfErr result (λ f. f ≢ Fault.Output) }
+    ensures kind { IfErr result (λ f. (f ≢ Fault.Output) × (f ≢ Fault.Unread)) }
 {
     match read_schedule(alloc, text) {
         Ok(schedule) => tell_run(alloc, global, text, schedule),
@@ -222,7 +222,7 @@ fn tell_workload<A: Allocator + Copy>(
 ) -> Result<Explanation<A>, Fault>
     ensures told { IfOk result (λ t. Tells Kind.Workload t.is_accepted t.answer.items text.now) }
     ensures why { IfErr result (λ f. Halts f text.now) }
-    ensures kind { IfErr result (λ f. f ≢ Fault.Output) }
+    ensures kind { IfErr result (λ f. (f ≢ Fault.Output) × (f ≢ Fault.Unread)) }
 {
     match read_workload(alloc, global, text) {
         Ok(work) => match tell_load(alloc, text, &work) {
@@ -305,7 +305,7 @@ fn tell_report<A: Allocator + Copy>(
 ) -> Result<Explanation<A>, Fault>
     ensures told { IfOk result (λ t. Tells Kind.Report t.is_accepted t.answer.items text.now) }
     ensures why { IfErr result (λ f. Halts f text.now) }
-    ensures kind { IfErr result (λ f. f ≢ Fault.Output) }
+    ensures kind { IfErr result (λ f. (f ≢ Fault.Output) × (f ≢ Fault.Unread)) }
 {
     match read_report_text(alloc, text) {
         Ok(report) => match tell_judged(alloc, text, &report) {
@@ -320,7 +320,8 @@ fn tell_report<A: Allocator + Copy>(
 ///
 /// # Errors
 ///
-/// `OutOfMemory`; nothing else stops before an answer.
+/// What is none of the text stops before an answer: want of memory, or a text that is longer than an input may be, and neither a reader nor
+/// a writer that failed.
 pub fn tell<A: Allocator + Copy>(
     alloc: A,
     global: Global,
@@ -328,7 +329,7 @@ pub fn tell<A: Allocator + Copy>(
 ) -> Result<Explanation<A>, Fault>
     ensures told { IfOk result (λ t. Tells (kind_of_text text.now) t.is_accepted t.answer.items text.now) }
     ensures why { IfErr result (λ f. Halts f text.now) }
-    ensures kind { IfErr result (λ f. f ≢ Fault.Output) }
+    ensures kind { IfErr result (λ f. (f ≢ Fault.Output) × (f ≢ Fault.Unread)) }
 {
     match kind_of(text.as_bytes()) {
         Kind::Report => tell_report(alloc, global, text),
