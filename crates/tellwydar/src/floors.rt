@@ -1,5 +1,6 @@
 //! A read behind what another thread was told.
 ghost use Rattle.std.specs.Prelude.{◌≡◌, ◌≤◌, IfErr, IfOk};
+ghost use Rattle.reg_base.specs.Memory.{Memory, answer_of};
 ghost use Rattle.reg_base.specs.declared.memory.Op.{Op};
 ghost use Rattle.reg_process.specs.declared.steps.Step.TheVariants.{Call};
 ghost use Rattle.reg_world.specs.World.{op_id};
@@ -25,6 +26,7 @@ pub fn read_from<F: FrontEnd, G: Gate + Drop, R: Wait>(
 ) -> Result<Receipt, LiveFault>
     ensures added { IfOk result (λ r. pass.new ≡ with_receipt pass.old r) }
     ensures own { IfOk result (λ r. (r.op ≡ Op.Read register) × (r.id ≡ op_id pass.old.me pass.old.called)) }
+    ensures form { IfOk result (λ r. (m : Memory) × (r.answer ≡ answer_of (Op.Read register) m)) }
     ensures floor { IfOk result (λ r. floor ≤ r.called) }
     ensures left { IfErr result (λ fault. IsLeft fault pass.old pass.new) }
     ensures refusal { IfErr result (λ fault. IsRefusal pass.old.shape.registers floor (Call (Op.Read register)) fault) }
