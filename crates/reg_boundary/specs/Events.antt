@@ -40,3 +40,17 @@ fault_code NoRegister = 20
 fault_code TooManyOperations = 21
 fault_code NoFrame = 22
 fault_code OutOfMemory = 23
+
+-- what a call tells besides: the numbers said no event, the world was closed, there is no such shape, there is no such front end
+
+abbrev pub no_event : ℕ
+no_event = 32
+
+abbrev pub no_world : ℕ
+no_world = 33
+
+abbrev pub no_shape : ℕ
+no_shape = 34
+
+abbrev pub no_front : ℕ
+no_front = 35

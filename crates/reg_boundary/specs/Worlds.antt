@@ -28,7 +28,7 @@ use Rattle.reg_boundary.specs.declared.looking.IdPart.{IdPart}
 use Rattle.reg_boundary.specs.declared.looking.IdPart.TheVariants.{Process as IdProcess, Number as IdNumber}
 use Rattle.reg_boundary.specs.declared.looking.PointPart.{PointPart}
 use Rattle.reg_boundary.specs.declared.looking.PointPart.TheVariants.{Process as PointProcess, Number as PointNumber, Event as PointEvent}
-use Rattle.reg_boundary.specs.Events.{answer_value, fault_code, reply_code}
+use Rattle.reg_boundary.specs.Events.{answer_value, fault_code, no_event, no_front, no_shape, no_world, reply_code}
 
 -- what is held at first: a world of the front end of this number in which nothing happened yet
 abbrev pub kept_at_first : ℕ → Extent → Option Kept
@@ -39,11 +39,11 @@ kept_at_first front shape =
 
 -- why there is no world of a shape: there was no memory, or this number names no front end
 abbrev pub unmade : ℕ → ℕ
-unmade front = (if nat_lt front 3 then fault_code OutOfMemory else 35)
+unmade front = (if nat_lt front 3 then fault_code OutOfMemory else no_front)
 
 -- why there is no world: these numbers are no shape, or what is told of a shape
 abbrev pub refusal_of : ℕ → ℕ → ℕ → ℕ
-refusal_of front processes registers = (if is_err (shape_of processes registers) then 34 else unmade front)
+refusal_of front processes registers = (if is_err (shape_of processes registers) then no_shape else unmade front)
 
 -- what a caller holds at first: such a world, with no reply yet, and no orders that it asked for
 abbrev pub IsOpened : ℕ → Extent → Held → Type 0
@@ -53,16 +53,16 @@ IsOpened front shape h = (kept_at_first front shape ≡ Some h.world) × (h.repl
 abbrev pub Goes : (Op → ℕ → Start) → Event → Made → Made → Option Reply → ℕ → Type 0
 Goes start e old new reply code = (Accepts start old e new × (reply ≡ reply_in start old e) × (code ≡ reply_code reply)) ⊎ ((fault : WorldFault) × Refuses start old e fault new × (reply ≡ None) × (code ≡ fault_code fault))
 
--- what an event does to a world, where there is one: 33 where it was closed
+-- what an event does to a world, where there is one, or nothing where it was closed
 abbrev pub GoesIn : Event → Kept → Kept → Option Reply → ℕ → Type 0
 GoesIn e (Linear old) new reply code = (after : Made) × (new ≡ Linear after) × Goes linear e old after reply code
 GoesIn e (LocalRead old) new reply code = (after : Made) × (new ≡ LocalRead after) × Goes local_read e old after reply code
 GoesIn e (LocalWrite old) new reply code = (after : Made) × (new ≡ LocalWrite after) × Goes local_write e old after reply code
-GoesIn e Closed new reply code = (new ≡ Closed) × (reply ≡ None) × (code ≡ 33)
+GoesIn e Closed new reply code = (new ≡ Closed) × (reply ≡ None) × (code ≡ no_world)
 
--- the same of what is held: 32 where the numbers say no event, and nothing has changed
+-- the same of what is held, or nothing where the numbers say no event
 abbrev pub Steps : Option Event → Held → Held → ℕ → Type 0
-Steps None old new code = (code ≡ 32) × (new ≡ old)
+Steps None old new code = (code ≡ no_event) × (new ≡ old)
 Steps (Some e) old new code = GoesIn e old.world new.world new.reply code × (new.order ≡ old.order) × (new.points ≡ old.points)
 
 -- The ids are a serial order of the world's history, and the points a point order of it under the front end that has one, else none.

@@ -23,6 +23,10 @@ pub play_written : (fair : Bool) (old new : Option (List ℕ)) (text : List ℕ)
 play_written fair old new text work report (Ok x) h s m = record { work = work; holds = h; report = report; shown = s; written = m }
 play_written fair old new text work report (Err f) h s m = tt
 
+-- the verdicts on the report that a text spells
+pub judged_text : (text read : List ℕ) (r : Contents) (v : Verdicts) → read ≡ text → SpellsReport read r × IsReport r → Judges r v → (x : Contents) × IsReport x × SpellsReport text x × Judges x v
+judged_text text read r v same spelled judged = (r, spelled.1, subst (λ t. SpellsReport t r) same spelled.0, judged)
+
 -- verdicts of which a first part was written
 pub checks_with : (Wrote : List ℕ → Type 0) (text : List ℕ) (v : Verdicts) → (r : Contents) × IsReport r × SpellsReport text r × Judges r v → Wrote (verdicts_text v) → Checks (all_yes v) Wrote text
 checks_with Wrote text v h m = record { report = h.0; good = h.1; read = h.2; verdicts = v; judged = h.3; says = refl; written = m }

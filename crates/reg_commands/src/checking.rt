@@ -1,5 +1,5 @@
 //! The command that judges a report from its text alone.
-ghost use Rattle.std.specs.Prelude.{◌≡◌, ◌≢◌, IfOk, IfErr, IsErrOf};
+ghost use Rattle.std.specs.Prelude.{◌≡◌, ◌≢◌, IfOk, IfErr, IsErrOf, string_bytes};
 ghost use Rattle.std.specs.Io.KnownBytes.{Appends};
 ghost use Rattle.reg_reports.specs.Reports.{Contents, IsReport, SpellsReport};
 ghost use Rattle.reg_messages.specs.Verdicts.{Judges};
@@ -28,28 +28,32 @@ pub fn read_report_text<A: Allocator + Copy>(alloc: A, text: &str) -> Result<Rep
     }
 }
 
-fn checked<A: Allocator + Copy>(alloc: A, text: &str) -> Result<Verdicts, Fault>
-    ensures ok { IfOk result (λ v. (r : Contents) × IsReport r × SpellsReport text.now r × Judges r v) }
-    ensures why { IfErr result (λ f. Blames Command.Check f text.now) }
+/// What the checkers say of the report that a text spells.
+fn checked<A: Allocator + Copy>(alloc: A, text: String<A>) -> Result<Verdicts, Fault>
+    ensures ok { IfOk result (λ v. (r : Contents) × IsReport r × SpellsReport (string_bytes text) r × Judges r v) }
+    ensures why { IfErr result (λ f. Blames Command.Check f (string_bytes text)) }
     ensures kind { IfErr result (λ f. (f ≢ Fault.Output) × (f ≢ Fault.Unread)) }
 {
-    let report = read_report_text(alloc, text)?;
+    let report = read_report_text(alloc, text.as_str())?;
+    // The checkers don't need the text, which takes nearly as much memory as the report.
+    drop(text);
     match judge(alloc, &report) {
         Ok(verdicts) => Ok(verdicts),
         Err(_) => Err(Fault::OutOfMemory),
     }
 }
 
-/// Reads a report, and writes what the checkers say of it. The answer is whether every line says yes.
+/// Reads a report, and writes what the checkers say of it. The answer is whether every line says yes. The text is let go
+/// before they run.
 pub fn check<A: Allocator + Copy, W: Write>(
     alloc: A,
-    text: &str,
+    text: String<A>,
     writer: &mut W,
 ) -> Result<bool, Fault>
-    ensures ok { IfOk result (λ agrees. Checks agrees (Appends (W.contents writer.old) (W.contents writer.new)) text.now) }
-    ensures why { IfErr result (λ f. Blames Command.Check f text.now) }
+    ensures ok { IfOk result (λ agrees. Checks agrees (Appends (W.contents writer.old) (W.contents writer.new)) (string_bytes text)) }
+    ensures why { IfErr result (λ f. Blames Command.Check f (string_bytes text)) }
     ensures silent { IfErr result (λ f. f ≢ Fault.Output → writer.new ≡ writer.old) }
-    ensures part { IsErrOf result Fault.Output → AnswersInPart Command.Check (W.contents writer.old) (W.contents writer.new) text.now }
+    ensures part { IsErrOf result Fault.Output → AnswersInPart Command.Check (W.contents writer.old) (W.contents writer.new) (string_bytes text) }
     ensures kind { IfErr result (λ f. f ≢ Fault.Unread) }
 {
     let verdicts = checked(alloc, text)?;

@@ -1,5 +1,5 @@
 //! The command that runs a schedule and prints the report of the run.
-ghost use Rattle.std.specs.Prelude.{◌≡◌, ◌≢◌, None, IfOk, IfErr, IsErrOf};
+ghost use Rattle.std.specs.Prelude.{◌≡◌, ◌≢◌, None, IfOk, IfErr, IsErrOf, string_bytes};
 ghost use Rattle.std.specs.Io.KnownBytes.{Appends};
 ghost use Rattle.reg_world.specs.Worlds.{after_events};
 ghost use Rattle.reg_schedules.specs.Schedules.{Plan, IsPlan, Spells};
@@ -126,25 +126,29 @@ fn run_schedule<A: Allocator + Copy>(alloc: A, schedule: Schedule<A>) -> Result<
     }
 }
 
-fn replayed<A: Allocator + Copy>(alloc: A, text: &str) -> Result<Report<A>, Fault>
-    ensures ok { IfOk result (λ r. (p : Plan) × IsPlan p × Spells text.now p × IsReportOf p r) }
-    ensures why { IfErr result (λ f. Blames Command.Replay f text.now) }
+/// The report of the run of the schedule that a text spells.
+fn replayed<A: Allocator + Copy>(alloc: A, text: String<A>) -> Result<Report<A>, Fault>
+    ensures ok { IfOk result (λ r. (p : Plan) × IsPlan p × Spells (string_bytes text) p × IsReportOf p r) }
+    ensures why { IfErr result (λ f. Blames Command.Replay f (string_bytes text)) }
     ensures kind { IfErr result (λ f. (f ≢ Fault.Output) × (f ≢ Fault.Unread)) }
 {
-    let schedule = read_schedule(alloc, text)?;
+    let schedule = read_schedule(alloc, text.as_str())?;
+    // The run doesn't need the text, which takes nearly as much memory as its events.
+    drop(text);
     run_schedule(alloc, schedule)
 }
 
-/// Reads a schedule, runs it, and writes the report of the run, once all its events are accepted.
+/// Reads a schedule, runs it, and writes the report of the run, once all its events are accepted. The text is let go
+/// before the run.
 pub fn replay<A: Allocator + Copy, W: Write>(
     alloc: A,
-    text: &str,
+    text: String<A>,
     writer: &mut W,
 ) -> Result<(), Fault>
-    ensures ok { IfOk result (λ _. Replays (Appends (W.contents writer.old) (W.contents writer.new)) text.now) }
-    ensures why { IfErr result (λ f. Blames Command.Replay f text.now) }
+    ensures ok { IfOk result (λ _. Replays (Appends (W.contents writer.old) (W.contents writer.new)) (string_bytes text)) }
+    ensures why { IfErr result (λ f. Blames Command.Replay f (string_bytes text)) }
     ensures silent { IfErr result (λ f. f ≢ Fault.Output → writer.new ≡ writer.old) }
-    ensures part { IsErrOf result Fault.Output → AnswersInPart Command.Replay (W.contents writer.old) (W.contents writer.new) text.now }
+    ensures part { IsErrOf result Fault.Output → AnswersInPart Command.Replay (W.contents writer.old) (W.contents writer.new) (string_bytes text) }
     ensures kind { IfErr result (λ f. f ≢ Fault.Unread) }
 {
     let report = replayed(alloc, text)?;

@@ -1,5 +1,5 @@
 //! Running a command over any reader and writer.
-ghost use Rattle.std.specs.Prelude.{◌≡◌, ◌≢◌, ◌≤◌, ◌⊎◌, IfOk, IfErr, OnOk, IfSome, true, false, Ok, length, IsErrOf};
+ghost use Rattle.std.specs.Prelude.{◌≡◌, ◌≢◌, ◌≤◌, ◌⊎◌, IfOk, IfErr, OnOk, IfSome, true, false, Ok, length, IsErrOf, string_bytes};
 ghost use Rattle.std.specs.Io.KnownBytes.{Appends};
 ghost use Rattle.reg_base.specs.declared.limits.TheConstants.{LONGEST_INPUT};
 ghost use Rattle.reg_text.specs.Writing.{AppendsPart};
@@ -20,14 +20,14 @@ fn answer<A: Allocator + Copy, W: Write>(
     alloc: A,
     global: Global,
     command: Command,
-    text: &str,
+    text: String<A>,
     writer: &mut W,
 ) -> Result<bool, Fault>
-    ensures ok { IfOk result (λ agrees. Answers command agrees (Appends (W.contents writer.old) (W.contents writer.new)) text.now) }
+    ensures ok { IfOk result (λ agrees. Answers command agrees (Appends (W.contents writer.old) (W.contents writer.new)) (string_bytes text)) }
     ensures no { result ≡ Ok false → command ≡ Command.Check }
-    ensures why { IfErr result (λ f. Blames command f text.now) }
+    ensures why { IfErr result (λ f. Blames command f (string_bytes text)) }
     ensures silent { IfErr result (λ f. f ≢ Fault.Output → writer.new ≡ writer.old) }
-    ensures part { IsErrOf result Fault.Output → AnswersInPart command (W.contents writer.old) (W.contents writer.new) text.now }
+    ensures part { IsErrOf result Fault.Output → AnswersInPart command (W.contents writer.old) (W.contents writer.new) (string_bytes text) }
 {
     match command {
         Command::Replay => {
@@ -36,7 +36,7 @@ fn answer<A: Allocator + Copy, W: Write>(
         }
         Command::Check => check(alloc, text, writer),
         Command::Play { fair } => {
-            play(alloc, global, text, fair, writer)?;
+            play(alloc, global, text.as_str(), fair, writer)?;
             Ok(true)
         }
     }
@@ -57,7 +57,7 @@ fn obey<A: Allocator + Copy, R: Read, W: Write>(
     ensures part { IsErrOf result Fault.Output → IfSome (R.remaining reader.old) (AnswersInPart command (W.contents writer.old) (W.contents writer.new)) }
 {
     let text = read_input(alloc, reader)?;
-    answer(alloc, global, command, text.as_str(), writer)
+    answer(alloc, global, command, text, writer)
 }
 
 /// Runs a command: it reads the whole input, and writes once all of it is accepted. The answer is the status: 0, or 1

@@ -1,4 +1,5 @@
 use Rattle.std.proofs.Common.{rules}
+use Rattle.std.specs.Prelude.{string_bytes}
 use Rattle.reg_text.specs.Writing.{AppendsPart}
 use Rattle.reg_messages.specs.Verdicts.{all_yes}
 use Rattle.reg_commands.proofs.Parts.{checks_with}
@@ -7,7 +8,7 @@ use Rattle.reg_commands.proofs.checking.check.Goals as goal
 pub returns-in_err-write_verdicts-clause-part : goal.returns-in_err-write_verdicts-clause-part
 returns-in_err-write_verdicts-clause-part g c failed = (
   all_yes c.in_ok-verdicts.verdicts,
-  checks_with (AppendsPart (g.W.Write.contents c.args.writer.now) (g.W.Write.contents c.write_verdicts.new.writer)) c.args.text.now c.in_ok-verdicts.verdicts c.in_ok-verdicts.ensures.ok c.in_err-write_verdicts.ensures.1,
+  checks_with (AppendsPart (g.W.Write.contents c.args.writer.now) (g.W.Write.contents c.write_verdicts.new.writer)) (string_bytes c.args.text) c.in_ok-verdicts.verdicts c.in_ok-verdicts.ensures.ok c.in_err-write_verdicts.ensures.1,
 )
 
 pub returns-in_err-verdicts-clause-silent : goal.returns-in_err-verdicts-clause-silent
