@@ -1,5 +1,8 @@
 //! The first call of a world.
-ghost use Rattle.std.specs.Prelude.{◌≡◌, [], length, IfOk};
+ghost use Rattle.std.specs.Prelude.{◌≡◌, [], length, IfErr, IfOk};
+ghost use Rattle.reg_front.specs.Table.{linear};
+ghost use Rattle.reg_world.specs.declared.events.Event.TheVariants.{Call};
+ghost use Rattle.reg_world.specs.Worlds.{Refuses};
 ghost use Rattle.tellwydar.specs.Firsts.{first_entries};
 
 use reg_base::Op;
@@ -12,14 +15,15 @@ use reg_world::{Event, World, WorldFault};
 ///
 /// # Errors
 ///
-/// Those of `World::step_reply`.
+/// Those of `World::step_reply`, each where it comes there.
 pub fn call_first(
     world: &mut World<Linear>,
     process: u8,
     op: Op,
 ) -> Result<Option<Reply>, WorldFault>
     requires { world.old.history ≡ [] }
-    ensures { IfOk result (λ reply. world.new.history ≡ first_entries (length world.old.accepted) process op reply) }
+    ensures history { IfOk result (λ reply. world.new.history ≡ first_entries (length world.old.accepted) process op reply) }
+    ensures refused { IfErr result (λ fault. Refuses linear world.old (Call process op) fault world.new) }
 {
     world.step_reply(&Event::Call { process, op })
 }
