@@ -224,18 +224,27 @@ fn a_json_reader_reads_the_comments(rt: HostRuntime) {
     }
 }
 
+/// What stands behind these texts, with which the bytes begin.
+fn behind<'b>(bytes: &'b [u8], texts: &[&str]) -> Option<&'b [u8]> {
+    let mut rest = bytes;
+    for text in texts {
+        rest = rest.strip_prefix(text.as_bytes())?;
+    }
+    Some(rest)
+}
+
+/// What stands behind a page that is its head, this data and its tail.
+fn behind_page<'b>(page: &'b [u8], json: &str) -> Option<&'b [u8]> {
+    let data = behind(page, &HEAD)?;
+    let tail = behind(data, &[json])?;
+    behind(tail, &TAIL)
+}
+
 /// Whether the page is its head, the data without its last line feed, and its tail.
 fn is_framed(alloc: Global, text: &str, data_text: &str) -> bool {
     let (status, page, errors) = shown(alloc, Showing::Page, text.as_bytes());
-    let (head, tail) = (HEAD.as_bytes(), TAIL.as_bytes());
-    let json = data_text.trim_end().as_bytes();
-    let Some(rest) = page.as_slice().strip_prefix(head) else {
-        return false;
-    };
-    let Some(rest) = rest.strip_prefix(json) else {
-        return false;
-    };
-    status == 0 && errors.is_empty() && rest == tail
+    let rest = behind_page(page.as_slice(), data_text.trim_end());
+    status == 0 && errors.is_empty() && rest.is_some_and(|bytes| bytes.is_empty())
 }
 
 #[test]

@@ -4,3 +4,4 @@ pub mod Stamp
 pub mod Order
 pub mod Memory
 pub mod Names
+pub mod Sums

@@ -35,7 +35,7 @@ fn checked<A: Allocator + Copy>(alloc: A, text: String<A>) -> Result<Verdicts, F
     ensures kind { IfErr result (λ f. (f ≢ Fault.Output) × (f ≢ Fault.Unread)) }
 {
     let report = read_report_text(alloc, text.as_str())?;
-    // The checkers don't need the text, which takes nearly as much memory as the report.
+    // The checkers don't need the text, which can take more memory than the report.
     drop(text);
     match judge(alloc, &report) {
         Ok(verdicts) => Ok(verdicts),

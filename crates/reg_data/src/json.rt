@@ -5,8 +5,7 @@ ghost use Rattle.reg_text.specs.Writing.{Puts};
 ghost use Rattle.reg_data.specs.Json.{comma_at, joined, lines_text, list_text, numbers_text, quoted};
 
 use reg_base::Names;
-use reg_moments::put_number;
-use reg_text::Sink;
+use reg_text::{Sink, put_number};
 use std::alloc::Allocator;
 use std::io::Write;
 

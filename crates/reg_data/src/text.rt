@@ -3,7 +3,7 @@ ghost use Rattle.std.specs.Prelude.{◌≡◌, ◌++◌, MatchResult};
 ghost use Rattle.std.specs.Io.KnownBytes.{Appends};
 ghost use Rattle.reg_text.specs.Writing.{AppendsPart, Puts};
 ghost use Rattle.reg_data.specs.Data.{data_text, head_text, order_text, points_part, run_text};
-ghost use Rattle.reg_data.specs.Json.{list_text, quoted};
+ghost use Rattle.reg_data.specs.Json.{list_text, one_text, quoted};
 ghost use Rattle.std.specs.Prelude.{option_map};
 
 use crate::data::Data;
@@ -12,8 +12,7 @@ use crate::json::{put_comma, put_lines, put_quoted};
 use crate::strings::put_string;
 use reg_base::Names;
 use reg_histories::Point;
-use reg_moments::put_number;
-use reg_text::{Sink, Unwritten, name_at};
+use reg_text::{Sink, Unwritten, name_at, put_number};
 use std::alloc::Allocator;
 use std::io::Write;
 
@@ -79,30 +78,39 @@ fn put_orders<A: Allocator + Copy, W: Write>(sink: &mut Sink<'_, W>, run: &Data<
     sink.put(b"}");
 }
 
-/// Puts the data between two texts.
+/// Puts texts one behind another.
+fn put_texts<W: Write>(sink: &mut Sink<'_, W>, texts: &[&str])
+    ensures { Puts W.contents sink.old sink.new (one_text texts.now) }
+{
+    for text in texts {
+        sink.put(text.as_bytes());
+    }
+}
+
+/// Puts the data between texts.
 fn put_between<A: Allocator + Copy, W: Write>(
     sink: &mut Sink<'_, W>,
-    head: &str,
+    head: &[&str],
     run: &Data<A>,
-    tail: &str,
+    tail: &[&str],
 )
-    ensures { Puts W.contents sink.old sink.new (head.now ++ (data_text run.now ++ tail.now)) }
+    ensures { Puts W.contents sink.old sink.new (one_text head.now ++ (data_text run.now ++ one_text tail.now)) }
 {
-    sink.put(head.as_bytes());
+    put_texts(sink, head);
     put_head(sink, run);
     put_run(sink, run);
     put_orders(sink, run);
-    sink.put(tail.as_bytes());
+    put_texts(sink, tail);
 }
 
-/// Writes the data of a run between two texts, all of it or, where the writer fails, a first part.
+/// Writes the data of a run between the texts of its head and those of its tail, all of it or, where the writer fails, a first part.
 pub fn write_data<A: Allocator + Copy, W: Write>(
     writer: &mut W,
-    head: &str,
+    head: &[&str],
     run: &Data<A>,
-    tail: &str,
+    tail: &[&str],
 ) -> Result<(), Unwritten>
-    ensures { MatchResult result (λ _. Appends (W.contents writer.old) (W.contents writer.new) (head.now ++ (data_text run.now ++ tail.now))) (λ _. AppendsPart (W.contents writer.old) (W.contents writer.new) (head.now ++ (data_text run.now ++ tail.now))) }
+    ensures { MatchResult result (λ _. Appends (W.contents writer.old) (W.contents writer.new) (one_text head.now ++ (data_text run.now ++ one_text tail.now))) (λ _. AppendsPart (W.contents writer.old) (W.contents writer.new) (one_text head.now ++ (data_text run.now ++ one_text tail.now))) }
 {
     let mut sink = Sink::new(writer);
     put_between(&mut sink, head, run, tail);

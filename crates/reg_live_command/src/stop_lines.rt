@@ -6,15 +6,15 @@ ghost use Rattle.reg_text.specs.Writing.{AppendsPart, Puts};
 ghost use Rattle.reg_live_command.specs.StopLines.{stop_text, stop_line};
 
 use crate::faults::Stop;
-use reg_commands::{put_fault_text, put_numbered};
-use reg_text::{Sink, Unwritten};
+use reg_commands::put_fault_text;
+use reg_text::{Sink, Unwritten, put_number};
 use std::io::Write;
 
 /// Puts why the pass of a process was refused.
 fn put_pass<W: Write>(sink: &mut Sink<'_, W>, process: u8, words: &str)
     ensures { Puts W.contents sink.old sink.new (codes "process " ++ decimal process ++ words.now) }
 {
-    put_numbered(sink, "process ", process as u64);
+    put_number(sink, "process ", process as u64);
     sink.put(words.as_bytes());
 }
 
@@ -22,8 +22,8 @@ fn put_pass<W: Write>(sink: &mut Sink<'_, W>, process: u8, words: &str)
 fn put_behind<W: Write>(sink: &mut Sink<'_, W>, process: u8, length: u64)
     ensures { Puts W.contents sink.old sink.new (codes "process " ++ decimal process ++ codes ": behind " ++ decimal length) }
 {
-    put_numbered(sink, "process ", process as u64);
-    put_numbered(sink, ": behind ", length);
+    put_number(sink, "process ", process as u64);
+    put_number(sink, ": behind ", length);
 }
 
 /// Puts a stop as text: its line without the line feed.
@@ -36,8 +36,8 @@ fn put_stop_text<W: Write>(sink: &mut Sink<'_, W>, stop: Stop)
         Stop::NoRegister { process } => put_pass(sink, process, ": no register"),
         Stop::Behind { process, length } => put_behind(sink, process, length),
         Stop::Full { process } => put_pass(sink, process, ": full"),
-        Stop::Unfaithful { place } => put_numbered(sink, "close: unfaithful ", place),
-        Stop::Mismatch { process } => put_numbered(sink, "close: mismatch ", process as u64),
+        Stop::Unfaithful { place } => put_number(sink, "close: unfaithful ", place),
+        Stop::Mismatch { process } => put_number(sink, "close: mismatch ", process as u64),
     }
 }
 

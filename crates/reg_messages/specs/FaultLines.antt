@@ -1,34 +1,13 @@
 -- The line of each fault on the error stream.
 use Rattle.std.specs.Prelude.{ℕ, List, [], ◌∷◌, ◌++◌, codes}
 use Rattle.std.specs.Fmt.{decimal}
-use Rattle.reg_reports.specs.declared.report_faults.ReadWhy.{ReadWhy}
-use Rattle.reg_reports.specs.declared.report_faults.ReadWhy.TheVariants.{Form, Range, Name, Place, End}
-use Rattle.reg_world.specs.declared.faults.WorldFault.{WorldFault}
-use Rattle.reg_world.specs.declared.faults.WorldFault.TheVariants.{Failed, TooManyEvents, NoProcess, Busy, NoRegister, TooManyOperations, NoFrame, OutOfMemory as WorldOutOfMemory}
+use Rattle.reg_reports.specs.Whys.{why_text}
+use Rattle.reg_world.specs.FaultTexts.{refusal_text}
 use Rattle.reg_workloads.specs.declared.faults.WorkloadFault.{WorkloadFault}
-use Rattle.reg_workloads.specs.declared.faults.WorkloadFault.TheVariants.{Toml, UnknownKey, Missing, Kind, Range as RangeOfKey, Script, OutOfMemory as WorkloadOutOfMemory}
+use Rattle.reg_workloads.specs.declared.faults.WorkloadFault.TheVariants.{Toml, UnknownKey, Missing, Kind, Range, Script, OutOfMemory as WorkloadOutOfMemory}
 use Rattle.reg_workloads.specs.Keys.{key_name}
 use Rattle.reg_messages.specs.declared.faults.Fault.{Fault}
 use Rattle.reg_messages.specs.declared.faults.Fault.TheVariants.{Unread, TooLong, NotText, Output, Line, Event, Workload, OutOfMemory}
-
--- what is wrong with a line of the input
-abbrev pub why_text : ReadWhy → List ℕ
-why_text Form = codes "form"
-why_text Range = codes "range"
-why_text Name = codes "name"
-why_text Place = codes "place"
-why_text End = codes "end"
-
--- why an event is refused
-abbrev pub refusal_text : WorldFault → List ℕ
-refusal_text Failed = codes "failed"
-refusal_text TooManyEvents = codes "too many events"
-refusal_text NoProcess = codes "no process"
-refusal_text Busy = codes "busy"
-refusal_text NoRegister = codes "no register"
-refusal_text TooManyOperations = codes "too many operations"
-refusal_text NoFrame = codes "no frame"
-refusal_text WorldOutOfMemory = codes "out of memory"
 
 -- why a document says no workload
 abbrev pub workload_text : WorkloadFault → List ℕ
@@ -36,7 +15,7 @@ workload_text Toml = codes "toml"
 workload_text UnknownKey = codes "unknown key"
 workload_text (Missing key) = codes "missing " ++ key_name key
 workload_text (Kind key) = codes "kind " ++ key_name key
-workload_text (RangeOfKey key) = codes "range " ++ key_name key
+workload_text (Range key) = codes "range " ++ key_name key
 workload_text (Script process place) = codes "script " ++ decimal process ++ codes " " ++ decimal place
 workload_text WorkloadOutOfMemory = codes "out of memory"
 

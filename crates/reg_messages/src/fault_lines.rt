@@ -4,59 +4,18 @@ ghost use Rattle.std.specs.Fmt.{decimal};
 ghost use Rattle.std.specs.Io.KnownBytes.{Appends};
 ghost use Rattle.reg_text.specs.Writing.{AppendsPart, Puts};
 ghost use Rattle.reg_workloads.specs.Keys.{key_name};
-ghost use Rattle.reg_messages.specs.FaultLines.{why_text, refusal_text, workload_text, fault_text, fault_line};
+ghost use Rattle.reg_messages.specs.FaultLines.{workload_text, fault_text, fault_line};
 
 use crate::faults::Fault;
-use itoa::Buffer;
-use reg_reports::ReadWhy;
-use reg_text::{Sink, Unwritten};
+use reg_text::{Sink, Unwritten, put_number};
 use reg_workloads::{Key, WorkloadFault};
-use reg_world::WorldFault;
 use std::io::Write;
-
-/// What is wrong with a line of the input.
-fn why_words(why: ReadWhy) -> &'static str
-    ensures { result.now ≡ why_text why }
-{
-    match why {
-        ReadWhy::Form => "form",
-        ReadWhy::Range => "range",
-        ReadWhy::Name => "name",
-        ReadWhy::Place => "place",
-        ReadWhy::End => "end",
-    }
-}
-
-/// Why an event is refused.
-fn refusal_words(fault: WorldFault) -> &'static str
-    ensures { result.now ≡ refusal_text fault }
-{
-    match fault {
-        WorldFault::Failed => "failed",
-        WorldFault::TooManyEvents => "too many events",
-        WorldFault::NoProcess => "no process",
-        WorldFault::Busy => "busy",
-        WorldFault::NoRegister => "no register",
-        WorldFault::TooManyOperations => "too many operations",
-        WorldFault::NoFrame => "no frame",
-        WorldFault::OutOfMemory => "out of memory",
-    }
-}
-
-/// Puts words, and a number behind them.
-pub fn put_numbered<W: Write>(sink: &mut Sink<'_, W>, words: &str, number: u64)
-    ensures { Puts W.contents sink.old sink.new (words.now ++ decimal number) }
-{
-    let mut digits = Buffer::new();
-    sink.put(words.as_bytes());
-    sink.put(digits.format(number).as_bytes());
-}
 
 /// Puts what is wrong at a line or an event of this number.
 fn put_place<W: Write>(sink: &mut Sink<'_, W>, name: &str, number: u64, words: &str)
     ensures { Puts W.contents sink.old sink.new (name.now ++ decimal number ++ codes ": " ++ words.now) }
 {
-    put_numbered(sink, name, number);
+    put_number(sink, name, number);
     sink.put(b": ");
     sink.put(words.as_bytes());
 }
@@ -73,8 +32,8 @@ fn put_key<W: Write>(sink: &mut Sink<'_, W>, words: &str, key: Key)
 fn put_script<W: Write>(sink: &mut Sink<'_, W>, process: u8, place: u32)
     ensures { Puts W.contents sink.old sink.new (codes "script " ++ decimal process ++ codes " " ++ decimal place) }
 {
-    put_numbered(sink, "script ", process as u64);
-    put_numbered(sink, " ", place as u64);
+    put_number(sink, "script ", process as u64);
+    put_number(sink, " ", place as u64);
 }
 
 /// Puts why a document says no workload.
@@ -101,8 +60,8 @@ pub fn put_fault_text<W: Write>(sink: &mut Sink<'_, W>, fault: Fault)
         Fault::TooLong => sink.put(b"input: too long"),
         Fault::NotText => sink.put(b"input: not text"),
         Fault::Output => sink.put(b"output: write"),
-        Fault::Line { line, why } => put_place(sink, "line ", line, why_words(why)),
-        Fault::Event { at, fault } => put_place(sink, "event ", at as u64, refusal_words(fault)),
+        Fault::Line { line, why } => put_place(sink, "line ", line, why.word()),
+        Fault::Event { at, fault } => put_place(sink, "event ", at as u64, fault.words()),
         Fault::Workload { fault } => put_workload(sink, fault),
         Fault::OutOfMemory => sink.put(b"out of memory"),
     }

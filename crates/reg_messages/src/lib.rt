@@ -5,6 +5,6 @@ mod fault_lines;
 mod faults;
 mod verdicts;
 
-pub use fault_lines::{put_fault_text, put_numbered, write_fault};
+pub use fault_lines::{put_fault_text, write_fault};
 pub use faults::Fault;
 pub use verdicts::{Reason, Verdict, Verdicts, all_yes, judge, write_verdicts};

@@ -7,9 +7,8 @@ ghost use Rattle.reg_messages.specs.Verdicts.{SerialSays, PointsSay, AllPointsSa
 ghost use Rattle.reg_messages.specs.Inner.{Tells};
 
 use crate::faults::Fault;
-use itoa::Buffer;
 use reg_reports::{CheckFault, Point, Report, check_points, check_serial};
-use reg_text::Sink;
+use reg_text::{Sink, put_number};
 use std::alloc::{AllocError, Allocator};
 use std::io::Write;
 
@@ -139,10 +138,8 @@ fn put_words<W: Write>(sink: &mut Sink<'_, W>, name: &str, words: &str)
 fn put_place<W: Write>(sink: &mut Sink<'_, W>, name: &str, words: &str, place: usize)
     ensures { Puts W.contents sink.old sink.new (name.now ++ (words.now ++ decimal place) ++ 10 ∷ []) }
 {
-    let mut digits = Buffer::new();
     sink.put(name.as_bytes());
-    sink.put(words.as_bytes());
-    sink.put(digits.format(place).as_bytes());
+    put_number(sink, words, place as u64);
     sink.put(b"\n");
 }
 

@@ -13,7 +13,7 @@ mod waits;
 pub use figures::{Arrow, Bar, End, arrows, bars, is_taken};
 pub use moments::{Moment, Sent, process_of_event, tell_world};
 pub use rooms::{Filled, GAP};
-pub use schedule_text::{put_event, put_number, write_schedule};
+pub use schedule_text::{put_event, write_schedule};
 pub use told::TracedRun;
 pub use trace_text::{put_answer, put_cast, put_frame, write_trace};
 pub use waits::Wait;

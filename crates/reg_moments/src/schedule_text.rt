@@ -9,22 +9,12 @@ ghost use Rattle.reg_reports.specs.Written.{lines_by};
 ghost use Rattle.reg_schedules.specs.Schedules.{Plan, event_text};
 ghost use Rattle.reg_moments.specs.ScheduleText.{schedule_text};
 
-use itoa::Buffer;
 use reg_base::{Names, Shape};
 use reg_front::Front;
-use reg_text::{Sink, Unwritten, name_at, put_op};
+use reg_text::{Sink, Unwritten, name_at, put_number, put_op};
 use reg_world::Event;
 use std::alloc::Allocator;
 use std::io::Write;
-
-/// Puts a mark, and then a number.
-pub fn put_number<W: Write>(sink: &mut Sink<'_, W>, mark: &str, number: u64)
-    ensures { Puts W.contents sink.old sink.new (mark.now ++ decimal number) }
-{
-    let mut digits = Buffer::new();
-    sink.put(mark.as_bytes());
-    sink.put(digits.format(number).as_bytes());
-}
 
 /// Puts the event that takes the frame at this place of a wire.
 pub fn put_take<W: Write>(sink: &mut Sink<'_, W>, from: u8, to: u8, place: usize)

@@ -11,12 +11,12 @@ ghost use Rattle.reg_schedules.specs.Schedules.{event_text};
 ghost use Rattle.reg_moments.specs.Traces.{answers_lines, body_text, cast_text, copy_lines, delivers_line, delivers_lines, drops_lines, holds_line, value_behind, frame_text, moment_lines, puts_line, stamp_text, taken_lines, takes_lines, trace_text};
 
 use crate::moments::{Moment, Sent};
-use crate::schedule_text::{put_event, put_number, put_take};
+use crate::schedule_text::{put_event, put_take};
 use crate::waits::Wait;
 use reg_base::{Answer, Names, Op, Stamp};
 use reg_frames::{Body, Frame};
 use reg_process::{Delivered, Reply};
-use reg_text::{Sink, Unwritten, name_at, put_op};
+use reg_text::{Sink, Unwritten, name_at, put_number, put_op};
 use reg_world::Event;
 use std::alloc::Allocator;
 use std::io::Write;

@@ -27,11 +27,12 @@ use Rattle.reg_world.proofs.one_order.NodeLaws.{inv_of}
 use Rattle.reg_world.proofs.one_memory.Refusals.{refused_by_fault}
 use Rattle.reg_players.specs.Plays.{Playing, cursor_at}
 use Rattle.reg_players.specs.Fair.{takes_of, most_for_call}
-use Rattle.reg_players.specs.FairParts.{expected_after, counted_after, takes_for_all, left_on, left_in, total, InStep, IsFair, IsBehind, Leaves}
+use Rattle.reg_players.specs.FairParts.{expected_after, counted_after, takes_for_all, left_on, left_in, InStep, IsFair, IsBehind, Leaves}
 use Rattle.reg_players.proofs.InOrder.{takes_more, ticks_same, taken_here, taken_other, range_more}
 use Rattle.reg_players.proofs.Wires.{Takes, moves_on, all_behind, first_left}
 use Rattle.reg_players.proofs.Moving.{none_got, one_got, called_moves, taken_moves}
-use Rattle.reg_players.proofs.Sums.{total_same, total_none}
+use Rattle.reg_base.specs.Sums.{total}
+use Rattle.reg_base.proofs.Totals.{total_same, total_zero}
 use Rattle.reg_players.proofs.Load.{calls_in, left_after, for_none, for_one, called_left, taken_left, calls_of_call, calls_of_take, more_calls}
 use Rattle.reg_world.proofs.run.Along.{one_more}
 
@@ -233,7 +234,7 @@ begins_fair start shape s new none = subst (λ (m : Made). IsFair start (record 
     nothing_left = total_same shape.processes (λ a. total shape.processes (left_on shape.processes (run_in start (new_world shape)).nodes (cursor_at s) a)) (λ _. 0) (λ a _.
         total_same shape.processes (left_on shape.processes (run_in start (new_world shape)).nodes (cursor_at s) a) (λ _. 0) (λ b _.
         cond_both (a == b) 0 (takes_for_all shape.processes (drop (cursor_at s a b) [])) (λ z. z ≡ 0) (λ _. refl) (λ _. ap (λ k. takes_for_all shape.processes (drop k [])) (none a b)))
-        ∙ total_none shape.processes) ∙ total_none shape.processes
+        ∙ total_zero shape.processes) ∙ total_zero shape.processes
 
 pub none_behind : (n m a b : ℕ) → let z : ℕ = 0 in slice_index_or (slice_index_or (replicate n (replicate m z)) a []) b z ≡ z
 none_behind zero m a b = refl

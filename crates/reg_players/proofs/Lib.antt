@@ -8,7 +8,6 @@ pub mod Keeping
 pub mod Placing
 pub mod Wires
 pub mod Moving
-pub mod Sums
 pub mod Load
 pub mod Fairness
 pub mod Rounding

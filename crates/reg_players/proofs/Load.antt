@@ -22,8 +22,9 @@ use Rattle.reg_world.proofs.one_order.Acts.{put_cases}
 use Rattle.reg_world.proofs.one_order.Worlds.{Inv}
 use Rattle.reg_players.specs.Plays.{call_at, calls_of, script_of, FollowsScript}
 use Rattle.reg_players.specs.Fair.{most_for_call, most_fair_events}
-use Rattle.reg_players.specs.FairParts.{takes_for, takes_for_all, left_on, left_in, total, InStep}
-use Rattle.reg_players.proofs.Sums.{total_same, total_both, total_least, total_one, total_none, total_at, total_others, total_along}
+use Rattle.reg_players.specs.FairParts.{takes_for, takes_for_all, left_on, left_in, InStep}
+use Rattle.reg_base.specs.Sums.{total}
+use Rattle.reg_base.proofs.Totals.{total_same, total_both, total_least, total_one, total_zero, total_at, total_others, total_along}
 use Rattle.reg_players.proofs.Wires.{Takes}
 use Rattle.reg_players.proofs.Moving.{data_is, one_got}
 
@@ -113,7 +114,7 @@ for_frame n f = let a = sum_by-cons (takes_for n) f [] in let z : takes_for_all 
 
 -- none at all, and one frame of one process
 pub for_none : (n p : ℕ) → for_all n p (λ _. []) ≡ 0
-for_none n p = total_same n (for_others n p (λ _. [])) (λ _. 0) (λ q _. cond_both (p == q) 0 0 (λ z. z ≡ 0) (λ _. refl) (λ _. refl)) ∙ total_none n
+for_none n p = total_same n (for_others n p (λ _. [])) (λ _. 0) (λ q _. cond_both (p == q) 0 0 (λ z. z ≡ 0) (λ _. refl) (λ _. refl)) ∙ total_zero n
 
 pub for_one : (n p a : ℕ) (f : Frame) → a < n → a ≢ p → for_all n p (one_got a f) ≡ takes_for n f
 for_one n p a f la ne =

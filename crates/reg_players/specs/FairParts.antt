@@ -10,6 +10,7 @@ use Rattle.reg_world.specs.Nodes.{Nodes}
 use Rattle.reg_world.specs.NodeParts.{NothingPending}
 use Rattle.std.specs.List.{range_with_len, sum_by}
 use Rattle.reg_base.specs.declared.limits.TheConstants.{MOST_EVENTS}
+use Rattle.reg_base.specs.Sums.{total}
 use Rattle.reg_world.specs.Worlds.{run_in}
 use Rattle.reg_players.specs.Plays.{Playing, cursor_at, calls_of}
 use Rattle.reg_players.specs.PlayParts.{IsReadyToCall, GoesOn}
@@ -48,10 +49,6 @@ takes_for_all n frames = sum_by (takes_for n) frames
 -- the same of the frames of a wire that are not behind, where there is such a wire
 abbrev pub left_on : ℕ → Nodes → (ℕ → ℕ → ℕ) → ℕ → ℕ → ℕ
 left_on n w behind a b = cond (a == b) 0 (takes_for_all n (drop (behind a b) ((w a).wire b)))
-
--- the sum of the values at the numbers below n
-abbrev pub total : ℕ → (ℕ → ℕ) → ℕ
-total n value = sum_by value (range_with_len 0 n)
 
 -- the same of all wires
 abbrev pub left_in : ℕ → Nodes → (ℕ → ℕ → ℕ) → ℕ

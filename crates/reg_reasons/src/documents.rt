@@ -1,8 +1,6 @@
 //! Why a text is no workload.
 use crate::lines_at::{kept_at, line_at, line_of_place};
-use crate::saying::{
-    put_misfit, put_name, put_number, put_place, put_wanted_number, put_wanted_words,
-};
+use crate::saying::{put_misfit, put_name, put_place, put_wanted_number, put_wanted_words};
 use crate::scanning::{Scan, is_register, token_of};
 use crate::schedule_lines::scan_op;
 use crate::toml_places::{Item, item_place, key_place};
@@ -10,8 +8,7 @@ use crate::wanting::{Misfit, Range};
 use reg_base::limits::{
     LAST_SEED, MOST_EVENTS, MOST_ODDS, MOST_OPERATIONS, MOST_PROCESSES, MOST_REGISTERS,
 };
-use reg_messages::put_numbered;
-use reg_text::Sink;
+use reg_text::{Sink, put_number};
 use reg_workloads::{Key, WorkloadFault};
 use std::alloc::{AllocError, Allocator, Global};
 use std::io::Write;
@@ -155,7 +152,7 @@ fn put_odd_item<W: Write>(sink: &mut Sink<'_, W>, values: &[Value]) -> bool {
     let mut place = 0u64;
     for value in values {
         if !value.is_str() {
-            put_numbered(sink, ": item ", place);
+            put_number(sink, ": item ", place);
             sink.put(b" is of the kind ");
             sink.put(value.type_str().as_bytes());
             return true;
@@ -172,13 +169,13 @@ fn put_odd_script<W: Write>(sink: &mut Sink<'_, W>, values: &[Value]) {
         match value.as_array() {
             Some(items) => {
                 if items.iter().any(|item| !item.is_str()) {
-                    put_numbered(sink, ": of script ", place);
+                    put_number(sink, ": of script ", place);
                     let _ = put_odd_item(sink, items.as_slice());
                     return;
                 }
             }
             None => {
-                put_numbered(sink, ": script ", place);
+                put_number(sink, ": script ", place);
                 sink.put(b" is of the kind ");
                 return sink.put(value.type_str().as_bytes());
             }
@@ -230,8 +227,8 @@ fn explain_names<W: Write>(sink: &mut Sink<'_, W>, text: &[u8], values: &[Value]
 fn explain_registers<W: Write>(sink: &mut Sink<'_, W>, text: &[u8], values: &[Value]) {
     if values.is_empty() || values.len() > MOST_REGISTERS as usize {
         put_key_place(sink, text, b"registers");
-        put_numbered(sink, "a workload has 1 to ", MOST_REGISTERS as u64);
-        put_numbered(sink, " registers, and here are ", values.len() as u64);
+        put_number(sink, "a workload has 1 to ", MOST_REGISTERS as u64);
+        put_number(sink, " registers, and here are ", values.len() as u64);
         sink.put(b"\n");
     } else {
         explain_names(sink, text, values);
@@ -241,11 +238,11 @@ fn explain_registers<W: Write>(sink: &mut Sink<'_, W>, text: &[u8], values: &[Va
 fn explain_scripts<W: Write>(sink: &mut Sink<'_, W>, text: &[u8], values: &[Value]) {
     put_key_place(sink, text, b"scripts");
     if values.is_empty() || values.len() > MOST_PROCESSES as usize {
-        put_numbered(sink, "a workload has 1 to ", MOST_PROCESSES as u64);
-        put_numbered(sink, " scripts, and here are ", values.len() as u64);
+        put_number(sink, "a workload has 1 to ", MOST_PROCESSES as u64);
+        put_number(sink, " scripts, and here are ", values.len() as u64);
         sink.put(b"\n");
     } else {
-        put_numbered(sink, "a script has at most ", MOST_OPERATIONS as u64);
+        put_number(sink, "a script has at most ", MOST_OPERATIONS as u64);
         sink.put(b" operations\n");
     }
 }
@@ -285,11 +282,11 @@ fn explain_number<W: Write>(sink: &mut Sink<'_, W>, text: &[u8], key: Key, numbe
     if number < 0 {
         sink.put(b"-");
     }
-    put_number(sink, number.unsigned_abs());
+    put_number(sink, "", number.unsigned_abs());
     sink.put(b" is out of range: ");
     sink.put(range.what.as_bytes());
-    put_numbered(sink, " from ", range.least);
-    put_numbered(sink, " to ", range.most);
+    put_number(sink, " from ", range.least);
+    put_number(sink, " to ", range.most);
     sink.put(b"\n");
 }
 

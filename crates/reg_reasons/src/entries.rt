@@ -5,8 +5,7 @@ use crate::events::put_id;
 use crate::report_lines::{Part, Walk};
 use crate::scanning::{behind, front_of, spaces_of, token_of};
 use reg_base::OpId;
-use reg_messages::put_numbered;
-use reg_text::{Lines, Sink, numeral_within, skip};
+use reg_text::{Lines, Sink, numeral_within, put_number, skip};
 use std::io::Write;
 
 /// The columns of an entry, and whether it is a call of a write, of another operation, or an answer.
@@ -96,8 +95,8 @@ fn stands_before(text: &[u8], number: u64, process: u8) -> Before {
 }
 
 fn put_last<W: Write>(sink: &mut Sink<'_, W>, entry: Columns, last: Columns) {
-    put_numbered(sink, "event ", entry.at);
-    put_numbered(sink, " doesn't come behind event ", last.at);
+    put_number(sink, "event ", entry.at);
+    put_number(sink, " doesn't come behind event ", last.at);
     sink.put(b", of the line before");
 }
 
@@ -112,7 +111,7 @@ fn put_call<W: Write>(sink: &mut Sink<'_, W>, entry: Columns, before: Before) {
         Some(own) => {
             if let Tail::Call { .. } = own.tail {
                 put_id(sink, own.id);
-                put_numbered(sink, ", called at event ", own.at);
+                put_number(sink, ", called at event ", own.at);
                 sink.put(b", is not answered yet");
             } else {
                 put_next(sink, entry, (own.id.number as u64).saturating_add(1));
@@ -123,12 +122,12 @@ fn put_call<W: Write>(sink: &mut Sink<'_, W>, entry: Columns, before: Before) {
 }
 
 fn put_next<W: Write>(sink: &mut Sink<'_, W>, entry: Columns, number: u64) {
-    put_numbered(
+    put_number(
         sink,
         "the next operation of process ",
         entry.id.process as u64,
     );
-    put_numbered(sink, " is #", number);
+    put_number(sink, " is #", number);
 }
 
 /// Puts why an answer may not come here.
@@ -136,12 +135,12 @@ fn put_answer<W: Write>(sink: &mut Sink<'_, W>, entry: Columns, before: Before, 
     let own = before.own.filter(|c| c.tail != Tail::Answer { is_done: true }
         && c.tail != Tail::Answer { is_done: false });
     let Some(own) = own else {
-        put_numbered(sink, "process ", entry.id.process as u64);
+        put_number(sink, "process ", entry.id.process as u64);
         sink.put(b" runs no operation");
         return;
     };
     if own.id != entry.id {
-        put_numbered(sink, "process ", entry.id.process as u64);
+        put_number(sink, "process ", entry.id.process as u64);
         sink.put(b" runs ");
         return put_id(sink, own.id);
     }
@@ -163,8 +162,8 @@ pub fn explain_entry<W: Write>(sink: &mut Sink<'_, W>, text: &[u8], number: u64,
     };
     let before = stands_before(text, number, entry.id.process);
     if entry.id.process as u64 >= before.processes {
-        put_numbered(sink, "there is no process ", entry.id.process as u64);
-        put_numbered(
+        put_number(sink, "there is no process ", entry.id.process as u64);
+        put_number(
             sink,
             ": the report has processes 0 to ",
             before.processes.saturating_sub(1),

@@ -5,10 +5,9 @@ use crate::scanning::{behind, token_of};
 use reg_base::OpId;
 use reg_base::limits::{MOST_EVENTS, MOST_OPERATIONS};
 use reg_front::{Front, FrontEnd, Linear, LocalRead, LocalWrite};
-use reg_messages::put_numbered;
 use reg_reports::Entry;
 use reg_schedules::{Schedule, parse_schedule};
-use reg_text::Sink;
+use reg_text::{Sink, put_number};
 use reg_world::{Event, PackedWires, World, WorldFault};
 use std::alloc::{AllocError, Allocator};
 use std::io::Write;
@@ -18,8 +17,8 @@ const HEAD_LINES: usize = 3;
 
 /// Puts an operation as reports name it.
 pub fn put_id<W: Write>(sink: &mut Sink<'_, W>, id: OpId) {
-    put_numbered(sink, "p", id.process as u64);
-    put_numbered(sink, " #", id.number as u64);
+    put_number(sink, "p", id.process as u64);
+    put_number(sink, " #", id.number as u64);
 }
 
 /// Where the word of this place, from 0, begins on a line with one space between each two.
@@ -64,11 +63,11 @@ fn running(entries: &[Entry], process: u8) -> Option<(OpId, u32)> {
 }
 
 fn put_processes<W: Write>(sink: &mut Sink<'_, W>, number: u8, processes: u32) {
-    put_numbered(sink, "there is no process ", number as u64);
+    put_number(sink, "there is no process ", number as u64);
     if processes == 1 {
         sink.put(b": the process is 0\n");
     } else {
-        put_numbered(
+        put_number(
             sink,
             ": the processes are 0 to ",
             (processes as u64).saturating_sub(1),
@@ -79,15 +78,15 @@ fn put_processes<W: Write>(sink: &mut Sink<'_, W>, number: u8, processes: u32) {
 
 /// Puts how many frames a wire has.
 fn put_frames<W: Write>(sink: &mut Sink<'_, W>, from: u8, to: u8, count: usize) {
-    put_numbered(sink, "the wire from ", from as u64);
-    put_numbered(sink, " to ", to as u64);
+    put_number(sink, "the wire from ", from as u64);
+    put_number(sink, " to ", to as u64);
     match count {
         0 => sink.put(b" has no frame yet"),
         1 => sink.put(b" has 1 frame, 0"),
         2 => sink.put(b" has 2 frames, 0 and 1"),
         _ => {
-            put_numbered(sink, " has ", count as u64);
-            put_numbered(sink, " frames, 0 to ", (count as u64).saturating_sub(1));
+            put_number(sink, " has ", count as u64);
+            put_number(sink, " frames, 0 to ", (count as u64).saturating_sub(1));
         }
     }
     sink.put(b"\n");
@@ -95,10 +94,10 @@ fn put_frames<W: Write>(sink: &mut Sink<'_, W>, from: u8, to: u8, count: usize) 
 
 fn put_running<W: Write>(sink: &mut Sink<'_, W>, entries: &[Entry], process: u8) {
     if let Some((id, at)) = running(entries, process) {
-        put_numbered(sink, "process ", process as u64);
+        put_number(sink, "process ", process as u64);
         sink.put(b" runs ");
         put_id(sink, id);
-        put_numbered(sink, ", called at event ", at as u64);
+        put_number(sink, ", called at event ", at as u64);
         sink.put(b"\n");
     }
 }
@@ -133,11 +132,11 @@ fn put_refusal<F: FrontEnd, A: Allocator + Copy, W: Write>(
             put_running(sink, world.history().entries(), process);
         }
         (_, WorldFault::TooManyOperations) => {
-            put_numbered(sink, "a process calls at most ", MOST_OPERATIONS as u64);
+            put_number(sink, "a process calls at most ", MOST_OPERATIONS as u64);
             sink.put(b" operations\n");
         }
         (_, WorldFault::TooManyEvents) => {
-            put_numbered(sink, "a run has at most ", MOST_EVENTS as u64);
+            put_number(sink, "a run has at most ", MOST_EVENTS as u64);
             sink.put(b" events\n");
         }
         _ => {}

@@ -12,9 +12,9 @@ use crate::schedule_lines::{head_line, scan_line as scan_schedule, schedule_name
 use crate::wanting::Misfit;
 use reg_base::limits::MOST_EVENTS;
 use reg_commands::Command;
-use reg_messages::{Fault, Verdict, Verdicts, put_numbered};
+use reg_messages::{Fault, Verdict, Verdicts};
 use reg_reports::{ReadWhy, Report};
-use reg_text::Sink;
+use reg_text::{Sink, put_number};
 use std::alloc::{AllocError, Allocator, Global};
 use std::io::Write;
 
@@ -33,7 +33,7 @@ fn put_refused<A: Allocator + Copy, W: Write>(
 
 fn put_too_many<W: Write>(sink: &mut Sink<'_, W>, number: u64, line: &[u8]) {
     put_place(sink, number, line, 0);
-    put_numbered(sink, "a schedule has at most ", MOST_EVENTS as u64);
+    put_number(sink, "a schedule has at most ", MOST_EVENTS as u64);
     sink.put(b" events\n");
 }
 

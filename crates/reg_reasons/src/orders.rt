@@ -4,9 +4,9 @@ use crate::facts::{Fact, Facts, Listing};
 use crate::lines_at::line_at;
 use crate::saying::put_place;
 use reg_base::{Answer, OpId, Registers};
-use reg_messages::{Reason, put_numbered};
+use reg_messages::Reason;
 use reg_reports::{Entry, Report};
-use reg_text::{Sink, put_op};
+use reg_text::{Sink, put_number, put_op};
 use std::alloc::{AllocError, Allocator};
 use std::io::Write;
 
@@ -53,7 +53,7 @@ fn put_line<W: Write>(sink: &mut Sink<'_, W>, text: &[u8], number: u64) {
 fn put_answer<W: Write>(sink: &mut Sink<'_, W>, answer: Answer) {
     match answer {
         Answer::Done => sink.put(b"done"),
-        Answer::Value(value) => put_numbered(sink, "value ", value),
+        Answer::Value(value) => put_number(sink, "value ", value),
     }
 }
 
@@ -103,7 +103,7 @@ fn put_twice<A: Allocator + Copy, W: Write>(
             if let Some(line) = facts.at(id).and_then(|f| f.stands) {
                 put_line(sink, text, list.line(place));
                 put_id(sink, id);
-                put_numbered(sink, " stands on line ", line);
+                put_number(sink, " stands on line ", line);
                 sink.put(b" too\n");
                 return;
             }
@@ -195,7 +195,7 @@ fn put_wrong<A: Allocator + Copy, W: Write>(
         put_answer(sink, answer);
         sink.put(b" there, and the report says ");
         put_answer(sink, given.answer);
-        put_numbered(sink, " on line ", given.line);
+        put_number(sink, " on line ", given.line);
     }
     sink.put(b"\n");
     Ok(())
@@ -213,9 +213,9 @@ fn put_outside<A: Allocator + Copy, W: Write>(
     if let Some(id) = list.id(place) {
         if let Some(fact) = facts.at(id) {
             put_id(sink, id);
-            put_numbered(sink, " is called at event ", fact.called as u64);
+            put_number(sink, " is called at event ", fact.called as u64);
             match fact.answered {
-                Some(given) => put_numbered(sink, " and answered at event ", given.at as u64),
+                Some(given) => put_number(sink, " and answered at event ", given.at as u64),
                 None => sink.put(b" and not answered"),
             }
             sink.put(b": its point is not between them\n");
@@ -227,7 +227,7 @@ fn put_outside<A: Allocator + Copy, W: Write>(
 fn put_falling<W: Write>(sink: &mut Sink<'_, W>, text: &[u8], list: Listing<'_>, place: usize) {
     put_line(sink, text, list.line(place));
     if let Some(point) = list.points.get(place.saturating_sub(1)) {
-        put_numbered(sink, "the point before it is at event ", point.at as u64);
+        put_number(sink, "the point before it is at event ", point.at as u64);
         sink.put(b": points never fall\n");
     }
 }

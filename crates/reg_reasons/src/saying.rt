@@ -1,8 +1,7 @@
 //! What doesn't fit, in plain words: the line with its number, a mark below the place, and what was wanted there.
 use crate::scanning::{front_of, spaces_of, token_of};
 use crate::wanting::{Misfit, Range, Wanted};
-use reg_messages::put_numbered;
-use reg_text::{Sink, is_numeral, skip};
+use reg_text::{Sink, is_numeral, put_number, skip};
 use std::alloc::{AllocError, Allocator};
 use std::io::Write;
 use strsim::generic_levenshtein;
@@ -21,11 +20,6 @@ const SHOWN_BEFORE: usize = 60;
 
 /// The most names that are listed.
 const MOST_LISTED: usize = 10;
-
-/// Puts a number.
-pub fn put_number<W: Write>(sink: &mut Sink<'_, W>, number: u64) {
-    put_numbered(sink, "", number);
-}
 
 /// Puts words in marks of quotation.
 pub fn put_quoted<W: Write>(sink: &mut Sink<'_, W>, bytes: &[u8]) {
@@ -76,7 +70,7 @@ pub fn put_place<W: Write>(sink: &mut Sink<'_, W>, number: u64, line: &[u8], at:
     let shown = skip(bare, MARK).unwrap_or(bare);
     let place = at.saturating_sub(bare.len().saturating_sub(shown.len()));
     let (part, from) = shown_part(shown, place);
-    put_number(sink, number);
+    put_number(sink, "", number);
     sink.put(b" | ");
     for byte in part {
         put_sign(sink, *byte);
@@ -146,7 +140,7 @@ fn put_spaces<W: Write>(sink: &mut Sink<'_, W>, count: u64) {
     if count == 1 {
         sink.put(b"a space");
     } else {
-        put_number(sink, count);
+        put_number(sink, "", count);
         sink.put(b" spaces");
     }
 }
@@ -216,8 +210,8 @@ pub fn put_wanted_words<A: Allocator + Copy, W: Write>(
 }
 
 fn put_range<W: Write>(sink: &mut Sink<'_, W>, range: Range) {
-    put_numbered(sink, " from ", range.least);
-    put_numbered(sink, " to ", range.most);
+    put_number(sink, " from ", range.least);
+    put_number(sink, " to ", range.most);
 }
 
 /// Puts why a number doesn't fit.
@@ -256,7 +250,7 @@ fn put_names<W: Write>(sink: &mut Sink<'_, W>, names: &[&[u8]]) {
     }
     let more = names.len().saturating_sub(MOST_LISTED);
     if more > 0 {
-        put_numbered(sink, " and ", more as u64);
+        put_number(sink, " and ", more as u64);
         sink.put(b" more");
     }
 }
@@ -300,7 +294,7 @@ fn put_wanted<A: Allocator + Copy, W: Write>(
             put_quoted(sink, token_of(found));
             sink.put(b" stands before: each register has a name of its own");
         }
-        Wanted::Fewer { most } => put_numbered(sink, "there are no more registers than ", most),
+        Wanted::Fewer { most } => put_number(sink, "there are no more registers than ", most),
         Wanted::End => put_end(sink, found),
     }
     Ok(())

@@ -1,7 +1,9 @@
 //! Why a report is refused.
 ghost use Rattle.std.specs.Prelude.{◌≡◌};
+ghost use Rattle.reg_reports.specs.Whys.{why_text};
 
 use reg_text::{Lines, TextFault, Why};
+use std::fmt;
 use thiserror::Error;
 
 /// Why parts are no report: the first of these that applies.
@@ -22,20 +24,41 @@ pub enum ReportFault {
 #[derive(Clone, Copy, Debug, PartialEq, Eq, Error)]
 pub enum ReadWhy {
     /// The line is spelled otherwise than such lines are.
-    #[error("form")]
     Form,
     /// A number, or how many names there are, is beyond its limit.
-    #[error("range")]
     Range,
     /// A name is misspelt, repeated or not known.
-    #[error("name")]
     Name,
     /// The entry may not come after those before it.
-    #[error("place")]
     Place,
     /// The text ends before this line, or goes on behind its last one.
-    #[error("end")]
     End,
+}
+
+impl ReadWhy {
+    /// The word for it.
+    pub fn word(self) -> &'static str
+        ensures { result.now ≡ why_text self }
+    {
+        match self {
+            ReadWhy::Form => "form",
+            ReadWhy::Range => "range",
+            ReadWhy::Name => "name",
+            ReadWhy::Place => "place",
+            ReadWhy::End => "end",
+        }
+    }
+}
+
+impl fmt::Display for ReadWhy {
+    ghost use Rattle.std.specs.Prelude.{Some};
+    ghost use Rattle.reg_reports.specs.Whys.{why_text};
+
+    ghost output = { λ why. Some (why_text why) };
+
+    fn fmt<W: fmt::Write>(&self, f: &mut fmt::Formatter<W>) -> fmt::Result {
+        f.write_str(self.word())
+    }
 }
 
 /// Why a text is no report.

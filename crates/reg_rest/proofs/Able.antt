@@ -20,9 +20,10 @@ use Rattle.reg_world.proofs.one_order.NodeLaws.{inv_of}
 use Rattle.reg_world.proofs.run.Along.{run_parts}
 use Rattle.reg_world.proofs.run.Begun.{again}
 use Rattle.reg_world.proofs.witness.Promised.{rests}
-use Rattle.reg_rest.specs.Rest.{total, put_for, most_to_rest, AreLater, CanRest}
+use Rattle.reg_base.specs.Sums.{total}
+use Rattle.reg_rest.specs.Rest.{put_for, most_to_rest, AreLater, CanRest}
 use Rattle.reg_rest.specs.RestParts.{nodes_in, link_in, pending_in, distance_in, IsGoingOn, Nears, IsPending, IsAgain, Passing, Passes, Ticked}
-use Rattle.reg_rest.proofs.Totals.{total_none, total_some}
+use Rattle.reg_base.proofs.Totals.{total_none, total_some}
 use Rattle.reg_rest.proofs.Entries.{pending_some}
 use Rattle.reg_rest.proofs.Nearer.{pending_within}
 use Rattle.reg_rest.proofs.Own.{none_own}

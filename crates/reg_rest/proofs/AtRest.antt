@@ -1,5 +1,5 @@
 -- A run is at no distance from rest exactly where nothing is pending.
-use Rattle.std.proofs.Common.{◌≡◌, ℕ, zero, suc, ◌+◌, ◌-◌, ◌*◌, ◌<◌, Bool, true, false, List, length, cond, refl, ap, ◌∙◌, inl, inr, arith, length-drop}
+use Rattle.std.proofs.Common.{◌≡◌, ℕ, ◌+◌, ◌-◌, ◌*◌, ◌<◌, Bool, true, false, List, length, cond, refl, ap, ◌∙◌, inl, inr, arith, length-drop}
 use Rattle.std.specs.Prelude.{◌==◌, ◌↔◌}
 use Rattle.std.specs.List.{count_by}
 use Rattle.std.proofs.lemmas.Bool.{cases_eq, cond-true, eq-eqb}
@@ -14,16 +14,13 @@ use Rattle.reg_world.specs.World.{whole}
 use Rattle.reg_world.proofs.one_order.NodeLaws.{inv_of}
 use Rattle.reg_world.proofs.one_order.Settled.{none_on_link}
 use Rattle.reg_world.proofs.one_order.Worlds.{Inv}
-use Rattle.reg_rest.specs.Rest.{total, is_cast, casts_between, casts_to, left_at, distance}
+use Rattle.reg_base.specs.Sums.{total}
+use Rattle.reg_rest.specs.Rest.{is_cast, casts_between, casts_to, left_at, distance}
 use Rattle.reg_rest.proofs.Nearer.{pending_within}
-use Rattle.reg_rest.proofs.Totals.{total_same}
+use Rattle.reg_base.proofs.Totals.{total_same, total_zero}
 
-none_in : (n : ℕ) → total n (λ _. 0) ≡ 0
-none_in zero = refl
-none_in (suc n) = let a = none_in n in omega (arith, a)
-
-total_zero : (n : ℕ) (f : ℕ → ℕ) → ((p : ℕ) → p < n → f p ≡ 0) → total n f ≡ 0
-total_zero n f h = total_same n f (λ _. 0) h ∙ none_in n
+all_none : (n : ℕ) (f : ℕ → ℕ) → ((p : ℕ) → p < n → f p ≡ 0) → total n f ≡ 0
+all_none n f h = total_same n f (λ _. 0) h ∙ total_zero n
 
 module _ (n registers k : ℕ) (w : Nodes) (I : Inv n registers k w) (none : AllAcknowledged n w) where
   none_between : (q p : ℕ) → q < n → p < n → (q ≡ p → ⊥) → casts_between w q p ≡ 0
@@ -36,7 +33,7 @@ module _ (n registers k : ℕ) (w : Nodes) (I : Inv n registers k w) (none : All
       ap (count_by is_cast) (drop_all (peer_at (w p).state q).expected (w q).queued (omega (arith, empty, same, rest, acked)))
 
   none_to : (p : ℕ) → p < n → casts_to n w p ≡ 0
-  none_to p lp = total_zero n (λ q. cond (q == p) 0 (casts_between w q p)) (λ q lq. elim (cases_eq q p) [
+  none_to p lp = all_none n (λ q. cond (q == p) 0 (casts_between w q p)) (λ q lq. elim (cases_eq q p) [
     | inl e ↦ cond-true (q == p) 0 (casts_between w q p) (eq-eqb q p e)
     | inr ne ↦ ap (cond (q == p) 0) (none_between q p lq lp ne) ∙ both (q == p)
   ])
@@ -46,7 +43,7 @@ module _ (n registers k : ℕ) (w : Nodes) (I : Inv n registers k w) (none : All
       both false = refl
 
   at_rest : distance n w ≡ 0
-  at_rest = total_zero n (left_at n w) (λ p lp. nothing (pending_of (w p).state.peers) (casts_to n w p) (n - 1) (none p lp) (none_to p lp))
+  at_rest = all_none n (left_at n w) (λ p lp. nothing (pending_of (w p).state.peers) (casts_to n w p) (n - 1) (none p lp) (none_to p lp))
     where
       nothing : (a c m : ℕ) → a ≡ 0 → c ≡ 0 → a + c * m ≡ 0
       nothing a c m e f = let g : c * m ≡ 0 * m = ap (λ z. z * m) f in omega (arith, e, g)

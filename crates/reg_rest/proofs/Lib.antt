@@ -1,4 +1,3 @@
-pub mod Totals
 pub mod Entries
 pub mod Casts
 pub mod Nearer

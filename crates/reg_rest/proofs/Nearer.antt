@@ -7,8 +7,9 @@ use Rattle.reg_process.specs.Process.{peer_at, pending_of}
 use Rattle.reg_world.specs.Nodes.{Node, Nodes, put}
 use Rattle.reg_world.proofs.one_order.Acts.{put_cases}
 use Rattle.reg_world.proofs.one_order.NodeEvents.{put_same, put_other}
-use Rattle.reg_rest.specs.Rest.{total, is_cast, casts_between, casts_to, left_at, distance}
-use Rattle.reg_rest.proofs.Totals.{total_same, total_one, total_part}
+use Rattle.reg_base.specs.Sums.{total}
+use Rattle.reg_rest.specs.Rest.{is_cast, casts_between, casts_to, left_at, distance}
+use Rattle.reg_base.proofs.Totals.{total_same, total_one, total_part}
 
 -- the casts that a node of number p has to accept, among these others
 abbrev pub casts_for : ℕ → Nodes → ℕ → Node → ℕ

@@ -1,9 +1,10 @@
 -- How far a run is from rest, and what bringing it there does.
-use Rattle.std.specs.Prelude.{ℕ, zero, suc, ◌≡◌, ◌+◌, ◌-◌, ◌*◌, ◌<◌, ◌≤◌, Bool, true, false, ◌==◌, cond, List, ◌++◌, length, drop, None}
+use Rattle.std.specs.Prelude.{ℕ, ◌≡◌, ◌+◌, ◌-◌, ◌*◌, ◌<◌, ◌≤◌, Bool, true, false, ◌==◌, cond, List, ◌++◌, length, drop, None}
 use Rattle.std.specs.List.{count_by}
 use Rattle.reg_base.specs.declared.limits.TheConstants.{MOST_EVENTS}
 use Rattle.reg_base.specs.declared.memory.Op.{Op}
 use Rattle.reg_base.specs.Order.{In}
+use Rattle.reg_base.specs.Sums.{total}
 use Rattle.reg_frames.specs.declared.bodies.Body.{Body}
 use Rattle.reg_frames.specs.declared.bodies.Body.TheVariants.{Cast, Ack}
 use Rattle.reg_front.specs.declared.starts.Start.{Start}
@@ -16,11 +17,6 @@ use Rattle.reg_world.specs.World.{whole}
 use Rattle.reg_world.specs.Worlds.{Made, run_in, refusal, stopped}
 use Rattle.reg_rest.specs.declared.faults.SettleFault.{SettleFault}
 use Rattle.reg_rest.specs.declared.faults.SettleFault.TheVariants.{Failed, TooManyEvents, OutOfMemory}
-
--- the sum of the values at the numbers below n
-abbrev pub total : ℕ → (ℕ → ℕ) → ℕ
-total zero value = 0
-total (suc n) value = total n value + value n
 
 abbrev pub is_cast : Body → Bool
 is_cast (Cast time op) = true

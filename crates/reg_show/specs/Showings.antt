@@ -7,6 +7,7 @@ use Rattle.reg_show.specs.declared.faults.ShowFault.{ShowFault}
 use Rattle.reg_show.specs.declared.faults.ShowFault.TheVariants.{Command, TooManyToDraw, TooManyToRest}
 use Rattle.reg_show.specs.declared.showing.Showing.{Showing}
 use Rattle.reg_show.specs.declared.showing.Showing.TheVariants.{Schedule, Trace, Draw, Data, Page, Rest}
+use Rattle.reg_data.specs.Json.{one_text}
 use Rattle.reg_page.specs.declared.head.TheConstants.{HEAD}
 use Rattle.reg_page.specs.declared.tail.TheConstants.{TAIL}
 use Rattle.reg_show.specs.Pages.{ShowsData}
@@ -20,7 +21,7 @@ Shows (Schedule fair) Wrote text = WritesSchedule fair Wrote text
 Shows Trace Wrote text = TellsRun Wrote text
 Shows Draw Wrote text = DrawsRun text
 Shows Data Wrote text = ShowsData [] (10 ∷ []) Wrote text
-Shows Page Wrote text = ShowsData HEAD.now TAIL.now Wrote text
+Shows Page Wrote text = ShowsData (one_text HEAD) (one_text TAIL) Wrote text
 Shows Rest Wrote text = RestsRun Wrote text
 
 -- what a fault says of the input: what the command that reads the same says by it

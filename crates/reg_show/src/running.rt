@@ -35,8 +35,8 @@ fn show<A: Allocator + Copy, W: Write>(
         Showing::Schedule { fair } => schedule(alloc, global, text, fair, writer),
         Showing::Trace => trace(alloc, text, writer),
         Showing::Draw => return draw(alloc, text, writer),
-        Showing::Data => return write_run(alloc, text, "", "\n", writer),
-        Showing::Page => return write_run(alloc, text, HEAD, TAIL, writer),
+        Showing::Data => return write_run(alloc, text, &[], &["\n"], writer),
+        Showing::Page => return write_run(alloc, text, &HEAD, &TAIL, writer),
         Showing::Rest => return rest(alloc, text, writer),
     };
     match shown {

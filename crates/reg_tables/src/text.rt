@@ -12,21 +12,12 @@ use crate::outcomes::ToldValue;
 use crate::rows::Row;
 use crate::tallies::Tally;
 use itoa::Buffer;
-use reg_text::{Sink, Unwritten};
+use reg_text::{Sink, Unwritten, put_number};
 use std::alloc::Allocator;
 use std::io::Write;
 
-/// Puts a mark, and then a number.
-fn put_number<W: Write>(sink: &mut Sink<'_, W>, mark: &[u8], number: u64)
-    ensures { Puts W.contents sink.old sink.new (mark.now ++ decimal number) }
-{
-    let mut digits = Buffer::new();
-    sink.put(mark);
-    sink.put(digits.format(number).as_bytes());
-}
-
 /// Puts a mark, and then a number, and ends the line.
-fn put_count<W: Write>(sink: &mut Sink<'_, W>, mark: &[u8], number: u64)
+fn put_count<W: Write>(sink: &mut Sink<'_, W>, mark: &str, number: u64)
     ensures { Puts W.contents sink.old sink.new ((mark.now ++ decimal number) ++ 10 ∷ []) }
 {
     put_number(sink, mark, number);
@@ -56,9 +47,9 @@ fn put_right<W: Write>(sink: &mut Sink<'_, W>, number: u64, places: usize)
 fn put_told<W: Write>(sink: &mut Sink<'_, W>, told: ToldValue)
     ensures { Puts W.contents sink.old sink.new (told_text told) }
 {
-    put_number(sink, b"p", told.process as u64);
-    put_number(sink, b" #", told.number as u64);
-    put_number(sink, b" value ", told.value);
+    put_number(sink, "p", told.process as u64);
+    put_number(sink, " #", told.number as u64);
+    put_number(sink, " value ", told.value);
     sink.put(b"  ");
 }
 
@@ -89,7 +80,7 @@ fn put_play<W: Write>(sink: &mut Sink<'_, W>, tally: Tally)
     put_time(sink, tally.in_time);
     sink.put(b"  ");
     put_right(sink, tally.events as u64, 5);
-    put_number(sink, b" events  seed ", tally.seed);
+    put_number(sink, " events  seed ", tally.seed);
 }
 
 /// Puts the line of an outcome.
@@ -121,10 +112,10 @@ fn put_table<A: Allocator + Copy, W: Write>(
 )
     ensures { Puts W.contents sink.old sink.new (table_text plays rows.now unfinished) }
 {
-    put_count(sink, b"plays ", plays as u64);
-    put_count(sink, b"outcomes ", rows.len() as u64);
+    put_count(sink, "plays ", plays as u64);
+    put_count(sink, "outcomes ", rows.len() as u64);
     put_rows(sink, rows);
-    put_count(sink, b"unfinished ", unfinished as u64);
+    put_count(sink, "unfinished ", unfinished as u64);
 }
 
 /// Writes the text of a table, all of it or, where the writer fails, a first part.

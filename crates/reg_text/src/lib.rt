@@ -22,4 +22,4 @@ pub use heads::{are_front_letters, expect_line, owned, read_count};
 pub use numbers::{field_within, numeral_within};
 pub use ops::{OpLine, name_at, name_of_op, put_op, read_op};
 pub use words::read_names;
-pub use writing::{Sink, Unwritten, write_bytes};
+pub use writing::{Sink, Unwritten, put_number, write_bytes};

@@ -1,8 +1,10 @@
 //! Writing of which all or a first part went out.
 ghost use Rattle.std.specs.Prelude.{◌≡◌, ◌++◌, false, MatchResult};
+ghost use Rattle.std.specs.Fmt.{decimal};
 ghost use Rattle.std.specs.Io.KnownBytes.{Appends};
 ghost use Rattle.reg_text.specs.Writing.{AppendsPart, Puts};
 
+use itoa::Buffer;
 use std::io::{ErrorKind, Write};
 
 /// The writer failed, and what it was given went out in part.
@@ -60,4 +62,13 @@ impl<'a, W: Write> Sink<'a, W> {
             self.failed = true;
         }
     }
+}
+
+/// Puts words, and a number behind them.
+pub fn put_number<W: Write>(sink: &mut Sink<'_, W>, words: &str, number: u64)
+    ensures { Puts W.contents sink.old sink.new (words.now ++ decimal number) }
+{
+    let mut digits = Buffer::new();
+    sink.put(words.as_bytes());
+    sink.put(digits.format(number).as_bytes());
 }

@@ -5,8 +5,8 @@ ghost use Rattle.reg_messages.specs.FaultLines.{fault_line};
 ghost use Rattle.reg_messages.specs.Verdicts.{verdicts_text};
 ghost use Rattle.reg_why.specs.FirstLines.{counted, subject_text, first_no};
 
-use reg_messages::{Fault, Verdict, Verdicts, put_numbered, write_fault, write_verdicts};
-use reg_text::Sink;
+use reg_messages::{Fault, Verdict, Verdicts, write_fault, write_verdicts};
+use reg_text::{Sink, put_number};
 use std::alloc::{AllocError, Allocator};
 use std::io::Write;
 
@@ -28,7 +28,7 @@ pub struct Subject<'a> {
 fn put_counted<W: Write>(sink: &mut Sink<'_, W>, count: u64, one: &str, many: &str)
     ensures { Puts W.contents sink.old sink.new (counted count one.now many.now) }
 {
-    put_numbered(sink, "", count);
+    put_number(sink, "", count);
     if count == 1 {
         sink.put(one.as_bytes());
     } else {

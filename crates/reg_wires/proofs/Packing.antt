@@ -1,5 +1,5 @@
 -- Frames as words, by what is kept of their process.
-use Rattle.std.proofs.Common.{◌≡◌, ℕ, zero, suc, ◌+◌, ◌<◌, ◌≤◌, List, [], ◌∷◌, ◌++◌, map, length, get_or, set, replicate, Some, None, Result, Ok, Err, refl, sym, ap, ◌∙◌, subst, inl, inr, arith}
+use Rattle.std.proofs.Common.{◌≡◌, ℕ, zero, suc, ◌<◌, List, [], ◌∷◌, ◌++◌, map, length, get_or, set, replicate, Some, None, Result, Ok, Err, refl, sym, ap, ◌∙◌, subst, inl, inr, arith}
 use Rattle.std.specs.Prelude.{slice_get, option_map, OnOk, OnErr}
 use Rattle.std.proofs.lemmas.Bool.{cases_eq}
 use Rattle.std.proofs.lemmas.List.{get_or-take, map-set, map_push, get_or-map, get_or-set_same, get_or-set_other, length-map}
@@ -11,9 +11,9 @@ use Rattle.reg_frames.specs.declared.bodies.Frame.{Frame}
 use Rattle.reg_frames.specs.declared.bodies.Frame.TheVariants.{Numbered, Got}
 use Rattle.reg_wires.specs.declared.words.Slot.{Slot}
 use Rattle.reg_wires.specs.declared.words.Slot.TheVariants.{Data, Count, Other}
-use Rattle.reg_wires.specs.Wires.{IsLonger}
+use Rattle.reg_wires.specs.Sharing.{IsLonger}
 use Rattle.reg_wires.specs.Packed.{Kept, frame_of, IsKept, Says, Grows, frames_on, AreKept}
-use Rattle.reg_wires.proofs.Strands.{longer_length}
+use Rattle.reg_wires.proofs.Sharing.{longer_length}
 
 longer_at : {X : Type 0} (old new : List X) (n : ℕ) (d : X) → IsLonger old new → n < length old → get_or new n d ≡ get_or old n d
 longer_at old new n d longer l = sym (get_or-take (length old) new n d l) ∙ ap (λ z. get_or z n d) longer

@@ -1,5 +1,4 @@
 pub mod Sent
-pub mod Wires
+pub mod Sharing
 pub mod Words
 pub mod Packed
-pub mod Sharing

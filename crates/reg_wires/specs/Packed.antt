@@ -7,7 +7,7 @@ use Rattle.reg_frames.specs.declared.bodies.Frame.{Frame}
 use Rattle.reg_frames.specs.declared.bodies.Frame.TheVariants.{Numbered, Got}
 use Rattle.reg_wires.specs.declared.words.Slot.{Slot}
 use Rattle.reg_wires.specs.declared.words.Slot.TheVariants.{Data, Count, Other}
-use Rattle.reg_wires.specs.Wires.{IsLonger}
+use Rattle.reg_wires.specs.Sharing.{IsLonger}
 
 -- the bodies of a process by number, and the frames that no number and no count tells
 pub record Kept : Type 0 where

@@ -6,7 +6,7 @@ ghost use Rattle.reg_wires.specs.Packed.{frame_of, IsKept, Says, Grows};
 
 use crate::stores::WireStore;
 use crate::strips::Strips;
-use crate::words::{FIRST_COUNT, MOST_SLOTS, Slot};
+use crate::words::{FIRST_COUNT, MOST_SLOTS, Slot, Word};
 use reg_frames::{Body, Frame};
 use reg_process::Put;
 use std::alloc::{AllocError, Allocator, Global};
@@ -130,7 +130,7 @@ impl<A: Allocator + Copy> Tables<A> {
 #[derive(Drop)]
 pub struct PackedWires<A: Allocator + Copy = Global> {
     tables: Tables<A>,
-    strips: Strips<A>,
+    strips: Strips<Word, A>,
 }
 
 impl<A: Allocator + Copy> Model for PackedWires<A> {
@@ -154,7 +154,7 @@ impl<A: Allocator + Copy> PackedWires<A> {
         ensures { OnOk result (self.new ≡ slice_set self.old put.now.to (slice_index_or self.old put.now.to [] ++ put.now.frame ∷ [])) }
     {
         let slot = self.tables.slot(&put.frame)?;
-        self.strips.push(usize::from(put.to), slot)
+        self.strips.push(usize::from(put.to), Word::pack(slot))
     }
 }
 
@@ -175,7 +175,7 @@ impl<A: Allocator + Copy> WireStore<A> for PackedWires<A> {
     #[inline(always)]
     fn frame_at(&self, to: u8, number: u32) -> Option<Frame> {
         match self.strips.at(usize::from(to), number) {
-            Some(slot) => Some(self.tables.frame(slot)),
+            Some(word) => Some(self.tables.frame(word.unpack())),
             None => None,
         }
     }

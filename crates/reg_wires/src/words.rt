@@ -2,10 +2,11 @@
 ghost use Rattle.std.specs.Prelude.{◌≡◌};
 ghost use Rattle.reg_wires.specs.Words.{HasRoom};
 
+use crate::strips::Item;
 use std::marker::Model;
 
 /// What is kept of a frame that a process put.
-#[derive(Clone, Copy, Debug, PartialEq, Eq)]
+#[derive(Clone, Copy, Debug)]
 pub(crate) enum Slot {
     /// The data frame of this number, with the body that the process keeps under it.
     Data { number: u32 },
@@ -42,6 +43,14 @@ impl Model for Word {
     ghost inverse = { λ slot. record { bits = bits_of slot } };
 
     ghost inverse_ok = { λ w h. ap (λ b. record { bits = b }) (bits_again w.bits) };
+}
+
+impl Item for Word {
+    // (in line: it is a test, and runs for each frame put)
+    #[inline(always)]
+    fn is(&self, other: &Word) -> bool {
+        self.bits == other.bits
+    }
 }
 
 impl Word {

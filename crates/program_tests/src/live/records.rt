@@ -5,8 +5,9 @@ use refusing::Refusing;
 use reg_base::{Answer, Op, Shape};
 use reg_frames::Frame;
 use reg_front::Linear;
-use reg_live::{CloseFault, LogEntry, Receipt, verify};
+use reg_live::{CloseFault, LogEntry, Receipt, verify, verify_in};
 use reg_process::{Reply, Step};
+use reg_world::{PackedWires, WireStore, World};
 use std::alloc::{AllocError, Allocator, Global};
 
 /// A write of 5, called at the only process and answered at once.
@@ -99,7 +100,22 @@ fn add_list<T: Copy, A: Allocator + Copy>(
     Ok(())
 }
 
-/// Whether `verify` says of one process what it is to say, in a run of one event where it says no fault.
+/// Whether this is what is to be said of a row: its fault, or with none a world of one event.
+fn is_said<A: Allocator + Copy, W: WireStore<A>>(
+    said: Result<World<Linear, A, W>, CloseFault>,
+    row: &Case,
+) -> Result<bool, AllocError> {
+    let (events, fault) = match said {
+        Ok(world) => (world.events(), None),
+        Err(fault) => (1, Some(fault)),
+    };
+    if fault == Some(CloseFault::OutOfMemory) {
+        return Err(AllocError);
+    }
+    Ok(events == 1 && fault == row.fault)
+}
+
+/// Whether `verify`, and `verify_in` over packed wires, say of one process what they are to say.
 fn judges<A: Allocator + Copy>(
     shape: Shape,
     alloc: A,
@@ -111,14 +127,9 @@ fn judges<A: Allocator + Copy>(
     if logs.len() != count || lists.len() != count {
         return Err(AllocError);
     }
-    let (events, fault) = match verify::<Linear, A>(alloc, shape, row.order, logs, lists) {
-        Ok(world) => (world.events(), None),
-        Err(fault) => (1, Some(fault)),
-    };
-    if fault == Some(CloseFault::OutOfMemory) {
-        return Err(AllocError);
-    }
-    Ok(events == 1 && fault == row.fault)
+    let plain = verify::<Linear, A>(alloc, shape, row.order, logs, lists);
+    let packed = verify_in::<Linear, A, PackedWires<A>>(alloc, shape, row.order, logs, lists);
+    Ok(is_said(plain, row)? && is_said(packed, row)?)
 }
 
 /// The same, with the log and the receipts of the row put into these lists, which are empty.
@@ -136,7 +147,7 @@ fn judges_row<A: Allocator + Copy>(
     judges(shape, alloc, row, logs.as_slice(), lists.as_slice())
 }
 
-/// Whether `verify` says of a row what it is to say.
+/// Whether a row is judged as it is to be.
 fn is_right<A: Allocator + Copy>(shape: Shape, alloc: A, row: &Case) -> Result<bool, AllocError> {
     let mut logs = Vec::new(alloc);
     let mut lists = Vec::new(alloc);

@@ -5,6 +5,7 @@ use crate::values::write;
 use reg_front::{Linear, LocalWrite};
 use reg_live::{NoGate, Parcel, Pass, Posts, Road};
 use reg_running::{Running, start};
+use reg_world::PackedWires;
 use std::alloc::Global;
 use std::process::Abort;
 use std::sync::atomic::{AtomicBool, Ordering};
@@ -27,7 +28,7 @@ impl Road for Losing {
     }
 }
 
-/// The frame of the only operation is lost, so it is answered by a tick, which the pacer alone makes.
+/// The frame of the only operation is lost, so it is answered by a tick, which the pacer alone makes. The run has a world with packed wires.
 #[test]
 fn a_running_cluster_has_a_pacer(rt: HostRuntime) {
     let alloc = rt.alloc();
@@ -39,8 +40,8 @@ fn a_running_cluster_has_a_pacer(rt: HostRuntime) {
         "a cluster",
     );
     let told = pass_of(&rt, &mut passes, 0).perform(&rt, write(0, 1));
-    let closed = running.close(&rt, alloc, passes).is_ok();
-    assert!(rt; told.is_ok() && closed);
+    let closed = running.close_in::<_, PackedWires<Global>>(&rt, alloc, passes);
+    assert!(rt; told.is_ok() && closed.is_ok());
 }
 
 /// Loses all parcels, and holds the courier that brings one from this process until it may go on.

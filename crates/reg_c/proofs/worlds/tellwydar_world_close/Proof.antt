@@ -1,30 +1,28 @@
 -- `tellwydar_world_close` meets its contract: what lies behind the handle is lent for a lifetime of the one call, and comes back.
-use Rattle.std.proofs.Common.{◌≡◌, ℕ, List, [], ◌∷◌, ◌++◌, refl, ap, w8, w32, w64}
+use Rattle.std.proofs.Common.{◌≡◌, [], ◌∷◌, refl, ap}
 use Rattle.std.proofs.raw_atomic.Walks.{proved}
 use base.Fraction.{full_share}
 use base.Logic.{id⊢, sep}
 use base.Fml.{Lft, GName, ftrue, flft, flent}
 use mir.Syntax.{named}
-use mir.Val.{Val, vint, vptr, vunit}
+use mir.Val.{vptr, vunit}
 use prog.Wp.{WpFn}
 use contract.Monad.{fact}
 use contract.Running.{tables}
 use types.Logic.{sem}
 use types.SemTy.{Body}
-use types.Kit.{‵, raw, ◌⊛◌, some, later, prop, ◌$◌, ◌∵◌, !, qed, move, keep, drop, use1, use2, use3, split, join, fsplit, fjoin, feq_i, feq_l, pick, await, regoal, rewrite, suffices, frame, show, group, done}
+use types.Kit.{‵, raw, ◌⊛◌, some, later, prop, ◌$◌, ◌∵◌, !, qed, move, keep, drop, use1, use2, use3, split, join, fsplit, feq_i, feq_l, pick, await, regoal, suffices, frame, show, group, done}
 use types.Run.{enter, addr, stop, of_opd, unit_lit, no_more, and_then, returns}
 use types.ByLocal.{alloc_all, pass_all, free_all, look_at, get, through, sets, lands_as}
 use types.Tokens.{lft_new, lft_end}
-use denote.Builtin.{u8, u32, u64, unit}
+use denote.Builtin.{unit}
 use denote.Exit.{yes}
-use denote.Laws.{Is, shows}
 use denote.Lend.{lends_ref, ref_back}
 use denote.Memory.{mem}
-use denote.Plain.{uint_Lawful, uint_Makes, uint_vals, uint_Tells}
 use denote.RawPtr.{Ptr, RawPtr, block_ptr, lies_at, in_a_block, rawptr_vals, rawptr_Tells}
 use denote.Ref.{MutRef}
 use denote.Signature.{plain}
-use denote.Steps.{nothing, owned, only, peeks, heard}
+use denote.Steps.{nothing, only, heard}
 use denote.Triple.Call.{calls_at}
 use denote.Triple.Clauses.{lasts}
 use denote.Triple.Entry.{on_entry}

@@ -8,5 +8,5 @@ returns g c =
     let held = g.W.Write.contents in
     let process = codes "process " ++ decimal c.args.process in
     let length = decimal c.args.length in
-    puts_as held c.args.sink.now c.put_numbered-2.new.sink (process ++ (codes ": behind " ++ length)) (process ++ codes ": behind " ++ length) (sym (append_assoc process (codes ": behind ") length))
-    (puts_two held c.args.sink.now c.put_numbered.new.sink c.put_numbered-2.new.sink process (codes ": behind " ++ length) c.put_numbered.ensures c.put_numbered-2.ensures)
+    puts_as held c.args.sink.now c.put_number-2.new.sink (process ++ (codes ": behind " ++ length)) (process ++ codes ": behind " ++ length) (sym (append_assoc process (codes ": behind ") length))
+    (puts_two held c.args.sink.now c.put_number.new.sink c.put_number-2.new.sink process (codes ": behind " ++ length) c.put_number.ensures c.put_number-2.ensures)

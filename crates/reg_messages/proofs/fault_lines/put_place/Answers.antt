@@ -9,4 +9,4 @@ returns g c =
     let place = c.args.name.now ++ decimal c.args.number in
     let words = puts_as held c.put.new.self c.put-2.new.self c.as_bytes.result.now c.args.words.now c.as_bytes.ensures.value c.put-2.ensures in
     puts_two held c.args.sink.now c.put.new.self c.put-2.new.self (place ++ codes ": ") c.args.words.now
-    (puts_two held c.args.sink.now c.put_numbered.new.sink c.put.new.self place (codes ": ") c.put_numbered.ensures c.put.ensures) words
+    (puts_two held c.args.sink.now c.put_number.new.sink c.put.new.self place (codes ": ") c.put_number.ensures c.put.ensures) words

@@ -8,5 +8,5 @@ returns g c =
     let held = g.W.Write.contents in
     let process = codes "script " ++ decimal c.args.process in
     let place = decimal c.args.place in
-    puts_as held c.args.sink.now c.put_numbered-2.new.sink (process ++ (codes " " ++ place)) (process ++ codes " " ++ place) (sym (append_assoc process (codes " ") place))
-    (puts_two held c.args.sink.now c.put_numbered.new.sink c.put_numbered-2.new.sink process (codes " " ++ place) c.put_numbered.ensures c.put_numbered-2.ensures)
+    puts_as held c.args.sink.now c.put_number-2.new.sink (process ++ (codes " " ++ place)) (process ++ codes " " ++ place) (sym (append_assoc process (codes " ") place))
+    (puts_two held c.args.sink.now c.put_number.new.sink c.put_number-2.new.sink process (codes " " ++ place) c.put_number.ensures c.put_number-2.ensures)

@@ -12,9 +12,9 @@ returns-then-count-eq1 g c =
     let n = c.args.count in
     let one = c.args.one.now in
     let is : one ≡ (if n == 1 then one else c.args.many.now) = rw c.if-count-eq1.true refl in
-    let words = puts_as held c.put_numbered.new.sink c.put.new.self c.as_bytes.result.now one c.as_bytes.ensures.value c.put.ensures in
+    let words = puts_as held c.put_number.new.sink c.put.new.self c.as_bytes.result.now one c.as_bytes.ensures.value c.put.ensures in
     puts_as held c.args.sink.now c.put.new.self (decimal n ++ one) (counted n one c.args.many.now) (ap (λ t. decimal n ++ t) is)
-    (puts_two held c.args.sink.now c.put_numbered.new.sink c.put.new.self (decimal n) one c.put_numbered.ensures words)
+    (puts_two held c.args.sink.now c.put_number.new.sink c.put.new.self (decimal n) one c.put_number.ensures words)
 
 pub returns-else-count-eq1 : goal.returns-else-count-eq1
 returns-else-count-eq1 g c =
@@ -22,6 +22,6 @@ returns-else-count-eq1 g c =
     let n = c.args.count in
     let many = c.args.many.now in
     let is : many ≡ (if n == 1 then c.args.one.now else many) = more n c.args.one.now many c.if-count-eq1.false in
-    let words = puts_as held c.put_numbered.new.sink c.put-else-count-eq1.new.self c.as_bytes-else-count-eq1.result.now many c.as_bytes-else-count-eq1.ensures.value c.put-else-count-eq1.ensures in
+    let words = puts_as held c.put_number.new.sink c.put-else-count-eq1.new.self c.as_bytes-else-count-eq1.result.now many c.as_bytes-else-count-eq1.ensures.value c.put-else-count-eq1.ensures in
     puts_as held c.args.sink.now c.put-else-count-eq1.new.self (decimal n ++ many) (counted n c.args.one.now many) (ap (λ t. decimal n ++ t) is)
-    (puts_two held c.args.sink.now c.put_numbered.new.sink c.put-else-count-eq1.new.self (decimal n) many c.put_numbered.ensures words)
+    (puts_two held c.args.sink.now c.put_number.new.sink c.put-else-count-eq1.new.self (decimal n) many c.put_number.ensures words)

@@ -1,4 +1,4 @@
-use Rattle.std.proofs.Common.{List, [], replicate, ap, sym, subst, ◌∙◌}
+use Rattle.std.proofs.Common.{List, ap, sym, subst, ◌∙◌}
 use Rattle.reg_wires.specs.declared.words.Slot.{Slot}
 use Rattle.reg_wires.specs.Packed.{AreKept, frames_on}
 use Rattle.reg_wires.proofs.Packing.{no_frames, none_kept}
