@@ -1,5 +1,5 @@
 -- What is shown of a text, and what a fault says of it.
-use Rattle.std.specs.Prelude.{ℕ, List, [], ◌∷◌, ◌++◌, codes}
+use Rattle.std.specs.Prelude.{ℕ, List, [], ◌∷◌, ◌++◌, codes, flat_map}
 use Rattle.reg_commands.specs.declared.command.Command.TheVariants.{Play, Replay}
 use Rattle.reg_commands.specs.Answers.{Blames as BlamesCommand}
 use Rattle.reg_messages.specs.FaultLines.{fault_line}
@@ -7,7 +7,6 @@ use Rattle.reg_show.specs.declared.faults.ShowFault.{ShowFault}
 use Rattle.reg_show.specs.declared.faults.ShowFault.TheVariants.{Command, TooManyToDraw, TooManyToRest}
 use Rattle.reg_show.specs.declared.showing.Showing.{Showing}
 use Rattle.reg_show.specs.declared.showing.Showing.TheVariants.{Schedule, Trace, Draw, Data, Page, Rest}
-use Rattle.reg_data.specs.Json.{one_text}
 use Rattle.reg_page.specs.declared.head.TheConstants.{HEAD}
 use Rattle.reg_page.specs.declared.tail.TheConstants.{TAIL}
 use Rattle.reg_show.specs.Pages.{ShowsData}
@@ -21,7 +20,7 @@ Shows (Schedule fair) Wrote text = WritesSchedule fair Wrote text
 Shows Trace Wrote text = TellsRun Wrote text
 Shows Draw Wrote text = DrawsRun text
 Shows Data Wrote text = ShowsData [] (10 ∷ []) Wrote text
-Shows Page Wrote text = ShowsData (one_text HEAD) (one_text TAIL) Wrote text
+Shows Page Wrote text = ShowsData (flat_map (λ part. part.now) HEAD) (flat_map (λ part. part.now) TAIL) Wrote text
 Shows Rest Wrote text = RestsRun Wrote text
 
 -- what a fault says of the input: what the command that reads the same says by it
