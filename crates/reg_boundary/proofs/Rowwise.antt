@@ -3,8 +3,8 @@ use Rattle.std.proofs.Common.{◌≡◌, ◌<◌, ◌⊎◌, ◌++◌, ◌∷◌
 use Rattle.std.specs.Prelude.{MatchOption}
 use Rattle.std.proofs.lemmas.Option.{slice_get-get_or}
 use Rattle.reg_base.specs.Shape.{Extent}
-use Rattle.reg_histories.specs.declared.entries.Entry.{Entry}
-use Rattle.reg_histories.specs.History.{IsHistory, IsInPlace}
+use Rattle.reg_entries.specs.declared.entries.Entry.{Entry}
+use Rattle.reg_entries.specs.History.{IsHistory, IsInPlace}
 use Rattle.reg_histories.proofs.OwnOrder.{zip_more}
 use Rattle.reg_boundary.specs.declared.reading.Unread.{Unread}
 use Rattle.reg_boundary.specs.declared.reading.Unread.TheVariants.{OutOfPlace, OutOfMemory}

@@ -4,9 +4,9 @@ use Rattle.std.specs.List.{AllZip}
 use Rattle.reg_base.specs.declared.memory.OpId.{OpId}
 use Rattle.reg_base.specs.declared.memory.Op.TheVariants.{Read, Write, Swap}
 use Rattle.reg_base.specs.declared.memory.Answer.TheVariants.{Done, Value}
-use Rattle.reg_histories.specs.declared.entries.Entry.{Entry}
-use Rattle.reg_histories.specs.declared.entries.Entry.TheVariants.{Called, Answered}
-use Rattle.reg_histories.specs.declared.entries.Point.{Point}
+use Rattle.reg_entries.specs.declared.entries.Entry.{Entry}
+use Rattle.reg_entries.specs.declared.entries.Entry.TheVariants.{Called, Answered}
+use Rattle.reg_entries.specs.declared.entries.Point.{Point}
 use Rattle.reg_boundary.specs.declared.rows.EntryRow.{EntryRow}
 use Rattle.reg_boundary.specs.declared.rows.IdRow.{IdRow}
 use Rattle.reg_boundary.specs.declared.rows.PointRow.{PointRow}

@@ -2,11 +2,11 @@
 use Rattle.std.specs.Prelude.{ℕ, ◌≡◌, List, map, take, Err, MatchOption}
 use Rattle.reg_base.specs.Shape.{shape_of}
 use Rattle.reg_base.specs.declared.shapes.ShapeFault.{ShapeFault}
-use Rattle.reg_histories.specs.declared.entries.Entry.{Entry}
+use Rattle.reg_entries.specs.declared.entries.Entry.{Entry}
 use Rattle.reg_histories.specs.declared.faults.CheckFault.{CheckFault}
 use Rattle.reg_histories.specs.declared.faults.CheckFault.TheVariants.{Unknown, Twice, Missing, OwnOrder, Answer, Outside, Falling}
 use Rattle.reg_histories.specs.declared.faults.CheckFault.TheVariants.{OutOfMemory as NoMemory}
-use Rattle.reg_histories.specs.History.{IsAt, IsHistory, IsInPlace}
+use Rattle.reg_entries.specs.History.{IsAt, IsHistory, IsInPlace}
 use Rattle.reg_histories.specs.Orders.{IsSerial, IsPointOrder}
 use Rattle.reg_histories.specs.Checks.{IsSerialFault, IsPointFault}
 use Rattle.reg_boundary.specs.declared.reading.Unread.{Unread}

@@ -1,7 +1,7 @@
 //! Histories that a caller lends as rows.
 ghost use Rattle.std.specs.Prelude.{◌≡◌, ◌⊎◌, ◌++◌, ◌∷◌, [], Some, MatchOption, MatchResult};
-ghost use Rattle.reg_histories.specs.History.{IsHistory, IsInPlace};
-ghost use Rattle.reg_histories.specs.declared.entries.Entry.{Entry};
+ghost use Rattle.reg_entries.specs.History.{IsHistory, IsInPlace};
+ghost use Rattle.reg_entries.specs.declared.entries.Entry.{Entry};
 ghost use Rattle.reg_boundary.specs.Rows.{Say, entry_of};
 ghost use Rattle.reg_boundary.specs.Verdicts.{IsUnread};
 

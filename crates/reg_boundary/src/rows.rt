@@ -1,6 +1,6 @@
 //! Entries, ids and points as C lays them out.
 ghost use Rattle.std.specs.Prelude.{◌≡◌};
-ghost use Rattle.reg_histories.specs.declared.entries.Entry.{Entry};
+ghost use Rattle.reg_entries.specs.declared.entries.Entry.{Entry};
 ghost use Rattle.reg_boundary.specs.Rows.{entry_of, id_of, point_of};
 
 use reg_base::{Answer, Op, OpId};

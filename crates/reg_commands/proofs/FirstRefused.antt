@@ -3,7 +3,7 @@ use Rattle.std.proofs.Common.{◌≡◌, ◌≢◌, ℕ, List, take, Some, refl}
 use Rattle.reg_base.specs.declared.memory.Op.{Op}
 use Rattle.reg_base.specs.Shape.{Extent}
 use Rattle.reg_front.specs.declared.starts.Start.{Start}
-use Rattle.reg_histories.specs.History.{IsAt}
+use Rattle.reg_entries.specs.History.{IsAt}
 use Rattle.reg_world.specs.declared.events.Event.{Event}
 use Rattle.reg_world.specs.declared.faults.WorldFault.{WorldFault}
 use Rattle.reg_world.specs.declared.faults.WorldFault.TheVariants.{Failed, TooManyEvents, NoProcess, Busy, NoRegister, TooManyOperations, NoFrame, OutOfMemory}

@@ -7,7 +7,7 @@ use Rattle.rand_pcg.specs.Pcg.{pcg32, pcg32_of_seed}
 use Rattle.reg_base.specs.declared.memory.Op.{Op}
 use Rattle.reg_front.specs.declared.named.Front.{Front}
 use Rattle.reg_front.specs.declared.starts.Start.{Start}
-use Rattle.reg_histories.specs.declared.entries.Point.{Point}
+use Rattle.reg_entries.specs.declared.entries.Point.{Point}
 use Rattle.reg_reports.specs.Reports.{Contents}
 use Rattle.reg_world.specs.Worlds.{Made}
 use Rattle.reg_workloads.specs.Loads.{Load}

@@ -7,8 +7,8 @@ use Rattle.reg_front.specs.declared.starts.Start.{Start}
 use Rattle.reg_front.specs.declared.named.Front.{Front}
 use Rattle.reg_front.specs.Table.{front_name}
 use Rattle.reg_base.specs.Shape.{Extent}
-use Rattle.reg_histories.specs.declared.entries.Entry.{Entry}
-use Rattle.reg_histories.specs.declared.entries.Point.{Point}
+use Rattle.reg_entries.specs.declared.entries.Entry.{Entry}
+use Rattle.reg_entries.specs.declared.entries.Point.{Point}
 use Rattle.reg_histories.specs.Orders.{IsSerial}
 use Rattle.reg_histories.specs.Log.{Log}
 use Rattle.reg_reports.specs.Reports.{Contents}

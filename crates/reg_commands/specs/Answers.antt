@@ -4,10 +4,10 @@ use Rattle.std.specs.Str.{IsUtf8}
 use Rattle.reg_text.specs.Writing.{AppendsPart}
 use Rattle.reg_text.specs.declared.faults.Why.{Why}
 use Rattle.reg_base.specs.declared.limits.TheConstants.{LONGEST_INPUT}
-use Rattle.reg_reports.specs.ReadFaults.{why_of}
+use Rattle.reg_lines.specs.ReadFaults.{why_of}
 use Rattle.reg_reports.specs.Refusals.{RefusesReportLine}
 use Rattle.reg_reports.specs.Reports.{Contents, IsReport, SpellsReport}
-use Rattle.reg_reports.specs.declared.report_faults.ReadWhy.{ReadWhy}
+use Rattle.reg_lines.specs.declared.report_faults.ReadWhy.{ReadWhy}
 use Rattle.reg_commands.specs.declared.command.Command.{Command}
 use Rattle.reg_commands.specs.declared.command.Command.TheVariants.{Replay, Check, Play}
 use Rattle.reg_messages.specs.declared.faults.Fault.{Fault}

@@ -1,6 +1,6 @@
 -- Plays without points. It carries a proof: no promise speaks of it.
 use Rattle.std.specs.Prelude.{◌≡◌, List, Option, None}
-use Rattle.reg_histories.specs.declared.entries.Point.{Point}
+use Rattle.reg_entries.specs.declared.entries.Point.{Point}
 use Rattle.reg_schedules.specs.Schedules.{Plan}
 
 -- no points

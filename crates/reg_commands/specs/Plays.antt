@@ -6,7 +6,7 @@ use Rattle.rand_core.specs.Pcg32Seed.{pcg32_seed}
 use Rattle.rand_pcg.specs.Pcg.{pcg32, pcg32_of_seed}
 use Rattle.reg_base.specs.declared.memory.Op.{Op}
 use Rattle.reg_front.specs.declared.starts.Start.{Start}
-use Rattle.reg_histories.specs.declared.entries.Point.{Point}
+use Rattle.reg_entries.specs.declared.entries.Point.{Point}
 use Rattle.reg_reports.specs.Reports.{Contents, report_text}
 use Rattle.reg_world.specs.Worlds.{Made}
 use Rattle.reg_workloads.specs.declared.faults.WorkloadFault.{WorkloadFault}

@@ -6,9 +6,9 @@ use Rattle.reg_front.specs.declared.starts.Start.{Start}
 use Rattle.reg_front.specs.declared.named.Front.{Front}
 use Rattle.reg_front.specs.declared.named.Front.TheVariants.{Linear, LocalRead, LocalWrite}
 use Rattle.reg_front.specs.Table.{linear, local_read, local_write, front_name}
-use Rattle.reg_histories.specs.declared.entries.Entry.{Entry}
-use Rattle.reg_histories.specs.declared.entries.Point.{Point}
-use Rattle.reg_histories.specs.History.{IsAt}
+use Rattle.reg_entries.specs.declared.entries.Entry.{Entry}
+use Rattle.reg_entries.specs.declared.entries.Point.{Point}
+use Rattle.reg_entries.specs.History.{IsAt}
 use Rattle.reg_histories.specs.Orders.{IsSerial, IsPointOrder}
 use Rattle.reg_reports.specs.Reports.{Contents, report_text}
 use Rattle.reg_world.specs.RealTime.{KeepsUpdates}

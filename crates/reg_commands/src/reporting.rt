@@ -3,7 +3,7 @@ ghost use Rattle.std.specs.Prelude.{◌≡◌, ◌≤◌, ℕ, Some, None, IfOk,
 ghost use Rattle.std.specs.Io.KnownBytes.{Appends};
 ghost use Rattle.reg_base.specs.declared.limits.TheConstants.{LAST_EVENT, MOST_PROCESSES};
 ghost use Rattle.reg_front.specs.Table.{front_name};
-ghost use Rattle.reg_histories.specs.History.{IsAt};
+ghost use Rattle.reg_entries.specs.History.{IsAt};
 ghost use Rattle.reg_histories.specs.Log.{IsLog};
 ghost use Rattle.reg_histories.specs.Orders.{IsSerial};
 ghost use Rattle.reg_reports.specs.Reports.{Contents, report_text};

@@ -5,7 +5,7 @@ use Rattle.reg_base.specs.declared.memory.OpId.{OpId}
 use Rattle.reg_front.specs.declared.starts.Start.{Start}
 use Rattle.reg_moments.specs.Figures.{arrows_of, bars_of}
 use Rattle.reg_moments.specs.Moments.{moments_of}
-use Rattle.reg_histories.specs.declared.entries.Point.{Point}
+use Rattle.reg_entries.specs.declared.entries.Point.{Point}
 use Rattle.reg_notes.specs.Notes.{Notes}
 use Rattle.reg_schedules.specs.Schedules.{Plan}
 use Rattle.reg_world.specs.World.{World, whole}

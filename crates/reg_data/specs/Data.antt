@@ -10,7 +10,7 @@ use Rattle.reg_moments.specs.declared.figures.Arrow.{Arrow}
 use Rattle.reg_moments.specs.declared.figures.Bar.{Bar}
 use Rattle.reg_moments.specs.Figures.{arrows_of, bars_of}
 use Rattle.reg_moments.specs.Moments.{Fact, moments_of}
-use Rattle.reg_histories.specs.declared.entries.Point.{Point}
+use Rattle.reg_entries.specs.declared.entries.Point.{Point}
 use Rattle.reg_notes.specs.Notes.{Notes}
 use Rattle.reg_schedules.specs.Schedules.{Plan}
 use Rattle.reg_world.specs.declared.order.CopyRead.{CopyRead}

@@ -2,7 +2,7 @@
 ghost use Rattle.std.specs.Prelude.{◌≡◌, Some, option_map};
 ghost use Rattle.reg_text.specs.Writing.{Puts};
 ghost use Rattle.reg_data.specs.Json.{quoted};
-ghost use Rattle.reg_reports.specs.EntryLines.{answer_text};
+ghost use Rattle.reg_lines.specs.EntryLines.{answer_text};
 ghost use Rattle.reg_text.specs.Ops.{op_text};
 ghost use Rattle.reg_schedules.specs.Schedules.{event_text};
 ghost use Rattle.reg_process.specs.Waits.{running_of};

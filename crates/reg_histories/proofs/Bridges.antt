@@ -8,19 +8,20 @@ use Rattle.reg_base.specs.declared.memory.OpId.{OpId}
 use Rattle.reg_base.specs.declared.memory.Op.{Op}
 use Rattle.reg_base.specs.declared.memory.Answer.{Answer}
 use Rattle.reg_base.specs.declared.memory.Answer.TheVariants.{Done, Value}
-use Rattle.reg_histories.specs.declared.entries.Entry.{Entry}
-use Rattle.reg_histories.specs.declared.entries.Entry.TheVariants.{Called}
+use Rattle.reg_entries.specs.declared.entries.Entry.{Entry}
+use Rattle.reg_entries.specs.declared.entries.Entry.TheVariants.{Called}
 use Rattle.reg_base.specs.Memory.{IsUpdate, answer_of, memory, register_of}
-use Rattle.reg_histories.specs.History.{IsAt, IsAnswered, IsFinished, IsHistory}
+use Rattle.reg_entries.specs.History.{IsAt, IsAnswered, IsFinished, IsHistory}
 use Rattle.reg_histories.specs.Orders.{IsSelection, IsDistinct, KeepsOwnOrder, IsLegal}
 use Rattle.reg_histories.specs.Checks.{AreCalled, HasUnknown, HasTwice, HasMissing, BreaksOwnOrder, NoneOfThree, IsWrong, IsFirst}
-use Rattle.reg_histories.proofs.Histories.{answered_was_called, call_is, answer_is}
-use Rattle.reg_histories.proofs.Places.{IsAt-map}
+use Rattle.reg_entries.proofs.Histories.{answered_was_called, call_is, answer_is}
+use Rattle.reg_entries.proofs.Places.{IsAt-map}
 use Rattle.reg_histories.proofs.NoOrder.{same_ops}
-use Rattle.reg_histories.specs.declared.answers.Fact.{Fact}
-use Rattle.reg_histories.specs.declared.answers.Given.{Given}
-use Rattle.reg_histories.specs.Facts.{IsFactOf, AreFacts, IsWrongFact, IsSelected}
-use Rattle.reg_histories.specs.Table.{MayStand, Rows, cell, IsTable, Stands, Marked, AreMarked, AreResolved}
+use Rattle.reg_entries.specs.declared.facts.Fact.{Fact}
+use Rattle.reg_entries.specs.declared.facts.Given.{Given}
+use Rattle.reg_entries.specs.Facts.{IsFactOf, AreFacts, IsWrongFact}
+use Rattle.reg_histories.specs.Selections.{IsSelected}
+use Rattle.reg_entries.specs.Table.{MayStand, Rows, cell, IsTable, Stands, Marked, AreMarked, AreResolved}
 
 some_given : (o : Option Given) → IsSome o → (r : Given) × (o ≡ Some r)
 some_given None h = absurd cc

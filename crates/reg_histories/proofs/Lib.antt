@@ -1,15 +1,6 @@
-pub mod Places
-pub mod Histories
 pub mod RealTime
 pub mod NoOrder
-pub mod Pushing
-pub mod OneMore
-pub mod Placing
-pub mod Adding
-pub mod Keeping
 pub mod Steps
-pub mod Tables
-pub mod Noting
 pub mod Marking
 pub mod OwnOrder
 pub mod Bridges

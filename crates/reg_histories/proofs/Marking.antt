@@ -4,14 +4,14 @@ use Rattle.std.proofs.lemmas.Option.{same_Some, slice_get_within}
 use Rattle.std.proofs.lemmas.Bool.{cases_order}
 use Rattle.reg_base.specs.declared.memory.OpId.{OpId}
 use Rattle.reg_base.specs.declared.memory.Answer.{Answer}
-use Rattle.reg_histories.specs.declared.entries.Entry.{Entry}
-use Rattle.reg_histories.specs.declared.entries.Entry.TheVariants.{Answered}
-use Rattle.reg_histories.specs.History.{IsAt}
+use Rattle.reg_entries.specs.declared.entries.Entry.{Entry}
+use Rattle.reg_entries.specs.declared.entries.Entry.TheVariants.{Answered}
+use Rattle.reg_entries.specs.History.{IsAt}
 use Rattle.reg_histories.specs.Orders.{IsDistinct}
 use Rattle.reg_histories.specs.Checks.{HasTwice}
-use Rattle.reg_histories.proofs.Places.{same_id}
-use Rattle.reg_histories.specs.declared.answers.Fact.{Fact}
-use Rattle.reg_histories.specs.Table.{Rows, cell, IsChangedAt, Marked, AreMarked, IsMarkedToo, IsUnmarked}
+use Rattle.reg_entries.proofs.Places.{same_id}
+use Rattle.reg_entries.specs.declared.facts.Fact.{Fact}
+use Rattle.reg_entries.specs.Table.{Rows, cell, IsChangedAt, Marked, AreMarked, IsMarkedToo, IsUnmarked}
 
 pub mark_step : {A : Type 0} (rows rows' : Rows A) (id : OpId) (f : Fact) → cell rows id ≡ Some f → f.stands ≡ false
     → IsChangedAt rows rows' id (record { op = f.op; called = f.called; answered = f.answered; stands = true }) → IsMarkedToo rows rows' id
@@ -106,17 +106,6 @@ distinct_all ids n le upto i j x at1 at2 =
 
 pub twice_here : {A : Type 0} (rows : Rows A) (ids : List OpId) (k : ℕ) (id : OpId) → IsAt ids k id → MarkedUpTo rows ids k → Marked rows id → HasTwice ids
 twice_here rows ids k id here upto marked = let r = (upto id).0 marked in (r.0, k, id, r.2, here, r.1)
-
--- a change to an unmarked fact marks nothing
-pub unmarked_kept : {A : Type 0} (rows rows' : Rows A) (id : OpId) (f : Fact) → IsUnmarked rows → f.stands ≡ false → IsChangedAt rows rows' id f → IsUnmarked rows'
-unmarked_kept rows rows' id f none off changed x (g, e, on) = go (same_id x id)
-  where
-    clash : {b : Bool} → b ≡ false → b ≡ true → ⊥
-    clash p q = cc
-
-    go : (x ≡ id) ⊎ (x ≢ id) → ⊥
-    go (inl same) = clash off (ap (λ (y : Fact). y.stands) (same_Some f g (sym changed.here ∙ (ap (λ (y : OpId). cell rows' y) (sym same) ∙ e))) ∙ on)
-    go (inr other) = none x (g, sym (changed.others x other) ∙ e, on)
 
 pub unmarked_are : {A : Type 0} (rows : Rows A) → IsUnmarked rows → AreMarked rows []
 unmarked_are rows none id = (λ h. absurd (none id h), λ r. absurd (empty r.0 r.1))

@@ -2,15 +2,15 @@
 use Rattle.std.proofs.Common.{◌≡◌, ◌≢◌, ℕ, ◌<◌, ◌≤◌, inl, inr, List, [], ◌∷◌, take, refl, ap₂, sym, subst, arith}
 use Rattle.reg_base.specs.declared.memory.OpId.{OpId}
 use Rattle.reg_base.specs.declared.memory.Op.{Op}
-use Rattle.reg_histories.specs.declared.entries.Entry.{Entry}
-use Rattle.reg_histories.specs.declared.entries.Point.{Point}
+use Rattle.reg_entries.specs.declared.entries.Entry.{Entry}
+use Rattle.reg_entries.specs.declared.entries.Point.{Point}
 use Rattle.reg_histories.specs.declared.faults.CheckFault.{CheckFault}
 use Rattle.reg_histories.specs.declared.faults.CheckFault.TheVariants.{Unknown, Twice, Missing, OwnOrder, Answer, Outside, Falling, OutOfMemory}
 use Rattle.reg_base.specs.Memory.{answer_of, memory}
-use Rattle.reg_histories.specs.History.{IsAt, IsHistory}
+use Rattle.reg_entries.specs.History.{IsAt, IsHistory}
 use Rattle.reg_histories.specs.Orders.{IsSelection, IsLegal, KeepsOwnOrder, IsSerial, IsPointOrder}
 use Rattle.reg_histories.specs.Checks.{AreCalled, HasUnknown, HasTwice, HasMissing, BreaksOwnOrder, IsWrong, IsOutside, IsFalling, IsSerialFault, IsPointFault, ids_of}
-use Rattle.reg_histories.proofs.Histories.{call_is}
+use Rattle.reg_entries.proofs.Histories.{call_is}
 
 -- the operations under a list of ids are determined
 pub same_ops : (n registers : ℕ) (h : List Entry) → IsHistory n registers h → (ids : List OpId) (xs ys : List Op) → AreCalled h ids xs → AreCalled h ids ys → xs ≡ ys

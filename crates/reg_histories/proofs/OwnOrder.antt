@@ -5,10 +5,10 @@ use Rattle.std.proofs.lemmas.Option.{same_Some, slice_get_within}
 use Rattle.std.proofs.lemmas.Bool.{cases_order, cases_eq}
 use Rattle.std.proofs.lemmas.List.{get_or-set_same, get_or-set_other, take_more, take_all}
 use Rattle.reg_base.specs.declared.memory.OpId.{OpId}
-use Rattle.reg_histories.specs.History.{IsAt}
+use Rattle.reg_entries.specs.History.{IsAt}
 use Rattle.reg_histories.specs.Orders.{IsDistinct, KeepsOwnOrder}
 use Rattle.reg_histories.specs.Checks.{BreaksOwnOrder}
-use Rattle.reg_histories.specs.Table.{Rows, Stands}
+use Rattle.reg_entries.specs.Table.{Rows, Stands}
 
 -- one more than the highest number of each process among the first k ids
 pub record IsHigh (ids : List OpId) (k : ℕ) (next : List ℕ) : Type 0 where

@@ -7,17 +7,18 @@ use Rattle.std.proofs.lemmas.List.{length-map}
 use Rattle.reg_base.specs.declared.memory.OpId.{OpId}
 use Rattle.reg_base.specs.declared.memory.Op.{Op}
 use Rattle.reg_base.specs.declared.memory.Answer.{Answer}
-use Rattle.reg_histories.specs.declared.entries.Entry.{Entry}
-use Rattle.reg_histories.specs.declared.entries.Point.{Point}
-use Rattle.reg_histories.specs.History.{IsAt, IsCalled, IsAnswered, IsFinished, IsHistory}
+use Rattle.reg_entries.specs.declared.entries.Entry.{Entry}
+use Rattle.reg_entries.specs.declared.entries.Point.{Point}
+use Rattle.reg_entries.specs.History.{IsAt, IsCalled, IsAnswered, IsFinished, IsHistory}
 use Rattle.reg_histories.specs.Checks.{IsOutside, IsFalling, IsFirst, IsPointFault, ids_of}
-use Rattle.reg_histories.specs.Facts.{IsSelectionFault, IsFactOf, AreFacts, IsBeside, IsOutsideFact}
+use Rattle.reg_entries.specs.Facts.{IsFactOf, AreFacts, IsBeside, IsOutsideFact}
+use Rattle.reg_histories.specs.Selections.{IsSelectionFault}
 use Rattle.reg_histories.specs.declared.faults.CheckFault.{CheckFault}
 use Rattle.reg_histories.specs.declared.faults.CheckFault.TheVariants.{Unknown, Twice, Missing, OwnOrder, Outside, Falling, OutOfMemory}
-use Rattle.reg_histories.proofs.Histories.{call_is, answer_is}
-use Rattle.reg_histories.proofs.Places.{IsAt-map, same_at, element_at}
-use Rattle.reg_histories.specs.declared.answers.Fact.{Fact}
-use Rattle.reg_histories.specs.declared.answers.Given.{Given}
+use Rattle.reg_entries.proofs.Histories.{call_is, answer_is}
+use Rattle.reg_entries.proofs.Places.{IsAt-map, same_at, element_at}
+use Rattle.reg_entries.specs.declared.facts.Fact.{Fact}
+use Rattle.reg_entries.specs.declared.facts.Given.{Given}
 use Rattle.reg_histories.proofs.Bridges.{zip_right, has_given}
 
 -- one more place of which it does not hold

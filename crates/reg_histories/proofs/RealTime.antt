@@ -4,13 +4,13 @@ use Rattle.std.proofs.lemmas.Bool.{cases_order}
 use Rattle.reg_base.specs.declared.memory.OpId.{OpId}
 use Rattle.reg_base.specs.declared.memory.Op.{Op}
 use Rattle.reg_base.specs.declared.memory.Answer.{Answer}
-use Rattle.reg_histories.specs.declared.entries.Entry.{Entry}
-use Rattle.reg_histories.specs.declared.entries.Point.{Point}
-use Rattle.reg_histories.specs.History.{IsAt, IsCalled, IsAnswered, WasCalled, IsHistory}
+use Rattle.reg_entries.specs.declared.entries.Entry.{Entry}
+use Rattle.reg_entries.specs.declared.entries.Point.{Point}
+use Rattle.reg_entries.specs.History.{IsAt, IsCalled, IsAnswered, WasCalled, IsHistory}
 use Rattle.reg_histories.specs.Orders.{KeepsOwnOrder, IsSerial, IsPointOrder}
-use Rattle.reg_histories.specs.Table.{MayStand}
-use Rattle.reg_histories.proofs.Places.{same_at, at_map}
-use Rattle.reg_histories.proofs.Histories.{answered_was_called, answered_before_next}
+use Rattle.reg_entries.specs.Table.{MayStand}
+use Rattle.reg_entries.proofs.Places.{same_at, at_map}
+use Rattle.reg_entries.proofs.Histories.{answered_was_called, answered_before_next}
 
 -- an operation answered before another's call stands before it
 pub stands_before : (registers : ℕ) (h : List Entry) (ps : List Point) → IsPointOrder registers h ps → (i j : ℕ) (p q : Point) → IsAt ps i p → IsAt ps j q

@@ -3,9 +3,9 @@ use Rattle.std.proofs.Common.{◌≡◌, ℕ, zero, suc, ◌+◌, ◌<◌, ◌�
 use Rattle.std.proofs.lemmas.Option.{same_Some, slice_get-get_or, slice_get_within}
 use Rattle.std.proofs.lemmas.Bool.{cases_order}
 use Rattle.reg_base.specs.Memory.{Memory, after, memory_after, blank, memory}
-use Rattle.reg_histories.specs.History.{IsAt}
-use Rattle.reg_histories.specs.declared.answers.Fact.{Fact}
-use Rattle.reg_histories.specs.Facts.{IsWrongOn, IsWrongFact}
+use Rattle.reg_entries.specs.History.{IsAt}
+use Rattle.reg_entries.specs.declared.facts.Fact.{Fact}
+use Rattle.reg_entries.specs.Facts.{IsWrongOn, IsWrongFact}
 
 more : (m : Memory) (xs : List Fact) (k : ℕ) (f : Fact) → IsAt xs k f
     → memory_after (map (λ f. f.op) (take (suc k) xs)) m ≡ after f.op (memory_after (map (λ f. f.op) (take k xs)) m)

@@ -2,15 +2,16 @@
 use Rattle.std.proofs.Common.{ℕ, ◌≡◌, ◌⊎◌, inl, inr, List, Result, Ok, Err, sym, subst}
 use Rattle.std.specs.Prelude.{IfErr, OnOk}
 use Rattle.reg_base.specs.declared.memory.OpId.{OpId}
-use Rattle.reg_histories.specs.declared.entries.Entry.{Entry}
-use Rattle.reg_histories.specs.declared.entries.Point.{Point}
-use Rattle.reg_histories.specs.declared.answers.Fact.{Fact}
+use Rattle.reg_entries.specs.declared.entries.Entry.{Entry}
+use Rattle.reg_entries.specs.declared.entries.Point.{Point}
+use Rattle.reg_entries.specs.declared.facts.Fact.{Fact}
 use Rattle.reg_histories.specs.declared.faults.CheckFault.{CheckFault}
 use Rattle.reg_histories.specs.declared.faults.CheckFault.TheVariants.{Answer, Outside, Falling, OutOfMemory}
-use Rattle.reg_histories.specs.History.{IsHistory}
+use Rattle.reg_entries.specs.History.{IsHistory}
 use Rattle.reg_histories.specs.Orders.{KeepsOwnOrder}
 use Rattle.reg_histories.specs.Checks.{IsFalling, IsFirst, IsPointFault, IsSerialFault, NoneOfThree, PointVerdict, SerialVerdict, ids_of}
-use Rattle.reg_histories.specs.Facts.{IsOutsideFact, IsSelected, IsWrongFact}
+use Rattle.reg_entries.specs.Facts.{IsOutsideFact, IsWrongFact}
+use Rattle.reg_histories.specs.Selections.{IsSelected}
 use Rattle.reg_histories.proofs.Bridges.{legal, not_broken, first_is, wrong_there}
 use Rattle.reg_histories.proofs.PointFacts.{first_outside_is, outside_there, inside_called, inside_answered, never_falls}
 

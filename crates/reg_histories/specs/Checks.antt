@@ -5,12 +5,12 @@ use Rattle.std.specs.List.{AllZip}
 use Rattle.reg_base.specs.declared.memory.OpId.{OpId}
 use Rattle.reg_base.specs.declared.memory.Op.{Op}
 use Rattle.reg_base.specs.declared.memory.Answer.{Answer as Reply}
-use Rattle.reg_histories.specs.declared.entries.Entry.{Entry}
-use Rattle.reg_histories.specs.declared.entries.Point.{Point}
+use Rattle.reg_entries.specs.declared.entries.Entry.{Entry}
+use Rattle.reg_entries.specs.declared.entries.Point.{Point}
 use Rattle.reg_histories.specs.declared.faults.CheckFault.{CheckFault}
 use Rattle.reg_histories.specs.declared.faults.CheckFault.TheVariants.{Unknown, Twice, Missing, OwnOrder, Answer, Outside, Falling, OutOfMemory}
 use Rattle.reg_base.specs.Memory.{updates, answer_of, memory}
-use Rattle.reg_histories.specs.History.{IsAt, IsCalled, IsAnswered, IsFinished}
+use Rattle.reg_entries.specs.History.{IsAt, IsCalled, IsAnswered, IsFinished}
 use Rattle.reg_histories.specs.Orders.{IsSerial, IsPointOrder}
 
 -- some id is not that of a finished operation, nor that of a called one that may have changed the memory

@@ -1,7 +1,5 @@
-pub mod History
-pub mod Orders
-pub mod Checks
-pub mod Progress
 pub mod Log
-pub mod Facts
-pub mod Table
+pub mod Checks
+pub mod FaultTexts
+pub mod Orders
+pub mod Selections

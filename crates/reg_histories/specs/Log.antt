@@ -1,10 +1,10 @@
 -- What a history holds, and what a push does to it. To be believed: promises speak of it.
 use Rattle.std.specs.Prelude.{ℕ, ◌≡◌, ◌+◌, ◌≤◌, List, [], ◌∷◌, ◌++◌}
 use Rattle.reg_base.specs.Shape.{Extent}
-use Rattle.reg_histories.specs.declared.entries.Entry.{Entry}
+use Rattle.reg_entries.specs.declared.entries.Entry.{Entry}
 use Rattle.reg_histories.specs.declared.faults.HistoryFault.{HistoryFault}
 use Rattle.reg_histories.specs.declared.faults.HistoryFault.TheVariants.{OutOfPlace, OutOfMemory}
-use Rattle.reg_histories.specs.History.{IsInPlace, IsHistory}
+use Rattle.reg_entries.specs.History.{IsInPlace, IsHistory}
 
 -- the shape, the entries in order, and for how many more there is room
 pub record Log : Type 0 where

@@ -4,10 +4,10 @@ use Rattle.std.specs.List.{AllZip}
 use Rattle.reg_base.specs.declared.memory.OpId.{OpId}
 use Rattle.reg_base.specs.declared.memory.Op.{Op}
 use Rattle.reg_base.specs.declared.memory.Answer.{Answer}
-use Rattle.reg_histories.specs.declared.entries.Entry.{Entry}
-use Rattle.reg_histories.specs.declared.entries.Point.{Point}
+use Rattle.reg_entries.specs.declared.entries.Entry.{Entry}
+use Rattle.reg_entries.specs.declared.entries.Point.{Point}
 use Rattle.reg_base.specs.Memory.{updates, answer_of, memory_after}
-use Rattle.reg_histories.specs.History.{IsAt, IsCalled, IsAnswered, IsFinished}
+use Rattle.reg_entries.specs.History.{IsAt, IsCalled, IsAnswered, IsFinished}
 
 -- no id stands twice
 abbrev pub IsDistinct : List OpId → Type 0

@@ -2,27 +2,11 @@
 ghost use Rattle.std.specs.Prelude.{◌≡◌, ℕ, ◌<◌, ◌↔◌, All, IfOk, IsTrue, MatchOption, length};
 ghost use Rattle.reg_base.specs.Memory.{register_of, after};
 ghost use Rattle.reg_histories.specs.Checks.{IsFirst};
-ghost use Rattle.reg_histories.specs.Facts.{IsWrongOn, IsWrongFact};
+ghost use Rattle.reg_entries.specs.Facts.{IsWrongOn, IsWrongFact};
 
-use reg_base::{Answer, Op, Registers, Shape};
+use reg_base::{Registers, Shape};
+use reg_entries::Fact;
 use std::alloc::{AllocError, Allocator};
-
-/// An answer, and the event that gave it.
-#[derive(Clone, Copy)]
-pub struct Given {
-    pub at: u32,
-    pub answer: Answer,
-}
-
-/// What a history says of one operation.
-#[derive(Clone, Copy)]
-pub struct Fact {
-    pub op: Op,
-    pub called: u32,
-    pub answered: Option<Given>,
-    /// The operation stands in the order that is checked.
-    pub stands: bool,
-}
 
 /// Whether the fact has another answer than that of the values, on which the operation is done.
 fn is_wrong<A: Allocator + Copy>(values: &mut Registers<A>, fact: Fact) -> bool

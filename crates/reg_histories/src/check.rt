@@ -1,18 +1,18 @@
 //! The checkers of serial orders and point orders.
 ghost use Rattle.std.specs.Prelude.{◌≡◌, ◌<◌, ◌⊎◌, ℕ, All, length, IfErr, MatchResult, OnOk};
 ghost use Rattle.reg_base.specs.Memory.{register_of};
-ghost use Rattle.reg_histories.specs.History.{IsHistory};
+ghost use Rattle.reg_entries.specs.History.{IsHistory};
 ghost use Rattle.reg_histories.specs.Checks.{IsFalling, IsFirst, SerialVerdict, PointVerdict, NoneOfThree};
-ghost use Rattle.reg_histories.specs.Facts.{IsOutsideFact, IsSelectionFault, IsSelected, IsWrongFact};
+ghost use Rattle.reg_entries.specs.Facts.{IsOutsideFact, IsWrongFact};
+ghost use Rattle.reg_histories.specs.Selections.{IsSelected, IsSelectionFault};
 
-use crate::answers::{Fact, first_wrong};
-use crate::entries::{Entry, Point};
+use crate::answers::first_wrong;
 use crate::faults::CheckFault;
 use crate::log::History;
 use crate::marks::{breaks_own_order, has_missing, has_twice, resolve};
 use crate::points::{first_falling, first_outside, ids_of_points};
-use crate::table::table_of;
 use reg_base::{OpId, Shape};
+use reg_entries::{Entry, Fact, Point, table_of};
 use std::alloc::Allocator;
 
 /// The facts of the ids, if these are a selection.

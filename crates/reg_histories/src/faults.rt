@@ -1,33 +1,46 @@
 //! Why something is refused.
+use std::fmt;
 use thiserror::Error;
 
 /// What is wrong with an order of operations: the first of these that holds. A place counts from 0.
 #[derive(Clone, Copy, Debug, PartialEq, Eq, Error)]
 pub enum CheckFault {
     /// Some id is neither a finished operation nor a called write or swap.
-    #[error("unknown")]
     Unknown,
     /// Some id stands twice.
-    #[error("twice")]
     Twice,
     /// Some finished operation isn't there.
-    #[error("missing")]
     Missing,
     /// Some operation stands behind a later one of its process.
-    #[error("own order")]
     OwnOrder,
     /// The operation at this place, the first such, has another answer than one memory gives.
-    #[error("answer {place}")]
     Answer { place: usize },
     /// The point at this place, the first such, is before the call or after the answer.
-    #[error("outside {place}")]
     Outside { place: usize },
     /// The point at this place, the first such, is below the one before it.
-    #[error("falling {place}")]
     Falling { place: usize },
     /// There was no memory to check it.
-    #[error("out of memory")]
     OutOfMemory,
+}
+
+impl fmt::Display for CheckFault {
+    ghost use Rattle.std.specs.Prelude.{Some};
+    ghost use Rattle.reg_histories.specs.FaultTexts.{check_text};
+
+    ghost output = { λ fault. Some (check_text fault) };
+
+    fn fmt<W: fmt::Write>(&self, f: &mut fmt::Formatter<W>) -> fmt::Result {
+        match *self {
+            CheckFault::Unknown => f.write_str("unknown"),
+            CheckFault::Twice => f.write_str("twice"),
+            CheckFault::Missing => f.write_str("missing"),
+            CheckFault::OwnOrder => f.write_str("own order"),
+            CheckFault::Answer { place } => write!(f, "answer {place}"),
+            CheckFault::Outside { place } => write!(f, "outside {place}"),
+            CheckFault::Falling { place } => write!(f, "falling {place}"),
+            CheckFault::OutOfMemory => f.write_str("out of memory"),
+        }
+    }
 }
 
 /// Why an entry is not taken into a history: the first of these that applies. The history is as it was then.

@@ -3,11 +3,11 @@ ghost use Rattle.std.specs.Prelude.{List, ℕ, ◌-◌, ◌<◌, ◌≢◌, ◌�
 ghost use Rattle.reg_base.specs.declared.memory.Op.{Op};
 ghost use Rattle.reg_base.specs.declared.memory.OpId.{OpId};
 ghost use Rattle.reg_base.specs.declared.memory.Answer.{Answer};
-ghost use Rattle.reg_histories.specs.declared.entries.Entry.{Entry};
-ghost use Rattle.reg_histories.specs.declared.entries.Point.{Point};
+ghost use Rattle.reg_entries.specs.declared.entries.Entry.{Entry};
+ghost use Rattle.reg_entries.specs.declared.entries.Point.{Point};
 ghost use Rattle.reg_histories.specs.declared.faults.CheckFault.{CheckFault};
 ghost use Rattle.reg_histories.specs.declared.faults.CheckFault.TheVariants.{OutOfMemory};
-ghost use Rattle.reg_histories.specs.History.{IsAt, IsCalled, IsAnswered, IsHistory, event_of};
+ghost use Rattle.reg_entries.specs.History.{IsAt, IsCalled, IsAnswered, IsHistory, event_of};
 ghost use Rattle.reg_histories.specs.Orders.{IsSerial, IsPointOrder};
 ghost use Rattle.reg_histories.specs.Checks.{IsSerialFault, IsPointFault};
 

@@ -1,18 +1,15 @@
-//! Histories of calls and answers, their serial orders and point orders, and the two checkers.
+//! Histories of calls and answers, and the two checkers of their serial orders and point orders. Entries and points are passed on from below.
 #![tactic(auto)]
 
 mod answers;
 mod check;
-mod entries;
 mod faults;
 pub mod laws;
 mod log;
 mod marks;
-mod place;
 mod points;
-mod table;
 
 pub use check::{check_points, check_serial};
-pub use entries::{Entry, Point};
 pub use faults::{CheckFault, HistoryFault};
 pub use log::History;
+pub use reg_entries::{Entry, Point};

@@ -2,10 +2,9 @@
 ghost use Rattle.std.specs.Prelude.{◌≡◌, ◌≤◌, [], MatchResult, IfOk, OnOk, OnErr};
 ghost use Rattle.reg_histories.specs.Log.{IsLog, Grows, Refuses};
 
-use crate::entries::Entry;
 use crate::faults::HistoryFault;
-use crate::place::{Progress, advance, is_in_place};
 use reg_base::Shape;
+use reg_entries::{Entry, Progress, advance, is_in_place};
 use std::alloc::{AllocError, Allocator, Global};
 use std::marker::Model;
 
@@ -20,7 +19,7 @@ pub struct History<A: Allocator + Copy = Global> {
 impl<A: Allocator + Copy> Model for History<A> {
     ghost use Rattle.std.specs.Prelude.{◌-◌, vec_len, vec_capacity};
     ghost use Rattle.reg_histories.specs.Log.{Log};
-    ghost use Rattle.reg_histories.specs.Progress.{IsKept};
+    ghost use Rattle.reg_entries.specs.Progress.{IsKept};
 
     ghost Value = { Log };
 

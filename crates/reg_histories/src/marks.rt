@@ -2,15 +2,13 @@
 ghost use Rattle.std.specs.Prelude.{◌≡◌, ℕ, ◌<◌, ◌+◌, ◌↔◌, List, [], IsSome, IsTrue, IfOk, MatchBool, MatchOption, length, take, vec_len, slice_index, slice_set, ◌≤◌};
 ghost use Rattle.std.specs.List.{AllZip};
 ghost use Rattle.reg_base.specs.declared.memory.OpId.{OpId};
-ghost use Rattle.reg_histories.specs.History.{IsAt, IsFinished};
+ghost use Rattle.reg_entries.specs.History.{IsAt, IsFinished};
 ghost use Rattle.reg_histories.specs.Orders.{IsDistinct, KeepsOwnOrder};
 ghost use Rattle.reg_histories.specs.Checks.{HasTwice, BreaksOwnOrder};
-ghost use Rattle.reg_histories.specs.Table.{cell, Marked, AreMarked, IsMarkedToo, Stands, AreResolved};
+ghost use Rattle.reg_entries.specs.Table.{cell, Marked, AreMarked, IsMarkedToo, Stands, AreResolved};
 
-use crate::answers::Fact;
-use crate::entries::Entry;
-use crate::table::{fact_of, set_fact};
 use reg_base::OpId;
+use reg_entries::{Entry, Fact, fact_of, set_fact};
 use std::alloc::{AllocError, Allocator};
 
 /// The fact of an operation that may stand in an order.

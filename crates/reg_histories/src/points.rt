@@ -1,11 +1,10 @@
 //! The passes over points.
 ghost use Rattle.std.specs.Prelude.{◌≡◌, ℕ, ◌↔◌, IsTrue, IfOk, MatchOption, length};
 ghost use Rattle.reg_histories.specs.Checks.{IsFalling, IsFirst, ids_of};
-ghost use Rattle.reg_histories.specs.Facts.{IsBeside, IsOutsideFact};
+ghost use Rattle.reg_entries.specs.Facts.{IsBeside, IsOutsideFact};
 
-use crate::answers::Fact;
-use crate::entries::Point;
 use reg_base::OpId;
+use reg_entries::{Fact, Point};
 use std::alloc::{AllocError, Allocator};
 
 pub fn ids_of_points<A: Allocator + Copy>(

@@ -6,32 +6,45 @@ ghost use Rattle.reg_live_command.specs.Told.{stop_of_pass, stop_of_close, stop_
 use reg_commands::Fault;
 use reg_live::{CloseFault, LiveFault};
 use reg_scripts::RunStop;
+use std::fmt;
 use thiserror::Error;
 
 /// Why the threads' scripts give no report. As text, the line of it on standard error.
 #[derive(Clone, Copy, Debug, PartialEq, Eq, Error)]
 pub enum Stop {
     /// The input is refused, the output failed, or there was no memory.
-    #[error("{fault}")]
     Command { fault: Fault },
     /// The station of a process has stopped, or no answer can come any more.
-    #[error("process {process}: failed")]
     Failed { process: u8 },
     /// A process calls an operation on a register that the cluster doesn't have.
-    #[error("process {process}: no register")]
     NoRegister { process: u8 },
     /// The journal hasn't come as far as a process asked.
-    #[error("process {process}: behind {length}")]
     Behind { process: u8, length: u64 },
     /// The journal or a process has all that it may have.
-    #[error("process {process}: full")]
     Full { process: u8 },
     /// From this place on, what the stations wrote down is no run.
-    #[error("close: unfaithful {place}")]
     Unfaithful { place: u64 },
     /// The answers that a process was given aren't those of the run.
-    #[error("close: mismatch {process}")]
     Mismatch { process: u8 },
+}
+
+impl fmt::Display for Stop {
+    ghost use Rattle.std.specs.Prelude.{Some};
+    ghost use Rattle.reg_live_command.specs.StopLines.{stop_text};
+
+    ghost output = { λ stop. Some (stop_text stop) };
+
+    fn fmt<W: fmt::Write>(&self, f: &mut fmt::Formatter<W>) -> fmt::Result {
+        match *self {
+            Stop::Command { fault } => write!(f, "{fault}"),
+            Stop::Failed { process } => write!(f, "process {process}: failed"),
+            Stop::NoRegister { process } => write!(f, "process {process}: no register"),
+            Stop::Behind { process, length } => write!(f, "process {process}: behind {length}"),
+            Stop::Full { process } => write!(f, "process {process}: full"),
+            Stop::Unfaithful { place } => write!(f, "close: unfaithful {place}"),
+            Stop::Mismatch { process } => write!(f, "close: mismatch {process}"),
+        }
+    }
 }
 
 /// The refusal of a process's pass.

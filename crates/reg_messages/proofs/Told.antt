@@ -2,8 +2,8 @@
 use Rattle.std.proofs.Common.{◌≡◌, ℕ, List, Result, Ok, Err, subst}
 use Rattle.std.specs.Prelude.{IfOk}
 use Rattle.reg_base.specs.declared.memory.OpId.{OpId}
-use Rattle.reg_histories.specs.declared.entries.Entry.{Entry}
-use Rattle.reg_histories.specs.declared.entries.Point.{Point}
+use Rattle.reg_entries.specs.declared.entries.Entry.{Entry}
+use Rattle.reg_entries.specs.declared.entries.Point.{Point}
 use Rattle.reg_histories.specs.declared.faults.CheckFault.{CheckFault}
 use Rattle.reg_histories.specs.Checks.{SerialVerdict, PointVerdict, IsSerialFault, IsPointFault}
 use Rattle.reg_reports.specs.Reports.{Contents}

@@ -1,23 +1,11 @@
 -- The line of each fault on the error stream.
 use Rattle.std.specs.Prelude.{ℕ, List, [], ◌∷◌, ◌++◌, codes}
 use Rattle.std.specs.Fmt.{decimal}
-use Rattle.reg_reports.specs.Whys.{why_text}
+use Rattle.reg_lines.specs.Whys.{why_text}
 use Rattle.reg_world.specs.FaultTexts.{refusal_text}
-use Rattle.reg_workloads.specs.declared.faults.WorkloadFault.{WorkloadFault}
-use Rattle.reg_workloads.specs.declared.faults.WorkloadFault.TheVariants.{Toml, UnknownKey, Missing, Kind, Range, Script, OutOfMemory as WorkloadOutOfMemory}
-use Rattle.reg_workloads.specs.Keys.{key_name}
+use Rattle.reg_workloads.specs.FaultTexts.{workload_text}
 use Rattle.reg_messages.specs.declared.faults.Fault.{Fault}
 use Rattle.reg_messages.specs.declared.faults.Fault.TheVariants.{Unread, TooLong, NotText, Output, Line, Event, Workload, OutOfMemory}
-
--- why a document says no workload
-abbrev pub workload_text : WorkloadFault → List ℕ
-workload_text Toml = codes "toml"
-workload_text UnknownKey = codes "unknown key"
-workload_text (Missing key) = codes "missing " ++ key_name key
-workload_text (Kind key) = codes "kind " ++ key_name key
-workload_text (Range key) = codes "range " ++ key_name key
-workload_text (Script process place) = codes "script " ++ decimal process ++ codes " " ++ decimal place
-workload_text WorkloadOutOfMemory = codes "out of memory"
 
 -- a fault as text
 abbrev pub fault_text : Fault → List ℕ

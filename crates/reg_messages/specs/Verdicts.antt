@@ -1,7 +1,7 @@
 -- What a report read is told.
 use Rattle.std.specs.Prelude.{ℕ, Bool, true, false, ◌&&◌, List, [], ◌∷◌, ◌++◌, codes, Option, None, Some}
 use Rattle.std.specs.Fmt.{decimal}
-use Rattle.reg_histories.specs.declared.entries.Point.{Point}
+use Rattle.reg_entries.specs.declared.entries.Point.{Point}
 use Rattle.reg_histories.specs.declared.faults.CheckFault.{CheckFault}
 use Rattle.reg_histories.specs.declared.faults.CheckFault.TheVariants.{Unknown as UnknownFault, Twice as TwiceFault, Missing as MissingFault, OwnOrder as OwnOrderFault, Answer as AnswerFault, Outside as OutsideFault, Falling as FallingFault}
 use Rattle.reg_histories.specs.Orders.{IsSerial, IsPointOrder}

@@ -4,7 +4,8 @@ ghost use Rattle.std.specs.Fmt.{decimal};
 ghost use Rattle.std.specs.Io.KnownBytes.{Appends};
 ghost use Rattle.reg_text.specs.Writing.{AppendsPart, Puts};
 ghost use Rattle.reg_workloads.specs.Keys.{key_name};
-ghost use Rattle.reg_messages.specs.FaultLines.{workload_text, fault_text, fault_line};
+ghost use Rattle.reg_workloads.specs.FaultTexts.{workload_text};
+ghost use Rattle.reg_messages.specs.FaultLines.{fault_text, fault_line};
 
 use crate::faults::Fault;
 use reg_text::{Sink, Unwritten, put_number};

@@ -2,8 +2,8 @@
 use Rattle.std.specs.Prelude.{ℕ, ◌≡◌, ◌+◌, ◌<◌, ◌==◌, ◌&&◌, Bool, false, cond, List, [], ◌∷◌, ◌++◌, map, All, Option, None, Some, position}
 use Rattle.std.specs.List.{list_any}
 use Rattle.reg_base.specs.declared.memory.OpId.{OpId}
-use Rattle.reg_histories.specs.declared.entries.Entry.{Entry}
-use Rattle.reg_histories.specs.declared.entries.Entry.TheVariants.{Called, Answered}
+use Rattle.reg_entries.specs.declared.entries.Entry.{Entry}
+use Rattle.reg_entries.specs.declared.entries.Entry.TheVariants.{Called, Answered}
 use Rattle.reg_world.specs.declared.events.Event.{Event}
 use Rattle.reg_world.specs.declared.events.Event.TheVariants.{Call, Take, Tick}
 use Rattle.reg_moments.specs.declared.figures.Arrow.{Arrow}

@@ -9,10 +9,10 @@ use Rattle.reg_frames.specs.declared.bodies.Body.{Body}
 use Rattle.reg_frames.specs.declared.bodies.Body.TheVariants.{Cast, Ack}
 use Rattle.reg_frames.specs.declared.bodies.Frame.{Frame}
 use Rattle.reg_frames.specs.declared.bodies.Frame.TheVariants.{Numbered, Got}
-use Rattle.reg_process.specs.declared.steps.Reply.{Reply}
+use Rattle.reg_steps.specs.declared.steps.Reply.{Reply}
 use Rattle.reg_text.specs.Lines.{text_of}
 use Rattle.reg_text.specs.Ops.{op_text, valued}
-use Rattle.reg_reports.specs.EntryLines.{answer_text}
+use Rattle.reg_lines.specs.EntryLines.{answer_text}
 use Rattle.reg_world.specs.declared.events.Event.{Event}
 use Rattle.reg_world.specs.declared.events.Event.TheVariants.{Call, Take, Tick}
 use Rattle.reg_schedules.specs.Schedules.{event_text}

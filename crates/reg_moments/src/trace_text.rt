@@ -5,7 +5,7 @@ ghost use Rattle.std.specs.Fmt.{decimal};
 ghost use Rattle.std.specs.Io.KnownBytes.{Appends};
 ghost use Rattle.reg_text.specs.Lines.{text_of};
 ghost use Rattle.reg_text.specs.Writing.{AppendsPart, Puts};
-ghost use Rattle.reg_reports.specs.EntryLines.{answer_text};
+ghost use Rattle.reg_lines.specs.EntryLines.{answer_text};
 ghost use Rattle.reg_reports.specs.Written.{lines_by};
 ghost use Rattle.reg_schedules.specs.Schedules.{event_text};
 ghost use Rattle.reg_moments.specs.Traces.{answers_lines, body_text, cast_text, copy_lines, delivers_line, delivers_lines, drops_lines, holds_line, value_behind, frame_text, moment_lines, puts_line, stamp_text, taken_lines, takes_lines, trace_text};

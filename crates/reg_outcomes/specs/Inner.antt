@@ -5,10 +5,10 @@ use Rattle.std.specs.Ordering.{nat_cmp, ordering_then}
 use Rattle.reg_base.specs.declared.memory.OpId.{OpId}
 use Rattle.reg_base.specs.declared.memory.Answer.{Answer}
 use Rattle.reg_base.specs.declared.memory.Op.{Op}
-use Rattle.reg_histories.specs.declared.entries.Entry.{Entry}
-use Rattle.reg_histories.specs.declared.entries.Entry.TheVariants.{Called, Answered}
+use Rattle.reg_entries.specs.declared.entries.Entry.{Entry}
+use Rattle.reg_entries.specs.declared.entries.Entry.TheVariants.{Called, Answered}
 use Rattle.reg_front.specs.declared.starts.Start.{Start}
-use Rattle.reg_histories.specs.History.{IsAt}
+use Rattle.reg_entries.specs.History.{IsAt}
 use Rattle.reg_tables.specs.Outcomes.{outcome_of}
 use Rattle.reg_tables.specs.Tables.{Seen}
 use Rattle.reg_world.specs.Worlds.{Made}

@@ -5,7 +5,7 @@ use Rattle.rand_pcg.specs.Pcg.{pcg32, pcg32_of_seed}
 use Rattle.reg_base.specs.declared.memory.Op.{Op}
 use Rattle.reg_base.specs.declared.memory.OpId.{OpId}
 use Rattle.reg_front.specs.declared.starts.Start.{Start}
-use Rattle.reg_histories.specs.History.{IsAt}
+use Rattle.reg_entries.specs.History.{IsAt}
 use Rattle.reg_tables.specs.Outcomes.{outcome_of}
 use Rattle.reg_tables.specs.Tables.{Seen, Line, IsTable, CountsUnfinished}
 use Rattle.reg_workloads.specs.Loads.{Load}

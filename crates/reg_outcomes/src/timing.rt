@@ -2,7 +2,7 @@
 ghost use Rattle.std.specs.Prelude.{◌≡◌, ◌<◌, ◌-◌, ◌^◌, ◌↔◌, length, true, IfOk, IfSome, OnOk, List, ℕ};
 ghost use Rattle.std.specs.BTreeMap.{get};
 ghost use Rattle.reg_base.specs.declared.memory.OpId.{OpId as AnyId};
-ghost use Rattle.reg_histories.specs.History.{IsHistory};
+ghost use Rattle.reg_entries.specs.History.{IsHistory};
 ghost use Rattle.reg_histories.specs.Orders.{IsDistinct};
 ghost use Rattle.reg_world.specs.RealTime.{KeepsRealTime};
 ghost use Rattle.reg_outcomes.specs.Inner.{IsPlaceOf, bound_next, id_cmp};

@@ -9,9 +9,9 @@ use Rattle.reg_base.specs.declared.memory.Answer.{Answer}
 use Rattle.reg_base.specs.declared.memory.Answer.TheVariants.{Done, Value}
 use Rattle.reg_base.specs.Memory.{Memory, answer_of, after}
 use Rattle.reg_base.specs.Order.{In}
-use Rattle.reg_histories.specs.History.{IsAt}
+use Rattle.reg_entries.specs.History.{IsAt}
 use Rattle.reg_histories.specs.Orders.{IsDistinct, KeepsOwnOrder}
-use Rattle.reg_histories.proofs.Places.{IsAt-map}
+use Rattle.reg_entries.proofs.Places.{IsAt-map}
 use Rattle.reg_world.proofs.lists.Members.{in_at}
 use Rattle.reg_world.proofs.lists.Rises.{in_kept, kept_in}
 use Rattle.reg_world.proofs.one_memory.Replicas.{any_found}

@@ -9,12 +9,12 @@ use Rattle.reg_base.specs.declared.memory.Op.{Op}
 use Rattle.reg_base.specs.declared.memory.Answer.{Answer}
 use Rattle.reg_base.specs.Memory.{Memory, answer_of, after, memory_after}
 use Rattle.reg_base.specs.Order.{In}
-use Rattle.reg_histories.specs.declared.entries.Entry.{Entry}
-use Rattle.reg_histories.specs.declared.entries.Entry.TheVariants.{Called, Answered}
-use Rattle.reg_histories.specs.History.{IsAt, IsCalled, IsAnswered, IsHistory}
+use Rattle.reg_entries.specs.declared.entries.Entry.{Entry}
+use Rattle.reg_entries.specs.declared.entries.Entry.TheVariants.{Called, Answered}
+use Rattle.reg_entries.specs.History.{IsAt, IsCalled, IsAnswered, IsHistory}
 use Rattle.reg_histories.specs.Orders.{IsDistinct, KeepsOwnOrder, IsSerial}
-use Rattle.reg_histories.proofs.Places.{at_map}
-use Rattle.reg_histories.proofs.Histories.{call_is}
+use Rattle.reg_entries.proofs.Places.{at_map}
+use Rattle.reg_entries.proofs.Histories.{call_is}
 use Rattle.reg_world.proofs.lists.Bodies.{place_in}
 use Rattle.reg_overtaking.proofs.Search.{Fact, is_id, is_finished}
 use Rattle.reg_overtaking.proofs.Arranged.{ids_of, is_id_same, IsLegalOn, IsArranged}

@@ -7,11 +7,11 @@ use Rattle.reg_base.specs.declared.memory.OpId.{OpId}
 use Rattle.reg_base.specs.declared.memory.Op.{Op}
 use Rattle.reg_front.specs.declared.starts.Start.{Start}
 use Rattle.reg_front.specs.Fronts.{KeepsLaws}
-use Rattle.reg_histories.specs.declared.entries.Entry.{Entry}
-use Rattle.reg_histories.specs.declared.entries.Point.{Point}
-use Rattle.reg_histories.specs.History.{IsAt, IsCalled, IsAnswered, IsHistory}
+use Rattle.reg_entries.specs.declared.entries.Entry.{Entry}
+use Rattle.reg_entries.specs.declared.entries.Point.{Point}
+use Rattle.reg_entries.specs.History.{IsAt, IsCalled, IsAnswered, IsHistory}
 use Rattle.reg_histories.specs.Orders.{IsSerial, IsPointOrder}
-use Rattle.reg_histories.proofs.Places.{at_map}
+use Rattle.reg_entries.proofs.Places.{at_map}
 use Rattle.reg_histories.proofs.RealTime.{stands_before, point_order_is_serial}
 use Rattle.reg_world.specs.declared.events.Event.{Event}
 use Rattle.reg_world.proofs.witness.Promised.{in_place}

@@ -4,7 +4,7 @@ use Rattle.reg_base.specs.declared.memory.Op.TheVariants.{Read, Write, Swap}
 use Rattle.reg_base.specs.declared.memory.Answer.TheVariants.{Done, Value}
 use Rattle.reg_front.specs.Table.{local_read, local_write}
 use Rattle.reg_front.specs.Keeps.{local_read_keeps, local_write_keeps}
-use Rattle.reg_histories.specs.History.{IsHistory}
+use Rattle.reg_entries.specs.History.{IsHistory}
 use Rattle.reg_world.specs.World.{op_id}
 use Rattle.reg_overtaking.specs.Overtaking.{Overtakes}
 use Rattle.reg_overtaking.specs.Runs.{stale_read, stale_read_history, stale_after_swap, stale_after_swap_history, new_then_old, new_then_old_history, new_then_old_at_once_history, unseen_write, unseen_write_history, overtaking_swap, overtaking_swap_history, overtaking_write, overtaking_write_history}

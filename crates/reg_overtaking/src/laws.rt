@@ -3,9 +3,9 @@
 ghost use Rattle.std.specs.Prelude.{ℕ, List};
 ghost use Rattle.reg_base.specs.declared.memory.OpId.{OpId};
 ghost use Rattle.reg_front.specs.Table.{local_read, local_write};
-ghost use Rattle.reg_histories.specs.declared.entries.Entry.{Entry};
-ghost use Rattle.reg_histories.specs.declared.entries.Point.{Point};
-ghost use Rattle.reg_histories.specs.History.{IsHistory};
+ghost use Rattle.reg_entries.specs.declared.entries.Entry.{Entry};
+ghost use Rattle.reg_entries.specs.declared.entries.Point.{Point};
+ghost use Rattle.reg_entries.specs.History.{IsHistory};
 ghost use Rattle.reg_histories.specs.Orders.{IsPointOrder};
 ghost use Rattle.reg_world.specs.World.{op_id};
 ghost use Rattle.reg_overtaking.specs.Overtaking.{Gives, Overtakes};

@@ -9,7 +9,7 @@ use Rattle.reg_frames.specs.declared.bodies.Frame.TheVariants.{Numbered}
 use Rattle.reg_process.specs.Process.{numbered_from, resent}
 use Rattle.reg_base.specs.declared.limits.TheConstants.{MOST_RESENT, MOST_PROCESSES}
 use Rattle.reg_links.specs.Link.{Unacknowledged, next_of}
-use Rattle.reg_process.specs.declared.outcomes.Put.{Put}
+use Rattle.reg_steps.specs.declared.outcomes.Put.{Put}
 use Rattle.reg_process.specs.Parts.{Parts, state_of, nothing, first_parts}
 use Rattle.reg_process.specs.Inner.{Good}
 use Rattle.reg_holdback.specs.Waiting.{Waiting}

@@ -6,7 +6,7 @@ use Rattle.std.proofs.lemmas.Bool.{eq-eqb, false≢true}
 use mir.Val.{bool_byte}
 use Rattle.reg_base.specs.declared.stamps.Stamp.{Stamp}
 use Rattle.reg_base.specs.declared.stamps.Delivered.{Delivered}
-use Rattle.reg_process.specs.declared.steps.Reply.{Reply}
+use Rattle.reg_steps.specs.declared.steps.Reply.{Reply}
 use Rattle.reg_process.specs.Process.{Running, Own, Held, State, no_peer, seen_at, is_clear, clear_casts, still, delivered_state, is_stamp, due}
 use Rattle.reg_base.specs.Memory.{Memory, after, register_of, answer_of}
 use Rattle.reg_base.proofs.Operations.{length-after}

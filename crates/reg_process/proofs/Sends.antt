@@ -19,7 +19,7 @@ use Rattle.reg_process.proofs.Deliver.{count_cons}
 use Rattle.reg_links.specs.Link.{Unacknowledged, next_of, with_queued}
 use Rattle.reg_holdback.specs.Waiting.{Waiting, cast_of}
 use Rattle.reg_holdback.specs.Waiting as waiting
-use Rattle.reg_process.specs.declared.outcomes.Put.{Put}
+use Rattle.reg_steps.specs.declared.outcomes.Put.{Put}
 use Rattle.reg_process.specs.Parts.{Parts, state_of, merged, nothing}
 use Rattle.reg_process.specs.Inner.{Good, is_from, RunsWell}
 use Rattle.reg_process.specs.Puts.{puts}

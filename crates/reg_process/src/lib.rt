@@ -1,20 +1,14 @@
 //! One process: what it does in each event.
 #![tactic(auto)]
 
-mod faults;
-mod known;
 pub mod laws;
-mod outcomes;
 mod parts;
 mod processes;
 mod puts;
 mod running;
-mod steps;
+mod spare;
+mod stops;
 
-pub use faults::ProcessFault;
-pub use known::Known;
-pub use outcomes::{Outcome, Put};
 pub use processes::Process;
 pub use reg_base::Delivered;
-pub use running::Awaited;
-pub use steps::{Reply, Step};
+pub use reg_steps::{Awaited, Known, Outcome, ProcessFault, Put, Reply, Step};

@@ -4,13 +4,13 @@ ghost use Rattle.reg_process.specs.Process.{pending_of, peer_at, next_of, unsett
 ghost use Rattle.reg_process.specs.Parts.{state_of, first_parts};
 ghost use Rattle.reg_process.specs.Puts.{puts};
 
-use crate::outcomes::{Outcome, Put, Spare};
 use crate::puts::{new_inboxes, new_outboxes, pending_in, resend_all};
 use crate::running::Current;
-use crate::steps::Reply;
+use crate::spare::Spare;
 use reg_base::{Clock, Registers, Shape};
 use reg_holdback::Holdback;
 use reg_links::{Inbox, Outboxes};
+use reg_steps::{Outcome, Put, Reply};
 use std::alloc::{AllocError, Allocator};
 use std::marker::Model;
 

@@ -6,10 +6,10 @@ ghost use Rattle.reg_process.specs.Parts.{nothing};
 ghost use Rattle.reg_process.specs.Queued.{out_to, outs_of, owed, sent_frames, IsNumbered, all_frames, queue_outs, IsGrown, HasNumbers, pending_in as pending_in_all, again_at, again_frames};
 ghost use Rattle.reg_process.specs.Puts.{put_to, puts};
 
-use crate::outcomes::Put;
 use reg_base::limits::MOST_RESENT;
 use reg_frames::{Body, Frame};
 use reg_links::{Inbox, LinkFault, Outboxes};
+use reg_steps::Put;
 use std::alloc::{AllocError, Allocator};
 
 /// A body under its number, which goes to all processes but this one, and the count that is owed to one of them.

@@ -4,16 +4,8 @@ ghost use Rattle.reg_process.specs.Process.{Own, Held};
 ghost use Rattle.reg_process.specs.Waits.{running_of};
 
 use reg_base::{Op, Stamp};
+use reg_steps::Awaited;
 use std::marker::Model;
-
-/// What a running operation waits for.
-#[derive(Clone, Copy, Debug, PartialEq, Eq)]
-pub enum Awaited {
-    /// That its own cast is delivered here.
-    Cast { stamp: Stamp, op: Op },
-    /// That every own cast is delivered here.
-    Settling { op: Op },
-}
 
 /// An operation that runs.
 #[derive(Clone, Copy)]

@@ -1,7 +1,7 @@
 //! Receipts against a history.
 ghost use Rattle.std.specs.Prelude.{◌≡◌, ◌≤◌, ◌+◌, ℕ, length, map, IsTrue, ◌↔◌, MatchOption, slice_get};
 ghost use Rattle.reg_base.specs.declared.limits.TheConstants.{MOST_PROCESSES};
-ghost use Rattle.reg_histories.specs.History.{IsAt, IsHistory};
+ghost use Rattle.reg_entries.specs.History.{IsAt, IsHistory};
 ghost use Rattle.reg_records.specs.Receipts.{AreFinished, AreTold, IsFirstUntold};
 ghost use Rattle.reg_records.specs.Telling.{IsAfter, IsOther};
 

@@ -2,7 +2,7 @@
 use Rattle.std.proofs.Common.{ℕ, ◌≡◌, ◌≤◌, List, ◌∷◌, ◌++◌, length, map, sym, ap, ◌∙◌, arith}
 use Rattle.std.specs.Fmt.{decimal}
 use Rattle.reg_text.specs.Inner.{IsBlock}
-use Rattle.reg_reports.specs.LineForms.{IsCounted}
+use Rattle.reg_lines.specs.LineForms.{IsCounted}
 
 -- what stands behind the count
 pub block_of : {X : Type 0} (mark : List ℕ) (line_of : X → List ℕ) (Fits : List X → X → Type 0) (limit n : ℕ) (old mid rest : List (List ℕ)) (ys : List X)

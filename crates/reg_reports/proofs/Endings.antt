@@ -9,8 +9,8 @@ use Rattle.reg_base.specs.declared.limits.TheConstants.{MOST_PROCESSES, MOST_REG
 use Rattle.reg_base.specs.declared.shapes.ShapeFault.{ShapeFault}
 use Rattle.reg_base.specs.declared.shapes.ShapeFault.TheVariants.{NoProcess, TooManyProcesses, NoRegister, TooManyRegisters}
 use Rattle.reg_base.specs.declared.memory.OpId.{OpId}
-use Rattle.reg_histories.specs.declared.entries.Entry.{Entry}
-use Rattle.reg_histories.specs.declared.entries.Point.{Point}
+use Rattle.reg_entries.specs.declared.entries.Entry.{Entry}
+use Rattle.reg_entries.specs.declared.entries.Point.{Point}
 use Rattle.reg_text.specs.Inner.{IsBlock, IsNext}
 use Rattle.reg_text.specs.Lines.{lines_of, IsNumbered, Rest, IsAsked}
 use Rattle.reg_text.specs.declared.faults.Why.{Why}
@@ -18,19 +18,19 @@ use Rattle.reg_text.specs.declared.faults.Why.TheVariants.{Form as TextForm, End
 use Rattle.reg_text.specs.declared.faults.TextFault.{TextFault}
 use Rattle.reg_text.specs.declared.faults.TextFault.TheVariants.{Line as TextLine}
 use Rattle.reg_text.proofs.Numbered.{few_lines, starts}
-use Rattle.reg_reports.specs.EntryLines.{entry_text}
-use Rattle.reg_reports.specs.IdLines.{id_text, IdFits, point_text, PointFits}
-use Rattle.reg_reports.specs.LineForms.{Follows, IsCounted}
-use Rattle.reg_reports.specs.ReadFaults.{read_fault, why_of}
+use Rattle.reg_lines.specs.EntryLines.{entry_text}
+use Rattle.reg_lines.specs.IdLines.{id_text, IdFits, point_text, PointFits}
+use Rattle.reg_lines.specs.LineForms.{Follows, IsCounted}
+use Rattle.reg_lines.specs.ReadFaults.{read_fault, why_of}
 use Rattle.reg_reports.specs.Reports.{head_lines, is_front}
 use Rattle.reg_reports.specs.Refusals.{IsFirstWrong, IsNoNextEntry, IsWrongBody, IsWrongCounted, IsWrongItem, IsWrongLists, IsWrongTail, RefusesReportLine}
 use Rattle.reg_reports.specs.Stops.{IsFailure, IsFurther, IsWrongEnd, IsWrongPoints}
-use Rattle.reg_reports.specs.declared.report_faults.ReadFault.{ReadFault}
-use Rattle.reg_reports.specs.declared.report_faults.ReadFault.TheVariants.{Line, OutOfMemory}
-use Rattle.reg_reports.specs.declared.report_faults.ReadWhy.{ReadWhy}
-use Rattle.reg_reports.specs.declared.report_limits.TheConstants.{MOST_ENTRIES, MOST_IDS}
-use Rattle.reg_reports.specs.declared.versions.Version.{Version}
-use Rattle.reg_reports.specs.Versions.{most_processes, most_registers}
+use Rattle.reg_lines.specs.declared.report_faults.ReadFault.{ReadFault}
+use Rattle.reg_lines.specs.declared.report_faults.ReadFault.TheVariants.{Line, OutOfMemory}
+use Rattle.reg_lines.specs.declared.report_faults.ReadWhy.{ReadWhy}
+use Rattle.reg_lines.specs.declared.report_limits.TheConstants.{MOST_ENTRIES, MOST_IDS}
+use Rattle.reg_lines.specs.declared.versions.Version.{Version}
+use Rattle.reg_lines.specs.Versions.{most_processes, most_registers}
 use Rattle.reg_reports.proofs.Heads.{counted_more, head_behind}
 use Rattle.reg_reports.proofs.Stopping.{stops_now, told_why}
 

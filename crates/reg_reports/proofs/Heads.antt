@@ -8,14 +8,14 @@ use Rattle.reg_text.specs.declared.faults.Why.{Why}
 use Rattle.reg_text.specs.declared.faults.Why.TheVariants.{Form as TextForm, End as TextEnd}
 use Rattle.reg_text.specs.declared.faults.TextFault.{TextFault}
 use Rattle.reg_text.specs.declared.faults.TextFault.TheVariants.{Line as TextLine, OutOfMemory as TextOutOfMemory}
-use Rattle.reg_reports.specs.ReadFaults.{read_fault, why_of}
+use Rattle.reg_lines.specs.ReadFaults.{read_fault, why_of}
 use Rattle.reg_reports.specs.Reports.{head_lines, is_front}
 use Rattle.reg_reports.specs.Refusals.{IsNoCount, IsNoFront, IsNoVersion, IsWrongCounted, IsWrongHead, IsWrongItem, IsWrongNames}
 use Rattle.reg_reports.specs.Stops.{IsFailure, IsFirst}
-use Rattle.reg_reports.specs.declared.report_faults.ReadWhy.{ReadWhy}
-use Rattle.reg_reports.specs.declared.versions.Version.{Version}
-use Rattle.reg_reports.specs.declared.versions.Version.TheVariants.{One, Two}
-use Rattle.reg_reports.specs.Versions.{most_processes, most_registers, version_line}
+use Rattle.reg_lines.specs.declared.report_faults.ReadWhy.{ReadWhy}
+use Rattle.reg_lines.specs.declared.versions.Version.{Version}
+use Rattle.reg_lines.specs.declared.versions.Version.TheVariants.{One, Two}
+use Rattle.reg_lines.specs.Versions.{most_processes, most_registers, version_line}
 use Rattle.reg_reports.proofs.Stopping.{stops_now, same_why, told_why}
 
 -- the first line of a part with a count is wrong, or one behind it

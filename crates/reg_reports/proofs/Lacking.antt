@@ -10,26 +10,27 @@ use Rattle.reg_base.specs.declared.memory.OpId.{OpId}
 use Rattle.reg_base.specs.declared.memory.Answer.{Answer}
 use Rattle.reg_base.specs.declared.memory.Answer.TheVariants.{Done, Value}
 use Rattle.reg_base.specs.Names.{is_name, names_fault}
-use Rattle.reg_histories.specs.declared.entries.Entry.{Entry}
-use Rattle.reg_histories.specs.declared.entries.Entry.TheVariants.{Called, Answered}
+use Rattle.reg_entries.specs.declared.entries.Entry.{Entry}
+use Rattle.reg_entries.specs.declared.entries.Entry.TheVariants.{Called, Answered}
 use Rattle.reg_text.specs.Columns.{to_right, to_left}
 use Rattle.reg_text.specs.Parts.{Lacks}
-use Rattle.reg_histories.specs.declared.entries.Point.{Point}
+use Rattle.reg_entries.specs.declared.entries.Point.{Point}
 use Rattle.reg_text.specs.Lines.{text_of, lines_of}
-use Rattle.reg_reports.specs.Reports.{Contents, counted_lines, tail_lines, lines_in, registers_lines, IsReportIn, PointsFit, is_front}
+use Rattle.reg_lines.specs.Counted.{counted_lines}
+use Rattle.reg_reports.specs.Reports.{Contents, tail_lines, lines_in, registers_lines, IsReportIn, PointsFit, is_front}
 use Rattle.reg_text.proofs.NamesLack.{both_true, name_lacks, well_spelt}
 use Rattle.reg_text.proofs.Joining.{joined, spaces_lack, number, op_lacks}
 use Rattle.reg_text.proofs.Split.{AllLack, lines_text, line_last, none_left, text_lines}
 use Rattle.reg_text.specs.Ops.{op_text}
-use Rattle.reg_reports.specs.EntryLines.{answer_text, columns_text, entry_text, AnswerFits, ColumnsFit, EntryFits}
-use Rattle.reg_reports.specs.IdLines.{id_text, IdFits, point_text, PointFits}
-use Rattle.reg_reports.specs.declared.versions.Version.{Version}
-use Rattle.reg_reports.specs.declared.versions.Version.TheVariants.{One, Two}
-use Rattle.reg_reports.specs.Versions.{version_line}
-use Rattle.reg_reports.proofs.Older.{few_processes}
+use Rattle.reg_lines.specs.EntryLines.{answer_text, columns_text, entry_text, AnswerFits, ColumnsFit, EntryFits}
+use Rattle.reg_lines.specs.IdLines.{id_text, IdFits, point_text, PointFits}
+use Rattle.reg_lines.specs.declared.versions.Version.{Version}
+use Rattle.reg_lines.specs.declared.versions.Version.TheVariants.{One, Two}
+use Rattle.reg_lines.specs.Versions.{version_line}
+use Rattle.reg_lines.proofs.Fewer.{few_processes}
 use Rattle.reg_text.proofs.Worded.{few}
 use Rattle.reg_reports.proofs.Listed.{all_spelt}
-use Rattle.reg_reports.specs.declared.report_limits.TheConstants.{LONGEST_FRONT}
+use Rattle.reg_lines.specs.declared.report_limits.TheConstants.{LONGEST_FRONT}
 use Rattle.reg_text.specs.Words.{names_text, is_front_letter}
 
 answer_lacks : (x : Answer) → AnswerFits x → Lacks 10 (answer_text x)

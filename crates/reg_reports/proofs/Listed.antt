@@ -4,7 +4,7 @@ use Rattle.std.specs.Fmt.{decimal}
 use Rattle.reg_base.specs.Names.{is_name, names_fault}
 use Rattle.reg_text.specs.Inner.{IsBlock}
 use Rattle.reg_text.proofs.NamesLack.{well_spelt}
-use Rattle.reg_reports.specs.Reports.{counted_lines}
+use Rattle.reg_lines.specs.Counted.{counted_lines}
 
 each : (ns : List (List ℕ)) → ((r : ℕ) → r < length ns → is_name (get_or ns r []) ≡ true) → (k : ℕ) (x : List ℕ) → slice_get ns k ≡ Some x → is_name x ≡ true
 each [] h k x e = absurd (cc)

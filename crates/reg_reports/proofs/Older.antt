@@ -1,24 +1,15 @@
 -- What is within the limits of any version is within those of version 2.
 use Rattle.std.proofs.Common.{ℕ, ◌≡◌, ◌≤◌, inl, inr, List, ◌∷◌, ◌++◌, [], Option, None, Some, arith, refl, sym, ap, get_or, ◌∙◌}
-use Rattle.reg_base.specs.declared.limits.TheConstants.{MOST_PROCESSES, MOST_REGISTERS}
 use Rattle.reg_base.specs.declared.memory.OpId.{OpId}
-use Rattle.reg_histories.specs.declared.entries.Entry.{Entry}
-use Rattle.reg_histories.specs.declared.entries.Entry.TheVariants.{Called, Answered}
-use Rattle.reg_histories.specs.declared.entries.Point.{Point}
-use Rattle.reg_reports.specs.declared.versions.Version.{Version}
-use Rattle.reg_reports.specs.declared.versions.Version.TheVariants.{One, Two}
-use Rattle.reg_reports.specs.Versions.{most_processes, most_registers}
-use Rattle.reg_reports.specs.EntryLines.{EntryFits, ColumnsFit}
-use Rattle.reg_reports.specs.IdLines.{IdFits}
+use Rattle.reg_entries.specs.declared.entries.Entry.{Entry}
+use Rattle.reg_entries.specs.declared.entries.Entry.TheVariants.{Called, Answered}
+use Rattle.reg_entries.specs.declared.entries.Point.{Point}
+use Rattle.reg_lines.specs.declared.versions.Version.{Version}
+use Rattle.reg_lines.specs.declared.versions.Version.TheVariants.{One, Two}
+use Rattle.reg_lines.proofs.Fewer.{few_processes, few_registers}
+use Rattle.reg_lines.specs.EntryLines.{EntryFits, ColumnsFit}
+use Rattle.reg_lines.specs.IdLines.{IdFits}
 use Rattle.reg_reports.specs.Reports.{Contents, IsReport, IsReportIn, IsTextOf, PointsFit, text_in}
-
-pub few_processes : (version : Version) → most_processes version ≤ MOST_PROCESSES
-few_processes One = omega arith
-few_processes Two = omega arith
-
-few_registers : (version : Version) → most_registers version ≤ MOST_REGISTERS
-few_registers One = omega arith
-few_registers Two = omega arith
 
 columns_fit : (version : Version) (at process number : ℕ) → ColumnsFit version at process number → ColumnsFit Two at process number
 columns_fit version at process number f = record { at_fits = f.at_fits; process_fits = omega (arith, f.process_fits, few_processes version); number_fits = f.number_fits }

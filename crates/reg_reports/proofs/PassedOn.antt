@@ -1,8 +1,8 @@
 -- What a question mark passes on.
 use Rattle.std.proofs.Common.{◌≡◌, ◌∙◌, Result, Ok, Err, ap}
 use Rattle.std.specs.Result.{IfOk, IsErrAnd, MatchResult}
-use Rattle.reg_reports.specs.declared.report_faults.ReadFault.{ReadFault}
-use Rattle.reg_reports.specs.declared.report_faults.ReadFault.TheVariants.{OutOfMemory}
+use Rattle.reg_lines.specs.declared.report_faults.ReadFault.{ReadFault}
+use Rattle.reg_lines.specs.declared.report_faults.ReadFault.TheVariants.{OutOfMemory}
 
 -- want of memory is want of memory behind it too
 pub memory_passed_on : {T : Type 0} (r : Result T ReadFault) (P : T → Type 0) (fault : ReadFault) → IsErrAnd r (λ f. f ≡ fault) → fault ≡ OutOfMemory → MatchResult r P (λ f. f ≡ OutOfMemory)

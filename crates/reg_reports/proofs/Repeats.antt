@@ -13,10 +13,10 @@ use Rattle.reg_text.specs.Lines.{AllFit, Rest, IsAsked}
 use Rattle.reg_text.proofs.Turns.{Gathered, gathers, gathers_one, all_gathered, Taken}
 use Rattle.reg_reports.specs.Refusals.{IsAmong, IsNewName, IsNoNewName, IsWrongItem, IsWrongNext}
 use Rattle.reg_reports.specs.Stops.{IsFailure, IsNoName, IsPlaced, IsWrongName}
-use Rattle.reg_reports.specs.declared.report_faults.ReadFault.{ReadFault}
-use Rattle.reg_reports.specs.declared.report_faults.ReadFault.TheVariants.{Line, OutOfMemory}
-use Rattle.reg_reports.specs.declared.report_faults.ReadWhy.{ReadWhy}
-use Rattle.reg_reports.specs.declared.report_faults.ReadWhy.TheVariants.{Name}
+use Rattle.reg_lines.specs.declared.report_faults.ReadFault.{ReadFault}
+use Rattle.reg_lines.specs.declared.report_faults.ReadFault.TheVariants.{Line, OutOfMemory}
+use Rattle.reg_lines.specs.declared.report_faults.ReadWhy.{ReadWhy}
+use Rattle.reg_lines.specs.declared.report_faults.ReadWhy.TheVariants.{Name}
 use Rattle.reg_reports.proofs.Listed.{map_same}
 use Rattle.reg_reports.proofs.Stopping.{placed_behind, placed_now, total}
 

@@ -13,13 +13,13 @@ use Rattle.reg_text.specs.declared.faults.TextFault.TheVariants.{Line as TextLin
 use Rattle.reg_text.proofs.Formed.{number_form, no_truth}
 use Rattle.reg_text.proofs.Numbered.{asked_on, goes_on}
 use Rattle.reg_text.proofs.Turns.{Taken}
-use Rattle.reg_reports.specs.ReadFaults.{read_fault, why_of}
+use Rattle.reg_lines.specs.ReadFaults.{read_fault, why_of}
 use Rattle.reg_reports.specs.Refusals.{IsNoCount, IsWrongItem, IsWrongNext}
 use Rattle.reg_reports.specs.Stops.{IsFailure, IsFirst, IsPlaced}
-use Rattle.reg_reports.specs.declared.report_faults.ReadFault.{ReadFault}
-use Rattle.reg_reports.specs.declared.report_faults.ReadFault.TheVariants.{Line}
-use Rattle.reg_reports.specs.declared.report_faults.ReadWhy.{ReadWhy}
-use Rattle.reg_reports.specs.declared.report_faults.ReadWhy.TheVariants.{Range}
+use Rattle.reg_lines.specs.declared.report_faults.ReadFault.{ReadFault}
+use Rattle.reg_lines.specs.declared.report_faults.ReadFault.TheVariants.{Line}
+use Rattle.reg_lines.specs.declared.report_faults.ReadWhy.{ReadWhy}
+use Rattle.reg_lines.specs.declared.report_faults.ReadWhy.TheVariants.{Range}
 
 abbrev pub Wrongs : Type 1
 Wrongs = List (List ℕ) → Option (List ℕ) → ReadWhy → Type 0

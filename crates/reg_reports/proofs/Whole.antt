@@ -2,16 +2,17 @@
 use Rattle.std.proofs.Common.{ℕ, ◌≡◌, ◌<◌, ◌≤◌, true, List, length, codes, Option, None, refl, sym, ap, ◌∙◌, subst}
 use Rattle.reg_base.specs.declared.memory.OpId.{OpId}
 use Rattle.reg_base.specs.Shape.{Extent}
-use Rattle.reg_reports.specs.declared.report_limits.TheConstants.{MOST_ENTRIES, MOST_IDS}
+use Rattle.reg_lines.specs.declared.report_limits.TheConstants.{MOST_ENTRIES, MOST_IDS}
 use Rattle.reg_base.specs.Names.{names_fault}
-use Rattle.reg_histories.specs.declared.entries.Entry.{Entry}
-use Rattle.reg_histories.specs.declared.entries.Point.{Point}
-use Rattle.reg_reports.specs.Reports.{Contents, head_lines, counted_lines, tail_lines, lines_in, IsReportIn, PointsFit, is_front}
-use Rattle.reg_reports.specs.LineForms.{IsCounted, Follows}
-use Rattle.reg_reports.specs.declared.versions.Version.{Version}
-use Rattle.reg_reports.specs.Versions.{most_processes, most_registers}
-use Rattle.reg_reports.specs.EntryLines.{entry_text}
-use Rattle.reg_reports.specs.IdLines.{id_text, IdFits}
+use Rattle.reg_entries.specs.declared.entries.Entry.{Entry}
+use Rattle.reg_entries.specs.declared.entries.Point.{Point}
+use Rattle.reg_lines.specs.Counted.{counted_lines}
+use Rattle.reg_reports.specs.Reports.{Contents, head_lines, tail_lines, lines_in, IsReportIn, PointsFit, is_front}
+use Rattle.reg_lines.specs.LineForms.{IsCounted, Follows}
+use Rattle.reg_lines.specs.declared.versions.Version.{Version}
+use Rattle.reg_lines.specs.Versions.{most_processes, most_registers}
+use Rattle.reg_lines.specs.EntryLines.{entry_text}
+use Rattle.reg_lines.specs.IdLines.{id_text, IdFits}
 
 abbrev pub after_head : Contents → List (List ℕ)
 after_head r = counted_lines (codes "history ") (entry_text r.names) r.entries (counted_lines (codes "order ") id_text r.order (tail_lines r.points))

@@ -5,13 +5,13 @@ use Rattle.reg_base.specs.declared.memory.OpId.{OpId}
 use Rattle.reg_base.specs.declared.memory.Op.{Op}
 use Rattle.reg_text.specs.Lines.{AllFit}
 use Rattle.reg_text.proofs.Spelling.{op_fits}
-use Rattle.reg_histories.specs.declared.entries.Entry.{Entry}
-use Rattle.reg_histories.specs.declared.entries.Entry.TheVariants.{Called, Answered}
-use Rattle.reg_reports.specs.EntryLines.{EntryFits, ColumnsFit}
+use Rattle.reg_entries.specs.declared.entries.Entry.{Entry}
+use Rattle.reg_entries.specs.declared.entries.Entry.TheVariants.{Called, Answered}
+use Rattle.reg_lines.specs.EntryLines.{EntryFits, ColumnsFit}
 use Rattle.reg_reports.specs.Stops.{EntryHasValue}
-use Rattle.reg_reports.specs.declared.versions.Version.TheVariants.{Two}
-use Rattle.reg_histories.specs.History.{IsHistory, MayCall, MayAnswer}
-use Rattle.reg_histories.proofs.Places.{in_take}
+use Rattle.reg_lines.specs.declared.versions.Version.TheVariants.{Two}
+use Rattle.reg_entries.specs.History.{IsHistory, MayCall, MayAnswer}
+use Rattle.reg_entries.proofs.Places.{in_take}
 
 abbrev pub HaveValues : List Entry → Type 0
 HaveValues es = (k : ℕ) (e : Entry) → slice_get es k ≡ Some e → EntryHasValue e

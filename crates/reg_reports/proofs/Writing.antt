@@ -10,13 +10,14 @@ use Rattle.std.proofs.lemmas.List.Folds.{flat_map-map}
 use Rattle.reg_base.specs.declared.memory.OpId.{OpId}
 use Rattle.reg_text.specs.Columns.{to_right}
 use Rattle.reg_text.specs.Lines.{text_of}
-use Rattle.reg_histories.specs.declared.entries.Point.{Point}
-use Rattle.reg_histories.specs.declared.entries.Entry.{Entry}
+use Rattle.reg_entries.specs.declared.entries.Point.{Point}
+use Rattle.reg_entries.specs.declared.entries.Entry.{Entry}
 use Rattle.reg_reports.specs.Written.{lines_by}
-use Rattle.reg_reports.specs.Reports.{Contents, counted_lines, head_lines, tail_lines, report_text}
-use Rattle.reg_reports.specs.declared.versions.Version.TheVariants.{Two}
-use Rattle.reg_reports.specs.EntryLines.{entry_text}
-use Rattle.reg_reports.specs.IdLines.{id_text, point_text}
+use Rattle.reg_lines.specs.Counted.{counted_lines}
+use Rattle.reg_reports.specs.Reports.{Contents, head_lines, tail_lines, report_text}
+use Rattle.reg_lines.specs.declared.versions.Version.TheVariants.{Two}
+use Rattle.reg_lines.specs.EntryLines.{entry_text}
+use Rattle.reg_lines.specs.IdLines.{id_text, point_text}
 
 pub counted_text : {X : Type 0} (mark : List ℕ) (f : X → List ℕ) (xs : List X) (rest : List (List ℕ)) → text_of (counted_lines mark f xs rest) ≡ (mark ++ decimal (length xs) ++ 10 ∷ []) ++ (lines_by f xs ++ text_of rest)
 counted_text mark f xs rest =

@@ -7,20 +7,21 @@ use Rattle.reg_text.specs.Forms.{is_numeral, is_word}
 use Rattle.reg_text.specs.Lines.{AllFit, IsNumbered, lines_of}
 use Rattle.reg_text.specs.Words.{names_text, AreWords, HasWords, IsNamesWhy}
 use Rattle.reg_text.specs.declared.faults.Why.{Why}
-use Rattle.reg_histories.specs.declared.entries.Entry.{Entry}
-use Rattle.reg_histories.specs.declared.entries.Point.{Point}
+use Rattle.reg_entries.specs.declared.entries.Entry.{Entry}
+use Rattle.reg_entries.specs.declared.entries.Point.{Point}
 use Rattle.reg_base.specs.declared.memory.OpId.{OpId}
-use Rattle.reg_reports.specs.EntryLines.{entry_text}
-use Rattle.reg_reports.specs.IdLines.{id_text, IdFits, point_text, PointFits}
-use Rattle.reg_reports.specs.LineForms.{Follows, HasIdForm, HasPointForm, IsBadLine, IsCounted, IsMisplaced, IsNoEntry}
-use Rattle.reg_reports.specs.ReadFaults.{why_of}
-use Rattle.reg_reports.specs.Reports.{counted_lines, head_lines, is_front, PointsFit, tail_lines}
-use Rattle.reg_reports.specs.Versions.{most_processes, most_registers, version_line}
-use Rattle.reg_reports.specs.declared.report_faults.ReadWhy.{ReadWhy}
-use Rattle.reg_reports.specs.declared.report_faults.ReadWhy.TheVariants.{Form, Range, Name, End}
-use Rattle.reg_reports.specs.declared.report_limits.TheConstants.{MOST_ENTRIES, MOST_IDS}
-use Rattle.reg_reports.specs.declared.versions.Version.{Version}
-use Rattle.reg_reports.specs.declared.versions.Version.TheVariants.{One, Two}
+use Rattle.reg_lines.specs.EntryLines.{entry_text}
+use Rattle.reg_lines.specs.IdLines.{id_text, IdFits, point_text, PointFits}
+use Rattle.reg_lines.specs.LineForms.{Follows, HasIdForm, HasPointForm, IsBadLine, IsCounted, IsMisplaced, IsNoEntry}
+use Rattle.reg_lines.specs.ReadFaults.{why_of}
+use Rattle.reg_lines.specs.Counted.{counted_lines}
+use Rattle.reg_reports.specs.Reports.{head_lines, is_front, PointsFit, tail_lines}
+use Rattle.reg_lines.specs.Versions.{most_processes, most_registers, version_line}
+use Rattle.reg_lines.specs.declared.report_faults.ReadWhy.{ReadWhy}
+use Rattle.reg_lines.specs.declared.report_faults.ReadWhy.TheVariants.{Form, Range, Name, End}
+use Rattle.reg_lines.specs.declared.report_limits.TheConstants.{MOST_ENTRIES, MOST_IDS}
+use Rattle.reg_lines.specs.declared.versions.Version.{Version}
+use Rattle.reg_lines.specs.declared.versions.Version.TheVariants.{One, Two}
 
 -- the text ends before this line, or the line is none that may stand there, for this reason
 abbrev pub IsWrongNext : (List ℕ → ReadWhy → Type 0) → Option (List ℕ) → ReadWhy → Type 0

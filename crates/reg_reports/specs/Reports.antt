@@ -7,17 +7,18 @@ use Rattle.reg_base.specs.Shape.{Extent}
 use Rattle.reg_base.specs.Names.{names_fault}
 use Rattle.reg_text.specs.Words.{names_text, is_front_letter}
 use Rattle.reg_text.specs.Lines.{AllFit, text_of}
-use Rattle.reg_histories.specs.declared.entries.Entry.{Entry}
-use Rattle.reg_histories.specs.declared.entries.Point.{Point}
-use Rattle.reg_reports.specs.declared.report_faults.ReportFault.{ReportFault}
-use Rattle.reg_reports.specs.declared.report_faults.ReportFault.TheVariants.{Front, Names, Range}
-use Rattle.reg_reports.specs.declared.versions.Version.{Version}
-use Rattle.reg_reports.specs.declared.versions.Version.TheVariants.{One, Two}
-use Rattle.reg_reports.specs.Versions.{most_processes, most_registers, version_line}
-use Rattle.reg_reports.specs.declared.report_limits.TheConstants.{MOST_ENTRIES, MOST_IDS, LONGEST_FRONT}
-use Rattle.reg_histories.specs.History.{IsHistory}
-use Rattle.reg_reports.specs.EntryLines.{entry_text, EntryFits}
-use Rattle.reg_reports.specs.IdLines.{id_text, IdFits, point_text, PointFits}
+use Rattle.reg_entries.specs.declared.entries.Entry.{Entry}
+use Rattle.reg_entries.specs.declared.entries.Point.{Point}
+use Rattle.reg_lines.specs.declared.report_faults.ReportFault.{ReportFault}
+use Rattle.reg_lines.specs.declared.report_faults.ReportFault.TheVariants.{Front, Names, Range}
+use Rattle.reg_lines.specs.declared.versions.Version.{Version}
+use Rattle.reg_lines.specs.declared.versions.Version.TheVariants.{One, Two}
+use Rattle.reg_lines.specs.Versions.{most_processes, most_registers, version_line}
+use Rattle.reg_lines.specs.declared.report_limits.TheConstants.{MOST_ENTRIES, MOST_IDS, LONGEST_FRONT}
+use Rattle.reg_entries.specs.History.{IsHistory}
+use Rattle.reg_lines.specs.EntryLines.{entry_text, EntryFits}
+use Rattle.reg_lines.specs.IdLines.{id_text, IdFits, point_text, PointFits}
+use Rattle.reg_lines.specs.Counted.{counted_lines}
 
 -- one word, not too long, of letters a to z or hyphens
 abbrev pub is_front : List ℕ → Bool
@@ -31,10 +32,6 @@ pub record Contents : Type 0 where
   pub entries : List Entry
   pub order : List OpId
   pub points : Option (List Point)
-
--- a line with the count, and a line for each
-abbrev pub counted_lines : {X : Type 0} → List ℕ → (X → List ℕ) → List X → List (List ℕ) → List (List ℕ)
-counted_lines mark line_of xs rest = (mark ++ decimal (length xs)) ∷ (map line_of xs ++ rest)
 
 -- the names: all on one line, or their count and a line for each
 abbrev pub registers_lines : Version → List (List ℕ) → List (List ℕ) → List (List ℕ)

@@ -4,18 +4,18 @@ use Rattle.reg_base.specs.Names.{is_name}
 use Rattle.reg_text.specs.Forms.{is_word}
 use Rattle.reg_text.specs.Inner.{HasValue, IsBlock, IsNext}
 use Rattle.reg_text.specs.Lines.{AllFit, Rest, StandsIn}
-use Rattle.reg_histories.specs.declared.entries.Entry.{Entry}
-use Rattle.reg_histories.specs.declared.entries.Entry.TheVariants.{Called, Answered}
-use Rattle.reg_histories.specs.declared.entries.Point.{Point}
-use Rattle.reg_reports.specs.EntryLines.{AnswerFits}
-use Rattle.reg_reports.specs.IdLines.{point_text, PointFits}
-use Rattle.reg_reports.specs.LineForms.{HasPointForm, IsBadLine}
-use Rattle.reg_reports.specs.declared.versions.Version.{Version}
+use Rattle.reg_entries.specs.declared.entries.Entry.{Entry}
+use Rattle.reg_entries.specs.declared.entries.Entry.TheVariants.{Called, Answered}
+use Rattle.reg_entries.specs.declared.entries.Point.{Point}
+use Rattle.reg_lines.specs.EntryLines.{AnswerFits}
+use Rattle.reg_lines.specs.IdLines.{point_text, PointFits}
+use Rattle.reg_lines.specs.LineForms.{HasPointForm, IsBadLine}
+use Rattle.reg_lines.specs.declared.versions.Version.{Version}
 use Rattle.reg_reports.specs.Refusals.{IsNoEnd, IsWrongItem, IsWrongNext}
-use Rattle.reg_reports.specs.declared.report_faults.ReadFault.{ReadFault}
-use Rattle.reg_reports.specs.declared.report_faults.ReadFault.TheVariants.{Line, OutOfMemory}
-use Rattle.reg_reports.specs.declared.report_faults.ReadWhy.{ReadWhy}
-use Rattle.reg_reports.specs.declared.report_faults.ReadWhy.TheVariants.{Form as Misspelt, Name as BadName, End as NoLine}
+use Rattle.reg_lines.specs.declared.report_faults.ReadFault.{ReadFault}
+use Rattle.reg_lines.specs.declared.report_faults.ReadFault.TheVariants.{Line, OutOfMemory}
+use Rattle.reg_lines.specs.declared.report_faults.ReadWhy.{ReadWhy}
+use Rattle.reg_lines.specs.declared.report_faults.ReadWhy.TheVariants.{Form as Misspelt, Name as BadName, End as NoLine}
 
 -- the value of its operation or answer has 64 bits
 abbrev pub EntryHasValue : Entry → Type 0

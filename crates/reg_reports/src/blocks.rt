@@ -1,21 +1,20 @@
 //! As many lines as a count announces.
 ghost use Rattle.std.specs.Prelude.{◌≡◌, ℕ, List, [], ◌∷◌, Option, None, Ok, IfOk, IfErr, OnOk, MatchResult};
 ghost use Rattle.reg_base.specs.Names.{names_fault};
-ghost use Rattle.reg_histories.specs.declared.entries.Entry.{Entry};
-ghost use Rattle.reg_reports.specs.declared.report_faults.ReadWhy.{ReadWhy as Why};
-ghost use Rattle.reg_reports.specs.LineForms.{Follows, IsBadLine};
+ghost use Rattle.reg_entries.specs.declared.entries.Entry.{Entry};
+ghost use Rattle.reg_lines.specs.declared.report_faults.ReadWhy.{ReadWhy as Why};
+ghost use Rattle.reg_lines.specs.LineForms.{Follows, IsBadLine};
 ghost use Rattle.reg_reports.specs.Refusals.{IsNoNextEntry, IsWrongItem, IsWrongNext};
 ghost use Rattle.reg_reports.specs.Stops.{IsFailure};
-ghost use Rattle.reg_reports.specs.EntryLines.{entry_text};
+ghost use Rattle.reg_lines.specs.EntryLines.{entry_text};
 ghost use Rattle.reg_text.specs.Inner.{GoesOn, IsBlock, IsNext};
 ghost use Rattle.reg_text.specs.Lines.{IsAsked};
 
-use crate::entry_lines::{read_entry, why_entry};
-use crate::items::{Listed, why_unlisted};
-use crate::report_faults::{ReadFault, ReadWhy, at_line};
-use crate::versions::Version;
 use reg_base::Names;
 use reg_histories::{History, HistoryFault};
+use reg_lines::{
+    Listed, ReadFault, ReadWhy, Version, at_line, read_entry, why_entry, why_unlisted,
+};
 use reg_text::Lines;
 use std::alloc::Allocator;
 

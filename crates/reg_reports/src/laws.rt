@@ -1,7 +1,7 @@
 //! The law of the texts of reports. It is a function that does nothing: its contract is the law.
 ghost use Rattle.std.specs.Prelude.{List, ℕ};
 ghost use Rattle.reg_reports.specs.Reports.{Contents, IsTextOf, text_in};
-ghost use Rattle.reg_reports.specs.declared.versions.Version.TheVariants.{One, Two};
+ghost use Rattle.reg_lines.specs.declared.versions.Version.TheVariants.{One, Two};
 
 /// No text spells a report in version 1 and a report in version 2.
 pub fn no_text_has_both_versions()

@@ -3,19 +3,17 @@ ghost use Rattle.std.specs.Prelude.{◌≡◌, ◌≢◌, ◌<◌, ◌≤◌, �
 ghost use Rattle.reg_base.specs.Names.{is_name as is_name_of, names_fault, texts};
 ghost use Rattle.reg_text.specs.Inner.{GoesOn, IsBlock};
 ghost use Rattle.reg_text.specs.Forms.{is_word as is_word_of};
-ghost use Rattle.reg_reports.specs.declared.versions.Version.{Version};
-ghost use Rattle.reg_reports.specs.declared.versions.Version.TheVariants.{One, Two};
+ghost use Rattle.reg_lines.specs.declared.versions.Version.{Version};
+ghost use Rattle.reg_lines.specs.declared.versions.Version.TheVariants.{One, Two};
 ghost use Rattle.reg_reports.specs.Refusals.{IsNewName, IsNoNewName, IsWrongItem, IsWrongNames};
 ghost use Rattle.reg_reports.specs.Stops.{IsFailure, IsWrongName};
 ghost use Rattle.reg_base.specs.declared.limits.TheConstants.{MOST_REGISTERS};
-ghost use Rattle.reg_reports.specs.Versions.{most_registers};
+ghost use Rattle.reg_lines.specs.Versions.{most_registers};
 ghost use Rattle.reg_reports.specs.Reports.{registers_lines};
 
-use crate::report_faults::{ReadFault, ReadWhy, at_line};
-use crate::report_limits::OLDER_REGISTERS;
-use crate::versions::Version;
 use reg_base::limits::MOST_REGISTERS;
 use reg_base::{Names, NamesFault, is_name};
+use reg_lines::{OLDER_REGISTERS, ReadFault, ReadWhy, Version, at_line};
 use reg_text::{Lines, is_word, owned, read_count, read_names};
 use std::alloc::{AllocError, Allocator};
 

@@ -3,27 +3,25 @@ ghost use Rattle.std.specs.Prelude.{◌≡◌, ◌<◌, ◌≤◌, length, ℕ, 
 ghost use Rattle.std.specs.Fmt.{decimal};
 ghost use Rattle.reg_base.specs.Names.{names_fault};
 ghost use Rattle.reg_base.specs.declared.memory.OpId.{OpId};
-ghost use Rattle.reg_histories.specs.declared.entries.Entry.{Entry};
-ghost use Rattle.reg_histories.specs.declared.entries.Point.{Point};
-ghost use Rattle.reg_reports.specs.EntryLines.{entry_text};
+ghost use Rattle.reg_entries.specs.declared.entries.Entry.{Entry};
+ghost use Rattle.reg_entries.specs.declared.entries.Point.{Point};
+ghost use Rattle.reg_lines.specs.EntryLines.{entry_text};
 ghost use Rattle.reg_reports.specs.Reports.{is_front as is_front_of};
-ghost use Rattle.reg_reports.specs.IdLines.{id_text, IdFits, point_text, PointFits};
+ghost use Rattle.reg_lines.specs.IdLines.{id_text, IdFits, point_text, PointFits};
 ghost use Rattle.reg_text.specs.Inner.{GoesOn, IsBlock};
-ghost use Rattle.reg_reports.specs.LineForms.{Follows, HasIdForm, IsBadLine, IsCounted};
+ghost use Rattle.reg_lines.specs.LineForms.{Follows, HasIdForm, IsBadLine, IsCounted};
 ghost use Rattle.reg_reports.specs.Refusals.{IsNoCount, IsNoFront, IsNoNextEntry, IsNoVersion, IsWrongCounted, IsWrongHead, IsWrongLists, IsWrongTail};
 ghost use Rattle.reg_reports.specs.Stops.{IsFailure, IsFirst, IsFurther, IsWrongEnd, IsWrongPoints};
-ghost use Rattle.reg_reports.specs.declared.report_faults.ReadWhy.{ReadWhy as Why};
+ghost use Rattle.reg_lines.specs.declared.report_faults.ReadWhy.{ReadWhy as Why};
 ghost use Rattle.reg_reports.specs.Reports.{tail_lines, PointsFit, head_lines};
-ghost use Rattle.reg_reports.specs.declared.versions.Version.{Version};
-ghost use Rattle.reg_reports.specs.Versions.{most_processes, most_registers, version_line};
+ghost use Rattle.reg_lines.specs.declared.versions.Version.{Version};
+ghost use Rattle.reg_lines.specs.Versions.{most_processes, most_registers, version_line};
 
 use crate::blocks::{read_block, read_entries};
 use crate::name_lines::read_registers;
-use crate::report_faults::{ReadFault, ReadWhy, at_line};
-use crate::report_limits::{LONGEST_FRONT, MOST_ENTRIES, MOST_IDS};
-use crate::versions::Version;
 use reg_base::{Names, OpId, Shape};
 use reg_histories::{History, Point};
+use reg_lines::{LONGEST_FRONT, MOST_ENTRIES, MOST_IDS, ReadFault, ReadWhy, Version, at_line};
 use reg_text::{
     Lines, are_front_letters, expect_line, numeral_within, owned, read_count, skip, why_number,
 };

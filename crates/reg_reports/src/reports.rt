@@ -2,23 +2,22 @@
 ghost use Rattle.std.specs.Prelude.{◌≡◌, ◌↔◌, ◌⊎◌, ◌-◌, ◌^◌, ◌<◌, ◌≤◌, ℕ, length, Some, IfOk, IfErr, OnOk, MatchOption, MatchResult, IsTrue, option_map, slice_get, string_bytes};
 ghost use Rattle.std.specs.Io.KnownBytes.{Appends};
 ghost use Rattle.reg_text.specs.Writing.{AppendsPart, Puts};
-ghost use Rattle.reg_histories.specs.declared.entries.Entry.{Entry};
+ghost use Rattle.reg_entries.specs.declared.entries.Entry.{Entry};
 ghost use Rattle.reg_reports.specs.Refusals.{IsFirstWrong, RefusesReportLine};
 ghost use Rattle.reg_reports.specs.Stops.{EntryHasValue, IsFailure};
-ghost use Rattle.reg_reports.specs.declared.report_faults.ReadWhy.{ReadWhy as Why};
-ghost use Rattle.reg_reports.specs.declared.versions.Version.{Version};
-ghost use Rattle.reg_reports.specs.declared.versions.Version.TheVariants.{Two};
+ghost use Rattle.reg_lines.specs.declared.report_faults.ReadWhy.{ReadWhy as Why};
+ghost use Rattle.reg_lines.specs.declared.versions.Version.{Version};
+ghost use Rattle.reg_lines.specs.declared.versions.Version.TheVariants.{Two};
 ghost use Rattle.reg_reports.specs.Reports.{lines_in, report_text, IsReport, IsReportIn, IsReportFault, InRange, PointsFit, SpellsReport, Contents};
 
-use crate::items::all_fit;
 use crate::parts::{is_front, read_head, read_history, read_lists};
-use crate::report_faults::{ReadFault, ReadWhy, ReportFault, WriteFault, at_line};
-use crate::report_limits::{MOST_ENTRIES, MOST_IDS};
-use crate::versions::Version;
 use crate::write::{put_count, put_entries, put_head, put_ids, put_tail};
 use reg_base::limits::MOST_PROCESSES;
 use reg_base::{Names, OpId, Shape};
 use reg_histories::{Entry, History, Point};
+use reg_lines::{
+    MOST_ENTRIES, MOST_IDS, ReadFault, ReadWhy, ReportFault, Version, WriteFault, all_fit, at_line,
+};
 use reg_text::{Lines, Sink};
 use std::alloc::{Allocator, Global};
 use std::io::Write;

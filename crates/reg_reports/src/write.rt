@@ -1,14 +1,14 @@
 //! Writing a report.
 ghost use Rattle.std.specs.Prelude.{◌≡◌, ◌≤◌, ◌++◌, ◌∷◌, [], codes, option_map, drop, replicate};
 ghost use Rattle.std.specs.Fmt.{decimal};
-ghost use Rattle.reg_reports.specs.EntryLines.{answer_text, entry_text};
-ghost use Rattle.reg_reports.specs.IdLines.{id_text, point_text};
+ghost use Rattle.reg_lines.specs.EntryLines.{answer_text, entry_text};
+ghost use Rattle.reg_lines.specs.IdLines.{id_text, point_text};
 ghost use Rattle.reg_reports.specs.Written.{lines_by};
 ghost use Rattle.reg_text.specs.Columns.{to_left, to_right};
 ghost use Rattle.reg_text.specs.Ops.{op_text};
 ghost use Rattle.reg_text.specs.Lines.{text_of};
 ghost use Rattle.reg_text.specs.Writing.{Puts};
-ghost use Rattle.reg_reports.specs.declared.versions.Version.TheVariants.{Two};
+ghost use Rattle.reg_lines.specs.declared.versions.Version.TheVariants.{Two};
 ghost use Rattle.reg_reports.specs.Reports.{head_lines, tail_lines};
 
 use itoa::{Buffer, write_digits};

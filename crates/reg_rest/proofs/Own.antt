@@ -13,8 +13,8 @@ use Rattle.reg_frames.specs.declared.bodies.Frame.{Frame}
 use Rattle.reg_frames.specs.declared.bodies.Frame.TheVariants.{Numbered, Got}
 use Rattle.reg_front.specs.declared.starts.Start.{Start}
 use Rattle.reg_front.specs.declared.starts.Start.TheVariants.{Cast as Casts, CastAndAnswer as CastsAndAnswers, Look as Looks, Hold as Holds}
-use Rattle.reg_process.specs.declared.steps.Step.{Step}
-use Rattle.reg_process.specs.declared.steps.Step.TheVariants.{Call as CallStep, Take as TakeStep, Tick as TickStep}
+use Rattle.reg_steps.specs.declared.steps.Step.{Step}
+use Rattle.reg_steps.specs.declared.steps.Step.TheVariants.{Call as CallStep, Take as TakeStep, Tick as TickStep}
 use Rattle.reg_process.specs.Process.{State, Peer, no_peer, peer_at, step, called, taken, accepted, quiet, got_frames, accepts, queue_from, unsettled}
 use Rattle.reg_process.proofs.Again.{replicate_at}
 use Rattle.reg_process.proofs.Peers.{queue_same}

@@ -7,7 +7,7 @@ use Rattle.reg_base.specs.declared.memory.Op.{Op}
 use Rattle.reg_frames.specs.declared.bodies.Body.{Body}
 use Rattle.reg_frames.specs.declared.bodies.Frame.TheVariants.{Numbered, Got}
 use Rattle.reg_front.specs.declared.starts.Start.{Start}
-use Rattle.reg_process.specs.declared.steps.Step.TheVariants.{Take as TakeStep}
+use Rattle.reg_steps.specs.declared.steps.Step.TheVariants.{Take as TakeStep}
 use Rattle.reg_process.specs.Process.{State, peer_at, pending_of, numbered_from, resent}
 use Rattle.reg_world.specs.declared.events.Event.{Event}
 use Rattle.reg_world.specs.declared.events.Event.TheVariants.{Take}

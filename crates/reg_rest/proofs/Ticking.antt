@@ -4,7 +4,7 @@ use Rattle.std.proofs.lemmas.Bool.{cases_eq}
 use Rattle.reg_base.specs.declared.limits.TheConstants.{MOST_EVENTS}
 use Rattle.reg_base.specs.declared.memory.Op.{Op}
 use Rattle.reg_front.specs.declared.starts.Start.{Start}
-use Rattle.reg_process.specs.declared.steps.Step.TheVariants.{Tick as TickStep}
+use Rattle.reg_steps.specs.declared.steps.Step.TheVariants.{Tick as TickStep}
 use Rattle.reg_process.specs.Process.{peer_at, pending_of, resent}
 use Rattle.reg_world.specs.declared.events.Event.TheVariants.{Tick}
 use Rattle.reg_world.specs.Nodes.{Node, Nodes, after_step}

@@ -5,7 +5,7 @@ use Rattle.reg_base.specs.declared.memory.Op.{Op}
 use Rattle.reg_frames.specs.declared.bodies.Frame.{Frame}
 use Rattle.reg_frames.specs.declared.bodies.Frame.TheVariants.{Got}
 use Rattle.reg_front.specs.declared.starts.Start.{Start}
-use Rattle.reg_histories.specs.History.{IsAt}
+use Rattle.reg_entries.specs.History.{IsAt}
 use Rattle.reg_process.specs.Process.{Peer, peer_at, pending_of, resent}
 use Rattle.reg_world.specs.declared.events.Event.{Event}
 use Rattle.reg_world.specs.Nodes.{Nodes}

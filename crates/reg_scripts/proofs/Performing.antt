@@ -3,9 +3,9 @@ use Rattle.std.proofs.Common.{◌≡◌, ℕ, zero, suc, ◌+◌, ◌⊎◌, inl
 use Rattle.std.specs.Prelude.{is_ok}
 use Rattle.std.proofs.lemmas.Option.{same_Some}
 use Rattle.reg_base.specs.declared.memory.Op.{Op}
-use Rattle.reg_histories.specs.History.{IsAt}
-use Rattle.reg_histories.proofs.Places.{at_map}
-use Rattle.reg_histories.proofs.Pushing.{at_push}
+use Rattle.reg_entries.specs.History.{IsAt}
+use Rattle.reg_entries.proofs.Places.{at_map}
+use Rattle.reg_entries.proofs.Pushing.{at_push}
 use Rattle.reg_records.specs.declared.entries.Receipt.{Receipt}
 use Rattle.reg_live.specs.Passes.{Held, AreOwn, IsListOf}
 use Rattle.reg_scripts.specs.Scripts.{ops_of, IsBack, AreStarted, ArePerformed}

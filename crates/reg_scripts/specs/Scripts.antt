@@ -1,7 +1,7 @@
 -- Scripts, and what was performed of them.
 use Rattle.std.specs.Prelude.{ℕ, ◌≡◌, ◌++◌, ◌∷◌, [], List, length, map, take, Option, None}
 use Rattle.reg_base.specs.declared.memory.Op.{Op}
-use Rattle.reg_histories.specs.History.{IsAt}
+use Rattle.reg_entries.specs.History.{IsAt}
 use Rattle.reg_records.specs.declared.entries.Receipt.{Receipt}
 use Rattle.reg_stations.specs.declared.faults.LiveFault.{LiveFault}
 use Rattle.reg_live.specs.Passes.{Held}

@@ -4,14 +4,14 @@ use Rattle.std.specs.Prelude.{slice_get, nat_lt, not, ◌&&◌}
 use Rattle.std.proofs.lemmas.Bool.{cond_both, ltb-true, and_parts}
 use Rattle.std.proofs.lemmas.Option.{same_Some}
 use Rattle.reg_base.specs.declared.limits.TheConstants.{MOST_OPERATIONS}
-use Rattle.reg_process.specs.declared.steps.Step.TheVariants.{Call as CallStep}
+use Rattle.reg_steps.specs.declared.steps.Step.TheVariants.{Call as CallStep}
 use Rattle.reg_world.specs.Nodes.{Nodes, step_of}
 use Rattle.std.specs.Option.{is_some}
 use Rattle.reg_base.specs.declared.memory.Op.{Op}
 use Rattle.reg_base.specs.declared.memory.Op.TheVariants.{Read, Write, Swap}
 use Rattle.reg_base.specs.Memory.{register_of}
 use Rattle.reg_front.specs.declared.starts.Start.{Start}
-use Rattle.reg_process.specs.declared.steps.Step.{Step}
+use Rattle.reg_steps.specs.declared.steps.Step.{Step}
 use Rattle.reg_text.specs.Ops.{OpFits}
 use Rattle.reg_text.specs.Inner.{HasValue}
 use Rattle.reg_workloads.specs.Loads.{Load, IsLoad}

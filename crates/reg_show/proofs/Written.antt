@@ -1,6 +1,6 @@
 -- What is told of a schedule, and what was written of it.
 use Rattle.std.proofs.Common.{◌≡◌, ◌∙◌, ℕ, List, ap₂, subst}
-use Rattle.reg_histories.specs.declared.entries.Entry.{Entry}
+use Rattle.reg_entries.specs.declared.entries.Entry.{Entry}
 use Rattle.reg_schedules.specs.Schedules.{Plan, IsPlan, Spells}
 use Rattle.reg_commands.specs.Replays.{start_of}
 use Rattle.reg_moments.specs.Moments.{Fact}

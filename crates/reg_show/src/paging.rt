@@ -6,7 +6,7 @@ ghost use Rattle.reg_schedules.specs.Schedules.{IsPlan, Spells};
 ghost use Rattle.reg_commands.specs.Replays.{start_of, BlamesRun, PointsOf, ShowsPoints};
 ghost use Rattle.reg_data.specs.Data.{data_text};
 ghost use Rattle.reg_data.specs.Json.{one_text};
-ghost use Rattle.reg_histories.specs.declared.entries.Point.{Point as AnyPoint};
+ghost use Rattle.reg_entries.specs.declared.entries.Point.{Point as AnyPoint};
 ghost use Rattle.reg_notes.specs.Notes.{notes_of};
 ghost use Rattle.reg_show.specs.Pages.{HasData, ShowsData};
 ghost use Rattle.reg_show.specs.Runs.{BlamesDrawn};

@@ -3,9 +3,9 @@ use Rattle.std.proofs.Common.{◌≡◌, ℕ, ◌-◌, Bool, true, false, List, 
 use Rattle.std.specs.Prelude.{cond}
 use Rattle.reg_base.specs.declared.memory.Op.{Op}
 use Rattle.reg_front.specs.declared.starts.Start.{Start}
-use Rattle.reg_process.specs.declared.steps.Step.{Step}
-use Rattle.reg_process.specs.declared.faults.ProcessFault.{ProcessFault}
-use Rattle.reg_process.specs.declared.faults.ProcessFault.TheVariants.{Failed, NoProcess, Busy, NoRegister, TooManyOperations, Ahead, Stale, ClockFull, OutOfMemory}
+use Rattle.reg_steps.specs.declared.steps.Step.{Step}
+use Rattle.reg_steps.specs.declared.faults.ProcessFault.{ProcessFault}
+use Rattle.reg_steps.specs.declared.faults.ProcessFault.TheVariants.{Failed, NoProcess, Busy, NoRegister, TooManyOperations, Ahead, Stale, ClockFull, OutOfMemory}
 use Rattle.reg_process.specs.Process.{State, step}
 use Rattle.reg_process.specs.Faults.{step_fault, is_stop}
 use Rattle.reg_process.specs.Events.{Kept, IsGoing, Refused, process_fault}

@@ -2,10 +2,10 @@
 use Rattle.std.specs.Prelude.{ℕ, ◌≤◌, ◌<◌, Bool, false, Option, Some, None, nat_lt, nat_le, if◌then◌else◌}
 use Rattle.reg_base.specs.declared.limits.TheConstants.{MOST_EVENTS}
 use Rattle.reg_base.specs.Memory.{register_of}
-use Rattle.reg_process.specs.declared.steps.Step.{Step}
-use Rattle.reg_process.specs.declared.steps.Step.TheVariants.{Call, Take, Tick}
-use Rattle.reg_process.specs.declared.faults.ProcessFault.{ProcessFault}
-use Rattle.reg_process.specs.declared.faults.ProcessFault.TheVariants.{TooManyOperations, OutOfMemory as NoMemory}
+use Rattle.reg_steps.specs.declared.steps.Step.{Step}
+use Rattle.reg_steps.specs.declared.steps.Step.TheVariants.{Call, Take, Tick}
+use Rattle.reg_steps.specs.declared.faults.ProcessFault.{ProcessFault}
+use Rattle.reg_steps.specs.declared.faults.ProcessFault.TheVariants.{TooManyOperations, OutOfMemory as NoMemory}
 use Rattle.reg_stations.specs.declared.faults.LiveFault.{LiveFault}
 use Rattle.reg_stations.specs.declared.faults.LiveFault.TheVariants.{Failed, NoRegister, Behind, Full, OutOfMemory}
 

@@ -4,7 +4,7 @@ use Rattle.std.specs.Prelude.{IfSome, ◌^◌, ◌-◌}
 use Rattle.std.specs.BTreeMap.{BTreeMap, get, Updates, is_at}
 use Rattle.std.proofs.lemmas.Bool.{cases_Bool, false≢true}
 use Rattle.std.proofs.lemmas.Option.{same_Some}
-use Rattle.reg_histories.specs.History.{IsAt}
+use Rattle.reg_entries.specs.History.{IsAt}
 use Rattle.reg_tables.specs.declared.outcomes.ToldValue.{ToldValue}
 use Rattle.reg_tables.specs.declared.tallies.Tally.{Tally}
 use Rattle.reg_tables.specs.Tables.{Seen, HasOutcome, IsNoShorter, IsTally, IsTallyOf, Nothing}

@@ -10,8 +10,8 @@ use Rattle.std.proofs.lemmas.Option.{slice_get_within}
 use Rattle.std.proofs.lemmas.List.Sorted.{IsPermutation-sym, Contains-permutation, sorted_far, ranks_by}
 use Rattle.std.proofs.lemmas.Map.Entries.{place_from_lookup, btree_map_get_place}
 use Rattle.std.proofs.lemmas.Map.Keys.{IsDistinct-from_sorted, IsDistinct-IsPermutation, apart_from_distinct}
-use Rattle.reg_histories.specs.History.{IsAt}
-use Rattle.reg_histories.proofs.Places.{IsAt-map, at_map}
+use Rattle.reg_entries.specs.History.{IsAt}
+use Rattle.reg_entries.proofs.Places.{IsAt-map, at_map}
 use Rattle.reg_tables.specs.declared.outcomes.ToldValue.{ToldValue}
 use Rattle.reg_tables.specs.declared.tallies.Tally.{Tally}
 use Rattle.reg_tables.specs.Tables.{Seen, Line, IsTallyOf, IsTable, StandsBefore}

@@ -3,7 +3,7 @@ use Rattle.std.proofs.Common.{◌≡◌, ℕ, zero, suc, ◌+◌, ◌<◌, List,
 use Rattle.std.specs.List.{flat_map, range_with_len}
 use Rattle.std.proofs.lemmas.Grind.{flat_map-append}
 use Rattle.std.proofs.lemmas.List.{take_more}
-use Rattle.reg_histories.specs.declared.entries.Entry.{Entry}
+use Rattle.reg_entries.specs.declared.entries.Entry.{Entry}
 use Rattle.reg_tables.specs.declared.outcomes.ToldValue.{ToldValue}
 use Rattle.reg_tables.specs.Outcomes.{told_at, told_of, outcome_of}
 

@@ -4,8 +4,8 @@ use Rattle.std.specs.List.{flat_map, range_with_len}
 use Rattle.reg_base.specs.declared.memory.Answer.{Answer}
 use Rattle.reg_base.specs.declared.memory.Answer.TheVariants.{Done, Value}
 use Rattle.reg_base.specs.declared.memory.OpId.{OpId}
-use Rattle.reg_histories.specs.declared.entries.Entry.{Entry}
-use Rattle.reg_histories.specs.declared.entries.Entry.TheVariants.{Called, Answered}
+use Rattle.reg_entries.specs.declared.entries.Entry.{Entry}
+use Rattle.reg_entries.specs.declared.entries.Entry.TheVariants.{Called, Answered}
 use Rattle.reg_tables.specs.declared.outcomes.ToldValue.{ToldValue}
 
 -- the value that an answer tells, if it has one

@@ -4,7 +4,7 @@ use Rattle.std.specs.Ordering.{nat_cmp, ordering_then}
 use Rattle.std.specs.declared.cmp.Ordering.{Ordering}
 use Rattle.std.specs.declared.cmp.Ordering.TheVariants.{Less}
 use Rattle.std.specs.Cmp.Lexicographic.{slice_cmp}
-use Rattle.reg_histories.specs.History.{IsAt}
+use Rattle.reg_entries.specs.History.{IsAt}
 use Rattle.reg_tables.specs.declared.outcomes.ToldValue.{ToldValue}
 use Rattle.reg_tables.specs.declared.tallies.Tally.{Tally}
 

@@ -3,7 +3,7 @@ use Rattle.std.specs.Prelude.{ℕ, ◌≡◌, ◌<◌, ◌⊎◌, ⊤, Bool, tru
 use Rattle.std.specs.Str.{IsUtf8}
 use Rattle.reg_base.specs.declared.limits.TheConstants.{LONGEST_INPUT}
 use Rattle.reg_front.specs.Table.{front_name}
-use Rattle.reg_histories.specs.declared.entries.Point.{Point}
+use Rattle.reg_entries.specs.declared.entries.Point.{Point}
 use Rattle.reg_reports.specs.Reports.{Contents, IsReport, SpellsReport}
 use Rattle.reg_workloads.specs.Loads.{Load}
 use Rattle.reg_schedules.specs.Schedules.{Plan, IsPlan, Spells}

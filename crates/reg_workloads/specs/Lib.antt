@@ -1,3 +1,4 @@
 pub mod Keys
 pub mod Loads
 pub mod Judged
+pub mod FaultTexts

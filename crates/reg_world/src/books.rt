@@ -3,7 +3,7 @@ ghost use Rattle.std.specs.Prelude.{◌≡◌, ◌<◌, ◌≤◌, ◌+◌, ◌-
 ghost use Rattle.std.specs.List.{filter};
 ghost use Rattle.reg_base.specs.declared.stamps.Delivered.{Delivered};
 ghost use Rattle.reg_base.specs.Order.{In};
-ghost use Rattle.reg_histories.specs.History.{IsAt, IsHistory};
+ghost use Rattle.reg_entries.specs.History.{IsAt, IsHistory};
 ghost use Rattle.reg_world.specs.World.{op_id, calls_in, answers_in};
 ghost use Rattle.reg_world.specs.Tallies.{Tally, no_calls};
 ghost use Rattle.reg_world.specs.Witnesses.{is_after as is_after_of, last_stamp as last_stamp_of};

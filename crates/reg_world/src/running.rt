@@ -1,8 +1,8 @@
 //! All processes and wires of a run, one event after another.
 ghost use Rattle.std.specs.Prelude.{◌≡◌, ◌<◌, ◌≤◌, ◌⊎◌, ◌++◌, ◌∷◌, List, false, length, take, drop, Option, Some, IfOk, OnOk, [], MatchOption, MatchResult};
-ghost use Rattle.reg_histories.specs.History.{IsHistory};
+ghost use Rattle.reg_entries.specs.History.{IsHistory};
 ghost use Rattle.reg_histories.specs.Orders.{IsSerial, IsPointOrder};
-ghost use Rattle.reg_process.specs.declared.steps.Reply.{Reply};
+ghost use Rattle.reg_steps.specs.declared.steps.Reply.{Reply};
 ghost use Rattle.reg_world.specs.declared.events.Event.{Event};
 ghost use Rattle.reg_world.specs.Histories.{Grows, Makes};
 ghost use Rattle.reg_world.specs.Keys.{IsWitness, ArePoints};

@@ -8,11 +8,9 @@ ghost use Rattle.reg_frames.specs.declared.bodies.Body.TheVariants.{Cast};
 ghost use Rattle.reg_process.specs.Steps.{DeliversOne, DeliversNone, Delivers};
 
 use super::Core;
-use crate::faults::ProcessFault;
-use crate::outcomes::{Outcome, Put};
-use crate::running::{Awaited, Current};
-use crate::steps::Reply;
+use crate::running::Current;
 use reg_base::{Delivered, Registers, Stamp};
+use reg_steps::{Awaited, Outcome, ProcessFault, Put, Reply};
 use std::alloc::{AllocError, Allocator};
 
 /// Applies a cast, and answers the running operation where this is due. So many own casts stay held.

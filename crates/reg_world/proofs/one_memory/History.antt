@@ -10,11 +10,11 @@ use Rattle.reg_frames.specs.declared.bodies.Body.{Body}
 use Rattle.reg_frames.specs.declared.bodies.Body.TheVariants.{Cast, Ack}
 use Rattle.reg_frames.specs.declared.bodies.Frame.{Frame}
 use Rattle.reg_frames.specs.declared.bodies.Frame.TheVariants.{Numbered, Got}
-use Rattle.reg_process.specs.declared.steps.Reply.{Reply}
+use Rattle.reg_steps.specs.declared.steps.Reply.{Reply}
 use Rattle.reg_front.specs.declared.starts.Start.{Start}
 use Rattle.reg_front.specs.declared.starts.Start.TheVariants.{Cast as Casts, CastAndAnswer as CastsAndAnswers, Look as Looks, Hold as Holds}
-use Rattle.reg_process.specs.declared.steps.Step.{Step}
-use Rattle.reg_process.specs.declared.steps.Step.TheVariants.{Call, Take, Tick}
+use Rattle.reg_steps.specs.declared.steps.Step.{Step}
+use Rattle.reg_steps.specs.declared.steps.Step.TheVariants.{Call, Take, Tick}
 use Rattle.reg_base.specs.Order.{In, Rising, insert}
 use Rattle.reg_base.specs.Memory.{answer_of, memory_after}
 use Rattle.reg_process.specs.Process.{State, ops_of, Running, Own, Held, is_own, stamp_at, cast_at, clear_casts, reply_of, still, look, done_at_once, cast_made, called, taken, accepted, accepts, acknowledged, queues, quiet, got_frames, peer_at, delivered_state, unsettled, step}

@@ -8,11 +8,11 @@ use Rattle.reg_base.specs.Order.{In}
 use Rattle.reg_base.proofs.Lists.{in_cases}
 use Rattle.reg_front.specs.declared.starts.Start.{Start}
 use Rattle.reg_front.specs.Fronts.{KeepsLaws, CastsAll}
-use Rattle.reg_histories.specs.declared.entries.Entry.{Entry}
-use Rattle.reg_histories.specs.declared.entries.Entry.TheVariants.{Called, Answered}
-use Rattle.reg_histories.specs.History.{IsAt, IsCalled, IsAnswered, IsFinished, IsHistory, event_of}
-use Rattle.reg_histories.proofs.Places.{within, same_at, at_map}
-use Rattle.reg_histories.proofs.Histories.{call_is, answered_was_called}
+use Rattle.reg_entries.specs.declared.entries.Entry.{Entry}
+use Rattle.reg_entries.specs.declared.entries.Entry.TheVariants.{Called, Answered}
+use Rattle.reg_entries.specs.History.{IsAt, IsCalled, IsAnswered, IsFinished, IsHistory, event_of}
+use Rattle.reg_entries.proofs.Places.{within, same_at, at_map}
+use Rattle.reg_entries.proofs.Histories.{call_is, answered_was_called}
 use Rattle.reg_world.specs.declared.events.Event.{Event}
 use Rattle.reg_world.specs.declared.order.First.{First}
 use Rattle.reg_world.specs.declared.order.CopyRead.{CopyRead}

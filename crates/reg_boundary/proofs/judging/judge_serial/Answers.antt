@@ -1,6 +1,6 @@
 use Rattle.std.proofs.Common.{ℕ, List, ◌∙◌}
 use Rattle.reg_base.specs.declared.memory.OpId.{OpId}
-use Rattle.reg_histories.specs.declared.entries.Entry.{Entry}
+use Rattle.reg_entries.specs.declared.entries.Entry.{Entry}
 use Rattle.reg_histories.specs.Checks.{IsSerialFault}
 use Rattle.reg_boundary.proofs.Rowwise.{judged}
 use Rattle.reg_boundary.proofs.judging.judge_serial.Goals as goal

@@ -5,9 +5,9 @@ use Rattle.std.proofs.lemmas.Option.{slice_get-get_or}
 use Rattle.reg_base.specs.declared.memory.Op.TheVariants.{Read}
 use Rattle.reg_base.specs.Memory.{Memory, after, blank, register_of}
 use Rattle.reg_base.proofs.Operations.{length-after}
-use Rattle.reg_histories.specs.declared.answers.Fact.{Fact}
-use Rattle.reg_histories.specs.Facts.{IsWrongOn}
-use Rattle.reg_histories.proofs.Placing.{no_truth}
+use Rattle.reg_entries.specs.declared.facts.Fact.{Fact}
+use Rattle.reg_entries.specs.Facts.{IsWrongOn}
+use Rattle.reg_entries.proofs.Placing.{no_truth}
 use Rattle.reg_histories.proofs.Steps.{memory_more, not_wrong_more, none_wrong}
 use Rattle.reg_histories.proofs.answers.first_wrong.Goals as goal
 

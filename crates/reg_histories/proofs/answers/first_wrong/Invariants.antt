@@ -1,6 +1,6 @@
 use Rattle.std.proofs.Common.{◌≡◌, ℕ, ◌<◌, map, take, length}
 use Rattle.reg_base.specs.Memory.{memory}
-use Rattle.reg_histories.specs.Facts.{IsWrongFact}
+use Rattle.reg_entries.specs.Facts.{IsWrongFact}
 use Rattle.reg_histories.proofs.answers.first_wrong.Given as goal
 
 abbrev pub invariant-loop-place : goal.invariant-loop-place

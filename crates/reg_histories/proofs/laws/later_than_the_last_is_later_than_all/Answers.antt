@@ -1,4 +1,4 @@
-use Rattle.reg_histories.proofs.Histories.{behind_all, behind_last}
+use Rattle.reg_entries.proofs.Histories.{behind_all, behind_last}
 use Rattle.reg_histories.proofs.laws.later_than_the_last_is_later_than_all.Goals as goal
 
 pub returns : goal.returns

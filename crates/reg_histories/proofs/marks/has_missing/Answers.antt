@@ -1,11 +1,11 @@
 use Rattle.std.proofs.Common.{sym, ◌∙◌, arith, rules}
 use Rattle.std.proofs.lemmas.Option.{slice_get_within, get_or_from_slice_get}
 use Rattle.reg_base.specs.declared.memory.Op.TheVariants.{Read}
-use Rattle.reg_histories.specs.declared.entries.Entry.{Entry}
-use Rattle.reg_histories.specs.declared.entries.Entry.TheVariants.{Called}
+use Rattle.reg_entries.specs.declared.entries.Entry.{Entry}
+use Rattle.reg_entries.specs.declared.entries.Entry.TheVariants.{Called}
 use Rattle.reg_histories.proofs.Marking.{finished_more, same_marked}
-use Rattle.reg_histories.proofs.Noting.{read_at}
-use Rattle.reg_histories.proofs.Placing.{no_truth}
+use Rattle.reg_entries.proofs.Noting.{read_at}
+use Rattle.reg_entries.proofs.Placing.{no_truth}
 use Rattle.reg_histories.proofs.marks.has_missing.Goals as goal
 use Rattle.reg_histories.proofs.marks.has_missing.Goals.{in-Answered+else-not-is_marked, in_default}
 

@@ -1,9 +1,9 @@
 use Rattle.std.proofs.Common.{ℕ, ◌<◌}
 use Rattle.reg_base.specs.declared.memory.OpId.{OpId}
 use Rattle.reg_base.specs.declared.memory.Answer.{Answer}
-use Rattle.reg_histories.specs.declared.entries.Entry.TheVariants.{Answered}
-use Rattle.reg_histories.specs.History.{IsAt}
-use Rattle.reg_histories.specs.Table.{Marked}
+use Rattle.reg_entries.specs.declared.entries.Entry.TheVariants.{Answered}
+use Rattle.reg_entries.specs.History.{IsAt}
+use Rattle.reg_entries.specs.Table.{Marked}
 use Rattle.reg_histories.proofs.marks.has_missing.Given as goal
 
 abbrev pub invariant-loop-i : goal.invariant-loop-i

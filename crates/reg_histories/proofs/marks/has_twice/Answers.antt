@@ -1,7 +1,7 @@
 use Rattle.std.proofs.Common.{get_or, arith}
 use Rattle.std.proofs.lemmas.Option.{slice_get-get_or}
 use Rattle.reg_base.specs.declared.memory.OpId.{OpId}
-use Rattle.reg_histories.specs.Table.{IsMarkedToo}
+use Rattle.reg_entries.specs.Table.{IsMarkedToo}
 use Rattle.reg_histories.proofs.Marking.{marked_more, distinct_more, marked_none, marked_all, distinct_all, twice_here}
 use Rattle.reg_histories.proofs.marks.has_twice.Goals as goal
 

@@ -1,7 +1,7 @@
 use Rattle.std.proofs.Common.{ℕ, IsSome}
 use Rattle.reg_base.specs.declared.memory.OpId.{OpId}
-use Rattle.reg_histories.specs.History.{IsAt}
-use Rattle.reg_histories.specs.Table.{cell}
+use Rattle.reg_entries.specs.History.{IsAt}
+use Rattle.reg_entries.specs.Table.{cell}
 use Rattle.reg_histories.proofs.Marking.{MarkedUpTo, DistinctUpTo}
 use Rattle.reg_histories.proofs.marks.has_twice.Given as goal
 

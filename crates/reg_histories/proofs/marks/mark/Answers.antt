@@ -1,5 +1,5 @@
 use Rattle.std.proofs.Common.{◌≡◌, Some, ap, sym, ◌∙◌}
-use Rattle.reg_histories.specs.Table.{Rows, cell}
+use Rattle.reg_entries.specs.Table.{Rows, cell}
 use Rattle.reg_histories.proofs.Marking.{mark_step}
 use Rattle.reg_histories.proofs.marks.mark.Goals as goal
 

@@ -2,8 +2,8 @@ use Rattle.std.proofs.Common.{◌≡◌, ◌+◌, List, [], ◌∷◌, take, len
 use Rattle.std.specs.List.{AllZip}
 use Rattle.std.proofs.lemmas.Option.{slice_get-get_or, slice_get_within}
 use Rattle.reg_base.specs.declared.memory.OpId.{OpId}
-use Rattle.reg_histories.specs.declared.answers.Fact.{Fact}
-use Rattle.reg_histories.specs.Table.{cell}
+use Rattle.reg_entries.specs.declared.facts.Fact.{Fact}
+use Rattle.reg_entries.specs.Table.{cell}
 use Rattle.reg_histories.proofs.OwnOrder.{zip_more, zip_all, stand_more}
 use Rattle.reg_histories.proofs.marks.resolve.Goals as goal
 

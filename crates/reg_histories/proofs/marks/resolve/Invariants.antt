@@ -2,8 +2,8 @@ use Rattle.std.proofs.Common.{◌≡◌, ℕ, ◌<◌, ◌≤◌, length, take, 
 use Rattle.std.specs.Prelude.{vec_capacity}
 use Rattle.std.specs.List.{AllZip}
 use Rattle.reg_base.specs.declared.memory.OpId.{OpId}
-use Rattle.reg_histories.specs.History.{IsAt}
-use Rattle.reg_histories.specs.Table.{cell, Stands}
+use Rattle.reg_entries.specs.History.{IsAt}
+use Rattle.reg_entries.specs.Table.{cell, Stands}
 use Rattle.reg_histories.proofs.marks.resolve.Given as goal
 
 abbrev pub invariant-loop-k : goal.invariant-loop-k

@@ -1,5 +1,5 @@
 use Rattle.std.proofs.Common.{ℕ, arith}
-use Rattle.reg_histories.specs.declared.entries.Point.{Point}
+use Rattle.reg_entries.specs.declared.entries.Point.{Point}
 use Rattle.reg_histories.specs.Checks.{IsFalling}
 use Rattle.reg_histories.proofs.PointFacts.{none_more, not_falling_at, none_falling}
 use Rattle.reg_histories.proofs.points.first_falling.Goals as goal

@@ -1,8 +1,8 @@
 use Rattle.std.proofs.Common.{ℕ, None, IsTrue, false, rules}
 use Rattle.reg_base.specs.declared.memory.Op.TheVariants.{Read}
-use Rattle.reg_histories.specs.declared.entries.Point.{Point}
-use Rattle.reg_histories.specs.declared.answers.Fact.{Fact}
-use Rattle.reg_histories.specs.Facts.{IsOutsideFact}
+use Rattle.reg_entries.specs.declared.entries.Point.{Point}
+use Rattle.reg_entries.specs.declared.facts.Fact.{Fact}
+use Rattle.reg_entries.specs.Facts.{IsOutsideFact}
 use Rattle.reg_histories.proofs.PointFacts.{none_more, not_outside_at, none_outside}
 use Rattle.reg_histories.proofs.points.first_outside.Goals as goal
 

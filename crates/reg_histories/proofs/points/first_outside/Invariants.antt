@@ -1,5 +1,5 @@
 use Rattle.std.proofs.Common.{ℕ, ◌<◌}
-use Rattle.reg_histories.specs.Facts.{IsOutsideFact}
+use Rattle.reg_entries.specs.Facts.{IsOutsideFact}
 use Rattle.reg_histories.proofs.points.first_outside.Given as goal
 
 abbrev pub invariant-loop-k : goal.invariant-loop-k

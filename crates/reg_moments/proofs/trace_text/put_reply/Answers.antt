@@ -1,6 +1,6 @@
 use Rattle.std.proofs.Common.{◌≡◌, ◌∷◌, ◌++◌, [], codes, ap, sym, ◌∙◌, append_assoc}
 use Rattle.std.specs.Fmt.{decimal}
-use Rattle.reg_reports.specs.EntryLines.{answer_text}
+use Rattle.reg_lines.specs.EntryLines.{answer_text}
 use Rattle.reg_text.specs.Lines.{text_of}
 use Rattle.reg_text.proofs.Sent.{puts_as}
 use Rattle.reg_moments.specs.Traces.{answers_lines}

@@ -1,7 +1,7 @@
 use Rattle.std.proofs.Common.{◌∙◌, List, refl, sym, ap, subst}
 use Rattle.reg_base.specs.Shape.{Extent}
-use Rattle.reg_histories.specs.declared.entries.Entry.{Entry}
-use Rattle.reg_histories.specs.History.{IsHistory}
+use Rattle.reg_entries.specs.declared.entries.Entry.{Entry}
+use Rattle.reg_entries.specs.History.{IsHistory}
 use Rattle.reg_tables.specs.Inner.{finished_play}
 use Rattle.reg_outcomes.proofs.Playing.{on_ok, tells_time, told_by}
 use Rattle.reg_outcomes.proofs.plays.count_finished.Goals as goal

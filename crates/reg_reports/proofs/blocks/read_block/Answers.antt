@@ -2,8 +2,8 @@ use Rattle.std.proofs.Common.{Option, None, Some, inl, sym, subst, arith, rules,
 use Rattle.reg_text.specs.Inner.{IsBlock, IsNext}
 use Rattle.reg_text.proofs.Numbered.{asked_on, goes_on, stays}
 use Rattle.reg_text.proofs.Turns.{Taken, begins, steps, ended, refused, all_read, only_read}
-use Rattle.reg_reports.specs.declared.report_faults.ReadWhy.{ReadWhy}
-use Rattle.reg_reports.specs.LineForms.{IsBadLine}
+use Rattle.reg_lines.specs.declared.report_faults.ReadWhy.{ReadWhy}
+use Rattle.reg_lines.specs.LineForms.{IsBadLine}
 use Rattle.reg_reports.specs.Refusals.{IsWrongNext}
 use Rattle.reg_reports.proofs.Stopping.{failure_passed_on, item_fails, not_failed}
 use Rattle.reg_reports.proofs.blocks.read_block.Goals as goal

@@ -1,14 +1,14 @@
 use Rattle.std.proofs.Common.{sym, ◌∙◌, subst, arith, refl, inl, inr, ◌≡◌, ℕ, ◌+◌, List, None, Some}
 use Rattle.reg_base.specs.Shape.{Extent}
-use Rattle.reg_histories.specs.declared.entries.Entry.{Entry}
-use Rattle.reg_reports.specs.declared.versions.Version.{Version}
-use Rattle.reg_histories.specs.History.{IsInPlace}
+use Rattle.reg_entries.specs.declared.entries.Entry.{Entry}
+use Rattle.reg_lines.specs.declared.versions.Version.{Version}
+use Rattle.reg_entries.specs.History.{IsInPlace}
 use Rattle.reg_histories.specs.Log.{Log, IsNextOf}
 use Rattle.reg_text.proofs.Numbered.{asked_on, goes_on, stays}
 use Rattle.reg_text.proofs.Turns.{Taken, begins, steps, ended, refused, all_read, only_read}
-use Rattle.reg_reports.specs.EntryLines.{entry_text}
-use Rattle.reg_reports.specs.declared.report_faults.ReadWhy.TheVariants.{Place, End}
-use Rattle.reg_reports.specs.LineForms.{Follows}
+use Rattle.reg_lines.specs.EntryLines.{entry_text}
+use Rattle.reg_lines.specs.declared.report_faults.ReadWhy.TheVariants.{Place, End}
+use Rattle.reg_lines.specs.LineForms.{Follows}
 use Rattle.reg_reports.specs.Refusals.{IsNoNextEntry}
 use Rattle.reg_reports.proofs.Stopping.{item_fails}
 use Rattle.reg_reports.proofs.blocks.read_entries.Goals as goal

@@ -1,8 +1,8 @@
 use Rattle.std.proofs.Common.{◌≡◌}
 use Rattle.reg_text.specs.Inner.{GoesOn}
 use Rattle.reg_text.proofs.Turns.{Taken}
-use Rattle.reg_reports.specs.EntryLines.{entry_text}
-use Rattle.reg_reports.specs.LineForms.{Follows}
+use Rattle.reg_lines.specs.EntryLines.{entry_text}
+use Rattle.reg_lines.specs.LineForms.{Follows}
 use Rattle.reg_reports.proofs.blocks.read_entries.Given as goal
 
 -- as many were read as there were turns

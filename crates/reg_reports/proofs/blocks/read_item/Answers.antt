@@ -1,5 +1,5 @@
 use Rattle.std.proofs.Common.{None, Some, refl}
-use Rattle.reg_reports.specs.declared.report_faults.ReadWhy.TheVariants.{End}
+use Rattle.reg_lines.specs.declared.report_faults.ReadWhy.TheVariants.{End}
 use Rattle.reg_reports.proofs.blocks.read_item.Goals as goal
 
 pub returns-in_default-clause-why : goal.returns-in_default-clause-why

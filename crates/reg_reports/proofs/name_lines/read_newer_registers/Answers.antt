@@ -2,12 +2,12 @@ use Rattle.std.proofs.Common.{[], arith, ℕ, ◌≡◌, ◌≤◌, ap, ◌∙�
 use Rattle.std.specs.Fmt.{decimal}
 use Rattle.reg_base.specs.declared.limits.TheConstants.{MOST_REGISTERS}
 use Rattle.reg_base.specs.Names.{names_fault}
-use Rattle.reg_reports.specs.declared.report_faults.ReadFault.{ReadFault}
-use Rattle.reg_reports.specs.declared.versions.Version.TheVariants.{Two}
+use Rattle.reg_lines.specs.declared.report_faults.ReadFault.{ReadFault}
+use Rattle.reg_lines.specs.declared.versions.Version.TheVariants.{Two}
 use Rattle.reg_reports.specs.Reports.{registers_lines}
 use Rattle.reg_reports.proofs.Listed.{map_same, some_name, counted_names}
 use Rattle.reg_text.proofs.Numbered.{asked_on}
-use Rattle.reg_reports.specs.ReadFaults.{read_fault}
+use Rattle.reg_lines.specs.ReadFaults.{read_fault}
 use Rattle.reg_reports.specs.Refusals.{IsNewName, IsNoCount, IsNoNewName, IsWrongItem, IsWrongNames}
 use Rattle.reg_reports.specs.Stops.{IsFirst}
 use Rattle.reg_reports.proofs.Heads.{counted_first, counted_more}

@@ -3,7 +3,7 @@ use Rattle.std.proofs.lemmas.List.{map-append}
 use Rattle.reg_base.specs.Names.{is_name, texts}
 use Rattle.reg_text.proofs.Numbered.{asked_on, goes_on, stays}
 use Rattle.reg_text.proofs.Turns.{Taken, begins, steps, ended, refused, all_read, only_read}
-use Rattle.reg_reports.specs.declared.report_faults.ReadWhy.TheVariants.{End}
+use Rattle.reg_lines.specs.declared.report_faults.ReadWhy.TheVariants.{End}
 use Rattle.reg_reports.proofs.Repeats.{wrong_name}
 use Rattle.reg_reports.proofs.name_lines.read_spelt.Goals as goal
 

@@ -1,6 +1,6 @@
 use Rattle.std.proofs.Common.{Some, refl}
 use Rattle.reg_reports.specs.Stops.{IsFurther}
-use Rattle.reg_reports.specs.declared.report_faults.ReadWhy.TheVariants.{End}
+use Rattle.reg_lines.specs.declared.report_faults.ReadWhy.TheVariants.{End}
 use Rattle.reg_reports.proofs.Stopping.{stops_now}
 use Rattle.reg_reports.proofs.parts.expect_none.Goals as goal
 

@@ -1,6 +1,6 @@
 use Rattle.std.proofs.Common.{refl}
 use Rattle.std.specs.Fmt.{decimal}
-use Rattle.reg_reports.specs.declared.report_faults.ReadWhy.TheVariants.{Form}
+use Rattle.reg_lines.specs.declared.report_faults.ReadWhy.TheVariants.{Form}
 use Rattle.reg_reports.proofs.parts.points_count.Goals as goal
 
 pub returns-in_default-clause-none : goal.returns-in_default-clause-none

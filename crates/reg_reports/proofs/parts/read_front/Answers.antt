@@ -4,7 +4,7 @@ use Rattle.reg_text.proofs.Formed.{no_truth}
 use Rattle.reg_reports.specs.Reports.{is_front}
 use Rattle.reg_text.proofs.Numbered.{asked_on}
 use Rattle.reg_reports.specs.Refusals.{IsNoFront}
-use Rattle.reg_reports.specs.declared.report_faults.ReadWhy.TheVariants.{Form, End}
+use Rattle.reg_lines.specs.declared.report_faults.ReadWhy.TheVariants.{Form, End}
 use Rattle.reg_reports.proofs.Lacking.{front_text}
 use Rattle.reg_reports.proofs.Stopping.{stops_first}
 use Rattle.reg_reports.proofs.Firsts.{none_first, first_line, other_lines}

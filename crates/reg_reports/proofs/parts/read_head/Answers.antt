@@ -1,8 +1,8 @@
 use Rattle.std.proofs.Common.{◌≡◌, ◌≤◌, ◌∙◌, ap, sym, subst, arith, length, [], ◌∷◌, ◌++◌, codes, string_bytes}
 use Rattle.std.specs.Fmt.{decimal}
 use Rattle.reg_text.proofs.Numbered.{goes_on}
-use Rattle.reg_reports.specs.declared.versions.Version.{Version}
-use Rattle.reg_reports.specs.Versions.{most_processes, most_registers, version_line}
+use Rattle.reg_lines.specs.declared.versions.Version.{Version}
+use Rattle.reg_lines.specs.Versions.{most_processes, most_registers, version_line}
 use Rattle.reg_reports.specs.Refusals.{IsNoCount, IsNoFront, IsNoVersion, IsWrongHead, IsWrongNames}
 use Rattle.reg_reports.specs.Reports.{registers_lines}
 use Rattle.reg_reports.specs.Stops.{IsFirst}

@@ -1,14 +1,14 @@
 use Rattle.std.proofs.Common.{[], inl, ◌≡◌, ◌≤◌, ℕ, List, ◌∷◌, ◌++◌, codes, refl, sym, subst, ◌∙◌, arith}
 use Rattle.std.specs.Fmt.{decimal}
 use Rattle.reg_base.specs.Shape.{Extent}
-use Rattle.reg_histories.specs.declared.entries.Entry.{Entry}
+use Rattle.reg_entries.specs.declared.entries.Entry.{Entry}
 use Rattle.reg_text.specs.Inner.{IsBlock}
 use Rattle.reg_text.proofs.Numbered.{asked_on, goes_on}
-use Rattle.reg_reports.specs.LineForms.{IsCounted, Follows}
-use Rattle.reg_reports.specs.EntryLines.{entry_text}
-use Rattle.reg_reports.specs.declared.versions.Version.{Version}
-use Rattle.reg_reports.specs.declared.report_limits.TheConstants.{MOST_ENTRIES}
-use Rattle.reg_reports.specs.ReadFaults.{read_fault}
+use Rattle.reg_lines.specs.LineForms.{IsCounted, Follows}
+use Rattle.reg_lines.specs.EntryLines.{entry_text}
+use Rattle.reg_lines.specs.declared.versions.Version.{Version}
+use Rattle.reg_lines.specs.declared.report_limits.TheConstants.{MOST_ENTRIES}
+use Rattle.reg_lines.specs.ReadFaults.{read_fault}
 use Rattle.reg_reports.specs.Refusals.{IsNoCount, IsNoNextEntry, IsWrongCounted, IsWrongItem}
 use Rattle.reg_reports.specs.Stops.{IsFirst}
 use Rattle.reg_reports.proofs.Counted.{block_of, counted_of}

@@ -1,10 +1,10 @@
 use Rattle.std.proofs.Common.{List, ◌∷◌, ◌++◌, codes, inl, length, map}
 use Rattle.std.specs.Fmt.{decimal}
 use Rattle.reg_base.specs.declared.memory.OpId.{OpId}
-use Rattle.reg_reports.specs.IdLines.{id_text, IdFits}
-use Rattle.reg_reports.specs.LineForms.{HasIdForm, IsBadLine}
+use Rattle.reg_lines.specs.IdLines.{id_text, IdFits}
+use Rattle.reg_lines.specs.LineForms.{HasIdForm, IsBadLine}
 use Rattle.reg_reports.specs.Refusals.{IsWrongCounted, IsWrongLists, IsWrongTail}
-use Rattle.reg_reports.specs.declared.report_limits.TheConstants.{MOST_IDS}
+use Rattle.reg_lines.specs.declared.report_limits.TheConstants.{MOST_IDS}
 use Rattle.reg_reports.proofs.Endings.{lists_tail}
 use Rattle.reg_reports.proofs.Stopping.{failure_passed_on, fails_as, fails_behind}
 use Rattle.reg_reports.specs.Reports.{tail_lines}

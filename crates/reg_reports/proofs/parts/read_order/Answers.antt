@@ -2,11 +2,11 @@ use Rattle.std.proofs.Common.{List, [], ◌∷◌, ◌++◌, codes, arith}
 use Rattle.std.specs.Fmt.{decimal}
 use Rattle.std.proofs.lemmas.Result.{IfOk-weaker}
 use Rattle.reg_base.specs.declared.memory.OpId.{OpId}
-use Rattle.reg_reports.specs.declared.report_limits.TheConstants.{MOST_IDS}
-use Rattle.reg_reports.specs.IdLines.{id_text, IdFits}
+use Rattle.reg_lines.specs.declared.report_limits.TheConstants.{MOST_IDS}
+use Rattle.reg_lines.specs.IdLines.{id_text, IdFits}
 use Rattle.reg_text.proofs.Numbered.{asked_on}
-use Rattle.reg_reports.specs.LineForms.{HasIdForm, IsBadLine}
-use Rattle.reg_reports.specs.ReadFaults.{read_fault}
+use Rattle.reg_lines.specs.LineForms.{HasIdForm, IsBadLine}
+use Rattle.reg_lines.specs.ReadFaults.{read_fault}
 use Rattle.reg_reports.specs.Refusals.{IsNoCount, IsWrongCounted, IsWrongItem}
 use Rattle.reg_reports.specs.Stops.{IsFirst}
 use Rattle.reg_reports.proofs.Counted.{block_of, counted_of}

@@ -1,6 +1,6 @@
 use Rattle.std.proofs.Common.{inl, map}
-use Rattle.reg_reports.specs.IdLines.{point_text, PointFits}
-use Rattle.reg_reports.specs.LineForms.{HasPointForm, IsBadLine}
+use Rattle.reg_lines.specs.IdLines.{point_text, PointFits}
+use Rattle.reg_lines.specs.LineForms.{HasPointForm, IsBadLine}
 use Rattle.reg_reports.specs.Refusals.{IsWrongItem}
 use Rattle.reg_reports.specs.Stops.{IsWrongEnd, IsWrongPoints}
 use Rattle.reg_reports.proofs.Endings.{points_end}

@@ -1,6 +1,6 @@
 use Rattle.std.proofs.Common.{arith, codes}
 use Rattle.reg_text.proofs.Numbered.{asked_on}
-use Rattle.reg_reports.specs.Versions.{most_processes}
+use Rattle.reg_lines.specs.Versions.{most_processes}
 use Rattle.reg_reports.proofs.PassedOn.{nothing_read}
 use Rattle.reg_reports.proofs.Stopping.{count_fails, failure_passed_on, not_failed, zero_fails}
 use Rattle.reg_reports.proofs.parts.read_processes.Goals as goal

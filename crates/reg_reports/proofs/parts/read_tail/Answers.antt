@@ -3,17 +3,17 @@ use Rattle.std.specs.Fmt.{decimal}
 use Rattle.std.specs.Str.{bytes_eq}
 use Rattle.std.proofs.lemmas.Bool.{false≢true}
 use Rattle.std.proofs.lemmas.Slice.Eq.{bytes_eq-Decides}
-use Rattle.reg_histories.specs.declared.entries.Point.{Point}
+use Rattle.reg_entries.specs.declared.entries.Point.{Point}
 use Rattle.reg_text.specs.Inner.{IsBlock}
 use Rattle.reg_text.proofs.Numbered.{asked_on}
-use Rattle.reg_reports.specs.IdLines.{point_text, PointFits}
+use Rattle.reg_lines.specs.IdLines.{point_text, PointFits}
 use Rattle.reg_reports.specs.Refusals.{IsWrongTail}
 use Rattle.reg_reports.specs.Stops.{IsFurther, IsWrongPoints}
-use Rattle.reg_reports.specs.declared.report_faults.ReadWhy.TheVariants.{End}
-use Rattle.reg_reports.specs.declared.report_limits.TheConstants.{MOST_IDS}
+use Rattle.reg_lines.specs.declared.report_faults.ReadWhy.TheVariants.{End}
+use Rattle.reg_lines.specs.declared.report_limits.TheConstants.{MOST_IDS}
 use Rattle.reg_reports.proofs.Endings.{tail_further, tail_points}
 use Rattle.reg_reports.proofs.Stopping.{failure_passed_on, fails_behind, stops_now}
-use Rattle.reg_reports.specs.declared.versions.Version.{Version}
+use Rattle.reg_lines.specs.declared.versions.Version.{Version}
 use Rattle.reg_reports.specs.Reports.{tail_lines, PointsFit}
 use Rattle.reg_reports.proofs.Firsts.{none_first, first_line, other_lines, same_ok, not_ok}
 use Rattle.reg_reports.proofs.PassedOn.{memory_passed_on, nothing_read}

@@ -1,7 +1,7 @@
 use Rattle.std.proofs.Common.{refl, None, Some}
 use Rattle.reg_text.proofs.Numbered.{asked_on}
 use Rattle.reg_reports.specs.Refusals.{IsNoVersion}
-use Rattle.reg_reports.specs.declared.report_faults.ReadWhy.TheVariants.{Form, End}
+use Rattle.reg_lines.specs.declared.report_faults.ReadWhy.TheVariants.{Form, End}
 use Rattle.reg_reports.proofs.Stopping.{stops_first}
 use Rattle.reg_reports.proofs.parts.read_version.Goals as goal
 

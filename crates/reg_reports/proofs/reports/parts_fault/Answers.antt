@@ -2,10 +2,10 @@ use Rattle.std.proofs.Common.{◌≡◌, ◌≤◌, ◌<◌, true, List, length,
 use Rattle.reg_base.specs.declared.limits.TheConstants.{MOST_PROCESSES}
 use Rattle.reg_base.specs.Shape.{Extent}
 use Rattle.reg_base.specs.Names.{names_fault}
-use Rattle.reg_histories.specs.declared.entries.Entry.{Entry}
-use Rattle.reg_histories.specs.History.{IsHistory}
+use Rattle.reg_entries.specs.declared.entries.Entry.{Entry}
+use Rattle.reg_entries.specs.History.{IsHistory}
 use Rattle.reg_reports.specs.Reports.{Contents, IsReport, InRange, is_front}
-use Rattle.reg_reports.specs.declared.versions.Version.TheVariants.{Two}
+use Rattle.reg_lines.specs.declared.versions.Version.TheVariants.{Two}
 use Rattle.reg_text.proofs.Worded.{few}
 use Rattle.reg_reports.proofs.WithinLimits.{HaveValues, all_fit}
 use Rattle.reg_reports.proofs.reports.parts_fault.Goals as goal

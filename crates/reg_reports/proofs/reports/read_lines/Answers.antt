@@ -3,11 +3,12 @@ use Rattle.std.specs.Fmt.{decimal}
 use Rattle.reg_text.proofs.Numbered.{goes_on}
 use Rattle.reg_text.proofs.Shaped.{shape_is}
 use Rattle.reg_reports.proofs.Whole.{after_head, after_history, history_part, order_part, same_contents, from_parts}
-use Rattle.reg_reports.specs.declared.versions.Version.{Version}
+use Rattle.reg_lines.specs.declared.versions.Version.{Version}
 use Rattle.reg_reports.proofs.Listed.{some_name}
 use Rattle.reg_text.proofs.Worded.{few}
-use Rattle.reg_reports.proofs.Older.{few_processes, widened}
-use Rattle.reg_reports.specs.EntryLines.{entry_text}
+use Rattle.reg_lines.proofs.Fewer.{few_processes}
+use Rattle.reg_reports.proofs.Older.{widened}
+use Rattle.reg_lines.specs.EntryLines.{entry_text}
 use Rattle.reg_reports.specs.Refusals.{IsFirstWrong, IsWrongHead, IsWrongLists}
 use Rattle.reg_reports.specs.Reports.{head_lines, IsReportIn}
 use Rattle.reg_reports.proofs.Endings.{behind, body_wrong, history_wrong, lists_wrong, shape_made}

@@ -1,6 +1,6 @@
 use Rattle.std.proofs.Common.{ℕ, ◌≡◌, ◌∙◌, ap, sym, List, Result, Ok, Err, IfOk}
-use Rattle.reg_reports.specs.declared.report_faults.ReadFault.{ReadFault}
-use Rattle.reg_reports.specs.declared.versions.Version.{Version}
+use Rattle.reg_lines.specs.declared.report_faults.ReadFault.{ReadFault}
+use Rattle.reg_lines.specs.declared.versions.Version.{Version}
 use Rattle.reg_text.specs.Lines.{lines_of}
 use Rattle.reg_reports.specs.Reports.{Contents, lines_in, IsReport, IsReportIn, SpellsReport}
 use Rattle.reg_reports.proofs.Lacking.{report_lack, report_ends, lines_with, text_with}

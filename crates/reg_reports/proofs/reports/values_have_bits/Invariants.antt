@@ -1,5 +1,5 @@
 use Rattle.std.proofs.Common.{ℕ, ◌≡◌, ◌<◌, Some, slice_get}
-use Rattle.reg_histories.specs.declared.entries.Entry.{Entry}
+use Rattle.reg_entries.specs.declared.entries.Entry.{Entry}
 use Rattle.reg_reports.specs.Stops.{EntryHasValue}
 use Rattle.reg_reports.proofs.reports.values_have_bits.Given as goal
 

@@ -1,7 +1,7 @@
 use Rattle.std.proofs.Common.{◌++◌, ◌∷◌, [], codes, ap, sym}
 use Rattle.std.specs.Fmt.{decimal}
 use Rattle.reg_text.proofs.Sent.{puts_two, puts_as}
-use Rattle.reg_reports.specs.EntryLines.{answer_text}
+use Rattle.reg_lines.specs.EntryLines.{answer_text}
 use Rattle.reg_reports.proofs.write.put_answer.Goals as goal
 
 pub returns-in-Value : goal.returns-in-Value

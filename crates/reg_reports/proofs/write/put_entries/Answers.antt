@@ -1,4 +1,4 @@
-use Rattle.reg_reports.specs.EntryLines.{entry_text}
+use Rattle.reg_lines.specs.EntryLines.{entry_text}
 use Rattle.reg_reports.proofs.Writing.{puts_line}
 use Rattle.reg_reports.proofs.write.put_entries.Goals as goal
 

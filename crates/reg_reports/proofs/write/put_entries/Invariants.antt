@@ -1,7 +1,7 @@
 use Rattle.std.proofs.Common.{take}
 use Rattle.reg_text.specs.Writing.{Puts}
 use Rattle.reg_reports.specs.Written.{lines_by}
-use Rattle.reg_reports.specs.EntryLines.{entry_text}
+use Rattle.reg_lines.specs.EntryLines.{entry_text}
 use Rattle.reg_reports.proofs.write.put_entries.Given as goal
 
 -- the sink has the lines so far

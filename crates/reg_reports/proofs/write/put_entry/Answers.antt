@@ -3,7 +3,7 @@ use Rattle.std.specs.Fmt.{decimal}
 use Rattle.reg_text.specs.Columns.{to_right, to_left}
 use Rattle.reg_text.specs.Ops.{op_text}
 use Rattle.reg_text.proofs.Sent.{puts_two, puts_as}
-use Rattle.reg_reports.specs.EntryLines.{answer_text, entry_text}
+use Rattle.reg_lines.specs.EntryLines.{answer_text, entry_text}
 use Rattle.reg_reports.proofs.Writing.{entry_joined}
 use Rattle.reg_reports.proofs.write.put_entry.Goals as goal
 

@@ -2,7 +2,7 @@ use Rattle.std.proofs.Common.{◌++◌, codes, drop}
 use Rattle.std.specs.Fmt.{decimal}
 use Rattle.reg_text.specs.Columns.{to_right}
 use Rattle.reg_text.proofs.Sent.{puts_two, puts_as}
-use Rattle.reg_reports.specs.IdLines.{id_text}
+use Rattle.reg_lines.specs.IdLines.{id_text}
 use Rattle.reg_reports.proofs.Writing.{id_joined}
 use Rattle.reg_reports.proofs.write.put_id.Goals as goal
 

@@ -1,4 +1,4 @@
-use Rattle.reg_reports.specs.IdLines.{id_text}
+use Rattle.reg_lines.specs.IdLines.{id_text}
 use Rattle.reg_reports.proofs.Writing.{puts_line}
 use Rattle.reg_reports.proofs.write.put_ids.Goals as goal
 

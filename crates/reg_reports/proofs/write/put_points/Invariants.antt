@@ -1,7 +1,7 @@
 use Rattle.std.proofs.Common.{take}
 use Rattle.reg_text.specs.Writing.{Puts}
 use Rattle.reg_reports.specs.Written.{lines_by}
-use Rattle.reg_reports.specs.IdLines.{point_text}
+use Rattle.reg_lines.specs.IdLines.{point_text}
 use Rattle.reg_reports.proofs.write.put_points.Given as goal
 
 -- the sink has the lines so far

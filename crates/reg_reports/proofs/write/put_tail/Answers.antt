@@ -1,5 +1,5 @@
 use Rattle.std.proofs.Common.{List, Option, Some, option_map, subst, sym, ap}
-use Rattle.reg_histories.specs.declared.entries.Point.{Point}
+use Rattle.reg_entries.specs.declared.entries.Point.{Point}
 use Rattle.reg_text.specs.Lines.{text_of}
 use Rattle.reg_text.specs.Writing.{Puts}
 use Rattle.reg_reports.specs.Reports.{tail_lines}

@@ -2,7 +2,7 @@ use Rattle.std.proofs.Common.{◌≡◌, ℕ, ◌∙◌, ◌+◌, length, drop, 
 use Rattle.std.proofs.lemmas.List.{length-map, length_push}
 use Rattle.std.specs.Vec.Iter.{into_iter_items, into_iter_len}
 use Rattle.reg_scripts.proofs.Performing.{drop_at, back_push, performed_back, told_step, told_so}
-use Rattle.reg_histories.proofs.Places.{IsAt-map}
+use Rattle.reg_entries.proofs.Places.{IsAt-map}
 use Rattle.reg_scripts.proofs.running.join_callers.Goals as goal
 
 pub loop-caller-preserved : goal.loop-caller-preserved

@@ -2,10 +2,10 @@ use Rattle.std.proofs.Common.{◌≡◌, ℕ, List, [], ◌∷◌, ◌++◌, ◌
 use Rattle.std.proofs.lemmas.List.{length-map, map-append}
 use Rattle.std.specs.Vec.Iter.{into_iter_items, into_iter_len}
 use Rattle.reg_base.specs.declared.memory.Op.{Op}
-use Rattle.reg_histories.specs.History.{IsAt}
+use Rattle.reg_entries.specs.History.{IsAt}
 use Rattle.reg_live.specs.Passes.{Held}
 use Rattle.reg_scripts.proofs.Performing.{drop_at, started_push}
-use Rattle.reg_histories.proofs.Places.{IsAt-map}
+use Rattle.reg_entries.proofs.Places.{IsAt-map}
 use Rattle.reg_scripts.proofs.running.start_callers.Goals as goal
 
 pub call-requires-after_bounds : goal.call-requires-after_bounds

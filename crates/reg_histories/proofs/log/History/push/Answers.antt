@@ -1,9 +1,9 @@
 use Rattle.std.proofs.Common.{◌≡◌, ◌<◌, ℕ, List, ◌∷◌, [], ◌++◌, set, length, get_or, refl, ap, sym, ◌∙◌, subst, arith, rules}
-use Rattle.reg_histories.specs.declared.entries.Entry.{Entry}
-use Rattle.reg_histories.specs.declared.place.Progress.{Progress}
-use Rattle.reg_histories.specs.History.{IsInPlace}
-use Rattle.reg_histories.specs.Progress.{IsKept, id_of, progress_after}
-use Rattle.reg_histories.proofs.Keeping.{entry_within, is_numbered, kept_more}
+use Rattle.reg_entries.specs.declared.entries.Entry.{Entry}
+use Rattle.reg_entries.specs.declared.place.Progress.{Progress}
+use Rattle.reg_entries.specs.History.{IsInPlace}
+use Rattle.reg_entries.specs.Progress.{IsKept, id_of, progress_after}
+use Rattle.reg_entries.proofs.Keeping.{entry_within, is_numbered, kept_more}
 use Rattle.reg_histories.proofs.log.History.push.Goals as goal
 
 -- the process of the entry has its progress

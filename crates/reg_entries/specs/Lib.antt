@@ -1,0 +1,4 @@
+pub mod History
+pub mod Progress
+pub mod Facts
+pub mod Table

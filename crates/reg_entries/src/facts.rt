@@ -1,0 +1,22 @@
+//! What a history says of one operation.
+use reg_base::{Answer, Op};
+
+/// An answer, and the event that gave it.
+#[derive(Clone, Copy)]
+pub struct Given {
+    /// The number of the event.
+    pub at: u32,
+    pub answer: Answer,
+}
+
+/// What a history says of one operation.
+#[derive(Clone, Copy)]
+pub struct Fact {
+    pub op: Op,
+    /// The number of the event that called it.
+    pub called: u32,
+    /// None while it runs.
+    pub answered: Option<Given>,
+    /// The operation stands in the order that is checked.
+    pub stands: bool,
+}

@@ -1,0 +1,4 @@
+pub mod Fewer
+pub mod Numerals
+pub mod Formed
+pub mod Tails
