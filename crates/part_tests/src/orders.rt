@@ -2,8 +2,9 @@
 use crate::values::{READ, WRITE_FIVE, answered, called, id};
 use reg_base::{Answer, OpId, Shape};
 use reg_reports::{CheckFault, Entry, History, HistoryFault, Point, check_points, check_serial};
-use std::alloc::Global;
+use std::alloc::{AllocError, Global};
 use std::process::Abort;
+use std::test::Fail;
 
 fn history_of(rt: &impl Abort, alloc: Global, processes: u32, entries: &[Entry]) -> History {
     let shape = Shape::new(processes, 1).expect(rt, "a shape");
@@ -152,4 +153,30 @@ fn entries_in_place(rt: HostRuntime) {
     let mut history = History::new(rt.alloc(), shape).expect(&rt, "memory");
     demand_places(&rt, &mut history);
     assert!(rt; history.shape() == shape);
+}
+
+/// What is wrong with an order, and what is shown of it.
+const SHOWN: [(CheckFault, &str); 8] = [
+    (CheckFault::Unknown, "unknown"),
+    (CheckFault::Twice, "twice"),
+    (CheckFault::Missing, "missing"),
+    (CheckFault::OwnOrder, "own order"),
+    (CheckFault::Answer { place: 0 }, "answer 0"),
+    (CheckFault::Outside { place: 305 }, "outside 305"),
+    (CheckFault::Falling { place: 1048575 }, "falling 1048575"),
+    (CheckFault::OutOfMemory, "out of memory"),
+];
+
+/// Whether a fault shows these words.
+fn shows(alloc: Global, fault: CheckFault, words: &str) -> Result<bool, AllocError> {
+    let shown = format!(in alloc; "{fault}")?;
+    Ok(shown.as_str() == words)
+}
+
+#[test]
+fn each_fault_is_shown_in_its_words(rt: HostRuntime) -> Result<(), Fail> {
+    for (fault, words) in &SHOWN {
+        assert!(rt; shows(rt.alloc(), *fault, words)?);
+    }
+    Ok(())
 }

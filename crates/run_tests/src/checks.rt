@@ -1,7 +1,7 @@
 //! The commands as a user meets them, on reports and schedules worked by hand.
+use crate::sources::{Source, whole};
 use reg_commands::{Command, run_text};
 use std::alloc::Global;
-use std::io::Read;
 use std::process::Abort;
 
 /// One process writes 5 and reads it.
@@ -76,11 +76,11 @@ pub(crate) fn is_answer(done: (u8, &[u8], &[u8]), status: u8, output: &str, faul
     got == status && written == output.as_bytes() && told == faults.as_bytes()
 }
 
-/// Whether a command over any reader has this status, output and faults.
-pub(crate) fn answers<R: Read>(
+/// Whether a command has this status, output and faults.
+pub(crate) fn answers(
     alloc: Global,
     command: Command,
-    reader: &mut R,
+    reader: &mut Source<'_>,
     status: u8,
     output: &str,
     faults: &str,
@@ -102,16 +102,16 @@ pub(crate) fn answers_joined(
     faults: &str,
 ) -> bool {
     let (head, tail) = parts;
-    let mut reader = head.as_bytes().chain(tail.as_bytes());
+    let mut reader = whole(head.as_bytes(), tail.as_bytes());
     answers(alloc, command, &mut reader, status, output, faults)
 }
 
-/// Demands the status, the output and the faults of a command over any reader.
-pub(crate) fn demand_read<R: Read>(
+/// Demands the status, the output and the faults of a command over this reader.
+pub(crate) fn demand_read(
     rt: &impl Abort,
     alloc: Global,
     command: Command,
-    reader: &mut R,
+    reader: &mut Source<'_>,
     status: u8,
     output: &str,
     faults: &str,
@@ -129,7 +129,7 @@ pub(crate) fn demand(
     output: &str,
     faults: &str,
 ) {
-    let mut reader = input;
+    let mut reader = whole(input, &[]);
     demand_read(rt, alloc, command, &mut reader, status, output, faults);
 }
 

@@ -44,6 +44,7 @@ mod schedules;
 #[cfg(test)]
 mod seeded;
 #[cfg(test)]
+mod sources;
 mod streams;
 #[cfg(test)]
 mod telling;

@@ -1,50 +1,15 @@
 //! Streams that fail, that never end, and memory that is refused in the midst of a command.
 use crate::checks::{ONE_PROCESS, answers, demand_read, is_answer};
+use crate::sources::{Source, whole};
 use refusing::Refusing;
 use reg_commands::{Command, run_text};
 use std::alloc::Global;
 use std::io;
-use std::io::{ErrorKind, Read, Write};
+use std::io::{ErrorKind, Write};
 use std::process::Abort;
 
-/// Gives at most a hundred bytes a read, and fails so many times after so many reads.
-#[derive(Drop)]
-struct FailingReader<'a> {
-    bytes: &'a [u8],
-    before: u32,
-    times: u32,
-    kind: ErrorKind,
-}
-
-impl Read for FailingReader<'_> {
-    fn read(&mut self, buf: &mut [u8]) -> io::Result<usize> {
-        if self.before == 0 && self.times > 0 {
-            self.times -= 1;
-            return Err(io::Error::from(self.kind));
-        }
-        self.before = self.before.saturating_sub(1);
-        let end = self.bytes.len().min(100);
-        let mut front = &self.bytes[..end];
-        let count = front.read(buf)?;
-        if count <= self.bytes.len() {
-            self.bytes = &self.bytes[count..];
-        }
-        Ok(count)
-    }
-}
-
-/// Never ends.
-#[derive(Drop)]
-struct Endless;
-
-impl Read for Endless {
-    fn read(&mut self, buf: &mut [u8]) -> io::Result<usize> {
-        for byte in buf.iter_mut() {
-            *byte = 32;
-        }
-        Ok(buf.len())
-    }
-}
+/// The most bytes that a read gives.
+const A_READ: usize = 100;
 
 /// Takes at most three bytes a write, and fails so many times after so many writes, or at each flush. It keeps what is left
 /// of the output that it is to be given, and whether it was given another.
@@ -100,11 +65,9 @@ fn within(count: u32) -> Option<u32> {
 
 /// How many reads a command makes where none fails. None where it answers otherwise than so.
 fn reads_of(alloc: Global, command: Command, input: &str, output: &str) -> Option<u32> {
-    let mut reader = FailingReader {
-        bytes: input.as_bytes(),
-        before: u32::MAX,
-        times: 0,
-        kind: ErrorKind::Other,
+    let mut reader = Source {
+        most: A_READ,
+        ..whole(input.as_bytes(), &[])
     };
     if answers(alloc, command, &mut reader, 0, output, "") {
         within(u32::MAX.saturating_sub(reader.before))
@@ -128,11 +91,12 @@ fn is_read_told(
     } else {
         (1, "", times.saturating_sub(1))
     };
-    let mut reader = FailingReader {
-        bytes: input.as_bytes(),
+    let mut reader = Source {
+        most: A_READ,
         before,
         times,
         kind,
+        ..whole(input.as_bytes(), &[])
     };
     answers(alloc, command, &mut reader, status, written, line) && reader.times == left
 }
@@ -321,7 +285,11 @@ fn a_check_with_failing_streams(rt: HostRuntime) {
 #[test]
 fn an_input_without_end(rt: HostRuntime) {
     let line = "input: too long\n";
-    demand_read(&rt, rt.alloc(), Command::Check, &mut Endless, 1, "", line);
+    let mut reader = Source {
+        spaces: usize::MAX,
+        ..whole(&[], &[])
+    };
+    demand_read(&rt, rt.alloc(), Command::Check, &mut reader, 1, "", line);
 }
 
 #[test]

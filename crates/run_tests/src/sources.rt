@@ -1,0 +1,60 @@
+//! The reader that the tests hand to a command.
+use std::io;
+use std::io::{ErrorKind, Read};
+
+/// Gives a text in two parts, and so many spaces behind it, at most so many bytes a read. It fails so many times after so many reads.
+#[derive(Drop)]
+pub(crate) struct Source<'a> {
+    pub(crate) bytes: &'a [u8],
+    /// What comes behind them.
+    pub(crate) rest: &'a [u8],
+    pub(crate) spaces: usize,
+    /// The most bytes of a read.
+    pub(crate) most: usize,
+    /// How many reads are left before it fails.
+    pub(crate) before: u32,
+    pub(crate) times: u32,
+    pub(crate) kind: ErrorKind,
+}
+
+/// A text in two parts, which is read whole.
+pub(crate) fn whole<'a>(bytes: &'a [u8], rest: &'a [u8]) -> Source<'a> {
+    Source {
+        bytes,
+        rest,
+        spaces: 0,
+        most: usize::MAX,
+        before: u32::MAX,
+        times: 0,
+        kind: ErrorKind::Other,
+    }
+}
+
+impl Read for Source<'_> {
+    fn read(&mut self, buf: &mut [u8]) -> io::Result<usize> {
+        if self.before == 0 && self.times > 0 {
+            self.times -= 1;
+            return Err(io::Error::from(self.kind));
+        }
+        self.before = self.before.saturating_sub(1);
+        if self.bytes.is_empty() {
+            self.bytes = self.rest;
+            self.rest = &[];
+        }
+        let most = buf.len().min(self.most);
+        if self.bytes.is_empty() {
+            let count = most.min(self.spaces);
+            for byte in buf.iter_mut().take(count) {
+                *byte = b' ';
+            }
+            self.spaces -= count;
+            return Ok(count);
+        }
+        let mut front = &self.bytes[..self.bytes.len().min(most)];
+        let count = front.read(buf)?;
+        if count <= self.bytes.len() {
+            self.bytes = &self.bytes[count..];
+        }
+        Ok(count)
+    }
+}
