@@ -45,6 +45,7 @@ mod schedules;
 mod seeded;
 #[cfg(test)]
 mod sources;
+#[cfg(test)]
 mod streams;
 #[cfg(test)]
 mod telling;
