@@ -1,6 +1,6 @@
 //! A report with each of its bytes changed to every other one.
 use crate::reports::{ONE_PROCESS_NOW, is_written_as};
-use reg_reports::{ReadFault, read_report};
+use reg_history::{ReadFault, read_report};
 use std::alloc::Global;
 use std::process::Abort;
 use std::test::Fail;

@@ -3,7 +3,7 @@ use crate::bases::push_name;
 use crate::demands::demand;
 use reg_base::{Op, Shape};
 use reg_front::Front;
-use reg_workloads::{Key, Workload, WorkloadFault};
+use reg_inputs::{Key, Workload, WorkloadFault};
 use std::alloc::{AllocError, Global};
 use std::process::Abort;
 use std::test::Fail;

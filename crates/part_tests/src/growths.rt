@@ -6,12 +6,12 @@ use refusing::{Trial, refusals};
 use reg_base::{OpId, Shape};
 use reg_frames::{Body, Frame};
 use reg_front::LocalWrite;
-use reg_process::{Outcome, Process, ProcessFault, Put, Step};
-use reg_reports::{
+use reg_history::{
     CheckFault, Point, ReadFault, Report, check_points, check_serial, read_report, write_report,
 };
+use reg_inputs::{Workload, WorkloadFault, read_table};
+use reg_process::{Outcome, Process, ProcessFault, Put, Step};
 use reg_text::{Lines, TextFault, read_names};
-use reg_workloads::{Workload, WorkloadFault, read_table};
 use std::alloc::{AllocError, Allocator, Global};
 use std::str::from_utf8;
 use std::test::Fail;

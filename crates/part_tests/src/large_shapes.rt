@@ -4,7 +4,7 @@ use crate::demands::demand;
 use crate::values::{cast, id};
 use reg_base::{Names, Op, Shape};
 use reg_frames::{Frame, FrameFault, decode, encode};
-use reg_reports::{History, ReadFault, ReadWhy, Report, read_report, write_report};
+use reg_history::{History, ReadFault, ReadWhy, Report, read_report, write_report};
 use std::alloc::AllocError;
 use std::process::Abort;
 use std::test::Fail;

@@ -1,7 +1,7 @@
 //! Histories and their orders, as worked by hand.
 use crate::values::{READ, WRITE_FIVE, answered, called, id};
 use reg_base::{Answer, OpId, Shape};
-use reg_reports::{CheckFault, Entry, History, HistoryFault, Point, check_points, check_serial};
+use reg_history::{CheckFault, Entry, History, HistoryFault, Point, check_points, check_serial};
 use std::alloc::{AllocError, Global};
 use std::process::Abort;
 use std::test::Fail;

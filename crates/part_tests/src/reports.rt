@@ -2,7 +2,7 @@ use crate::demands::demand;
 use crate::values::id;
 use reg_base::limits::MOST_PROCESSES;
 use reg_base::{Answer, Names, Op, OpId, Shape};
-use reg_reports::{
+use reg_history::{
     Entry, History, Point, ReadFault, ReadWhy, Report, ReportFault, read_report, write_report,
 };
 use std::alloc::{AllocError, Global};

@@ -4,12 +4,12 @@ ghost use Rattle.reg_base.specs.declared.memory.Op.{Op};
 ghost use Rattle.reg_base.specs.declared.memory.OpId.{OpId};
 ghost use Rattle.reg_frames.specs.declared.bodies.Body.{Body};
 ghost use Rattle.reg_frames.specs.declared.bodies.Frame.{Frame};
-ghost use Rattle.reg_entries.specs.declared.entries.Entry.{Entry};
-ghost use Rattle.reg_entries.specs.declared.entries.Point.{Point};
+ghost use Rattle.reg_checkers.specs.declared.entries.Entry.{Entry};
+ghost use Rattle.reg_checkers.specs.declared.entries.Point.{Point};
 
 use reg_base::{Answer, Op, OpId};
 use reg_frames::{Body, Frame};
-use reg_reports::{Entry, Point};
+use reg_history::{Entry, Point};
 
 /// A read of the first register.
 pub const READ: Op = Op::Read { register: 0 };

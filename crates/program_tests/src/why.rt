@@ -1,6 +1,6 @@
 //! How it is told what is wrong with a text: all of the answer, a first part where the writer fails, and nothing where there is no memory.
 use refusing::{Trial, refusals};
-use reg_why::why_text;
+use reg_show::why_text;
 use std::alloc::{Allocator, Global};
 use std::test::Fail;
 

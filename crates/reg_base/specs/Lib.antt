@@ -5,3 +5,4 @@ pub mod Order
 pub mod Memory
 pub mod Names
 pub mod Sums
+pub mod Words

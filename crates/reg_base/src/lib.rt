@@ -9,9 +9,11 @@ mod memory;
 mod naming;
 mod shapes;
 mod stamps;
+mod words;
 
 pub use clocks::{Clock, ClockFull};
 pub use memory::{Answer, Op, OpId, Registers};
 pub use naming::{Names, NamesFault, is_name};
 pub use shapes::{Shape, ShapeFault};
 pub use stamps::{Delivered, Stamp};
+pub use words::{Words, happens};

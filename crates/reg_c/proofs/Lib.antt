@@ -1,1 +1,2 @@
+mod Rowwise
 mod Received

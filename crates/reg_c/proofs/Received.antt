@@ -18,9 +18,9 @@ use denote.RawPtr.{Ptr, block_ptr, ptr_val, lies_at, in_a_block}
 use Rattle.std.specs.contracts.result.Result as results
 use Rattle.std.specs.declared.result.Result.TheVariants.{Ok, Err}
 use Rattle.reg_base.specs.Shape.{Extent}
-use Rattle.reg_boundary.specs.declared.holding.Kept.{Kept}
-use Rattle.reg_boundary.specs.Worlds.{kept_at_first}
-use Rattle.reg_boundary.specs.contracts.unboxed.Unboxed as unboxed
+use Rattle.reg_c.specs.declared.holding.Kept.{Kept}
+use Rattle.reg_c.specs.Worlds.{kept_at_first}
+use Rattle.reg_c.specs.contracts.unboxed.Unboxed as unboxed
 
 abbrev pub word : ℕ → ℕ → Val
 word b o = vstruct (vcons (vptr b o) vnil)

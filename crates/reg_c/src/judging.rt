@@ -1,9 +1,10 @@
 //! The checkers, over histories and orders that the caller lends.
 ghost use Rattle.std.specs.Prelude.{◌≡◌};
-ghost use Rattle.reg_boundary.specs.declared.judging.Verdict.{Verdict};
-ghost use Rattle.reg_boundary.specs.Verdicts.{IsSerialVerdict, IsPointVerdict, verdict_code, verdict_place};
+ghost use Rattle.reg_c.specs.declared.verdicts.Verdict.{Verdict};
+ghost use Rattle.reg_c.specs.Verdicts.{IsSerialVerdict, IsPointVerdict, verdict_code, verdict_place};
 
-use reg_boundary::{EntryRow, IdRow, PointRow, code_of_verdict, judge_points, judge_serial};
+use crate::rows::{EntryRow, IdRow, PointRow};
+use crate::verdicts::{code_of_verdict, judge_points, judge_serial};
 use std::alloc::Global;
 
 /// Whether the order is a serial order of the history: 0 where it is, else the number of the first fault, with its place.

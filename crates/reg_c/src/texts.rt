@@ -1,9 +1,9 @@
 //! The commands over memory that the caller lends.
 ghost use Rattle.std.specs.Prelude.{true, false};
 ghost use Rattle.reg_commands.specs.declared.command.Command.{Command};
-ghost use Rattle.reg_boundary.specs.Texts.{Tells};
+ghost use Rattle.reg_c.specs.Texts.{Tells};
 
-use reg_boundary::{Lengths, tell};
+use crate::telling::{Lengths, tell};
 use reg_commands::Command;
 use std::alloc::Global;
 

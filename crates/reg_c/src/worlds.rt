@@ -3,14 +3,14 @@ ghost use Rattle.std.specs.Prelude.{◌≡◌, ◌<◌, None, vec_capacity};
 ghost use Rattle.std.specs.Borrow.{full_share, sem};
 ghost use Rattle.std.specs.Ptr.{lies_at};
 ghost use Rattle.reg_world.specs.declared.faults.WorldFault.{WorldFault};
-ghost use Rattle.reg_boundary.specs.declared.holding.Held.{Held};
-ghost use Rattle.reg_boundary.specs.declared.holding.Kept.{Kept};
-ghost use Rattle.reg_boundary.specs.contracts.holding.Held.{the_row};
-ghost use Rattle.reg_boundary.specs.Events.{event_of, fault_code};
-ghost use Rattle.reg_boundary.specs.Worlds.{HasOrders, IsOpened, Steps, number_of, refusal_of};
+ghost use Rattle.reg_c.specs.declared.holding.Held.{Held};
+ghost use Rattle.reg_c.specs.declared.holding.Kept.{Kept};
+ghost use Rattle.reg_c.specs.contracts.holding.Held.{the_row};
+ghost use Rattle.reg_c.specs.Events.{event_of, fault_code};
+ghost use Rattle.reg_c.specs.Worlds.{HasOrders, IsOpened, Steps, number_of, refusal_of};
 
-use reg_boundary::Unboxed;
-use reg_boundary::holding::{Held, arrange, close, look, open, step};
+use crate::holding::{Held, arrange, close, look, open, step};
+use crate::unboxed::Unboxed;
 use std::alloc::Global;
 
 /// Writes the pointer for the caller, as one to bytes: what it points to is not for C to look into.

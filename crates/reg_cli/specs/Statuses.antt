@@ -3,15 +3,15 @@ use Rattle.std.specs.Prelude.{ℕ, ◌≡◌, ◌≢◌, ◌≤◌, ◌⊎◌, t
 use Rattle.std.specs.Io.KnownBytes.{Appends}
 use Rattle.reg_base.specs.declared.limits.TheConstants.{LONGEST_INPUT}
 use Rattle.reg_text.specs.Writing.{AppendsPart}
-use Rattle.reg_messages.specs.declared.faults.Fault.{Fault}
-use Rattle.reg_messages.specs.declared.faults.Fault.TheVariants.{Output}
-use Rattle.reg_messages.specs.FaultLines.{fault_line}
+use Rattle.reg_commands.specs.declared.faults.Fault.{Fault}
+use Rattle.reg_commands.specs.declared.faults.Fault.TheVariants.{Output}
+use Rattle.reg_commands.specs.FaultLines.{fault_line}
 use Rattle.reg_commands.specs.declared.Command.TheVariants.{Check}
 use Rattle.reg_commands.specs.Answers.{Answers, AnswersInPart, Blames}
-use Rattle.reg_live_command.specs.declared.faults.Stop.{Stop}
-use Rattle.reg_live_command.specs.declared.faults.Stop.TheVariants.{Command}
-use Rattle.reg_live_command.specs.Lives.{Lives, BlamesStop}
-use Rattle.reg_live_command.specs.StopLines.{stop_line}
+use Rattle.reg_cli.specs.declared.stops.Stop.{Stop}
+use Rattle.reg_cli.specs.declared.stops.Stop.TheVariants.{Command}
+use Rattle.reg_cli.specs.Lives.{Lives, BlamesStop}
+use Rattle.reg_cli.specs.StopLines.{stop_line}
 use Rattle.reg_cli.specs.declared.words.Asked.{Asked}
 use Rattle.reg_cli.specs.declared.words.Asked.TheVariants.{Live, Text as OverText}
 

@@ -1,11 +1,17 @@
+//! The command that has threads perform the scripts of a workload, over any reader and writer.
 //! The words of the program's command line, and the program: the commands over the standard streams.
 #![tactic(auto)]
 
+mod performing;
 mod program;
+mod stop_lines;
+mod stops;
 mod words;
 
+pub use performing::run_live;
 pub use program::{refuse, run_line, run_program, run_words};
+pub use reg_args::WordsFault;
 pub use reg_commands::{Command, Fault, run_text};
-pub use reg_live_command::run_live;
-pub use reg_words::WordsFault;
+pub use stop_lines::write_stop;
+pub use stops::Stop;
 pub use words::{Asked, choose};

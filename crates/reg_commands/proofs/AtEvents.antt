@@ -2,14 +2,14 @@
 use Rattle.std.proofs.Common.{◌≡◌, ℕ, suc, zero, ◌≤◌, List, Some, Result, Ok, Err, ap, subst, arith}
 use Rattle.std.specs.Prelude.{IfOk}
 use Rattle.reg_base.specs.declared.limits.TheConstants.{LAST_EVENT}
-use Rattle.reg_entries.specs.declared.entries.Point.{Point}
-use Rattle.reg_entries.specs.History.{IsAt}
-use Rattle.reg_entries.proofs.Places.{at_map}
+use Rattle.reg_checkers.specs.declared.entries.Point.{Point}
+use Rattle.reg_checkers.specs.History.{IsAt}
+use Rattle.reg_checkers.proofs.Places.{at_map}
 use Rattle.reg_world.specs.declared.order.First.{First}
 use Rattle.reg_world.specs.Keys.{Keeps, ArePoints}
 use Rattle.reg_world.specs.Keys.Keeps.{Nothing, Takes, Leaves}
 use Rattle.reg_world.specs.Runs.{Run}
-use Rattle.reg_histories.specs.Orders.{IsPointOrder}
+use Rattle.reg_checkers.specs.Orders.{IsPointOrder}
 use Rattle.reg_commands.specs.Replays.{AreAtEvents, PointsStand}
 
 -- what is kept stood there

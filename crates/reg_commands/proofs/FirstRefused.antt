@@ -3,12 +3,12 @@ use Rattle.std.proofs.Common.{◌≡◌, ◌≢◌, ℕ, List, take, Some, refl}
 use Rattle.reg_base.specs.declared.memory.Op.{Op}
 use Rattle.reg_base.specs.Shape.{Extent}
 use Rattle.reg_front.specs.declared.starts.Start.{Start}
-use Rattle.reg_entries.specs.History.{IsAt}
-use Rattle.reg_world.specs.declared.events.Event.{Event}
+use Rattle.reg_checkers.specs.History.{IsAt}
+use Rattle.reg_process.specs.declared.events.Event.{Event}
 use Rattle.reg_world.specs.declared.faults.WorldFault.{WorldFault}
 use Rattle.reg_world.specs.declared.faults.WorldFault.TheVariants.{Failed, TooManyEvents, NoProcess, Busy, NoRegister, TooManyOperations, NoFrame, OutOfMemory}
 use Rattle.reg_world.specs.Worlds.{RunRefuses, refusal, run_in, after_events}
-use Rattle.reg_schedules.specs.Schedules.{Plan}
+use Rattle.reg_inputs.specs.Schedules.{Plan}
 use Rattle.reg_commands.specs.Replays.{run_before, IsFirstRefused}
 
 module _ (start : Op → ℕ → Start) (p : Plan) (at : ℕ) where

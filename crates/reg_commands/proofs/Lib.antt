@@ -1,3 +1,4 @@
+pub mod Told
 pub mod Gathered
 pub mod Shown
 pub mod Played

@@ -3,13 +3,13 @@ use Rattle.std.proofs.Common.{◌≡◌, ◌≢◌, ℕ, Bool, List, Option, Som
 use Rattle.std.specs.Prelude.{IfOk, IfErr, IfSome, MatchResult}
 use Rattle.std.specs.Io.KnownBytes.{Appends}
 use Rattle.reg_text.specs.Writing.{AppendsPart}
-use Rattle.reg_workloads.specs.Loads.{Load}
-use Rattle.reg_reports.specs.Reports.{Contents, IsReport, SpellsReport, report_text}
-use Rattle.reg_messages.specs.declared.faults.Fault.{Fault}
-use Rattle.reg_messages.specs.declared.faults.Fault.TheVariants.{Output}
-use Rattle.reg_messages.specs.declared.verdicts.Verdicts.{Verdicts}
+use Rattle.reg_inputs.specs.Loads.{Load}
+use Rattle.reg_history.specs.Reports.{Contents, IsReport, SpellsReport, report_text}
+use Rattle.reg_commands.specs.declared.faults.Fault.{Fault}
+use Rattle.reg_commands.specs.declared.faults.Fault.TheVariants.{Output}
+use Rattle.reg_commands.specs.declared.verdicts.Verdicts.{Verdicts}
 use Rattle.reg_commands.specs.declared.command.Command.TheVariants.{Play}
-use Rattle.reg_messages.specs.Verdicts.{Judges, all_yes, verdicts_text}
+use Rattle.reg_commands.specs.Verdicts.{Judges, all_yes, verdicts_text}
 use Rattle.reg_commands.specs.Plays.{Holds, IsReportOfPlay, Plays}
 use Rattle.reg_commands.specs.Answers.{Checks, Blames}
 

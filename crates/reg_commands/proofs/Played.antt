@@ -7,15 +7,15 @@ use Rattle.rand_pcg.specs.Pcg.{pcg32, pcg32_of_seed}
 use Rattle.reg_base.specs.declared.memory.Op.{Op}
 use Rattle.reg_front.specs.declared.named.Front.{Front}
 use Rattle.reg_front.specs.declared.starts.Start.{Start}
-use Rattle.reg_entries.specs.declared.entries.Point.{Point}
-use Rattle.reg_reports.specs.Reports.{Contents}
+use Rattle.reg_checkers.specs.declared.entries.Point.{Point}
+use Rattle.reg_history.specs.Reports.{Contents}
 use Rattle.reg_world.specs.Worlds.{Made}
-use Rattle.reg_workloads.specs.Loads.{Load}
-use Rattle.reg_schedules.specs.Schedules.{Plan}
-use Rattle.reg_players.specs.Plays.{IsPlay}
-use Rattle.reg_players.specs.Fair.{TakesInOrder}
-use Rattle.reg_players.specs.Rounds.{fair_play}
-use Rattle.reg_players.specs.Seeded.{seeded_play}
+use Rattle.reg_inputs.specs.Loads.{Load}
+use Rattle.reg_inputs.specs.Schedules.{Plan}
+use Rattle.reg_workload.specs.Plays.{IsPlay}
+use Rattle.reg_workload.specs.Fair.{TakesInOrder}
+use Rattle.reg_workload.specs.Rounds.{fair_play}
+use Rattle.reg_workload.specs.Seeded.{seeded_play}
 use Rattle.reg_commands.specs.Replays.{plan_in, start_of, Shows, PointsOf}
 use Rattle.reg_commands.specs.Plays.{PlaysAs, play_made, IsPlayBy, plan_of, ShowsPlay, IsReportOfPlay}
 

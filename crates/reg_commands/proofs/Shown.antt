@@ -7,18 +7,18 @@ use Rattle.reg_front.specs.declared.starts.Start.{Start}
 use Rattle.reg_front.specs.declared.named.Front.{Front}
 use Rattle.reg_front.specs.Table.{front_name}
 use Rattle.reg_base.specs.Shape.{Extent}
-use Rattle.reg_entries.specs.declared.entries.Entry.{Entry}
-use Rattle.reg_entries.specs.declared.entries.Point.{Point}
-use Rattle.reg_histories.specs.Orders.{IsSerial}
-use Rattle.reg_histories.specs.Log.{Log}
-use Rattle.reg_reports.specs.Reports.{Contents}
+use Rattle.reg_checkers.specs.declared.entries.Entry.{Entry}
+use Rattle.reg_checkers.specs.declared.entries.Point.{Point}
+use Rattle.reg_checkers.specs.Orders.{IsSerial}
+use Rattle.reg_checkers.specs.Log.{Log}
+use Rattle.reg_history.specs.Reports.{Contents}
 use Rattle.reg_world.specs.World.{run_of}
 use Rattle.reg_world.specs.Keys.{IsWitness}
 use Rattle.reg_world.specs.RealTime.{KeepsUpdates}
 use Rattle.reg_world.specs.Worlds.{Made, run_in, after_events}
-use Rattle.reg_schedules.specs.Schedules.{Plan}
-use Rattle.reg_messages.specs.declared.faults.Fault.{Fault}
-use Rattle.reg_messages.specs.declared.faults.Fault.TheVariants.{OutOfMemory}
+use Rattle.reg_inputs.specs.Schedules.{Plan}
+use Rattle.reg_commands.specs.declared.faults.Fault.{Fault}
+use Rattle.reg_commands.specs.declared.faults.Fault.TheVariants.{OutOfMemory}
 use Rattle.reg_commands.specs.Replays.{plan_in, PointsStand, IsOrdered, Shows, ShowsPoints, BlamesRun}
 
 -- what the world tells of its run

@@ -13,21 +13,21 @@ use Rattle.reg_base.specs.declared.memory.OpId.{OpId}
 use Rattle.reg_front.specs.declared.named.Front.{Front}
 use Rattle.reg_front.specs.declared.named.Front.TheVariants.{Linear, LocalRead, LocalWrite}
 use Rattle.reg_front.specs.Table.{front_name}
-use Rattle.reg_entries.specs.declared.entries.Entry.{Entry}
-use Rattle.reg_entries.specs.declared.entries.Entry.TheVariants.{Called, Answered}
-use Rattle.reg_entries.specs.declared.entries.Point.{Point}
-use Rattle.reg_lines.specs.declared.report_faults.ReportFault.{ReportFault}
-use Rattle.reg_lines.specs.declared.report_faults.ReportFault.TheVariants.{Front as FrontFault, Names as NamesFault, Range as RangeFault}
-use Rattle.reg_lines.specs.declared.report_limits.TheConstants.{MOST_ENTRIES, MOST_IDS}
-use Rattle.reg_entries.specs.History.{IsAt, IsCalled, WasCalled, MayCall, MayAnswer, IsHistory, event_of}
-use Rattle.reg_lines.specs.declared.versions.Version.TheVariants.{Two}
-use Rattle.reg_lines.specs.IdLines.{IdFits}
-use Rattle.reg_histories.specs.Orders.{IsDistinct, IsSelection, IsSerial}
-use Rattle.reg_entries.specs.Table.{MayStand}
-use Rattle.reg_reports.specs.Reports.{Contents, is_front, InRange, PointsFit, IsReportFault}
+use Rattle.reg_checkers.specs.declared.entries.Entry.{Entry}
+use Rattle.reg_checkers.specs.declared.entries.Entry.TheVariants.{Called, Answered}
+use Rattle.reg_checkers.specs.declared.entries.Point.{Point}
+use Rattle.reg_history.specs.declared.report_faults.ReportFault.{ReportFault}
+use Rattle.reg_history.specs.declared.report_faults.ReportFault.TheVariants.{Front as FrontFault, Names as NamesFault, Range as RangeFault}
+use Rattle.reg_history.specs.declared.report_limits.TheConstants.{MOST_ENTRIES, MOST_IDS}
+use Rattle.reg_checkers.specs.History.{IsAt, IsCalled, WasCalled, MayCall, MayAnswer, IsHistory, event_of}
+use Rattle.reg_history.specs.declared.versions.Version.TheVariants.{Two}
+use Rattle.reg_history.specs.IdLines.{IdFits}
+use Rattle.reg_checkers.specs.Orders.{IsDistinct, IsSelection, IsSerial}
+use Rattle.reg_checkers.specs.Table.{MayStand}
+use Rattle.reg_history.specs.Reports.{Contents, is_front, InRange, PointsFit, IsReportFault}
 use Rattle.reg_commands.specs.Replays.{PointsStand}
-use Rattle.reg_entries.proofs.Places.{within, same_at, at_take, element_at, IsAt-map}
-use Rattle.reg_entries.proofs.Histories.{answered_was_called}
+use Rattle.reg_checkers.proofs.Places.{within, same_at, at_take, element_at, IsAt-map}
+use Rattle.reg_checkers.proofs.Histories.{answered_was_called}
 
 -- twice the event of an entry, and one more for an answer
 abbrev rank : Entry → ℕ

@@ -4,23 +4,23 @@ use Rattle.std.specs.Str.{IsUtf8}
 use Rattle.reg_text.specs.Writing.{AppendsPart}
 use Rattle.reg_text.specs.declared.faults.Why.{Why}
 use Rattle.reg_base.specs.declared.limits.TheConstants.{LONGEST_INPUT}
-use Rattle.reg_lines.specs.ReadFaults.{why_of}
-use Rattle.reg_reports.specs.Refusals.{RefusesReportLine}
-use Rattle.reg_reports.specs.Reports.{Contents, IsReport, SpellsReport}
-use Rattle.reg_lines.specs.declared.report_faults.ReadWhy.{ReadWhy}
+use Rattle.reg_history.specs.ReadFaults.{why_of}
+use Rattle.reg_history.specs.Refusals.{RefusesReportLine}
+use Rattle.reg_history.specs.Reports.{Contents, IsReport, SpellsReport}
+use Rattle.reg_history.specs.declared.report_faults.ReadWhy.{ReadWhy}
 use Rattle.reg_commands.specs.declared.command.Command.{Command}
 use Rattle.reg_commands.specs.declared.command.Command.TheVariants.{Replay, Check, Play}
-use Rattle.reg_messages.specs.declared.faults.Fault.{Fault}
-use Rattle.reg_messages.specs.declared.faults.Fault.TheVariants.{Unread, TooLong, NotText, Output, Line, Event, Workload, OutOfMemory}
-use Rattle.reg_messages.specs.declared.verdicts.Verdicts.{Verdicts}
+use Rattle.reg_commands.specs.declared.faults.Fault.{Fault}
+use Rattle.reg_commands.specs.declared.faults.Fault.TheVariants.{Unread, TooLong, NotText, Output, Line, Event, Workload, OutOfMemory}
+use Rattle.reg_commands.specs.declared.verdicts.Verdicts.{Verdicts}
 use Rattle.reg_world.specs.declared.faults.WorldFault.{WorldFault}
-use Rattle.reg_workloads.specs.declared.faults.WorkloadFault.{WorkloadFault}
-use Rattle.reg_workloads.specs.Loads.{Load}
-use Rattle.reg_schedules.specs.Refusals.{RefusesLine}
-use Rattle.reg_schedules.specs.Schedules.{Plan, IsPlan, Spells}
+use Rattle.reg_inputs.specs.declared.faults.WorkloadFault.{WorkloadFault}
+use Rattle.reg_inputs.specs.Loads.{Load}
+use Rattle.reg_inputs.specs.Refusals.{RefusesLine}
+use Rattle.reg_inputs.specs.Schedules.{Plan, IsPlan, Spells}
 use Rattle.reg_commands.specs.Replays.{start_of, run_by, Replays, RefusesAt}
 use Rattle.reg_commands.specs.Plays.{Holds, RefusesDocument, Plays}
-use Rattle.reg_messages.specs.Verdicts.{Judges, all_yes, verdicts_text}
+use Rattle.reg_commands.specs.Verdicts.{Judges, all_yes, verdicts_text}
 
 -- The text is that of a report, and the verdicts on it were written: `Wrote` says how a text was.
 pub record Checks (agrees : Bool) (Wrote : List ℕ → Type 0) (text : List ℕ) : Type 0 where

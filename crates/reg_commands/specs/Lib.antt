@@ -1,4 +1,7 @@
+pub mod Verdicts
+pub mod FaultLines
+pub mod CheckerAnswers
 pub mod Replays
 pub mod Plays
 pub mod Answers
-pub mod Inner
+pub mod NoPoints

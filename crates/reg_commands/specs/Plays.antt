@@ -6,18 +6,18 @@ use Rattle.rand_core.specs.Pcg32Seed.{pcg32_seed}
 use Rattle.rand_pcg.specs.Pcg.{pcg32, pcg32_of_seed}
 use Rattle.reg_base.specs.declared.memory.Op.{Op}
 use Rattle.reg_front.specs.declared.starts.Start.{Start}
-use Rattle.reg_entries.specs.declared.entries.Point.{Point}
-use Rattle.reg_reports.specs.Reports.{Contents, report_text}
+use Rattle.reg_checkers.specs.declared.entries.Point.{Point}
+use Rattle.reg_history.specs.Reports.{Contents, report_text}
 use Rattle.reg_world.specs.Worlds.{Made}
-use Rattle.reg_workloads.specs.declared.faults.WorkloadFault.{WorkloadFault}
-use Rattle.reg_workloads.specs.declared.faults.WorkloadFault.TheVariants.{Toml}
-use Rattle.reg_workloads.specs.Loads.{Load, IsLoad, Says}
-use Rattle.reg_workloads.specs.Judged.{IsFault}
-use Rattle.reg_schedules.specs.Schedules.{Plan}
-use Rattle.reg_players.specs.Plays.{IsPlay}
-use Rattle.reg_players.specs.Fair.{TakesInOrder}
-use Rattle.reg_players.specs.Rounds.{fair_play}
-use Rattle.reg_players.specs.Seeded.{seeded_play}
+use Rattle.reg_inputs.specs.declared.faults.WorkloadFault.{WorkloadFault}
+use Rattle.reg_inputs.specs.declared.faults.WorkloadFault.TheVariants.{Toml}
+use Rattle.reg_inputs.specs.Loads.{Load, IsLoad, Says}
+use Rattle.reg_inputs.specs.Judged.{IsFault}
+use Rattle.reg_inputs.specs.Schedules.{Plan}
+use Rattle.reg_workload.specs.Plays.{IsPlay}
+use Rattle.reg_workload.specs.Fair.{TakesInOrder}
+use Rattle.reg_workload.specs.Rounds.{fair_play}
+use Rattle.reg_workload.specs.Seeded.{seeded_play}
 use Rattle.reg_commands.specs.Replays.{start_of, plan_in, Shows, PointsOf}
 
 -- the text is a document whose table says this workload

@@ -6,20 +6,20 @@ use Rattle.reg_front.specs.declared.starts.Start.{Start}
 use Rattle.reg_front.specs.declared.named.Front.{Front}
 use Rattle.reg_front.specs.declared.named.Front.TheVariants.{Linear, LocalRead, LocalWrite}
 use Rattle.reg_front.specs.Table.{linear, local_read, local_write, front_name}
-use Rattle.reg_entries.specs.declared.entries.Entry.{Entry}
-use Rattle.reg_entries.specs.declared.entries.Point.{Point}
-use Rattle.reg_entries.specs.History.{IsAt}
-use Rattle.reg_histories.specs.Orders.{IsSerial, IsPointOrder}
-use Rattle.reg_reports.specs.Reports.{Contents, report_text}
+use Rattle.reg_checkers.specs.declared.entries.Entry.{Entry}
+use Rattle.reg_checkers.specs.declared.entries.Point.{Point}
+use Rattle.reg_checkers.specs.History.{IsAt}
+use Rattle.reg_checkers.specs.Orders.{IsSerial, IsPointOrder}
+use Rattle.reg_history.specs.Reports.{Contents, report_text}
 use Rattle.reg_world.specs.RealTime.{KeepsUpdates}
 use Rattle.reg_world.specs.World.{World, run_of, whole, world_fault}
-use Rattle.reg_world.specs.declared.events.Event.{Event}
+use Rattle.reg_process.specs.declared.events.Event.{Event}
 use Rattle.reg_world.specs.declared.faults.WorldFault.{WorldFault}
 use Rattle.reg_world.specs.Keys.{IsWitness, ArePoints}
 use Rattle.reg_world.specs.Worlds.{Made}
-use Rattle.reg_schedules.specs.Schedules.{Plan, IsPlan, Spells}
-use Rattle.reg_messages.specs.declared.faults.Fault.{Fault}
-use Rattle.reg_messages.specs.declared.faults.Fault.TheVariants.{Event as EventFault, OutOfMemory}
+use Rattle.reg_inputs.specs.Schedules.{Plan, IsPlan, Spells}
+use Rattle.reg_commands.specs.declared.faults.Fault.{Fault}
+use Rattle.reg_commands.specs.declared.faults.Fault.TheVariants.{Event as EventFault, OutOfMemory}
 
 -- how the front end of a plan starts an operation
 abbrev pub start_of : Front → Op → ℕ → Start

@@ -1,13 +1,14 @@
 //! The command that judges a report from its text alone.
 ghost use Rattle.std.specs.Prelude.{◌≡◌, ◌≢◌, IfOk, IfErr, IsErrOf, string_bytes};
 ghost use Rattle.std.specs.Io.KnownBytes.{Appends};
-ghost use Rattle.reg_reports.specs.Reports.{Contents, IsReport, SpellsReport};
-ghost use Rattle.reg_messages.specs.Verdicts.{Judges};
+ghost use Rattle.reg_history.specs.Reports.{Contents, IsReport, SpellsReport};
+ghost use Rattle.reg_commands.specs.Verdicts.{Judges};
 ghost use Rattle.reg_commands.specs.Answers.{AnswersInPart, Checks, Blames};
 
 use crate::command::Command;
-use reg_messages::{Fault, Verdicts, all_yes, judge, write_verdicts};
-use reg_reports::{ReadFault, Report, read_report};
+use crate::faults::Fault;
+use crate::verdicts::{Verdicts, all_yes, judge, write_verdicts};
+use reg_history::{ReadFault, Report, read_report};
 use std::alloc::Allocator;
 use std::io::Write;
 

@@ -4,8 +4,8 @@ ghost use Rattle.reg_base.specs.declared.limits.TheConstants.{LONGEST_INPUT};
 ghost use Rattle.reg_commands.specs.Answers.{Blames};
 ghost use Rattle.reg_commands.specs.declared.command.Command.{Command as AnyCommand};
 
+use crate::faults::Fault;
 use reg_base::limits::LONGEST_INPUT;
-use reg_messages::Fault;
 use std::alloc::Allocator;
 use std::io::{ErrorKind, Read};
 

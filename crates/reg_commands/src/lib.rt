@@ -1,19 +1,25 @@
+//! What a command tells: the fault for which it gives no answer, with its line, and the verdicts on a report, with theirs.
 //! The commands over any reader and writer.
 #![tactic(auto)]
 
 mod checking;
 mod command;
+mod fault_lines;
+mod faults;
 mod input;
 mod playing;
 mod replaying;
 mod reporting;
 mod running;
+mod verdicts;
 
 pub use checking::read_report_text;
 pub use command::Command;
+pub use fault_lines::{put_fault_text, write_fault};
+pub use faults::Fault;
 pub use input::read_input;
 pub use playing::{play_by, read_workload};
-pub use reg_messages::{Fault, put_fault_text, write_fault};
 pub use replaying::{Ran, read_schedule, run_events};
 pub use reporting::{report_run, report_run_with_points, write_out};
 pub use running::run_text;
+pub use verdicts::{Reason, Verdict, Verdicts, all_yes, judge, write_verdicts};

@@ -1,21 +1,21 @@
 //! The command that plays a workload and prints the report of what happened.
 ghost use Rattle.std.specs.Prelude.{◌≡◌, ◌≢◌, ◌⊎◌, Bool, IfOk, IfErr, IsErrOf};
 ghost use Rattle.std.specs.Io.KnownBytes.{Appends};
-ghost use Rattle.reg_workloads.specs.declared.faults.WorkloadFault.TheVariants.{OutOfMemory};
-ghost use Rattle.reg_workloads.specs.Loads.{Load};
+ghost use Rattle.reg_inputs.specs.declared.faults.WorkloadFault.TheVariants.{OutOfMemory};
+ghost use Rattle.reg_inputs.specs.Loads.{Load};
 ghost use Rattle.reg_commands.specs.Answers.{AnswersInPart, Blames};
 ghost use Rattle.reg_commands.specs.Replays.{ShowsPoints};
 ghost use Rattle.reg_commands.specs.Plays.{Holds, RefusesDocument, IsPlayBy, ShowsPlay, IsReportOfPlay, Plays};
-ghost use Rattle.reg_commands.specs.Inner.{HasNoPoints};
+ghost use Rattle.reg_commands.specs.NoPoints.{HasNoPoints};
 
 use crate::command::Command;
+use crate::faults::Fault;
 use crate::reporting::{report_run, report_run_with_points, write_out};
 use reg_front::{Front, FrontEnd, Linear, LocalRead, LocalWrite, RealTime};
-use reg_messages::Fault;
-use reg_players::{
+use reg_history::Report;
+use reg_workload::{
     Play, SeedWords, Workload, WorkloadFault, play_fair_in, play_seeded_in, read_table,
 };
-use reg_reports::Report;
 use reg_world::{PackedWires, WireStore};
 use std::alloc::{AllocError, Allocator, Global};
 use std::io::Write;

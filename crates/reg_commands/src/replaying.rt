@@ -2,17 +2,17 @@
 ghost use Rattle.std.specs.Prelude.{◌≡◌, ◌≢◌, None, IfOk, IfErr, IsErrOf, string_bytes};
 ghost use Rattle.std.specs.Io.KnownBytes.{Appends};
 ghost use Rattle.reg_world.specs.Worlds.{after_events};
-ghost use Rattle.reg_schedules.specs.Schedules.{Plan, IsPlan, Spells};
+ghost use Rattle.reg_inputs.specs.Schedules.{Plan, IsPlan, Spells};
 ghost use Rattle.reg_commands.specs.Answers.{AnswersInPart, Blames};
 ghost use Rattle.reg_commands.specs.Replays.{start_of, Shows, ShowsPoints, IsReportOf, Replays, BlamesRun};
 
 use crate::command::Command;
+use crate::faults::Fault;
 use crate::reporting::{report_run, report_run_with_points, write_out};
 use reg_base::Names;
 use reg_front::{Front, FrontEnd, Linear, LocalRead, LocalWrite, RealTime};
-use reg_messages::Fault;
-use reg_players::{Schedule, ScheduleFault, parse_schedule};
-use reg_reports::{ReadWhy, Report};
+use reg_history::{ReadWhy, Report};
+use reg_workload::{Schedule, ScheduleFault, parse_schedule};
 use reg_world::{PackedWires, RunFault, WireStore, World, WorldFault};
 use std::alloc::Allocator;
 use std::io::Write;

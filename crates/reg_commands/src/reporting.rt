@@ -3,10 +3,10 @@ ghost use Rattle.std.specs.Prelude.{◌≡◌, ◌≤◌, ℕ, Some, None, IfOk,
 ghost use Rattle.std.specs.Io.KnownBytes.{Appends};
 ghost use Rattle.reg_base.specs.declared.limits.TheConstants.{LAST_EVENT, MOST_PROCESSES};
 ghost use Rattle.reg_front.specs.Table.{front_name};
-ghost use Rattle.reg_entries.specs.History.{IsAt};
-ghost use Rattle.reg_histories.specs.Log.{IsLog};
-ghost use Rattle.reg_histories.specs.Orders.{IsSerial};
-ghost use Rattle.reg_reports.specs.Reports.{Contents, report_text};
+ghost use Rattle.reg_checkers.specs.History.{IsAt};
+ghost use Rattle.reg_checkers.specs.Log.{IsLog};
+ghost use Rattle.reg_checkers.specs.Orders.{IsSerial};
+ghost use Rattle.reg_history.specs.Reports.{Contents, report_text};
 ghost use Rattle.reg_text.specs.Writing.{AppendsPart};
 ghost use Rattle.reg_world.specs.declared.order.First.{First};
 ghost use Rattle.reg_world.specs.Keys.{ArePoints};
@@ -14,10 +14,10 @@ ghost use Rattle.reg_world.specs.World.{run_of};
 ghost use Rattle.reg_world.specs.Worlds.{run_in};
 ghost use Rattle.reg_commands.specs.Replays.{plan_in, Shows, ShowsPoints, PointsStand};
 
+use crate::faults::Fault;
 use reg_base::{Names, OpId};
 use reg_front::{Front, FrontEnd, RealTime};
-use reg_messages::Fault;
-use reg_reports::{History, Point, Report, write_report};
+use reg_history::{History, Point, Report, write_report};
 use reg_world::{WireStore, World};
 use std::alloc::{AllocError, Allocator};
 use std::io::Write;

@@ -4,15 +4,16 @@ ghost use Rattle.std.specs.Io.KnownBytes.{Appends};
 ghost use Rattle.reg_base.specs.declared.limits.TheConstants.{LONGEST_INPUT};
 ghost use Rattle.reg_text.specs.Writing.{AppendsPart};
 ghost use Rattle.reg_commands.specs.Answers.{Answers, AnswersInPart, Blames};
-ghost use Rattle.reg_messages.specs.FaultLines.{fault_line};
-ghost use Rattle.reg_messages.specs.declared.faults.Fault.{Fault};
+ghost use Rattle.reg_commands.specs.FaultLines.{fault_line};
+ghost use Rattle.reg_commands.specs.declared.faults.Fault.{Fault};
 
 use crate::checking::check;
 use crate::command::Command;
+use crate::fault_lines::write_fault;
+use crate::faults::Fault;
 use crate::input::read_input;
 use crate::playing::play;
 use crate::replaying::replay;
-use reg_messages::{Fault, write_fault};
 use std::alloc::{Allocator, Global};
 use std::io::{Read, Write};
 

@@ -1,3 +1,5 @@
+pub mod Cutting
+pub mod Commenting
 pub mod Behind
 pub mod Joined
 pub mod Looking

@@ -5,7 +5,7 @@ use Rattle.std.specs.Prelude.{slice_index, slice_get, cond, ◌==◌}
 use Rattle.std.proofs.lemmas.Bool.{ne_eqb, eq-eqb}
 use Rattle.reg_base.specs.declared.memory.Op.{Op}
 use Rattle.reg_front.specs.declared.starts.Start.{Start}
-use Rattle.reg_world.specs.declared.events.Event.{Event}
+use Rattle.reg_process.specs.declared.events.Event.{Event}
 use Rattle.reg_world.specs.Worlds.{Made, with_event}
 use Rattle.reg_data.specs.declared.looks.Kept.{Kept}
 use Rattle.reg_data.specs.Looks.{Look, kept_of, look_behind, looks_from}

@@ -3,11 +3,11 @@ use Rattle.std.proofs.Common.{◌≡◌, ℕ, List, Option}
 use Rattle.reg_base.specs.declared.memory.Op.{Op}
 use Rattle.reg_base.specs.declared.memory.OpId.{OpId}
 use Rattle.reg_front.specs.declared.starts.Start.{Start}
-use Rattle.reg_moments.specs.Figures.{arrows_of, bars_of}
-use Rattle.reg_moments.specs.Moments.{moments_of}
-use Rattle.reg_entries.specs.declared.entries.Point.{Point}
-use Rattle.reg_notes.specs.Notes.{Notes}
-use Rattle.reg_schedules.specs.Schedules.{Plan}
+use Rattle.reg_trace.specs.Figures.{arrows_of, bars_of}
+use Rattle.reg_trace.specs.Moments.{moments_of}
+use Rattle.reg_checkers.specs.declared.entries.Point.{Point}
+use Rattle.reg_data.specs.Notes.{Notes}
+use Rattle.reg_inputs.specs.Schedules.{Plan}
 use Rattle.reg_world.specs.World.{World, whole}
 use Rattle.reg_data.specs.Data.{Data, data_of}
 use Rattle.reg_data.specs.Looks.{looks_of}

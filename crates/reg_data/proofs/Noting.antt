@@ -1,6 +1,6 @@
 -- The events with their notes, place by place.
 use Rattle.std.proofs.Common.{ℕ, zero, suc, ◌≡◌, ◌∙◌, ◌<◌, List, [], ◌∷◌, length, drop, get_or, refl, ap, arith}
-use Rattle.reg_moments.specs.Moments.{Fact}
+use Rattle.reg_trace.specs.Moments.{Fact}
 use Rattle.reg_data.specs.Noted.{Noted, noted}
 
 pub length-noted : (facts : List Fact) (notes : List (List ℕ)) → length (noted facts notes) ≡ length facts

@@ -24,19 +24,18 @@ use Rattle.reg_frames.specs.declared.bodies.Frame.TheVariants.{Numbered, Got}
 use Rattle.reg_front.specs.declared.named.Front.{Front}
 use Rattle.reg_front.specs.declared.named.Front.TheVariants.{Linear, LocalRead, LocalWrite}
 use Rattle.reg_front.specs.Table.{front_name}
-use Rattle.reg_lines.specs.EntryLines.{answer_text}
-use Rattle.reg_moments.specs.declared.figures.Bar.{Bar}
-use Rattle.reg_moments.specs.declared.figures.End.{End}
-use Rattle.reg_moments.specs.declared.moments.Sent.{Sent}
-use Rattle.reg_entries.specs.declared.entries.Point.{Point}
-use Rattle.reg_steps.specs.declared.known.Known.{Known}
-use Rattle.reg_steps.specs.declared.steps.Reply.{Reply}
+use Rattle.reg_text.specs.Ops.{answer_text, op_text}
+use Rattle.reg_trace.specs.declared.figures.Bar.{Bar}
+use Rattle.reg_trace.specs.declared.figures.End.{End}
+use Rattle.reg_trace.specs.declared.moments.Sent.{Sent}
+use Rattle.reg_checkers.specs.declared.entries.Point.{Point}
+use Rattle.reg_process.specs.declared.known.Known.{Known}
+use Rattle.reg_process.specs.declared.steps.Reply.{Reply}
 use Rattle.reg_process.specs.Process.{Running, Own, Held}
-use Rattle.reg_schedules.specs.Schedules.{event_text}
-use Rattle.reg_text.specs.Ops.{op_text}
+use Rattle.reg_inputs.specs.Schedules.{event_text}
 use Rattle.reg_text.proofs.NamesLack.{both_true, well_spelt}
-use Rattle.reg_world.specs.declared.events.Event.{Event}
-use Rattle.reg_world.specs.declared.events.Event.TheVariants.{Call, Take, Tick}
+use Rattle.reg_process.specs.declared.events.Event.{Event}
+use Rattle.reg_process.specs.declared.events.Event.TheVariants.{Call, Take, Tick}
 use Rattle.reg_data.specs.declared.looks.Kept.{Kept}
 use Rattle.reg_data.specs.Data.{Data, data_text, head_text, order_text, points_part, run_text}
 use Rattle.reg_data.specs.Json.{joined, lines_text, list_text, numbers_text, quoted}

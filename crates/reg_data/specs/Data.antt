@@ -6,13 +6,13 @@ use Rattle.reg_base.specs.declared.memory.OpId.{OpId}
 use Rattle.reg_front.specs.declared.named.Front.{Front}
 use Rattle.reg_front.specs.declared.starts.Start.{Start}
 use Rattle.reg_front.specs.Table.{front_name}
-use Rattle.reg_moments.specs.declared.figures.Arrow.{Arrow}
-use Rattle.reg_moments.specs.declared.figures.Bar.{Bar}
-use Rattle.reg_moments.specs.Figures.{arrows_of, bars_of}
-use Rattle.reg_moments.specs.Moments.{Fact, moments_of}
-use Rattle.reg_entries.specs.declared.entries.Point.{Point}
-use Rattle.reg_notes.specs.Notes.{Notes}
-use Rattle.reg_schedules.specs.Schedules.{Plan}
+use Rattle.reg_trace.specs.declared.figures.Arrow.{Arrow}
+use Rattle.reg_trace.specs.declared.figures.Bar.{Bar}
+use Rattle.reg_trace.specs.Figures.{arrows_of, bars_of}
+use Rattle.reg_trace.specs.Moments.{Fact, moments_of}
+use Rattle.reg_checkers.specs.declared.entries.Point.{Point}
+use Rattle.reg_data.specs.Notes.{Notes}
+use Rattle.reg_inputs.specs.Schedules.{Plan}
 use Rattle.reg_world.specs.declared.order.CopyRead.{CopyRead}
 use Rattle.reg_world.specs.declared.order.First.{First}
 use Rattle.reg_world.specs.Keys.{IsWitness}

@@ -1,3 +1,4 @@
+pub mod Notes
 pub mod Json
 pub mod Rows
 pub mod Looks

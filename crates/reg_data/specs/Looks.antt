@@ -4,10 +4,10 @@ use Rattle.reg_base.specs.Shape.{Extent}
 use Rattle.reg_base.specs.declared.memory.Op.{Op}
 use Rattle.reg_base.specs.declared.stamps.Delivered.{Delivered}
 use Rattle.reg_front.specs.declared.starts.Start.{Start}
-use Rattle.reg_steps.specs.declared.known.Known.{Known}
+use Rattle.reg_process.specs.declared.known.Known.{Known}
 use Rattle.reg_process.specs.Known.{known_of}
 use Rattle.reg_process.specs.Process.{Running, State, peer_at}
-use Rattle.reg_world.specs.declared.events.Event.{Event}
+use Rattle.reg_process.specs.declared.events.Event.{Event}
 use Rattle.reg_world.specs.Histories.{process_of}
 use Rattle.reg_world.specs.Worlds.{Made, run_in, with_event, new_world}
 use Rattle.reg_data.specs.declared.looks.Kept.{Kept}

@@ -1,6 +1,6 @@
 -- What each event did, with its note.
 use Rattle.std.specs.Prelude.{ℕ, List, [], ◌∷◌, drop, get_or}
-use Rattle.reg_moments.specs.Moments.{Fact}
+use Rattle.reg_trace.specs.Moments.{Fact}
 
 -- what an event did, and its note
 pub record Noted : Type 0 where

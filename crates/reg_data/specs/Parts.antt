@@ -5,15 +5,14 @@ use Rattle.reg_frames.specs.declared.bodies.Body.{Body}
 use Rattle.reg_frames.specs.declared.bodies.Body.TheVariants.{Cast, Ack}
 use Rattle.reg_frames.specs.declared.bodies.Frame.{Frame}
 use Rattle.reg_frames.specs.declared.bodies.Frame.TheVariants.{Numbered, Got}
-use Rattle.reg_lines.specs.EntryLines.{answer_text}
-use Rattle.reg_moments.specs.declared.figures.Bar.{Bar}
-use Rattle.reg_moments.specs.declared.figures.End.{End}
-use Rattle.reg_moments.specs.declared.moments.Sent.{Sent}
-use Rattle.reg_steps.specs.declared.known.Known.{Known}
-use Rattle.reg_steps.specs.declared.steps.Reply.{Reply}
+use Rattle.reg_text.specs.Ops.{answer_text, op_text}
+use Rattle.reg_trace.specs.declared.figures.Bar.{Bar}
+use Rattle.reg_trace.specs.declared.figures.End.{End}
+use Rattle.reg_trace.specs.declared.moments.Sent.{Sent}
+use Rattle.reg_process.specs.declared.known.Known.{Known}
+use Rattle.reg_process.specs.declared.steps.Reply.{Reply}
 use Rattle.reg_process.specs.Process.{Running, Own, Held}
-use Rattle.reg_schedules.specs.Schedules.{event_text}
-use Rattle.reg_text.specs.Ops.{op_text}
+use Rattle.reg_inputs.specs.Schedules.{event_text}
 use Rattle.reg_data.specs.declared.looks.Kept.{Kept}
 use Rattle.reg_data.specs.Json.{list_text, numbers_text, quoted}
 use Rattle.reg_data.specs.Looks.{Look}

@@ -2,8 +2,8 @@
 use Rattle.std.specs.Prelude.{ℕ, List, [], ◌∷◌}
 use Rattle.reg_base.specs.declared.memory.OpId.{OpId}
 use Rattle.reg_base.specs.declared.stamps.Delivered.{Delivered}
-use Rattle.reg_moments.specs.declared.figures.Arrow.{Arrow}
-use Rattle.reg_entries.specs.declared.entries.Point.{Point}
+use Rattle.reg_trace.specs.declared.figures.Arrow.{Arrow}
+use Rattle.reg_checkers.specs.declared.entries.Point.{Point}
 use Rattle.reg_world.specs.declared.order.CopyRead.{CopyRead}
 use Rattle.reg_world.specs.declared.order.First.{First}
 use Rattle.reg_data.specs.Json.{numbers_text}

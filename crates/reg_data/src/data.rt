@@ -1,10 +1,10 @@
 //! All that is told of a run.
 use crate::looks::Look;
+use crate::notes::Notes;
 use reg_base::{Names, OpId};
+use reg_checkers::Point;
 use reg_front::Front;
-use reg_histories::Point;
-use reg_moments::{Arrow, Bar, Moment};
-use reg_notes::Notes;
+use reg_trace::{Arrow, Bar, Moment};
 use reg_world::{CopyRead, First};
 use std::alloc::{Allocator, Global};
 use std::marker::Model;

@@ -6,11 +6,11 @@ ghost use Rattle.reg_data.specs.Noted.{noted};
 ghost use Rattle.reg_data.specs.Parts.{moment_part};
 
 use crate::json::put_comma;
+use crate::notes::Notes;
 use crate::parts::put_moment;
 use reg_base::Names;
-use reg_moments::Moment;
-use reg_notes::Notes;
 use reg_text::Sink;
+use reg_trace::Moment;
 use std::alloc::Allocator;
 use std::io::Write;
 

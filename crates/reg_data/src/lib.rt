@@ -1,11 +1,14 @@
+//! What the comments of a schedule say: its title, and the note of each event.
 //! The data of a run, as JSON: what each event did, the states behind it, and the orders of the whole run.
 #![tactic(auto)]
 
+mod comments;
 mod data;
 mod events;
 mod json;
 pub mod laws;
 mod looks;
+mod notes;
 mod parts;
 mod rows;
 mod strings;
@@ -14,5 +17,6 @@ mod text;
 
 pub use data::Data;
 pub use looks::{Kept, Look};
+pub use notes::{Notes, read_notes};
 pub use telling::tell_data;
 pub use text::write_data;

@@ -2,13 +2,13 @@
 ghost use Rattle.std.specs.Prelude.{◌≡◌, ◌<◌, ◌++◌, None, false, length, IfOk, OnOk};
 ghost use Rattle.reg_world.specs.Histories.{process_of};
 ghost use Rattle.reg_world.specs.Worlds.{new_world, refusal, run_in, with_event};
-ghost use Rattle.reg_moments.specs.Moments.{AcceptsAll};
+ghost use Rattle.reg_trace.specs.Moments.{AcceptsAll};
 ghost use Rattle.reg_data.specs.Looks.{kept_of, look_behind, look_of, looks_from, looks_of, peers_of};
 
 use reg_base::{Registers, Shape};
 use reg_front::FrontEnd;
-use reg_moments::process_of_event;
 use reg_process::{Awaited, Delivered, Known, Process};
+use reg_trace::process_of_event;
 use reg_world::{Event, World};
 use std::alloc::{AllocError, Allocator, Global};
 use std::marker::Model;

@@ -2,9 +2,8 @@
 ghost use Rattle.std.specs.Prelude.{◌≡◌, Some, option_map};
 ghost use Rattle.reg_text.specs.Writing.{Puts};
 ghost use Rattle.reg_data.specs.Json.{quoted};
-ghost use Rattle.reg_lines.specs.EntryLines.{answer_text};
-ghost use Rattle.reg_text.specs.Ops.{op_text};
-ghost use Rattle.reg_schedules.specs.Schedules.{event_text};
+ghost use Rattle.reg_text.specs.Ops.{answer_text, op_text};
+ghost use Rattle.reg_inputs.specs.Schedules.{event_text};
 ghost use Rattle.reg_process.specs.Waits.{running_of};
 ghost use Rattle.reg_data.specs.Parts.{bar_part, body_part, end_part, frame_part, kept_part, look_part, moment_part, peer_part, reply_part, running_part, sent_part, taken_part};
 
@@ -13,9 +12,10 @@ use crate::looks::{Kept, Look};
 use crate::strings::put_string;
 use reg_base::{Answer, Names, Op};
 use reg_frames::{Body, Frame};
-use reg_moments::{Bar, End, Moment, Sent, put_answer, put_event};
+use reg_inputs::put_event;
 use reg_process::{Awaited, Known, Reply};
-use reg_text::{Sink, put_number, put_op};
+use reg_text::{Sink, put_answer, put_number, put_op};
+use reg_trace::{Bar, End, Moment, Sent};
 use reg_world::Event;
 use std::alloc::Allocator;
 use std::io::Write;

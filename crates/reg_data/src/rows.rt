@@ -4,10 +4,10 @@ ghost use Rattle.reg_data.specs.Rows.{arrow_row, cast_row, first_row, id_row, po
 
 use crate::json::{Part, put_numbers};
 use reg_base::{Names, OpId};
-use reg_histories::Point;
-use reg_moments::Arrow;
+use reg_checkers::Point;
 use reg_process::Delivered;
 use reg_text::Sink;
+use reg_trace::Arrow;
 use reg_world::{CopyRead, First};
 use std::alloc::Allocator;
 use std::io::Write;

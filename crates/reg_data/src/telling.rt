@@ -1,15 +1,15 @@
 //! What is told of a run.
 ghost use Rattle.std.specs.Prelude.{◌≡◌, IfOk, option_map};
-ghost use Rattle.reg_schedules.specs.Schedules.{Plan};
+ghost use Rattle.reg_inputs.specs.Schedules.{Plan};
 ghost use Rattle.reg_data.specs.Data.{IsDataOf};
 
 use crate::data::Data;
 use crate::looks::look_behind_events;
+use crate::notes::Notes;
 use reg_base::Names;
+use reg_checkers::Point;
 use reg_front::{Front, FrontEnd};
-use reg_histories::Point;
-use reg_moments::{arrows, bars, tell_world};
-use reg_notes::Notes;
+use reg_trace::{arrows, bars, tell_world};
 use reg_world::World;
 use std::alloc::{AllocError, Allocator};
 

@@ -11,7 +11,7 @@ use crate::events::put_events;
 use crate::json::{put_comma, put_lines, put_quoted};
 use crate::strings::put_string;
 use reg_base::Names;
-use reg_histories::Point;
+use reg_checkers::Point;
 use reg_text::{Sink, Unwritten, name_at, put_number};
 use std::alloc::Allocator;
 use std::io::Write;

@@ -1,8 +1,8 @@
 //! Where the parts of a drawing stand.
 use crate::words::{AnswerText, cast_text};
 use reg_base::Names;
-use reg_moments::{Bar, Filled, GAP, Moment};
 use reg_text::{OpLine, name_of_op};
+use reg_trace::{Bar, Filled, GAP, Moment};
 use std::alloc::{AllocError, Allocator};
 
 /// The left edge of the first event.

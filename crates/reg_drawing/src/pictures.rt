@@ -5,7 +5,7 @@ use crate::legend::Legend;
 use reg_base::Names;
 use reg_frames::{Body, Frame};
 use reg_front::Front;
-use reg_moments::{Arrow, Bar, Moment, Sent, TracedRun, arrows, bars, is_taken};
+use reg_trace::{Arrow, Bar, Moment, Sent, TracedRun, arrows, bars, is_taken};
 use std::alloc::{AllocError, Allocator};
 
 /// The place of the reply of an operation that is answered.

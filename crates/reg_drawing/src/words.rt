@@ -1,9 +1,9 @@
 //! Casts, frames and answers in the words of a trace, for the texts of a drawing.
 use reg_base::{Answer, Names};
 use reg_frames::Frame;
-use reg_moments::{put_answer, put_cast, put_frame};
 use reg_process::Delivered;
-use reg_text::Sink;
+use reg_text::{Sink, put_answer};
+use reg_trace::{put_cast, put_frame};
 use std::alloc::Allocator;
 use std::io::{self, ErrorKind, Write};
 use std::{fmt, str};

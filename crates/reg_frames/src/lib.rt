@@ -4,10 +4,12 @@
 mod bodies;
 mod faults;
 pub mod laws;
+mod puts;
 mod reading;
 mod spelling;
 
 pub use bodies::{Body, Frame};
 pub use faults::FrameFault;
+pub use puts::Put;
 pub use reading::decode;
 pub use spelling::encode;

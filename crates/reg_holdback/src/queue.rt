@@ -38,7 +38,7 @@ pub struct Holdback<A: Allocator + Copy = Global> {
 impl<A: Allocator + Copy> Model for Holdback<A> {
     ghost use Rattle.std.specs.Prelude.{length, ◌≤◌, ◌<◌};
     ghost use Rattle.reg_holdback.specs.Waiting.{Waiting, casts_of};
-    ghost use Rattle.reg_holdback.specs.Inner.{InRange};
+    ghost use Rattle.reg_holdback.specs.Bounds.{InRange};
 
     ghost Value = { Waiting };
 

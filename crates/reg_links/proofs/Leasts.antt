@@ -2,7 +2,7 @@
 use Rattle.std.proofs.Common.{◌≡◌, ◌⊎◌, ℕ, zero, suc, ◌<◌, ◌≤◌, List, [], ◌∷◌, length, min, refl, ap, ◌∙◌, inl, inr, arith, length-set, get_or-set_same, get_or-set_other}
 use Rattle.std.specs.Prelude.{slice_index, slice_set}
 use Rattle.std.proofs.lemmas.Bool.{cases_eq}
-use Rattle.reg_links.specs.Inner.{least_from}
+use Rattle.reg_links.specs.Bounds.{least_from}
 
 pub least_top : (n : ℕ) (cs : List ℕ) → least_from n cs ≤ n
 least_top n [] = omega arith

@@ -10,7 +10,7 @@ use Rattle.reg_frames.specs.declared.bodies.Body.{Body}
 use Rattle.reg_base.specs.declared.limits.TheConstants.{FRAME_NUMBERS}
 use Rattle.reg_links.specs.Link.{Unacknowledged, next_of, with_queued, acknowledged}
 use Rattle.reg_links.specs.Sending.{Sending, next_all, link_at, link_to, IsQueued, IsCounted}
-use Rattle.reg_links.specs.Inner.{InStep, least_from}
+use Rattle.reg_links.specs.Bounds.{InStep, least_from}
 use Rattle.reg_links.proofs.LinkLaws.{drop_on, get_drop}
 use Rattle.reg_links.proofs.Leasts.{least_top, least_low, least_within, least_up, least_stays}
 

@@ -2,7 +2,7 @@
 ghost use Rattle.std.specs.Prelude.{◌≡◌, ℕ, ◌+◌, ◌-◌, ◌<◌, ◌≤◌, List, [], length, drop, replicate, None, IfOk, OnOk, OnErr, OkIff, MatchResult, slice_get, option_map};
 ghost use Rattle.reg_links.specs.Link.{next_of, refusal_of};
 ghost use Rattle.reg_links.specs.Sending.{next_all, link_to, full_fault, IsQueued, IsCounted};
-ghost use Rattle.reg_links.specs.Inner.{least_from};
+ghost use Rattle.reg_links.specs.Bounds.{least_from};
 ghost use Rattle.reg_frames.specs.declared.bodies.Frame.TheVariants.{Numbered};
 ghost use Rattle.reg_base.specs.declared.limits.TheConstants.{FRAME_NUMBERS};
 
@@ -26,7 +26,7 @@ pub struct Outboxes<A: Allocator + Copy = Global> {
 
 impl<A: Allocator + Copy> Model for Outboxes<A> {
     ghost use Rattle.reg_links.specs.Sending.{Sending};
-    ghost use Rattle.reg_links.specs.Inner.{InStep};
+    ghost use Rattle.reg_links.specs.Bounds.{InStep};
 
     ghost Value = { Sending };
 

@@ -35,7 +35,7 @@ pub struct Outbox<A: Allocator + Copy = Global> {
 
 impl<A: Allocator + Copy> Model for Outbox<A> {
     ghost use Rattle.reg_links.specs.Link.{Unacknowledged};
-    ghost use Rattle.reg_links.specs.Inner.{InRange};
+    ghost use Rattle.reg_links.specs.Bounds.{InRange};
 
     ghost Value = { Unacknowledged };
 

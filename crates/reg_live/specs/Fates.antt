@@ -3,10 +3,7 @@ use Rattle.std.specs.Prelude.{ℕ, ◌≡◌, ◌%◌, ◌==◌, ◌&&◌, Bool,
 use Rattle.reg_live.specs.declared.roads.Parcel.{Parcel}
 use Rattle.reg_live.specs.declared.roughs.Fate.{Fate}
 use Rattle.reg_live.specs.declared.roughs.Fate.TheVariants.{Lost, Kept, Put}
-
--- whether a word says that what happens so often of a hundred times happens
-abbrev pub says : ℕ → ℕ → Bool
-says odds word = nat_lt (word % 100) odds
+use Rattle.reg_base.specs.Words.{says}
 
 -- what becomes of a parcel that isn't lost: whether it is put twice, whether its last word is even, and whether one is kept back already
 abbrev pub fate_by : Bool → Bool → Bool → Fate

@@ -2,14 +2,15 @@
 ghost use Rattle.std.specs.Prelude.{IfOk, IfErr, OnOk};
 ghost use Rattle.reg_base.specs.declared.memory.Op.TheVariants.{Read, Write, Swap};
 ghost use Rattle.reg_base.specs.declared.memory.Answer.TheVariants.{Done, Value};
-ghost use Rattle.reg_steps.specs.declared.steps.Step.TheVariants.{Call};
-ghost use Rattle.reg_stations.specs.Stations.{IsRefusal};
+ghost use Rattle.reg_process.specs.declared.steps.Step.TheVariants.{Call};
+ghost use Rattle.reg_live.specs.Stations.{IsRefusal};
 ghost use Rattle.reg_live.specs.Passes.{IsAnswered, IsLeft};
 
+use crate::faults::LiveFault;
+use crate::gates::Gate;
 use crate::passes::Pass;
 use reg_base::{Answer, Op};
 use reg_front::FrontEnd;
-use reg_stations::{Gate, LiveFault};
 use std::sync::Wait;
 
 impl<F: FrontEnd, G: Gate + Drop> Pass<F, G> {

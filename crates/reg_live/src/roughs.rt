@@ -1,9 +1,10 @@
 //! A road that loses, repeats and reorders parcels.
 ghost use Rattle.std.specs.Prelude.{◌≡◌};
-ghost use Rattle.reg_live.specs.Fates.{fate_of, says, IsSorted};
+ghost use Rattle.reg_live.specs.Fates.{fate_of, IsSorted};
+ghost use Rattle.reg_base.specs.Words.{says};
 
 use crate::roads::{Parcel, Posts, Road};
-use reg_random::Words;
+use reg_base::{Words, happens};
 use std::sync::{Mutex, Wait};
 
 /// What becomes of a parcel.
@@ -33,14 +34,6 @@ fn fate_of<R: Words>(odds: (u32, u32), words: &mut R, keeps: bool) -> Fate
     } else {
         Fate::Put { twice }
     }
-}
-
-/// Whether the next word, modulo 100, is below so many.
-fn happens<R: Words>(words: &mut R, below: u32) -> bool
-    ensures value { result ≡ says below (R.next_word words.old).0 }
-    ensures words { words.new ≡ (R.next_word words.old).1 }
-{
-    words.word() % 100 < below
 }
 
 /// The parcels that are put, in this order.

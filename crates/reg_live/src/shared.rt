@@ -1,11 +1,14 @@
 //! What all threads of a cluster share.
 ghost use Rattle.std.specs.Prelude.{◌≡◌, ◌≤◌, vec_len, IfOk, IfErr};
-ghost use Rattle.reg_stations.specs.Stations.{IsRefusal};
+ghost use Rattle.reg_live.specs.Stations.{IsRefusal};
 
+use crate::faults::LiveFault;
+use crate::gates::Gate;
+use crate::journals::Journal;
+use crate::stations::{Section, Station};
 use reg_base::Shape;
 use reg_front::FrontEnd;
 use reg_process::Step;
-use reg_stations::{Gate, Journal, LiveFault, Section, Station};
 use std::alloc::{AllocError, Global};
 use std::sync::{Condvar, Mutex, MutexGuard, Wait};
 

@@ -13,15 +13,15 @@ use Rattle.std.proofs.lemmas.Map.Lookups.{exact_unsigned, exact_pairs}
 use Rattle.reg_base.specs.declared.memory.OpId.{OpId}
 use Rattle.reg_base.specs.declared.memory.Answer.{Answer}
 use Rattle.reg_base.specs.declared.memory.Op.{Op}
-use Rattle.reg_entries.specs.declared.entries.Entry.{Entry}
-use Rattle.reg_entries.specs.declared.entries.Entry.TheVariants.{Called, Answered}
-use Rattle.reg_entries.specs.History.{IsAt, IsHistory}
-use Rattle.reg_histories.specs.Orders.{IsDistinct}
-use Rattle.reg_entries.proofs.Histories.{events_rise}
-use Rattle.reg_entries.proofs.Places.{get_push_other, in_take, same_at}
-use Rattle.reg_tables.proofs.Those.{at_front, at_new, at_cases}
+use Rattle.reg_checkers.specs.declared.entries.Entry.{Entry}
+use Rattle.reg_checkers.specs.declared.entries.Entry.TheVariants.{Called, Answered}
+use Rattle.reg_checkers.specs.History.{IsAt, IsHistory}
+use Rattle.reg_checkers.specs.Orders.{IsDistinct}
+use Rattle.reg_checkers.proofs.Histories.{events_rise}
+use Rattle.reg_checkers.proofs.Places.{get_push_other, in_take, same_at}
+use Rattle.reg_outcomes.proofs.Those.{at_front, at_new, at_cases}
 use Rattle.reg_world.specs.RealTime.{KeepsRealTime}
-use Rattle.reg_outcomes.specs.Inner.{id_cmp, IsPlaceOf, called_bound, answered_bound, bound_next, IsInTime}
+use Rattle.reg_outcomes.specs.Timing.{id_cmp, IsPlaceOf, called_bound, answered_bound, bound_next, IsInTime}
 
 ids_total : IsTotalOrder id_cmp
 ids_total = then_total (on_total (λ i. i.process) nat_cmp_total) (on_total (λ i. i.number) nat_cmp_total)

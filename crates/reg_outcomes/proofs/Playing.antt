@@ -10,24 +10,24 @@ use Rattle.reg_base.specs.Shape.{Extent}
 use Rattle.reg_base.specs.declared.memory.Op.{Op}
 use Rattle.reg_base.specs.declared.memory.OpId.{OpId}
 use Rattle.reg_front.specs.declared.starts.Start.{Start}
-use Rattle.reg_entries.specs.declared.entries.Entry.{Entry}
-use Rattle.reg_entries.specs.History.{IsAt}
-use Rattle.reg_entries.proofs.Places.{get_push_other, same_at}
-use Rattle.reg_tables.specs.declared.outcomes.ToldValue.{ToldValue}
-use Rattle.reg_tables.specs.declared.tallies.Tally.{Tally}
-use Rattle.reg_tables.specs.Outcomes.{outcome_of}
-use Rattle.reg_tables.specs.Tables.{Seen}
-use Rattle.reg_tables.specs.Inner.{IsCounted}
-use Rattle.reg_tables.proofs.Those.{at_new, those_few}
-use Rattle.reg_workloads.specs.Loads.{Load}
-use Rattle.reg_players.specs.Plays.{IsPlay}
-use Rattle.reg_players.specs.Seeded.{seeded_play}
+use Rattle.reg_checkers.specs.declared.entries.Entry.{Entry}
+use Rattle.reg_checkers.specs.History.{IsAt}
+use Rattle.reg_checkers.proofs.Places.{get_push_other, same_at}
+use Rattle.reg_outcomes.specs.declared.outcomes.ToldValue.{ToldValue}
+use Rattle.reg_outcomes.specs.declared.tallies.Tally.{Tally}
+use Rattle.reg_outcomes.specs.Told.{outcome_of}
+use Rattle.reg_outcomes.specs.Tables.{Seen}
+use Rattle.reg_outcomes.specs.Counts.{IsCounted}
+use Rattle.reg_outcomes.proofs.Those.{at_new, those_few}
+use Rattle.reg_inputs.specs.Loads.{Load}
+use Rattle.reg_workload.specs.Plays.{IsPlay}
+use Rattle.reg_workload.specs.Seeded.{seeded_play}
 use Rattle.reg_world.specs.Keys.{IsWitness}
 use Rattle.reg_world.specs.RealTime.{KeepsRealTime}
 use Rattle.reg_world.specs.World.{run_of}
 use Rattle.reg_world.specs.Worlds.{Made, run_in}
 use Rattle.reg_outcomes.specs.Outcomes.{AreSeen, IsSeen, TellsTime, play_from, seed_at}
-use Rattle.reg_outcomes.specs.Inner.{IsSeenIn}
+use Rattle.reg_outcomes.specs.Timing.{IsSeenIn}
 
 pub on_ok : {T E : Type 0} {P Q : Type 0} (r : Result T E) → (P → Q) → OnOk r P → OnOk r Q
 on_ok (Ok x) f p = f p

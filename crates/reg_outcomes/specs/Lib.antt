@@ -1,2 +1,6 @@
+pub mod Told
+pub mod Tables
+pub mod Counts
+pub mod TableText
 pub mod Outcomes
-pub mod Inner
+pub mod Timing

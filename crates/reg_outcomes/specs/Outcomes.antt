@@ -5,12 +5,12 @@ use Rattle.rand_pcg.specs.Pcg.{pcg32, pcg32_of_seed}
 use Rattle.reg_base.specs.declared.memory.Op.{Op}
 use Rattle.reg_base.specs.declared.memory.OpId.{OpId}
 use Rattle.reg_front.specs.declared.starts.Start.{Start}
-use Rattle.reg_entries.specs.History.{IsAt}
-use Rattle.reg_tables.specs.Outcomes.{outcome_of}
-use Rattle.reg_tables.specs.Tables.{Seen, Line, IsTable, CountsUnfinished}
-use Rattle.reg_workloads.specs.Loads.{Load}
-use Rattle.reg_players.specs.Plays.{IsPlay}
-use Rattle.reg_players.specs.Seeded.{seeded_play}
+use Rattle.reg_checkers.specs.History.{IsAt}
+use Rattle.reg_outcomes.specs.Told.{outcome_of}
+use Rattle.reg_outcomes.specs.Tables.{Seen, Line, IsTable, CountsUnfinished}
+use Rattle.reg_inputs.specs.Loads.{Load}
+use Rattle.reg_workload.specs.Plays.{IsPlay}
+use Rattle.reg_workload.specs.Seeded.{seeded_play}
 use Rattle.reg_world.specs.Keys.{IsWitness}
 use Rattle.reg_world.specs.RealTime.{KeepsRealTime}
 use Rattle.reg_world.specs.World.{run_of}

@@ -1,14 +1,16 @@
 //! Many plays of a workload, and what they told.
 ghost use Rattle.std.specs.Prelude.{◌≡◌, ◌≤◌, ◌<◌, ◌++◌, ◌∷◌, ◌-◌, ◌^◌, ◌%◌, ◌+◌, List, ℕ, [], true, IfOk, OnOk, length};
-ghost use Rattle.reg_tables.specs.Tables.{Seen};
-ghost use Rattle.reg_tables.specs.Inner.{HasRoom, IsCounted};
+ghost use Rattle.reg_outcomes.specs.Tables.{Seen};
+ghost use Rattle.reg_outcomes.specs.Counts.{HasRoom, IsCounted};
 ghost use Rattle.reg_outcomes.specs.Outcomes.{AreOutcomes, IsSeen};
-ghost use Rattle.reg_outcomes.specs.Inner.{IsSeenIn};
+ghost use Rattle.reg_outcomes.specs.Timing.{IsSeenIn};
 
+use crate::outcomes::tell;
+use crate::rows::{Row, table_of};
+use crate::tallies::{Glance, Tallies};
 use crate::timing::keeps_real_time;
 use reg_front::FrontEnd;
-use reg_players::{Play, SeedWords, Workload, play_seeded_in};
-use reg_tables::{Glance, Row, Tallies, table_of, tell};
+use reg_workload::{Play, SeedWords, Workload, play_seeded_in};
 use reg_world::{PackedWires, World};
 use std::alloc::{AllocError, Allocator, Global};
 

@@ -2,13 +2,13 @@
 ghost use Rattle.std.specs.Prelude.{◌≡◌, ◌<◌, ◌-◌, ◌^◌, ◌↔◌, length, true, IfOk, IfSome, OnOk, List, ℕ};
 ghost use Rattle.std.specs.BTreeMap.{get};
 ghost use Rattle.reg_base.specs.declared.memory.OpId.{OpId as AnyId};
-ghost use Rattle.reg_entries.specs.History.{IsHistory};
-ghost use Rattle.reg_histories.specs.Orders.{IsDistinct};
+ghost use Rattle.reg_checkers.specs.History.{IsHistory};
+ghost use Rattle.reg_checkers.specs.Orders.{IsDistinct};
 ghost use Rattle.reg_world.specs.RealTime.{KeepsRealTime};
-ghost use Rattle.reg_outcomes.specs.Inner.{IsPlaceOf, bound_next, id_cmp};
+ghost use Rattle.reg_outcomes.specs.Timing.{IsPlaceOf, bound_next, id_cmp};
 
 use reg_base::OpId;
-use reg_histories::Entry;
+use reg_checkers::Entry;
 use std::alloc::{AllocError, Allocator};
 use std::collections::BTreeMap;
 

@@ -12,9 +12,9 @@ use Rattle.reg_links.specs.Link.{Unacknowledged, next_of}
 use Rattle.reg_links.specs.Link as link
 use Rattle.reg_holdback.specs.Waiting.{Waiting}
 use Rattle.reg_holdback.specs.Waiting as waiting
-use Rattle.reg_steps.specs.declared.outcomes.Put.{Put}
+use Rattle.reg_frames.specs.declared.puts.Put.{Put}
 use Rattle.reg_process.specs.Parts.{Parts, state_of, merged, nothing}
-use Rattle.reg_process.specs.Inner.{Good}
+use Rattle.reg_process.specs.Bounds.{Good}
 use Rattle.reg_process.specs.Puts.{puts, put_to}
 use Rattle.reg_process.specs.Steps.{TakesAck}
 use Rattle.reg_process.proofs.Deliveries.{length-merged}

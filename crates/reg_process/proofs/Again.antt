@@ -9,9 +9,9 @@ use Rattle.reg_frames.specs.declared.bodies.Frame.TheVariants.{Numbered}
 use Rattle.reg_process.specs.Process.{numbered_from, resent}
 use Rattle.reg_base.specs.declared.limits.TheConstants.{MOST_RESENT, MOST_PROCESSES}
 use Rattle.reg_links.specs.Link.{Unacknowledged, next_of}
-use Rattle.reg_steps.specs.declared.outcomes.Put.{Put}
+use Rattle.reg_frames.specs.declared.puts.Put.{Put}
 use Rattle.reg_process.specs.Parts.{Parts, state_of, nothing, first_parts}
-use Rattle.reg_process.specs.Inner.{Good}
+use Rattle.reg_process.specs.Bounds.{Good}
 use Rattle.reg_holdback.specs.Waiting.{Waiting}
 use Rattle.reg_process.specs.Puts.{puts, put_to}
 use Rattle.reg_process.specs.Queued.{again_at, again_frames}

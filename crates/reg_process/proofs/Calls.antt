@@ -8,26 +8,26 @@ use Rattle.reg_base.specs.declared.stamps.Stamp.{Stamp}
 use Rattle.reg_base.specs.declared.memory.Op.{Op}
 use Rattle.reg_base.specs.declared.limits.TheConstants.{LAST_TIME}
 use Rattle.reg_base.specs.declared.stamps.Delivered.{Delivered}
-use Rattle.reg_steps.specs.declared.steps.Reply.{Reply}
+use Rattle.reg_process.specs.declared.steps.Reply.{Reply}
 use Rattle.reg_frames.specs.declared.bodies.Body.{Body}
 use Rattle.reg_frames.specs.declared.bodies.Body.TheVariants.{Cast, Ack}
 use Rattle.reg_front.specs.declared.starts.Start.{Start}
 use Rattle.reg_front.specs.declared.starts.Start.TheVariants.{Look as Looks, Hold as Holds}
-use Rattle.reg_steps.specs.declared.steps.Step.TheVariants.{Call, Take}
+use Rattle.reg_process.specs.declared.steps.Step.TheVariants.{Call, Take}
 use Rattle.reg_frames.specs.declared.bodies.Frame.{Frame}
 use Rattle.reg_process.specs.Process.{Held, State, called, no_frames, look, unsettled, seen_at, time_of, peer_at, taken, accepted, quiet, got_frames, clear_casts, accepts, delivered_state, due}
 use Rattle.reg_process.specs.Faults.{first_of, early_fault, full_at, call_fault, is_out, early_body, frame_fault, take_fault, full_by, is_cast, is_numbered, is_stop, takes_memory, body_memory}
 use Rattle.reg_holdback.specs.Waiting.{seen_of}
 use Rattle.reg_process.specs.Parts.{Parts, state_of}
-use Rattle.reg_process.specs.Inner.{Good}
+use Rattle.reg_process.specs.Bounds.{Good}
 use Rattle.reg_process.proofs.Deliveries.{merged_seen}
 use Rattle.reg_process.specs.Puts.{puts, put_to}
 use Rattle.reg_frames.specs.declared.bodies.Frame.TheVariants.{Numbered, Got}
 use Rattle.reg_process.proofs.Acks.{one_put}
-use Rattle.reg_steps.specs.declared.faults.ProcessFault.{ProcessFault}
-use Rattle.reg_steps.specs.declared.faults.ProcessFault.TheVariants.{Failed, NoProcess, Busy, NoRegister, TooManyOperations, Ahead, Stale, ClockFull, OutOfMemory}
+use Rattle.reg_process.specs.declared.faults.ProcessFault.{ProcessFault}
+use Rattle.reg_process.specs.declared.faults.ProcessFault.TheVariants.{Failed, NoProcess, Busy, NoRegister, TooManyOperations, Ahead, Stale, ClockFull, OutOfMemory}
 use Rattle.reg_process.specs.Steps.{Stops, StopsAt, FrameRefused, is_peer, Goes, TakesBody, Delivers}
-use Rattle.reg_steps.specs.declared.outcomes.Put.{Put}
+use Rattle.reg_frames.specs.declared.puts.Put.{Put}
 use Rattle.reg_process.specs.Events.{Steps, Refused, process_fault}
 
 pub nothing_put : (n : ℕ) → puts no_frames n ≡ []

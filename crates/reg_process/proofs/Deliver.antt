@@ -7,7 +7,7 @@ use Rattle.std.proofs.lemmas.List.Sums.{sum_by-cons}
 use Rattle.reg_base.specs.declared.stamps.Stamp.{Stamp}
 use Rattle.reg_base.specs.declared.memory.Op.{Op}
 use Rattle.reg_base.specs.declared.stamps.Delivered.{Delivered}
-use Rattle.reg_steps.specs.declared.steps.Reply.{Reply}
+use Rattle.reg_process.specs.declared.steps.Reply.{Reply}
 use Rattle.reg_base.specs.Order.{In, Rising, Below, AtMost, below, at_most}
 use Rattle.reg_base.specs.Memory.{answer_of, memory_after, after}
 use Rattle.reg_process.specs.Process.{State, Running, Own, Held, is_own, is_clear, clear_casts, delivered_state, reply_of, reply_after, still, unsettled, casts_before, up_to_own, ops_of, is_stamp}

@@ -6,7 +6,7 @@ use Rattle.std.proofs.lemmas.Bool.{eq-eqb, false≢true}
 use mir.Val.{bool_byte}
 use Rattle.reg_base.specs.declared.stamps.Stamp.{Stamp}
 use Rattle.reg_base.specs.declared.stamps.Delivered.{Delivered}
-use Rattle.reg_steps.specs.declared.steps.Reply.{Reply}
+use Rattle.reg_process.specs.declared.steps.Reply.{Reply}
 use Rattle.reg_process.specs.Process.{Running, Own, Held, State, no_peer, seen_at, is_clear, clear_casts, still, delivered_state, is_stamp, due}
 use Rattle.reg_base.specs.Memory.{Memory, after, register_of, answer_of}
 use Rattle.reg_base.proofs.Operations.{length-after}
@@ -19,7 +19,7 @@ use Rattle.reg_process.proofs.Deliver.{count_cons, one_clear, one_state, one_due
 use Rattle.reg_links.specs.Link.{Unacknowledged}
 use Rattle.reg_holdback.specs.Waiting.{Waiting, ready_in, ready_of, tail_of, without_first}
 use Rattle.reg_process.specs.Parts.{Parts, state_of, merged}
-use Rattle.reg_process.specs.Inner.{Good, RunsWell, is_from}
+use Rattle.reg_process.specs.Bounds.{Good, RunsWell, is_from}
 use Rattle.reg_process.specs.Steps.{DeliversOne, DeliversNone}
 
 pub merged_seen : (ts es : List ℕ) (os : List Unacknowledged) (r : ℕ) → length es ≡ length ts → length os ≡ length ts → (slice_index_or (merged ts es os) r no_peer).seen ≡ slice_index ts r

@@ -4,9 +4,9 @@ use Rattle.std.specs.Prelude.{slice_index_or}
 use Rattle.reg_links.specs.Link.{Unacknowledged, next_of}
 use Rattle.reg_process.specs.Process.{peer_at}
 use Rattle.reg_process.specs.Parts.{Parts, state_of, nothing}
-use Rattle.reg_process.specs.Inner.{Good}
+use Rattle.reg_process.specs.Bounds.{Good}
 use Rattle.reg_process.specs.Known.{known_of}
-use Rattle.reg_steps.specs.declared.known.Known.{Known}
+use Rattle.reg_process.specs.declared.known.Known.{Known}
 use Rattle.reg_process.proofs.Acks.{merged_out_at}
 use Rattle.reg_process.proofs.Sends.{merged_next}
 use Rattle.reg_process.specs.Process as process

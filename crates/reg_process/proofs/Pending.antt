@@ -14,7 +14,7 @@ use Rattle.reg_holdback.proofs.Casts.{no_fault}
 use Rattle.reg_process.proofs.Deliveries.{merged_seen}
 use Rattle.reg_process.proofs.Sends.{merged_next}
 use Rattle.reg_process.specs.Parts.{Parts, state_of, merged, nothing}
-use Rattle.reg_process.specs.Inner.{Good}
+use Rattle.reg_process.specs.Bounds.{Good}
 use Rattle.reg_process.specs.Queued.{HasNumbers, pending_in}
 
 pub not_full : (s : Sending) → next_all s < FRAME_NUMBERS → full_fault s ≡ Some NumberFull → ⊥

@@ -19,9 +19,9 @@ use Rattle.reg_process.proofs.Deliver.{count_cons}
 use Rattle.reg_links.specs.Link.{Unacknowledged, next_of, with_queued}
 use Rattle.reg_holdback.specs.Waiting.{Waiting, cast_of}
 use Rattle.reg_holdback.specs.Waiting as waiting
-use Rattle.reg_steps.specs.declared.outcomes.Put.{Put}
+use Rattle.reg_frames.specs.declared.puts.Put.{Put}
 use Rattle.reg_process.specs.Parts.{Parts, state_of, merged, nothing}
-use Rattle.reg_process.specs.Inner.{Good, is_from, RunsWell}
+use Rattle.reg_process.specs.Bounds.{Good, is_from, RunsWell}
 use Rattle.reg_process.specs.Puts.{puts}
 use Rattle.reg_process.specs.Queued.{body_frames, all_frames, queue_outs, IsGrown}
 use Rattle.reg_process.specs.Steps.{MakesCast, TakesCast, own_running}

@@ -1,7 +1,7 @@
 -- Delivery of one cast. It carries a proof: no promise speaks of it.
 use Rattle.std.specs.Prelude.{ℕ, ◌+◌, ◌<◌, ◌==◌, cond, List, Option, Some, None, count_by}
 use Rattle.reg_base.specs.declared.stamps.Delivered.{Delivered}
-use Rattle.reg_steps.specs.declared.steps.Reply.{Reply}
+use Rattle.reg_process.specs.declared.steps.Reply.{Reply}
 use Rattle.reg_base.specs.Memory.{Memory, answer_of, after}
 use Rattle.reg_process.specs.Process.{State, Running, Own, Held, is_own, is_stamp, still, unsettled}
 pub use Rattle.reg_process.specs.Faults.{first_of}

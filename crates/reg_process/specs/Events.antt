@@ -3,14 +3,14 @@ use Rattle.std.specs.Prelude.{ℕ, ◌≡◌, Bool, true, false, cond, if◌then
 use Rattle.reg_base.specs.declared.stamps.Stamp.{Stamp}
 use Rattle.reg_base.specs.declared.memory.Op.{Op}
 use Rattle.reg_base.specs.declared.stamps.Delivered.{Delivered}
-use Rattle.reg_steps.specs.declared.steps.Reply.{Reply}
+use Rattle.reg_process.specs.declared.steps.Reply.{Reply}
 use Rattle.reg_front.specs.declared.starts.Start.{Start}
-use Rattle.reg_steps.specs.declared.steps.Step.{Step}
-use Rattle.reg_steps.specs.declared.steps.Step.TheVariants.{Call, Take, Tick}
+use Rattle.reg_process.specs.declared.steps.Step.{Step}
+use Rattle.reg_process.specs.declared.steps.Step.TheVariants.{Call, Take, Tick}
 use Rattle.reg_process.specs.Process.{State, Outcome, step, unsettled}
-use Rattle.reg_steps.specs.declared.outcomes.Put.{Put}
-use Rattle.reg_steps.specs.declared.faults.ProcessFault.{ProcessFault}
-use Rattle.reg_steps.specs.declared.faults.ProcessFault.TheVariants.{Failed, ClockFull, OutOfMemory}
+use Rattle.reg_frames.specs.declared.puts.Put.{Put}
+use Rattle.reg_process.specs.declared.faults.ProcessFault.{ProcessFault}
+use Rattle.reg_process.specs.declared.faults.ProcessFault.TheVariants.{Failed, ClockFull, OutOfMemory}
 use Rattle.reg_process.specs.Puts.{puts}
 use Rattle.reg_process.specs.Faults.{step_fault, is_cast, is_numbered}
 

@@ -1,6 +1,6 @@
 -- What a process tells of the others.
 use Rattle.std.specs.Prelude.{ℕ, ◌≡◌, ◌≤◌, ◌⊎◌, length}
-use Rattle.reg_steps.specs.declared.known.Known.{Known}
+use Rattle.reg_process.specs.declared.known.Known.{Known}
 use Rattle.reg_process.specs.Process.{Peer, State, next_of}
 
 abbrev pub known_of : Peer → Known

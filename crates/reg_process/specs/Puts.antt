@@ -1,7 +1,7 @@
 -- The frames of one event, as a list. Promises cite it.
 use Rattle.std.specs.Prelude.{ℕ, zero, suc, List, [], ◌++◌, map}
 use Rattle.reg_frames.specs.declared.bodies.Frame.{Frame}
-use Rattle.reg_steps.specs.declared.outcomes.Put.{Put}
+use Rattle.reg_frames.specs.declared.puts.Put.{Put}
 
 abbrev pub put_to : ℕ → Frame → Put
 put_to r frame = record { to = r; frame = frame }

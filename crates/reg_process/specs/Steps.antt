@@ -1,7 +1,7 @@
 -- The parts of an event, and what they do to the state. They carry a proof: no promise speaks of them.
 use Rattle.std.specs.Prelude.{ℕ, ◌≡◌, ◌<◌, ◌+◌, length, Bool, true, false, ◌==◌, ◌||◌, not, nat_le, cond, max, List, [], ◌∷◌, Option, Some, None}
 use Rattle.reg_base.specs.declared.stamps.Delivered.{Delivered}
-use Rattle.reg_steps.specs.declared.steps.Reply.{Reply}
+use Rattle.reg_process.specs.declared.steps.Reply.{Reply}
 use Rattle.reg_base.specs.declared.stamps.Stamp.{Stamp}
 use Rattle.reg_base.specs.declared.memory.Op.{Op}
 use Rattle.reg_frames.specs.declared.bodies.Body.{Body}
@@ -11,9 +11,9 @@ use Rattle.reg_front.specs.declared.starts.Start.TheVariants.{Cast as Casts, Cas
 use Rattle.reg_base.specs.declared.limits.TheConstants.{LAST_TIME}
 use Rattle.reg_base.specs.Order.{insert}
 use Rattle.reg_process.specs.Process.{State, Outcome, Running, Own, clear_casts, delivered_state, due, cast_made, stamp_at, cast_at, data_frames, queues, accepts, both_frames, got_frames, peer_at}
-use Rattle.reg_steps.specs.declared.outcomes.Put.{Put}
-use Rattle.reg_steps.specs.declared.faults.ProcessFault.{ProcessFault}
-use Rattle.reg_steps.specs.declared.faults.ProcessFault.TheVariants.{ClockFull, OutOfMemory}
+use Rattle.reg_frames.specs.declared.puts.Put.{Put}
+use Rattle.reg_process.specs.declared.faults.ProcessFault.{ProcessFault}
+use Rattle.reg_process.specs.declared.faults.ProcessFault.TheVariants.{ClockFull, OutOfMemory}
 use Rattle.reg_process.specs.Puts.{puts}
 use Rattle.reg_process.specs.Faults.{first_of}
 use Rattle.reg_process.specs.Events.{IsOutcome}

@@ -1,6 +1,6 @@
 -- What running operations wait for, as the code keeps it. They carry a proof: no promise speaks of them.
-use Rattle.reg_steps.specs.declared.awaited.Awaited.{Awaited}
-use Rattle.reg_steps.specs.declared.awaited.Awaited.TheVariants.{Cast, Settling}
+use Rattle.reg_process.specs.declared.awaited.Awaited.{Awaited}
+use Rattle.reg_process.specs.declared.awaited.Awaited.TheVariants.{Cast, Settling}
 use Rattle.reg_process.specs.Process.{Running, Own, Held}
 
 abbrev pub running_of : Awaited → Running

@@ -2,7 +2,7 @@
 ghost use Rattle.std.specs.Prelude.{ℕ};
 ghost use Rattle.reg_base.specs.declared.memory.Op.{Op};
 ghost use Rattle.reg_front.specs.declared.starts.Start.{Start};
-ghost use Rattle.reg_steps.specs.declared.steps.Step.{Step};
+ghost use Rattle.reg_process.specs.declared.steps.Step.{Step};
 ghost use Rattle.reg_process.specs.Process.{State, step};
 ghost use Rattle.reg_process.specs.Parts.{state_of, first_parts};
 ghost use Rattle.reg_process.specs.Settled.{NoneWaits};

@@ -4,13 +4,15 @@ ghost use Rattle.reg_process.specs.Process.{pending_of, peer_at, next_of, unsett
 ghost use Rattle.reg_process.specs.Parts.{state_of, first_parts};
 ghost use Rattle.reg_process.specs.Puts.{puts};
 
+use crate::outcomes::Outcome;
 use crate::puts::{new_inboxes, new_outboxes, pending_in, resend_all};
 use crate::running::Current;
 use crate::spare::Spare;
+use crate::steps::Reply;
 use reg_base::{Clock, Registers, Shape};
+use reg_frames::Put;
 use reg_holdback::Holdback;
 use reg_links::{Inbox, Outboxes};
-use reg_steps::{Outcome, Put, Reply};
 use std::alloc::{AllocError, Allocator};
 use std::marker::Model;
 
@@ -38,7 +40,7 @@ pub(crate) struct Core<A: Allocator + Copy> {
 impl<A: Allocator + Copy> Model for Core<A> {
     ghost use Rattle.reg_process.specs.Process.{State};
     ghost use Rattle.reg_process.specs.Parts.{state_of};
-    ghost use Rattle.reg_process.specs.Inner.{Good};
+    ghost use Rattle.reg_process.specs.Bounds.{Good};
     ghost use Rattle.reg_process.specs.Queued.{outs_of};
 
     ghost Value = { State };

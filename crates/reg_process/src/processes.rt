@@ -2,20 +2,24 @@
 ghost use Rattle.std.specs.Prelude.{◌≡◌, ◌≢◌, ℕ, [], length, ◌<◌, ◌≤◌, MatchOption, MatchResult, IfOk, IfErr, option_map, is_some, max, false, true, IsErrOf, vec_capacity};
 ghost use Rattle.reg_process.specs.Process.{next_of, peer_at, pending_of, resent, unsettled};
 ghost use Rattle.reg_process.specs.Parts.{state_of, first_parts};
-ghost use Rattle.reg_steps.specs.declared.steps.Step.TheVariants.{Call, Take, Tick};
+ghost use Rattle.reg_process.specs.declared.steps.Step.TheVariants.{Call, Take, Tick};
 ghost use Rattle.reg_process.specs.Faults.{NewRefused, is_cast, takes_memory};
 ghost use Rattle.reg_process.specs.Events.{Steps, Refused};
 ghost use Rattle.reg_process.specs.Known.{IsNoPeer, known_of};
 ghost use Rattle.reg_process.specs.Puts.{puts};
 ghost use Rattle.reg_process.specs.Waits.{running_of};
 
+use crate::awaited::Awaited;
+use crate::faults::ProcessFault;
+use crate::known::Known;
+use crate::outcomes::Outcome;
 use crate::parts::Core;
 use crate::spare::Spare;
+use crate::steps::Step;
 use crate::stops::is_stop;
 use reg_base::{Delivered, Op, Registers, Shape};
-use reg_frames::Frame;
+use reg_frames::{Frame, Put};
 use reg_front::FrontEnd;
-use reg_steps::{Awaited, Known, Outcome, ProcessFault, Put, Step};
 use std::alloc::{AllocError, Allocator, Global};
 use std::marker::{Model, PhantomData};
 

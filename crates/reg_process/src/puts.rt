@@ -7,9 +7,8 @@ ghost use Rattle.reg_process.specs.Queued.{out_to, outs_of, owed, sent_frames, I
 ghost use Rattle.reg_process.specs.Puts.{put_to, puts};
 
 use reg_base::limits::MOST_RESENT;
-use reg_frames::{Body, Frame};
+use reg_frames::{Body, Frame, Put};
 use reg_links::{Inbox, LinkFault, Outboxes};
-use reg_steps::Put;
 use std::alloc::{AllocError, Allocator};
 
 /// A body under its number, which goes to all processes but this one, and the count that is owed to one of them.

@@ -3,8 +3,8 @@ ghost use Rattle.std.specs.Prelude.{◌≡◌};
 ghost use Rattle.reg_process.specs.Process.{Own, Held};
 ghost use Rattle.reg_process.specs.Waits.{running_of};
 
+use crate::awaited::Awaited;
 use reg_base::{Op, Stamp};
-use reg_steps::Awaited;
 use std::marker::Model;
 
 /// An operation that runs.

@@ -1,7 +1,7 @@
 //! Lists that later events put their frames in.
 ghost use Rattle.std.specs.Prelude.{◌≡◌, max, [], vec_capacity};
 
-use reg_steps::Put;
+use reg_frames::Put;
 use std::alloc::Allocator;
 use std::marker::Model;
 use std::mem;

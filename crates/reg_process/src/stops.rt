@@ -2,7 +2,7 @@
 ghost use Rattle.std.specs.Prelude.{◌≡◌};
 ghost use Rattle.reg_process.specs.Faults.{is_stop as is_stop_of};
 
-use reg_steps::ProcessFault;
+use crate::faults::ProcessFault;
 
 /// Whether a fault stops a process for good.
 pub fn is_stop(fault: ProcessFault) -> bool

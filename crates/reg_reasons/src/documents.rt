@@ -8,8 +8,8 @@ use crate::wanting::{Misfit, Range};
 use reg_base::limits::{
     LAST_SEED, MOST_EVENTS, MOST_ODDS, MOST_OPERATIONS, MOST_PROCESSES, MOST_REGISTERS,
 };
+use reg_inputs::{Key, WorkloadFault};
 use reg_text::{Sink, put_number};
-use reg_workloads::{Key, WorkloadFault};
 use std::alloc::{AllocError, Allocator, Global};
 use std::io::Write;
 use toml::{Table, Value, table_from_str};

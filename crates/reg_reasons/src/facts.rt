@@ -1,6 +1,6 @@
 //! What the history of a report says of each operation, with the lines of its entries.
 use reg_base::{Answer, Op, OpId};
-use reg_reports::{Entry, Point, Report};
+use reg_history::{Entry, Point, Report};
 use std::alloc::{AllocError, Allocator};
 
 /// What a history says of one operation.

@@ -3,7 +3,7 @@ use crate::scanning::{Scan, behind, front_of, spaces_of, token_of};
 use crate::schedule_lines::{VALUE, scan_names, scan_op, scan_processes, words_of};
 use crate::wanting::{Misfit, Range, Wanted};
 use reg_base::limits::{LAST_EVENT, MOST_OPERATIONS, MOST_PROCESSES, MOST_REGISTERS};
-use reg_reports::{LONGEST_FRONT, MOST_ENTRIES, MOST_IDS, OLDER_PROCESSES, OLDER_REGISTERS};
+use reg_history::{LONGEST_FRONT, MOST_ENTRIES, MOST_IDS, OLDER_PROCESSES, OLDER_REGISTERS};
 use reg_text::{Lines, are_front_letters, in_front, is_numeral, numeral_within, skip};
 use std::alloc::{AllocError, Allocator};
 

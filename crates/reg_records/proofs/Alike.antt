@@ -6,9 +6,9 @@ use Rattle.reg_base.specs.declared.limits.TheConstants.{MOST_EVENTS}
 use Rattle.reg_base.specs.declared.memory.Op.{Op}
 use Rattle.reg_base.specs.Shape.{Extent}
 use Rattle.reg_front.specs.declared.starts.Start.{Start}
-use Rattle.reg_steps.specs.declared.steps.Step.{Step}
+use Rattle.reg_process.specs.declared.steps.Step.{Step}
 use Rattle.reg_process.specs.Process.{step}
-use Rattle.reg_world.specs.declared.events.Event.{Event}
+use Rattle.reg_process.specs.declared.events.Event.{Event}
 use Rattle.reg_world.specs.Nodes.{put, after_step, step_of, unseen}
 use Rattle.reg_world.specs.World.{World, op_id, calls_in, answers_in, casts_in, first_of, delivered_of, reads_in, replies_in, move_of, moved}
 use Rattle.reg_world.specs.Worlds.{Made, run_in, with_event, reply_in, reply_of_move}

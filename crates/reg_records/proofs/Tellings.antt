@@ -4,16 +4,16 @@ use Rattle.std.proofs.lemmas.Bool.{cases_order, cases_eq}
 use Rattle.reg_base.specs.declared.memory.Op.{Op}
 use Rattle.reg_base.specs.declared.memory.OpId.{OpId}
 use Rattle.reg_base.specs.declared.memory.Answer.{Answer}
-use Rattle.reg_entries.specs.declared.entries.Entry.{Entry}
-use Rattle.reg_entries.specs.declared.entries.Entry.TheVariants.{Called, Answered}
-use Rattle.reg_entries.specs.History.{IsAt, IsCalled, IsAnswered, IsFinished, WasCalled, IsHistory, MayCall, MayAnswer}
-use Rattle.reg_entries.specs.Progress.{op_of, IsState, IsProgressOf}
-use Rattle.reg_entries.proofs.Histories.{answered_was_called, call_is, answer_is}
-use Rattle.reg_entries.proofs.Adding.{after_call, after_answer, call_elsewhere, answer_elsewhere}
-use Rattle.reg_entries.proofs.OneMore.{IsOneMore, one_more}
-use Rattle.reg_entries.proofs.Noting.{history_front}
-use Rattle.reg_entries.proofs.Places.{element_at, within, same_at, in_take, at_map}
-use Rattle.reg_entries.proofs.Placing.{runs_last}
+use Rattle.reg_checkers.specs.declared.entries.Entry.{Entry}
+use Rattle.reg_checkers.specs.declared.entries.Entry.TheVariants.{Called, Answered}
+use Rattle.reg_checkers.specs.History.{IsAt, IsCalled, IsAnswered, IsFinished, WasCalled, IsHistory, MayCall, MayAnswer}
+use Rattle.reg_checkers.specs.Progress.{op_of, IsState, IsProgressOf}
+use Rattle.reg_checkers.proofs.Histories.{answered_was_called, call_is, answer_is}
+use Rattle.reg_checkers.proofs.Adding.{after_call, after_answer, call_elsewhere, answer_elsewhere}
+use Rattle.reg_checkers.proofs.OneMore.{IsOneMore, one_more}
+use Rattle.reg_checkers.proofs.Noting.{history_front}
+use Rattle.reg_checkers.proofs.Places.{element_at, within, same_at, in_take, at_map}
+use Rattle.reg_checkers.proofs.Placing.{runs_last}
 use Rattle.reg_world.specs.World.{op_id}
 use Rattle.reg_records.specs.declared.entries.Receipt.{Receipt}
 use Rattle.reg_records.specs.declared.telling.Pending.{Pending}

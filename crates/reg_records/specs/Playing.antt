@@ -4,11 +4,11 @@ use Rattle.reg_base.specs.declared.memory.Op.{Op}
 use Rattle.reg_base.specs.Shape.{Extent}
 use Rattle.reg_frames.specs.declared.bodies.Frame.{Frame}
 use Rattle.reg_front.specs.declared.starts.Start.{Start}
-use Rattle.reg_steps.specs.declared.steps.Step.{Step}
-use Rattle.reg_steps.specs.declared.steps.Step.TheVariants.{Call, Take, Tick}
-use Rattle.reg_entries.specs.History.{IsAt}
-use Rattle.reg_world.specs.declared.events.Event.{Event}
-use Rattle.reg_world.specs.declared.events.Event.TheVariants.{Call as CallOf, Take as TakeOf, Tick as TickOf}
+use Rattle.reg_process.specs.declared.steps.Step.{Step}
+use Rattle.reg_process.specs.declared.steps.Step.TheVariants.{Call, Take, Tick}
+use Rattle.reg_checkers.specs.History.{IsAt}
+use Rattle.reg_process.specs.declared.events.Event.{Event}
+use Rattle.reg_process.specs.declared.events.Event.TheVariants.{Call as CallOf, Take as TakeOf, Tick as TickOf}
 use Rattle.reg_world.specs.Nodes.{Nodes}
 use Rattle.reg_world.specs.World.{move_of}
 use Rattle.reg_world.specs.Worlds.{Made, run_in, with_event, reply_in}

@@ -4,8 +4,8 @@ use Rattle.reg_base.specs.declared.memory.Op.{Op}
 use Rattle.reg_base.specs.declared.memory.OpId.{OpId}
 use Rattle.reg_base.specs.Shape.{Extent}
 use Rattle.reg_front.specs.declared.starts.Start.{Start}
-use Rattle.reg_entries.specs.declared.entries.Entry.{Entry}
-use Rattle.reg_entries.specs.History.{IsAt, IsCalled, IsAnswered, IsFinished}
+use Rattle.reg_checkers.specs.declared.entries.Entry.{Entry}
+use Rattle.reg_checkers.specs.History.{IsAt, IsCalled, IsAnswered, IsFinished}
 use Rattle.reg_world.specs.World.{op_id}
 use Rattle.reg_world.specs.Worlds.{Made}
 use Rattle.reg_records.specs.declared.entries.LogEntry.{LogEntry}

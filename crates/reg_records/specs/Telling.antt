@@ -2,11 +2,11 @@
 use Rattle.std.specs.Prelude.{ℕ, ◌≡◌, ◌≢◌, ◌<◌, ◌≤◌, ◌+◌, List, length, Option, Some, None}
 use Rattle.reg_base.specs.declared.memory.OpId.{OpId}
 use Rattle.reg_base.specs.declared.memory.Answer.{Answer}
-use Rattle.reg_entries.specs.declared.entries.Entry.{Entry}
-use Rattle.reg_entries.specs.declared.entries.Entry.TheVariants.{Called, Answered}
-use Rattle.reg_entries.specs.declared.place.Progress.{Progress}
-use Rattle.reg_entries.specs.Progress.{IsProgressOf}
-use Rattle.reg_entries.specs.History.{IsAt}
+use Rattle.reg_checkers.specs.declared.entries.Entry.{Entry}
+use Rattle.reg_checkers.specs.declared.entries.Entry.TheVariants.{Called, Answered}
+use Rattle.reg_checkers.specs.declared.place.Progress.{Progress}
+use Rattle.reg_checkers.specs.Progress.{IsProgressOf}
+use Rattle.reg_checkers.specs.History.{IsAt}
 use Rattle.reg_world.specs.World.{op_id}
 use Rattle.reg_records.specs.declared.entries.Receipt.{Receipt}
 use Rattle.reg_records.specs.declared.telling.Pending.{Pending}

@@ -1,13 +1,13 @@
 //! Receipts against a history.
 ghost use Rattle.std.specs.Prelude.{◌≡◌, ◌≤◌, ◌+◌, ℕ, length, map, IsTrue, ◌↔◌, MatchOption, slice_get};
 ghost use Rattle.reg_base.specs.declared.limits.TheConstants.{MOST_PROCESSES};
-ghost use Rattle.reg_entries.specs.History.{IsAt, IsHistory};
+ghost use Rattle.reg_checkers.specs.History.{IsAt, IsHistory};
 ghost use Rattle.reg_records.specs.Receipts.{AreFinished, AreTold, IsFirstUntold};
 ghost use Rattle.reg_records.specs.Telling.{IsAfter, IsOther};
 
 use crate::entries::Receipt;
 use reg_base::{Op, Shape};
-use reg_histories::Entry;
+use reg_checkers::Entry;
 use std::alloc::Allocator;
 
 /// A call that is not yet answered.

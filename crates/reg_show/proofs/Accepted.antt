@@ -4,31 +4,31 @@ use Rattle.std.specs.Prelude.{slice_get, nat_lt, not, ◌&&◌}
 use Rattle.std.proofs.lemmas.Bool.{cond_both, ltb-true, and_parts}
 use Rattle.std.proofs.lemmas.Option.{same_Some}
 use Rattle.reg_base.specs.declared.limits.TheConstants.{MOST_OPERATIONS}
-use Rattle.reg_steps.specs.declared.steps.Step.TheVariants.{Call as CallStep}
+use Rattle.reg_process.specs.declared.steps.Step.TheVariants.{Call as CallStep}
 use Rattle.reg_world.specs.Nodes.{Nodes, step_of}
 use Rattle.std.specs.Option.{is_some}
 use Rattle.reg_base.specs.declared.memory.Op.{Op}
 use Rattle.reg_base.specs.declared.memory.Op.TheVariants.{Read, Write, Swap}
 use Rattle.reg_base.specs.Memory.{register_of}
 use Rattle.reg_front.specs.declared.starts.Start.{Start}
-use Rattle.reg_steps.specs.declared.steps.Step.{Step}
+use Rattle.reg_process.specs.declared.steps.Step.{Step}
 use Rattle.reg_text.specs.Ops.{OpFits}
-use Rattle.reg_text.specs.Inner.{HasValue}
-use Rattle.reg_workloads.specs.Loads.{Load, IsLoad}
-use Rattle.reg_world.specs.declared.events.Event.{Event}
-use Rattle.reg_world.specs.declared.events.Event.TheVariants.{Call, Take, Tick}
+use Rattle.reg_text.specs.Reading.{HasValue}
+use Rattle.reg_inputs.specs.Loads.{Load, IsLoad}
+use Rattle.reg_process.specs.declared.events.Event.{Event}
+use Rattle.reg_process.specs.declared.events.Event.TheVariants.{Call, Take, Tick}
 use Rattle.reg_world.specs.World.{World, empty_world, move_of, happens, run}
 use Rattle.reg_world.specs.Worlds.{Made, run_in}
-use Rattle.reg_schedules.specs.Schedules.{EventFits, Plan}
+use Rattle.reg_inputs.specs.Schedules.{EventFits, Plan}
 use Rattle.reg_commands.specs.Plays.{IsPlayBy, plan_of}
 use Rattle.reg_base.specs.Shape.{Extent}
 use Rattle.reg_front.specs.declared.named.Front.{Front}
 use Rattle.reg_world.proofs.code.Ahead.{same_extent}
-use Rattle.reg_moments.specs.ScheduleText.{IsScheduleText, schedule_text}
+use Rattle.reg_inputs.specs.ScheduleText.{IsScheduleText, schedule_text}
 use Rattle.reg_show.specs.Schedules.{ShowsSchedule}
-use Rattle.reg_show.specs.Inner.{EventHasBits}
-use Rattle.reg_moments.proofs.Moving.{first_moved}
-use Rattle.reg_moments.proofs.Spelled.{schedule_spelled}
+use Rattle.reg_show.specs.ToldRuns.{EventHasBits}
+use Rattle.reg_trace.proofs.Moving.{first_moved}
+use Rattle.reg_inputs.proofs.ReadBack.{schedule_spelled}
 use Rattle.reg_world.proofs.run.Along.{move_is}
 
 call_known : (n registers : ℕ) (w : Nodes) (p : ℕ) (op : Op) (m : ℕ × Step) → step_of n registers w (Call p op) ≡ Some m → register_of op < registers

@@ -5,15 +5,15 @@ use Rattle.reg_base.specs.declared.memory.Op.{Op}
 use Rattle.reg_base.specs.Shape.{Extent}
 use Rattle.reg_front.specs.declared.named.Front.{Front}
 use Rattle.reg_front.specs.declared.starts.Start.{Start}
-use Rattle.reg_world.specs.declared.events.Event.{Event}
+use Rattle.reg_process.specs.declared.events.Event.{Event}
 use Rattle.reg_world.specs.World.{empty_world}
 use Rattle.reg_world.specs.Worlds.{Made, run_in}
 use Rattle.reg_world.proofs.run.Along.{few_events}
-use Rattle.reg_schedules.specs.Schedules.{Plan, IsPlan}
+use Rattle.reg_inputs.specs.Schedules.{Plan, IsPlan}
 use Rattle.reg_commands.specs.Replays.{plan_in}
-use Rattle.reg_moments.specs.ScheduleText.{IsScheduleText, schedule_text}
-use Rattle.reg_moments.proofs.Spelled.{schedule_spelled}
-use Rattle.reg_show.specs.Inner.{EventHasBits}
+use Rattle.reg_inputs.specs.ScheduleText.{IsScheduleText, schedule_text}
+use Rattle.reg_inputs.proofs.ReadBack.{schedule_spelled}
+use Rattle.reg_show.specs.ToldRuns.{EventHasBits}
 use Rattle.reg_show.specs.Rests.{IsRested, WritesRest}
 use Rattle.reg_show.proofs.Accepted.{AllKnown, all_known, event_fits}
 

@@ -4,9 +4,9 @@ use Rattle.reg_base.specs.declared.memory.Op.{Op}
 use Rattle.reg_data.specs.Data.{Data, IsDataOf}
 use Rattle.reg_front.specs.declared.named.Front.{Front}
 use Rattle.reg_front.specs.declared.starts.Start.{Start}
-use Rattle.reg_entries.specs.declared.entries.Point.{Point}
-use Rattle.reg_notes.specs.Notes.{Notes}
-use Rattle.reg_schedules.specs.Schedules.{Plan}
+use Rattle.reg_checkers.specs.declared.entries.Point.{Point}
+use Rattle.reg_data.specs.Notes.{Notes}
+use Rattle.reg_inputs.specs.Schedules.{Plan}
 use Rattle.reg_world.specs.Worlds.{Made, after_events}
 use Rattle.reg_show.specs.Pages.{HasData}
 

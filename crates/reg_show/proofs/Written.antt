@@ -1,12 +1,12 @@
 -- What is told of a schedule, and what was written of it.
 use Rattle.std.proofs.Common.{◌≡◌, ◌∙◌, ℕ, List, ap₂, subst}
-use Rattle.reg_entries.specs.declared.entries.Entry.{Entry}
-use Rattle.reg_schedules.specs.Schedules.{Plan, IsPlan, Spells}
+use Rattle.reg_checkers.specs.declared.entries.Entry.{Entry}
+use Rattle.reg_inputs.specs.Schedules.{Plan, IsPlan, Spells}
 use Rattle.reg_commands.specs.Replays.{start_of}
-use Rattle.reg_moments.specs.Moments.{Fact}
+use Rattle.reg_trace.specs.Moments.{Fact}
 use Rattle.reg_show.specs.Runs.{TellsRun}
-use Rattle.reg_show.specs.Inner.{IsTold}
-use Rattle.reg_moments.specs.Traces.{trace_text}
+use Rattle.reg_show.specs.ToldRuns.{IsTold}
+use Rattle.reg_trace.specs.Traces.{trace_text}
 
 -- the trace that was written is that of the run
 pub tells_run : (Wrote : List ℕ → Type 0) (text : List ℕ) (names : List (List ℕ)) (moments facts : List Fact) (entries : List Entry) → (p : Plan) × IsPlan p × Spells text p × IsTold (start_of p.front) p names facts entries → moments ≡ facts → Wrote (trace_text names moments) → TellsRun Wrote text

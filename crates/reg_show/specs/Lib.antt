@@ -1,7 +1,11 @@
+pub mod Kinds
+pub mod FirstLines
+pub mod Tellings
+pub mod TextFaults
 pub mod Schedules
 pub mod Runs
 pub mod Pages
 pub mod Rests
 pub mod Showings
-pub mod Inner
+pub mod ToldRuns
 pub mod Outcomes

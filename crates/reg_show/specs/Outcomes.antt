@@ -5,9 +5,9 @@ use Rattle.reg_commands.specs.Plays.{Holds}
 use Rattle.reg_commands.specs.Replays.{start_of}
 use Rattle.reg_front.specs.declared.starts.Start.{Start}
 use Rattle.reg_outcomes.specs.Outcomes.{AreOutcomes}
-use Rattle.reg_tables.specs.Tables.{Line}
-use Rattle.reg_tables.specs.TableText.{table_text}
-use Rattle.reg_workloads.specs.Loads.{Load}
+use Rattle.reg_outcomes.specs.Tables.{Line}
+use Rattle.reg_outcomes.specs.TableText.{table_text}
+use Rattle.reg_inputs.specs.Loads.{Load}
 
 -- The text of the table of so many plays of the workload was written. `Wrote` says how a text was.
 pub record ShowsOutcomes (plays : ℕ) (start : Op → ℕ → Start) (Wrote : List ℕ → Type 0) (work : Load) : Type 0 where

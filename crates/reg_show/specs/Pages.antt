@@ -4,9 +4,9 @@ use Rattle.reg_base.specs.declared.memory.Op.{Op}
 use Rattle.reg_commands.specs.Replays.{start_of, PointsOf}
 use Rattle.reg_data.specs.Data.{Data, IsDataOf, data_text}
 use Rattle.reg_front.specs.declared.starts.Start.{Start}
-use Rattle.reg_entries.specs.declared.entries.Point.{Point}
-use Rattle.reg_notes.specs.Notes.{Notes, notes_of}
-use Rattle.reg_schedules.specs.Schedules.{Plan, IsPlan, Spells}
+use Rattle.reg_checkers.specs.declared.entries.Point.{Point}
+use Rattle.reg_data.specs.Notes.{Notes, notes_of}
+use Rattle.reg_inputs.specs.Schedules.{Plan, IsPlan, Spells}
 use Rattle.reg_show.specs.declared.commands.TheConstants.{MOST_DRAWN}
 
 -- All events of a plan are accepted, and this is all that is told of their run, with these notes and with such points.

@@ -4,12 +4,12 @@ use Rattle.reg_base.specs.declared.limits.TheConstants.{MOST_EVENTS}
 use Rattle.reg_base.specs.declared.memory.Op.{Op}
 use Rattle.reg_front.specs.declared.starts.Start.{Start}
 use Rattle.reg_world.specs.Worlds.{Made, after_events}
-use Rattle.reg_rest.specs.Rest.{Settles, most_to_rest}
-use Rattle.reg_schedules.specs.Schedules.{Plan, IsPlan, Spells}
+use Rattle.reg_runs.specs.Rest.{Settles, most_to_rest}
+use Rattle.reg_inputs.specs.Schedules.{Plan, IsPlan, Spells}
 use Rattle.reg_commands.specs.Replays.{start_of, run_by, plan_in, BlamesRun}
 use Rattle.reg_commands.specs.Answers.{Blames}
 use Rattle.reg_commands.specs.declared.command.Command.TheVariants.{Replay}
-use Rattle.reg_moments.specs.ScheduleText.{IsScheduleText, schedule_text}
+use Rattle.reg_inputs.specs.ScheduleText.{IsScheduleText, schedule_text}
 use Rattle.reg_show.specs.declared.faults.ShowFault.{ShowFault}
 use Rattle.reg_show.specs.declared.faults.ShowFault.TheVariants.{Command, TooManyToDraw, TooManyToRest}
 

@@ -1,14 +1,14 @@
 -- What is told of the run of a schedule.
 use Rattle.std.specs.Prelude.{ℕ, ◌≡◌, ◌≤◌, ◌<◌, List, length}
-use Rattle.reg_schedules.specs.Schedules.{Plan, IsPlan, Spells}
+use Rattle.reg_inputs.specs.Schedules.{Plan, IsPlan, Spells}
 use Rattle.reg_commands.specs.Replays.{start_of, run_by}
 use Rattle.reg_commands.specs.Answers.{Blames}
 use Rattle.reg_commands.specs.declared.command.Command.TheVariants.{Replay}
 use Rattle.reg_show.specs.declared.commands.TheConstants.{MOST_DRAWN}
 use Rattle.reg_show.specs.declared.faults.ShowFault.{ShowFault}
 use Rattle.reg_show.specs.declared.faults.ShowFault.TheVariants.{Command, TooManyToDraw, TooManyToRest}
-use Rattle.reg_moments.specs.Moments.{moments_of}
-use Rattle.reg_moments.specs.Traces.{trace_text}
+use Rattle.reg_trace.specs.Moments.{moments_of}
+use Rattle.reg_trace.specs.Traces.{trace_text}
 
 -- The text is that of a plan, all of whose events are accepted, and the trace of its run was written: `Wrote` says how a text
 -- was.

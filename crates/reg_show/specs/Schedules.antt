@@ -2,9 +2,9 @@
 use Rattle.std.specs.Prelude.{ℕ, Bool, List}
 use Rattle.reg_base.specs.declared.memory.Op.{Op}
 use Rattle.reg_front.specs.declared.starts.Start.{Start}
-use Rattle.reg_workloads.specs.Loads.{Load}
+use Rattle.reg_inputs.specs.Loads.{Load}
 use Rattle.reg_world.specs.Worlds.{Made}
-use Rattle.reg_moments.specs.ScheduleText.{IsScheduleText, schedule_text}
+use Rattle.reg_inputs.specs.ScheduleText.{IsScheduleText, schedule_text}
 use Rattle.reg_commands.specs.Replays.{start_of}
 use Rattle.reg_commands.specs.Plays.{Holds, IsPlayBy, plan_of}
 

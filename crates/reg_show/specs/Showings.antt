@@ -2,7 +2,7 @@
 use Rattle.std.specs.Prelude.{ℕ, List, [], ◌∷◌, ◌++◌, codes, flat_map}
 use Rattle.reg_commands.specs.declared.command.Command.TheVariants.{Play, Replay}
 use Rattle.reg_commands.specs.Answers.{Blames as BlamesCommand}
-use Rattle.reg_messages.specs.FaultLines.{fault_line}
+use Rattle.reg_commands.specs.FaultLines.{fault_line}
 use Rattle.reg_show.specs.declared.faults.ShowFault.{ShowFault}
 use Rattle.reg_show.specs.declared.faults.ShowFault.TheVariants.{Command, TooManyToDraw, TooManyToRest}
 use Rattle.reg_show.specs.declared.showing.Showing.{Showing}

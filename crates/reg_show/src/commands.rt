@@ -2,20 +2,20 @@
 ghost use Rattle.std.specs.Prelude.{◌≡◌, ◌≢◌, IfOk, IfErr, IsErrOf, MatchResult};
 ghost use Rattle.std.specs.Io.KnownBytes.{Appends};
 ghost use Rattle.reg_text.specs.Writing.{AppendsPart};
-ghost use Rattle.reg_schedules.specs.Schedules.{Plan, IsPlan, Spells};
+ghost use Rattle.reg_inputs.specs.Schedules.{Plan, IsPlan, Spells};
 ghost use Rattle.reg_commands.specs.Answers.{Blames};
 ghost use Rattle.reg_commands.specs.Replays.{start_of};
 ghost use Rattle.reg_commands.specs.declared.command.Command.TheVariants.{Replay};
 ghost use Rattle.reg_show.specs.Runs.{BlamesDrawn, DrawsRun, TellsRun};
-ghost use Rattle.reg_show.specs.Inner.{IsTold};
-ghost use Rattle.reg_moments.specs.Traces.{trace_text};
+ghost use Rattle.reg_show.specs.ToldRuns.{IsTold};
+ghost use Rattle.reg_trace.specs.Traces.{trace_text};
 
 use crate::faults::ShowFault;
 use crate::telling::tell_schedule;
 use reg_base::Names;
 use reg_commands::{Fault, read_schedule};
 use reg_drawing::{Drawing, draw_told, write_drawing};
-use reg_moments::{Moment, TracedRun, write_trace};
+use reg_trace::{Moment, TracedRun, write_trace};
 use std::alloc::Allocator;
 use std::io::Write;
 

@@ -6,16 +6,16 @@ ghost use Rattle.reg_text.specs.Writing.{AppendsPart};
 ghost use Rattle.reg_commands.specs.Answers.{Blames};
 ghost use Rattle.reg_commands.specs.Replays.{start_of};
 ghost use Rattle.reg_commands.specs.declared.command.Command.TheVariants.{Play};
-ghost use Rattle.reg_messages.specs.FaultLines.{fault_line};
-ghost use Rattle.reg_messages.specs.declared.faults.Fault.{Fault as AnyFault};
+ghost use Rattle.reg_commands.specs.FaultLines.{fault_line};
+ghost use Rattle.reg_commands.specs.declared.faults.Fault.{Fault as AnyFault};
 ghost use Rattle.reg_outcomes.specs.declared.plays.TheConstants.{MOST_PLAYS};
-ghost use Rattle.reg_tables.specs.TableText.{table_text};
+ghost use Rattle.reg_outcomes.specs.TableText.{table_text};
 ghost use Rattle.reg_show.specs.Outcomes.{ShowsOutcomes, WritesOutcomes};
 
 use reg_commands::{Fault, read_input, read_workload, write_fault};
 use reg_front::{Front, FrontEnd, Linear, LocalRead, LocalWrite};
 use reg_outcomes::{Outcomes, play_many, write_table};
-use reg_players::Workload;
+use reg_workload::Workload;
 use std::alloc::{Allocator, Global};
 use std::io::{Read, Write};
 

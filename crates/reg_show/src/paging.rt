@@ -2,22 +2,21 @@
 ghost use Rattle.std.specs.Prelude.{◌≡◌, ◌≢◌, ◌≤◌, ◌++◌, ℕ, List, None, Option, IfOk, IfErr, IsErrOf, MatchResult, length};
 ghost use Rattle.std.specs.Io.KnownBytes.{Appends};
 ghost use Rattle.reg_text.specs.Writing.{AppendsPart};
-ghost use Rattle.reg_schedules.specs.Schedules.{IsPlan, Spells};
+ghost use Rattle.reg_inputs.specs.Schedules.{IsPlan, Spells};
 ghost use Rattle.reg_commands.specs.Replays.{start_of, BlamesRun, PointsOf, ShowsPoints};
 ghost use Rattle.reg_data.specs.Data.{data_text};
 ghost use Rattle.reg_data.specs.Json.{one_text};
-ghost use Rattle.reg_entries.specs.declared.entries.Point.{Point as AnyPoint};
-ghost use Rattle.reg_notes.specs.Notes.{notes_of};
+ghost use Rattle.reg_checkers.specs.declared.entries.Point.{Point as AnyPoint};
+ghost use Rattle.reg_data.specs.Notes.{notes_of};
 ghost use Rattle.reg_show.specs.Pages.{HasData, ShowsData};
 ghost use Rattle.reg_show.specs.Runs.{BlamesDrawn};
 
 use crate::commands::MOST_DRAWN;
 use crate::faults::ShowFault;
 use reg_commands::{Fault, Ran, read_schedule, run_events};
-use reg_data::{Data, tell_data, write_data};
+use reg_data::{Data, Notes, read_notes, tell_data, write_data};
 use reg_front::{Front, FrontEnd, Linear, LocalRead, LocalWrite, RealTime};
-use reg_notes::{Notes, read_notes};
-use reg_players::Schedule;
+use reg_workload::Schedule;
 use reg_world::Wires;
 use std::alloc::Allocator;
 use std::io::Write;

@@ -3,15 +3,15 @@ ghost use Rattle.std.specs.Prelude.{◌≡◌, ◌≢◌, ◌⊎◌, IfOk, IfErr
 ghost use Rattle.std.specs.Io.KnownBytes.{Appends};
 ghost use Rattle.reg_text.specs.Writing.{AppendsPart};
 ghost use Rattle.reg_commands.specs.Replays.{start_of};
-ghost use Rattle.reg_schedules.specs.Schedules.{IsPlan};
+ghost use Rattle.reg_inputs.specs.Schedules.{IsPlan};
 ghost use Rattle.reg_show.specs.Rests.{IsRested, WritesRest, RestsRun, BlamesRested, BlamesRest};
 
 use crate::faults::ShowFault;
 use crate::scheduling::{events_have_bits, send};
 use reg_commands::{Fault, Ran, read_schedule, run_events};
 use reg_front::{Front, FrontEnd, Linear, LocalRead, LocalWrite};
-use reg_players::Schedule;
-use reg_rest::{SettleFault, settle};
+use reg_runs::{SettleFault, settle};
+use reg_workload::Schedule;
 use reg_world::PackedWires;
 use std::alloc::Allocator;
 use std::io::Write;

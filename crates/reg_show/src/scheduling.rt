@@ -2,22 +2,22 @@
 ghost use Rattle.std.specs.Prelude.{◌≡◌, ◌≢◌, ◌⊎◌, ℕ, Bool, IfOk, IfErr, IsErrOf, MatchResult, Some, slice_get};
 ghost use Rattle.std.specs.Io.KnownBytes.{Appends};
 ghost use Rattle.reg_text.specs.Writing.{AppendsPart};
-ghost use Rattle.reg_world.specs.declared.events.Event.{Event};
+ghost use Rattle.reg_process.specs.declared.events.Event.{Event};
 ghost use Rattle.reg_world.specs.Worlds.{Made};
 ghost use Rattle.reg_commands.specs.Answers.{Blames};
 ghost use Rattle.reg_commands.specs.Plays.{IsPlayBy, plan_of};
 ghost use Rattle.reg_commands.specs.Replays.{start_of};
 ghost use Rattle.reg_commands.specs.declared.command.Command.TheVariants.{Play};
-ghost use Rattle.reg_schedules.specs.Schedules.{Plan};
-ghost use Rattle.reg_moments.specs.ScheduleText.{IsScheduleText, schedule_text};
+ghost use Rattle.reg_inputs.specs.Schedules.{Plan};
+ghost use Rattle.reg_inputs.specs.ScheduleText.{IsScheduleText, schedule_text};
 ghost use Rattle.reg_show.specs.Schedules.{ShowsSchedule, WritesSchedule};
-ghost use Rattle.reg_show.specs.Inner.{EventHasBits};
+ghost use Rattle.reg_show.specs.ToldRuns.{EventHasBits};
 
 use reg_base::{Names, Shape};
 use reg_commands::{Fault, play_by, read_workload};
 use reg_front::{Front, FrontEnd, Linear, LocalRead, LocalWrite};
-use reg_moments::write_schedule;
-use reg_players::Workload;
+use reg_inputs::write_schedule;
+use reg_workload::Workload;
 use reg_world::{Event as AnyEvent, PackedWires};
 use std::alloc::{Allocator, Global};
 use std::io::Write;

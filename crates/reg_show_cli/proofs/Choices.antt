@@ -13,18 +13,18 @@ use Rattle.clap.specs.declared.error.ErrorKind.{ErrorKind}
 use Rattle.clap.specs.declared.error.ErrorKind.TheVariants.{DisplayHelp, InvalidSubcommand, OutOfMemory as NoMemory, UnknownArgument}
 use Rattle.clap.proofs.OnLiterals.{clap_on_literals}
 use Rattle.reg_show.specs.declared.Showing.{Showing}
-use Rattle.reg_words.specs.Lines.{is_flag, may_ask_help}
-use Rattle.reg_words.proofs.Chosen.{takes_line}
-use Rattle.reg_words.proofs.Leaves.{fair_stray, plain_stray}
-use Rattle.reg_words.proofs.Programs.{fails_below, stray_first}
-use Rattle.reg_words.proofs.Strays.{some_kind}
+use Rattle.reg_args.specs.Lines.{is_flag, may_ask_help}
+use Rattle.reg_args.proofs.Chosen.{takes_line}
+use Rattle.reg_args.proofs.Leaves.{fair_stray, plain_stray}
+use Rattle.reg_args.proofs.Programs.{fails_below, stray_first}
+use Rattle.reg_args.proofs.Strays.{some_kind}
 use Rattle.reg_show_cli.specs.Words.{awshow, told_of}
 use Rattle.reg_show_cli.specs.Lines.{IsAnswer, IsCommandLine, IsHelpLine, is_fair, line_of, name_of}
 use Rattle.reg_show_cli.proofs.Lines.{awshow_lines, no_name, subs}
 use Rattle.reg_show_cli.specs.declared.words.Asked.{Asked}
 use Rattle.reg_show_cli.specs.declared.words.Asked.TheVariants.{Help, Outcomes, Show, Why}
-use Rattle.reg_words.specs.declared.faults.WordsFault.{WordsFault}
-use Rattle.reg_words.specs.declared.faults.WordsFault.TheVariants.{CommandLine, OutOfMemory}
+use Rattle.reg_args.specs.declared.faults.WordsFault.{WordsFault}
+use Rattle.reg_args.specs.declared.faults.WordsFault.TheVariants.{CommandLine, OutOfMemory}
 
 abbrev fault_at : List Text → Kinds
 fault_at line = built_fault (built awshow) nothing_held line

@@ -9,8 +9,8 @@ use Rattle.clap.specs.Words.{Text}
 use Rattle.reg_show_cli.specs.declared.words.Asked.{Asked}
 use Rattle.reg_show_cli.specs.declared.words.Asked.TheVariants.{Help, Outcomes, Show, Why}
 use Rattle.reg_show_cli.specs.Lines.{IsAnswer, IsChoice, IsOutcomesLine, IsWhyLine, PlaysFit}
-use Rattle.reg_words.specs.declared.faults.WordsFault.{WordsFault}
-use Rattle.reg_words.specs.declared.faults.WordsFault.TheVariants.{CommandLine, OutOfMemory}
+use Rattle.reg_args.specs.declared.faults.WordsFault.{WordsFault}
+use Rattle.reg_args.specs.declared.faults.WordsFault.TheVariants.{CommandLine, OutOfMemory}
 
 -- the bytes of the word at a place
 pub bytes_at : {A : Type 0} (words : List (String A)) (place : ℕ) (x : String A) → place < length words → x ≡ get_or words place x → slice_get (map string_bytes words) place ≡ Some (string_bytes x)

@@ -11,11 +11,11 @@ use Rattle.clap.specs.Faults.{built_fault, entered_fault}
 use Rattle.clap.proofs.OnLiterals.{clap_on_literals}
 use Rattle.reg_show.specs.declared.Showing.{Showing}
 use Rattle.reg_show.specs.declared.Showing.TheVariants.{Data, Draw, Page, Rest, Schedule, Trace}
-use Rattle.reg_words.specs.Lines.{is_dashes}
-use Rattle.reg_words.proofs.Chosen.{TakesLines, met_at}
-use Rattle.reg_words.proofs.Strays.{some_kind}
-use Rattle.reg_words.proofs.Leaves.{fair_words, has_none, plain_words}
-use Rattle.reg_words.proofs.Programs.{at_name, below, first_turn, no_subcommand, start}
+use Rattle.reg_args.specs.Lines.{is_dashes}
+use Rattle.reg_args.proofs.Chosen.{TakesLines, met_at}
+use Rattle.reg_args.proofs.Strays.{some_kind}
+use Rattle.reg_args.proofs.Leaves.{fair_words, has_none, plain_words}
+use Rattle.reg_args.proofs.Programs.{at_name, below, first_turn, no_subcommand, start}
 use Rattle.reg_show_cli.specs.Lines.{IsCommandLine, is_fair, line_of, name_of}
 use Rattle.reg_show_cli.specs.Words.{awshow}
 

@@ -5,16 +5,16 @@ use Rattle.std.specs.Io.KnownBytes.{Appends}
 use Rattle.reg_text.specs.Writing.{AppendsPart}
 use Rattle.reg_commands.specs.Answers.{Blames as BlamesCommand}
 use Rattle.reg_commands.specs.declared.command.Command.TheVariants.{Play}
-use Rattle.reg_messages.specs.declared.faults.Fault.{Fault}
-use Rattle.reg_messages.specs.declared.faults.Fault.TheVariants.{Output}
-use Rattle.reg_messages.specs.FaultLines.{fault_line}
+use Rattle.reg_commands.specs.declared.faults.Fault.{Fault}
+use Rattle.reg_commands.specs.declared.faults.Fault.TheVariants.{Output}
+use Rattle.reg_commands.specs.FaultLines.{fault_line}
 use Rattle.reg_show.specs.declared.faults.ShowFault.{ShowFault}
 use Rattle.reg_show.specs.declared.faults.ShowFault.TheVariants.{Command}
 use Rattle.reg_show.specs.Outcomes.{WritesOutcomes}
 use Rattle.reg_show.specs.Showings.{Blames, Shows, show_line}
 use Rattle.reg_show_cli.specs.declared.words.Asked.{Asked}
 use Rattle.reg_show_cli.specs.declared.words.Asked.TheVariants.{Help, Outcomes, Show, Why}
-use Rattle.reg_why.specs.Tellings.{Answers, AnswersAny, Halts}
+use Rattle.reg_show.specs.Tellings.{Answers, AnswersAny, Halts}
 
 -- Status 0: what was asked for was shown of the input, the input is accepted and that was written, or the text of the help was written. `Wrote` says how a text was written.
 abbrev pub Obeys : List ℕ → Asked → Option (List ℕ) → (List ℕ → Type 0) → Type 0

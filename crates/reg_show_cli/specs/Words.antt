@@ -1,13 +1,13 @@
 -- The program as clap reads it, and what each of clap's refusals asks for. They carry a proof: no promise speaks of them.
 use Rattle.std.specs.Prelude.{codes, Result, Ok, Err}
 use Rattle.clap.specs.Words.{App, new_app, with_subcommand}
-use Rattle.reg_words.specs.Lines.{fair_app}
+use Rattle.reg_args.specs.Lines.{fair_app}
 use Rattle.clap.specs.declared.error.ErrorKind.{ErrorKind}
 use Rattle.clap.specs.declared.error.ErrorKind.TheVariants.{DisplayHelp, OutOfMemory as NoMemory}
 use Rattle.reg_show_cli.specs.declared.words.Asked.{Asked}
 use Rattle.reg_show_cli.specs.declared.words.Asked.TheVariants.{Help}
-use Rattle.reg_words.specs.declared.faults.WordsFault.{WordsFault}
-use Rattle.reg_words.specs.declared.faults.WordsFault.TheVariants.{CommandLine, OutOfMemory}
+use Rattle.reg_args.specs.declared.faults.WordsFault.{WordsFault}
+use Rattle.reg_args.specs.declared.faults.WordsFault.TheVariants.{CommandLine, OutOfMemory}
 
 -- the program with its first subcommands, as clap's parse reads it
 abbrev pub awshow_first : App

@@ -3,13 +3,13 @@
 ghost use Rattle.std.specs.Prelude.{◌≡◌, ◌≤◌, ◌↔◌, ℕ, IfSome, MatchOption, Some, codes, length, map, true, slice_get, string_bytes};
 ghost use Rattle.std.specs.Fmt.{decimal};
 ghost use Rattle.reg_outcomes.specs.declared.plays.TheConstants.{MOST_PLAYS};
-ghost use Rattle.reg_words.specs.Lines.{behind_name};
+ghost use Rattle.reg_args.specs.Lines.{behind_name};
 ghost use Rattle.reg_show_cli.specs.Lines.{IsChoice, IsOutcomesLine, IsWhyLine};
 
 use crate::words::{Asked, choose};
+use reg_args::WordsFault;
 use reg_show::MOST_PLAYS;
 use reg_text::numeral_within;
-use reg_words::WordsFault;
 use std::alloc::Global;
 
 /// How many plays are counted where the words don't say.

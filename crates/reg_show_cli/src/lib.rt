@@ -7,6 +7,6 @@ mod words;
 
 pub use asking::{USUAL_PLAYS, ask};
 pub use program::{refuse, run_line, run_program, run_words};
+pub use reg_args::WordsFault;
 pub use reg_show::Showing;
-pub use reg_words::WordsFault;
 pub use words::{Asked, choose};

@@ -2,9 +2,9 @@
 ghost use Rattle.std.specs.Prelude.{◌≡◌, ◌≤◌, ◌⊎◌, Ok};
 ghost use Rattle.std.specs.Io.KnownBytes.{Appends};
 ghost use Rattle.reg_text.specs.Writing.{AppendsPart};
-ghost use Rattle.reg_messages.specs.FaultLines.{fault_line};
-ghost use Rattle.reg_words.specs.Faults.{status_of};
-ghost use Rattle.reg_words.specs.Lines.{behind_name};
+ghost use Rattle.reg_commands.specs.FaultLines.{fault_line};
+ghost use Rattle.reg_args.specs.Faults.{status_of};
+ghost use Rattle.reg_args.specs.Lines.{behind_name};
 ghost use Rattle.reg_show_cli.specs.Lines.{IsAskedLine, IsChoice, IsHelpLine, PlaysFit, refused_line};
 ghost use Rattle.reg_show_cli.specs.Statuses.{Obeys, Stops, Tells, memory_line};
 ghost use Rattle.reg_show_cli.specs.declared.words.Asked.{Asked as AnyAsked};
@@ -12,11 +12,10 @@ ghost use Rattle.reg_show_cli.specs.declared.words.TheConstants.{HELP};
 
 use crate::asking::ask;
 use crate::words::{Asked, HELP};
+use reg_args::{WordsFault, tell, words_of};
 use reg_commands::{Fault, write_fault};
-use reg_show::{show_outcomes, show_text};
+use reg_show::{show_outcomes, show_text, why_text};
 use reg_text::write_bytes;
-use reg_why::why_text;
-use reg_words::{WordsFault, tell, words_of};
 use std::io::{self, BufWriter, Read, Write};
 use std::rt::Env;
 

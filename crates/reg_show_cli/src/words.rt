@@ -2,14 +2,14 @@
 ghost use Rattle.std.specs.Prelude.{◌≡◌, IfOk, Some};
 ghost use Rattle.clap.specs.Words.{app_of, kind_of};
 ghost use Rattle.reg_show.specs.declared.Showing.{Showing};
-ghost use Rattle.reg_words.specs.Lines.{behind_name};
+ghost use Rattle.reg_args.specs.Lines.{behind_name};
 ghost use Rattle.reg_show_cli.specs.declared.words.Asked.TheVariants.{Show};
 ghost use Rattle.reg_show_cli.specs.Words.{awshow, awshow_first, told_of};
 ghost use Rattle.reg_show_cli.specs.Lines.{IsAnswer, is_fair, name_of};
 
 use clap::error::ErrorKind;
+use reg_args::{WordsFault, has_dashes, met, with_fair};
 use reg_show::Showing;
-use reg_words::{WordsFault, has_dashes, met, with_fair};
 use std::alloc::{AllocError, Global};
 
 /// What the words ask for.

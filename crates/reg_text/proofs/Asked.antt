@@ -1,7 +1,7 @@
 -- A line that is asked for, wherever the cursor stands.
 use Rattle.std.proofs.Common.{ℕ, ◌≡◌, ◌+◌, ◌-◌, ◌<◌, ◌^◌, min, Bool, true, false, List, [], ◌∷◌, ◌++◌, length, get_or, drop, refl, sym, ap, ◌∙◌, subst, arith, append_assoc, length-append}
 use Rattle.reg_text.specs.Lines.{shown, Rest, StandsIn, StandsAt, IsAsked}
-use Rattle.reg_text.specs.Inner.{IsFound}
+use Rattle.reg_text.specs.Reading.{IsFound}
 use Rattle.reg_text.proofs.Split.{kept_line, none_kept}
 
 -- the line was found behind lines that are skipped, in one of both ways

@@ -1,7 +1,7 @@
 -- The numbers of lines.
 use Rattle.std.proofs.Common.{ℕ, suc, ◌≡◌, ◌+◌, ◌-◌, ◌<◌, ◌^◌, min, Bool, true, false, List, [], ◌∷◌, ◌++◌, length, refl, sym, ap, ◌∙◌, arith, append_assoc, length-append}
 use Rattle.reg_text.specs.Lines.{shown, is_kept}
-use Rattle.reg_text.specs.Inner.{IsFound}
+use Rattle.reg_text.specs.Reading.{IsFound}
 use Rattle.reg_text.proofs.Split.{none_kept}
 
 -- the lines from `old` up to `new` were passed, and counted

@@ -9,7 +9,7 @@ use Rattle.std.proofs.lemmas.Fmt.{digits_decimal}
 use Rattle.reg_text.specs.Columns.{to_left}
 use Rattle.reg_text.specs.Parts.{Lacks}
 use Rattle.reg_text.specs.Forms.{is_numeral, is_word, is_word_byte}
-use Rattle.reg_text.specs.Inner.{IsValuedForm}
+use Rattle.reg_text.specs.Reading.{IsValuedForm}
 use Rattle.reg_text.proofs.Decimals.{own, first_is}
 use Rattle.reg_text.proofs.Digits.{blank_is, all_blank}
 use Rattle.reg_text.proofs.NamesLack.{both_true}

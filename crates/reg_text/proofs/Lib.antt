@@ -25,3 +25,4 @@ pub mod Sent
 mod Named
 pub mod Asked
 pub mod Numbered
+pub mod Lining

@@ -2,7 +2,7 @@
 use Rattle.std.proofs.Common.{ℕ, suc, ◌≡◌, ◌==◌, ◌-◌, ◌<◌, ◌≤◌, ◌^◌, Bool, true, false, cond, Option, None, Some, List, [], ◌∷◌, ◌++◌, length, refl, sym, ap, ◌∙◌, arith, append_assoc, length-append}
 use Rattle.std.proofs.lemmas.List.{append_cancel_right, append-nil}
 use Rattle.reg_text.specs.Lines.{begins_with, lines_of, shown, kept, is_kept, Rest, StandsIn, IsAsked, IsNumbered}
-use Rattle.reg_text.specs.Inner.{GoesOn, IsNext, IsStopped}
+use Rattle.reg_text.specs.Reading.{GoesOn, IsNext, IsStopped}
 use Rattle.reg_text.proofs.Split.{kept_line, skipped_line, none_kept}
 
 kept_cons : (line : List ℕ) (xs ys : List (List ℕ)) (k : Bool) → is_kept line ≡ k → kept (xs ++ ys) ≡ kept xs ++ kept ys → kept (line ∷ (xs ++ ys)) ≡ kept (line ∷ xs) ++ kept ys

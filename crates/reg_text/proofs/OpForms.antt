@@ -4,7 +4,7 @@ use Rattle.std.proofs.lemmas.Option.{IfSome_then}
 use Rattle.reg_text.specs.declared.faults.Why.{Why}
 use Rattle.reg_text.specs.declared.faults.Why.TheVariants.{Range, Name}
 use Rattle.reg_text.specs.Forms.{HasOpForm, IsWriteForm, IsSwapForm, is_word}
-use Rattle.reg_text.specs.Inner.{IsValuedForm}
+use Rattle.reg_text.specs.Reading.{IsValuedForm}
 use Rattle.reg_text.proofs.Formed.{first_same}
 use Rattle.reg_text.proofs.OpWhys.{Told}
 

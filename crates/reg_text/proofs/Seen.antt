@@ -3,7 +3,7 @@ use Rattle.std.proofs.Common.{ℕ, suc, ◌≡◌, ◌+◌, ◌<◌, ◌≤◌, 
 use Rattle.std.specs.List.{list_all}
 use Rattle.std.proofs.lemmas.Grind.{flat_map-append}
 use Rattle.reg_text.specs.Words.{names_text, HasWords}
-use Rattle.reg_text.specs.Inner.{Starts}
+use Rattle.reg_text.specs.Reading.{Starts}
 use Rattle.reg_text.specs.Forms.{is_word}
 use Rattle.reg_text.specs.Parts.{Lacks}
 use Rattle.reg_text.proofs.NamesLack.{both_true}

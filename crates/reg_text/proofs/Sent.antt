@@ -83,3 +83,20 @@ puts_two contents a b c xs ys p q = record {
 -- the same, in other words
 pub puts_as : {X : Type 0} (contents : X → Option (List ℕ)) (a b : Sink X) (xs ys : List ℕ) → xs ≡ ys → Puts contents a b xs → Puts contents a b ys
 puts_as contents a b xs ys e p = subst (λ bs. Puts contents a b bs) e p
+
+-- several things were put, one behind another
+pub puts_three : {S : Type 0} (held : S → Option (List ℕ)) (a b c d : Sink S) (xs ys zs : List ℕ) → Puts held a b xs → Puts held b c ys → Puts held c d zs → Puts held a d (xs ++ (ys ++ zs))
+puts_three held a b c d xs ys zs p q r = puts_two held a b d xs (ys ++ zs) p (puts_two held b c d ys zs q r)
+
+pub puts_four : {S : Type 0} (held : S → Option (List ℕ)) (a b c d e : Sink S) (ws xs ys zs : List ℕ) → Puts held a b ws → Puts held b c xs → Puts held c d ys → Puts held d e zs → Puts held a e (ws ++ (xs ++ (ys ++ zs)))
+puts_four held a b c d e ws xs ys zs p q r s = puts_two held a b e ws (xs ++ (ys ++ zs)) p (puts_three held b c d e xs ys zs q r s)
+
+sent_from : {S : Type 0} (held : S → Option (List ℕ)) (a b : Sink S) (old : S) (bs : List ℕ) → a.failed ≡ false → a.writer.now ≡ old → Puts held a b bs → Sends false b.failed (held old) (held b.writer.now) bs
+sent_from held a b old bs begun from p = rw (begun, from) at p.sent
+
+-- what was put into a new sink went out, all of it or, where the writer failed, a first part
+pub all_out : {S : Type 0} (held : S → Option (List ℕ)) (a b : Sink S) (old new : S) (bs : List ℕ) → a.failed ≡ false → a.writer.now ≡ old → b.failed ≡ false → b.writer.now ≡ new → Puts held a b bs → Appends (held old) (held new) bs
+all_out held a b old new bs begun from going to p = subst (λ s. Appends (held old) (held s) bs) to (subst (λ f. Sends false f (held old) (held b.writer.now) bs) going (sent_from held a b old bs begun from p))
+
+pub part_out : {S : Type 0} (held : S → Option (List ℕ)) (a b : Sink S) (old new : S) (bs : List ℕ) → a.failed ≡ false → a.writer.now ≡ old → b.failed ≡ true → b.writer.now ≡ new → Puts held a b bs → AppendsPart (held old) (held new) bs
+part_out held a b old new bs begun from failed to p = subst (λ s. AppendsPart (held old) (held s) bs) to (subst (λ f. Sends false f (held old) (held b.writer.now) bs) failed (sent_from held a b old bs begun from p))

@@ -8,7 +8,7 @@ use Rattle.reg_text.proofs.Formed.{first_same}
 use Rattle.reg_text.specs.Parts.{Lacks}
 use Rattle.reg_base.specs.Memory.{register_of}
 use Rattle.reg_text.specs.Ops.{op_text, valued, OpFits}
-use Rattle.reg_text.specs.Inner.{HasValue}
+use Rattle.reg_text.specs.Reading.{HasValue}
 use Rattle.reg_text.proofs.NamesLack.{is_got, got_is, nth_lacks}
 
 -- what a search for a name tells

@@ -2,7 +2,7 @@
 use Rattle.std.proofs.Common.{ℕ, zero, suc, ◌≡◌, ◌+◌, ◌<◌, ◌≤◌, ◌⊎◌, inl, inr, List, [], ◌∷◌, ◌++◌, length, map, take, drop, Some, slice_get, refl, sym, ap, subst, ◌∙◌, arith, append_assoc, append-nil, length-append}
 use Rattle.std.proofs.lemmas.List.{map-append}
 use Rattle.reg_text.specs.Lines.{AllFit}
-use Rattle.reg_text.specs.Inner.{IsBlock}
+use Rattle.reg_text.specs.Reading.{IsBlock}
 
 -- what a loop over such lines keeps: these were read, and whatever the block is, it begins with them
 pub record Taken {X : Type 0} (line_of : X → List ℕ) (Fits : List X → X → Type 0) (n : ℕ) (old now : List (List ℕ)) (xs : List X) (i : ℕ) : Type 0 where

@@ -11,7 +11,7 @@ use Rattle.reg_text.specs.Parts.{Lacks}
 use Rattle.reg_text.specs.declared.faults.Why.{Why}
 use Rattle.reg_text.specs.declared.faults.Why.TheVariants.{Range, Name}
 use Rattle.reg_text.specs.Words.{names_text, IsNamesWhy}
-use Rattle.reg_text.specs.Inner.{Starts}
+use Rattle.reg_text.specs.Reading.{Starts}
 use Rattle.reg_text.specs.Forms.{is_word}
 use Rattle.reg_text.proofs.NamesLack.{both_true}
 use Rattle.reg_text.proofs.Named.{word_text}

@@ -7,4 +7,4 @@ pub mod Ops
 pub mod Forms
 pub mod Writing
 pub mod WordsFaults
-pub mod Inner
+pub mod Reading

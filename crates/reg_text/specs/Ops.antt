@@ -3,6 +3,8 @@ use Rattle.std.specs.Prelude.{ℕ, ◌^◌, ◌<◌, List, [], ◌∷◌, ◌++�
 use Rattle.std.specs.Fmt.{decimal}
 use Rattle.reg_base.specs.declared.memory.Op.{Op}
 use Rattle.reg_base.specs.declared.memory.Op.TheVariants.{Read, Write, Swap}
+use Rattle.reg_base.specs.declared.memory.Answer.{Answer}
+use Rattle.reg_base.specs.declared.memory.Answer.TheVariants.{Done, Value}
 
 -- a register's name
 abbrev pub name_of : List (List ℕ) → ℕ → List ℕ
@@ -29,3 +31,8 @@ abbrev pub op_line : List ℕ → Op → List ℕ
 op_line name (Read register) = codes "read " ++ name
 op_line name (Write register value) = codes "write " ++ name ++ codes " " ++ decimal value
 op_line name (Swap register value) = codes "swap " ++ name ++ codes " " ++ decimal value
+
+-- an answer
+abbrev pub answer_text : Answer → List ℕ
+answer_text Done = codes "done"
+answer_text (Value value) = codes "value " ++ decimal value

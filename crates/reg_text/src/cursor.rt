@@ -1,7 +1,7 @@
 //! A text, line by line.
 ghost use Rattle.std.specs.Prelude.{◌≡◌, [], ◌∷◌, MatchOption, IfNone, IfSome, ◌<◌, ◌+◌, length, true, false};
 ghost use Rattle.reg_text.specs.Lines.{lines_of, kept, is_kept as is_kept_of, IsAsked};
-ghost use Rattle.reg_text.specs.Inner.{IsFound};
+ghost use Rattle.reg_text.specs.Reading.{IsFound};
 
 use crate::faults::{TextFault, Why};
 use memchr::memchr;

@@ -6,7 +6,7 @@ ghost use Rattle.std.specs.List.{list_all};
 ghost use Rattle.reg_text.specs.Columns.{to_left};
 ghost use Rattle.reg_text.specs.Parts.{Lacks};
 ghost use Rattle.reg_text.specs.Forms.{is_numeral as is_numeral_of, is_word as is_word_of, is_word_byte, IsReadForm, IsWriteForm, IsSwapForm, HasOpForm};
-ghost use Rattle.reg_text.specs.Inner.{IsValuedForm};
+ghost use Rattle.reg_text.specs.Reading.{IsValuedForm};
 
 use crate::faults::Why;
 use crate::fields::{cut_at, is_blank, skip};

@@ -20,6 +20,6 @@ pub use fields::{cut, cut_at, left_field, numeral, right_field, skip, spaces_bef
 pub use forms::{form, in_front, is_numeral, is_word, op_form, why_number, within};
 pub use heads::{are_front_letters, expect_line, owned, read_count};
 pub use numbers::{field_within, numeral_within};
-pub use ops::{OpLine, name_at, name_of_op, put_op, read_op};
+pub use ops::{OpLine, name_at, name_of_op, put_answer, put_op, read_op};
 pub use words::read_names;
 pub use writing::{Sink, Unwritten, put_number, write_bytes};

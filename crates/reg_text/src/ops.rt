@@ -3,13 +3,13 @@ ghost use Rattle.std.specs.Prelude.{◌≡◌, ◌<◌, ◌^◌, ℕ, ◌∷◌,
 ghost use Rattle.std.specs.Fmt.{decimal};
 ghost use Rattle.reg_base.specs.Names.{names_fault};
 ghost use Rattle.reg_base.specs.declared.memory.Op.{Op};
-ghost use Rattle.reg_text.specs.Ops.{op_text, valued, OpFits, op_line, name_of as name_of_register};
+ghost use Rattle.reg_text.specs.Ops.{answer_text, op_text, valued, OpFits, op_line, name_of as name_of_register};
 ghost use Rattle.reg_text.specs.Writing.{Puts};
 
 use crate::fields::{cut_at, numeral, skip};
-use crate::writing::Sink;
+use crate::writing::{Sink, put_number};
 use itoa::Buffer;
-use reg_base::{Names, Op};
+use reg_base::{Answer, Names, Op};
 use std::alloc::Allocator;
 use std::fmt;
 use std::io::Write;
@@ -114,5 +114,15 @@ impl fmt::Display for OpLine<'_> {
             Op::Write { value, .. } => write!(f, "write {name} {value}"),
             Op::Swap { value, .. } => write!(f, "swap {name} {value}"),
         }
+    }
+}
+
+/// Puts an answer.
+pub fn put_answer<W: Write>(sink: &mut Sink<'_, W>, answer: Answer)
+    ensures { Puts W.contents sink.old sink.new (answer_text answer) }
+{
+    match answer {
+        Answer::Done => sink.put(b"done"),
+        Answer::Value(value) => put_number(sink, "value ", value),
     }
 }

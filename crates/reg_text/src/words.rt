@@ -7,7 +7,7 @@ ghost use Rattle.reg_text.specs.Lines.{IsAsked};
 ghost use Rattle.reg_text.specs.Parts.{Lacks};
 ghost use Rattle.reg_text.specs.Forms.{is_word as is_word_of};
 ghost use Rattle.reg_text.specs.Words.{names_text, AreWords, HasWords, IsNamesWhy};
-ghost use Rattle.reg_text.specs.Inner.{Starts};
+ghost use Rattle.reg_text.specs.Reading.{Starts};
 ghost use Rattle.reg_text.specs.WordsFaults.{IsWordsWhy};
 
 use crate::cursor::Lines;

@@ -3,7 +3,7 @@ use Rattle.std.proofs.Common.{◌≡◌, ℕ, zero, suc, ◌+◌, ◌<◌, List,
 use Rattle.std.proofs.lemmas.List.{drop_more}
 use Rattle.reg_base.specs.Order.{In}
 use Rattle.reg_frames.specs.declared.bodies.Frame.{Frame}
-use Rattle.reg_steps.specs.declared.outcomes.Put.{Put}
+use Rattle.reg_frames.specs.declared.puts.Put.{Put}
 use Rattle.reg_wires.specs.Sent.{sent}
 
 -- so many frames were put; what is left decides

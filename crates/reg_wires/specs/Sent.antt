@@ -1,7 +1,7 @@
 -- The wires of one process as lists: all frames that it ever put for each process.
 use Rattle.std.specs.Prelude.{List, [], ◌∷◌, ◌++◌, slice_set, slice_index_or}
 use Rattle.reg_frames.specs.declared.bodies.Frame.{Frame}
-use Rattle.reg_steps.specs.declared.outcomes.Put.{Put}
+use Rattle.reg_frames.specs.declared.puts.Put.{Put}
 
 -- the wires after these frames were put
 abbrev pub sent : List Put → List (List Frame) → List (List Frame)

@@ -7,8 +7,7 @@ ghost use Rattle.reg_wires.specs.Packed.{frame_of, IsKept, Says, Grows};
 use crate::stores::WireStore;
 use crate::strips::Strips;
 use crate::words::{FIRST_COUNT, MOST_SLOTS, Slot, Word};
-use reg_frames::{Body, Frame};
-use reg_process::Put;
+use reg_frames::{Body, Frame, Put};
 use std::alloc::{AllocError, Allocator, Global};
 use std::marker::Model;
 

@@ -3,8 +3,7 @@ ghost use Rattle.std.specs.Prelude.{◌≡◌, ◌<◌, ◌++◌, ◌∷◌, [],
 
 use crate::stores::WireStore;
 use crate::strips::{Item, Strips};
-use reg_frames::Frame;
-use reg_process::Put;
+use reg_frames::{Frame, Put};
 use std::alloc::{AllocError, Allocator, Global};
 use std::marker::Model;
 

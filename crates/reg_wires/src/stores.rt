@@ -2,11 +2,10 @@
 ghost use Rattle.std.specs.Prelude.{◌≡◌, ◌<◌, List, [], length, replicate, IfOk, OnOk, slice_get, slice_index_or};
 ghost use Rattle.reg_base.specs.Order.{In};
 ghost use Rattle.reg_frames.specs.declared.bodies.Frame.{Frame};
-ghost use Rattle.reg_steps.specs.declared.outcomes.Put.{Put};
+ghost use Rattle.reg_frames.specs.declared.puts.Put.{Put};
 ghost use Rattle.reg_wires.specs.Sent.{sent};
 
-use reg_frames::Frame;
-use reg_process::Put;
+use reg_frames::{Frame, Put};
 use std::alloc::{AllocError, Allocator};
 
 /// All frames that a process ever put for each process.

@@ -4,13 +4,13 @@ use Rattle.reg_base.specs.declared.memory.Op.TheVariants.{Read, Write, Swap}
 use Rattle.reg_base.specs.declared.memory.Answer.TheVariants.{Done, Value}
 use Rattle.reg_frames.specs.declared.bodies.Body.TheVariants.{Ack}
 use Rattle.reg_frames.specs.declared.bodies.Frame.TheVariants.{Numbered, Got}
-use Rattle.reg_steps.specs.declared.steps.Reply.{Reply}
+use Rattle.reg_process.specs.declared.steps.Reply.{Reply}
 use Rattle.reg_front.specs.Table.{linear, local_read, local_write}
-use Rattle.reg_world.specs.declared.events.Event.TheVariants.{Call, Take, Tick}
+use Rattle.reg_process.specs.declared.events.Event.TheVariants.{Call, Take, Tick}
 use Rattle.reg_process.specs.Process.{cast_at}
 use Rattle.reg_world.specs.Nodes.{Said}
 use Rattle.reg_world.specs.declared.order.First.{First}
-use Rattle.reg_entries.specs.declared.entries.Entry.TheVariants.{Called, Answered}
+use Rattle.reg_checkers.specs.declared.entries.Entry.TheVariants.{Called, Answered}
 use Rattle.reg_world.specs.World.{World, whole, delivered_of, op_id}
 
 abbrev told : World → ℕ → List Reply

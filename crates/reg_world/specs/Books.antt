@@ -2,7 +2,7 @@
 use Rattle.std.specs.Prelude.{ℕ, ◌≡◌, ◌<◌, ◌==◌, List, map, length}
 use Rattle.std.specs.Option.{is_some}
 use Rattle.std.specs.List.{filter}
-use Rattle.reg_entries.specs.History.{IsAt}
+use Rattle.reg_checkers.specs.History.{IsAt}
 use Rattle.reg_world.specs.declared.callers.Note.{Note}
 use Rattle.reg_world.specs.Runs.{Cast}
 use Rattle.reg_world.specs.World.{World}

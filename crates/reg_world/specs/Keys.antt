@@ -3,9 +3,9 @@ use Rattle.std.specs.Prelude.{ℕ, ◌≡◌, ◌<◌, ◌⊎◌, List, [], ◌�
 use Rattle.reg_base.specs.declared.memory.OpId.{OpId}
 use Rattle.reg_world.specs.declared.order.First.{First}
 use Rattle.reg_world.specs.declared.order.CopyRead.{CopyRead}
-use Rattle.reg_entries.specs.declared.entries.Point.{Point}
+use Rattle.reg_checkers.specs.declared.entries.Point.{Point}
 use Rattle.reg_base.specs.Memory.{IsUpdate}
-use Rattle.reg_entries.specs.History.{IsAt, IsFinished}
+use Rattle.reg_checkers.specs.History.{IsAt, IsFinished}
 use Rattle.reg_world.specs.Runs.{Run, Cast, IsWaiting}
 
 -- four numbers, of which the first decides, then the second, and so on

@@ -5,8 +5,8 @@ use Rattle.reg_base.specs.declared.stamps.Delivered.{Delivered}
 use Rattle.reg_base.specs.declared.memory.Op.{Op}
 use Rattle.reg_frames.specs.declared.bodies.Frame.{Frame}
 use Rattle.reg_front.specs.declared.starts.Start.{Start}
-use Rattle.reg_steps.specs.declared.steps.Reply.{Reply}
-use Rattle.reg_steps.specs.declared.steps.Step.{Step}
+use Rattle.reg_process.specs.declared.steps.Reply.{Reply}
+use Rattle.reg_process.specs.declared.steps.Step.{Step}
 use Rattle.reg_process.specs.Process.{State, step}
 use Rattle.reg_process.specs.Puts.{puts}
 use Rattle.reg_process.specs.Faults.{step_fault}

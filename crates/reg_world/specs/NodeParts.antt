@@ -2,7 +2,7 @@
 use Rattle.std.specs.Prelude.{ℕ, [], Option, Some, None, ◌≡◌, ◌<◌}
 use Rattle.reg_base.specs.declared.memory.Op.{Op}
 use Rattle.reg_front.specs.declared.starts.Start.{Start}
-use Rattle.reg_steps.specs.declared.steps.Step.{Step}
+use Rattle.reg_process.specs.declared.steps.Step.{Step}
 use Rattle.reg_world.specs.Nodes.{Nodes, put, after_step}
 use Rattle.reg_process.specs.Process.{peer_at}
 

@@ -9,7 +9,7 @@ use Rattle.reg_base.specs.Order.{Below, In, IsPrefixOf}
 use Rattle.reg_process.specs.Process.{unsettled}
 use Rattle.reg_front.specs.declared.starts.Start.{Start}
 use Rattle.reg_front.specs.declared.starts.Start.TheVariants.{CastAndAnswer as CastsAndAnswers}
-use Rattle.reg_entries.specs.History.{IsAt, IsCalled, IsAnswered}
+use Rattle.reg_checkers.specs.History.{IsAt, IsCalled, IsAnswered}
 use Rattle.reg_world.specs.declared.order.First.{First}
 use Rattle.reg_world.specs.declared.order.CopyRead.{CopyRead}
 use Rattle.reg_world.specs.Runs.{Cast, memory_of}

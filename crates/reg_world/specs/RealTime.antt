@@ -6,8 +6,8 @@ use Rattle.reg_base.specs.declared.memory.Answer.{Answer}
 use Rattle.reg_base.specs.Memory.{IsUpdate}
 use Rattle.reg_front.specs.declared.starts.Start.{Start}
 use Rattle.reg_front.specs.declared.starts.Start.TheVariants.{CastAndAnswer as CastsAndAnswers}
-use Rattle.reg_entries.specs.declared.entries.Entry.{Entry}
-use Rattle.reg_entries.specs.History.{IsAt, IsCalled, IsAnswered}
+use Rattle.reg_checkers.specs.declared.entries.Entry.{Entry}
+use Rattle.reg_checkers.specs.History.{IsAt, IsCalled, IsAnswered}
 
 -- a was answered at an event before that of the call of b
 abbrev pub IsEarlier : List Entry → OpId → OpId → Type 0

@@ -2,12 +2,12 @@
 use Rattle.std.specs.Prelude.{ℕ, ◌≢◌, List, map, take}
 use Rattle.reg_base.specs.declared.memory.OpId.{OpId}
 use Rattle.reg_base.specs.declared.memory.Op.{Op}
-use Rattle.reg_entries.specs.declared.entries.Entry.{Entry}
+use Rattle.reg_checkers.specs.declared.entries.Entry.{Entry}
 use Rattle.reg_base.specs.declared.stamps.Stamp.{Stamp}
 use Rattle.reg_world.specs.declared.order.First.{First}
 use Rattle.reg_world.specs.declared.order.CopyRead.{CopyRead}
 use Rattle.reg_base.specs.Memory.{Memory, memory}
-use Rattle.reg_entries.specs.History.{IsAt}
+use Rattle.reg_checkers.specs.History.{IsAt}
 
 -- a broadcast of an operation
 pub record Cast : Type 0 where

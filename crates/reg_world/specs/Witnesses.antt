@@ -8,7 +8,7 @@ use Rattle.reg_base.specs.declared.memory.OpId.{OpId}
 use Rattle.reg_base.specs.declared.stamps.Stamp.{Stamp}
 use Rattle.reg_base.specs.Memory.{updates}
 use Rattle.reg_base.specs.Order.{below}
-use Rattle.reg_entries.specs.declared.entries.Point.{Point}
+use Rattle.reg_checkers.specs.declared.entries.Point.{Point}
 use Rattle.reg_world.specs.declared.order.First.{First}
 use Rattle.reg_world.specs.declared.order.CopyRead.{CopyRead}
 use Rattle.reg_world.specs.declared.callers.Note.{Note}

@@ -6,13 +6,13 @@ use Rattle.reg_base.specs.Memory.{register_of}
 use Rattle.reg_base.specs.Shape.{Extent}
 use Rattle.reg_frames.specs.declared.bodies.Frame.{Frame}
 use Rattle.reg_front.specs.declared.starts.Start.{Start}
-use Rattle.reg_steps.specs.declared.steps.Reply.{Reply}
-use Rattle.reg_steps.specs.declared.steps.Step.{Step}
-use Rattle.reg_steps.specs.declared.steps.Step.TheVariants.{Call as CallStep, Take as TakeStep, Tick as TickStep}
+use Rattle.reg_process.specs.declared.steps.Reply.{Reply}
+use Rattle.reg_process.specs.declared.steps.Step.{Step}
+use Rattle.reg_process.specs.declared.steps.Step.TheVariants.{Call as CallStep, Take as TakeStep, Tick as TickStep}
 use Rattle.reg_process.specs.Parts.{state_of, first_parts}
-use Rattle.reg_entries.specs.History.{IsAt}
-use Rattle.reg_world.specs.declared.events.Event.{Event}
-use Rattle.reg_world.specs.declared.events.Event.TheVariants.{Call, Take, Tick}
+use Rattle.reg_checkers.specs.History.{IsAt}
+use Rattle.reg_process.specs.declared.events.Event.{Event}
+use Rattle.reg_process.specs.declared.events.Event.TheVariants.{Call, Take, Tick}
 use Rattle.reg_world.specs.declared.faults.WorldFault.{WorldFault}
 use Rattle.reg_world.specs.declared.faults.WorldFault.TheVariants.{TooManyEvents, NoProcess, Busy, NoRegister, TooManyOperations, NoFrame}
 use Rattle.reg_world.specs.World.{World, move_of, whole}

@@ -2,7 +2,7 @@
 ghost use Rattle.std.specs.Prelude.{◌≡◌, ◌≤◌, ◌++◌, ◌∷◌, [], length, drop, OnOk, slice_get};
 ghost use Rattle.reg_world.specs.Pages.{Taken};
 
-use crate::events::Event;
+use reg_process::Event;
 use std::alloc::{AllocError, Allocator, Global};
 use std::marker::Model;
 

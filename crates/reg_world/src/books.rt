@@ -3,7 +3,7 @@ ghost use Rattle.std.specs.Prelude.{◌≡◌, ◌<◌, ◌≤◌, ◌+◌, ◌-
 ghost use Rattle.std.specs.List.{filter};
 ghost use Rattle.reg_base.specs.declared.stamps.Delivered.{Delivered};
 ghost use Rattle.reg_base.specs.Order.{In};
-ghost use Rattle.reg_entries.specs.History.{IsAt, IsHistory};
+ghost use Rattle.reg_checkers.specs.History.{IsAt, IsHistory};
 ghost use Rattle.reg_world.specs.World.{op_id, calls_in, answers_in};
 ghost use Rattle.reg_world.specs.Tallies.{Tally, no_calls};
 ghost use Rattle.reg_world.specs.Witnesses.{is_after as is_after_of, last_stamp as last_stamp_of};
@@ -11,12 +11,11 @@ ghost use Rattle.reg_world.specs.Pages.{entered, copied_in, tallies_after, tally
 
 use crate::accepted::Accepted;
 use crate::callers::Caller;
-use crate::events::Event;
 use crate::order::{CopyRead, First};
 use crate::witnesses::{is_after, last_stamp};
 use reg_base::{Delivered, OpId, Shape, Stamp};
-use reg_histories::{Entry, History};
-use reg_process::{Outcome, Reply, Step};
+use reg_checkers::{Entry, History};
+use reg_process::{Event, Outcome, Reply, Step};
 use std::alloc::{AllocError, Allocator, Global};
 use std::marker::Model;
 

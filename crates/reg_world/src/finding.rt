@@ -4,14 +4,13 @@ ghost use Rattle.reg_world.specs.WorldParts.{call_refusal as call_refusal_of, wi
 
 use crate::books::Book;
 use crate::callers::Caller;
-use crate::events::Event;
 use crate::faults::WorldFault;
 use crate::members::Member;
 use reg_base::Op;
 use reg_base::limits::{MOST_EVENTS, MOST_OPERATIONS};
 use reg_frames::Frame;
 use reg_front::FrontEnd;
-use reg_process::Step;
+use reg_process::{Event, Step};
 use reg_wires::WireStore;
 use std::alloc::Allocator;
 

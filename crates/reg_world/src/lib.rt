@@ -4,7 +4,6 @@
 mod accepted;
 mod books;
 mod callers;
-mod events;
 mod faults;
 mod finding;
 pub mod laws;
@@ -13,8 +12,8 @@ mod order;
 mod running;
 mod witnesses;
 
-pub use events::Event;
 pub use faults::{RunFault, WorldFault};
 pub use order::{CopyRead, First};
+pub use reg_process::Event;
 pub use reg_wires::{PackedWires, WireStore, Wires};
 pub use running::World;

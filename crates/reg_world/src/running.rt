@@ -1,9 +1,9 @@
 //! All processes and wires of a run, one event after another.
 ghost use Rattle.std.specs.Prelude.{◌≡◌, ◌<◌, ◌≤◌, ◌⊎◌, ◌++◌, ◌∷◌, List, false, length, take, drop, Option, Some, IfOk, OnOk, [], MatchOption, MatchResult};
-ghost use Rattle.reg_entries.specs.History.{IsHistory};
-ghost use Rattle.reg_histories.specs.Orders.{IsSerial, IsPointOrder};
-ghost use Rattle.reg_steps.specs.declared.steps.Reply.{Reply};
-ghost use Rattle.reg_world.specs.declared.events.Event.{Event};
+ghost use Rattle.reg_checkers.specs.History.{IsHistory};
+ghost use Rattle.reg_checkers.specs.Orders.{IsSerial, IsPointOrder};
+ghost use Rattle.reg_process.specs.declared.steps.Reply.{Reply};
+ghost use Rattle.reg_process.specs.declared.events.Event.{Event};
 ghost use Rattle.reg_world.specs.Histories.{Grows, Makes};
 ghost use Rattle.reg_world.specs.Keys.{IsWitness, ArePoints};
 ghost use Rattle.reg_world.specs.Laws.{DeliveriesAgree, DeliveriesRise, DeliveriesMade, UndeliveredAbove, AllAcknowledged, IsQuiescent};
@@ -14,7 +14,6 @@ ghost use Rattle.reg_world.specs.Worlds.{Made, run_in, Accepts, Refuses, reply_i
 ghost use Rattle.reg_world.specs.WorldParts.{IsWorld, IsMove, Advances, PartsGoOn, PartsRefuse, made_of};
 
 use crate::books::Book;
-use crate::events::Event;
 use crate::faults::{RunFault, WorldFault};
 use crate::finding::found;
 use crate::members::{Member, new_members};
@@ -22,10 +21,10 @@ use crate::order::{CopyRead, First};
 use crate::witnesses::{points_of, witness_of};
 use reg_base::limits::MOST_EVENTS;
 use reg_base::{OpId, Shape};
+use reg_checkers::{History, Point};
 use reg_frames::Frame;
 use reg_front::{FrontEnd, RealTime};
-use reg_histories::{History, Point};
-use reg_process::{Process, Reply, Step};
+use reg_process::{Event, Process, Reply, Step};
 use reg_wires::{WireStore, Wires};
 use std::alloc::{AllocError, Allocator, Global};
 use std::marker::Model;

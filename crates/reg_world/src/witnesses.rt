@@ -7,7 +7,7 @@ ghost use Rattle.reg_world.specs.Witnesses.{is_kept as is_kept_of, point_of, ran
 use crate::callers::{Caller, Note, is_done};
 use crate::order::{CopyRead, First};
 use reg_base::{OpId, Stamp};
-use reg_histories::Point;
+use reg_checkers::Point;
 use std::alloc::{AllocError, Allocator};
 
 /// An operation with what it is sorted by first: a read with its place, or a cast with its time.

@@ -1,7 +1,7 @@
 //! The line of each fault on the error stream: its text, and a line feed.
 use reg_commands::{Fault, write_fault};
-use reg_players::{Key, WorkloadFault};
-use reg_reports::ReadWhy;
+use reg_history::ReadWhy;
+use reg_workload::{Key, WorkloadFault};
 use reg_world::WorldFault;
 use std::alloc::{AllocError, Global};
 use std::test::Fail;

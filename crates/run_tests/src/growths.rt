@@ -4,7 +4,7 @@ use crate::world_rows::{LINEAR, LOCAL_READ, LOCAL_WRITE, Row};
 use refusing::{Trial, refusals};
 use reg_base::{OpId, Shape};
 use reg_front::{Front, FrontEnd, Linear, LocalRead, LocalWrite};
-use reg_reports::{CheckFault, History, Point, check_points, check_serial};
+use reg_history::{CheckFault, History, Point, check_points, check_serial};
 use reg_world::{Event, RunFault, World, WorldFault};
 use std::alloc::{AllocError, Allocator, Global};
 use std::test::Fail;

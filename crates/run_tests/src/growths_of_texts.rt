@@ -3,10 +3,10 @@ use crate::plays::SMALL;
 use crate::telling::push_kept;
 use refusing::{Trial, refusals};
 use reg_front::LocalWrite;
-use reg_players::{
+use reg_inputs::{Workload, WorkloadFault, read_table};
+use reg_workload::{
     Play, Schedule, ScheduleFault, SeedWords, parse_schedule, play_fair, play_seeded,
 };
-use reg_workloads::{Workload, WorkloadFault, read_table};
 use std::alloc::{AllocError, Allocator, Global};
 use std::test::Fail;
 

@@ -2,7 +2,7 @@
 use crate::plays::SMALL;
 use crate::seeded::is_right;
 use reg_front::{FrontEnd, Linear, LocalRead, LocalWrite};
-use reg_players::{Play, SeedWords, Workload, play_seeded};
+use reg_workload::{Play, SeedWords, Workload, play_seeded};
 use std::alloc::Global;
 use std::process::Abort;
 use std::test::Fail;

@@ -1,8 +1,8 @@
 //! Schedules as they are read, and the lines that they are refused at.
 use reg_base::Op;
 use reg_front::Front;
-use reg_players::{Schedule, ScheduleFault, parse_schedule};
 use reg_text::Why;
+use reg_workload::{Schedule, ScheduleFault, parse_schedule};
 use reg_world::Event;
 use std::alloc::{AllocError, Global};
 use std::test::Fail;

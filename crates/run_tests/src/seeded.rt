@@ -4,7 +4,7 @@ use part_tests::values::{READ, write_of};
 use reg_base::{Op, OpId, Shape};
 use reg_frames::{Body, Frame};
 use reg_front::{FrontEnd, Linear, LocalRead, LocalWrite};
-use reg_reports::{Entry, check_serial};
+use reg_history::{Entry, check_serial};
 use reg_world::{CopyRead, Event, First, World};
 use std::alloc::{AllocError, Global};
 use std::test::Fail;

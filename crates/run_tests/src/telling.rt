@@ -2,7 +2,7 @@
 use reg_base::{Answer, Op, OpId};
 use reg_frames::{Body, Frame};
 use reg_front::{FrontEnd, Linear};
-use reg_reports::{Entry, Point};
+use reg_history::{Entry, Point};
 use reg_text::OpLine;
 use reg_world::{CopyRead, First, World};
 use std::alloc::{AllocError, Allocator, Global};

@@ -4,12 +4,12 @@ use Rattle.std.specs.Prelude.{IfOk, MatchResult}
 use Rattle.std.proofs.lemmas.Option.{same_Some, none-some}
 use Rattle.reg_base.specs.declared.memory.Op.{Op}
 use Rattle.reg_base.specs.declared.memory.OpId.{OpId}
-use Rattle.reg_steps.specs.declared.steps.Reply.{Reply}
-use Rattle.reg_entries.specs.declared.entries.Entry.{Entry}
-use Rattle.reg_entries.specs.declared.entries.Entry.TheVariants.{Called, Answered}
-use Rattle.reg_entries.specs.History.{IsAt, IsNext, WasCalled}
-use Rattle.reg_world.specs.declared.events.Event.{Event}
-use Rattle.reg_world.specs.declared.events.Event.TheVariants.{Call}
+use Rattle.reg_process.specs.declared.steps.Reply.{Reply}
+use Rattle.reg_checkers.specs.declared.entries.Entry.{Entry}
+use Rattle.reg_checkers.specs.declared.entries.Entry.TheVariants.{Called, Answered}
+use Rattle.reg_checkers.specs.History.{IsAt, IsNext, WasCalled}
+use Rattle.reg_process.specs.declared.events.Event.{Event}
+use Rattle.reg_process.specs.declared.events.Event.TheVariants.{Call}
 use Rattle.reg_world.specs.Histories.{AddsAnswer, Grows}
 use Rattle.tellwydar.specs.Firsts.{first_id, first_entries}
 

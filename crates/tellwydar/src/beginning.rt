@@ -1,7 +1,7 @@
 //! The first call of a world.
 ghost use Rattle.std.specs.Prelude.{◌≡◌, [], length, IfErr, IfOk};
 ghost use Rattle.reg_front.specs.Table.{linear};
-ghost use Rattle.reg_world.specs.declared.events.Event.TheVariants.{Call};
+ghost use Rattle.reg_process.specs.declared.events.Event.TheVariants.{Call};
 ghost use Rattle.reg_world.specs.Worlds.{Refuses};
 ghost use Rattle.tellwydar.specs.Firsts.{first_entries};
 

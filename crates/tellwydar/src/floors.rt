@@ -2,9 +2,9 @@
 ghost use Rattle.std.specs.Prelude.{◌≡◌, ◌≤◌, IfErr, IfOk};
 ghost use Rattle.reg_base.specs.Memory.{Memory, answer_of};
 ghost use Rattle.reg_base.specs.declared.memory.Op.{Op};
-ghost use Rattle.reg_steps.specs.declared.steps.Step.TheVariants.{Call};
+ghost use Rattle.reg_process.specs.declared.steps.Step.TheVariants.{Call};
 ghost use Rattle.reg_world.specs.World.{op_id};
-ghost use Rattle.reg_stations.specs.Stations.{IsRefusal};
+ghost use Rattle.reg_live.specs.Stations.{IsRefusal};
 ghost use Rattle.reg_live.specs.Passes.{with_receipt, IsLeft};
 
 use crate::operations::read;

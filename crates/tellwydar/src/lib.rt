@@ -15,22 +15,21 @@ pub use operations::{read, swap, write};
 pub use reg_base::{Answer, Names, NamesFault, Op, OpId, Shape, ShapeFault, Stamp, limits};
 pub use reg_frames::{Body, Frame};
 pub use reg_front::{Front, FrontEnd, Linear, LocalRead, LocalWrite, RealTime, Start};
+pub use reg_history::{
+    CheckFault, Entry, History, HistoryFault, Point, ReadFault, ReadWhy, Report, ReportFault,
+    WriteFault, check_points, check_serial, read_report, write_report,
+};
 pub use reg_live::{
     CloseFault, Closed, Cluster, Courier, Gate, Honest, LiveFault, LogEntry, NoGate, Pacer, Parcel,
     Parts, Pass, Posts, Receipt, Road, Rough, close, close_in, set_up, verify, verify_in,
 };
-pub use reg_players::{
+pub use reg_process::{Reply, Step};
+pub use reg_runs::{SettleFault, settle};
+pub use reg_threads::{RunStop, Running, StartFault, run_scripts, run_scripts_in, start};
+pub use reg_workload::{
     Key, Play, Schedule, ScheduleFault, SeedWords, Words, Workload, WorkloadFault, parse_schedule,
     play_fair, play_fair_in, play_seeded, play_seeded_in,
 };
-pub use reg_process::{Reply, Step};
-pub use reg_reports::{
-    CheckFault, Entry, History, HistoryFault, Point, ReadFault, ReadWhy, Report, ReportFault,
-    WriteFault, check_points, check_serial, read_report, write_report,
-};
-pub use reg_rest::{SettleFault, settle};
-pub use reg_running::{Running, StartFault, start};
-pub use reg_scripts::{RunStop, run_scripts, run_scripts_in};
 pub use reg_world::{
     CopyRead, Event, First, PackedWires, RunFault, WireStore, Wires, World, WorldFault,
 };

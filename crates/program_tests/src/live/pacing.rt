@@ -5,7 +5,7 @@ use crate::values::{read, write};
 use reg_base::limits::MOST_EVENTS;
 use reg_front::{Linear, LocalWrite};
 use reg_live::{Beat, Honest, LiveFault, NoGate, Parts, Pass, Rough};
-use reg_random::SeedWords;
+use reg_workload::SeedWords;
 use std::alloc::Global;
 use std::process::Abort;
 use std::sync::Wait;

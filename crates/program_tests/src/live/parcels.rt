@@ -4,7 +4,7 @@ use crate::values::write;
 use reg_frames::Frame;
 use reg_front::{LocalRead, LocalWrite};
 use reg_live::{NoGate, Parcel, Parts, Posts, Road, Rough};
-use reg_random::{SeedWords, Words};
+use reg_workload::{SeedWords, Words};
 use std::alloc::Global;
 use std::process::Abort;
 use std::sync::atomic::{AtomicBool, Ordering};

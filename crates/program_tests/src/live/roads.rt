@@ -4,10 +4,10 @@ use crate::live::crews::{
 };
 use crate::values::{read, write};
 use reg_base::Answer;
+use reg_checkers::{check_points, check_serial};
 use reg_front::{FrontEnd, Linear, LocalRead, LocalWrite};
-use reg_histories::{check_points, check_serial};
 use reg_live::{Closed, LiveFault, NoGate, Pass, Rough};
-use reg_random::SeedWords;
+use reg_workload::SeedWords;
 use std::alloc::Global;
 use std::process::Abort;
 use std::sync::Wait;

@@ -4,7 +4,7 @@ use crate::live::crews::{answered, pass_of, shape_of};
 use crate::values::write;
 use reg_front::{Linear, LocalWrite};
 use reg_live::{NoGate, Parcel, Pass, Posts, Road};
-use reg_running::{Running, start};
+use reg_threads::{Running, start};
 use reg_world::PackedWires;
 use std::alloc::Global;
 use std::process::Abort;

@@ -6,7 +6,7 @@ use crate::values::{read, write};
 use reg_base::{Answer, Op};
 use reg_front::{FrontEnd, Linear, LocalWrite};
 use reg_live::{Closed, Honest, LiveFault, NoGate, Pass, Receipt};
-use reg_scripts::{RunStop, run_scripts};
+use reg_threads::{RunStop, run_scripts};
 use std::alloc::Global;
 use std::process::Abort;
 use std::sync::Wait;

@@ -10,14 +10,16 @@ ghost use Rattle.reg_base.specs.declared.limits.TheConstants.{LAST_TIME, MOST_OP
 ghost use Rattle.reg_base.specs.declared.memory.Answer.TheVariants.{Done};
 
 use super::Core;
+use crate::faults::ProcessFault;
+use crate::outcomes::Outcome;
 use crate::puts::queue_on_all;
 use crate::running::Current;
 use crate::spare::Spare;
+use crate::steps::Reply;
 use reg_base::limits::MOST_OPERATIONS;
 use reg_base::{Answer, Op, Stamp};
-use reg_frames::Body;
+use reg_frames::{Body, Put};
 use reg_front::Start;
-use reg_steps::{Outcome, ProcessFault, Put, Reply};
 use std::alloc::Allocator;
 
 /// What runs after an own cast.

@@ -3,14 +3,18 @@ ghost use Rattle.std.specs.Prelude.{◌≡◌, ◌≢◌, ◌<◌, ◌+◌, ◌^
 ghost use Rattle.reg_base.specs.Memory.{after, register_of};
 ghost use Rattle.reg_process.specs.Process.{still, clear_casts};
 ghost use Rattle.reg_process.specs.Delivery.{reply_by};
-ghost use Rattle.reg_process.specs.Inner.{RunsWell};
+ghost use Rattle.reg_process.specs.Bounds.{RunsWell};
 ghost use Rattle.reg_frames.specs.declared.bodies.Body.TheVariants.{Cast};
 ghost use Rattle.reg_process.specs.Steps.{DeliversOne, DeliversNone, Delivers};
 
 use super::Core;
+use crate::awaited::Awaited;
+use crate::faults::ProcessFault;
+use crate::outcomes::Outcome;
 use crate::running::Current;
+use crate::steps::Reply;
 use reg_base::{Delivered, Registers, Stamp};
-use reg_steps::{Awaited, Outcome, ProcessFault, Put, Reply};
+use reg_frames::Put;
 use std::alloc::{AllocError, Allocator};
 
 /// Applies a cast, and answers the running operation where this is due. So many own casts stay held.

@@ -4,9 +4,9 @@ ghost use Rattle.reg_process.specs.Process.{peer_at};
 ghost use Rattle.reg_process.specs.Known.{known_of};
 
 use super::Core;
+use crate::known::Known;
 use crate::running::Current;
 use reg_base::Delivered;
-use reg_steps::Known;
 use std::alloc::{AllocError, Allocator};
 
 impl<A: Allocator + Copy> Core<A> {

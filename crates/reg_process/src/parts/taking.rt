@@ -10,13 +10,14 @@ ghost use Rattle.reg_base.specs.declared.limits.TheConstants.{LAST_TIME, FRAME_N
 ghost use Rattle.reg_holdback.specs.Waiting.{receive_fault, received};
 
 use super::Core;
+use crate::faults::ProcessFault;
+use crate::outcomes::Outcome;
 use crate::puts::{put_frame, queue_on_all};
 use crate::spare::Spare;
 use reg_base::{Op, Stamp};
-use reg_frames::{Body, Frame};
+use reg_frames::{Body, Frame, Put};
 use reg_holdback::{HoldFault, Holdback};
 use reg_links::Inbox;
-use reg_steps::{Outcome, ProcessFault, Put};
 use std::alloc::{AllocError, Allocator};
 
 /// The time of a body.

@@ -7,7 +7,7 @@ use Rattle.reg_base.specs.Shape.{Extent}
 use Rattle.reg_front.specs.declared.starts.Start.{Start}
 use Rattle.reg_process.specs.Process.{Peer, no_peer}
 use Rattle.reg_process.specs.Parts.{merged, nothing, state_of, first_parts}
-use Rattle.reg_entries.specs.History.{IsAt}
+use Rattle.reg_checkers.specs.History.{IsAt}
 use Rattle.reg_world.specs.Histories.{Nothing}
 use Rattle.reg_world.specs.Nodes.{first_state}
 use Rattle.reg_world.specs.Tallies.{no_calls}

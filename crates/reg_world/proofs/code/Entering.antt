@@ -6,18 +6,18 @@ use Rattle.std.proofs.lemmas.List.{append_assoc, drop_more, take_at, take-append
 use Rattle.reg_base.specs.declared.stamps.Stamp.{Stamp}
 use Rattle.reg_base.specs.declared.stamps.Delivered.{Delivered}
 use Rattle.reg_base.specs.Order.{In}
-use Rattle.reg_entries.specs.declared.entries.Entry.{Entry}
-use Rattle.reg_histories.specs.declared.faults.HistoryFault.{HistoryFault}
-use Rattle.reg_histories.specs.declared.faults.HistoryFault.TheVariants.{OutOfPlace, OutOfMemory}
-use Rattle.reg_entries.specs.History.{IsAt, IsHistory, IsInPlace}
-use Rattle.reg_histories.specs.Log.{Log, Refuses}
+use Rattle.reg_checkers.specs.declared.entries.Entry.{Entry}
+use Rattle.reg_checkers.specs.declared.faults.HistoryFault.{HistoryFault}
+use Rattle.reg_checkers.specs.declared.faults.HistoryFault.TheVariants.{OutOfPlace, OutOfMemory}
+use Rattle.reg_checkers.specs.History.{IsAt, IsHistory, IsInPlace}
+use Rattle.reg_checkers.specs.Log.{Log, Refuses}
 use Rattle.reg_world.specs.declared.order.First.{First}
 use Rattle.reg_world.specs.Tallies.{Tally, no_calls}
 use Rattle.reg_world.specs.Witnesses.{is_after}
 use Rattle.reg_base.specs.declared.memory.OpId.{OpId}
 use Rattle.reg_base.specs.Shape.{Extent}
-use Rattle.reg_steps.specs.declared.steps.Step.{Step}
-use Rattle.reg_steps.specs.declared.steps.Reply.{Reply}
+use Rattle.reg_process.specs.declared.steps.Step.{Step}
+use Rattle.reg_process.specs.declared.steps.Reply.{Reply}
 use Rattle.reg_world.specs.World.{op_id, calls_in, answers_in}
 use Rattle.reg_world.specs.Pages.{Pages, calls_after, entries_after, first_in, firsts_in, tally_at, TimesDiffer}
 use Rattle.reg_world.proofs.lists.Bodies.{place_last, place_first, place_within}

@@ -6,7 +6,7 @@ use Rattle.std.proofs.lemmas.Bool.Decides.{nat_tests}
 use Rattle.reg_world.specs.declared.faults.WorldFault.TheVariants.{NoProcess, NoFrame, TooManyEvents}
 use Rattle.reg_world.specs.Members.{Standing}
 use Rattle.reg_base.specs.declared.limits.TheConstants.{MOST_EVENTS}
-use Rattle.reg_world.specs.declared.events.Event.{Event}
+use Rattle.reg_process.specs.declared.events.Event.{Event}
 use Rattle.reg_world.specs.Pages.{Pages}
 use Rattle.reg_world.specs.WorldParts.{wire_in, frame_or, frame_in, found_step, found}
 

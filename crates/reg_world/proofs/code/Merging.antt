@@ -5,7 +5,7 @@ use Rattle.std.proofs.lemmas.Bool.{cond_both, leb-true, leb-false}
 use Rattle.std.proofs.lemmas.Option.{same_Some}
 use Rattle.reg_base.specs.declared.memory.OpId.{OpId}
 use Rattle.reg_base.specs.Order.{In}
-use Rattle.reg_entries.specs.History.{IsAt, IsFinished}
+use Rattle.reg_checkers.specs.History.{IsAt, IsFinished}
 use Rattle.reg_world.specs.declared.order.First.{First}
 use Rattle.reg_world.specs.declared.order.CopyRead.{CopyRead}
 use Rattle.reg_world.specs.declared.witnesses.Ranked.{Ranked}

@@ -4,14 +4,14 @@ use Rattle.std.specs.Prelude.{◌-◌, cond, slice_get}
 use Rattle.std.proofs.lemmas.List.{append-nil, take-append-le, take_at}
 use Rattle.std.proofs.lemmas.Option.{same_Some, none-some, slice_get_within}
 use Rattle.reg_frames.specs.declared.bodies.Frame.{Frame}
-use Rattle.reg_steps.specs.declared.steps.Reply.{Reply}
-use Rattle.reg_steps.specs.declared.steps.Step.{Step}
-use Rattle.reg_steps.specs.declared.steps.Step.TheVariants.{Call as CallStep, Take as TakeStep, Tick as TickStep}
-use Rattle.reg_entries.specs.declared.entries.Entry.{Entry}
-use Rattle.reg_entries.specs.declared.entries.Entry.TheVariants.{Called, Answered}
-use Rattle.reg_entries.specs.History.{IsAt, IsInPlace, IsHistory}
-use Rattle.reg_world.specs.declared.events.Event.{Event}
-use Rattle.reg_world.specs.declared.events.Event.TheVariants.{Call, Take, Tick}
+use Rattle.reg_process.specs.declared.steps.Reply.{Reply}
+use Rattle.reg_process.specs.declared.steps.Step.{Step}
+use Rattle.reg_process.specs.declared.steps.Step.TheVariants.{Call as CallStep, Take as TakeStep, Tick as TickStep}
+use Rattle.reg_checkers.specs.declared.entries.Entry.{Entry}
+use Rattle.reg_checkers.specs.declared.entries.Entry.TheVariants.{Called, Answered}
+use Rattle.reg_checkers.specs.History.{IsAt, IsInPlace, IsHistory}
+use Rattle.reg_process.specs.declared.events.Event.{Event}
+use Rattle.reg_process.specs.declared.events.Event.TheVariants.{Call, Take, Tick}
 use Rattle.reg_world.specs.Histories.{AddsAnswer, Grows}
 use Rattle.reg_world.specs.Nodes.{Nodes, step_of, take_step}
 use Rattle.reg_world.specs.Pages.{calls_after, entries_after}

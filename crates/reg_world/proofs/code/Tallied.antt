@@ -14,12 +14,12 @@ use Rattle.reg_base.specs.Memory.{updates}
 use Rattle.reg_base.specs.Order.{Below, below, In}
 use Rattle.reg_front.specs.declared.starts.Start.{Start}
 use Rattle.reg_front.specs.Fronts.{KeepsLaws}
-use Rattle.reg_steps.specs.declared.steps.Step.{Step}
-use Rattle.reg_steps.specs.declared.steps.Step.TheVariants.{Call, Take, Tick}
+use Rattle.reg_process.specs.declared.steps.Step.{Step}
+use Rattle.reg_process.specs.declared.steps.Step.TheVariants.{Call, Take, Tick}
 use Rattle.reg_process.specs.Process.{State, Running, step}
-use Rattle.reg_entries.specs.declared.entries.Entry.TheVariants.{Answered}
-use Rattle.reg_entries.specs.History.{IsAt, IsFinished, IsAnswered}
-use Rattle.reg_world.specs.declared.events.Event.{Event}
+use Rattle.reg_checkers.specs.declared.entries.Entry.TheVariants.{Answered}
+use Rattle.reg_checkers.specs.History.{IsAt, IsFinished, IsAnswered}
+use Rattle.reg_process.specs.declared.events.Event.{Event}
 use Rattle.reg_world.specs.declared.order.First.{First}
 use Rattle.reg_world.specs.declared.order.CopyRead.{CopyRead}
 use Rattle.reg_world.specs.declared.callers.Note.{Note}

@@ -4,7 +4,7 @@ use Rattle.std.specs.Prelude.{slice_get}
 use Rattle.std.specs.List.{filter}
 use Rattle.std.proofs.lemmas.Bool.{cond_both}
 use Rattle.reg_base.specs.Order.{In}
-use Rattle.reg_entries.specs.History.{IsAt}
+use Rattle.reg_checkers.specs.History.{IsAt}
 
 -- places of a list with one element replaced
 pub at_set_same : {X : Type 0} (xs : List X) (p : ℕ) (x : X) → p < length xs → IsAt (set xs p x) p x

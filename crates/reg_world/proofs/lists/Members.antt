@@ -2,7 +2,7 @@
 use Rattle.std.proofs.Common.{ℕ, ◌≡◌, suc, List, [], ◌∷◌, ◌++◌, map, Some, ap, sym, subst, inl, inr, refl, append_assoc}
 use Rattle.std.proofs.lemmas.List.{append-nil}
 use Rattle.reg_base.specs.Order.{In}
-use Rattle.reg_entries.specs.History.{IsAt}
+use Rattle.reg_checkers.specs.History.{IsAt}
 use Rattle.reg_world.proofs.lists.Bodies.{place_in}
 
 pub in_at : {X : Type 0} (x : X) (xs : List X) → In x xs → (k : ℕ) × IsAt xs k x

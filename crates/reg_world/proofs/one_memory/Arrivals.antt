@@ -13,13 +13,13 @@ use Rattle.reg_base.specs.declared.stamps.Delivered.{Delivered}
 use Rattle.reg_base.specs.Order.{In}
 use Rattle.reg_front.specs.declared.starts.Start.{Start}
 use Rattle.reg_front.specs.Fronts.{KeepsLaws}
-use Rattle.reg_steps.specs.declared.steps.Reply.{Reply}
-use Rattle.reg_steps.specs.declared.steps.Step.{Step}
+use Rattle.reg_process.specs.declared.steps.Reply.{Reply}
+use Rattle.reg_process.specs.declared.steps.Step.{Step}
 use Rattle.reg_process.specs.Process.{State, Outcome, step}
-use Rattle.reg_entries.specs.declared.entries.Entry.TheVariants.{Answered}
-use Rattle.reg_entries.specs.History.{IsAt, IsAnswered}
-use Rattle.reg_entries.proofs.Histories.{answer_is}
-use Rattle.reg_world.specs.declared.events.Event.{Event}
+use Rattle.reg_checkers.specs.declared.entries.Entry.TheVariants.{Answered}
+use Rattle.reg_checkers.specs.History.{IsAt, IsAnswered}
+use Rattle.reg_checkers.proofs.Histories.{answer_is}
+use Rattle.reg_process.specs.declared.events.Event.{Event}
 use Rattle.reg_world.specs.declared.order.First.{First}
 use Rattle.reg_world.specs.declared.order.CopyRead.{CopyRead}
 use Rattle.reg_world.specs.Nodes.{Node, unseen, after_step}

@@ -5,9 +5,9 @@ use Rattle.std.proofs.lemmas.Option.{none-some}
 use Rattle.reg_base.specs.declared.memory.Op.{Op}
 use Rattle.reg_front.specs.declared.starts.Start.{Start}
 use Rattle.reg_front.specs.declared.starts.Start.TheVariants.{Cast as Casts, CastAndAnswer as CastsAndAnswers, Look as Looks, Hold as Holds}
-use Rattle.reg_steps.specs.declared.steps.Step.{Step}
-use Rattle.reg_steps.specs.declared.steps.Step.TheVariants.{Call, Take, Tick}
-use Rattle.reg_world.specs.declared.events.Event.{Event}
+use Rattle.reg_process.specs.declared.steps.Step.{Step}
+use Rattle.reg_process.specs.declared.steps.Step.TheVariants.{Call, Take, Tick}
+use Rattle.reg_process.specs.declared.events.Event.{Event}
 use Rattle.reg_base.specs.Order.{In}
 use Rattle.reg_base.specs.Memory.{updates}
 use Rattle.reg_process.specs.Process.{State, called, unsettled, step}

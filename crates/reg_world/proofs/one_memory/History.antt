@@ -10,11 +10,11 @@ use Rattle.reg_frames.specs.declared.bodies.Body.{Body}
 use Rattle.reg_frames.specs.declared.bodies.Body.TheVariants.{Cast, Ack}
 use Rattle.reg_frames.specs.declared.bodies.Frame.{Frame}
 use Rattle.reg_frames.specs.declared.bodies.Frame.TheVariants.{Numbered, Got}
-use Rattle.reg_steps.specs.declared.steps.Reply.{Reply}
+use Rattle.reg_process.specs.declared.steps.Reply.{Reply}
 use Rattle.reg_front.specs.declared.starts.Start.{Start}
 use Rattle.reg_front.specs.declared.starts.Start.TheVariants.{Cast as Casts, CastAndAnswer as CastsAndAnswers, Look as Looks, Hold as Holds}
-use Rattle.reg_steps.specs.declared.steps.Step.{Step}
-use Rattle.reg_steps.specs.declared.steps.Step.TheVariants.{Call, Take, Tick}
+use Rattle.reg_process.specs.declared.steps.Step.{Step}
+use Rattle.reg_process.specs.declared.steps.Step.TheVariants.{Call, Take, Tick}
 use Rattle.reg_base.specs.Order.{In, Rising, insert}
 use Rattle.reg_base.specs.Memory.{answer_of, memory_after}
 use Rattle.reg_process.specs.Process.{State, ops_of, Running, Own, Held, is_own, stamp_at, cast_at, clear_casts, reply_of, still, look, done_at_once, cast_made, called, taken, accepted, accepts, acknowledged, queues, quiet, got_frames, peer_at, delivered_state, unsettled, step}
@@ -22,7 +22,7 @@ use Rattle.reg_front.specs.Fronts.{MayStart, KeepsLaws}
 use Rattle.reg_world.specs.Nodes.{Node, put, said, op_in, running_op, after_result, after_step}
 use Rattle.reg_world.specs.NodeParts.{nodes_after}
 use Rattle.reg_world.proofs.run.Traced.{Trace, casts_of, Called, Answered, Past, answered_in, past_after, pasts_after, cast_of, Stands, HistoryRight, traced}
-use Rattle.reg_world.specs.declared.events.Event.{Event}
+use Rattle.reg_process.specs.declared.events.Event.{Event}
 use Rattle.reg_world.proofs.one_order.Worlds.{Inv}
 use Rattle.reg_world.proofs.one_order.Acts.{put_cases}
 use Rattle.reg_world.proofs.one_order.Runs.{StepKept}

@@ -8,16 +8,16 @@ use Rattle.reg_base.specs.declared.memory.OpId.{OpId}
 use Rattle.reg_base.specs.Memory.{Memory, answer_of}
 use Rattle.reg_base.specs.Order.{In}
 use Rattle.reg_front.specs.declared.starts.Start.{Start}
-use Rattle.reg_steps.specs.declared.steps.Reply.{Reply}
-use Rattle.reg_steps.specs.declared.steps.Step.{Step}
-use Rattle.reg_steps.specs.declared.steps.Step.TheVariants.{Call, Take, Tick}
+use Rattle.reg_process.specs.declared.steps.Reply.{Reply}
+use Rattle.reg_process.specs.declared.steps.Step.{Step}
+use Rattle.reg_process.specs.declared.steps.Step.TheVariants.{Call, Take, Tick}
 use Rattle.reg_process.specs.Process.{State, Outcome, step}
-use Rattle.reg_entries.specs.declared.entries.Entry.{Entry}
-use Rattle.reg_entries.specs.declared.entries.Entry.TheVariants.{Called, Answered}
-use Rattle.reg_entries.specs.History.{IsHistory, IsFinished, WasCalled, IsAt, IsNext, MayCall, MayAnswer, event_of}
-use Rattle.reg_entries.proofs.Places.{element_at}
-use Rattle.reg_entries.proofs.Pushing.{history_more}
-use Rattle.reg_world.specs.declared.events.Event.{Event}
+use Rattle.reg_checkers.specs.declared.entries.Entry.{Entry}
+use Rattle.reg_checkers.specs.declared.entries.Entry.TheVariants.{Called, Answered}
+use Rattle.reg_checkers.specs.History.{IsHistory, IsFinished, WasCalled, IsAt, IsNext, MayCall, MayAnswer, event_of}
+use Rattle.reg_checkers.proofs.Places.{element_at}
+use Rattle.reg_checkers.proofs.Pushing.{history_more}
+use Rattle.reg_process.specs.declared.events.Event.{Event}
 use Rattle.reg_world.specs.Nodes.{op_in}
 use Rattle.reg_world.specs.World.{World, op_id, calls_in, answers_in}
 use Rattle.reg_world.proofs.run.Traced.{Called as PastCall, Answered as PastAnswer, Past, traced_by, answered_in}

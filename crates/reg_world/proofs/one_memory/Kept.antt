@@ -10,10 +10,10 @@ use Rattle.reg_base.specs.Memory.{Memory, answer_of, memory_after}
 use Rattle.reg_base.specs.Order.{In}
 use Rattle.reg_front.specs.declared.starts.Start.{Start}
 use Rattle.reg_front.specs.Fronts.{KeepsLaws}
-use Rattle.reg_steps.specs.declared.steps.Step.{Step}
+use Rattle.reg_process.specs.declared.steps.Step.{Step}
 use Rattle.reg_process.specs.Process.{step, ops_of}
-use Rattle.reg_entries.specs.History.{IsHistory}
-use Rattle.reg_world.specs.declared.events.Event.{Event}
+use Rattle.reg_checkers.specs.History.{IsHistory}
+use Rattle.reg_process.specs.declared.events.Event.{Event}
 use Rattle.reg_world.specs.Nodes.{Node, Nodes, put, after_step}
 use Rattle.reg_world.specs.Laws.{DeliveriesMade}
 use Rattle.reg_base.specs.declared.limits.TheConstants.{MOST_EVENTS}

@@ -11,9 +11,9 @@ use Rattle.reg_frames.specs.declared.bodies.Frame.{Frame}
 use Rattle.reg_frames.specs.declared.bodies.Frame.TheVariants.{Numbered, Got}
 use Rattle.reg_front.specs.declared.starts.Start.{Start}
 use Rattle.reg_front.specs.declared.starts.Start.TheVariants.{Cast as Casts, CastAndAnswer as CastsAndAnswers, Look as Looks, Hold as Holds}
-use Rattle.reg_steps.specs.declared.steps.Step.{Step}
-use Rattle.reg_steps.specs.declared.steps.Step.TheVariants.{Call, Take, Tick}
-use Rattle.reg_world.specs.declared.events.Event.{Event}
+use Rattle.reg_process.specs.declared.steps.Step.{Step}
+use Rattle.reg_process.specs.declared.steps.Step.TheVariants.{Call, Take, Tick}
+use Rattle.reg_process.specs.declared.events.Event.{Event}
 use Rattle.reg_base.specs.Order.{In}
 use Rattle.reg_process.specs.Process.{State, Outcome, stamp_at, called, taken, accepted, quiet, got_frames, peer_at, unsettled, step}
 use Rattle.reg_world.specs.Nodes.{Node, put, after_step}

@@ -16,11 +16,11 @@ use Rattle.reg_frames.specs.declared.bodies.Frame.TheVariants.{Numbered, Got}
 use Rattle.reg_front.specs.declared.starts.Start.{Start}
 use Rattle.reg_front.specs.declared.starts.Start.TheVariants.{Cast as Casts, CastAndAnswer as CastsAndAnswers, Look as Looks, Hold as Holds}
 use Rattle.reg_front.specs.Fronts.{KeepsLaws}
-use Rattle.reg_steps.specs.declared.steps.Reply.{Reply}
-use Rattle.reg_steps.specs.declared.steps.Step.{Step}
-use Rattle.reg_steps.specs.declared.steps.Step.TheVariants.{Call, Take, Tick}
+use Rattle.reg_process.specs.declared.steps.Reply.{Reply}
+use Rattle.reg_process.specs.declared.steps.Step.{Step}
+use Rattle.reg_process.specs.declared.steps.Step.TheVariants.{Call, Take, Tick}
 use Rattle.reg_process.specs.Process.{State, Outcome, Running, Own, Held, cast_at, clear_casts, casts_before, reply_after, reply_of, taken, accepted, accepts, queues, quiet, got_frames, peer_at, step, called, cast_made, stamp_at, unsettled}
-use Rattle.reg_world.specs.declared.events.Event.{Event}
+use Rattle.reg_process.specs.declared.events.Event.{Event}
 use Rattle.reg_world.specs.Nodes.{Node, put, op_in, after_step}
 use Rattle.reg_world.specs.NodeParts.{nodes_after}
 use Rattle.reg_world.proofs.run.Traced.{Called, Answered, Past, Trace, cast_of, called_in, answered_in, past_after, pasts_after, after, traced}
@@ -36,7 +36,7 @@ use Rattle.reg_world.proofs.one_memory.History.{PastsOk, whole_pasts}
 use Rattle.reg_world.proofs.one_memory.Standing.{RunsAs, PastOk, own_placed}
 use Rattle.reg_world.proofs.one_memory.Turns.{answered_one}
 use Rattle.reg_world.proofs.one_order.Allowed.{calls_made}
-use Rattle.reg_entries.specs.declared.entries.Entry.TheVariants.{Called as HistoryCalled}
+use Rattle.reg_checkers.specs.declared.entries.Entry.TheVariants.{Called as HistoryCalled}
 use Rattle.reg_world.specs.World.{World, op_id, move_of, moved, whole}
 use Rattle.reg_world.proofs.lists.Members.{from_end}
 use Rattle.reg_world.proofs.run.Along.{one_more, traced_more}

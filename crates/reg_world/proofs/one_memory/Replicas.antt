@@ -11,11 +11,11 @@ use Rattle.reg_frames.specs.declared.bodies.Body.{Body}
 use Rattle.reg_frames.specs.declared.bodies.Body.TheVariants.{Cast, Ack}
 use Rattle.reg_frames.specs.declared.bodies.Frame.{Frame}
 use Rattle.reg_frames.specs.declared.bodies.Frame.TheVariants.{Numbered, Got}
-use Rattle.reg_steps.specs.declared.steps.Reply.{Reply}
+use Rattle.reg_process.specs.declared.steps.Reply.{Reply}
 use Rattle.reg_front.specs.declared.starts.Start.{Start}
 use Rattle.reg_front.specs.declared.starts.Start.TheVariants.{Cast as Casts, CastAndAnswer as CastsAndAnswers, Look as Looks, Hold as Holds}
-use Rattle.reg_steps.specs.declared.steps.Step.{Step}
-use Rattle.reg_steps.specs.declared.steps.Step.TheVariants.{Call, Take, Tick}
+use Rattle.reg_process.specs.declared.steps.Step.{Step}
+use Rattle.reg_process.specs.declared.steps.Step.TheVariants.{Call, Take, Tick}
 use Rattle.reg_base.specs.Order.{below, at_most, In, Rising, insert}
 use Rattle.reg_base.specs.Memory.{Memory, answer_of, after, memory_after}
 use Rattle.reg_process.specs.Process.{State, Running, Own, Held, peer_at, is_own, clear_casts, delivered_state, ops_of, casts_before, up_to_own, reply_after, reply_of, look, done_at_once, called, taken, accepted, accepts, acknowledged, queues, cast_made, cast_at, stamp_at, resent, no_frames, quiet, got_frames, unsettled}

@@ -7,7 +7,7 @@ use Rattle.std.proofs.lemmas.List.{take_at, take-append-le}
 use Rattle.reg_base.specs.declared.stamps.Stamp.{Stamp}
 use Rattle.reg_base.specs.declared.memory.Op.{Op}
 use Rattle.reg_base.specs.declared.stamps.Delivered.{Delivered}
-use Rattle.reg_steps.specs.declared.steps.Reply.{Reply}
+use Rattle.reg_process.specs.declared.steps.Reply.{Reply}
 use Rattle.reg_base.specs.Order.{Below, AtMost, below, at_most, In, Rising}
 use Rattle.reg_process.specs.Process.{State, Running, Own, Held, is_clear, is_own, clear_casts, casts_before, up_to_own, reply_after, reply_of, called, delivered_state, unsettled}
 use Rattle.reg_world.specs.Nodes.{running_op}

@@ -17,14 +17,14 @@ use Rattle.reg_frames.specs.declared.bodies.Frame.TheVariants.{Numbered, Got}
 use Rattle.reg_front.specs.declared.starts.Start.{Start}
 use Rattle.reg_front.specs.declared.starts.Start.TheVariants.{Cast as Casts, CastAndAnswer as CastsAndAnswers, Look as Looks, Hold as Holds}
 use Rattle.reg_front.specs.Fronts.{KeepsLaws}
-use Rattle.reg_steps.specs.declared.steps.Step.{Step}
-use Rattle.reg_steps.specs.declared.steps.Step.TheVariants.{Call as CallStep, Take as TakeStep, Tick as TickStep}
+use Rattle.reg_process.specs.declared.steps.Step.{Step}
+use Rattle.reg_process.specs.declared.steps.Step.TheVariants.{Call as CallStep, Take as TakeStep, Tick as TickStep}
 use Rattle.reg_process.specs.Process.{State, Running, peer_at, next_of, seen_at, time_of, unsettled, ops_of}
-use Rattle.reg_steps.specs.declared.faults.ProcessFault.TheVariants.{NoProcess, NoRegister, TooManyOperations, Ahead, Stale, ClockFull}
+use Rattle.reg_process.specs.declared.faults.ProcessFault.TheVariants.{NoProcess, NoRegister, TooManyOperations, Ahead, Stale, ClockFull}
 use Rattle.reg_process.specs.Delivery.{first_of}
 use Rattle.reg_process.specs.Faults.{full_at, early_fault, call_fault, is_out, early_body, full_by, body_fault, frame_fault, take_fault, step_fault}
-use Rattle.reg_world.specs.declared.events.Event.{Event}
-use Rattle.reg_world.specs.declared.events.Event.TheVariants.{Call, Take, Tick}
+use Rattle.reg_process.specs.declared.events.Event.{Event}
+use Rattle.reg_process.specs.declared.events.Event.TheVariants.{Call, Take, Tick}
 use Rattle.reg_world.specs.Nodes.{step_of, take_step}
 use Rattle.reg_world.specs.Laws.{IsAhead, IsStale, IsFull, names_register}
 use Rattle.reg_world.specs.World.{World, move_of, whole}

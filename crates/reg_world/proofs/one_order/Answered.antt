@@ -11,9 +11,9 @@ use Rattle.reg_frames.specs.declared.bodies.Frame.{Frame}
 use Rattle.reg_frames.specs.declared.bodies.Frame.TheVariants.{Numbered, Got}
 use Rattle.reg_front.specs.declared.starts.Start.{Start}
 use Rattle.reg_front.specs.declared.starts.Start.TheVariants.{Cast as Casts, CastAndAnswer as CastsAndAnswers, Look as Looks, Hold as Holds}
-use Rattle.reg_steps.specs.declared.steps.Step.{Step}
-use Rattle.reg_steps.specs.declared.steps.Step.TheVariants.{Call, Take, Tick}
-use Rattle.reg_world.specs.declared.events.Event.{Event}
+use Rattle.reg_process.specs.declared.steps.Step.{Step}
+use Rattle.reg_process.specs.declared.steps.Step.TheVariants.{Call, Take, Tick}
+use Rattle.reg_process.specs.declared.events.Event.{Event}
 use Rattle.reg_base.specs.Order.{AtMost, In, insert}
 use Rattle.reg_process.specs.Process.{State, Running, Own, Held, peer_at, seen_at, stamp_at, cast_at, time_of, clear_casts, delivered_state, called, taken, accepted, accepts, acknowledged, queues, cast_made, quiet, got_frames, unsettled}
 use Rattle.reg_world.specs.Nodes.{Node, Nodes, running_op, after_result, after_step}

@@ -8,7 +8,7 @@ use Rattle.reg_base.specs.declared.stamps.Stamp.{Stamp}
 use Rattle.reg_base.specs.declared.memory.Op.{Op}
 use Rattle.reg_base.specs.declared.stamps.Delivered.{Delivered}
 use Rattle.reg_front.specs.declared.starts.Start.{Start}
-use Rattle.reg_steps.specs.declared.steps.Step.{Step}
+use Rattle.reg_process.specs.declared.steps.Step.{Step}
 use Rattle.reg_base.specs.Order.{Below, In, Rising, IsPrefixOf}
 use Rattle.reg_process.specs.Process.{step}
 use Rattle.reg_world.specs.Nodes.{Node, Nodes, put, after_step, unseen}

@@ -9,8 +9,8 @@ use Rattle.reg_frames.specs.declared.bodies.Body.{Body}
 use Rattle.reg_frames.specs.declared.bodies.Frame.{Frame}
 use Rattle.reg_frames.specs.declared.bodies.Frame.TheVariants.{Numbered, Got}
 use Rattle.reg_front.specs.declared.starts.Start.{Start}
-use Rattle.reg_steps.specs.declared.steps.Step.{Step}
-use Rattle.reg_world.specs.declared.events.Event.{Event}
+use Rattle.reg_process.specs.declared.steps.Step.{Step}
+use Rattle.reg_process.specs.declared.events.Event.{Event}
 use Rattle.reg_base.specs.Order.{Below, In, Rising, IsPrefixOf}
 use Rattle.reg_process.specs.Process.{no_peer, peer_at, time_of, next_of, step}
 use Rattle.reg_world.specs.Nodes.{Node, Nodes, put, after_step, empty, first_state}
@@ -21,7 +21,7 @@ use Rattle.reg_world.proofs.run.Along.{moves, run_parts, along, few_events}
 use Rattle.reg_world.specs.Laws.{DeliveriesAgree, DeliveriesRise, UndeliveredAbove, DeliveriesMade, NoRefusal, IsAhead, IsStale, IsFull}
 use Rattle.reg_base.proofs.Lists.{in_left, in_right, in_cases}
 use Rattle.reg_world.proofs.one_order.Worlds.{Inv, one_order, delivered_made, clear_is_delivered}
-use Rattle.reg_entries.proofs.Places.{element_at}
+use Rattle.reg_checkers.proofs.Places.{element_at}
 use Rattle.reg_world.proofs.lists.Bodies.{place_within}
 use Rattle.reg_world.proofs.one_order.Links.{Sent}
 use Rattle.reg_base.proofs.Orders.{below_or}

@@ -7,7 +7,7 @@ use Rattle.reg_base.specs.declared.stamps.Stamp.{Stamp}
 use Rattle.reg_base.specs.declared.memory.Op.{Op}
 use Rattle.reg_base.specs.declared.stamps.Delivered.{Delivered}
 use Rattle.reg_front.specs.declared.starts.Start.{Start}
-use Rattle.reg_world.specs.declared.events.Event.{Event}
+use Rattle.reg_process.specs.declared.events.Event.{Event}
 use Rattle.reg_base.specs.Order.{Below, In, Rising}
 use Rattle.reg_base.specs.Memory.{answer_of}
 use Rattle.reg_front.specs.Fronts.{KeepsLaws}

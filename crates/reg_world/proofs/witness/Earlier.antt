@@ -8,12 +8,12 @@ use Rattle.reg_base.specs.Order.{In}
 use Rattle.reg_base.proofs.Lists.{in_cases}
 use Rattle.reg_front.specs.declared.starts.Start.{Start}
 use Rattle.reg_front.specs.Fronts.{KeepsLaws, CastsAll}
-use Rattle.reg_entries.specs.declared.entries.Entry.{Entry}
-use Rattle.reg_entries.specs.declared.entries.Entry.TheVariants.{Called, Answered}
-use Rattle.reg_entries.specs.History.{IsAt, IsCalled, IsAnswered, IsFinished, IsHistory, event_of}
-use Rattle.reg_entries.proofs.Places.{within, same_at, at_map}
-use Rattle.reg_entries.proofs.Histories.{call_is, answered_was_called}
-use Rattle.reg_world.specs.declared.events.Event.{Event}
+use Rattle.reg_checkers.specs.declared.entries.Entry.{Entry}
+use Rattle.reg_checkers.specs.declared.entries.Entry.TheVariants.{Called, Answered}
+use Rattle.reg_checkers.specs.History.{IsAt, IsCalled, IsAnswered, IsFinished, IsHistory, event_of}
+use Rattle.reg_checkers.proofs.Places.{within, same_at, at_map}
+use Rattle.reg_checkers.proofs.Histories.{call_is, answered_was_called}
+use Rattle.reg_process.specs.declared.events.Event.{Event}
 use Rattle.reg_world.specs.declared.order.First.{First}
 use Rattle.reg_world.specs.declared.order.CopyRead.{CopyRead}
 use Rattle.reg_world.specs.Runs.{Run}

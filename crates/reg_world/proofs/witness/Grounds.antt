@@ -7,7 +7,7 @@ use Rattle.reg_world.specs.declared.order.First.{First}
 use Rattle.reg_world.specs.declared.order.CopyRead.{CopyRead}
 use Rattle.reg_base.specs.Memory.{Memory, IsUpdate, answer_of, IsBlind}
 use Rattle.reg_base.specs.Order.{Below}
-use Rattle.reg_entries.specs.History.{IsAt, IsCalled, IsAnswered, IsFinished}
+use Rattle.reg_checkers.specs.History.{IsAt, IsCalled, IsAnswered, IsFinished}
 use Rattle.reg_world.specs.Runs.{Run, Cast, IsWaiting, memory_of}
 
 -- How a reply came, with its place: at the delivery of the operation's own cast, which is the cast at that place;

@@ -4,11 +4,11 @@ use Rattle.std.proofs.lemmas.Option.{same_Some}
 use Rattle.reg_base.specs.declared.memory.OpId.{OpId}
 use Rattle.reg_base.specs.declared.memory.Op.{Op}
 use Rattle.reg_base.specs.declared.memory.Answer.{Answer}
-use Rattle.reg_entries.specs.declared.entries.Entry.{Entry}
+use Rattle.reg_checkers.specs.declared.entries.Entry.{Entry}
 use Rattle.reg_base.specs.Memory.{Memory, answer_of, after, memory_after, blank}
-use Rattle.reg_entries.specs.History.{IsAt, IsAnswered}
-use Rattle.reg_histories.specs.Checks.{AreCalled}
-use Rattle.reg_histories.specs.Orders.{IsLegal}
+use Rattle.reg_checkers.specs.History.{IsAt, IsAnswered}
+use Rattle.reg_checkers.specs.Checks.{AreCalled}
+use Rattle.reg_checkers.specs.Orders.{IsLegal}
 use Rattle.reg_world.proofs.witness.Walk.{LegalFrom}
 
 abbrev ops_of : (h : List Entry) (m : Memory) (ids : List OpId) → LegalFrom h m ids → List Op

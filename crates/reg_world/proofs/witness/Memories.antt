@@ -5,9 +5,9 @@ use Rattle.reg_base.specs.declared.memory.Op.{Op}
 use Rattle.reg_base.specs.declared.memory.Op.TheVariants.{Read, Write, Swap}
 use Rattle.reg_world.specs.declared.order.First.{First}
 use Rattle.reg_base.specs.Memory.{Memory, IsUpdate, after, memory_after, blank}
-use Rattle.reg_entries.specs.History.{IsAt}
+use Rattle.reg_checkers.specs.History.{IsAt}
 use Rattle.reg_world.specs.Runs.{Run, memory_of}
-use Rattle.reg_entries.proofs.Places.{element_at}
+use Rattle.reg_checkers.proofs.Places.{element_at}
 
 -- what is no update leaves the memory as it is
 pub unchanged : (m : Memory) (op : Op) → (IsUpdate op → ⊥) → after op m ≡ m

@@ -9,12 +9,12 @@ use Rattle.reg_base.specs.declared.stamps.Delivered.{Delivered}
 use Rattle.reg_base.specs.Order.{In}
 use Rattle.reg_front.specs.declared.starts.Start.{Start}
 use Rattle.reg_front.specs.Fronts.{KeepsLaws, CastsAll}
-use Rattle.reg_steps.specs.declared.steps.Step.{Step}
-use Rattle.reg_steps.specs.declared.steps.Step.TheVariants.{Call, Take, Tick}
+use Rattle.reg_process.specs.declared.steps.Step.{Step}
+use Rattle.reg_process.specs.declared.steps.Step.TheVariants.{Call, Take, Tick}
 use Rattle.reg_process.specs.Process.{State, called, unsettled, step}
-use Rattle.reg_entries.specs.declared.entries.Entry.TheVariants.{Called, Answered}
-use Rattle.reg_entries.specs.History.{IsAt}
-use Rattle.reg_world.specs.declared.events.Event.{Event}
+use Rattle.reg_checkers.specs.declared.entries.Entry.TheVariants.{Called, Answered}
+use Rattle.reg_checkers.specs.History.{IsAt}
+use Rattle.reg_process.specs.declared.events.Event.{Event}
 use Rattle.reg_world.specs.declared.order.First.{First}
 use Rattle.reg_world.specs.Runs.{Cast}
 use Rattle.reg_world.specs.World.{World}
@@ -28,7 +28,7 @@ use Rattle.reg_world.proofs.one_memory.Added.{IsPastCall, IsPastAnswer, cast_of_
 use Rattle.reg_world.proofs.one_memory.Kept.{call_of}
 use Rattle.reg_world.proofs.witness.Once.{order_once}
 use Rattle.reg_world.proofs.witness.Premises.{W, V, R, J, G, first_at, one_id, is_run}
-use Rattle.reg_entries.proofs.Places.{same_at}
+use Rattle.reg_checkers.proofs.Places.{same_at}
 use Rattle.reg_world.proofs.witness.Grounds.{IsRealTime}
 
 abbrev MadeCast : PastCall → Type 0

@@ -4,11 +4,11 @@ use Rattle.std.proofs.lemmas.Bool.{cases_order}
 use Rattle.reg_base.specs.declared.memory.OpId.{OpId}
 use Rattle.reg_base.specs.declared.stamps.Stamp.{Stamp}
 use Rattle.reg_world.specs.declared.order.First.{First}
-use Rattle.reg_entries.specs.History.{IsAt}
+use Rattle.reg_checkers.specs.History.{IsAt}
 use Rattle.reg_base.specs.Order.{Below}
 use Rattle.reg_world.specs.Runs.{Run, Cast}
 use Rattle.reg_world.specs.Keys.{Key, key, IsBelow, HasKey, Copied, Delivered, Lost}
-use Rattle.reg_entries.proofs.Places.{within, same_at}
+use Rattle.reg_checkers.proofs.Places.{within, same_at}
 use Rattle.reg_world.proofs.witness.Grounds.{IsRun}
 
 abbrev pub cast_of : First → Cast

@@ -2,12 +2,12 @@
 use Rattle.std.proofs.Common.{◌≡◌, ℕ, ◌<◌, ◌⊎◌, inl, inr, List, take, refl, ap, ◌∙◌, subst, arith}
 use Rattle.std.proofs.lemmas.Bool.{cases_order}
 use Rattle.reg_base.specs.declared.memory.OpId.{OpId}
-use Rattle.reg_entries.specs.declared.entries.Entry.{Entry}
-use Rattle.reg_entries.specs.declared.entries.Entry.TheVariants.{Called, Answered}
-use Rattle.reg_entries.specs.History.{IsAt, WasCalled, IsHistory, MayAnswer}
-use Rattle.reg_histories.specs.Orders.{IsSerial}
-use Rattle.reg_entries.proofs.Places.{same_at, at_take, in_take}
-use Rattle.reg_entries.proofs.Histories.{events_rise}
+use Rattle.reg_checkers.specs.declared.entries.Entry.{Entry}
+use Rattle.reg_checkers.specs.declared.entries.Entry.TheVariants.{Called, Answered}
+use Rattle.reg_checkers.specs.History.{IsAt, WasCalled, IsHistory, MayAnswer}
+use Rattle.reg_checkers.specs.Orders.{IsSerial}
+use Rattle.reg_checkers.proofs.Places.{same_at, at_take, in_take}
+use Rattle.reg_checkers.proofs.Histories.{events_rise}
 use Rattle.reg_world.specs.RealTime.{IsEarlier, KeepsOwnTime}
 
 number_rises : (n registers : ℕ) (h : List Entry) → IsHistory n registers h → (a b : OpId) → IsEarlier h a b → a.process ≡ b.process → a.number < b.number

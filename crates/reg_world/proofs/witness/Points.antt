@@ -5,12 +5,12 @@ use Rattle.reg_base.specs.declared.memory.OpId.{OpId}
 use Rattle.reg_base.specs.declared.memory.Op.{Op}
 use Rattle.reg_base.specs.declared.memory.Answer.{Answer}
 use Rattle.reg_world.specs.declared.order.First.{First}
-use Rattle.reg_entries.specs.declared.entries.Point.{Point}
-use Rattle.reg_entries.specs.History.{IsAt, IsCalled, IsAnswered}
-use Rattle.reg_histories.specs.Orders.{IsSerial, IsPointOrder}
+use Rattle.reg_checkers.specs.declared.entries.Point.{Point}
+use Rattle.reg_checkers.specs.History.{IsAt, IsCalled, IsAnswered}
+use Rattle.reg_checkers.specs.Orders.{IsSerial, IsPointOrder}
 use Rattle.reg_world.specs.Runs.{Run}
 use Rattle.reg_world.specs.Keys.{Key, key, IsBelow, IsKept, HasKey, Copied, Delivered, Lost, Keyed, IsByKeys, Keeps, Nothing, Takes, Leaves, ArePoints}
-use Rattle.reg_entries.proofs.Places.{at_map}
+use Rattle.reg_checkers.proofs.Places.{at_map}
 use Rattle.reg_world.proofs.witness.Once.{cast_of}
 use Rattle.reg_world.proofs.witness.Serial.{witness_serial}
 use Rattle.reg_world.proofs.witness.Grounds.{IsRun, IsRealTime}

@@ -14,10 +14,10 @@ use Rattle.reg_base.specs.Order.{Below, In}
 use Rattle.reg_front.specs.declared.starts.Start.{Start}
 use Rattle.reg_front.specs.Fronts.{KeepsLaws}
 use Rattle.reg_process.specs.Process.{ops_of}
-use Rattle.reg_entries.specs.declared.entries.Entry.TheVariants.{Called, Answered}
-use Rattle.reg_entries.specs.History.{IsAt, IsCalled, IsAnswered}
-use Rattle.reg_entries.proofs.Places.{IsAt-map, at_map}
-use Rattle.reg_world.specs.declared.events.Event.{Event}
+use Rattle.reg_checkers.specs.declared.entries.Entry.TheVariants.{Called, Answered}
+use Rattle.reg_checkers.specs.History.{IsAt, IsCalled, IsAnswered}
+use Rattle.reg_checkers.proofs.Places.{IsAt-map, at_map}
+use Rattle.reg_process.specs.declared.events.Event.{Event}
 use Rattle.reg_world.specs.declared.order.First.{First}
 use Rattle.reg_world.specs.declared.order.CopyRead.{CopyRead}
 use Rattle.reg_world.specs.Runs.{Cast, Run, IsWaiting, memory_of}

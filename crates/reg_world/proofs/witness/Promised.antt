@@ -9,10 +9,10 @@ use Rattle.reg_base.specs.Memory.{answer_of}
 use Rattle.reg_base.specs.Order.{In, IsPrefixOf}
 use Rattle.reg_front.specs.declared.starts.Start.{Start}
 use Rattle.reg_front.specs.Fronts.{KeepsLaws}
-use Rattle.reg_steps.specs.declared.steps.Reply.{Reply}
-use Rattle.reg_entries.specs.declared.entries.Entry.TheVariants.{Called, Answered}
-use Rattle.reg_entries.specs.History.{IsAt, IsHistory}
-use Rattle.reg_world.specs.declared.events.Event.{Event}
+use Rattle.reg_process.specs.declared.steps.Reply.{Reply}
+use Rattle.reg_checkers.specs.declared.entries.Entry.TheVariants.{Called, Answered}
+use Rattle.reg_checkers.specs.History.{IsAt, IsHistory}
+use Rattle.reg_process.specs.declared.events.Event.{Event}
 use Rattle.reg_world.specs.declared.order.First.{First}
 use Rattle.reg_world.specs.Laws.{IsMade, NoRefusal, AllAcknowledged, IsQuiescent}
 use Rattle.reg_world.specs.NodeParts.{NothingPending}

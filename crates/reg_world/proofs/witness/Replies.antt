@@ -8,10 +8,10 @@ use Rattle.reg_base.specs.declared.stamps.Stamp.{Stamp}
 use Rattle.reg_world.specs.declared.order.First.{First}
 use Rattle.reg_world.specs.declared.order.CopyRead.{CopyRead}
 use Rattle.reg_base.specs.Memory.{Memory, IsUpdate, answer_of}
-use Rattle.reg_entries.specs.History.{IsAt, IsAnswered, IsFinished, IsHistory}
+use Rattle.reg_checkers.specs.History.{IsAt, IsAnswered, IsFinished, IsHistory}
 use Rattle.reg_base.specs.Order.{Below}
 use Rattle.reg_world.specs.Runs.{Run, Cast, IsWaiting, memory_of}
-use Rattle.reg_entries.proofs.Histories.{answered_was_called}
+use Rattle.reg_checkers.proofs.Histories.{answered_was_called}
 use Rattle.reg_world.proofs.witness.Once.{cast_of, before_not_after}
 use Rattle.reg_world.proofs.witness.Grounds.{IsCopied, IsRun, Came, AtDelivery, AtOnce, FromCopy, IsOrdered}
 

@@ -5,12 +5,12 @@ use Rattle.std.proofs.lemmas.Option.{same_Some}
 use Rattle.reg_base.specs.declared.memory.OpId.{OpId}
 use Rattle.reg_world.specs.declared.order.First.{First}
 use Rattle.reg_world.specs.declared.order.CopyRead.{CopyRead}
-use Rattle.reg_entries.specs.History.{IsAt, IsFinished, IsCalled}
-use Rattle.reg_histories.specs.Orders.{IsDistinct, IsLegal, KeepsOwnOrder, IsSerial}
-use Rattle.reg_entries.specs.Table.{MayStand}
+use Rattle.reg_checkers.specs.History.{IsAt, IsFinished, IsCalled}
+use Rattle.reg_checkers.specs.Orders.{IsDistinct, IsLegal, KeepsOwnOrder, IsSerial}
+use Rattle.reg_checkers.specs.Table.{MayStand}
 use Rattle.reg_world.specs.Runs.{Run, Cast}
 use Rattle.reg_world.specs.Keys.{Key, key, IsBelow, HasKey, Copied, Delivered, Lost, Keyed, IsByKeys, IsWitness}
-use Rattle.reg_entries.proofs.Places.{same_at, IsAt-map, at_map}
+use Rattle.reg_checkers.proofs.Places.{same_at, IsAt-map, at_map}
 use Rattle.reg_world.proofs.witness.Walk.{walk, IsLeft}
 use Rattle.reg_world.proofs.witness.Legal.{legal_from_walk}
 use Rattle.reg_world.proofs.witness.Once.{cast_of, below_not_above, key_once, own_below}

@@ -11,18 +11,18 @@ use Rattle.reg_frames.specs.declared.bodies.Body.{Body}
 use Rattle.reg_frames.specs.declared.bodies.Body.TheVariants.{Cast, Ack}
 use Rattle.reg_frames.specs.declared.bodies.Frame.{Frame}
 use Rattle.reg_frames.specs.declared.bodies.Frame.TheVariants.{Numbered, Got}
-use Rattle.reg_steps.specs.declared.steps.Reply.{Reply}
+use Rattle.reg_process.specs.declared.steps.Reply.{Reply}
 use Rattle.reg_front.specs.declared.starts.Start.{Start}
 use Rattle.reg_front.specs.declared.starts.Start.TheVariants.{Cast as Casts}
-use Rattle.reg_steps.specs.declared.steps.Step.{Step}
-use Rattle.reg_steps.specs.declared.steps.Step.TheVariants.{Call, Take, Tick}
+use Rattle.reg_process.specs.declared.steps.Step.{Step}
+use Rattle.reg_process.specs.declared.steps.Step.TheVariants.{Call, Take, Tick}
 use Rattle.reg_base.specs.Order.{In, insert}
 use Rattle.reg_process.specs.Process.{State, Running, Own, Held, is_clear, stamp_at, cast_at, clear_casts, casts_before, reply_after, reply_of, cast_made, called, taken, accepted, accepts, queues, quiet, got_frames, peer_at, unsettled, step, Outcome}
 use Rattle.reg_front.specs.Fronts.{MayStart, KeepsLaws, CastsAll}
 use Rattle.reg_world.specs.Nodes.{Node, op_in, after_step, unseen}
 use Rattle.reg_world.specs.NodeParts.{nodes_after}
 use Rattle.reg_world.proofs.run.Traced.{Trace, casts_of, Called, Answered, Past, answered_in, past_after, pasts_after, cast_of, NeverFalls, TimesRight, First, firsts, order_after, count_after, called_in, traced}
-use Rattle.reg_world.specs.declared.events.Event.{Event}
+use Rattle.reg_process.specs.declared.events.Event.{Event}
 use Rattle.reg_world.proofs.one_order.Acts.{put_cases}
 use Rattle.reg_world.proofs.one_order.Runs.{StepKept}
 use Rattle.reg_world.proofs.one_order.NodeLaws.{run_ok}

@@ -4,13 +4,13 @@ use Rattle.std.proofs.lemmas.Option.{same_Some}
 use Rattle.reg_base.specs.declared.memory.OpId.{OpId}
 use Rattle.reg_base.specs.declared.memory.Op.{Op}
 use Rattle.reg_base.specs.declared.memory.Answer.{Answer}
-use Rattle.reg_entries.specs.declared.entries.Entry.{Entry}
+use Rattle.reg_checkers.specs.declared.entries.Entry.{Entry}
 use Rattle.reg_world.specs.declared.order.First.{First}
 use Rattle.reg_base.specs.Memory.{Memory, IsUpdate, answer_of, after}
-use Rattle.reg_entries.specs.History.{IsAt, IsCalled, IsAnswered}
+use Rattle.reg_checkers.specs.History.{IsAt, IsCalled, IsAnswered}
 use Rattle.reg_world.specs.Runs.{Run, Cast, IsWaiting, memory_of}
 use Rattle.reg_world.specs.Keys.{Key, key, IsBelow, HasKey, Copied, Delivered, Lost, Keyed}
-use Rattle.reg_entries.proofs.Places.{within}
+use Rattle.reg_checkers.proofs.Places.{within}
 use Rattle.reg_world.proofs.witness.Memories.{unchanged, memory_of_more, gap_to}
 use Rattle.reg_world.proofs.witness.Grounds.{IsRun}
 

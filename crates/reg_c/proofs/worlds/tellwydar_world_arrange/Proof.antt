@@ -33,15 +33,15 @@ use denote.Triple.Table.{framed}
 use denote.Triple.Walked.{Stays, walk_of, says, stay_dropped, Goes-dropped, ends_at}
 use Rattle.std.proofs.Common.{◌<◌}
 use Rattle.reg_world.specs.declared.faults.WorldFault.TheVariants.{OutOfMemory}
-use Rattle.reg_boundary.specs.Events.{fault_code}
-use Rattle.reg_boundary.specs.Worlds.{HasOrders}
-use Rattle.reg_boundary.specs.declared.holding.Held.{Held}
-use Rattle.reg_boundary.specs.contracts.holding.Held.{the_row as R}
+use Rattle.reg_c.specs.Events.{fault_code}
+use Rattle.reg_c.specs.Worlds.{HasOrders}
+use Rattle.reg_c.specs.declared.holding.Held.{Held}
+use Rattle.reg_c.specs.contracts.holding.Held.{the_row as R}
 use Rattle.reg_c.specs.contracts.worlds.tellwydar_world_arrange as f
 use Rattle.reg_c.proofs.worlds.tellwydar_world_arrange.Statement.{statement}
 use Rattle.reg_c.proofs.worlds.tellwydar_world_arrange.Code as code
-use Rattle.reg_boundary.specs.contracts.holding.arrange as g
-use Rattle.reg_boundary.proofs.holding.arrange.Met.{met}
+use Rattle.reg_c.specs.contracts.holding.arrange as g
+use Rattle.reg_c.proofs.holding.arrange.Met.{met}
 
 abbrev stayed : Stays f.ended.signature.params f.ended.kept
 stayed = (stay_dropped _ yes, tt)
@@ -67,7 +67,7 @@ tellwydar_world_arrange_spec 𝓤 𝓛 𝓜 𝓡 wired =
     let z : G.Ghost = (((κ, tt), (full_share, tt), tt, (record { ref_ptr = (b, o); ghost_name = γ; now = held }, tt), (vptr b o ∷ [], tt)), tt) in
     nothing ! $ move ! (1 ∷ 0 ∷ []) $ join ! $ nothing ! $ move ! (3 ∷ 0 ∷ []) $ join ! $ join ! $
     nothing ! $ move ! (1 ∷ 0 ∷ []) $ use2 𝓛 (raw (G.pre z)) (id⊢ 𝓤 _) $
-    calls_at ! (framed 𝓤 𝓛.H 𝓜 𝓣) G (met 𝓤 𝓛 𝓜 𝓡 (code.calls-reg_boundary::holding::arrange 𝓡.env wired)) z
+    calls_at ! (framed 𝓤 𝓛.H 𝓜 𝓣) G (met 𝓤 𝓛 𝓜 𝓡 (code.calls-reg_c::holding::arrange 𝓡.env wired)) z
     (and_then ! (get ! refl) (no_more !)) (λ v.
     use1 𝓛 (later (some (λ (r : ℕ). ((‵ (flft κ full_share) ⊛ ‵ ftrue) ⊛ ‵ (u32.own_val r (v ∷ []))) ⊛
     some (λ (ws : Held × Unit {0}). ‵ (lasts g.ended z.0.0 z.0.3 ws) ⊛ (raw (fact 𝓤 ((ws.0.world ≡ held.world) × (ws.0.reply ≡ held.reply))) ⊛ (raw (fact 𝓤 (r ≡ 0 → HasOrders ws.0.world ws.0.order.items ws.0.points.items)) ⊛ raw (fact 𝓤 (0 < r → r ≡ fault_code OutOfMemory)))))))) (id⊢ 𝓤 _) $

@@ -30,14 +30,14 @@ use denote.Triple.Spec.{triple_of}
 use denote.Triple.Table.{framed}
 use denote.Triple.Walked.{Stays, walk_of, says, stay_dropped, Goes-dropped, ends_at}
 use Rattle.std.specs.Prelude.{None, vec_capacity}
-use Rattle.reg_boundary.specs.declared.holding.Kept.TheVariants.{Closed}
-use Rattle.reg_boundary.specs.declared.holding.Held.{Held}
-use Rattle.reg_boundary.specs.contracts.holding.Held.{the_row as R}
+use Rattle.reg_c.specs.declared.holding.Kept.TheVariants.{Closed}
+use Rattle.reg_c.specs.declared.holding.Held.{Held}
+use Rattle.reg_c.specs.contracts.holding.Held.{the_row as R}
 use Rattle.reg_c.specs.contracts.worlds.tellwydar_world_close as f
 use Rattle.reg_c.proofs.worlds.tellwydar_world_close.Statement.{statement}
 use Rattle.reg_c.proofs.worlds.tellwydar_world_close.Code as code
-use Rattle.reg_boundary.specs.contracts.holding.close as g
-use Rattle.reg_boundary.proofs.holding.close.Met.{met}
+use Rattle.reg_c.specs.contracts.holding.close as g
+use Rattle.reg_c.proofs.holding.close.Met.{met}
 
 abbrev stayed : Stays f.ended.signature.params f.ended.kept
 stayed = (stay_dropped _ yes, tt)
@@ -63,7 +63,7 @@ tellwydar_world_close_spec 𝓤 𝓛 𝓜 𝓡 wired =
     let z : G.Ghost = (((κ, tt), (full_share, tt), tt, (record { ref_ptr = (b, o); ghost_name = γ; now = held }, tt), (vptr b o ∷ [], tt)), tt) in
     nothing ! $ move ! (1 ∷ 0 ∷ []) $ join ! $ nothing ! $ move ! (3 ∷ 0 ∷ []) $ join ! $ join ! $
     nothing ! $ move ! (1 ∷ 0 ∷ []) $ use2 𝓛 (raw (G.pre z)) (id⊢ 𝓤 _) $
-    calls_at ! (framed 𝓤 𝓛.H 𝓜 𝓣) G (met 𝓤 𝓛 𝓜 𝓡 (code.calls-reg_boundary::holding::close 𝓡.env wired)) z
+    calls_at ! (framed 𝓤 𝓛.H 𝓜 𝓣) G (met 𝓤 𝓛 𝓜 𝓡 (code.calls-reg_c::holding::close 𝓡.env wired)) z
     (and_then ! (get ! refl) (no_more !)) (λ v.
     use1 𝓛 (later (some (λ (r : Unit {0}). ((‵ (flft κ full_share) ⊛ ‵ ftrue) ⊛ ‵ (unit.own_val r (v ∷ []))) ⊛
     some (λ (ws : Held × Unit {0}). ‵ (lasts g.ended z.0.0 z.0.3 ws) ⊛ raw (fact 𝓤 ((ws.0.world ≡ Closed) × (ws.0.reply ≡ None) × (vec_capacity ws.0.order ≡ 0) × (vec_capacity ws.0.points ≡ 0))))))) (id⊢ 𝓤 _) $

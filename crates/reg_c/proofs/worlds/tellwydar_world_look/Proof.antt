@@ -31,14 +31,14 @@ use denote.Triple.Entry.{on_entry}
 use denote.Triple.Spec.{triple_of}
 use denote.Triple.Table.{framed}
 use denote.Triple.Walked.{Stays, walk_of, says, stay_dropped, Goes-dropped, ends_at}
-use Rattle.reg_boundary.specs.Worlds.{number_of}
-use Rattle.reg_boundary.specs.declared.holding.Held.{Held}
-use Rattle.reg_boundary.specs.contracts.holding.Held.{the_row as R}
+use Rattle.reg_c.specs.Worlds.{number_of}
+use Rattle.reg_c.specs.declared.holding.Held.{Held}
+use Rattle.reg_c.specs.contracts.holding.Held.{the_row as R}
 use Rattle.reg_c.specs.contracts.worlds.tellwydar_world_look as f
 use Rattle.reg_c.proofs.worlds.tellwydar_world_look.Statement.{statement}
 use Rattle.reg_c.proofs.worlds.tellwydar_world_look.Code as code
-use Rattle.reg_boundary.specs.contracts.holding.look as g
-use Rattle.reg_boundary.proofs.holding.look.Met.{met}
+use Rattle.reg_c.specs.contracts.holding.look as g
+use Rattle.reg_c.proofs.holding.look.Met.{met}
 
 abbrev stayed : Stays f.ended.signature.params f.ended.kept
 stayed = (stay_dropped _ yes, (stay_dropped _ yes, (stay_dropped _ yes, tt)))
@@ -64,7 +64,7 @@ tellwydar_world_look_spec 𝓤 𝓛 𝓜 𝓡 wired =
     let z : G.Ghost = (((κ, tt), (full_share, tt), tt, (record { ref_ptr = (b, o); ghost_name = γ; now = held }, (a.1.0, (a.1.1.0, tt))), (vptr b o ∷ [], (uint_vals w32 a.1.0, (uint_vals w32 a.1.1.0, tt)))), tt) in
     nothing ! $ owned ! u32 (Is u32) (uint_Makes 𝓛 w32) a.1.1.0 _ (refl, are.1.1.0.1) $ fjoin ! $ owned ! u32 (Is u32) (uint_Makes 𝓛 w32) a.1.0 _ (refl, are.1.0.1) $ fjoin ! $ move ! (1 ∷ 0 ∷ []) $ fjoin ! $ nothing ! $ move ! (3 ∷ 0 ∷ []) $ join ! $ join ! $
     nothing ! $ move ! (1 ∷ 0 ∷ []) $ use2 𝓛 (raw (G.pre z)) (id⊢ 𝓤 _) $
-    calls_at ! (framed 𝓤 𝓛.H 𝓜 𝓣) G (met 𝓤 𝓛 𝓜 𝓡 (code.calls-reg_boundary::holding::look 𝓡.env wired)) z
+    calls_at ! (framed 𝓤 𝓛.H 𝓜 𝓣) G (met 𝓤 𝓛 𝓜 𝓡 (code.calls-reg_c::holding::look 𝓡.env wired)) z
     (and_then ! (get ! refl) (and_then ! (get ! refl) (and_then ! (get ! refl) (no_more !)))) (λ v.
     use1 𝓛 (later (some (λ (r : ℕ). ((‵ (flft κ full_share) ⊛ ‵ ftrue) ⊛ ‵ (u64.own_val r (v ∷ []))) ⊛
     some (λ (ws : Held × (Unit {0} × (Unit {0} × Unit {0}))). ‵ (lasts g.ended z.0.0 z.0.3 ws) ⊛ (raw (fact 𝓤 (ws.0 ≡ held)) ⊛ raw (fact 𝓤 (r ≡ number_of held x0 x1))))))) (id⊢ 𝓤 _) $

@@ -38,15 +38,15 @@ use denote.Triple.Spec.{triple_of}
 use denote.Triple.Table.{framed}
 use denote.Triple.Walked.{Stays, walk_of, says, stay_dropped, Goes-dropped, stay_ref, Goes-ref, ends_at}
 use Rattle.reg_base.specs.Shape.{Extent}
-use Rattle.reg_boundary.specs.Worlds.{IsOpened, kept_at_first, refusal_of}
-use Rattle.reg_boundary.specs.declared.holding.Held.{Held}
-use Rattle.reg_boundary.specs.contracts.holding.Held.{the_row as R}
-use Rattle.reg_boundary.specs.contracts.unboxed.Unboxed as unboxed
+use Rattle.reg_c.specs.Worlds.{IsOpened, kept_at_first, refusal_of}
+use Rattle.reg_c.specs.declared.holding.Held.{Held}
+use Rattle.reg_c.specs.contracts.holding.Held.{the_row as R}
+use Rattle.reg_c.specs.contracts.unboxed.Unboxed as unboxed
 use Rattle.reg_c.specs.contracts.worlds.tellwydar_world_new as f
 use Rattle.reg_c.proofs.worlds.tellwydar_world_new.Statement.{statement}
 use Rattle.reg_c.proofs.worlds.tellwydar_world_new.Code as code
-use Rattle.reg_boundary.specs.contracts.holding.open as g
-use Rattle.reg_boundary.proofs.holding.open.Met.{met}
+use Rattle.reg_c.specs.contracts.holding.open as g
+use Rattle.reg_c.proofs.holding.open.Met.{met}
 use Rattle.reg_c.specs.contracts.worlds.put as p
 use Rattle.reg_c.proofs.worlds.put.Met.{met as put_met}
 use Rattle.reg_c.proofs.Received.{unboxed_out, result_out, tells, front_named}
@@ -80,7 +80,7 @@ tellwydar_world_new_spec 𝓤 𝓛 𝓜 𝓡 wired =
     use1 𝓛 (raw (G.pre z)) (id⊢ 𝓤 _) $
     -- [what `open` is passed; the handle; the token]
     enter ! _ _ _ _ _ $ alloc_all ! (λ l. pass_all ! refl (((loose_lawful global.the_type global_laws.the_loose 𝓛).typed alloc av are.0).0, ((tt, record { fits = are.1.0.1 }), ((tt, record { fits = are.1.1.0.1 }), ((tt, record { fits = are.1.1.1.0.1 }), ((tt, tt), tt))))) $
-    calls_at ! (framed 𝓤 𝓛.H 𝓜 𝓣) G (met 𝓤 𝓛 𝓜 𝓡 (code.calls-reg_boundary::holding::open 𝓡.env wired)) z
+    calls_at ! (framed 𝓤 𝓛.H 𝓜 𝓣) G (met 𝓤 𝓛 𝓜 𝓡 (code.calls-reg_c::holding::open 𝓡.env wired)) z
     (and_then ! (get ! refl) (and_then ! (get ! refl) (and_then ! (get ! refl) (and_then ! (get ! refl) (no_more !))))) (λ v.
     use1 𝓛 (later (some (λ (r : Res.Denot). (‵ ftrue ⊛ ‵ (Res.own_val r (v ∷ []))) ⊛
     some (λ (ws : Unit {0} × (Unit {0} × (Unit {0} × (Unit {0} × Unit {0})))). ‵ (lasts g.ended z.0.0 z.0.3 ws) ⊛

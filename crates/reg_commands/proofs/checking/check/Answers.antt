@@ -1,7 +1,7 @@
 use Rattle.std.proofs.Common.{rules}
 use Rattle.std.specs.Prelude.{string_bytes}
 use Rattle.reg_text.specs.Writing.{AppendsPart}
-use Rattle.reg_messages.specs.Verdicts.{all_yes}
+use Rattle.reg_commands.specs.Verdicts.{all_yes}
 use Rattle.reg_commands.proofs.Parts.{checks_with}
 use Rattle.reg_commands.proofs.checking.check.Goals as goal
 

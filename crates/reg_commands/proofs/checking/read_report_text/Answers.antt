@@ -1,7 +1,7 @@
 use Rattle.std.proofs.Common.{ℕ, ◌≡◌, ◌⊎◌, inl, inr, List, sym, subst, arith}
-use Rattle.reg_lines.specs.declared.report_faults.ReadFault.TheVariants.{Line, OutOfMemory}
-use Rattle.reg_lines.specs.declared.report_faults.ReadWhy.{ReadWhy}
-use Rattle.reg_reports.specs.Refusals.{RefusesReportLine}
+use Rattle.reg_history.specs.declared.report_faults.ReadFault.TheVariants.{Line, OutOfMemory}
+use Rattle.reg_history.specs.declared.report_faults.ReadWhy.{ReadWhy}
+use Rattle.reg_history.specs.Refusals.{RefusesReportLine}
 use Rattle.reg_commands.proofs.checking.read_report_text.Goals as goal
 
 -- the line that is told is the one that is refused

@@ -1,7 +1,7 @@
 use Rattle.std.proofs.Common.{◌∙◌, ap}
 use Rattle.rand_core.specs.Pcg32Seed.{pcg32_seed}
 use Rattle.rand_pcg.specs.Pcg.{pcg32_of_seed}
-use Rattle.reg_workloads.specs.Loads.{Load}
+use Rattle.reg_inputs.specs.Loads.{Load}
 use Rattle.reg_commands.proofs.Played.{by_fair, by_seed}
 use Rattle.reg_commands.proofs.playing.play_by.Goals as goal
 

@@ -1,6 +1,6 @@
 use Rattle.std.proofs.Common.{ap}
 use Rattle.reg_front.specs.declared.named.Front.TheVariants.{Linear, LocalRead, LocalWrite}
-use Rattle.reg_workloads.specs.Loads.{Load}
+use Rattle.reg_inputs.specs.Loads.{Load}
 use Rattle.reg_commands.proofs.Played.{shown_by}
 use Rattle.reg_commands.proofs.playing.play_workload.Goals as goal
 

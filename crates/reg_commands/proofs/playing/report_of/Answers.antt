@@ -1,6 +1,6 @@
 use Rattle.std.proofs.Common.{ap}
-use Rattle.reg_workloads.specs.Loads.{Load}
-use Rattle.reg_commands.specs.Inner.{HasNoPoints}
+use Rattle.reg_inputs.specs.Loads.{Load}
+use Rattle.reg_commands.specs.NoPoints.{HasNoPoints}
 use Rattle.reg_commands.proofs.Played.{play_shown}
 use Rattle.reg_commands.proofs.playing.report_of.Goals as goal
 

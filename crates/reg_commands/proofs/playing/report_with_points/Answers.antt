@@ -1,5 +1,5 @@
 use Rattle.std.proofs.Common.{ap}
-use Rattle.reg_workloads.specs.Loads.{Load}
+use Rattle.reg_inputs.specs.Loads.{Load}
 use Rattle.reg_commands.specs.Replays.{ShowsPoints}
 use Rattle.reg_commands.proofs.Played.{play_shown}
 use Rattle.reg_commands.proofs.playing.report_with_points.Goals as goal

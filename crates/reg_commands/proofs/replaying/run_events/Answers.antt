@@ -1,5 +1,5 @@
 use Rattle.std.proofs.Common.{◌≡◌, ap, rules}
-use Rattle.reg_schedules.specs.Schedules.{Plan}
+use Rattle.reg_inputs.specs.Schedules.{Plan}
 use Rattle.reg_commands.proofs.FirstRefused.{first_refused}
 use Rattle.reg_commands.proofs.replaying.run_events.Goals as goal
 

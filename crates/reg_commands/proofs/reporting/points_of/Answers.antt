@@ -1,7 +1,7 @@
 use Rattle.std.proofs.Common.{List, subst}
 use Rattle.reg_base.specs.Shape.{Extent}
-use Rattle.reg_entries.specs.declared.entries.Entry.{Entry}
-use Rattle.reg_histories.specs.Orders.{IsPointOrder}
+use Rattle.reg_checkers.specs.declared.entries.Entry.{Entry}
+use Rattle.reg_checkers.specs.Orders.{IsPointOrder}
 use Rattle.reg_world.specs.World.{run_of}
 use Rattle.reg_world.specs.Worlds.{run_in}
 use Rattle.reg_commands.proofs.AtEvents.{points_at_events}

@@ -3,7 +3,7 @@ use Rattle.std.specs.Prelude.{true, IfOk, IfErr, IsErrOf, string_bytes}
 use Rattle.std.specs.Io.KnownBytes.{Appends}
 use Rattle.reg_commands.specs.Answers.{Answers, AnswersInPart, Blames}
 use Rattle.reg_commands.specs.Plays.{Plays}
-use Rattle.reg_messages.specs.declared.faults.Fault.TheVariants.{Output}
+use Rattle.reg_commands.specs.declared.faults.Fault.TheVariants.{Output}
 use Rattle.reg_commands.proofs.running.answer.Goals as goal
 
 pub returns-in_ok-replay-in-Replay-clause-ok : goal.returns-in_ok-replay-in-Replay-clause-ok

@@ -1,5 +1,5 @@
 use Rattle.std.proofs.Common.{◌<◌, ◌≤◌, ◌∙◌, [], length, ap, ap₂, arith, List, ℕ}
-use Rattle.reg_moments.specs.Moments.{Fact}
+use Rattle.reg_trace.specs.Moments.{Fact}
 use Rattle.reg_data.specs.Noted.{Noted, noted}
 use Rattle.reg_data.specs.Parts.{moment_part}
 use Rattle.reg_data.proofs.Behind.{◌▸◌, as_text}

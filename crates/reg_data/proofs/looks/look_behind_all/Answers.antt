@@ -1,7 +1,7 @@
 use Rattle.std.proofs.Common.{◌≡◌, ◌++◌, ◌+◌, ◌∷◌, [], ◌∙◌, ap, sym, subst, drop, arith, refl, rules}
 use Rattle.reg_world.specs.Worlds.{Made}
-use Rattle.reg_moments.specs.Moments.{AcceptsAll}
-use Rattle.reg_moments.proofs.Moving.{next_accepted}
+use Rattle.reg_trace.specs.Moments.{AcceptsAll}
+use Rattle.reg_trace.proofs.Moving.{next_accepted}
 use Rattle.reg_data.specs.Looks.{looks_from}
 use Rattle.reg_data.proofs.Looking.{one_told, all_told}
 use Rattle.reg_data.proofs.looks.look_behind_all.Goals as goal

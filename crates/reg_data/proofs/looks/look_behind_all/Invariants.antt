@@ -1,5 +1,5 @@
 use Rattle.std.proofs.Common.{◌≡◌, ◌++◌, drop, false}
-use Rattle.reg_moments.specs.Moments.{AcceptsAll}
+use Rattle.reg_trace.specs.Moments.{AcceptsAll}
 use Rattle.reg_data.specs.Looks.{looks_from}
 use Rattle.reg_data.proofs.looks.look_behind_all.Given as goal
 

@@ -1,6 +1,6 @@
 use Rattle.std.proofs.Common.{List, ◌++◌, ◌∙◌, ap, ap₂, sym, subst}
 use Rattle.reg_world.specs.Worlds.{Made}
-use Rattle.reg_moments.specs.Moments.{AcceptsAll}
+use Rattle.reg_trace.specs.Moments.{AcceptsAll}
 use Rattle.reg_data.specs.Looks.{Look, looks_from}
 use Rattle.reg_data.proofs.looks.look_behind_events.Goals as goal
 

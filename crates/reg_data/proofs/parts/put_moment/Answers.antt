@@ -1,5 +1,5 @@
 use Rattle.std.proofs.Common.{ap, codes, ◌++◌}
-use Rattle.reg_moments.specs.Moments.{Fact}
+use Rattle.reg_trace.specs.Moments.{Fact}
 use Rattle.reg_data.proofs.Behind.{◌▸◌, as_text}
 use Rattle.reg_data.specs.Json.{list_text}
 use Rattle.reg_data.specs.Parts.{moment_part, sent_part}

@@ -1,7 +1,7 @@
 use Rattle.std.proofs.Common.{◌∙◌, refl, ap, ap₂, rules, option_map}
 use Rattle.reg_base.specs.Shape.{Extent}
-use Rattle.reg_moments.specs.Figures.{arrows_of, bars_of}
-use Rattle.reg_schedules.specs.Schedules.{Plan}
+use Rattle.reg_trace.specs.Figures.{arrows_of, bars_of}
+use Rattle.reg_inputs.specs.Schedules.{Plan}
 use Rattle.reg_data.specs.Looks.{looks_of}
 use Rattle.reg_data.proofs.Made.{data_made}
 use Rattle.reg_data.proofs.telling.tell_data.Goals as goal

@@ -1,7 +1,7 @@
 use Rattle.std.proofs.Common.{◌≡◌, ◌<◌, ◌+◌, ◌∷◌, drop, min, length, sym, ap, ◌∙◌, arith, add-one}
 use Rattle.std.specs.Prelude.{slice_index}
 use Rattle.std.proofs.Math.Seq.{drop-cons}
-use Rattle.reg_links.specs.Inner.{least_from}
+use Rattle.reg_links.specs.Bounds.{least_from}
 use Rattle.reg_links.proofs.Leasts.{least_more}
 use Rattle.reg_links.proofs.fanout.least.Goals as goal
 use Rattle.reg_links.proofs.fanout.least.Goals.{then-count-least, else-count-least}

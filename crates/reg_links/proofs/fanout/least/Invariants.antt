@@ -1,5 +1,5 @@
 use Rattle.std.proofs.Common.{◌≡◌, drop}
-use Rattle.reg_links.specs.Inner.{least_from}
+use Rattle.reg_links.specs.Bounds.{least_from}
 use Rattle.reg_links.proofs.fanout.least.Given as goal
 
 -- the least so far, with the counts that are left

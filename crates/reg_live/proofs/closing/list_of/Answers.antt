@@ -1,5 +1,5 @@
 use Rattle.std.proofs.Common.{rules, sym}
-use Rattle.reg_entries.proofs.Noting.{read_at}
+use Rattle.reg_checkers.proofs.Noting.{read_at}
 use Rattle.reg_live.proofs.closing.list_of.Goals as goal
 
 pub returns-in-Ok : goal.returns-in-Ok

@@ -1,6 +1,6 @@
 use Rattle.std.proofs.Common.{rules, arith, ◌≡◌, ◌++◌, ◌∷◌, [], List, ℕ, length, sym, subst}
 use Rattle.std.proofs.lemmas.Grind.{common_steps}
-use Rattle.reg_entries.specs.History.{IsAt}
+use Rattle.reg_checkers.specs.History.{IsAt}
 use Rattle.reg_live.specs.Passes.{Held, new_pass}
 use Rattle.reg_live.proofs.Owning.{new_push}
 use Rattle.reg_live.proofs.clusters.new_passes.Goals as goal

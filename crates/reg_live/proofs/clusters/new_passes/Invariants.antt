@@ -1,5 +1,5 @@
 use Rattle.std.proofs.Common.{◌≡◌, ℕ, vec_len}
-use Rattle.reg_entries.specs.History.{IsAt}
+use Rattle.reg_checkers.specs.History.{IsAt}
 use Rattle.reg_live.specs.Passes.{Held, new_pass}
 use Rattle.reg_live.proofs.clusters.new_passes.Given as goal
 

@@ -1,8 +1,8 @@
 use Rattle.std.proofs.Common.{◌∙◌, List, refl, sym, ap, subst}
 use Rattle.reg_base.specs.Shape.{Extent}
-use Rattle.reg_entries.specs.declared.entries.Entry.{Entry}
-use Rattle.reg_entries.specs.History.{IsHistory}
-use Rattle.reg_tables.specs.Inner.{finished_play}
+use Rattle.reg_checkers.specs.declared.entries.Entry.{Entry}
+use Rattle.reg_checkers.specs.History.{IsHistory}
+use Rattle.reg_outcomes.specs.Counts.{finished_play}
 use Rattle.reg_outcomes.proofs.Playing.{on_ok, tells_time, told_by}
 use Rattle.reg_outcomes.proofs.plays.count_finished.Goals as goal
 

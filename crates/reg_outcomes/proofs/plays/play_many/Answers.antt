@@ -1,6 +1,6 @@
 use Rattle.std.proofs.Common.{◌≡◌, ◌++◌, ◌∷◌, [], ◌+◌, ◌<◌, ℕ, length, subst, arith}
 use Rattle.std.specs.Prelude.{◌^◌, ◌-◌, ◌%◌}
-use Rattle.reg_tables.proofs.Counting.{has_room}
+use Rattle.reg_outcomes.proofs.Counting.{has_room}
 use Rattle.reg_outcomes.specs.Outcomes.{AreSeen, IsSeen, seed_at}
 use Rattle.reg_outcomes.proofs.Playing.{seen_next, unfinished_few}
 use Rattle.reg_outcomes.proofs.plays.play_many.Goals as goal

@@ -1,6 +1,6 @@
 use Rattle.std.proofs.Common.{◌≡◌, List}
-use Rattle.reg_tables.specs.Tables.{Seen}
-use Rattle.reg_tables.specs.Inner.{IsCounted}
+use Rattle.reg_outcomes.specs.Tables.{Seen}
+use Rattle.reg_outcomes.specs.Counts.{IsCounted}
 use Rattle.reg_outcomes.specs.Outcomes.{AreSeen}
 use Rattle.reg_outcomes.proofs.plays.play_many.Given as goal
 

@@ -1,7 +1,7 @@
 use Rattle.std.proofs.Common.{refl, subst, List, take_all}
 use Rattle.std.specs.BTreeMap.{get}
-use Rattle.reg_entries.specs.declared.entries.Entry.{Entry}
-use Rattle.reg_outcomes.specs.Inner.{IsInTime, id_cmp}
+use Rattle.reg_checkers.specs.declared.entries.Entry.{Entry}
+use Rattle.reg_outcomes.specs.Timing.{IsInTime, id_cmp}
 use Rattle.reg_outcomes.proofs.InTime.{at_get, few_places, in_time, in_time_step, late, never}
 use Rattle.reg_outcomes.proofs.timing.keeps_real_time.Goals as goal
 

@@ -1,5 +1,5 @@
 use Rattle.std.proofs.Common.{take}
-use Rattle.reg_outcomes.specs.Inner.{IsInTime}
+use Rattle.reg_outcomes.specs.Timing.{IsInTime}
 use Rattle.reg_outcomes.proofs.timing.keeps_real_time.Given as goal
 
 -- nothing was late so far

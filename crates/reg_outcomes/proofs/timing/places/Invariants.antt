@@ -1,7 +1,7 @@
 use Rattle.std.proofs.Common.{take}
 use Rattle.std.specs.BTreeMap.{get}
 use Rattle.reg_base.specs.declared.memory.OpId.{OpId}
-use Rattle.reg_outcomes.specs.Inner.{IsPlaceOf, id_cmp}
+use Rattle.reg_outcomes.specs.Timing.{IsPlaceOf, id_cmp}
 use Rattle.reg_outcomes.proofs.timing.places.Given as goal
 
 -- those of the operations so far

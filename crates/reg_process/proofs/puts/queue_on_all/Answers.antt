@@ -1,6 +1,6 @@
 use Rattle.std.proofs.Common.{◌≡◌, List, refl, sym, subst, ◌∙◌, arith}
 use Rattle.std.specs.Prelude.{OnOk}
-use Rattle.reg_steps.specs.declared.outcomes.Put.{Put}
+use Rattle.reg_frames.specs.declared.puts.Put.{Put}
 use Rattle.reg_process.proofs.Calls.{any_ok}
 use Rattle.reg_process.proofs.Outs.{length-outs, sent_all}
 use Rattle.reg_process.proofs.puts.queue_on_all.Goals as goal

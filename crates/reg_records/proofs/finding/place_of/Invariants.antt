@@ -1,5 +1,5 @@
 use Rattle.std.proofs.Common.{◌<◌, ℕ}
-use Rattle.reg_entries.specs.History.{IsAt}
+use Rattle.reg_checkers.specs.History.{IsAt}
 use Rattle.reg_records.specs.Playing.{frames_on}
 use Rattle.reg_records.proofs.finding.place_of.Given as goal
 

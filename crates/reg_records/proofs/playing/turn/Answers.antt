@@ -1,5 +1,5 @@
 use Rattle.std.proofs.Common.{map, refl}
-use Rattle.reg_entries.proofs.Noting.{read_at}
+use Rattle.reg_checkers.proofs.Noting.{read_at}
 use Rattle.reg_records.proofs.Turns.{turns, stands_is}
 use Rattle.reg_records.proofs.playing.turn.Goals as goal
 

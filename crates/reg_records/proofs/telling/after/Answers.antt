@@ -1,5 +1,5 @@
 use Rattle.std.proofs.Common.{rules, refl, ◌<◌, length}
-use Rattle.reg_entries.proofs.Places.{within}
+use Rattle.reg_checkers.proofs.Places.{within}
 use Rattle.reg_records.proofs.telling.after.Goals as goal
 
 pub returns-then-not-stands_at : goal.returns-then-not-stands_at

@@ -1,7 +1,7 @@
 use Rattle.std.proofs.Common.{rules, ◌<◌, ℕ, List, length, sym, subst, arith}
 use Rattle.reg_records.specs.declared.entries.Receipt.{Receipt}
-use Rattle.reg_entries.specs.History.{IsAt}
-use Rattle.reg_entries.proofs.Noting.{read_at}
+use Rattle.reg_checkers.specs.History.{IsAt}
+use Rattle.reg_checkers.proofs.Noting.{read_at}
 use Rattle.reg_records.specs.Receipts.{AreFinished}
 use Rattle.reg_records.proofs.Tellings.{lists_more, lists_all}
 use Rattle.reg_records.proofs.telling.first_untold.Goals as goal

@@ -1,8 +1,8 @@
 use Rattle.std.proofs.Common.{rules, ◌≡◌, ◌↔◌, IsTrue, ℕ, List, length, take, refl, subst, arith, add-one, nat_eq}
 use Rattle.std.proofs.lemmas.List.{take_all}
 use Rattle.std.proofs.lemmas.Bool.Decides.{nat_tests}
-use Rattle.reg_entries.specs.declared.entries.Entry.{Entry}
-use Rattle.reg_entries.proofs.Noting.{read_at}
+use Rattle.reg_checkers.specs.declared.entries.Entry.{Entry}
+use Rattle.reg_checkers.proofs.Noting.{read_at}
 use Rattle.reg_records.specs.Receipts.{AreFinished}
 use Rattle.reg_records.specs.Telling.{IsToldIn}
 use Rattle.reg_records.proofs.Tellings.{told_more, told_other, told_all}

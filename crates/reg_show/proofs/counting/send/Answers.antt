@@ -1,7 +1,7 @@
 use Rattle.std.proofs.Common.{◌∙◌, List, refl, sym, subst}
 use Rattle.reg_text.specs.Writing.{AppendsPart}
-use Rattle.reg_tables.specs.Tables.{Line}
-use Rattle.reg_tables.specs.TableText.{table_text}
+use Rattle.reg_outcomes.specs.Tables.{Line}
+use Rattle.reg_outcomes.specs.TableText.{table_text}
 use Rattle.reg_show.proofs.Sending.{writing_failed, flush_failed}
 use Rattle.reg_show.proofs.counting.send.Goals.{then-is_err-via-then-is_err, then-is_err-via-else-is_err+then-is_err-2}
 use Rattle.reg_show.proofs.counting.send.Goals as goal

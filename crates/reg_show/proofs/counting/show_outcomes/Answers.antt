@@ -1,6 +1,6 @@
 use Rattle.std.proofs.Common.{Err, ap}
 use Rattle.reg_text.proofs.Sent.{all_or_part}
-use Rattle.reg_messages.specs.FaultLines.{fault_line}
+use Rattle.reg_commands.specs.FaultLines.{fault_line}
 use Rattle.reg_show.proofs.counting.show_outcomes.Goals as goal
 
 pub returns-in-Err-clause-refused : goal.returns-in-Err-clause-refused

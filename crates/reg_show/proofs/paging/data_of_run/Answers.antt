@@ -1,5 +1,5 @@
 use Rattle.std.proofs.Common.{◌≡◌, List, Option, None, refl}
-use Rattle.reg_entries.specs.declared.entries.Point.{Point}
+use Rattle.reg_checkers.specs.declared.entries.Point.{Point}
 use Rattle.reg_show.proofs.Told.{data_told}
 use Rattle.reg_show.proofs.paging.data_of_run.Goals as goal
 

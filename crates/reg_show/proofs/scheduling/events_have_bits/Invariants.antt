@@ -1,7 +1,7 @@
 use Rattle.std.proofs.Common.{◌≡◌, ℕ, ◌<◌, Some}
 use Rattle.std.specs.Prelude.{slice_get}
-use Rattle.reg_world.specs.declared.events.Event.{Event}
-use Rattle.reg_show.specs.Inner.{EventHasBits}
+use Rattle.reg_process.specs.declared.events.Event.{Event}
+use Rattle.reg_show.specs.ToldRuns.{EventHasBits}
 use Rattle.reg_show.proofs.scheduling.events_have_bits.Given as goal
 
 -- those of the events so far

@@ -1,7 +1,7 @@
 use Rattle.std.proofs.Common.{ap, subst}
 use Rattle.std.specs.Io.KnownBytes.{Appends}
 use Rattle.reg_text.specs.Writing.{AppendsPart}
-use Rattle.reg_workloads.specs.Loads.{Load, IsLoad}
+use Rattle.reg_inputs.specs.Loads.{Load, IsLoad}
 use Rattle.reg_show.proofs.Accepted.{shows_schedule}
 use Rattle.reg_show.proofs.scheduling.write_play.Goals as goal
 

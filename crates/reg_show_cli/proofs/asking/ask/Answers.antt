@@ -1,5 +1,5 @@
 use Rattle.std.proofs.lemmas.Bool.{false≢true}
-use Rattle.reg_words.specs.Lines.{behind_name}
+use Rattle.reg_args.specs.Lines.{behind_name}
 use Rattle.reg_show_cli.proofs.Counted.{chosen}
 use Rattle.reg_show_cli.proofs.asking.ask.Goals as goal
 

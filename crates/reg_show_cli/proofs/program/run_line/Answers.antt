@@ -1,5 +1,5 @@
 use Rattle.std.proofs.Common.{rules}
-use Rattle.reg_words.specs.Lines.{behind_name}
+use Rattle.reg_args.specs.Lines.{behind_name}
 use Rattle.reg_show_cli.proofs.Counted.{plays_fit}
 use Rattle.reg_show_cli.proofs.program.run_line.Goals as goal
 

@@ -1,7 +1,7 @@
 use Rattle.std.proofs.Common.{◌∙◌, Some, None, map, string_bytes, drop, refl, sym, ap, subst}
 use Rattle.clap.specs.Words.{HasKind, app_of, fault_of, is_simple_and_free, subcommand_rows_of, takes}
-use Rattle.reg_words.specs.Lines.{seen}
-use Rattle.reg_words.proofs.Chosen.{no_fault, none_met, one_met, rows_found}
+use Rattle.reg_args.specs.Lines.{seen}
+use Rattle.reg_args.proofs.Chosen.{no_fault, none_met, one_met, rows_found}
 use Rattle.reg_show_cli.specs.Lines.{is_fair, name_of}
 use Rattle.reg_show_cli.specs.Words.{awshow}
 use Rattle.reg_show_cli.proofs.Lines.{awshow_lines}

@@ -1,7 +1,7 @@
 use Rattle.std.proofs.Common.{ℕ, ◌≡◌, ◌∙◌, List, ap, sym, refl, Some, true, inl, inr}
 use Rattle.std.proofs.lemmas.Option.{none-some}
 use Rattle.reg_text.specs.Forms.{is_word, is_numeral}
-use Rattle.reg_text.specs.Inner.{IsValuedForm}
+use Rattle.reg_text.specs.Reading.{IsValuedForm}
 use Rattle.reg_text.proofs.Formed.{valued_parts, word_lacks, no_truth}
 use Rattle.reg_text.proofs.OpForms.{valued_none}
 use Rattle.reg_text.proofs.forms.valued_form.Goals as goal

@@ -1,7 +1,7 @@
 use Rattle.std.proofs.Common.{◌++◌, Option, subst}
-use Rattle.reg_entries.specs.declared.entries.Entry.TheVariants.{Answered}
-use Rattle.reg_entries.specs.History.{IsHistory}
-use Rattle.reg_steps.specs.declared.steps.Reply.{Reply}
+use Rattle.reg_checkers.specs.declared.entries.Entry.TheVariants.{Answered}
+use Rattle.reg_checkers.specs.History.{IsHistory}
+use Rattle.reg_process.specs.declared.steps.Reply.{Reply}
 use Rattle.reg_world.specs.World.{answers_in}
 use Rattle.reg_world.proofs.code.Entering.{not_refused}
 use Rattle.reg_world.proofs.books.push_answer.Goals as goal

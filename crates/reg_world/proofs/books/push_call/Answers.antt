@@ -1,7 +1,7 @@
 use Rattle.std.proofs.Common.{◌++◌, subst}
-use Rattle.reg_entries.specs.declared.entries.Entry.TheVariants.{Called}
-use Rattle.reg_entries.specs.History.{IsHistory}
-use Rattle.reg_steps.specs.declared.steps.Step.{Step}
+use Rattle.reg_checkers.specs.declared.entries.Entry.TheVariants.{Called}
+use Rattle.reg_checkers.specs.History.{IsHistory}
+use Rattle.reg_process.specs.declared.steps.Step.{Step}
 use Rattle.reg_world.specs.World.{calls_in}
 use Rattle.reg_world.proofs.code.Entering.{not_refused}
 use Rattle.reg_world.proofs.books.push_call.Goals as goal

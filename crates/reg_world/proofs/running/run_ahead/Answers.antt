@@ -1,7 +1,7 @@
 use Rattle.std.proofs.Common.{◌≡◌, ◌<◌, ℕ, zero, suc, List, [], ◌∷◌, None, length, take, drop, sym, ap, ◌∙◌, subst, false, arith}
 use Rattle.std.specs.Prelude.{slice_get}
 use Rattle.std.proofs.lemmas.List.{take_all}
-use Rattle.reg_world.specs.declared.events.Event.{Event}
+use Rattle.reg_process.specs.declared.events.Event.{Event}
 use Rattle.reg_world.specs.Worlds.{Accepts, Refuses, after_events, run_in}
 use Rattle.reg_world.specs.WorldParts.{made_of}
 use Rattle.reg_world.proofs.code.Ahead.{first_ahead, next_ahead}

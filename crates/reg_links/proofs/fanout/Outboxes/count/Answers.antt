@@ -2,7 +2,7 @@ use Rattle.std.proofs.Common.{ℕ, List, sym, ◌≡◌, ◌+◌, ◌<◌, ◌�
 use Rattle.std.specs.Prelude.{slice_index, slice_set}
 use Rattle.std.proofs.lemmas.List.{get_or_default}
 use Rattle.reg_links.specs.Sending.{Sending, IsCounted, next_all}
-use Rattle.reg_links.specs.Inner.{least_from}
+use Rattle.reg_links.specs.Bounds.{least_from}
 use Rattle.reg_links.proofs.Sendings.{rises, moved, moved_good, counted_all, counted_all_good}
 use Rattle.reg_links.proofs.fanout.Outboxes.count.Goals as goal
 

@@ -1,6 +1,6 @@
 use Rattle.std.proofs.Common.{ℕ, List, [], sym, subst}
 use Rattle.reg_frames.specs.declared.bodies.Body.{Body}
-use Rattle.reg_links.specs.Inner.{InStep}
+use Rattle.reg_links.specs.Bounds.{InStep}
 use Rattle.reg_links.proofs.Sendings.{nothing_queued}
 use Rattle.reg_links.proofs.fanout.Outboxes.new.Goals as goal
 

@@ -3,7 +3,7 @@ use Rattle.std.proofs.lemmas.Grind.{common_steps}
 use Rattle.reg_base.specs.declared.limits.TheConstants.{FRAME_NUMBERS}
 use Rattle.reg_frames.specs.declared.bodies.Body.{Body}
 use Rattle.reg_links.specs.Sending.{Sending, next_all}
-use Rattle.reg_links.specs.Inner.{InStep}
+use Rattle.reg_links.specs.Bounds.{InStep}
 use Rattle.reg_links.proofs.Sendings.{body_good}
 use Rattle.reg_links.proofs.fanout.Outboxes.queue.Goals as goal
 

@@ -6,7 +6,7 @@ use Rattle.reg_process.specs.Process.{State, seen_at}
 use Rattle.reg_base.specs.declared.limits.TheConstants.{LAST_TIME}
 use Rattle.reg_holdback.specs.Waiting.{Waiting}
 use Rattle.reg_process.specs.Parts.{Parts, state_of}
-use Rattle.reg_process.specs.Inner.{Good}
+use Rattle.reg_process.specs.Bounds.{Good}
 use Rattle.reg_process.specs.Queued.{outs_of}
 use Rattle.reg_process.proofs.Pending.{has_numbers, not_stale}
 use Rattle.reg_process.specs.Steps.{TakesCast}

@@ -3,7 +3,7 @@ use Rattle.std.specs.Prelude.{slice_index_or, slice_set, cond, not, nat_lt}
 use Rattle.reg_process.specs.Process.{State, peer_at, acknowledged}
 use Rattle.reg_process.specs.Process as process
 use Rattle.reg_process.specs.Parts.{Parts, state_of, nothing}
-use Rattle.reg_process.specs.Inner.{Good}
+use Rattle.reg_process.specs.Bounds.{Good}
 use Rattle.reg_process.specs.Queued.{outs_of}
 use Rattle.reg_process.proofs.Deliveries.{length-merged}
 use Rattle.reg_process.proofs.Acks.{count_fits, counted_state, set_good, ok_means, err_means}

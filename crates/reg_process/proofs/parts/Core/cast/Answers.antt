@@ -4,7 +4,7 @@ use Rattle.reg_base.specs.Memory.{register_of}
 use Rattle.reg_process.specs.Process.{State}
 use Rattle.reg_base.specs.declared.limits.TheConstants.{LAST_TIME}
 use Rattle.reg_process.specs.Parts.{Parts, state_of}
-use Rattle.reg_process.specs.Inner.{Good}
+use Rattle.reg_process.specs.Bounds.{Good}
 use Rattle.reg_process.specs.Queued.{outs_of}
 use Rattle.reg_process.proofs.Pending.{has_numbers}
 use Rattle.reg_process.specs.Steps.{MakesCast}

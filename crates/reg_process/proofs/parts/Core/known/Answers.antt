@@ -2,7 +2,7 @@ use Rattle.std.proofs.Common.{◌≡◌, ◌<◌, ◌-◌, length, sym, ap, subs
 use Rattle.reg_links.specs.Sending.{link_to}
 use Rattle.reg_process.specs.Process.{State, peer_at}
 use Rattle.reg_process.specs.Known.{known_of}
-use Rattle.reg_steps.specs.declared.known.Known.{Known}
+use Rattle.reg_process.specs.declared.known.Known.{Known}
 use Rattle.reg_process.specs.Parts.{Parts}
 use Rattle.reg_process.specs.Queued.{outs_of}
 use Rattle.reg_process.proofs.Deliveries.{length-merged}

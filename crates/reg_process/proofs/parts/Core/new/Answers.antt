@@ -2,7 +2,7 @@ use Rattle.std.proofs.Common.{◌≤◌, replicate, sym, ap, subst, ◌∙◌}
 use Rattle.reg_base.specs.declared.limits.TheConstants.{MOST_PROCESSES}
 use Rattle.reg_process.specs.Parts.{nothing, state_of}
 use Rattle.reg_process.specs.Queued.{outs_of}
-use Rattle.reg_process.specs.Inner.{Good}
+use Rattle.reg_process.specs.Bounds.{Good}
 use Rattle.reg_process.proofs.Again.{first_good, same_parts}
 use Rattle.reg_process.proofs.parts.Core.new.Goals as goal
 

@@ -3,7 +3,7 @@ use Rattle.std.specs.Prelude.{OnErr}
 use Rattle.reg_process.specs.Process.{State, resent}
 use Rattle.reg_process.specs.Parts.{Parts}
 use Rattle.reg_process.specs.Queued.{outs_of}
-use Rattle.reg_steps.specs.declared.outcomes.Put.{Put}
+use Rattle.reg_frames.specs.declared.puts.Put.{Put}
 use Rattle.reg_process.specs.Puts.{puts}
 use Rattle.reg_process.proofs.Again.{again_is, on_err}
 use Rattle.reg_process.proofs.parts.Core.tick.Goals as goal

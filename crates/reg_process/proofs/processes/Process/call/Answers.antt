@@ -1,5 +1,5 @@
 use Rattle.std.proofs.Common.{true, ap, subst, ◌∙◌}
-use Rattle.reg_steps.specs.declared.steps.Step.TheVariants.{Call}
+use Rattle.reg_process.specs.declared.steps.Step.TheVariants.{Call}
 use Rattle.reg_process.specs.Events.{Kept, Steps, Refused}
 use Rattle.reg_process.proofs.Calls.{call_steps, call_refused}
 use Rattle.reg_process.proofs.processes.Process.call.Goals as goal

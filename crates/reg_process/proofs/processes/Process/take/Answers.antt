@@ -1,5 +1,5 @@
 use Rattle.std.proofs.Common.{rules, sym, subst, ◌∙◌}
-use Rattle.reg_steps.specs.declared.steps.Step.TheVariants.{Take}
+use Rattle.reg_process.specs.declared.steps.Step.TheVariants.{Take}
 use Rattle.reg_process.specs.Events.{Kept, Steps}
 use Rattle.reg_process.proofs.Calls.{take_steps}
 use Rattle.reg_process.proofs.processes.Process.take.Goals as goal

@@ -1,6 +1,6 @@
 use Rattle.std.proofs.Common.{◌∙◌, ◌++◌, ◌-◌, length, List, ℕ, ap, sym, subst, arith, length-set}
 use Rattle.reg_base.specs.Order.{In}
-use Rattle.reg_entries.specs.History.{IsAt}
+use Rattle.reg_checkers.specs.History.{IsAt}
 use Rattle.reg_world.specs.Tallies.{Tally}
 use Rattle.reg_world.specs.World.{op_id, calls_in}
 use Rattle.reg_world.specs.Pages.{Pages, tally_at, tallies_after, calls_after, CallFits, TimesDiffer}

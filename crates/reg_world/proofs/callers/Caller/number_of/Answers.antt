@@ -1,5 +1,5 @@
 use Rattle.std.proofs.Common.{◌∙◌, List, subst, ap}
-use Rattle.reg_entries.specs.History.{IsAt}
+use Rattle.reg_checkers.specs.History.{IsAt}
 use Rattle.reg_world.specs.declared.callers.Note.{Note}
 use Rattle.reg_world.specs.Tallies.{Tally}
 use Rattle.reg_world.proofs.code.Noted.{number_next, at_index}

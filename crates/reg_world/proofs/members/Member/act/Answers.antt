@@ -1,5 +1,5 @@
 use Rattle.std.proofs.Common.{◌∙◌, List, length, subst, ap, arith}
-use Rattle.reg_steps.specs.declared.outcomes.Put.{Put}
+use Rattle.reg_frames.specs.declared.puts.Put.{Put}
 use Rattle.reg_base.specs.Order.{In}
 use Rattle.reg_process.specs.Process.{step}
 use Rattle.reg_world.specs.Members.{Standing}

@@ -1,7 +1,7 @@
 use Rattle.std.proofs.Common.{◌≡◌, ◌∙◌, ap, subst, List, length, false, arith}
 use Rattle.std.proofs.lemmas.Result.{err_from_is_err_and}
 use Rattle.reg_base.specs.Shape.{Extent}
-use Rattle.reg_world.specs.declared.events.Event.{Event}
+use Rattle.reg_process.specs.declared.events.Event.{Event}
 use Rattle.reg_world.specs.Pages.{Pages}
 use Rattle.reg_world.specs.Worlds.{Made, RunRefuses, new_world}
 use Rattle.reg_world.proofs.code.Ahead.{with_ahead, same_extent}

@@ -1,5 +1,5 @@
 use Rattle.std.proofs.Common.{List, sym, subst, rules}
-use Rattle.reg_entries.specs.declared.entries.Entry.{Entry}
+use Rattle.reg_checkers.specs.declared.entries.Entry.{Entry}
 use Rattle.reg_world.specs.RealTime.{KeepsUpdates, KeepsAllUpdates}
 use Rattle.reg_world.proofs.running.World.serial_order.Goals as goal
 

@@ -1,0 +1,11 @@
+use Rattle.std.proofs.Common.{ℕ, List, ◌∙◌}
+use Rattle.reg_checkers.specs.declared.entries.Point.{Point}
+use Rattle.reg_checkers.specs.declared.entries.Entry.{Entry}
+use Rattle.reg_checkers.specs.Checks.{IsPointFault}
+use Rattle.reg_c.proofs.Rowwise.{judged}
+use Rattle.reg_c.proofs.verdicts.judge_points.Goals as goal
+
+pub returns : goal.returns
+returns c =
+    judged (λ (r : ℕ) (es : List Entry) (found : List Point). IsPointFault r es found c.in-Err-check_points.fault) c.args.processes c.args.registers c.args.entries.now c.in-Ok.history.entries c.in-Ok.history.shape
+    c.deref.result.now _ c.in-Ok.ensures.0 c.in-Ok.ensures.1 c.entries.ensures.in_place (c.deref.ensures.value ∙ c.in-Ok-points_of.ensures) c.in-Err-check_points.ensures

@@ -1,0 +1,56 @@
+-- Events, replies and faults as numbers.
+use Rattle.std.specs.Prelude.{ℕ, ◌==◌, nat_lt, Option, Some, None, if◌then◌else◌}
+use Rattle.reg_base.specs.declared.memory.Op.TheVariants.{Read, Write, Swap}
+use Rattle.reg_base.specs.declared.memory.Answer.{Answer}
+use Rattle.reg_base.specs.declared.memory.Answer.TheVariants.{Done, Value}
+use Rattle.reg_process.specs.declared.steps.Reply.{Reply}
+use Rattle.reg_process.specs.declared.events.Event.{Event}
+use Rattle.reg_process.specs.declared.events.Event.TheVariants.{Call, Take, Tick}
+use Rattle.reg_world.specs.declared.faults.WorldFault.{WorldFault}
+use Rattle.reg_world.specs.declared.faults.WorldFault.TheVariants.{Failed, TooManyEvents, NoProcess, Busy, NoRegister, TooManyOperations, NoFrame, OutOfMemory}
+
+-- the event that these numbers say
+abbrev pub event_of : ℕ → ℕ → ℕ → ℕ → ℕ → Option Event
+event_of kind process number from value =
+    (if kind == 3 then Some (Take from process number) else
+    (if kind == 4 then Some (Tick process) else
+    (if nat_lt number 65536 then
+    (if kind == 0 then Some (Call process (Read number)) else
+    (if kind == 1 then Some (Call process (Write number value)) else
+    (if kind == 2 then Some (Call process (Swap number value)) else None))) else None)))
+
+abbrev pub answer_code : Answer → ℕ
+answer_code Done = 1
+answer_code (Value v) = 2
+
+abbrev pub answer_value : Answer → ℕ
+answer_value Done = 0
+answer_value (Value v) = v
+
+abbrev pub reply_code : Option Reply → ℕ
+reply_code None = 0
+reply_code (Some r) = answer_code r.answer
+
+abbrev pub fault_code : WorldFault → ℕ
+fault_code Failed = 16
+fault_code TooManyEvents = 17
+fault_code NoProcess = 18
+fault_code Busy = 19
+fault_code NoRegister = 20
+fault_code TooManyOperations = 21
+fault_code NoFrame = 22
+fault_code OutOfMemory = 23
+
+-- what a call tells besides: the numbers said no event, the world was closed, there is no such shape, there is no such front end
+
+abbrev pub no_event : ℕ
+no_event = 32
+
+abbrev pub no_world : ℕ
+no_world = 33
+
+abbrev pub no_shape : ℕ
+no_shape = 34
+
+abbrev pub no_front : ℕ
+no_front = 35

@@ -1,0 +1,252 @@
+//! A world that a caller holds.
+ghost use Rattle.std.specs.Prelude.{◌≡◌, ◌<◌, [], Some, IfErr, IfOk, IfSome, None, vec_capacity};
+ghost use Rattle.reg_checkers.specs.Orders.{IsSerial, IsPointOrder};
+ghost use Rattle.reg_world.specs.declared.faults.WorldFault.{WorldFault};
+ghost use Rattle.reg_c.specs.declared.holding.Kept.{Kept};
+ghost use Rattle.reg_c.specs.Events.{event_of, fault_code};
+ghost use Rattle.reg_c.specs.Worlds.{Goes, GoesIn, HasOrders, Steps, events_in, history_in, kept_at_first, looked, number_of, refusal_of, unmade};
+
+use crate::events::{code_of_fault, code_of_reply, event, value_of_answer};
+use crate::looking::{Look, look_at, of_entry, of_id, of_point};
+use crate::unboxed::Unboxed;
+use reg_base::{OpId, Shape};
+use reg_checkers::{Entry, Point};
+use reg_front::{FrontEnd, Linear, LocalRead, LocalWrite, RealTime};
+use reg_process::Reply;
+use reg_world::{Event, PackedWires, World, WorldFault};
+use std::alloc::Global;
+
+/// These numbers say no event.
+const NO_EVENT: u32 = 32;
+/// There is no world: it was closed.
+const NO_WORLD: u32 = 33;
+/// There is no world of this shape.
+const NO_SHAPE: u32 = 34;
+/// There is no front end of this number.
+const NO_FRONT: u32 = 35;
+
+/// A world whose wires take four bytes a frame.
+type Packed<F> = World<F, Global, PackedWires<Global>>;
+
+/// A world under the front end that its caller named, or none: it was closed.
+#[derive(Drop)]
+pub enum Kept {
+    Linear(Packed<Linear>),
+    LocalRead(Packed<LocalRead>),
+    LocalWrite(Packed<LocalWrite>),
+    Closed,
+}
+
+/// A world with the reply of its last step, and what was last asked of its order.
+#[derive(Drop)]
+pub struct Held {
+    pub world: Kept,
+    pub reply: Option<Reply>,
+    pub order: Vec<OpId>,
+    pub points: Vec<Point>,
+}
+
+/// A world of the front end of this number, in which nothing happened yet.
+fn begin(alloc: Global, front: u32, shape: Shape) -> Result<Kept, u32>
+    ensures world { IfOk result (λ kept. kept_at_first front shape ≡ Some kept) }
+    ensures why { IfErr result (λ code. code ≡ unmade front) }
+{
+    let refused = code_of_fault(WorldFault::OutOfMemory);
+    match front {
+        0 => match World::new(alloc, shape) {
+            Ok(world) => Ok(Kept::Linear(world)),
+            Err(_) => Err(refused),
+        },
+        1 => match World::new(alloc, shape) {
+            Ok(world) => Ok(Kept::LocalRead(world)),
+            Err(_) => Err(refused),
+        },
+        2 => match World::new(alloc, shape) {
+            Ok(world) => Ok(Kept::LocalWrite(world)),
+            Err(_) => Err(refused),
+        },
+        _ => Err(NO_FRONT),
+    }
+}
+
+/// A world of this shape, in which nothing happened yet: 0, 1 and 2 are the front ends linear, local-read and local-write.
+pub fn open(alloc: Global, front: u32, processes: u32, registers: u32) -> Result<Unboxed<Held>, u32>
+    ensures world { IfOk result (λ b. kept_at_first front (record { processes = processes; registers = registers }) ≡ Some b.value.world) }
+    ensures nothing_else { IfOk result (λ b. (b.value.reply ≡ None) × (b.value.order.items ≡ []) × (b.value.points.items ≡ [])) }
+    ensures refused { IfErr result (λ code. 0 < code) }
+    ensures why { IfErr result (λ code. code ≡ refusal_of front processes registers) }
+{
+    let Ok(shape) = Shape::new(processes, registers) else {
+        return Err(NO_SHAPE);
+    };
+    let world = begin(alloc, front, shape)?;
+    let held = Held {
+        world,
+        reply: None,
+        order: Vec::new(alloc),
+        points: Vec::new(alloc),
+    };
+    match Box::new(alloc, held) {
+        Ok(held) => Ok(Unboxed::of(held)),
+        Err(_) => Err(code_of_fault(WorldFault::OutOfMemory)),
+    }
+}
+
+/// Makes an event in a world: the reply, and its number or that of the refusal.
+fn go<F: FrontEnd>(world: &mut Packed<F>, event: &Event) -> (Option<Reply>, u32)
+    ensures { Goes F.start event.now world.old world.new result.0 result.1 }
+{
+    match world.step_reply(event) {
+        Ok(reply) => (reply, code_of_reply(reply)),
+        Err(fault) => (None, code_of_fault(fault)),
+    }
+}
+
+fn go_in(kept: &mut Kept, event: &Event) -> (Option<Reply>, u32)
+    ensures { GoesIn event.now kept.old kept.new result.0 result.1 }
+{
+    match kept {
+        Kept::Linear(world) => go(world, event),
+        Kept::LocalRead(world) => go(world, event),
+        Kept::LocalWrite(world) => go(world, event),
+        Kept::Closed => (None, NO_WORLD),
+    }
+}
+
+/// Makes the event that these numbers say.
+pub fn step(held: &mut Held, kind: u32, process: u8, number: u32, from: u8, value: u64) -> u32
+    ensures { Steps (event_of kind process number from value) held.old held.new result }
+{
+    let Some(event) = event(kind, process, number, from, value) else {
+        return NO_EVENT;
+    };
+    let (reply, code) = go_in(&mut held.world, &event);
+    held.reply = reply;
+    code
+}
+
+/// A serial order of the world's history, None for want of memory.
+fn serial<F: FrontEnd>(world: &Packed<F>) -> Option<Vec<OpId>>
+    ensures { IfSome result (λ ids. IsSerial world.now.registers world.now.history ids.items) }
+{
+    match world.serial_order() {
+        Ok((_, ids)) => Some(ids),
+        Err(_) => None,
+    }
+}
+
+/// A point order of the world's history, None for want of memory.
+fn points<F: RealTime>(world: &Packed<F>) -> Option<Vec<Point>>
+    ensures { IfSome result (λ points. IsPointOrder world.now.registers world.now.history points.items) }
+{
+    match world.linearization() {
+        Ok((_, points)) => Some(points),
+        Err(_) => None,
+    }
+}
+
+/// The orders of what is kept, None for want of memory.
+fn orders(alloc: Global, kept: &Kept) -> Option<(Vec<OpId>, Vec<Point>)>
+    ensures { IfSome result (λ o. HasOrders kept.now o.0.items o.1.items) }
+{
+    match kept {
+        Kept::Linear(world) => Some((serial(world)?, points(world)?)),
+        Kept::LocalRead(world) => Some((serial(world)?, Vec::new(alloc))),
+        Kept::LocalWrite(world) => Some((serial(world)?, Vec::new(alloc))),
+        Kept::Closed => Some((Vec::new(alloc), Vec::new(alloc))),
+    }
+}
+
+/// Asks the world for its serial order and, where its front end has one, its point order, which `look` then shows.
+pub fn arrange(held: &mut Held) -> u32
+    ensures same { (held.new.world ≡ held.old.world) × (held.new.reply ≡ held.old.reply) }
+    ensures right { result ≡ 0 → HasOrders held.new.world held.new.order.items held.new.points.items }
+    ensures why { 0 < result → result ≡ fault_code WorldFault.OutOfMemory }
+{
+    let alloc = *held.order.allocator();
+    let Some((order, points)) = orders(alloc, &held.world) else {
+        return code_of_fault(WorldFault::OutOfMemory);
+    };
+    held.order = order;
+    held.points = points;
+    0
+}
+
+/// How many events were accepted.
+fn events(kept: &Kept) -> u64
+    ensures { result ≡ events_in kept.now }
+{
+    let events = match kept {
+        Kept::Linear(world) => world.events(),
+        Kept::LocalRead(world) => world.events(),
+        Kept::LocalWrite(world) => world.events(),
+        Kept::Closed => 0,
+    };
+    u64::from(events)
+}
+
+/// The calls and answers.
+fn history(kept: &Kept) -> &[Entry]
+    ensures { result.now ≡ history_in kept.now }
+{
+    match kept {
+        Kept::Linear(world) => world.history().entries(),
+        Kept::LocalRead(world) => world.history().entries(),
+        Kept::LocalWrite(world) => world.history().entries(),
+        Kept::Closed => &[],
+    }
+}
+
+/// What a look tells.
+fn number(held: &Held, look: Look, at: usize) -> u64
+    ensures { result ≡ looked held.now look at }
+{
+    match look {
+        Look::Events => events(&held.world),
+        Look::Entries => history(&held.world).len() as u64,
+        Look::OfEntry(part) => match history(&held.world).get(at) {
+            Some(entry) => of_entry(part, entry),
+            None => 0,
+        },
+        Look::ReplyValue => match held.reply {
+            Some(reply) => value_of_answer(reply.answer),
+            None => 0,
+        },
+        Look::ReplyPlace => match held.reply {
+            Some(reply) => reply.place,
+            None => 0,
+        },
+        Look::Ids => held.order.len() as u64,
+        Look::OfId(part) => match held.order.get(at) {
+            Some(id) => of_id(part, id),
+            None => 0,
+        },
+        Look::Points => held.points.len() as u64,
+        Look::OfPoint(part) => match held.points.get(at) {
+            Some(point) => of_point(part, point),
+            None => 0,
+        },
+    }
+}
+
+/// One number of what is held, as the number `what` says.
+pub fn look(held: &mut Held, what: u32, at: u32) -> u64
+    ensures same { held.new ≡ held.old }
+    ensures value { result ≡ number_of held.old what at }
+{
+    match look_at(what) {
+        Some(look) => number(held, look, at as usize),
+        None => 0,
+    }
+}
+
+/// Gives back what is held.
+pub fn close(held: &mut Held)
+    ensures { (held.new.world ≡ Kept.Closed) × (held.new.reply ≡ None) × (vec_capacity held.new.order ≡ 0) × (vec_capacity held.new.points ≡ 0) }
+{
+    let alloc = *held.order.allocator();
+    held.world = Kept::Closed;
+    held.reply = None;
+    held.order = Vec::new(alloc);
+    held.points = Vec::new(alloc);
+}

@@ -1,0 +1,9 @@
+pub mod History
+pub mod Progress
+pub mod Facts
+pub mod Table
+pub mod Log
+pub mod Checks
+pub mod FaultTexts
+pub mod Orders
+pub mod Selections

@@ -1,0 +1,162 @@
+//! Scripts performed by threads, and the report of what they made.
+ghost use Rattle.std.specs.Prelude.{◌≡◌, ◌≢◌, ◌≤◌, IfOk, IfErr, IsErrOf, IfSome};
+ghost use Rattle.std.specs.Io.KnownBytes.{Appends};
+ghost use Rattle.reg_text.specs.Writing.{AppendsPart};
+ghost use Rattle.reg_inputs.specs.Loads.{Load};
+ghost use Rattle.reg_commands.specs.Plays.{Holds};
+ghost use Rattle.reg_commands.specs.NoPoints.{HasNoPoints};
+ghost use Rattle.reg_commands.specs.Replays.{ShowsPoints};
+ghost use Rattle.reg_cli.specs.declared.stops.Stop.{Stop};
+ghost use Rattle.reg_cli.specs.declared.stops.Stop.TheVariants.{Command};
+ghost use Rattle.reg_cli.specs.Lives.{ShowsLive, IsReportOfLive, Lives, BlamesStop};
+ghost use Rattle.reg_cli.specs.ThreadStops.{IsOfThreads};
+ghost use Rattle.reg_cli.specs.StopLines.{stop_line};
+ghost use Rattle.reg_commands.specs.declared.faults.Fault.TheVariants.{Output};
+
+use crate::stop_lines::write_stop;
+use crate::stops::{Stop, stopped};
+use reg_commands::{
+    Fault, read_input, read_workload, report_run, report_run_with_points, write_out,
+};
+use reg_front::{Front, FrontEnd, Linear, LocalRead, LocalWrite, RealTime};
+use reg_history::Report;
+use reg_threads::run_scripts_in;
+use reg_workload::Workload;
+use reg_world::PackedWires;
+use std::alloc::Global;
+use std::io::{Read, Write};
+use std::sync::Wait;
+use std::thread::Threads;
+use std::time::Clock;
+
+/// What the commands tell, told of threads.
+fn told(fault: Fault) -> Stop
+    ensures { result ≡ Command fault }
+{
+    Stop::Command { fault }
+}
+
+/// The report of what threads made of a workload, with no points.
+fn report_of<
+    F: FrontEnd + Send + Sync + 'static,
+    R: Threads + Wait + Clock + Copy + Send + Sync + 'static,
+>(rt: R, alloc: Global, work: Workload) -> Result<Report, Stop>
+    ensures shows { IfOk result (λ r. ShowsLive F.start work HasNoPoints r) }
+    ensures why { IfErr result (λ stop. IsOfThreads stop) }
+{
+    match run_scripts_in::<F, R, PackedWires>(rt, alloc, work.shape, work.scripts) {
+        Ok(closed) => match report_run(alloc, work.front, work.names, closed.world) {
+            Ok(report) => Ok(report),
+            Err(fault) => Err(told(fault)),
+        },
+        Err(stop) => Err(stopped(stop)),
+    }
+}
+
+/// The report of what threads made of a workload, with its points.
+fn report_with_points<
+    F: RealTime + Send + Sync + 'static,
+    R: Threads + Wait + Clock + Copy + Send + Sync + 'static,
+>(rt: R, alloc: Global, work: Workload) -> Result<Report, Stop>
+    ensures shows { IfOk result (λ r. ShowsLive F.start work (ShowsPoints F.start) r) }
+    ensures why { IfErr result (λ stop. IsOfThreads stop) }
+{
+    match run_scripts_in::<F, R, PackedWires>(rt, alloc, work.shape, work.scripts) {
+        Ok(closed) => match report_run_with_points(alloc, work.front, work.names, closed.world) {
+            Ok(report) => Ok(report),
+            Err(fault) => Err(told(fault)),
+        },
+        Err(stop) => Err(stopped(stop)),
+    }
+}
+
+/// The report of what threads made of a workload, by its front end.
+fn perform<R: Threads + Wait + Clock + Copy + Send + Sync + 'static>(
+    rt: R,
+    alloc: Global,
+    work: Workload,
+) -> Result<Report, Stop>
+    ensures shows { IfOk result (λ r. IsReportOfLive work r) }
+    ensures why { IfErr result (λ stop. IsOfThreads stop) }
+{
+    match work.front {
+        Front::Linear => report_with_points::<Linear, R>(rt, alloc, work),
+        Front::LocalRead => report_of::<LocalRead, R>(rt, alloc, work),
+        Front::LocalWrite => report_of::<LocalWrite, R>(rt, alloc, work),
+    }
+}
+
+/// The report of what threads made of the workload that a document says.
+fn performed<R: Threads + Wait + Clock + Copy + Send + Sync + 'static>(
+    rt: R,
+    alloc: Global,
+    text: &str,
+) -> Result<Report, Stop>
+    ensures shows { IfOk result (λ r. (work : Load) × Holds text.now work × IsReportOfLive work r) }
+    ensures why { IfErr result (λ stop. BlamesStop stop text.now) }
+    ensures kind { IfErr result (λ stop. stop ≢ Command Output) }
+{
+    let work = read_workload(alloc, alloc, text).map_err(told)?;
+    perform(rt, alloc, work)
+}
+
+/// Has threads perform the workload that a document says, and writes the report.
+fn perform_text<R: Threads + Wait + Clock + Copy + Send + Sync + 'static, W: Write>(
+    rt: R,
+    alloc: Global,
+    text: &str,
+    writer: &mut W,
+) -> Result<(), Stop>
+    ensures lives { IfOk result (λ _. Lives (Appends (W.contents writer.old) (W.contents writer.new)) text.now) }
+    ensures why { IfErr result (λ stop. BlamesStop stop text.now) }
+    ensures silent { IfErr result (λ stop. stop ≢ Command Output → writer.new ≡ writer.old) }
+    ensures part { IsErrOf result (Command Output) → Lives (AppendsPart (W.contents writer.old) (W.contents writer.new)) text.now }
+{
+    let report = performed(rt, alloc, text)?;
+    match write_out(writer, &report) {
+        Ok(()) => Ok(()),
+        Err(fault) => Err(told(fault)),
+    }
+}
+
+/// Reads a workload, has threads perform it, and writes the report.
+fn obey<R: Threads + Wait + Clock + Copy + Send + Sync + 'static, I: Read, W: Write>(
+    rt: R,
+    alloc: Global,
+    reader: &mut I,
+    writer: &mut W,
+) -> Result<(), Stop>
+    ensures lives { IfOk result (λ _. IfSome (I.remaining reader.old) (Lives (Appends (W.contents writer.old) (W.contents writer.new)))) }
+    ensures why { IfErr result (λ stop. IfSome (I.remaining reader.old) (BlamesStop stop)) }
+    ensures silent { IfErr result (λ stop. stop ≢ Command Output → writer.new ≡ writer.old) }
+    ensures part { IsErrOf result (Command Output) → IfSome (I.remaining reader.old) (Lives (AppendsPart (W.contents writer.old) (W.contents writer.new))) }
+{
+    match read_input(alloc, reader) {
+        Ok(text) => perform_text(rt, alloc, text.as_str(), writer),
+        Err(fault) => Err(told(fault)),
+    }
+}
+
+/// Reads a workload, has its scripts performed by threads, and writes the report of the run that they made: one thread for
+/// each script, one for the mail of each process, and one for ticks, over an honest road. Its seed, odds and budget have no
+/// part. The answer is the status: 0, or 1 where something was refused, with the line of the stop on `errors`. That
+/// `errors` fails changes no status. All threads have ended by then.
+pub fn run_live<
+    R: Threads + Wait + Clock + Copy + Send + Sync + 'static,
+    I: Read,
+    W: Write,
+    E: Write,
+>(rt: R, alloc: Global, reader: &mut I, writer: &mut W, errors: &mut E) -> u8
+    ensures range { result ≤ 1 }
+    ensures lives { result ≡ 0 → IfSome (I.remaining reader.old) (Lives (Appends (W.contents writer.old) (W.contents writer.new))) }
+    ensures refused { result ≡ 1 → (stop : Stop) × IfSome (I.remaining reader.old) (BlamesStop stop) × (stop ≢ Command Output → writer.new ≡ writer.old) × (stop ≡ Command Output → IfSome (I.remaining reader.old) (Lives (AppendsPart (W.contents writer.old) (W.contents writer.new)))) × AppendsPart (E.contents errors.old) (E.contents errors.new) (stop_line stop) }
+    ensures quiet { result ≡ 0 → errors.new ≡ errors.old }
+{
+    match obey(rt, alloc, reader, writer) {
+        Ok(()) => 0,
+        Err(stop) => {
+            let _ = write_stop(errors, stop);
+            1
+        }
+    }
+}

@@ -1,0 +1,39 @@
+//! Why a command gives no answer.
+use reg_history::ReadWhy;
+use reg_inputs::WorkloadFault;
+use reg_world::WorldFault;
+use std::fmt;
+use thiserror::Error;
+
+/// Why a command gives no answer. As text, the line of it on standard error.
+#[derive(Clone, Copy, Debug, PartialEq, Eq, Error)]
+pub enum Fault {
+    Unread,
+    TooLong,
+    NotText,
+    Output,
+    Line { line: u64, why: ReadWhy },
+    Event { at: usize, fault: WorldFault },
+    Workload { fault: WorkloadFault },
+    OutOfMemory,
+}
+
+impl fmt::Display for Fault {
+    ghost use Rattle.std.specs.Prelude.{Some};
+    ghost use Rattle.reg_commands.specs.FaultLines.{fault_text};
+
+    ghost output = { λ fault. Some (fault_text fault) };
+
+    fn fmt<W: fmt::Write>(&self, f: &mut fmt::Formatter<W>) -> fmt::Result {
+        match *self {
+            Fault::Unread => f.write_str("input: read"),
+            Fault::TooLong => f.write_str("input: too long"),
+            Fault::NotText => f.write_str("input: not text"),
+            Fault::Output => f.write_str("output: write"),
+            Fault::Line { line, why } => write!(f, "line {line}: {why}"),
+            Fault::Event { at, fault } => write!(f, "event {at}: {fault}"),
+            Fault::Workload { fault } => write!(f, "{fault}"),
+            Fault::OutOfMemory => f.write_str("out of memory"),
+        }
+    }
+}

@@ -1,9 +1,0 @@
-pub mod Places
-pub mod Histories
-pub mod Pushing
-pub mod OneMore
-pub mod Placing
-pub mod Adding
-pub mod Keeping
-pub mod Tables
-pub mod Noting

@@ -1,4 +1,0 @@
-pub mod History
-pub mod Progress
-pub mod Facts
-pub mod Table

@@ -1,4 +1,0 @@
-use Rattle.reg_histories.proofs.check.check_serial.Goals as goal
-
-pub returns : goal.returns
-returns g c = rw (c.shape.ensures, c.entries.ensures.value) at c.judge_serial.ensures

@@ -1,5 +1,0 @@
-use Rattle.reg_histories.proofs.RealTime.{point_order_is_serial as the_lemma}
-use Rattle.reg_histories.proofs.laws.point_order_is_serial.Goals as goal
-
-pub returns : goal.returns
-returns c = the_lemma

@@ -1,5 +1,0 @@
-use Rattle.reg_histories.proofs.RealTime.{stands_before as the_lemma}
-use Rattle.reg_histories.proofs.laws.point_order_respects_time.Goals as goal
-
-pub returns : goal.returns
-returns c = the_lemma

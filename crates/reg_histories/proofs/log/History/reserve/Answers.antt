@@ -1,5 +1,0 @@
-use Rattle.std.proofs.Common.{rules}
-use Rattle.reg_histories.proofs.log.History.reserve.Goals as goal
-
-pub returns-clause-room : goal.returns-clause-room
-returns-clause-room g c = search rules

@@ -1,5 +1,0 @@
-use Rattle.std.proofs.Common.{rules}
-use Rattle.reg_histories.proofs.points.is_beside.Goals as goal
-
-pub returns-then-point-fact : goal.returns-then-point-fact
-returns-then-point-fact c = search rules

@@ -1,0 +1,108 @@
+-- The lines as they are written are those of the text.
+use Rattle.std.proofs.Common.{ℕ, ◌≡◌, ◌+◌, ◌-◌, replicate, arith, List, [], ◌∷◌, ◌++◌, length, map, codes, Option, Some, refl, sym, ap, subst, ◌∙◌, append_assoc, append-nil, ◌<◌, take, get_or}
+use Rattle.std.specs.Fmt.{decimal}
+use Rattle.reg_text.specs.declared.writing.Sink.{Sink}
+use Rattle.reg_text.specs.Writing.{Puts}
+use Rattle.reg_text.proofs.Sent.{puts_two, puts_as}
+use Rattle.std.proofs.lemmas.Grind.{flat_map-append}
+use Rattle.std.proofs.lemmas.List.{take_more}
+use Rattle.std.proofs.lemmas.List.Folds.{flat_map-map}
+use Rattle.reg_base.specs.declared.memory.OpId.{OpId}
+use Rattle.reg_text.specs.Columns.{to_right}
+use Rattle.reg_text.specs.Lines.{text_of, lines_by}
+use Rattle.reg_checkers.specs.declared.entries.Point.{Point}
+use Rattle.reg_checkers.specs.declared.entries.Entry.{Entry}
+use Rattle.reg_history.specs.Counted.{counted_lines}
+use Rattle.reg_history.specs.Reports.{Contents, head_lines, tail_lines, report_text}
+use Rattle.reg_history.specs.declared.versions.Version.TheVariants.{Two}
+use Rattle.reg_history.specs.EntryLines.{entry_text}
+use Rattle.reg_history.specs.IdLines.{id_text, point_text}
+
+pub counted_text : {X : Type 0} (mark : List ℕ) (f : X → List ℕ) (xs : List X) (rest : List (List ℕ)) → text_of (counted_lines mark f xs rest) ≡ (mark ++ decimal (length xs) ++ 10 ∷ []) ++ (lines_by f xs ++ text_of rest)
+counted_text mark f xs rest =
+    ap (λ l. (mark ++ decimal (length xs) ++ 10 ∷ []) ++ l) (flat_map-append (λ line. line ++ 10 ∷ []) (map f xs) rest ∙ ap (λ l. l ++ text_of rest) (flat_map-map (λ line. line ++ 10 ∷ []) f xs))
+
+right_none : (d : List ℕ) → to_right 0 d ≡ d
+right_none d = let none : 0 - length d ≡ 0 = omega arith in ap (λ k. replicate k 32 ++ d) none
+
+-- the parts of lines, joined otherwise
+pub id_joined : (p n mark : List ℕ) → codes "p" ++ ((to_right 0 p ++ codes " #") ++ (to_right 0 n ++ mark)) ≡ (codes "p" ++ (p ++ 32 ∷ (codes "#" ++ n))) ++ mark
+id_joined p n mark =
+    ap (λ l. codes "p" ++ ((l ++ codes " #") ++ (to_right 0 n ++ mark))) (right_none p)
+    ∙ ap (λ l. codes "p" ++ ((p ++ codes " #") ++ (l ++ mark))) (right_none n)
+    ∙ ap (λ l. codes "p" ++ l) (append_assoc p (codes " #") (n ++ mark) ∙ sym (append_assoc p (codes " #" ++ n) mark))
+
+pub point_joined : (p : Point) → (id_text p.id ++ codes " at ") ++ (decimal p.at ++ 10 ∷ []) ≡ point_text p ++ 10 ∷ []
+point_joined p =
+    let process = decimal p.id.process in
+    let number = decimal p.id.number in
+    let at = decimal p.at in
+    append_assoc (id_text p.id) (codes " at ") (at ++ 10 ∷ [])
+    ∙ ap (λ l. codes "p" ++ l) (append_assoc process (codes " #" ++ number) (codes " at " ++ (at ++ 10 ∷ []))
+    ∙ sym (append_assoc process (codes " #" ++ (number ++ (codes " at " ++ at))) (10 ∷ []) ∙ ap (λ l. process ++ (codes " #" ++ l)) (append_assoc number (codes " at " ++ at) (10 ∷ []))))
+
+columns_end : (a p n x y : List ℕ) → (a ++ (codes "  p" ++ (p ++ (codes "  #" ++ (n ++ x))))) ++ y ≡ a ++ (codes "  p" ++ (p ++ (codes "  #" ++ (n ++ (x ++ y)))))
+columns_end a p n x y =
+    append_assoc a (codes "  p" ++ (p ++ (codes "  #" ++ (n ++ x)))) y
+    ∙ ap (λ l. a ++ (codes "  p" ++ l)) (append_assoc p (codes "  #" ++ (n ++ x)) y ∙ ap (λ l. p ++ (codes "  #" ++ l)) (append_assoc n x y))
+
+pub entry_joined : (a p n mark rest : List ℕ) → (a ++ (codes "  p" ++ (p ++ (codes "  #" ++ (n ++ mark))))) ++ (rest ++ 10 ∷ []) ≡ (a ++ (codes "  p" ++ (p ++ (codes "  #" ++ (n ++ (mark ++ rest)))))) ++ 10 ∷ []
+entry_joined a p n mark rest =
+    columns_end a p n mark (rest ++ 10 ∷ [])
+    ∙ ap (λ l. a ++ (codes "  p" ++ (p ++ (codes "  #" ++ (n ++ l))))) (sym (append_assoc mark rest (10 ∷ [])))
+    ∙ sym (columns_end a p n (mark ++ rest) (10 ∷ []))
+
+pub columns_joined : (a p n mark : List ℕ) → (a ++ codes "  p") ++ ((p ++ codes "  #") ++ (n ++ mark)) ≡ a ++ (codes "  p" ++ (p ++ (codes "  #" ++ (n ++ mark))))
+columns_joined a p n mark =
+    append_assoc a (codes "  p") ((p ++ codes "  #") ++ (n ++ mark)) ∙ ap (λ l. a ++ (codes "  p" ++ l)) (append_assoc p (codes "  #") (n ++ mark))
+
+-- one more point
+pub puts_point : {S : Type 0} (held : S → Option (List ℕ)) (a b c d : Sink S) (ps : List Point) (i : ℕ) (p : Point) → i < length ps → Puts held a b (lines_by point_text (take i ps)) → Puts held b c (id_text (get_or ps i p).id ++ codes " at ") → Puts held c d (decimal (get_or ps i p).at ++ 10 ∷ []) → Puts held a d (lines_by point_text (take (i + 1) ps))
+puts_point held a b c d ps i p l h k m =
+    let q = get_or ps i p in
+    puts_line held a b d point_text ps i p l h (puts_as held b d ((id_text q.id ++ codes " at ") ++ (decimal q.at ++ 10 ∷ [])) (point_text q ++ 10 ∷ []) (point_joined q)
+    (puts_two held b c d (id_text q.id ++ codes " at ") (decimal q.at ++ 10 ∷ []) k m))
+
+pub head_text : (front : List ℕ) (p : ℕ) (names : List (List ℕ))
+    → (codes "awreg report 2" ++ [] ++ 10 ∷ []) ++ ((codes "front " ++ front ++ 10 ∷ []) ++ ((codes "processes " ++ decimal p ++ 10 ∷ []) ++ ((codes "registers " ++ decimal (length names) ++ 10 ∷ []) ++ lines_by (λ name. name) names))) ≡ text_of (head_lines Two front p names [])
+head_text front p names =
+    ap (λ l. (codes "awreg report 2" ++ [] ++ 10 ∷ []) ++ ((codes "front " ++ front ++ 10 ∷ []) ++ ((codes "processes " ++ decimal p ++ 10 ∷ []) ++ l)))
+    (ap (λ l. (codes "registers " ++ decimal (length names) ++ 10 ∷ []) ++ l) (sym (append-nil (lines_by (λ name. name) names))) ∙ sym (counted_text (codes "registers ") (λ name. name) names []))
+
+pub puts_five : {S : Type 0} (held : S → Option (List ℕ)) (a b d e f h : Sink S) (s t u v w : List ℕ) → Puts held a b s → Puts held b d t → Puts held d e u → Puts held e f v → Puts held f h w → Puts held a h (s ++ (t ++ (u ++ (v ++ w))))
+puts_five held a b d e f h s t u v w p q r l m =
+    puts_two held a b h s (t ++ (u ++ (v ++ w))) p (puts_two held b d h t (u ++ (v ++ w)) q (puts_two held d e h u (v ++ w) r (puts_two held e f h v w l m)))
+
+puts_six : {S : Type 0} (held : S → Option (List ℕ)) (a b d e f h k : Sink S) (s t u v w x : List ℕ) → Puts held a b s → Puts held b d t → Puts held d e u → Puts held e f v → Puts held f h w → Puts held h k x → Puts held a k (s ++ (t ++ (u ++ (v ++ (w ++ x)))))
+puts_six held a b d e f h k s t u v w x p q r l m n =
+    puts_two held a b k s (t ++ (u ++ (v ++ (w ++ x)))) p (puts_five held b d e f h k t u v w x q r l m n)
+
+head_split : (front : List ℕ) (p : ℕ) (names rest : List (List ℕ)) → head_lines Two front p names [] ++ rest ≡ head_lines Two front p names rest
+head_split front p names rest =
+    ap (λ l. codes "awreg report 2" ∷ (codes "front " ++ front) ∷ (codes "processes " ++ decimal p) ∷ (codes "registers " ++ decimal (length names)) ∷ l) (append_assoc (map (λ name. name) names) [] rest)
+
+core : (r : Contents)
+    → text_of (head_lines Two r.front r.shape.processes r.names []) ++ ((codes "history " ++ decimal (length r.entries) ++ 10 ∷ []) ++ (lines_by (entry_text r.names) r.entries ++ ((codes "order " ++ decimal (length r.order) ++ 10 ∷ []) ++ (lines_by id_text r.order ++ text_of (tail_lines r.points))))) ≡ report_text r
+core r = sym (
+    ap text_of (sym (head_split r.front r.shape.processes r.names (counted_lines (codes "history ") (entry_text r.names) r.entries (counted_lines (codes "order ") id_text r.order (tail_lines r.points)))))
+    ∙ flat_map-append (λ line. line ++ 10 ∷ []) (head_lines Two r.front r.shape.processes r.names []) (counted_lines (codes "history ") (entry_text r.names) r.entries (counted_lines (codes "order ") id_text r.order (tail_lines r.points)))
+    ∙ ap (λ l. text_of (head_lines Two r.front r.shape.processes r.names []) ++ l) (counted_text (codes "history ") (entry_text r.names) r.entries (counted_lines (codes "order ") id_text r.order (tail_lines r.points))
+    ∙ ap (λ l. (codes "history " ++ decimal (length r.entries) ++ 10 ∷ []) ++ (lines_by (entry_text r.names) r.entries ++ l)) (counted_text (codes "order ") id_text r.order (tail_lines r.points))))
+
+pub report_written : {S : Type 0} (held : S → Option (List ℕ)) (r : Contents) (a b d e f h k : Sink S) (front : List ℕ) (p : ℕ) (entries : List Entry) (ids : List OpId) → front ≡ r.front → p ≡ r.shape.processes → entries ≡ r.entries → ids ≡ r.order
+    → Puts held a b (text_of (head_lines Two front p r.names [])) → Puts held b d (codes "history " ++ decimal (length entries) ++ 10 ∷ []) → Puts held d e (lines_by (entry_text r.names) entries)
+    → Puts held e f (codes "order " ++ decimal (length ids) ++ 10 ∷ []) → Puts held f h (lines_by id_text ids) → Puts held h k (text_of (tail_lines r.points)) → Puts held a k (report_text r)
+report_written held r a b d e f h k front p entries ids w x y z s t u v n q =
+    let whole : text_of (head_lines Two front p r.names []) ++ ((codes "history " ++ decimal (length entries) ++ 10 ∷ []) ++ (lines_by (entry_text r.names) entries ++ ((codes "order " ++ decimal (length ids) ++ 10 ∷ []) ++ (lines_by id_text ids ++ text_of (tail_lines r.points))))) ≡ report_text r =
+    ap (λ l. text_of (head_lines Two l p r.names []) ++ ((codes "history " ++ decimal (length entries) ++ 10 ∷ []) ++ (lines_by (entry_text r.names) entries ++ ((codes "order " ++ decimal (length ids) ++ 10 ∷ []) ++ (lines_by id_text ids ++ text_of (tail_lines r.points)))))) w
+    ∙ ap (λ l. text_of (head_lines Two r.front l r.names []) ++ ((codes "history " ++ decimal (length entries) ++ 10 ∷ []) ++ (lines_by (entry_text r.names) entries ++ ((codes "order " ++ decimal (length ids) ++ 10 ∷ []) ++ (lines_by id_text ids ++ text_of (tail_lines r.points)))))) x
+    ∙ ap (λ l. text_of (head_lines Two r.front r.shape.processes r.names []) ++ ((codes "history " ++ decimal (length l) ++ 10 ∷ []) ++ (lines_by (entry_text r.names) l ++ ((codes "order " ++ decimal (length ids) ++ 10 ∷ []) ++ (lines_by id_text ids ++ text_of (tail_lines r.points)))))) y
+    ∙ ap (λ l. text_of (head_lines Two r.front r.shape.processes r.names []) ++ ((codes "history " ++ decimal (length r.entries) ++ 10 ∷ []) ++ (lines_by (entry_text r.names) r.entries ++ ((codes "order " ++ decimal (length l) ++ 10 ∷ []) ++ (lines_by id_text l ++ text_of (tail_lines r.points)))))) z
+    ∙ core r in
+    puts_as held a k (text_of (head_lines Two front p r.names []) ++ ((codes "history " ++ decimal (length entries) ++ 10 ∷ []) ++ (lines_by (entry_text r.names) entries ++ ((codes "order " ++ decimal (length ids) ++ 10 ∷ []) ++ (lines_by id_text ids ++ text_of (tail_lines r.points)))))) (report_text r) whole (puts_six held a b d e f h k (text_of (head_lines Two front p r.names [])) (codes "history " ++ decimal (length entries) ++ 10 ∷ []) (lines_by (entry_text r.names) entries) (codes "order " ++ decimal (length ids) ++ 10 ∷ []) (lines_by id_text ids) (text_of (tail_lines r.points)) s t u v n q)
+
+pub points_written : {S : Type 0} (held : S → Option (List ℕ)) (a b d e : Sink S) (ps : List Point) → Puts held a b (codes "points " ++ decimal (length ps) ++ 10 ∷ []) → Puts held b d (lines_by point_text ps) → Puts held d e (codes "end" ++ [] ++ 10 ∷ []) → Puts held a e (text_of (tail_lines (Some ps)))
+points_written held a b d e ps s t u =
+    let P : List ℕ → Type 0 = λ l. Puts held a e l in
+    subst P (ap (λ l. (codes "points " ++ decimal (length ps) ++ 10 ∷ []) ++ l) (ap (λ l. lines_by point_text ps ++ l) refl) ∙ sym (counted_text (codes "points ") point_text ps (codes "end" ∷ [])))
+    (puts_two held a b e (codes "points " ++ decimal (length ps) ++ 10 ∷ []) (lines_by point_text ps ++ (codes "end" ++ [] ++ 10 ∷ [])) s (puts_two held b d e (lines_by point_text ps) (codes "end" ++ [] ++ 10 ∷ []) t u))

@@ -1,0 +1,5 @@
+use Rattle.std.proofs.Common.{rules}
+use Rattle.reg_history.proofs.reports.write_report.Goals as goal
+
+pub returns : goal.returns
+returns g c = search rules

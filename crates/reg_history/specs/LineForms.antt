@@ -1,0 +1,101 @@
+-- The forms of lines, whatever the limits, and why a line is none of an entry's or of an item's. To be believed: a promise speaks of them.
+use Rattle.std.specs.Prelude.{ℕ, ◌≡◌, ◌≢◌, ◌≤◌, ◌⊎◌, true, List, ◌++◌, codes, length, ◌∷◌}
+use Rattle.std.specs.Fmt.{decimal}
+use Rattle.reg_base.specs.Shape.{Extent}
+use Rattle.reg_text.specs.Forms.{is_numeral, HasOpForm, IsOpWhy}
+use Rattle.reg_text.specs.declared.faults.Why.{Why}
+use Rattle.reg_text.specs.declared.faults.Why.TheVariants.{Range}
+use Rattle.reg_history.specs.declared.report_faults.ReadWhy.{ReadWhy}
+use Rattle.reg_history.specs.declared.report_faults.ReadWhy.TheVariants.{Form as Misspelt, Range as BeyondLimit, Place as OutOfPlace}
+use Rattle.reg_checkers.specs.declared.entries.Entry.{Entry}
+use Rattle.reg_history.specs.declared.versions.Version.{Version}
+use Rattle.reg_checkers.specs.History.{IsInPlace}
+use Rattle.reg_history.specs.EntryLines.{columns_of, entry_text, ColumnsFit, EntryFits}
+use Rattle.reg_text.specs.Lines.{AllFit}
+use Rattle.reg_history.specs.ReadFaults.{why_of}
+use Rattle.reg_history.specs.Counted.{counted_lines}
+
+-- the entry is within the limits, and in place after those before it
+abbrev pub Follows : Version → List (List ℕ) → Extent → List Entry → Entry → Type 0
+Follows version names shape before e = EntryFits version names e × IsInPlace shape.processes shape.registers before e
+
+-- the form of an answer, whatever its value
+abbrev pub HasAnswerForm : List ℕ → Type 0
+HasAnswerForm text = (text ≡ codes "done") ⊎ ((digits : List ℕ) × ((is_numeral digits ≡ true) × (text ≡ codes "value " ++ digits)))
+
+-- the form of what stands behind the columns
+abbrev pub HasTailForm : List ℕ → Type 0
+HasTailForm rest = ((text : List ℕ) × ((rest ≡ codes "call    " ++ text) × HasOpForm text)) ⊎ ((text : List ℕ) × ((rest ≡ codes "answer  " ++ text) × HasAnswerForm text))
+
+-- a numeral that has room in a column of so many places
+pub record FitsColumn (places : ℕ) (numeral : List ℕ) : Type 0 where
+  pub numeral_is : is_numeral numeral ≡ true
+  pub short : length numeral ≤ places
+
+-- the line has columns with these numerals, whatever the limits, and then this rest
+pub record HasColumns (line at process number rest : List ℕ) : Type 0 where
+  pub at_fits : FitsColumn 8 at
+  pub process_fits : FitsColumn 3 process
+  pub number_fits : FitsColumn 6 number
+  pub spelled : line ≡ columns_of at process number rest
+
+-- the numerals are of numbers within the limits
+abbrev pub AreWithin : Version → List ℕ → List ℕ → List ℕ → Type 0
+AreWithin version at process number =
+    (a p n : ℕ) × (at ≡ decimal a) × (process ≡ decimal p) × (number ≡ decimal n) × ColumnsFit version a p n
+
+-- the line has the form of an entry's, whatever the limits and the names
+abbrev pub HasEntryForm : List ℕ → Type 0
+HasEntryForm line = (at process number rest : List ℕ) × HasColumns line at process number rest × HasTailForm rest
+
+-- Why what stands behind the columns is not read, though it has its form: the value of an answer is beyond its range, or the
+-- operation of a call tells.
+pub record IsTailWhy (names : List (List ℕ)) (rest : List ℕ) (why : Why) : Type 0 where
+  pub answer : (text : List ℕ) → rest ≡ codes "answer  " ++ text → why ≡ Range
+  pub call : (text : List ℕ) → rest ≡ codes "call    " ++ text → IsOpWhy names text why
+
+-- why a line is no entry's: its form is not kept, or a number of its columns is beyond its limit, or what stands behind them tells
+pub record IsEntryWhy (version : Version) (names : List (List ℕ)) (line : List ℕ) (why : ReadWhy) : Type 0 where
+  pub form : (¬ (HasEntryForm line)) → why ≡ Misspelt
+  pub beyond : (at process number rest : List ℕ) → HasColumns line at process number rest → HasTailForm rest → ¬ (AreWithin version at process number) → why ≡ BeyondLimit
+  pub within : (at process number rest : List ℕ) → HasColumns line at process number rest → HasTailForm rest → AreWithin version at process number → (told : Why) × IsTailWhy names rest told × (why ≡ why_of told)
+
+-- it is none of an entry's
+pub record IsNoEntry (version : Version) (names : List (List ℕ)) (line : List ℕ) (why : ReadWhy) : Type 0 where
+  pub none : (e : Entry) → EntryFits version names e → line ≢ entry_text names e
+  pub told : IsEntryWhy version names line why
+
+-- it is that of an entry which may not come after those before it
+pub record IsMisplaced (version : Version) (names : List (List ℕ)) (shape : Extent) (before : List Entry) (line : List ℕ) (why : ReadWhy) : Type 0 where
+  pub entry : Entry
+  pub spelled : line ≡ entry_text names entry
+  pub fits : EntryFits version names entry
+  pub misplaced : ¬ (IsInPlace shape.processes shape.registers before entry)
+  pub told : why ≡ OutOfPlace
+
+-- the line has the form of an operation's, whatever the limits: these numerals in their places
+abbrev pub IsIdForm : List ℕ → List ℕ → List ℕ → Type 0
+IsIdForm line process number = (is_numeral process ≡ true) × (is_numeral number ≡ true) × (line ≡ codes "p" ++ (process ++ 32 ∷ (codes "#" ++ number)))
+
+abbrev pub HasIdForm : List ℕ → Type 0
+HasIdForm line = (process : List ℕ) × ((number : List ℕ) × IsIdForm line process number)
+
+-- the same of a point's line
+abbrev pub IsPointForm : List ℕ → List ℕ → List ℕ → List ℕ → Type 0
+IsPointForm line process number at = (is_numeral process ≡ true) × (is_numeral number ≡ true) × (is_numeral at ≡ true)
+    × (line ≡ codes "p" ++ (process ++ 32 ∷ (codes "#" ++ (number ++ 32 ∷ (codes "at " ++ at)))))
+
+abbrev pub HasPointForm : List ℕ → Type 0
+HasPointForm line = (process : List ℕ) × ((number : List ℕ) × ((at : List ℕ) × IsPointForm line process number at))
+
+-- The line is none of an item's, for this reason: where it has the form of one, a number of it is beyond its limit.
+pub record IsBadLine {X : Type 0} (line_of : X → List ℕ) (Fits : X → Type 0) (HasForm : List ℕ → Type 0) (line : List ℕ) (why : ReadWhy) : Type 0 where
+  pub none : (x : X) → Fits x → line ≢ line_of x
+  pub range : HasForm line → why ≡ BeyondLimit
+  pub form : (¬ HasForm line) → why ≡ Misspelt
+
+-- the lines are those of a count and of as many elements, each fit, no more than the limit, and then the rest
+pub record IsCounted {X : Type 0} (mark : List ℕ) (line_of : X → List ℕ) (Fits : List X → X → Type 0) (limit : ℕ) (old rest : List (List ℕ)) (xs : List X) : Type 0 where
+  pub lines : old ≡ counted_lines mark line_of xs rest
+  pub fit : AllFit Fits xs
+  pub few : length xs ≤ limit

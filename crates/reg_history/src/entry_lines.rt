@@ -1,0 +1,143 @@
+//! Readers of the lines of a history.
+ghost use Rattle.std.specs.Prelude.{◌≡◌, ◌↔◌, ◌⊎◌, ◌++◌, ℕ, List, true, codes, None, Some, IfSome, IsSome, IsSomeAnd, IsTrue};
+ghost use Rattle.reg_base.specs.Names.{names_fault};
+ghost use Rattle.reg_base.specs.declared.memory.Answer.{Answer};
+ghost use Rattle.reg_checkers.specs.declared.entries.Entry.{Entry};
+ghost use Rattle.reg_text.specs.declared.faults.Why.{Why as AnyWhy};
+ghost use Rattle.reg_history.specs.EntryLines.{AnswerFits, columns_text, ColumnsFit, entry_text, EntryFits};
+ghost use Rattle.reg_text.specs.Ops.{answer_text};
+ghost use Rattle.reg_history.specs.LineForms.{AreWithin, HasAnswerForm, HasColumns, HasEntryForm, HasTailForm, IsTailWhy};
+ghost use Rattle.reg_history.specs.ReadFaults.{why_of};
+ghost use Rattle.reg_text.specs.Forms.{is_numeral as is_numeral_of};
+
+use crate::column_forms::columns_form;
+use crate::report_faults::ReadWhy;
+use crate::versions::Version;
+use reg_base::limits::{LAST_EVENT, MOST_OPERATIONS};
+use reg_base::{Answer, Names, OpId};
+use reg_checkers::Entry;
+use reg_text::{Why, is_numeral, left_field, numeral, op_form, read_op, right_field, skip, within};
+use std::alloc::Allocator;
+
+/// The answer that is the whole of the bytes.
+fn read_answer(bytes: &[u8]) -> Option<Answer>
+    ensures read { IfSome result (λ x. (bytes.now ≡ answer_text x) × AnswerFits x) }
+    ensures whole { (x : Answer) → AnswerFits x → bytes.now ≡ answer_text x → result ≡ Some x }
+{
+    if bytes == b"done".as_slice() {
+        return Some(Answer::Done);
+    }
+    let digits = skip(bytes, b"value ")?;
+    let number = numeral(digits)?;
+    Some(Answer::Value(number))
+}
+
+fn are_within(version: Version, at: u64, process: u64, number: u64) -> bool
+    ensures { IsTrue result ↔ ColumnsFit version at process number }
+{
+    at <= LAST_EVENT as u64
+        && process <= version.last_process() as u64
+        && number < MOST_OPERATIONS as u64
+}
+
+/// The columns of a line, and the rest.
+fn read_columns(line: &[u8], version: Version) -> Option<(u32, u8, u32, &[u8])>
+    ensures read { IfSome result (λ p. (line.now ≡ columns_text p.0 p.1 p.2 p.3.now) × ColumnsFit version p.0 p.1 p.2) }
+    ensures whole { (at process number : ℕ) (rest : List ℕ) → ColumnsFit version at process number → line.now ≡ columns_text at process number rest → IsSomeAnd result (λ p. (p.0 ≡ at) × (p.1 ≡ process) × (p.2 ≡ number) × (p.3.now ≡ rest)) }
+{
+    let (at, after) = right_field(line, 8, b"  p")?;
+    let (process, others) = left_field(after, 3, b"  #")?;
+    let (number, rest) = left_field(others, 6, b"  ")?;
+    if !are_within(version, at, process, number) {
+        return None;
+    }
+    Some((at as u32, process as u8, number as u32, rest))
+}
+
+/// The entry of a line. None where the line is none, and then `why_entry` says why.
+pub fn read_entry<A: Allocator + Copy>(
+    line: &[u8],
+    names: &Names<A>,
+    version: Version,
+) -> Option<Entry>
+    requires { names_fault names.now ≡ None }
+    ensures read { IfSome result (λ e. (line.now ≡ entry_text names.now e) × EntryFits version names.now e) }
+    ensures whole { (e : Entry) → EntryFits version names.now e → line.now ≡ entry_text names.now e → result ≡ Some e }
+{
+    let (at, process, number, rest) = read_columns(line, version)?;
+    let id = OpId { process, number };
+    if let Some(text) = skip(rest, b"call    ") {
+        let op = read_op(text, names)?;
+        return Some(Entry::Called { at, id, op });
+    }
+    let text = skip(rest, b"answer  ")?;
+    let answer = read_answer(text)?;
+    Some(Entry::Answered { at, id, answer })
+}
+
+/// Whether the bytes have an answer's form, of a line that was not read. It isn't `read_answer`, which takes no numeral that is out
+/// of range: by its form alone a line is refused for its range and not for its form.
+fn answer_form(text: &[u8]) -> Option<Why>
+    ensures read { IfSome result (λ why. HasAnswerForm text.now × (why ≡ Why.Range)) }
+    ensures done { text.now ≡ codes "done" → result ≡ Some Why.Range }
+    ensures value { (digits : List ℕ) → is_numeral_of digits ≡ true → text.now ≡ codes "value " ++ digits → result ≡ Some Why.Range }
+{
+    if text == b"done".as_slice() {
+        return Some(Why::Range);
+    }
+    let digits = skip(text, b"value ")?;
+    if is_numeral(digits) {
+        Some(Why::Range)
+    } else {
+        None
+    }
+}
+
+/// Why what stands behind the columns is not read. None where its form is not kept.
+fn tail_form<A: Allocator + Copy>(rest: &[u8], names: &Names<A>) -> Option<Why>
+    ensures read { IfSome result (λ why. HasTailForm rest.now × IsTailWhy names.now rest.now why × ((why ≡ Why.Range) ⊎ (why ≡ Why.Name))) }
+    ensures whole { HasTailForm rest.now → IsSome result }
+{
+    match skip(rest, b"call    ") {
+        Some(text) => op_form(text, names),
+        None => answer_form(skip(rest, b"answer  ")?),
+    }
+}
+
+/// Whether the numerals of the columns are of numbers within the limits.
+fn columns_fit(version: Version, at: &[u8], process: &[u8], number: &[u8]) -> bool
+    ensures { IsTrue result ↔ AreWithin version at.now process.now number.now }
+{
+    within(at, LAST_EVENT as u64)
+        && within(process, version.last_process() as u64)
+        && within(number, MOST_OPERATIONS as u64 - 1)
+}
+
+/// Why the line of an entry is not read. None where its form is not kept.
+fn entry_form<A: Allocator + Copy>(line: &[u8], names: &Names<A>, version: Version) -> Option<Why>
+    ensures read { IfSome result (λ why. HasEntryForm line.now × ((why ≡ Why.Range) ⊎ (why ≡ Why.Name))) }
+    ensures whole { HasEntryForm line.now → IsSome result }
+    ensures beyond { (at process number rest : List ℕ) → HasColumns line.now at process number rest → ¬ (AreWithin version at process number) → IfSome result (λ why. why ≡ Why.Range) }
+    ensures within { (at process number rest : List ℕ) → HasColumns line.now at process number rest → AreWithin version at process number → IfSome result (IsTailWhy names.now rest) }
+{
+    let (at, process, number, rest) = columns_form(line)?;
+    let why = tail_form(rest, names)?;
+    if columns_fit(version, at, process, number) {
+        Some(why)
+    } else {
+        Some(Why::Range)
+    }
+}
+
+/// Why a line is no entry: its form is not kept, or a number of its columns is beyond its limit, or what stands behind them
+/// tells.
+pub fn why_entry<A: Allocator + Copy>(line: &[u8], names: &Names<A>, version: Version) -> ReadWhy
+    ensures form { (¬ (HasEntryForm line.now)) → result ≡ ReadWhy.Form }
+    ensures beyond { (at process number rest : List ℕ) → HasColumns line.now at process number rest → HasTailForm rest → ¬ (AreWithin version at process number) → result ≡ ReadWhy.Range }
+    ensures within { (at process number rest : List ℕ) → HasColumns line.now at process number rest → HasTailForm rest → AreWithin version at process number → (why : AnyWhy) × IsTailWhy names.now rest why × (result ≡ why_of why) }
+{
+    match entry_form(line, names, version) {
+        Some(why) => ReadWhy::from(why),
+        None => ReadWhy::Form,
+    }
+}

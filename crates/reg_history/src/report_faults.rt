@@ -1,0 +1,125 @@
+//! Why a report is refused.
+ghost use Rattle.std.specs.Prelude.{◌≡◌};
+ghost use Rattle.reg_history.specs.Whys.{why_text};
+
+use reg_text::{Lines, TextFault, Why};
+use std::fmt;
+use thiserror::Error;
+
+/// Why parts are no report: the first of these that applies.
+#[derive(Clone, Copy, Debug, PartialEq, Eq, Error)]
+pub enum ReportFault {
+    /// The front end's name isn't one word of 1 to 16 letters a to z or hyphens.
+    #[error("front")]
+    Front,
+    /// There are not as many names as the history has registers.
+    #[error("names")]
+    Names,
+    /// An id, a point or the length of a list is beyond the limits of a report.
+    #[error("range")]
+    Range,
+}
+
+/// What is wrong with a line of a report: the first of these that applies.
+#[derive(Clone, Copy, Debug, PartialEq, Eq, Error)]
+pub enum ReadWhy {
+    /// The line is spelled otherwise than such lines are.
+    Form,
+    /// A number, or how many names there are, is beyond its limit.
+    Range,
+    /// A name is misspelt, repeated or not known.
+    Name,
+    /// The entry may not come after those before it.
+    Place,
+    /// The text ends before this line, or goes on behind its last one.
+    End,
+}
+
+impl ReadWhy {
+    /// The word for it.
+    pub fn word(self) -> &'static str
+        ensures { result.now ≡ why_text self }
+    {
+        match self {
+            ReadWhy::Form => "form",
+            ReadWhy::Range => "range",
+            ReadWhy::Name => "name",
+            ReadWhy::Place => "place",
+            ReadWhy::End => "end",
+        }
+    }
+}
+
+impl fmt::Display for ReadWhy {
+    ghost use Rattle.std.specs.Prelude.{Some};
+    ghost use Rattle.reg_history.specs.Whys.{why_text};
+
+    ghost output = { λ why. Some (why_text why) };
+
+    fn fmt<W: fmt::Write>(&self, f: &mut fmt::Formatter<W>) -> fmt::Result {
+        f.write_str(self.word())
+    }
+}
+
+/// Why a text is no report.
+#[derive(Clone, Copy, Debug, PartialEq, Eq, Error)]
+pub enum ReadFault {
+    /// This line is the first that is wrong. Lines are counted from 1.
+    #[error("line {line}: {why}")]
+    Line { line: u64, why: ReadWhy },
+    /// There was no memory to keep what was read.
+    #[error("out of memory")]
+    OutOfMemory,
+}
+
+/// Why a report was not written.
+#[derive(Clone, Copy, Debug, PartialEq, Eq, Error)]
+pub enum WriteFault {
+    /// The writer failed. How much it took before is not known.
+    #[error("write")]
+    Write,
+    /// There was no memory.
+    #[error("out of memory")]
+    OutOfMemory,
+}
+
+impl From<Why> for ReadWhy {
+    ghost use Rattle.reg_history.specs.ReadFaults.{why_of};
+
+    ghost from_gives = { λ why gives. gives ≡ why_of why };
+
+    fn from(why: Why) -> ReadWhy {
+        match why {
+            Why::Form => ReadWhy::Form,
+            Why::Range => ReadWhy::Range,
+            Why::Name => ReadWhy::Name,
+            Why::End => ReadWhy::End,
+        }
+    }
+}
+
+impl From<TextFault> for ReadFault {
+    ghost use Rattle.reg_history.specs.ReadFaults.{read_fault};
+
+    ghost from_gives = { λ fault gives. gives ≡ read_fault fault };
+
+    fn from(fault: TextFault) -> ReadFault {
+        match fault {
+            TextFault::Line { line, why } => ReadFault::Line {
+                line,
+                why: ReadWhy::from(why),
+            },
+            TextFault::OutOfMemory => ReadFault::OutOfMemory,
+        }
+    }
+}
+
+/// A fault of the line that was asked for last.
+pub fn at_line(lines: &Lines<'_>, why: ReadWhy) -> ReadFault
+    ensures { result ≡ ReadFault.Line lines.now.number why }
+{
+    ReadFault::Line {
+        line: lines.number(),
+        why,
+    }
+}

@@ -1,0 +1,9 @@
+pub mod Keys
+pub mod Loads
+pub mod Judged
+pub mod FaultTexts
+pub mod Schedules
+pub mod LineForms
+pub mod Refusals
+pub mod Stops
+pub mod ScheduleText

@@ -1,0 +1,19 @@
+//! Workloads: a front end, registers, a script for each process and how they are played, read from a TOML document.
+//! Schedules, which are lists of events as text.
+#![tactic(auto)]
+
+mod event_lines;
+mod faults;
+mod keys;
+mod numbers;
+mod schedule_text;
+mod schedules;
+mod scripts;
+mod values;
+mod workloads;
+
+pub use faults::WorkloadFault;
+pub use keys::Key;
+pub use schedule_text::{put_event, put_take, write_schedule};
+pub use schedules::{Schedule, ScheduleFault, parse_schedule};
+pub use workloads::{Workload, read_table};

@@ -1,4 +1,0 @@
-pub mod Fewer
-pub mod Numerals
-pub mod Formed
-pub mod Tails

@@ -1,6 +1,0 @@
-use Rattle.std.proofs.Common.{sym, ap}
-use Rattle.reg_lines.specs.Versions.{most_processes}
-use Rattle.reg_lines.proofs.versions.Version.most_processes.Goals as goal
-
-pub returns-in-One : goal.returns-in-One
-returns-in-One c = sym (ap most_processes c.in-One.is)

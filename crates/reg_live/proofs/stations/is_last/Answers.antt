@@ -1,0 +1,5 @@
+use Rattle.std.proofs.Common.{rules}
+use Rattle.reg_live.proofs.stations.is_last.Goals as goal
+
+pub returns : goal.returns
+returns c = search rules

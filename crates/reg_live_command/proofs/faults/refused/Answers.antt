@@ -1,5 +1,0 @@
-use Rattle.std.proofs.Common.{rules}
-use Rattle.reg_live_command.proofs.faults.refused.Goals as goal
-
-pub returns-in-Failed-clause-told : goal.returns-in-Failed-clause-told
-returns-in-Failed-clause-told c = search rules

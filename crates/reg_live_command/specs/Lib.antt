@@ -1,4 +1,0 @@
-pub mod Lives
-pub mod StopLines
-pub mod Inner
-pub mod Told

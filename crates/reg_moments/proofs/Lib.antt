@@ -1,6 +1,0 @@
-pub mod Spelled
-pub mod Moving
-pub mod Putting
-pub mod Tracing
-pub mod Behind
-pub mod Arrowed

@@ -1,5 +1,0 @@
-use Rattle.std.proofs.Common.{rules}
-use Rattle.reg_moments.proofs.figures.takes.Goals as goal
-
-pub returns-then-receiver-to : goal.returns-then-receiver-to
-returns-then-receiver-to g c = search rules

@@ -1,7 +1,0 @@
-use Rattle.std.proofs.Common.{◌≡◌, ◌++◌, drop}
-use Rattle.reg_moments.specs.Moments.{placed}
-use Rattle.reg_moments.proofs.moments.push_sent.Given as goal
-
--- with those that are left, all frames
-abbrev pub invariant-loop-place : goal.invariant-loop-place
-invariant-loop-place g l = l.sent.items ++ placed l.to l.place (drop l.place l.frames) ≡ l.initial.sent.items ++ placed l.to l.first (drop l.first l.frames)

@@ -1,9 +1,0 @@
-use Rattle.std.proofs.Common.{◌++◌, codes}
-use Rattle.std.specs.Fmt.{decimal}
-use Rattle.reg_moments.proofs.Putting.{puts_three}
-use Rattle.reg_moments.proofs.trace_text.put_stamp.Goals as goal
-
-pub returns : goal.returns
-returns g c =
-    puts_three g.W.Write.contents c.args.sink.now c.put_number.new.sink c.put_number-2.new.sink c.put.new.self (codes "(" ++ decimal c.args.stamp.time) (codes ", " ++ decimal c.args.stamp.process) (codes ")")
-    c.put_number.ensures c.put_number-2.ensures c.put.ensures

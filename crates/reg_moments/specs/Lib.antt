@@ -1,5 +1,0 @@
-pub mod Waits
-pub mod Moments
-pub mod Figures
-pub mod Traces
-pub mod ScheduleText

@@ -1,0 +1,131 @@
+//! What is told of the plays of each outcome.
+ghost use Rattle.std.specs.Prelude.{◌≡◌, ◌++◌, ◌<◌, [], ◌∷◌, List, false, OnOk};
+ghost use Rattle.std.specs.BTreeMap.{get};
+ghost use Rattle.reg_outcomes.specs.declared.outcomes.ToldValue.{ToldValue};
+ghost use Rattle.reg_outcomes.specs.Tables.{Seen, IsTally, IsTallyOf};
+ghost use Rattle.reg_outcomes.specs.Counts.{HasRoom, IsCounted, IsShortest, TellsOf, finished_play, key_cmp};
+
+use crate::outcomes::ToldValue;
+use std::alloc::{AllocError, Allocator, Global};
+use std::collections::BTreeMap;
+
+/// What is told of the plays of one outcome.
+#[derive(Clone, Copy, Debug, PartialEq, Eq)]
+pub struct Tally {
+    /// How many plays have the outcome.
+    pub count: u32,
+    /// The number of events of the shortest of them.
+    pub events: u32,
+    /// Its seed, the least of those as short.
+    pub seed: u64,
+    /// Whether the order of some play of that outcome keeps real time.
+    pub in_time: bool,
+}
+
+/// What is told of one finished play.
+#[derive(Clone, Copy, Debug, PartialEq, Eq)]
+pub struct Glance {
+    /// The seed of its words.
+    pub seed: u64,
+    /// The number of its events.
+    pub events: u32,
+    /// Whether its order keeps real time.
+    pub in_time: bool,
+}
+
+/// What is told of plays, by their outcomes.
+#[derive(Drop)]
+pub struct Tallies<A: Allocator + Copy = Global> {
+    /// What is told of the plays of each outcome.
+    pub told: BTreeMap<Vec<ToldValue, A>, Tally, A>,
+    /// How many plays are not finished.
+    pub unfinished: u32,
+}
+
+/// What is told of one play.
+fn first(glance: Glance) -> Tally
+    ensures { (outcome : List ToldValue) → IsTally (finished_play outcome glance ∷ []) result }
+{
+    Tally {
+        count: 1,
+        events: glance.events,
+        seed: glance.seed,
+        in_time: glance.in_time,
+    }
+}
+
+/// The number of events and the seed of the shortest play, of these plays and one more.
+fn shortest(tally: Tally, glance: Glance) -> (u32, u64)
+    ensures { (outcome : List ToldValue) → IsShortest (finished_play outcome glance) tally result.0 result.1 }
+{
+    if glance.events < tally.events {
+        return (glance.events, glance.seed);
+    }
+    if glance.events == tally.events && glance.seed < tally.seed {
+        return (glance.events, glance.seed);
+    }
+    (tally.events, tally.seed)
+}
+
+/// What is told of these plays and one more.
+fn joined(tally: Tally, glance: Glance) -> Tally
+    requires { tally.count < u32.MAX }
+    ensures { (plays : List Seen) (outcome : List ToldValue) → IsTally plays tally → IsTally (plays ++ finished_play outcome glance ∷ []) result }
+{
+    let (events, seed) = shortest(tally, glance);
+    Tally {
+        count: tally.count + 1,
+        events,
+        seed,
+        in_time: tally.in_time || glance.in_time,
+    }
+}
+
+/// What is told of the plays with this outcome and one more.
+fn next<A: Allocator + Copy>(
+    told: &BTreeMap<Vec<ToldValue, A>, Tally, A>,
+    outcome: &Vec<ToldValue, A>,
+    glance: Glance,
+) -> Tally
+    requires { HasRoom (λ v. v.items) told.now }
+    ensures { (plays : List Seen) → TellsOf plays outcome.now.items (get (key_cmp (λ v. v.items)) told.now outcome.now) → IsTallyOf (plays ++ finished_play outcome.now.items glance ∷ []) outcome.now.items result }
+{
+    match told.get(outcome) {
+        Some(tally) => joined(*tally, glance),
+        None => first(glance),
+    }
+}
+
+impl<A: Allocator + Copy> Tallies<A> {
+    /// Nothing is told, of no play.
+    pub fn new(alloc: A) -> Tallies<A>
+        ensures { IsCounted (λ v. v.items) [] result.told result.unfinished }
+    {
+        Tallies {
+            told: BTreeMap::new(alloc),
+            unfinished: 0,
+        }
+    }
+
+    /// Counts a finished play with this outcome.
+    ///
+    /// # Errors
+    ///
+    /// Memory was refused.
+    pub fn add(&mut self, outcome: Vec<ToldValue, A>, glance: Glance) -> Result<(), AllocError>
+        requires { HasRoom (λ v. v.items) self.old.told }
+        ensures { OnOk result ((plays : List Seen) → IsCounted (λ v. v.items) plays self.old.told self.old.unfinished → IsCounted (λ v. v.items) (plays ++ finished_play outcome.items glance ∷ []) self.new.told self.new.unfinished) }
+    {
+        let tally = next(&self.told, &outcome, glance);
+        self.told.insert(outcome, tally)?;
+        Ok(())
+    }
+
+    /// Counts a play that is not finished.
+    pub fn add_unfinished(&mut self)
+        requires { self.old.unfinished < u32.MAX }
+        ensures { (plays : List Seen) (s : Seen) → s.is_finished ≡ false → IsCounted (λ v. v.items) plays self.old.told self.old.unfinished → IsCounted (λ v. v.items) (plays ++ s ∷ []) self.new.told self.new.unfinished }
+    {
+        self.unfinished += 1;
+    }
+}

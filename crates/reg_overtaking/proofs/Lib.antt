@@ -1,5 +1,0 @@
-pub mod Facts
-pub mod Search
-pub mod Arranged
-pub mod Given
-pub mod Overtaken

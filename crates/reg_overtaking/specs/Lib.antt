@@ -1,2 +1,0 @@
-pub mod Overtaking
-pub mod Runs

@@ -1,5 +1,0 @@
-use Rattle.reg_players.proofs.Allowed.{tick_allowed}
-use Rattle.reg_players.proofs.playing.Player.tick.Goals as goal
-
-pub pass-requires-clause-allowed : goal.pass-requires-clause-allowed
-pass-requires-clause-allowed g c = tick_allowed g.F.FrontEnd.start c.args.self.now.made c.args.process c.requires.going c.requires.room c.requires.process

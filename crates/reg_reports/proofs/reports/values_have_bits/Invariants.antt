@@ -1,7 +1,0 @@
-use Rattle.std.proofs.Common.{ℕ, ◌≡◌, ◌<◌, Some, slice_get}
-use Rattle.reg_entries.specs.declared.entries.Entry.{Entry}
-use Rattle.reg_reports.specs.Stops.{EntryHasValue}
-use Rattle.reg_reports.proofs.reports.values_have_bits.Given as goal
-
-abbrev pub invariant-loop-entry : goal.invariant-loop-entry
-invariant-loop-entry l = (k : ℕ) (e : Entry) → k < l.entry-index → slice_get l.entries k ≡ Some e → EntryHasValue e

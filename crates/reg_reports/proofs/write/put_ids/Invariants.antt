@@ -1,9 +1,0 @@
-use Rattle.std.proofs.Common.{take}
-use Rattle.reg_text.specs.Writing.{Puts}
-use Rattle.reg_reports.specs.Written.{lines_by}
-use Rattle.reg_lines.specs.IdLines.{id_text}
-use Rattle.reg_reports.proofs.write.put_ids.Given as goal
-
--- the sink has the lines so far
-abbrev pub invariant-loop-id : goal.invariant-loop-id
-invariant-loop-id g l = Puts g.W.Write.contents l.initial.sink l.sink (lines_by id_text (take l.id-index l.ids))

@@ -1,9 +1,0 @@
-use Rattle.std.proofs.Common.{take}
-use Rattle.reg_text.specs.Writing.{Puts}
-use Rattle.reg_reports.specs.Written.{lines_by}
-use Rattle.reg_lines.specs.IdLines.{point_text}
-use Rattle.reg_reports.proofs.write.put_points.Given as goal
-
--- the sink has the lines so far
-abbrev pub invariant-loop-point : goal.invariant-loop-point
-invariant-loop-point g l = Puts g.W.Write.contents l.initial.sink l.sink (lines_by point_text (take l.point-index l.points))

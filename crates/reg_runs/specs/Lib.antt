@@ -1,0 +1,4 @@
+pub mod Rest
+pub mod RestParts
+pub mod Overtaking
+pub mod Runs

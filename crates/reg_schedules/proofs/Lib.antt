@@ -1,3 +1,0 @@
-pub mod EventLines
-pub mod Heads
-pub mod Plans

@@ -1,4 +1,0 @@
-pub mod Schedules
-pub mod LineForms
-pub mod Refusals
-pub mod Stops

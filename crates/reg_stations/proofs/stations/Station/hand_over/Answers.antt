@@ -1,5 +1,0 @@
-use Rattle.std.proofs.Common.{rules}
-use Rattle.reg_stations.proofs.stations.Station.hand_over.Goals as goal
-
-pub returns-clause-lists : goal.returns-clause-lists
-returns-clause-lists g c = search rules

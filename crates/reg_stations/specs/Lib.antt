@@ -1,3 +1,0 @@
-pub mod Stations
-pub mod Desks
-pub mod Progress

@@ -1,6 +1,0 @@
-pub mod Those
-pub mod Counting
-pub mod Ordering
-pub mod Lining
-pub mod Telling
-pub mod Putting

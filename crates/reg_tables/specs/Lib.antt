@@ -1,4 +1,0 @@
-pub mod Outcomes
-pub mod Tables
-pub mod Inner
-pub mod TableText

@@ -1,0 +1,168 @@
+//! The start of a running cluster, and its end.
+ghost use Rattle.std.specs.Prelude.{◌≡◌, IfOk, map};
+ghost use Rattle.reg_live.specs.Passes.{IsLived, AreOneEach, AreOwn, AreNew, RespectTime, RespectUpdates};
+
+use crate::crews::{carry_all, halt, join_couriers, pace};
+use reg_base::Shape;
+use reg_front::FrontEnd;
+use reg_live::{
+    CloseFault, Closed, Cluster, Courier, Gate, Pacer, Parts, Pass, Road, close_in, set_up,
+};
+use reg_world::WireStore;
+use std::alloc::{AllocError, Global};
+use std::marker::Model;
+use std::sync::{Arc, Wait};
+use std::thread::{JoinHandle, Threads};
+use std::time::Clock;
+use thiserror::Error;
+
+/// Why a cluster was not started. No thread of it runs then.
+#[derive(Clone, Copy, Debug, PartialEq, Eq, Error)]
+pub enum StartFault {
+    /// There was no memory for it, or one of its threads couldn't be made.
+    #[error("out of memory")]
+    OutOfMemory,
+}
+
+impl From<AllocError> for StartFault {
+    ghost use Rattle.reg_threads.specs.declared.running.StartFault.TheVariants.{OutOfMemory};
+
+    ghost from_gives = { λ _ fault. fault ≡ OutOfMemory };
+
+    fn from(_error: AllocError) -> StartFault {
+        Self::OutOfMemory
+    }
+}
+
+/// A cluster whose couriers and pacer run. Contracts see it as its shape. One that is dropped without `close` leaves its
+/// threads behind.
+#[derive(Drop)]
+pub struct Running<F: FrontEnd, G> {
+    cluster: Cluster<F, G>,
+    couriers: Vec<JoinHandle<Courier<F, G>>>,
+    pacer: JoinHandle<Pacer<F, G>>,
+}
+
+impl<F: FrontEnd, G> Model for Running<F, G> {
+    ghost use Rattle.reg_base.specs.Shape.{Extent};
+
+    ghost Value = { Extent };
+
+    ghost view = { λ r. r.cluster };
+}
+
+impl<F: FrontEnd, G: Gate + Drop> Running<F, G> {
+    /// Stops the cluster, waits for its threads, and closes it.
+    ///
+    /// # Errors
+    ///
+    /// Those of `close` of the cluster. All its threads have ended by then.
+    pub fn close<R: Threads + Wait>(
+        self,
+        rt: &R,
+        alloc: Global,
+        passes: Vec<Pass<F, G>>,
+    ) -> Result<Closed<F>, CloseFault>
+        ensures lived { IfOk result (λ c. IsLived F.start self (map (λ v. v.items) c.receipts.items) c.world) }
+        ensures each { IfOk result (λ c. AreOneEach passes.items self.processes) }
+        ensures own { IfOk result (λ c. AreOwn passes.items (map (λ v. v.items) c.receipts.items)) }
+        ensures time { IfOk result (λ c. RespectTime c.world.registers c.world.history (map (λ v. v.items) c.receipts.items)) }
+        ensures updates { IfOk result (λ c. RespectUpdates F.start c.world.history (map (λ v. v.items) c.receipts.items)) }
+    {
+        self.close_in(rt, alloc, passes)
+    }
+
+    /// The same, with the run in a world that keeps its wires in a store of the caller's choice.
+    ///
+    /// # Errors
+    ///
+    /// Those of `close`.
+    pub fn close_in<R: Threads + Wait, W: WireStore<Global>>(
+        self,
+        rt: &R,
+        alloc: Global,
+        passes: Vec<Pass<F, G>>,
+    ) -> Result<Closed<F, W>, CloseFault>
+        ensures lived { IfOk result (λ c. IsLived F.start self (map (λ v. v.items) c.receipts.items) c.world) }
+        ensures each { IfOk result (λ c. AreOneEach passes.items self.processes) }
+        ensures own { IfOk result (λ c. AreOwn passes.items (map (λ v. v.items) c.receipts.items)) }
+        ensures time { IfOk result (λ c. RespectTime c.world.registers c.world.history (map (λ v. v.items) c.receipts.items)) }
+        ensures updates { IfOk result (λ c. RespectUpdates F.start c.world.history (map (λ v. v.items) c.receipts.items)) }
+    {
+        let Running {
+            cluster,
+            couriers,
+            pacer,
+        } = self;
+        halt(rt, &cluster);
+        join_couriers(rt, couriers);
+        let pacer = pacer.join(rt);
+        close_in(rt, alloc, cluster, passes, Vec::new(alloc), pacer)
+    }
+}
+
+/// Starts the threads of a cluster, the pacer's first. Where one can't be made, those that were are stopped, and have ended.
+fn run_parts<
+    F: FrontEnd + Send + Sync + 'static,
+    G: Gate + Drop + Send + Sync + 'static,
+    P: Road + Drop + Send + Sync + 'static,
+    R: Threads + Wait + Clock + Copy + Send + Sync + 'static,
+>(
+    rt: R,
+    alloc: Global,
+    cluster: Cluster<F, G>,
+    couriers: Vec<Courier<F, G>>,
+    pacer: Pacer<F, G>,
+    road: &Arc<P>,
+) -> Result<Running<F, G>, StartFault>
+    ensures { IfOk result (λ running. running ≡ cluster) }
+{
+    let pacer = pace(rt, pacer)?;
+    let mut carriers = Vec::new(alloc);
+    let started = carry_all(rt, &mut carriers, couriers, road);
+    if started.is_err() {
+        halt(&rt, &cluster);
+        join_couriers(&rt, carriers);
+        drop(pacer.join(&rt));
+        return Err(StartFault::OutOfMemory);
+    }
+    Ok(Running {
+        cluster,
+        couriers: carriers,
+        pacer,
+    })
+}
+
+/// Sets up a cluster, and starts a thread for each courier, all over one road, and one for the pacer. The passes are one for
+/// each process, in order, and nothing was called yet.
+///
+/// # Errors
+///
+/// `OutOfMemory` where memory or a thread was refused. All threads that were made have ended by then.
+pub fn start<
+    F: FrontEnd + Send + Sync + 'static,
+    G: Gate + Drop + Send + Sync + 'static,
+    P: Road + Drop + Send + Sync + 'static,
+    R: Threads + Wait + Clock + Copy + Send + Sync + 'static,
+>(
+    rt: R,
+    alloc: Global,
+    shape: Shape,
+    gate: G,
+    road: Arc<P>,
+) -> Result<(Running<F, G>, Vec<Pass<F, G>>), StartFault>
+    ensures cluster { IfOk result (λ started. started.0 ≡ shape) }
+    ensures passes { IfOk result (λ started. AreNew shape started.1.items) }
+{
+    let Ok(parts) = set_up::<F, G>(&rt, alloc, shape, gate) else {
+        return Err(StartFault::OutOfMemory);
+    };
+    let Parts {
+        cluster,
+        passes,
+        couriers,
+        pacer,
+    } = parts;
+    let running = run_parts(rt, alloc, cluster, couriers, pacer, &road)?;
+    Ok((running, passes))
+}

@@ -1,0 +1,157 @@
+-- What an event did, by what its world answers before and after it.
+use Rattle.std.proofs.Common.{ℕ, zero, suc, ◌≡◌, ◌+◌, ◌<◌, ◌≤◌, ◌⊎◌, inl, inr, Bool, true, false, List, [], ◌∷◌, ◌++◌, length, drop, take, map, get_or, set, append_assoc, append-nil, Option, None, refl, sym, ap, ap₂, ◌∙◌, arith, drop-cons}
+use Rattle.std.proofs.lemmas.List.{get_or-set_same, get_or-set_other, drop_all}
+use Rattle.std.specs.Prelude.{slice_index, cond, ◌==◌, ◌&&◌, not, nat_lt, slice_get}
+use Rattle.std.proofs.lemmas.Bool.{cases_eq, cases_order, ne_eqb, eq-eqb, lt-ltb, le-ltb}
+use Rattle.reg_base.specs.declared.stamps.Delivered.{Delivered}
+use Rattle.reg_base.specs.declared.memory.Op.{Op}
+use Rattle.reg_frames.specs.declared.bodies.Frame.{Frame}
+use Rattle.reg_front.specs.declared.starts.Start.{Start}
+use Rattle.reg_process.specs.declared.steps.Reply.{Reply}
+use Rattle.reg_process.specs.Known.{IsNoPeer}
+use Rattle.reg_process.specs.Process.{State}
+use Rattle.reg_process.specs.declared.events.Event.{Event}
+use Rattle.reg_process.specs.declared.events.Event.TheVariants.{Take}
+use Rattle.reg_world.specs.Nodes.{Nodes}
+use Rattle.reg_world.specs.World.{delivered_of}
+use Rattle.reg_world.specs.Histories.{process_of}
+use Rattle.reg_world.specs.Worlds.{Made, run_in, with_event, reply_in}
+use Rattle.reg_trace.specs.declared.moments.Sent.{Sent}
+use Rattle.reg_trace.specs.declared.waits.Wait.{Wait}
+use Rattle.reg_trace.specs.Waits.{waits_of}
+use Rattle.reg_trace.specs.Moments.{Fact, expected_by, frame_taken, out_of_turn, placed, puts_since, moment_between, moment_of, moments_from}
+
+pub placed_end : (to place : ℕ) (frames : List Frame) → length frames ≤ place → placed to place (drop place frames) ≡ []
+placed_end to place frames h = ap (placed to place) (none place frames h)
+  where
+    none : (n : ℕ) (xs : List Frame) → length xs ≤ n → drop n xs ≡ []
+    none zero [] h = refl
+    none zero (x ∷ xs) h = absurd (omega (arith, h))
+    none (suc n) [] h = refl
+    none (suc n) (x ∷ xs) h = none n xs (omega (arith, h))
+
+pub placed_next : (to place : ℕ) (frames : List Frame) (d : Frame) → place < length frames → placed to place (drop place frames) ≡ record { to = to; place = place; frame = get_or frames place d } ∷ placed to (place + 1) (drop (place + 1) frames)
+placed_next to place frames d h = ap (placed to place) (cut place frames h)
+  where
+    cut : (n : ℕ) (xs : List Frame) → n < length xs → drop n xs ≡ get_or xs n d ∷ drop (n + 1) xs
+    cut n [] h = absurd (omega (arith, h))
+    cut zero (x ∷ xs) h = refl
+    cut (suc n) (x ∷ xs) h =
+        let k : suc n + 1 ≡ suc (n + 1) = omega arith in
+        cut n xs (omega (arith, h)) ∙ ap (λ m. get_or xs n d ∷ drop m (x ∷ xs)) (sym k)
+
+pub puts_same : (p : ℕ) (f g : ℕ → ℕ) (wire : ℕ → List Frame) (n : ℕ) → ((to : ℕ) → to < n → (to ≡ p → ⊥) → f to ≡ g to) → puts_since p f wire n ≡ puts_since p g wire n
+puts_same p f g wire zero h = refl
+puts_same p f g wire (suc n) h = ap₂ (λ (a b : List Sent). a ++ b) (puts_same p f g wire n (λ to l ne. h to (omega (arith, l)) ne)) (one (cases_eq n p))
+  where
+    one : (n ≡ p) ⊎ (n ≡ p → ⊥) → cond (n == p) [] (placed n (f n) (drop (f n) (wire n))) ≡ cond (n == p) [] (placed n (g n) (drop (g n) (wire n)))
+    one (inl e) = rw (eq-eqb n p e) refl
+    one (inr ne) = ap (λ k. cond (n == p) [] (placed n k (drop k (wire n)))) (h n (omega arith) ne)
+
+-- the frames of one more receiver
+pub puts_next : (p : ℕ) (lengths : ℕ → ℕ) (wire : ℕ → List Frame) (to : ℕ) → (to ≡ p → ⊥) → puts_since p lengths wire (to + 1) ≡ puts_since p lengths wire to ++ placed to (lengths to) (drop (lengths to) (wire to))
+puts_next p lengths wire to ne =
+    let k : to + 1 ≡ suc to = omega arith in
+    ap (puts_since p lengths wire) k ∙ ap (λ b. puts_since p lengths wire to ++ cond b [] (placed to (lengths to) (drop (lengths to) (wire to)))) (ne_eqb to p ne)
+
+pub puts_own : (p : ℕ) (lengths : ℕ → ℕ) (wire : ℕ → List Frame) (to : ℕ) → to ≡ p → puts_since p lengths wire (to + 1) ≡ puts_since p lengths wire to
+puts_own p lengths wire to e =
+    let k : to + 1 ≡ suc to = omega arith in
+    ap (puts_since p lengths wire) k ∙ (ap (λ b. puts_since p lengths wire to ++ cond b [] (placed to (lengths to) (drop (lengths to) (wire to)))) (eq-eqb to p e) ∙ append-none (puts_since p lengths wire to))
+  where
+    append-none : (l : List Sent) → l ++ [] ≡ l
+    append-none [] = refl
+    append-none (x ∷ l) = ap (λ t. x ∷ t) (append-none l)
+
+-- the frame of a take, from the wire that it names
+pub frame_there : (n : ℕ) (w : Nodes) (from to place : ℕ) (frames : List Frame) (o : Option Frame) → from < n → to < n → (from ≡ to → ⊥) → frames ≡ (w from).wire to → o ≡ slice_get frames place → o ≡ frame_taken n w (Take from to place)
+frame_there n w from to place frames o a b ne same is =
+    let test : (nat_lt from n && (nat_lt to n && not (from == to))) ≡ true = rw (lt-ltb from n a, lt-ltb to n b, ne_eqb from to ne) refl in
+    is ∙ (ap (λ (l : List Frame). slice_get l place) same ∙ sym (ap (λ t. cond t (slice_get ((w from).wire to) place) None) test))
+
+pub frame_nowhere : (n : ℕ) (w : Nodes) (from to place : ℕ) → (n ≤ from) ⊎ ((n ≤ to) ⊎ (from ≡ to)) → None ≡ frame_taken n w (Take from to place)
+frame_nowhere n w from to place h = sym (ap (λ t. cond t (slice_get ((w from).wire to) place) None) (test h))
+  where
+    test : (n ≤ from) ⊎ ((n ≤ to) ⊎ (from ≡ to)) → (nat_lt from n && (nat_lt to n && not (from == to))) ≡ false
+    test (inl a) = rw (le-ltb from n a) refl
+    test (inr (inl b)) = rw (le-ltb to n b) (both (nat_lt from n))
+      where
+        both : (x : Bool) → (x && false) ≡ false
+        both true = refl
+        both false = refl
+    test (inr (inr e)) = rw (eq-eqb from to e) (last (nat_lt from n) (nat_lt to n))
+      where
+        last : (x y : Bool) → (x && (y && false)) ≡ false
+        last true true = refl
+        last true false = refl
+        last false y = refl
+
+-- all other processes are peers
+pub is_peer : (s : State) (n from to : ℕ) → length s.peers ≡ n → s.me ≡ to → from < n → (from ≡ to → ⊥) → IsNoPeer s from → ⊥
+is_peer s n from to size me l ne (inl ge) = absurd (omega (arith, size, l, ge))
+is_peer s n from to size me l ne (inr e) = ne (e ∙ me)
+
+-- an event told with its parts
+pub told_is : (start : Op → ℕ → Start) (w : Made) (e : Event) (new : Made) (p : ℕ) (frame : Option Frame) (awaited expected : Option ℕ) (clock : ℕ) (delivered : List Delivered) (reply : Option Reply) (waits : List Wait) (sent : List Sent) (before after : ℕ) (lengths : ℕ → ℕ)
+    → new ≡ with_event start w e → p ≡ process_of e → frame ≡ frame_taken w.processes (run_in start w).nodes e → awaited ≡ expected_by w.processes (run_in start w).nodes e → expected ≡ out_of_turn frame awaited → clock ≡ ((run_in start new).nodes p).state.clock
+    → before ≡ ((run_in start w).nodes p).state.delivered → after ≡ ((run_in start new).nodes p).state.delivered → delivered ≡ drop before (take after (map delivered_of (run_in start new).order))
+    → reply ≡ reply_in start w e → ((to : ℕ) → to < w.processes → (to ≡ p → ⊥) → lengths to ≡ length (((run_in start w).nodes p).wire to))
+    → waits ≡ waits_of new.processes ((run_in start new).nodes p).state ((run_in start new).nodes p).state.held
+    → sent ≡ puts_since p lengths ((run_in start new).nodes p).wire new.processes
+    → record { event = e; process = p; frame = frame; expected = expected; clock = clock; delivered = delivered; reply = reply; waits = waits; sent = sent } ≡ moment_of start w e
+told_is start w e new p frame awaited expected clock delivered reply waits sent before after lengths is_new is_p is_frame is_awaited is_expected is_clock is_before is_after is_delivered is_reply are_lengths is_waits is_sent =
+    let same : puts_since p lengths ((run_in start new).nodes p).wire w.processes ≡ puts_since p (λ to. length (((run_in start w).nodes p).wire to)) ((run_in start new).nodes p).wire w.processes =
+    puts_same p lengths (λ to. length (((run_in start w).nodes p).wire to)) ((run_in start new).nodes p).wire w.processes are_lengths in
+    let count : new.processes ≡ w.processes = ap Made.processes is_new in
+    let sent_is : sent ≡ puts_since p (λ to. length (((run_in start w).nodes p).wire to)) ((run_in start new).nodes p).wire w.processes = is_sent ∙ (ap (puts_since p lengths ((run_in start new).nodes p).wire) count ∙ same) in
+    let waits_is : waits ≡ waits_of w.processes ((run_in start new).nodes p).state ((run_in start new).nodes p).state.held = is_waits ∙ ap (λ n. waits_of n ((run_in start new).nodes p).state ((run_in start new).nodes p).state.held) count in
+    let delivered_is : delivered ≡ drop ((run_in start w).nodes p).state.delivered (take ((run_in start new).nodes p).state.delivered (map delivered_of (run_in start new).order)) =
+    is_delivered ∙ ap₂ (λ (a b : ℕ). drop a (take b (map delivered_of (run_in start new).order))) is_before is_after in
+    let turn : expected ≡ out_of_turn (frame_taken w.processes (run_in start w).nodes e) (expected_by w.processes (run_in start w).nodes e) = is_expected ∙ ap₂ out_of_turn is_frame is_awaited in
+    let here : record { event = e; process = p; frame = frame; expected = expected; clock = clock; delivered = delivered; reply = reply; waits = waits; sent = sent } ≡ moment_between w.processes e p (reply_in start w e) (run_in start w) (run_in start new) =
+    λ i. record { event = e; process = p; frame = is_frame i; expected = turn i; clock = is_clock i; delivered = delivered_is i; reply = is_reply i; waits = waits_is i; sent = sent_is i } in
+    here ∙ ap₂ (λ (q : ℕ) (v : Made). moment_between w.processes e q (reply_in start w e) (run_in start w) (run_in start v)) is_p is_new
+
+-- one more length
+pub length_noted : (lengths : List ℕ) (wire : ℕ → List Frame) (p to v : ℕ) → ((k : ℕ) → k < to → (k ≡ p → ⊥) → slice_index lengths k ≡ length (wire k)) → to < length lengths → v ≡ length (wire to) → (k : ℕ) → k < to + 1 → (k ≡ p → ⊥) → slice_index (set lengths to v) k ≡ length (wire k)
+length_noted lengths wire p to v so room is k lt ne = by (cases_eq k to)
+  where
+    by : (k ≡ to) ⊎ (k ≡ to → ⊥) → slice_index (set lengths to v) k ≡ length (wire k)
+    by (inl e) = ap (slice_index (set lengths to v)) e ∙ (get_or-set_same lengths to v 0 room ∙ (is ∙ ap (λ j. length (wire j)) (sym e)))
+    by (inr other) = get_or-set_other lengths to k v 0 other ∙ so k (below (cases_order k to)) ne
+      where
+        below : (k ≡ to) ⊎ ((k < to) ⊎ (to < k)) → k < to
+        below (inl e) = absurd (other e)
+        below (inr (inl l)) = l
+        below (inr (inr g)) = absurd (omega (arith, lt, g))
+
+-- no wire to itself
+pub length_passed : (lengths : List ℕ) (wire : ℕ → List Frame) (p to n : ℕ) → ((k : ℕ) → k < to → (k ≡ p → ⊥) → slice_index lengths k ≡ length (wire k)) → p < n → to < n → (n ≤ p) ⊎ ((n ≤ to) ⊎ (p ≡ to)) → (k : ℕ) → k < to + 1 → (k ≡ p → ⊥) → slice_index lengths k ≡ length (wire k)
+length_passed lengths wire p to n so a b none k lt ne = by (cases_order k to)
+  where
+    own : (n ≤ p) ⊎ ((n ≤ to) ⊎ (p ≡ to)) → p ≡ to
+    own (inl h) = absurd (omega (arith, h, a))
+    own (inr (inl h)) = absurd (omega (arith, h, b))
+    own (inr (inr e)) = e
+
+    by : (k ≡ to) ⊎ ((k < to) ⊎ (to < k)) → slice_index lengths k ≡ length (wire k)
+    by (inl e) = absurd (ne (e ∙ sym (own none)))
+    by (inr (inl l)) = so k l ne
+    by (inr (inr g)) = absurd (omega (arith, lt, g))
+
+-- one more event told
+pub one_told : (start : Op → ℕ → Start) (w new : Made) (moments pushed all : List Fact) (m : Fact) (events : List Event) (i : ℕ) (d : Event) → i < length events → new ≡ with_event start w (get_or events i d) → m ≡ moment_of start w (get_or events i d) → pushed ≡ moments ++ m ∷ [] → moments ++ moments_from start w (drop i events) ≡ all → pushed ++ moments_from start new (drop (i + 1) events) ≡ all
+one_told start w new moments pushed all m events i d lt is_new is_m is_pushed so =
+    let e = get_or events i d in
+    let k : i + 1 ≡ suc i = omega arith in
+    let rest = moments_from start (with_event start w e) (drop (suc i) events) in
+    ap₂ (λ (a : List Fact) (v : Made). a ++ moments_from start v (drop (i + 1) events)) is_pushed is_new
+    ∙ (ap (λ (j : ℕ). (moments ++ m ∷ []) ++ moments_from start (with_event start w e) (drop j events)) k
+    ∙ (append_assoc moments (m ∷ []) rest
+    ∙ (ap (λ (f : Fact). moments ++ f ∷ rest) is_m
+    ∙ (ap (λ (es : List Event). moments ++ moments_from start w es) (sym (drop-cons events i d lt)) ∙ so))))
+
+-- all events told
+pub all_told : (start : Op → ℕ → Start) (w : Made) (moments all : List Fact) (events : List Event) (i : ℕ) → length events ≤ i → moments ++ moments_from start w (drop i events) ≡ all → moments ≡ all
+all_told start w moments all events i ge so =
+    sym (append-nil moments) ∙ (ap (λ (es : List Event). moments ++ moments_from start w es) (sym (drop_all i events ge)) ∙ so)

@@ -1,0 +1,30 @@
+use Rattle.std.proofs.Common.{◌≡◌, ◌++◌, ◌+◌, ◌∷◌, [], ◌∙◌, ap, sym, subst, drop, arith, refl, rules}
+use Rattle.reg_world.specs.Worlds.{Made}
+use Rattle.reg_trace.specs.Moments.{AcceptsAll, moments_from}
+use Rattle.reg_trace.proofs.Behind.{one_told, all_told}
+use Rattle.reg_trace.proofs.Moving.{next_accepted}
+use Rattle.reg_trace.proofs.moments.tell_all.Goals as goal
+
+pub loop-event-init : goal.loop-event-init
+loop-event-init g c = record { going = c.requires.going; accepted = c.requires.accepted; told = refl }
+
+pub tell-requires-clause-process : goal.tell-requires-clause-process
+tell-requires-clause-process g c =
+    (next_accepted g.F.FrontEnd.start c.loop-event.world c.args.events.now c.loop-event.event-index _ c.loop-event-test.true c.loop-event.invariant.going c.loop-event.invariant.accepted).process
+
+pub tell-requires-clause-accepted : goal.tell-requires-clause-accepted
+tell-requires-clause-accepted g c =
+    (next_accepted g.F.FrontEnd.start c.loop-event.world c.args.events.now c.loop-event.event-index _ c.loop-event-test.true c.loop-event.invariant.going c.loop-event.invariant.accepted).none
+
+pub loop-event-preserved : goal.loop-event-preserved
+loop-event-preserved g c =
+    let pushed : c.push.new.self.items ≡ c.loop-event.moments.items ++ c.in_ok-moment.moment ∷ [] = search rules in
+    let first = next_accepted g.F.FrontEnd.start c.loop-event.world c.args.events.now c.loop-event.event-index _ c.loop-event-test.true c.loop-event.invariant.going c.loop-event.invariant.accepted in
+    record {
+      going = ap (λ (w : Made). w.failed) c.in_ok-moment.ensures.made ∙ c.loop-event.invariant.going;
+      accepted = subst (λ (w : Made). AcceptsAll g.F.FrontEnd.start w (drop (c.loop-event.event-index + 1) c.args.events.now)) (sym c.in_ok-moment.ensures.made) first.others;
+      told = one_told g.F.FrontEnd.start c.loop-event.world c.tell.new.world c.loop-event.moments.items c.push.new.self.items (c.args.moments.now.items ++ moments_from g.F.FrontEnd.start c.args.world.now c.args.events.now) c.in_ok-moment.moment c.args.events.now c.loop-event.event-index _ c.loop-event-test.true c.in_ok-moment.ensures.made c.in_ok-moment.ensures.told pushed c.loop-event.invariant.told;
+    }
+
+pub returns : goal.returns
+returns g c = all_told g.F.FrontEnd.start c.loop-event.world c.loop-event.moments.items (c.args.moments.now.items ++ moments_from g.F.FrontEnd.start c.args.world.now c.args.events.now) c.args.events.now c.loop-event.event-index (omega arith) c.loop-event.invariant.told

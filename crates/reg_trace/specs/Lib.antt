@@ -1,0 +1,4 @@
+pub mod Waits
+pub mod Moments
+pub mod Figures
+pub mod Traces

@@ -1,0 +1,156 @@
+//! What a drawing of a run joins: operations from call to answer, and frames from the event that put them to the one that
+//! takes them.
+ghost use Rattle.std.specs.Prelude.{◌≡◌, ◌==◌, ◌&&◌, IfOk};
+ghost use Rattle.std.specs.List.{list_any};
+ghost use Rattle.reg_trace.specs.declared.moments.Sent.{Sent as AnySent};
+ghost use Rattle.reg_trace.specs.Figures.{arrows_of, bars_of, end_of, is_put, putter, takes_from};
+ghost use Rattle.reg_trace.specs.Moments.{Fact};
+
+use crate::moments::{Moment, Sent};
+use reg_base::{Answer, Op, OpId};
+use reg_checkers::Entry;
+use reg_world::Event;
+use std::alloc::{AllocError, Allocator};
+
+/// The answer of an operation.
+#[derive(Clone, Copy, Debug, PartialEq, Eq)]
+pub struct End {
+    /// The number of its event.
+    pub at: u32,
+    pub answer: Answer,
+}
+
+/// An operation, from its call to its answer, or open.
+#[derive(Clone, Copy, Debug, PartialEq, Eq)]
+pub struct Bar {
+    pub id: OpId,
+    pub op: Op,
+    /// The number of the event that called it.
+    pub call: u32,
+    pub end: Option<End>,
+}
+
+/// A frame that was taken, from the event that put it to the one that takes it.
+#[derive(Clone, Copy, Debug, PartialEq, Eq)]
+pub struct Arrow {
+    pub from: u8,
+    pub to: u8,
+    /// Its place on its wire.
+    pub place: u32,
+    pub puts: usize,
+    pub takes: usize,
+}
+
+/// The answer of an operation, where the entries have one.
+fn end_among(entries: &[Entry], id: OpId) -> Option<End>
+    ensures { result ≡ end_of id entries.now }
+{
+    for entry in entries {
+        if let Entry::Answered {
+            at,
+            id: other,
+            answer,
+        } = entry
+        {
+            if other.process == id.process && other.number == id.number {
+                return Some(End {
+                    at: *at,
+                    answer: *answer,
+                });
+            }
+        }
+    }
+    None
+}
+
+/// A bar for each operation of a history, in order of the calls.
+pub fn bars<A: Allocator + Copy>(alloc: A, entries: &[Entry]) -> Result<Vec<Bar, A>, AllocError>
+    ensures { IfOk result (λ v. v.items ≡ bars_of entries.now) }
+{
+    let mut bars = Vec::new(alloc);
+    for entry in entries {
+        if let Entry::Called { at, id, op } = entry {
+            bars.push(Bar {
+                id: *id,
+                op: *op,
+                call: *at,
+                end: end_among(entries, *id),
+            })?;
+        }
+    }
+    Ok(bars)
+}
+
+/// Whether the frame at this place of the wire to a process is among these.
+fn is_sent(sent: &[Sent], to: u8, place: u32) -> bool
+    ensures { result ≡ list_any (λ (s : AnySent). (s.to == to) && (s.place == place)) sent.now }
+{
+    sent.iter()
+        .any(|sent| sent.to == to && sent.place == place as usize)
+}
+
+/// Whether an event put the frame at this place of a wire.
+fn has_put<A: Allocator + Copy>(moment: &Moment<A>, from: u8, to: u8, place: u32) -> bool
+    ensures { result ≡ is_put from to place moment.now }
+{
+    moment.process == from && is_sent(&moment.sent, to, place)
+}
+
+/// The number of the event that put the frame at this place of a wire.
+fn putter_of<A: Allocator + Copy>(
+    moments: &[Moment<A>],
+    from: u8,
+    to: u8,
+    place: u32,
+) -> Option<usize>
+    ensures { result ≡ putter from to place moments.now }
+{
+    moments
+        .iter()
+        .position(|moment| has_put(moment, from, to, place))
+}
+
+/// An arrow for each frame that is taken, in order of the takes.
+pub fn arrows<A: Allocator + Copy>(
+    alloc: A,
+    moments: &[Moment<A>],
+) -> Result<Vec<Arrow, A>, AllocError>
+    ensures { IfOk result (λ v. v.items ≡ arrows_of moments.now) }
+{
+    let mut arrows = Vec::new(alloc);
+    for (takes, moment) in moments.iter().enumerate() {
+        if let Event::Take { from, to, number } = moment.event {
+            if let Some(puts) = putter_of(moments, from, to, number) {
+                arrows.push(Arrow {
+                    from,
+                    to,
+                    place: number,
+                    puts,
+                    takes,
+                })?;
+            }
+        }
+    }
+    Ok(arrows)
+}
+
+/// Whether an event takes the frame at this place of a wire.
+fn takes<A: Allocator + Copy>(moment: &Moment<A>, from: u8, to: u8, place: usize) -> bool
+    ensures { result ≡ takes_from from to place moment.now.event }
+{
+    match moment.event {
+        Event::Take {
+            from: sender,
+            to: receiver,
+            number,
+        } => sender == from && receiver == to && number as usize == place,
+        _ => false,
+    }
+}
+
+/// Whether some event takes the frame at this place of a wire. A drawing shows a frame as never taken exactly where none does.
+pub fn is_taken<A: Allocator + Copy>(moments: &[Moment<A>], from: u8, to: u8, place: usize) -> bool
+    ensures { result ≡ list_any (λ (f : Fact). takes_from from to place f.event) moments.now }
+{
+    moments.iter().any(|moment| takes(moment, from, to, place))
+}

@@ -1,0 +1,17 @@
+//! What each event of a run did, the text of that and of the schedule, what a drawing joins, and the room for its texts.
+#![tactic(auto)]
+
+mod figures;
+pub mod laws;
+mod moments;
+mod rooms;
+mod told;
+mod trace_text;
+mod waits;
+
+pub use figures::{Arrow, Bar, End, arrows, bars, is_taken};
+pub use moments::{Moment, Sent, process_of_event, tell_world};
+pub use rooms::{Filled, GAP};
+pub use told::TracedRun;
+pub use trace_text::{put_cast, put_frame, write_trace};
+pub use waits::Wait;

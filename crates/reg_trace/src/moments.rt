@@ -1,0 +1,314 @@
+//! What each event of a run did.
+ghost use Rattle.std.specs.Prelude.{◌≡◌, ◌<◌, ◌++◌, ℕ, None, false, drop, length, map, take, slice_index, IfOk, OnOk};
+ghost use Rattle.reg_process.specs.Process.{peer_at};
+ghost use Rattle.reg_world.specs.Histories.{process_of};
+ghost use Rattle.reg_world.specs.World.{delivered_of};
+ghost use Rattle.reg_world.specs.Worlds.{new_world, refusal, run_in, with_event};
+ghost use Rattle.reg_trace.specs.Moments.{AcceptsAll, expected_by, frame_taken, moment_of, moments_from, moments_of, out_of_turn, placed, puts_since};
+
+use crate::waits::{Wait, waits_in};
+use reg_base::Shape;
+use reg_base::limits::MOST_PROCESSES;
+use reg_frames::Frame;
+use reg_front::FrontEnd;
+use reg_process::{Delivered, Reply};
+use reg_world::{Event, World};
+use std::alloc::{AllocError, Allocator, Global};
+use std::marker::Model;
+
+const WIDTH: usize = MOST_PROCESSES as usize;
+
+/// A frame that an event put, with the process that it is for and its place on that wire.
+#[derive(Clone, Copy, Debug, PartialEq, Eq)]
+pub struct Sent {
+    pub to: u8,
+    pub place: usize,
+    pub frame: Frame,
+}
+
+/// What an event did.
+#[derive(Drop)]
+pub struct Moment<A: Allocator + Copy = Global> {
+    pub event: Event,
+    /// The process that the event is of.
+    pub process: u8,
+    /// The frame that a take took.
+    pub frame: Option<Frame>,
+    /// The number that was expected, where the frame is a data frame of another number: it was dropped.
+    pub expected: Option<u64>,
+    /// The clock of the process behind the event.
+    pub clock: u64,
+    /// The casts that the process delivered, in order.
+    pub delivered: Vec<Delivered, A>,
+    /// The reply that the event gave.
+    pub reply: Option<Reply>,
+    /// The casts that the process holds back behind the event, in the order of their stamps.
+    pub waits: Vec<Wait, A>,
+    /// The frames that the process put, by rising receiver and place.
+    pub sent: Vec<Sent, A>,
+}
+
+impl<A: Allocator + Copy> Model for Moment<A> {
+    ghost use Rattle.reg_trace.specs.Moments.{Fact};
+
+    ghost Value = { Fact };
+
+    ghost view = { λ m. record { event = m.event; process = m.process; frame = m.frame; expected = m.expected; clock = m.clock; delivered = m.delivered.items; reply = m.reply; waits = m.waits.items; sent = m.sent.items } };
+}
+
+/// The process that an event is of.
+pub fn process_of_event(event: &Event) -> u8
+    ensures { result ≡ process_of event.now }
+{
+    match event {
+        Event::Call { process, .. } => *process,
+        Event::Take { to, .. } => *to,
+        Event::Tick { process } => *process,
+    }
+}
+
+/// The frame that an event takes.
+fn frame_of<F: FrontEnd, A: Allocator + Copy>(world: &World<F, A>, event: &Event) -> Option<Frame>
+    requires { world.now.failed ≡ false }
+    ensures { result ≡ frame_taken world.now.processes (run_in F.start world.now).nodes event.now }
+{
+    match event {
+        Event::Take { from, to, number } => match world.wire(*from, *to) {
+            Some(frames) => frames.get(*number as usize).copied(),
+            None => None,
+        },
+        _ => None,
+    }
+}
+
+/// The number that a process expects of the next data frame of another one.
+fn expected_from<F: FrontEnd, A: Allocator + Copy>(world: &World<F, A>, from: u8, to: u8) -> u64
+    requires going { world.now.failed ≡ false }
+    requires from { from < world.now.processes }
+    requires to { to < world.now.processes }
+    requires other { from ≡ to → ⊥ }
+    ensures { result ≡ (peer_at ((run_in F.start world.now).nodes to).state from).expected }
+{
+    match world.process(to) {
+        Some(process) => match process.known(from) {
+            Some(known) => known.expected,
+            None => unreachable!(),
+        },
+        None => unreachable!(),
+    }
+}
+
+/// The number that the receiver of a take expects of the sender's next data frame.
+fn expected_of<F: FrontEnd, A: Allocator + Copy>(world: &World<F, A>, event: &Event) -> Option<u64>
+    requires { world.now.failed ≡ false }
+    ensures { result ≡ expected_by world.now.processes (run_in F.start world.now).nodes event.now }
+{
+    match event {
+        Event::Take { from, to, .. } => match world.wire(*from, *to) {
+            Some(_) => Some(expected_from(world, *from, *to)),
+            None => None,
+        },
+        _ => None,
+    }
+}
+
+/// The number expected, where the frame is a data frame of another number: one that is dropped.
+fn unexpected(frame: Option<Frame>, expected: Option<u64>) -> Option<u64>
+    ensures { result ≡ out_of_turn frame expected }
+{
+    match frame {
+        Some(Frame::Numbered { number, .. }) => match expected {
+            Some(expected) => {
+                if number == expected {
+                    None
+                } else {
+                    Some(expected)
+                }
+            }
+            None => None,
+        },
+        _ => None,
+    }
+}
+
+/// How many frames stand on the wires of a process, by receiver.
+fn lengths<F: FrontEnd, A: Allocator + Copy>(world: &World<F, A>, process: u8) -> [usize; WIDTH]
+    requires going { world.now.failed ≡ false }
+    requires process { process < world.now.processes }
+    ensures { (to : ℕ) → to < world.now.processes → (to ≡ process → ⊥) → slice_index result to ≡ length (((run_in F.start world.now).nodes process).wire to) }
+{
+    let mut lengths = [0; WIDTH];
+    for to in 0..world.shape().processes() as u8 {
+        if let Some(frames) = world.wire(process, to) {
+            lengths[usize::from(to)] = frames.len();
+        }
+    }
+    lengths
+}
+
+/// Adds the frames of a wire from this place on.
+fn push_sent<A: Allocator + Copy>(
+    sent: &mut Vec<Sent, A>,
+    to: u8,
+    first: usize,
+    frames: &[Frame],
+) -> Result<(), AllocError>
+    ensures { OnOk result (sent.new.items ≡ sent.old.items ++ placed to first (drop first frames.now)) }
+{
+    for place in first..frames.len() {
+        let frame = frames[place];
+        sent.push(Sent { to, place, frame })?;
+    }
+    Ok(())
+}
+
+/// The frames that a process put behind those of these lengths.
+fn sent_since<F: FrontEnd, A: Allocator + Copy>(
+    alloc: A,
+    world: &World<F, A>,
+    process: u8,
+    lengths: &[usize; WIDTH],
+) -> Result<Vec<Sent, A>, AllocError>
+    requires going { world.now.failed ≡ false }
+    requires process { process < world.now.processes }
+    ensures { IfOk result (λ v. v.items ≡ puts_since process (slice_index lengths.now) ((run_in F.start world.now).nodes process).wire world.now.processes) }
+{
+    let mut sent = Vec::new(alloc);
+    for to in 0..world.shape().processes() as u8 {
+        if let Some(frames) = world.wire(process, to) {
+            push_sent(&mut sent, to, lengths[usize::from(to)], frames)?;
+        }
+    }
+    Ok(sent)
+}
+
+/// How many casts a process has delivered.
+fn delivered_count<F: FrontEnd, A: Allocator + Copy>(world: &World<F, A>, process: u8) -> u64
+    requires going { world.now.failed ≡ false }
+    requires process { process < world.now.processes }
+    ensures { result ≡ ((run_in F.start world.now).nodes process).state.delivered }
+{
+    match world.process(process) {
+        Some(process) => process.delivered_count(),
+        None => unreachable!(),
+    }
+}
+
+/// The clock of a process.
+fn clock_of<F: FrontEnd, A: Allocator + Copy>(world: &World<F, A>, process: u8) -> u64
+    requires going { world.now.failed ≡ false }
+    requires process { process < world.now.processes }
+    ensures { result ≡ ((run_in F.start world.now).nodes process).state.clock }
+{
+    match world.process(process) {
+        Some(process) => process.clock(),
+        None => unreachable!(),
+    }
+}
+
+/// The casts of the one order from this place up to that.
+fn casts_between<F: FrontEnd, A: Allocator + Copy>(
+    alloc: A,
+    world: &World<F, A>,
+    first: u64,
+    end: u64,
+) -> Result<Vec<Delivered, A>, AllocError>
+    ensures { IfOk result (λ v. v.items ≡ drop first (take end (map delivered_of (run_in F.start world.now).order))) }
+{
+    let order = world.order();
+    order
+        .iter()
+        .map(|first| Delivered {
+            stamp: first.stamp,
+            op: first.op,
+        })
+        .take(end as usize)
+        .skip(first as usize)
+        .collect(alloc)
+}
+
+/// Makes an event to which no fault applies, and tells what it did.
+fn tell<F: FrontEnd, A: Allocator + Copy>(
+    alloc: A,
+    world: &mut World<F, A>,
+    event: &Event,
+) -> Result<Moment<A>, AllocError>
+    requires going { world.old.failed ≡ false }
+    requires process { process_of event.now < world.old.processes }
+    requires accepted { refusal F.start world.old event.now ≡ None }
+    ensures made { OnOk result (world.new ≡ with_event F.start world.old event.now) }
+    ensures told { IfOk result (λ m. m ≡ moment_of F.start world.old event.now) }
+{
+    let process = process_of_event(event);
+    let frame = frame_of(world, event);
+    let expected = unexpected(frame, expected_of(world, event));
+    let lengths = lengths(world, process);
+    let before = delivered_count(world, process);
+    // (since no fault applies, memory was refused)
+    let Ok(reply) = world.step_reply(event) else {
+        return Err(AllocError);
+    };
+    let clock = clock_of(world, process);
+    let after = delivered_count(world, process);
+    let delivered = casts_between(alloc, world, before, after)?;
+    let sent = sent_since(alloc, world, process, &lengths)?;
+    let waits = waits_in(alloc, world, process)?;
+    Ok(Moment {
+        event: *event,
+        process,
+        frame,
+        expected,
+        clock,
+        delivered,
+        reply,
+        waits,
+        sent,
+    })
+}
+
+/// Makes these events, all of which are accepted, and adds what each did.
+fn tell_all<F: FrontEnd, A: Allocator + Copy>(
+    alloc: A,
+    world: &mut World<F, A>,
+    moments: &mut Vec<Moment<A>, A>,
+    events: &[Event],
+) -> Result<(), AllocError>
+    requires going { world.old.failed ≡ false }
+    requires accepted { AcceptsAll F.start world.old events.now }
+    ensures { OnOk result (moments.new.items ≡ moments.old.items ++ moments_from F.start world.old events.now) }
+{
+    for event in events {
+        let moment = tell(alloc, world, event)?;
+        moments.push(moment)?;
+    }
+    Ok(())
+}
+
+/// What each of these events does in a run that accepts them all.
+fn tell_events<F: FrontEnd, A: Allocator + Copy>(
+    alloc: A,
+    shape: Shape,
+    events: &[Event],
+) -> Result<Vec<Moment<A>, A>, AllocError>
+    requires { AcceptsAll F.start (new_world shape) events.now }
+    ensures { IfOk result (λ v. v.items ≡ moments_of F.start shape events.now) }
+{
+    let mut world = World::<F, A>::new(alloc, shape)?;
+    let mut moments = Vec::new(alloc);
+    tell_all(alloc, &mut world, &mut moments, events)?;
+    Ok(moments)
+}
+
+/// What each event of a world did.
+///
+/// # Errors
+///
+/// Memory is refused.
+pub fn tell_world<F: FrontEnd, A: Allocator + Copy>(
+    alloc: A,
+    world: &World<F, A>,
+) -> Result<Vec<Moment<A>, A>, AllocError>
+    ensures { IfOk result (λ v. v.items ≡ moments_of F.start (record { processes = world.now.processes; registers = world.now.registers }) world.now.accepted) }
+{
+    tell_events::<F, A>(alloc, world.shape(), world.accepted())
+}

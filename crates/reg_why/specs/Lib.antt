@@ -1,4 +1,0 @@
-pub mod Kinds
-pub mod FirstLines
-pub mod Tellings
-pub mod Inner

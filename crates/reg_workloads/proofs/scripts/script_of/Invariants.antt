@@ -1,8 +1,0 @@
-use Rattle.std.proofs.Common.{◌≡◌}
-use Rattle.reg_text.specs.Ops.{OpFits}
-use Rattle.reg_workloads.specs.Loads.{op_data}
-use Rattle.reg_workloads.proofs.Spelled.{Spelled}
-use Rattle.reg_workloads.proofs.scripts.script_of.Given as goal
-
-abbrev pub invariant-loop-value : goal.invariant-loop-value
-invariant-loop-value g l = (l.place ≡ l.value-index) × Spelled (op_data l.names) (OpFits l.names) l.lines l.value-index l.ops.items

@@ -1,4 +1,0 @@
-pub mod Keys
-pub mod Loads
-pub mod Judged
-pub mod FaultTexts
