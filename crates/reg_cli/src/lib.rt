@@ -1,5 +1,4 @@
-//! The command that has threads perform the scripts of a workload, over any reader and writer.
-//! The words of the program's command line, and the program: the commands over the standard streams.
+//! The program `awreg`: its command line, its commands over the standard streams, and the command that runs threads.
 #![tactic(auto)]
 
 mod performing;

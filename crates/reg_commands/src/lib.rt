@@ -1,5 +1,4 @@
-//! What a command tells: the fault for which it gives no answer, with its line, and the verdicts on a report, with theirs.
-//! The commands over any reader and writer.
+//! The commands over any reader and writer, and what they tell: answers, verdicts, and faults with their lines.
 #![tactic(auto)]
 
 mod checking;

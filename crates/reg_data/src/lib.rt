@@ -1,5 +1,4 @@
-//! What the comments of a schedule say: its title, and the note of each event.
-//! The data of a run, as JSON: what each event did, the states behind it, and the orders of the whole run.
+//! The data of a run, as JSON: what each event did and its note, the states after it, and the orders of the whole run.
 #![tactic(auto)]
 
 mod comments;
@@ -16,7 +15,6 @@ mod telling;
 mod text;
 
 pub use data::Data;
-pub use looks::{Kept, Look};
 pub use notes::{Notes, read_notes};
 pub use telling::tell_data;
 pub use text::write_data;

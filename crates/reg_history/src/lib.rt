@@ -1,6 +1,4 @@
-//! The lines of a report, in both versions: those of entries, of operations and of points, the limits of a report, and why a line, or what
-//! a report is made of, is refused. `reg_reports` reads and writes whole texts by these.
-//! The texts of reports: of a history, its order and its points. Histories and their checkers are passed on from below.
+//! Histories, the two checkers of their orders, and reports: the text of a history, its order and its points.
 #![tactic(auto)]
 
 mod blocks;
@@ -17,12 +15,9 @@ mod reports;
 mod versions;
 mod write;
 
-pub use entry_lines::{read_entry, why_entry};
-pub use items::{Listed, all_fit, why_unlisted};
 pub use reg_checkers::{
     CheckFault, Entry, History, HistoryFault, Point, check_points, check_serial,
 };
-pub use report_faults::{ReadFault, ReadWhy, ReportFault, WriteFault, at_line};
+pub use report_faults::{ReadFault, ReadWhy, ReportFault, WriteFault};
 pub use report_limits::{LONGEST_FRONT, MOST_ENTRIES, MOST_IDS, OLDER_PROCESSES, OLDER_REGISTERS};
 pub use reports::{Report, read_report, write_report};
-pub use versions::Version;

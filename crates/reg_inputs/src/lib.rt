@@ -1,5 +1,4 @@
-//! Workloads: a front end, registers, a script for each process and how they are played, read from a TOML document.
-//! Schedules, which are lists of events as text.
+//! What players and runs are given: workloads, read from TOML documents, and schedules, read and written as lists of events.
 #![tactic(auto)]
 
 mod event_lines;

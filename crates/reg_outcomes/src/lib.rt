@@ -1,4 +1,3 @@
-//! What plays told their callers, and the table of it: outcomes, how often each came, and its text.
 //! What a workload may answer, counted: many plays of it, each by the words of a seed of its own, and the table of what they told.
 #![tactic(auto)]
 
@@ -9,9 +8,9 @@ mod tallies;
 mod text;
 mod timing;
 
-pub use outcomes::{ToldValue, tell};
+pub use outcomes::ToldValue;
 pub use plays::{MOST_PLAYS, Outcomes, play_many};
-pub use rows::{Row, table_of};
-pub use tallies::{Glance, Tallies, Tally};
+pub use rows::Row;
+pub use tallies::Tally;
 pub use text::write_table;
 pub use timing::keeps_real_time;

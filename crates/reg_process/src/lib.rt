@@ -1,5 +1,4 @@
-//! What goes into one process and what comes out of it: steps, frames, replies and faults, and what it tells of itself. `reg_process` takes the steps.
-//! One process: what it does in each event.
+//! One process: what goes into it in an event, what comes out of it, and the step between them.
 #![tactic(auto)]
 
 mod awaited;

@@ -1,5 +1,4 @@
-//! Any run can come to rest: ticks and takes alone, of frames put from then on, bring a world to where nothing is pending.
-//! Which real time no order can keep: short runs in which a later operation stands before an earlier one, whatever the order.
+//! Laws of whole runs: any run can come to rest, and which real time no order can keep.
 #![tactic(auto)]
 
 mod faults;

@@ -1,5 +1,4 @@
-//! A cluster whose couriers and pacer run in threads of their own, from its start to its close.
-//! The scripts of a workload, performed by the threads of a running cluster.
+//! A cluster whose couriers and pacer run in threads of their own, from its start to its close, and scripts that threads perform.
 #![tactic(auto)]
 
 mod crews;

@@ -1,4 +1,4 @@
-//! What each event of a run did, the text of that and of the schedule, what a drawing joins, and the room for its texts.
+//! What each event of a run did, its text, and what a drawing joins.
 #![tactic(auto)]
 
 mod figures;
@@ -14,4 +14,3 @@ pub use moments::{Moment, Sent, process_of_event, tell_world};
 pub use rooms::{Filled, GAP};
 pub use told::TracedRun;
 pub use trace_text::{put_cast, put_frame, write_trace};
-pub use waits::Wait;

@@ -1,4 +1,4 @@
-//! Plays of workloads, which are runs in which each process calls the operations of its script. Workloads and schedules are passed on
+//! Plays of workloads: runs in which each process calls the operations of its script. Workloads and schedules are passed on
 //! from below.
 #![tactic(auto)]
 
@@ -15,4 +15,5 @@ pub use reg_base::Words;
 pub use reg_inputs::{
     Key, Schedule, ScheduleFault, Workload, WorkloadFault, parse_schedule, read_table,
 };
+pub use reg_text::Why;
 pub use seeds::SeedWords;
