@@ -3,9 +3,11 @@ ghost use Rattle.std.specs.Prelude.{◌≡◌, ◌+◌, ◌≤◌, ◌<◌, max,
 
 use crate::limits::LAST_TIME;
 use std::marker::Model;
+use thiserror::Error;
 
-/// The clock would pass its last time.
-#[derive(Clone, Copy, Debug, PartialEq, Eq)]
+/// The clock would pass its last time, `limits::LAST_TIME`.
+#[derive(Clone, Copy, Debug, PartialEq, Eq, Error)]
+#[error("clock full")]
 pub struct ClockFull;
 
 /// A logical clock.

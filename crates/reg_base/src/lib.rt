@@ -16,4 +16,5 @@ pub use memory::{Answer, Op, OpId, Registers};
 pub use naming::{Names, NamesFault, is_name};
 pub use shapes::{Shape, ShapeFault};
 pub use stamps::{Delivered, Stamp};
+pub use std::alloc::AllocError as OutOfMemory;
 pub use words::{Words, happens};

@@ -11,6 +11,7 @@ use Rattle.reg_frames.specs.declared.bodies.Frame.{Frame}
 use Rattle.reg_frames.specs.declared.bodies.Frame.TheVariants.{Numbered, Got}
 use Rattle.reg_frames.specs.declared.faults.FrameFault.{FrameFault}
 use Rattle.reg_frames.specs.declared.faults.FrameFault.TheVariants as faults
+use Rattle.reg_frames.specs.declared.layout.TheConstants.{LENGTH_AT, VERSION_AT, KIND_AT, NUMBER_AT, BODY_AT, TIME_AT, OP_AT, REGISTER_AT, VALUE_AT, GOT_SIZE, ACK_SIZE, READ_SIZE, VALUED_SIZE, PLAIN, SWAPPING, DATA, GOT, CAST, ACK, READ, WRITE, SWAP}
 
 -- the number that stands at this offset
 abbrev pub number_at : Width → ℕ → List ℕ → ℕ
@@ -36,53 +37,53 @@ abbrev pub sized : ℕ → List ℕ → Frame → Result Frame FrameFault
 sized size bytes frame = if length bytes == size then in_range frame else Err faults.Size
 
 abbrev pub cast_at : List ℕ → Op → Frame
-cast_at bytes op = Numbered (number_at w64 4 bytes) (Cast (number_at w64 13 bytes) op)
+cast_at bytes op = Numbered (number_at w64 NUMBER_AT bytes) (Cast (number_at w64 TIME_AT bytes) op)
 
 -- a cast by its operation's byte
 abbrev pub cast_of : List ℕ → Result Frame FrameFault
 cast_of bytes =
-    if nat_lt (length bytes) 22 then Err faults.Size else
-    if slice_index bytes 21 == 1 then sized 24 bytes (cast_at bytes (Read (number_at w16 22 bytes))) else
-    if slice_index bytes 21 == 2 then sized 32 bytes (cast_at bytes (Write (number_at w16 22 bytes) (number_at w64 24 bytes))) else
+    if nat_lt (length bytes) REGISTER_AT then Err faults.Size else
+    if slice_index bytes OP_AT == READ then sized READ_SIZE bytes (cast_at bytes (Read (number_at w16 REGISTER_AT bytes))) else
+    if slice_index bytes OP_AT == WRITE then sized VALUED_SIZE bytes (cast_at bytes (Write (number_at w16 REGISTER_AT bytes) (number_at w64 VALUE_AT bytes))) else
     Err faults.Op
 
 -- a data frame by its body's byte
 abbrev pub data_of : List ℕ → Result Frame FrameFault
 data_of bytes =
-    if nat_lt (length bytes) 13 then Err faults.Size else
-    if slice_index bytes 12 == 1 then cast_of bytes else
-    if slice_index bytes 12 == 2 then sized 21 bytes (Numbered (number_at w64 4 bytes) (Ack (number_at w64 13 bytes))) else
+    if nat_lt (length bytes) TIME_AT then Err faults.Size else
+    if slice_index bytes BODY_AT == CAST then cast_of bytes else
+    if slice_index bytes BODY_AT == ACK then sized ACK_SIZE bytes (Numbered (number_at w64 NUMBER_AT bytes) (Ack (number_at w64 TIME_AT bytes))) else
     Err faults.Body
 
 -- a frame of version 1 by its kind
 abbrev pub plain_of : List ℕ → Result Frame FrameFault
 plain_of bytes =
-    if slice_index bytes 3 == 1 then data_of bytes else
-    if slice_index bytes 3 == 2 then sized 12 bytes (Got (number_at w64 4 bytes)) else
+    if slice_index bytes KIND_AT == DATA then data_of bytes else
+    if slice_index bytes KIND_AT == GOT then sized GOT_SIZE bytes (Got (number_at w64 NUMBER_AT bytes)) else
     Err faults.Kind
 
 -- a frame of version 2, which is the cast of a swap
 abbrev pub swap_cast_of : List ℕ → Result Frame FrameFault
 swap_cast_of bytes =
-    if nat_lt (length bytes) 22 then Err faults.Size else
-    if slice_index bytes 21 == 3 then sized 32 bytes (cast_at bytes (Swap (number_at w16 22 bytes) (number_at w64 24 bytes))) else
+    if nat_lt (length bytes) REGISTER_AT then Err faults.Size else
+    if slice_index bytes OP_AT == SWAP then sized VALUED_SIZE bytes (cast_at bytes (Swap (number_at w16 REGISTER_AT bytes) (number_at w64 VALUE_AT bytes))) else
     Err faults.Op
 
 abbrev pub swap_data_of : List ℕ → Result Frame FrameFault
 swap_data_of bytes =
-    if nat_lt (length bytes) 13 then Err faults.Size else
-    if slice_index bytes 12 == 1 then swap_cast_of bytes else
+    if nat_lt (length bytes) TIME_AT then Err faults.Size else
+    if slice_index bytes BODY_AT == CAST then swap_cast_of bytes else
     Err faults.Body
 
 abbrev pub swap_of : List ℕ → Result Frame FrameFault
-swap_of bytes = if slice_index bytes 3 == 1 then swap_data_of bytes else Err faults.Kind
+swap_of bytes = if slice_index bytes KIND_AT == DATA then swap_data_of bytes else Err faults.Kind
 
 -- the frame, or the first fault
 abbrev pub frame_of : List ℕ → Result Frame FrameFault
 frame_of bytes =
-    if nat_lt (length bytes) 12 then Err faults.Short else
-    if number_at w16 0 bytes == length bytes - 2 then
-    (if slice_index bytes 2 == 1 then plain_of bytes else
-    if slice_index bytes 2 == 2 then swap_of bytes else
+    if nat_lt (length bytes) GOT_SIZE then Err faults.Short else
+    if number_at w16 LENGTH_AT bytes == length bytes - VERSION_AT then
+    (if slice_index bytes VERSION_AT == PLAIN then plain_of bytes else
+    if slice_index bytes VERSION_AT == SWAPPING then swap_of bytes else
     Err faults.Version)
     else Err faults.Length

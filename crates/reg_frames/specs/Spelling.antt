@@ -10,36 +10,37 @@ use Rattle.reg_frames.specs.declared.bodies.Frame.{Frame}
 use Rattle.reg_frames.specs.declared.bodies.Frame.TheVariants.{Numbered, Got}
 use Rattle.reg_frames.specs.declared.faults.FrameFault.{FrameFault}
 use Rattle.reg_frames.specs.declared.faults.FrameFault.TheVariants as faults
+use Rattle.reg_frames.specs.declared.layout.TheConstants.{PLAIN, SWAPPING, DATA, GOT, CAST, ACK, READ, WRITE, SWAP}
 
 -- the operation's byte, its register in two bytes, and the value of a write or a swap in eight
 abbrev pub op_bytes : Op → List ℕ
-op_bytes (Read register) = 1 ∷ to_be_bytes w16 register
-op_bytes (Write register value) = 2 ∷ (to_be_bytes w16 register ++ to_be_bytes w64 value)
-op_bytes (Swap register value) = 3 ∷ (to_be_bytes w16 register ++ to_be_bytes w64 value)
+op_bytes (Read register) = READ ∷ to_be_bytes w16 register
+op_bytes (Write register value) = WRITE ∷ (to_be_bytes w16 register ++ to_be_bytes w64 value)
+op_bytes (Swap register value) = SWAP ∷ (to_be_bytes w16 register ++ to_be_bytes w64 value)
 
 -- the body's byte, its time in eight bytes, and the operation of a cast
 abbrev pub body_bytes : Body → List ℕ
-body_bytes (Cast time op) = 1 ∷ (to_be_bytes w64 time ++ op_bytes op)
-body_bytes (Ack time) = 2 ∷ to_be_bytes w64 time
+body_bytes (Cast time op) = CAST ∷ (to_be_bytes w64 time ++ op_bytes op)
+body_bytes (Ack time) = ACK ∷ to_be_bytes w64 time
 
 -- what follows the version: the frame's byte, its number or count in eight bytes, and the body of a data frame
 abbrev pub payload : Frame → List ℕ
-payload (Numbered number body) = 1 ∷ (to_be_bytes w64 number ++ body_bytes body)
-payload (Got count) = 2 ∷ to_be_bytes w64 count
+payload (Numbered number body) = DATA ∷ (to_be_bytes w64 number ++ body_bytes body)
+payload (Got count) = GOT ∷ to_be_bytes w64 count
 
 -- the cast of a swap has version 2, all else version 1
 abbrev pub op_version : Op → ℕ
-op_version (Read register) = 1
-op_version (Write register value) = 1
-op_version (Swap register value) = 2
+op_version (Read register) = PLAIN
+op_version (Write register value) = PLAIN
+op_version (Swap register value) = SWAPPING
 
 abbrev pub body_version : Body → ℕ
 body_version (Cast time op) = op_version op
-body_version (Ack time) = 1
+body_version (Ack time) = PLAIN
 
 abbrev pub version_of : Frame → ℕ
 version_of (Numbered number body) = body_version body
-version_of (Got count) = 1
+version_of (Got count) = PLAIN
 
 -- the length of what follows in two bytes, the version, and the payload
 abbrev pub spelling : Frame → List ℕ

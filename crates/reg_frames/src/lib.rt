@@ -4,6 +4,7 @@
 mod bodies;
 mod faults;
 pub mod laws;
+mod layout;
 mod puts;
 mod reading;
 mod spelling;

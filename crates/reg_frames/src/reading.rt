@@ -8,10 +8,16 @@ ghost use Rattle.reg_frames.specs.declared.bodies.Frame.{Frame};
 ghost use Rattle.reg_frames.specs.declared.bodies.Frame.TheVariants.{Numbered, Got};
 ghost use Rattle.reg_frames.specs.Spelling.{Spells};
 ghost use Rattle.reg_frames.specs.Reading.{number_at, cast_at, is_time, body_fits as is_body, frame_fits, in_range as in_range_of, sized as sized_of, cast_of, data_of, plain_of, swap_cast_of, swap_data_of, swap_of, frame_of};
+ghost use Rattle.reg_frames.specs.declared.layout.TheConstants.{NUMBER_AT, TIME_AT, REGISTER_AT, VALUE_AT, GOT_SIZE, ACK_SIZE, READ_SIZE, VALUED_SIZE};
 ghost use Rattle.reg_frames.specs.Narrow.{OpIsNarrow, BodyIsNarrow, IsNarrow};
 
 use crate::bodies::{Body, Frame};
 use crate::faults::FrameFault;
+use crate::layout::{
+    ACK, ACK_SIZE, BODY_AT, CAST, DATA, GOT, GOT_SIZE, KIND_AT, LENGTH_AT, NUMBER_AT, OP_AT, PLAIN,
+    READ, READ_SIZE, REGISTER_AT, SWAP, SWAPPING, TIME_AT, VALUE_AT, VALUED_SIZE, VERSION_AT,
+    WRITE,
+};
 use reg_base::Op;
 use reg_base::limits::{FRAME_NUMBERS, LAST_TIME, MOST_REGISTERS};
 
@@ -88,65 +94,66 @@ fn in_range(frame: Frame) -> Result<Frame, FrameFault>
     }
 }
 
-fn read_cast(bytes: &[u8]) -> Result<Frame, FrameFault>
-    requires { 22 ≤ length bytes.now }
-    ensures { result ≡ sized_of 24 bytes.now (cast_at bytes.now (Read (number_at w16 22 bytes.now))) }
+/// The cast of this operation, whose number and time stand in the bytes.
+fn cast_with(bytes: &[u8], op: Op) -> Result<Frame, FrameFault>
+    requires { REGISTER_AT ≤ length bytes.now }
+    ensures { result ≡ in_range_of (cast_at bytes.now op) }
 {
-    if bytes.len() != 24 {
+    let time = u64_at(bytes, TIME_AT);
+    let number = u64_at(bytes, NUMBER_AT);
+    in_range(Frame::Numbered {
+        number,
+        body: Body::Cast { time, op },
+    })
+}
+
+fn read_cast(bytes: &[u8]) -> Result<Frame, FrameFault>
+    requires { REGISTER_AT ≤ length bytes.now }
+    ensures { result ≡ sized_of READ_SIZE bytes.now (cast_at bytes.now (Read (number_at w16 REGISTER_AT bytes.now))) }
+{
+    if bytes.len() != READ_SIZE {
         return Err(FrameFault::Size);
     }
-    let register = u16_at(bytes, 22);
-    let time = u64_at(bytes, 13);
-    let body = Body::Cast {
-        time,
-        op: Op::Read { register },
-    };
-    let number = u64_at(bytes, 4);
-    in_range(Frame::Numbered { number, body })
+    let register = u16_at(bytes, REGISTER_AT);
+    cast_with(bytes, Op::Read { register })
 }
 
 fn write_cast(bytes: &[u8]) -> Result<Frame, FrameFault>
-    requires { 22 ≤ length bytes.now }
-    ensures { result ≡ sized_of 32 bytes.now (cast_at bytes.now (Write (number_at w16 22 bytes.now) (number_at w64 24 bytes.now))) }
+    requires { REGISTER_AT ≤ length bytes.now }
+    ensures { result ≡ sized_of VALUED_SIZE bytes.now (cast_at bytes.now (Write (number_at w16 REGISTER_AT bytes.now) (number_at w64 VALUE_AT bytes.now))) }
 {
-    if bytes.len() != 32 {
+    if bytes.len() != VALUED_SIZE {
         return Err(FrameFault::Size);
     }
-    let register = u16_at(bytes, 22);
-    let value = u64_at(bytes, 24);
-    let time = u64_at(bytes, 13);
-    let body = Body::Cast {
-        time,
-        op: Op::Write { register, value },
-    };
-    let number = u64_at(bytes, 4);
-    in_range(Frame::Numbered { number, body })
+    let register = u16_at(bytes, REGISTER_AT);
+    let value = u64_at(bytes, VALUE_AT);
+    cast_with(bytes, Op::Write { register, value })
 }
 
 fn cast(bytes: &[u8]) -> Result<Frame, FrameFault>
     ensures { result ≡ cast_of bytes.now }
 {
-    if bytes.len() < 22 {
+    if bytes.len() < REGISTER_AT {
         return Err(FrameFault::Size);
     }
-    if bytes[21] == 1 {
+    if bytes[OP_AT] == READ {
         return read_cast(bytes);
     }
-    if bytes[21] == 2 {
+    if bytes[OP_AT] == WRITE {
         return write_cast(bytes);
     }
     Err(FrameFault::Op)
 }
 
 fn acknowledgement(bytes: &[u8]) -> Result<Frame, FrameFault>
-    requires { 13 ≤ length bytes.now }
-    ensures { result ≡ sized_of 21 bytes.now (Numbered (number_at w64 4 bytes.now) (Ack (number_at w64 13 bytes.now))) }
+    requires { TIME_AT ≤ length bytes.now }
+    ensures { result ≡ sized_of ACK_SIZE bytes.now (Numbered (number_at w64 NUMBER_AT bytes.now) (Ack (number_at w64 TIME_AT bytes.now))) }
 {
-    if bytes.len() != 21 {
+    if bytes.len() != ACK_SIZE {
         return Err(FrameFault::Size);
     }
-    let time = u64_at(bytes, 13);
-    let number = u64_at(bytes, 4);
+    let time = u64_at(bytes, TIME_AT);
+    let number = u64_at(bytes, NUMBER_AT);
     in_range(Frame::Numbered {
         number,
         body: Body::Ack { time },
@@ -156,37 +163,37 @@ fn acknowledgement(bytes: &[u8]) -> Result<Frame, FrameFault>
 fn data_frame(bytes: &[u8]) -> Result<Frame, FrameFault>
     ensures { result ≡ data_of bytes.now }
 {
-    if bytes.len() < 13 {
+    if bytes.len() < TIME_AT {
         return Err(FrameFault::Size);
     }
-    if bytes[12] == 1 {
+    if bytes[BODY_AT] == CAST {
         return cast(bytes);
     }
-    if bytes[12] == 2 {
+    if bytes[BODY_AT] == ACK {
         return acknowledgement(bytes);
     }
     Err(FrameFault::Body)
 }
 
 fn got(bytes: &[u8]) -> Result<Frame, FrameFault>
-    requires { 12 ≤ length bytes.now }
-    ensures { result ≡ sized_of 12 bytes.now (Got (number_at w64 4 bytes.now)) }
+    requires { GOT_SIZE ≤ length bytes.now }
+    ensures { result ≡ sized_of GOT_SIZE bytes.now (Got (number_at w64 NUMBER_AT bytes.now)) }
 {
-    if bytes.len() != 12 {
+    if bytes.len() != GOT_SIZE {
         return Err(FrameFault::Size);
     }
-    let count = u64_at(bytes, 4);
+    let count = u64_at(bytes, NUMBER_AT);
     in_range(Frame::Got { count })
 }
 
 fn plain(bytes: &[u8]) -> Result<Frame, FrameFault>
-    requires { 12 ≤ length bytes.now }
+    requires { GOT_SIZE ≤ length bytes.now }
     ensures { result ≡ plain_of bytes.now }
 {
-    if bytes[3] == 1 {
+    if bytes[KIND_AT] == DATA {
         return data_frame(bytes);
     }
-    if bytes[3] == 2 {
+    if bytes[KIND_AT] == GOT {
         return got(bytes);
     }
     Err(FrameFault::Kind)
@@ -195,43 +202,37 @@ fn plain(bytes: &[u8]) -> Result<Frame, FrameFault>
 fn swap_cast(bytes: &[u8]) -> Result<Frame, FrameFault>
     ensures { result ≡ swap_cast_of bytes.now }
 {
-    if bytes.len() < 22 {
+    if bytes.len() < REGISTER_AT {
         return Err(FrameFault::Size);
     }
-    if bytes[21] != 3 {
+    if bytes[OP_AT] != SWAP {
         return Err(FrameFault::Op);
     }
-    if bytes.len() != 32 {
+    if bytes.len() != VALUED_SIZE {
         return Err(FrameFault::Size);
     }
-    let register = u16_at(bytes, 22);
-    let value = u64_at(bytes, 24);
-    let time = u64_at(bytes, 13);
-    let body = Body::Cast {
-        time,
-        op: Op::Swap { register, value },
-    };
-    let number = u64_at(bytes, 4);
-    in_range(Frame::Numbered { number, body })
+    let register = u16_at(bytes, REGISTER_AT);
+    let value = u64_at(bytes, VALUE_AT);
+    cast_with(bytes, Op::Swap { register, value })
 }
 
 fn swap_data_frame(bytes: &[u8]) -> Result<Frame, FrameFault>
     ensures { result ≡ swap_data_of bytes.now }
 {
-    if bytes.len() < 13 {
+    if bytes.len() < TIME_AT {
         return Err(FrameFault::Size);
     }
-    if bytes[12] == 1 {
+    if bytes[BODY_AT] == CAST {
         return swap_cast(bytes);
     }
     Err(FrameFault::Body)
 }
 
 fn swap(bytes: &[u8]) -> Result<Frame, FrameFault>
-    requires { 12 ≤ length bytes.now }
+    requires { GOT_SIZE ≤ length bytes.now }
     ensures { result ≡ swap_of bytes.now }
 {
-    if bytes[3] == 1 {
+    if bytes[KIND_AT] == DATA {
         return swap_data_frame(bytes);
     }
     Err(FrameFault::Kind)
@@ -240,16 +241,16 @@ fn swap(bytes: &[u8]) -> Result<Frame, FrameFault>
 fn frame(bytes: &[u8]) -> Result<Frame, FrameFault>
     ensures { result ≡ frame_of bytes.now }
 {
-    if bytes.len() < 12 {
+    if bytes.len() < GOT_SIZE {
         return Err(FrameFault::Short);
     }
-    if u16_at(bytes, 0) as usize != bytes.len() - 2 {
+    if u16_at(bytes, LENGTH_AT) as usize != bytes.len() - 2 {
         return Err(FrameFault::Length);
     }
-    if bytes[2] == 1 {
+    if bytes[VERSION_AT] == PLAIN {
         return plain(bytes);
     }
-    if bytes[2] == 2 {
+    if bytes[VERSION_AT] == SWAPPING {
         return swap(bytes);
     }
     Err(FrameFault::Version)

@@ -5,28 +5,32 @@ ghost use Rattle.reg_frames.specs.Spelling.{op_bytes, body_bytes, payload, versi
 
 use crate::bodies::{Body, Frame};
 use crate::faults::FrameFault;
+use crate::layout::{
+    ACK, ACK_SIZE, CAST, DATA, GOT, GOT_SIZE, PLAIN, READ, READ_SIZE, SWAP, SWAPPING, VALUED_SIZE,
+    VERSION_AT, WRITE,
+};
 use crate::reading::fits;
 use reg_base::Op;
 use std::alloc::{AllocError, Allocator};
 
-/// How many bytes follow the length field.
-fn size_of(frame: Frame) -> u16
-    ensures { result ≡ length (payload frame) + 1 }
+/// How many bytes a frame has.
+fn size_of(frame: Frame) -> usize
+    ensures { result ≡ length (payload frame) + 3 }
 {
     match frame {
-        Frame::Got { count: _ } => 10,
+        Frame::Got { count: _ } => GOT_SIZE,
         Frame::Numbered { number: _, body } => match body {
-            Body::Ack { time: _ } => 19,
+            Body::Ack { time: _ } => ACK_SIZE,
             Body::Cast { time: _, op } => match op {
-                Op::Read { register: _ } => 22,
+                Op::Read { register: _ } => READ_SIZE,
                 Op::Write {
                     register: _,
                     value: _,
-                } => 30,
+                } => VALUED_SIZE,
                 Op::Swap {
                     register: _,
                     value: _,
-                } => 30,
+                } => VALUED_SIZE,
             },
         },
     }
@@ -37,19 +41,19 @@ fn version_of(frame: Frame) -> u8
     ensures { result ≡ version_of_frame frame }
 {
     match frame {
-        Frame::Got { count: _ } => 1,
+        Frame::Got { count: _ } => PLAIN,
         Frame::Numbered { number: _, body } => match body {
-            Body::Ack { time: _ } => 1,
+            Body::Ack { time: _ } => PLAIN,
             Body::Cast { time: _, op } => match op {
-                Op::Read { register: _ } => 1,
+                Op::Read { register: _ } => PLAIN,
                 Op::Write {
                     register: _,
                     value: _,
-                } => 1,
+                } => PLAIN,
                 Op::Swap {
                     register: _,
                     value: _,
-                } => 2,
+                } => SWAPPING,
             },
         },
     }
@@ -75,11 +79,11 @@ fn put_op<A: Allocator + Copy>(bytes: &mut Vec<u8, A>, op: Op) -> Result<(), All
 {
     match op {
         Op::Read { register } => {
-            bytes.push(1)?;
+            bytes.push(READ)?;
             bytes.extend_from_slice(&register.to_be_bytes())
         }
-        Op::Write { register, value } => put_valued(bytes, 2, register, value),
-        Op::Swap { register, value } => put_valued(bytes, 3, register, value),
+        Op::Write { register, value } => put_valued(bytes, WRITE, register, value),
+        Op::Swap { register, value } => put_valued(bytes, SWAP, register, value),
     }
 }
 
@@ -88,12 +92,12 @@ fn put_body<A: Allocator + Copy>(bytes: &mut Vec<u8, A>, body: Body) -> Result<(
 {
     match body {
         Body::Cast { time, op } => {
-            bytes.push(1)?;
+            bytes.push(CAST)?;
             bytes.extend_from_slice(&time.to_be_bytes())?;
             put_op(bytes, op)?;
         }
         Body::Ack { time } => {
-            bytes.push(2)?;
+            bytes.push(ACK)?;
             bytes.extend_from_slice(&time.to_be_bytes())?;
         }
     }
@@ -105,12 +109,12 @@ fn put_payload<A: Allocator + Copy>(bytes: &mut Vec<u8, A>, frame: Frame) -> Res
 {
     match frame {
         Frame::Numbered { number, body } => {
-            bytes.push(1)?;
+            bytes.push(DATA)?;
             bytes.extend_from_slice(&number.to_be_bytes())?;
             put_body(bytes, body)?;
         }
         Frame::Got { count } => {
-            bytes.push(2)?;
+            bytes.push(GOT)?;
             bytes.extend_from_slice(&count.to_be_bytes())?;
         }
     }
@@ -122,8 +126,8 @@ fn spell<A: Allocator + Copy>(alloc: A, frame: Frame) -> Result<Vec<u8, A>, Allo
 {
     let size = size_of(frame);
     let mut bytes = Vec::new(alloc);
-    bytes.reserve(usize::from(size) + 2)?;
-    bytes.extend_from_slice(&size.to_be_bytes())?;
+    bytes.reserve(size)?;
+    bytes.extend_from_slice(&((size - VERSION_AT) as u16).to_be_bytes())?;
     bytes.push(version_of(frame))?;
     put_payload(&mut bytes, frame)?;
     Ok(bytes)

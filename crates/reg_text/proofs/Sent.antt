@@ -100,3 +100,9 @@ all_out held a b old new bs begun from going to p = subst (λ s. Appends (held o
 
 pub part_out : {S : Type 0} (held : S → Option (List ℕ)) (a b : Sink S) (old new : S) (bs : List ℕ) → a.failed ≡ false → a.writer.now ≡ old → b.failed ≡ true → b.writer.now ≡ new → Puts held a b bs → AppendsPart (held old) (held new) bs
 part_out held a b old new bs begun from failed to p = subst (λ s. AppendsPart (held old) (held s) bs) to (subst (λ f. Sends false f (held old) (held b.writer.now) bs) failed (sent_from held a b old bs begun from p))
+
+-- the same of what a sink tells when it is finished
+pub went_out : {S E : Type 0} (held : S → Option (List ℕ)) (a b : Sink S) (old new : S) (bs : List ℕ) (r : Result Unit E) → a.failed ≡ false → a.writer.now ≡ old → b.writer.now ≡ new → Puts held a b bs
+    → MatchResult r (λ _. b.failed ≡ false) (λ _. b.failed ≡ true) → MatchResult r (λ _. Appends (held old) (held new) bs) (λ _. AppendsPart (held old) (held new) bs)
+went_out held a b old new bs (Ok x) begun from to p h = all_out held a b old new bs begun from h to p
+went_out held a b old new bs (Err e) begun from to p h = part_out held a b old new bs begun from h to p

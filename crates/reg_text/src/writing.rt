@@ -1,5 +1,5 @@
 //! Writing of which all or a first part went out.
-ghost use Rattle.std.specs.Prelude.{◌≡◌, ◌++◌, false, MatchResult};
+ghost use Rattle.std.specs.Prelude.{◌≡◌, ◌++◌, false, true, MatchResult};
 ghost use Rattle.std.specs.Fmt.{decimal};
 ghost use Rattle.std.specs.Io.KnownBytes.{Appends};
 ghost use Rattle.reg_text.specs.Writing.{AppendsPart, Puts};
@@ -61,6 +61,17 @@ impl<'a, W: Write> Sink<'a, W> {
         if !self.failed && write_bytes(self.writer, bytes).is_err() {
             self.failed = true;
         }
+    }
+
+    /// Whether all that was put went out.
+    ///
+    /// # Errors
+    ///
+    /// `Unwritten` where the writer has failed, and a first part went out.
+    pub fn finish(&self) -> Result<(), Unwritten>
+        ensures { MatchResult result (λ _. self.now.failed ≡ false) (λ _. self.now.failed ≡ true) }
+    {
+        if self.failed { Err(Unwritten) } else { Ok(()) }
     }
 }
 

@@ -2,8 +2,8 @@ use Rattle.std.proofs.Common.{arith}
 use Rattle.std.proofs.lemmas.Grind.{common_steps}
 use Rattle.reg_frames.proofs.reading.frame.Goals as goal
 
-pub returns-then-bytes-lt12 : goal.returns-then-bytes-lt12
-returns-then-bytes-lt12 c = grind (arith, common_steps)
+pub returns-then-bytes-lt-GOT_SIZE : goal.returns-then-bytes-lt-GOT_SIZE
+returns-then-bytes-lt-GOT_SIZE c = grind (arith, common_steps)
 
 pub u16_at-requires : goal.u16_at-requires
 u16_at-requires c = omega arith
@@ -20,8 +20,8 @@ bounds-bytes-2 c = omega arith
 pub plain-requires : goal.plain-requires
 plain-requires c = omega arith
 
-pub returns-then-bytes-eq1 : goal.returns-then-bytes-eq1
-returns-then-bytes-eq1 c = grind (arith, common_steps)
+pub returns-then-bytes-eq-PLAIN : goal.returns-then-bytes-eq-PLAIN
+returns-then-bytes-eq-PLAIN c = grind (arith, common_steps)
 
 pub bounds-bytes-2-2 : goal.bounds-bytes-2-2
 bounds-bytes-2-2 c = omega arith
@@ -29,8 +29,8 @@ bounds-bytes-2-2 c = omega arith
 pub swap-requires : goal.swap-requires
 swap-requires c = omega arith
 
-pub returns-then-bytes-eq2 : goal.returns-then-bytes-eq2
-returns-then-bytes-eq2 c = grind (arith, common_steps)
+pub returns-then-bytes-eq-SWAPPING : goal.returns-then-bytes-eq-SWAPPING
+returns-then-bytes-eq-SWAPPING c = grind (arith, common_steps)
 
 pub returns : goal.returns
 returns c = grind (arith, common_steps)
