@@ -55,8 +55,5 @@ pub fn write_stop<W: Write>(errors: &mut W, stop: Stop) -> Result<(), Unwritten>
 {
     let mut sink = Sink::new(errors);
     put_stop(&mut sink, stop);
-    if sink.failed {
-        return Err(Unwritten);
-    }
-    Ok(())
+    sink.finish()
 }

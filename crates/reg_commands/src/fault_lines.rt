@@ -82,8 +82,5 @@ pub fn write_fault<W: Write>(errors: &mut W, fault: Fault) -> Result<(), Unwritt
 {
     let mut sink = Sink::new(errors);
     put_fault(&mut sink, fault);
-    if sink.failed {
-        return Err(Unwritten);
-    }
-    Ok(())
+    sink.finish()
 }

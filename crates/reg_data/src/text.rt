@@ -114,8 +114,5 @@ pub fn write_data<A: Allocator + Copy, W: Write>(
 {
     let mut sink = Sink::new(writer);
     put_between(&mut sink, head, run, tail);
-    if sink.failed {
-        return Err(Unwritten);
-    }
-    Ok(())
+    sink.finish()
 }

@@ -143,8 +143,5 @@ pub fn write_schedule<A: Allocator + Copy, W: Write>(
 {
     let mut sink = Sink::new(writer);
     put_schedule(&mut sink, shape, names, front, events);
-    if sink.failed {
-        return Err(Unwritten);
-    }
-    Ok(())
+    sink.finish()
 }

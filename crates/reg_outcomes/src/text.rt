@@ -129,8 +129,5 @@ pub fn write_table<A: Allocator + Copy, W: Write>(
 {
     let mut sink = Sink::new(writer);
     put_table(&mut sink, plays, rows, unfinished);
-    if sink.failed {
-        return Err(Unwritten);
-    }
-    Ok(())
+    sink.finish()
 }

@@ -310,8 +310,5 @@ pub fn write_trace<A: Allocator + Copy, W: Write>(
 {
     let mut sink = Sink::new(writer);
     put_trace(&mut sink, names, moments);
-    if sink.failed {
-        return Err(Unwritten);
-    }
-    Ok(())
+    sink.finish()
 }
