@@ -24,3 +24,4 @@ pub use processes::Process;
 pub use reg_base::Delivered;
 pub use reg_frames::Put;
 pub use steps::{Reply, Step};
+pub use stops::is_stop;

@@ -201,4 +201,17 @@ impl<F: FrontEnd, A: Allocator + Copy> Process<F, A> {
             }
         }
     }
+
+    /// Makes a step: a call, a take or a tick, with the faults of each.
+    // (in line: it is made at each event, and an outcome handed back by a further call would be copied once more)
+    #[inline(always)]
+    pub fn step(&mut self, step: &Step) -> Result<Outcome<A>, ProcessFault>
+        ensures { MatchResult result (λ o. Steps F.start self.old step.now o.frames.items o.cast o.delivered.items o.reply self.new) (λ fault. Refused F.start self.old step.now fault self.new) }
+    {
+        match *step {
+            Step::Call { op } => self.call(op),
+            Step::Take { from, frame } => self.take(from, &frame),
+            Step::Tick => self.tick(),
+        }
+    }
 }

@@ -106,12 +106,7 @@ fn act<F: FrontEnd, A: Allocator + Copy>(
     requires none { step_fault F.start process.old.state step.now ≡ None }
     ensures { IfOk result (λ o. Steps F.start process.old step.now o.frames.items o.cast o.delivered.items o.reply process.new) }
 {
-    let outcome = match *step {
-        Step::Call { op } => process.call(op),
-        Step::Take { from, frame } => process.take(from, &frame),
-        Step::Tick => process.tick(),
-    };
-    match outcome {
+    match process.step(step) {
         Ok(outcome) => Ok(outcome),
         Err(ProcessFault::OutOfMemory) => Err(AllocError),
         Err(_) => unreachable!(),
