@@ -1,21 +1,39 @@
 //! Why a text is no workload.
+use crate::forms::Form;
 use crate::lines_at::{kept_at, line_at, line_of_place};
-use crate::saying::{put_misfit, put_name, put_place, put_wanted_number, put_wanted_words};
-use crate::scanning::{Scan, is_register, token_of};
-use crate::schedule_lines::scan_op;
+use crate::saying::{
+    NAME_FORM, NAME_TAKEN, near, put_misfit, put_out_of_range, put_place, put_quoted,
+    put_wanted_words, put_with,
+};
+use crate::scanning::{behind, is_register, misfit_of, place_of, token_of};
 use crate::toml_places::{Item, item_place, key_place};
 use crate::wanting::{Misfit, Range};
 use reg_base::limits::{
     LAST_SEED, MOST_EVENTS, MOST_ODDS, MOST_OPERATIONS, MOST_PROCESSES, MOST_REGISTERS,
 };
+use reg_text::Sink;
 use reg_inputs::{Key, WorkloadFault};
-use reg_text::{Sink, put_number};
 use std::alloc::{AllocError, Allocator, Global};
 use std::io::Write;
 use toml::{Table, Value, table_from_str};
 
 /// The keys of a workload.
-const KEYS: &str = "front registers scripts seed loss repeat budget";
+const KEYS: &[&str] = &[
+    "front",
+    "registers",
+    "scripts",
+    "seed",
+    "loss",
+    "repeat",
+    "budget",
+];
+
+const FRONTS: &[&str] = &["linear", "local-read", "local-write"];
+
+/// The words with which lines of a schedule begin.
+const OF_A_SCHEDULE: &[&str] = &["processes", "registers", "front", "call", "take", "tick"];
+
+const OF_A_REPORT: &[&str] = &["awreg"];
 
 /// Puts the line of this place of a text.
 fn put_text_place<W: Write>(sink: &mut Sink<'_, W>, text: &[u8], place: usize) {
@@ -50,28 +68,13 @@ fn kind_of_key(key: Key) -> &'static str {
 
 /// The range of a key's number.
 fn range_of(key: Key) -> Range {
-    match key {
-        Key::Seed => Range {
-            what: "seed is",
-            least: 0,
-            most: LAST_SEED,
-        },
-        Key::Loss => Range {
-            what: "loss is",
-            least: 0,
-            most: MOST_ODDS as u64,
-        },
-        Key::Repeat => Range {
-            what: "repeat is",
-            least: 0,
-            most: MOST_ODDS as u64,
-        },
-        _ => Range {
-            what: "budget is",
-            least: 1,
-            most: MOST_EVENTS as u64,
-        },
-    }
+    let (what, least, most) = match key {
+        Key::Seed => ("seed is", 0, LAST_SEED),
+        Key::Loss => ("loss is", 0, MOST_ODDS as u64),
+        Key::Repeat => ("repeat is", 0, MOST_ODDS as u64),
+        _ => ("budget is", 1, MOST_EVENTS as u64),
+    };
+    Range { what, least, most }
 }
 
 fn put_kind_of_key<W: Write>(sink: &mut Sink<'_, W>, key: Key) {
@@ -108,38 +111,37 @@ fn put_hint<A: Allocator + Copy, W: Write>(
         return Ok(());
     };
     let word = token_of(kept.line);
-    if crate::saying::near(alloc, word, "processes registers front call take tick")?.is_some()
-        && !kept.line.contains(&b'=')
-    {
+    let is_key = kept.line.contains(&b'=');
+    if !is_key && near(alloc, word, OF_A_SCHEDULE)?.is_some() {
         sink.put(b"a schedule begins with processes and a number, as in processes 2\n");
-    } else if crate::saying::near(alloc, word, "awreg")?.is_some() {
+    } else if near(alloc, word, OF_A_REPORT)?.is_some() {
         sink.put(b"a report begins with awreg report 2\n");
     }
     Ok(())
 }
 
-/// The first key in the document that no workload has.
+/// The first key in the document that no workload has, and its place.
+fn unknown_key<'t>(text: &[u8], table: &'t Table) -> Option<(usize, &'t str)> {
+    let mut found: Option<(usize, &str)> = None;
+    for name in table.keys() {
+        let place = key_place(text, name.as_bytes()).unwrap_or(text.len());
+        let is_first = found.is_none_or(|(first, _)| place < first);
+        if is_first && place_of(KEYS, name.as_bytes()).is_none() {
+            found = Some((place, name));
+        }
+    }
+    found
+}
+
 fn explain_unknown_key<A: Allocator + Copy, W: Write>(
     alloc: A,
     sink: &mut Sink<'_, W>,
     text: &[u8],
     table: &Table,
 ) -> Result<(), AllocError> {
-    let mut first = text.len();
-    let mut found = None;
-    for name in table.keys() {
-        let is_known = crate::scanning::is_among(KEYS.as_bytes(), name.as_bytes());
-        if !is_known {
-            let place = key_place(text, name.as_bytes()).unwrap_or(text.len());
-            if place < first || found.is_none() {
-                first = place;
-                found = Some(name);
-            }
-        }
-    }
-    if let Some(name) = found {
-        if first < text.len() {
-            put_text_place(sink, text, first);
+    if let Some((place, name)) = unknown_key(text, table) {
+        if place < text.len() {
+            put_text_place(sink, text, place);
         }
         put_wanted_words(alloc, sink, KEYS, name.as_bytes())?;
         sink.put(b"\n");
@@ -147,40 +149,33 @@ fn explain_unknown_key<A: Allocator + Copy, W: Write>(
     Ok(())
 }
 
+/// Puts the kind of a value.
+fn put_kind<W: Write>(sink: &mut Sink<'_, W>, value: &Value) {
+    sink.put(b" is of the kind ");
+    sink.put(value.type_str().as_bytes());
+}
+
 /// Puts which item of an array is no text.
-fn put_odd_item<W: Write>(sink: &mut Sink<'_, W>, values: &[Value]) -> bool {
-    let mut place = 0u64;
-    for value in values {
+fn put_odd_item<W: Write>(sink: &mut Sink<'_, W>, values: &[Value]) {
+    for (place, value) in values.iter().enumerate() {
         if !value.is_str() {
-            put_number(sink, ": item ", place);
-            sink.put(b" is of the kind ");
-            sink.put(value.type_str().as_bytes());
-            return true;
+            put_with(sink, ": item {}", &[place as u64]);
+            return put_kind(sink, value);
         }
-        place = place.saturating_add(1);
     }
-    false
 }
 
 /// Puts which script is no array of texts.
 fn put_odd_script<W: Write>(sink: &mut Sink<'_, W>, values: &[Value]) {
-    let mut place = 0u64;
-    for value in values {
-        match value.as_array() {
-            Some(items) => {
-                if items.iter().any(|item| !item.is_str()) {
-                    put_number(sink, ": of script ", place);
-                    let _ = put_odd_item(sink, items.as_slice());
-                    return;
-                }
-            }
-            None => {
-                put_number(sink, ": script ", place);
-                sink.put(b" is of the kind ");
-                return sink.put(value.type_str().as_bytes());
-            }
+    for (place, value) in values.iter().enumerate() {
+        let Some(items) = value.as_array() else {
+            put_with(sink, ": script {}", &[place as u64]);
+            return put_kind(sink, value);
+        };
+        if items.iter().any(|item| !item.is_str()) {
+            put_with(sink, ": of script {}", &[place as u64]);
+            return put_odd_item(sink, items.as_slice());
         }
-        place = place.saturating_add(1);
     }
 }
 
@@ -189,13 +184,11 @@ fn explain_kind<W: Write>(sink: &mut Sink<'_, W>, text: &[u8], table: &Table, ke
     put_kind_of_key(sink, key);
     if let Some(value) = table.get(key.name()) {
         match (key, value.as_array()) {
-            (Key::Registers, Some(values)) => {
-                let _ = put_odd_item(sink, values.as_slice());
-            }
+            (Key::Registers, Some(values)) => put_odd_item(sink, values.as_slice()),
             (Key::Scripts, Some(values)) => put_odd_script(sink, values.as_slice()),
             _ => {
-                sink.put(b", and this is of the kind ");
-                sink.put(value.type_str().as_bytes());
+                sink.put(b", and this");
+                put_kind(sink, value);
             }
         }
     }
@@ -204,89 +197,71 @@ fn explain_kind<W: Write>(sink: &mut Sink<'_, W>, text: &[u8], table: &Table, ke
 
 /// The first name of an array that is misspelt, or stands before.
 fn explain_names<W: Write>(sink: &mut Sink<'_, W>, text: &[u8], values: &[Value]) {
-    let mut outer = 0usize;
-    for value in values {
+    for (outer, value) in values.iter().enumerate() {
         let name = value.as_str().unwrap_or("");
         let earlier = values.get(..outer).unwrap_or(&[]);
         let is_double = earlier.iter().any(|other| other.as_str() == Some(name));
         if is_double || !is_register(name.as_bytes()) {
             put_item_place(sink, text, Key::Registers, Item { outer, inner: None });
-            if is_double {
-                crate::saying::put_quoted(sink, name.as_bytes());
-                sink.put(b" stands before: each register has a name of its own\n");
-            } else {
-                crate::saying::put_quoted(sink, name.as_bytes());
-                sink.put(b": a register's name is 1 to 16 letters a to z\n");
-            }
-            return;
+            let fault = if is_double { NAME_TAKEN } else { NAME_FORM };
+            return put_quoted(sink, "", name.as_bytes(), &[fault, "\n"]);
         }
-        outer = outer.saturating_add(1);
     }
 }
 
 fn explain_registers<W: Write>(sink: &mut Sink<'_, W>, text: &[u8], values: &[Value]) {
-    if values.is_empty() || values.len() > MOST_REGISTERS as usize {
-        put_key_place(sink, text, b"registers");
-        put_number(sink, "a workload has 1 to ", MOST_REGISTERS as u64);
-        put_number(sink, " registers, and here are ", values.len() as u64);
-        sink.put(b"\n");
-    } else {
-        explain_names(sink, text, values);
+    let count = values.len() as u64;
+    if count >= 1 && count <= MOST_REGISTERS as u64 {
+        return explain_names(sink, text, values);
     }
+    put_key_place(sink, text, b"registers");
+    let words = "a workload has 1 to {} registers, and here are {}\n";
+    put_with(sink, words, &[MOST_REGISTERS as u64, count]);
 }
 
-fn explain_scripts<W: Write>(sink: &mut Sink<'_, W>, text: &[u8], values: &[Value]) {
+fn explain_scripts<W: Write>(sink: &mut Sink<'_, W>, text: &[u8], count: u64) {
     put_key_place(sink, text, b"scripts");
-    if values.is_empty() || values.len() > MOST_PROCESSES as usize {
-        put_number(sink, "a workload has 1 to ", MOST_PROCESSES as u64);
-        put_number(sink, " scripts, and here are ", values.len() as u64);
-        sink.put(b"\n");
-    } else {
-        put_number(sink, "a script has at most ", MOST_OPERATIONS as u64);
-        sink.put(b" operations\n");
+    if count >= 1 && count <= MOST_PROCESSES as u64 {
+        let words = "a script has at most {} operations\n";
+        return put_with(sink, words, &[MOST_OPERATIONS as u64]);
     }
+    let words = "a workload has 1 to {} scripts, and here are {}\n";
+    put_with(sink, words, &[MOST_PROCESSES as u64, count]);
+}
+
+fn explain_front<A: Allocator + Copy, W: Write>(
+    alloc: A,
+    sink: &mut Sink<'_, W>,
+    text: &[u8],
+    value: &Value,
+) -> Result<(), AllocError> {
+    put_key_place(sink, text, b"front");
+    put_wanted_words(alloc, sink, FRONTS, value.as_str().unwrap_or("").as_bytes())?;
+    sink.put(b"\n");
+    Ok(())
 }
 
 fn explain_range<A: Allocator + Copy, W: Write>(
     alloc: A,
     sink: &mut Sink<'_, W>,
     text: &[u8],
-    table: &Table,
+    value: &Value,
     key: Key,
 ) -> Result<(), AllocError> {
-    let Some(value) = table.get(key.name()) else {
-        return Ok(());
-    };
     match (key, value.as_array()) {
+        (Key::Front, _) => explain_front(alloc, sink, text, value)?,
         (Key::Registers, Some(values)) => explain_registers(sink, text, values.as_slice()),
-        (Key::Scripts, Some(values)) => explain_scripts(sink, text, values.as_slice()),
-        (Key::Front, _) => {
-            put_key_place(sink, text, b"front");
-            let name = value.as_str().unwrap_or("");
-            put_wanted_words(
-                alloc,
-                sink,
-                "linear local-read local-write",
-                name.as_bytes(),
-            )?;
-            sink.put(b"\n");
-        }
+        (Key::Scripts, Some(values)) => explain_scripts(sink, text, values.len() as u64),
         _ => explain_number(sink, text, key, value.as_integer().unwrap_or(0)),
     }
     Ok(())
 }
 
 fn explain_number<W: Write>(sink: &mut Sink<'_, W>, text: &[u8], key: Key, number: i64) {
-    let range = range_of(key);
     put_key_place(sink, text, key.name().as_bytes());
-    if number < 0 {
-        sink.put(b"-");
-    }
-    put_number(sink, "", number.unsigned_abs());
-    sink.put(b" is out of range: ");
-    sink.put(range.what.as_bytes());
-    put_number(sink, " from ", range.least);
-    put_number(sink, " to ", range.most);
+    let words = if number < 0 { "-{}" } else { "{}" };
+    put_with(sink, words, &[number.unsigned_abs()]);
+    put_out_of_range(sink, range_of(key));
     sink.put(b"\n");
 }
 
@@ -301,11 +276,11 @@ fn names_in<A: Allocator + Copy>(alloc: A, table: &Table) -> Result<Vec<&[u8], A
     Ok(names)
 }
 
-/// The first place of an operation that doesn't fit.
-fn scan_text<'a>(op: &'a [u8], names: &[&[u8]]) -> Option<Misfit<'a>> {
-    match scan_op(&mut Scan::new(op, false), names) {
-        Err(misfit) => Some(misfit),
-        Ok(()) => scan_op(&mut Scan::new(op, true), names).err(),
+/// The first place of an operation that doesn't fit: by its form, or else by its register and value.
+fn misfit_of_op<'a>(op: &'a [u8], names: &[&[u8]]) -> Option<Misfit<'a>> {
+    match misfit_of(op, Form::Op, names, false) {
+        Some(misfit) => Some(misfit),
+        None => misfit_of(op, Form::Op, names, true),
     }
 }
 
@@ -325,11 +300,13 @@ fn put_op_place<W: Write>(sink: &mut Sink<'_, W>, text: &[u8], item: Item, op: &
         return put_text_place(sink, text, start);
     };
     let first = place.saturating_add(1);
-    if crate::scanning::behind(text, first).starts_with(op) {
-        put_text_place(sink, text, first.saturating_add(at));
+    let is_there = behind(text, first).starts_with(op);
+    let shown = if is_there {
+        first.saturating_add(at)
     } else {
-        put_text_place(sink, text, place);
-    }
+        place
+    };
+    put_text_place(sink, text, shown);
 }
 
 fn explain_script<A: Allocator + Copy, W: Write>(
@@ -346,7 +323,7 @@ fn explain_script<A: Allocator + Copy, W: Write>(
         outer: process as usize,
         inner: Some(place as usize),
     };
-    if let Some(misfit) = scan_text(op, names.as_slice()) {
+    if let Some(misfit) = misfit_of_op(op, names.as_slice()) {
         put_op_place(sink, text, item, op, misfit.at);
         put_misfit(alloc, sink, names.as_slice(), misfit)?;
     }
@@ -373,7 +350,11 @@ pub fn explain_workload<A: Allocator + Copy, W: Write>(
             sink.put(b", and no line has it\n");
         }
         WorkloadFault::Kind { key } => explain_kind(sink, bytes, &table, key),
-        WorkloadFault::Range { key } => explain_range(alloc, sink, bytes, &table, key)?,
+        WorkloadFault::Range { key } => {
+            if let Some(value) = table.get(key.name()) {
+                explain_range(alloc, sink, bytes, value, key)?;
+            }
+        }
         WorkloadFault::Script { process, place } => {
             explain_script(alloc, sink, bytes, &table, process, place)?;
         }

@@ -1,11 +1,11 @@
 //! Why an entry of a report may not come after those before it.
 ghost use Rattle.std.specs.Prelude.{◌≤◌, IfSome};
 
-use crate::events::put_id;
 use crate::report_lines::{Part, Walk};
+use crate::saying::put_with;
 use crate::scanning::{behind, front_of, spaces_of, token_of};
 use reg_base::OpId;
-use reg_text::{Lines, Sink, numeral_within, put_number, skip};
+use reg_text::{Lines, Sink, numeral_within, skip};
 use std::io::Write;
 
 /// The columns of an entry, and whether it is a call of a write, of another operation, or an answer.
@@ -16,12 +16,18 @@ struct Columns {
     tail: Tail,
 }
 
-#[derive(Clone, Copy, PartialEq, Eq)]
+#[derive(Clone, Copy)]
 enum Tail {
     /// A call whose answer is `done`, or a value.
     Call { is_write: bool },
     /// An answer that is `done`, or a value.
     Answer { is_done: bool },
+}
+
+impl Columns {
+    fn is_call(&self) -> bool {
+        matches!(self.tail, Tail::Call { .. })
+    }
 }
 
 /// The number that begins a column, behind spaces.
@@ -95,62 +101,51 @@ fn stands_before(text: &[u8], number: u64, process: u8) -> Before {
 }
 
 fn put_last<W: Write>(sink: &mut Sink<'_, W>, entry: Columns, last: Columns) {
-    put_number(sink, "event ", entry.at);
-    put_number(sink, " doesn't come behind event ", last.at);
-    sink.put(b", of the line before");
+    let text = "event {} doesn't come behind event {}, of the line before\n";
+    put_with(sink, text, &[entry.at, last.at]);
 }
 
 /// Puts why a call may not come here.
 fn put_call<W: Write>(sink: &mut Sink<'_, W>, entry: Columns, before: Before) {
-    if let Some(last) = before.last {
-        if entry.at <= last.at {
-            return put_last(sink, entry, last);
-        }
-    }
-    match before.own {
-        Some(own) => {
-            if let Tail::Call { .. } = own.tail {
-                put_id(sink, own.id);
-                put_number(sink, ", called at event ", own.at);
-                sink.put(b", is not answered yet");
+    let process = entry.id.process as u64;
+    match (before.last, before.own) {
+        (Some(last), _) if entry.at <= last.at => put_last(sink, entry, last),
+        (_, Some(own)) => {
+            let number = own.id.number as u64;
+            if own.is_call() {
+                let text = "p{} #{}, called at event {}, is not answered yet\n";
+                put_with(sink, text, &[process, number, own.at]);
             } else {
-                put_next(sink, entry, (own.id.number as u64).saturating_add(1));
+                put_with(sink, NEXT, &[process, number.saturating_add(1)]);
             }
         }
-        None => put_next(sink, entry, 0),
+        _ => put_with(sink, NEXT, &[process, 0]),
     }
 }
 
-fn put_next<W: Write>(sink: &mut Sink<'_, W>, entry: Columns, number: u64) {
-    put_number(
-        sink,
-        "the next operation of process ",
-        entry.id.process as u64,
-    );
-    put_number(sink, " is #", number);
-}
+const NEXT: &str = "the next operation of process {} is #{}\n";
 
 /// Puts why an answer may not come here.
 fn put_answer<W: Write>(sink: &mut Sink<'_, W>, entry: Columns, before: Before, is_done: bool) {
-    let own = before.own.filter(|c| c.tail != Tail::Answer { is_done: true }
-        && c.tail != Tail::Answer { is_done: false });
-    let Some(own) = own else {
-        put_number(sink, "process ", entry.id.process as u64);
-        sink.put(b" runs no operation");
-        return;
+    let process = entry.id.process as u64;
+    let Some(
+        Columns {
+            id,
+            tail: Tail::Call { is_write },
+            ..
+        },
+    ) = before.own
+    else {
+        return put_with(sink, "process {} runs no operation\n", &[process]);
     };
-    if own.id != entry.id {
-        put_number(sink, "process ", entry.id.process as u64);
-        sink.put(b" runs ");
-        return put_id(sink, own.id);
-    }
-    if own.tail == (Tail::Call { is_write: true }) && !is_done {
-        return sink.put(b"a write is answered by done");
-    }
-    if own.tail == (Tail::Call { is_write: false }) && is_done {
-        return sink.put(b"a read and a swap are answered by a value");
-    }
-    if let Some(last) = before.last {
+    if id != entry.id {
+        let numbers = [process, id.process as u64, id.number as u64];
+        put_with(sink, "process {} runs p{} #{}\n", &numbers);
+    } else if is_write && !is_done {
+        sink.put(b"a write is answered by done\n");
+    } else if is_done && !is_write {
+        sink.put(b"a read and a swap are answered by a value\n");
+    } else if let Some(last) = before.last {
         put_last(sink, entry, last);
     }
 }
@@ -160,19 +155,15 @@ pub fn explain_entry<W: Write>(sink: &mut Sink<'_, W>, text: &[u8], number: u64,
     let Some(entry) = columns_of(line) else {
         return;
     };
-    let before = stands_before(text, number, entry.id.process);
-    if entry.id.process as u64 >= before.processes {
-        put_number(sink, "there is no process ", entry.id.process as u64);
-        put_number(
-            sink,
-            ": the report has processes 0 to ",
-            before.processes.saturating_sub(1),
-        );
-    } else {
-        match entry.tail {
-            Tail::Call { .. } => put_call(sink, entry, before),
-            Tail::Answer { is_done } => put_answer(sink, entry, before, is_done),
-        }
+    let process = entry.id.process;
+    let before = stands_before(text, number, process);
+    if process as u64 >= before.processes {
+        let last = before.processes.saturating_sub(1);
+        let text = "there is no process {}: the report has processes 0 to {}\n";
+        return put_with(sink, text, &[process as u64, last]);
     }
-    sink.put(b"\n");
+    match entry.tail {
+        Tail::Call { .. } => put_call(sink, entry, before),
+        Tail::Answer { is_done } => put_answer(sink, entry, before, is_done),
+    }
 }

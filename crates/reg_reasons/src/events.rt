@@ -1,25 +1,19 @@
 //! Why an event is refused: what the world is like just before it.
 use crate::lines_at::kept_at;
-use crate::saying::put_place;
+use crate::saying::{put_place, put_with};
 use crate::scanning::{behind, token_of};
 use reg_base::OpId;
 use reg_base::limits::{MOST_EVENTS, MOST_OPERATIONS};
 use reg_front::{Front, FrontEnd, Linear, LocalRead, LocalWrite};
 use reg_history::Entry;
 use reg_inputs::{Schedule, parse_schedule};
-use reg_text::{Sink, put_number};
+use reg_text::Sink;
 use reg_world::{Event, PackedWires, World, WorldFault};
 use std::alloc::{AllocError, Allocator};
 use std::io::Write;
 
 /// How many lines a schedule has before its events.
 const HEAD_LINES: usize = 3;
-
-/// Puts an operation as reports name it.
-pub fn put_id<W: Write>(sink: &mut Sink<'_, W>, id: OpId) {
-    put_number(sink, "p", id.process as u64);
-    put_number(sink, " #", id.number as u64);
-}
 
 /// Where the word of this place, from 0, begins on a line with one space between each two.
 fn word_at(line: &[u8], place: usize) -> usize {
@@ -34,11 +28,19 @@ fn word_at(line: &[u8], place: usize) -> usize {
 /// The word of its line for which an event is refused.
 fn blamed_word(event: Event, fault: WorldFault, processes: u32) -> usize {
     match (event, fault) {
-        (Event::Take { from, .. }, WorldFault::NoProcess) => {
-            if from as u32 >= processes { 1 } else { 2 }
-        }
+        (Event::Take { from, .. }, WorldFault::NoProcess) if (from as u32) < processes => 2,
+        (Event::Take { .. }, WorldFault::NoProcess) => 1,
         (Event::Take { .. }, _) => 3,
         _ => 1,
+    }
+}
+
+/// The process of an event that is not there.
+fn blamed_process(event: Event, processes: u32) -> u8 {
+    match event {
+        Event::Take { from, to, .. } if (from as u32) < processes => to,
+        Event::Take { from, .. } => from,
+        Event::Call { process, .. } | Event::Tick { process } => process,
     }
 }
 
@@ -62,43 +64,34 @@ fn running(entries: &[Entry], process: u8) -> Option<(OpId, u32)> {
     found
 }
 
-fn put_processes<W: Write>(sink: &mut Sink<'_, W>, number: u8, processes: u32) {
-    put_number(sink, "there is no process ", number as u64);
-    if processes == 1 {
-        sink.put(b": the process is 0\n");
+/// Puts that a process is not there.
+fn put_processes<W: Write>(sink: &mut Sink<'_, W>, process: u8, processes: u32) {
+    let text = if processes == 1 {
+        "there is no process {}: the process is 0\n"
     } else {
-        put_number(
-            sink,
-            ": the processes are 0 to ",
-            (processes as u64).saturating_sub(1),
-        );
-        sink.put(b"\n");
-    }
+        "there is no process {}: the processes are 0 to {}\n"
+    };
+    let last = (processes as u64).saturating_sub(1);
+    put_with(sink, text, &[process as u64, last]);
 }
 
 /// Puts how many frames a wire has.
 fn put_frames<W: Write>(sink: &mut Sink<'_, W>, from: u8, to: u8, count: usize) {
-    put_number(sink, "the wire from ", from as u64);
-    put_number(sink, " to ", to as u64);
-    match count {
-        0 => sink.put(b" has no frame yet"),
-        1 => sink.put(b" has 1 frame, 0"),
-        2 => sink.put(b" has 2 frames, 0 and 1"),
-        _ => {
-            put_number(sink, " has ", count as u64);
-            put_number(sink, " frames, 0 to ", (count as u64).saturating_sub(1));
-        }
-    }
-    sink.put(b"\n");
+    let text = match count {
+        0 => "the wire from {} to {} has no frame yet\n",
+        1 => "the wire from {} to {} has 1 frame, 0\n",
+        2 => "the wire from {} to {} has 2 frames, 0 and 1\n",
+        _ => "the wire from {} to {} has {} frames, 0 to {}\n",
+    };
+    let last = (count as u64).saturating_sub(1);
+    put_with(sink, text, &[from as u64, to as u64, count as u64, last]);
 }
 
 fn put_running<W: Write>(sink: &mut Sink<'_, W>, entries: &[Entry], process: u8) {
     if let Some((id, at)) = running(entries, process) {
-        put_number(sink, "process ", process as u64);
-        sink.put(b" runs ");
-        put_id(sink, id);
-        put_number(sink, ", called at event ", at as u64);
-        sink.put(b"\n");
+        let process = process as u64;
+        let text = "process {} runs p{} #{}, called at event {}\n";
+        put_with(sink, text, &[process, process, id.number as u64, at as u64]);
     }
 }
 
@@ -111,17 +104,9 @@ fn put_refusal<F: FrontEnd, A: Allocator + Copy, W: Write>(
 ) {
     let processes = world.shape().processes();
     match (event, fault) {
-        (Event::Take { from, to, .. }, WorldFault::NoProcess) => {
-            put_processes(
-                sink,
-                if from as u32 >= processes { from } else { to },
-                processes,
-            );
+        (_, WorldFault::NoProcess) => {
+            put_processes(sink, blamed_process(event, processes), processes);
         }
-        (Event::Call { process, .. }, WorldFault::NoProcess) => {
-            put_processes(sink, process, processes);
-        }
-        (Event::Tick { process }, WorldFault::NoProcess) => put_processes(sink, process, processes),
         (Event::Take { from, to, .. }, WorldFault::NoFrame) => {
             match world.frame_count(from, to) {
                 Some(count) => put_frames(sink, from, to, count),
@@ -132,12 +117,11 @@ fn put_refusal<F: FrontEnd, A: Allocator + Copy, W: Write>(
             put_running(sink, world.history().entries(), process);
         }
         (_, WorldFault::TooManyOperations) => {
-            put_number(sink, "a process calls at most ", MOST_OPERATIONS as u64);
-            sink.put(b" operations\n");
+            let text = "a process calls at most {} operations\n";
+            put_with(sink, text, &[MOST_OPERATIONS as u64]);
         }
         (_, WorldFault::TooManyEvents) => {
-            put_number(sink, "a run has at most ", MOST_EVENTS as u64);
-            sink.put(b" events\n");
+            put_with(sink, "a run has at most {} events\n", &[MOST_EVENTS as u64]);
         }
         _ => {}
     }

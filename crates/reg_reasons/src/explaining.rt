@@ -5,15 +5,16 @@ use crate::events::explain_event;
 use crate::facts::Listing;
 use crate::lines_at::{kept_before, line_at};
 use crate::orders::{explain_list, listing};
-use crate::report_lines::{Part, report_names, scan_line as scan_report, walk_to};
+use crate::report_lines::{Part, form_at, report_names, walk_to};
 use crate::report_words::{miscounted, wanted_part};
-use crate::saying::{put_misfit, put_place};
-use crate::schedule_lines::{head_line, scan_line as scan_schedule, schedule_names};
+use crate::saying::{put_misfit, put_place, put_with};
+use crate::scanning::misfit_of;
+use crate::schedule_lines::{form_of_line, head_line, schedule_names};
 use crate::wanting::Misfit;
 use reg_base::limits::MOST_EVENTS;
-use reg_commands::{Command, Fault, Verdict, Verdicts};
+use reg_commands::{Command, Fault, Reason, Verdict, Verdicts};
 use reg_history::{ReadWhy, Report};
-use reg_text::{Sink, put_number};
+use reg_text::Sink;
 use std::alloc::{AllocError, Allocator, Global};
 use std::io::Write;
 
@@ -30,10 +31,11 @@ fn put_refused<A: Allocator + Copy, W: Write>(
     put_misfit(alloc, sink, names, misfit)
 }
 
-fn put_too_many<W: Write>(sink: &mut Sink<'_, W>, number: u64, line: &[u8]) {
-    put_place(sink, number, line, 0);
-    put_number(sink, "a schedule has at most ", MOST_EVENTS as u64);
-    sink.put(b" events\n");
+/// Puts that the text ends before a line that says this.
+fn put_too_early<W: Write>(sink: &mut Sink<'_, W>, wanted: &str) {
+    sink.put(b"the text ends before a line that it needs: ");
+    sink.put(wanted.as_bytes());
+    sink.put(b"\n");
 }
 
 fn explain_schedule_line<A: Allocator + Copy, W: Write>(
@@ -44,19 +46,23 @@ fn explain_schedule_line<A: Allocator + Copy, W: Write>(
     why: ReadWhy,
 ) -> Result<(), AllocError> {
     let Some(line) = line_at(text, number) else {
-        sink.put(b"the text ends before a line that it needs: ");
-        sink.put(head_line(kept_before(text, number)).as_bytes());
-        sink.put(b"\n");
+        put_too_early(sink, head_line(kept_before(text, number)));
         return Ok(());
     };
     let names = schedule_names(alloc, text)?;
-    match scan_schedule(text, number, line, names.as_slice(), why != ReadWhy::Form) {
-        Err(misfit) => put_refused(alloc, sink, number, line, names.as_slice(), misfit),
-        Ok(()) => {
-            put_too_many(sink, number, line);
-            Ok(())
+    let form = form_of_line(text, number);
+    match misfit_of(line, form, names.as_slice(), why != ReadWhy::Form) {
+        Some(misfit) => put_refused(alloc, sink, number, line, names.as_slice(), misfit)?,
+        None => {
+            put_place(sink, number, line, 0);
+            put_with(
+                sink,
+                "a schedule has at most {} events\n",
+                &[MOST_EVENTS as u64],
+            );
         }
     }
+    Ok(())
 }
 
 /// Puts that a report goes on behind its end, or that it ends too early.
@@ -66,11 +72,7 @@ fn explain_end<W: Write>(sink: &mut Sink<'_, W>, text: &[u8], number: u64, part:
             put_place(sink, number, line, 0);
             sink.put(b"a report ends with the line end: no line stands behind it\n");
         }
-        None => {
-            sink.put(b"the text ends before a line that it needs: ");
-            sink.put(wanted_part(part).as_bytes());
-            sink.put(b"\n");
-        }
+        None => put_too_early(sink, wanted_part(part)),
     }
 }
 
@@ -95,12 +97,12 @@ fn explain_report_line<A: Allocator + Copy, W: Write>(
         return Ok(());
     }
     let names = report_names(alloc, text)?;
-    match scan_report(walk, line, names.as_slice(), why != ReadWhy::Form) {
-        Err(misfit) => {
+    match misfit_of(line, form_at(walk), names.as_slice(), why != ReadWhy::Form) {
+        Some(misfit) => {
             put_refused(alloc, sink, number, line, names.as_slice(), misfit)?;
             sink.put(miscounted(walk.part, line).as_bytes());
         }
-        Ok(()) => put_place(sink, number, line, 0),
+        None => put_place(sink, number, line, 0),
     }
     Ok(())
 }
@@ -143,28 +145,13 @@ pub fn explain_fault<A: Allocator + Copy>(
     Ok(notes)
 }
 
-fn explain_no<A: Allocator + Copy, W: Write>(
-    alloc: A,
-    sink: &mut Sink<'_, W>,
-    text: &[u8],
-    report: &Report<A>,
-    verdicts: Verdicts,
-) -> Result<(), AllocError> {
-    if let Verdict::No(reason) = verdicts.serial {
-        let list: Listing<'_> = listing(text, report, false);
-        return explain_list(alloc, sink, text, report, list, reason);
+/// The first verdict that is no: whether it is on the points, and its reason.
+fn first_no(verdicts: Verdicts) -> Option<(bool, Reason)> {
+    match (verdicts.serial, verdicts.points) {
+        (Verdict::No(reason), _) => Some((false, reason)),
+        (_, Some(Verdict::No(reason))) => Some((true, reason)),
+        _ => None,
     }
-    if let Some(Verdict::No(reason)) = verdicts.points {
-        return explain_list(
-            alloc,
-            sink,
-            text,
-            report,
-            listing(text, report, true),
-            reason,
-        );
-    }
-    Ok(())
 }
 
 /// What explains the first verdict on a report that is no.
@@ -176,7 +163,10 @@ pub fn explain_verdicts<A: Allocator + Copy>(
 ) -> Result<Vec<u8, A>, AllocError> {
     let mut notes = Vec::new(alloc);
     let mut sink = Sink::new(&mut notes);
-    explain_no(alloc, &mut sink, text, report, verdicts)?;
+    if let Some((is_on_points, reason)) = first_no(verdicts) {
+        let list = listing(text, report, is_on_points);
+        explain_list(alloc, &mut sink, text, report, list, reason)?;
+    }
     if sink.failed {
         return Err(AllocError);
     }

@@ -108,12 +108,15 @@ impl Listing<'_> {
         self.ids.len().max(self.points.len())
     }
 
-    /// The operation at a place.
-    pub fn id(&self, place: usize) -> Option<OpId> {
-        match self.points.get(place) {
-            Some(point) => Some(point.id),
-            None => self.ids.get(place).copied(),
+    /// The operation at a place, or one that no report has.
+    pub fn id(&self, place: usize) -> OpId {
+        if let Some(point) = self.points.get(place) {
+            return point.id;
         }
+        self.ids.get(place).copied().unwrap_or(OpId {
+            process: u8::MAX,
+            number: u32::MAX,
+        })
     }
 
     /// The line of a place.

@@ -7,6 +7,7 @@ mod entries;
 mod events;
 mod explaining;
 mod facts;
+mod forms;
 mod lines_at;
 mod orders;
 mod report_lines;

@@ -1,12 +1,11 @@
 //! Why the order of a report, or its points, are refused.
-use crate::events::put_id;
 use crate::facts::{Fact, Facts, Listing};
 use crate::lines_at::line_at;
-use crate::saying::put_place;
+use crate::saying::{put_place, put_with};
 use reg_base::{Answer, OpId, Registers};
 use reg_commands::Reason;
 use reg_history::{Entry, Report};
-use reg_text::{Sink, put_number, put_op};
+use reg_text::{Sink, put_op};
 use std::alloc::{AllocError, Allocator};
 use std::io::Write;
 
@@ -44,22 +43,30 @@ pub fn listing<'a, A: Allocator + Copy>(
     }
 }
 
-fn put_line<W: Write>(sink: &mut Sink<'_, W>, text: &[u8], number: u64) {
-    if let Some(line) = line_at(text, number) {
-        put_place(sink, number, line, 0);
-    }
-}
-
 fn put_answer<W: Write>(sink: &mut Sink<'_, W>, answer: Answer) {
     match answer {
         Answer::Done => sink.put(b"done"),
-        Answer::Value(value) => put_number(sink, "value ", value),
+        Answer::Value(value) => put_with(sink, "value {}", &[value]),
     }
 }
 
 /// Whether an operation may stand in an order: it is answered, or it may change the memory.
 fn may_stand(fact: Option<Fact>) -> bool {
     fact.is_some_and(|f| f.answered.is_some() || f.op.updates())
+}
+
+/// Puts a line of the report, and a text with these numbers in the places of its `{}`.
+fn put_told<W: Write>(
+    sink: &mut Sink<'_, W>,
+    text: &[u8],
+    number: u64,
+    words: &str,
+    numbers: &[u64],
+) {
+    if let Some(line) = line_at(text, number) {
+        put_place(sink, number, line, 0);
+    }
+    put_with(sink, words, numbers);
 }
 
 /// The first operation of a list that may stand in none.
@@ -70,23 +77,15 @@ fn put_unknown<A: Allocator + Copy, W: Write>(
     list: Listing<'_>,
 ) {
     for place in 0..list.len() {
-        if let Some(id) = list.id(place) {
-            let fact = facts.at(id);
-            if !may_stand(fact) {
-                put_line(sink, text, list.line(place));
-                match fact {
-                    Some(_) => {
-                        put_id(sink, id);
-                        sink.put(b" is a read that is not answered\n");
-                    }
-                    None => {
-                        sink.put(b"the history has no call of ");
-                        put_id(sink, id);
-                        sink.put(b"\n");
-                    }
-                }
-                return;
-            }
+        let id = list.id(place);
+        let fact = facts.at(id);
+        if !may_stand(fact) {
+            let words = match fact {
+                Some(_) => "p{} #{} is a read that is not answered\n",
+                None => "the history has no call of p{} #{}\n",
+            };
+            let numbers = [id.process as u64, id.number as u64];
+            return put_told(sink, text, list.line(place), words, &numbers);
         }
     }
 }
@@ -99,16 +98,18 @@ fn put_twice<A: Allocator + Copy, W: Write>(
     list: Listing<'_>,
 ) {
     for place in 0..list.len() {
-        if let Some(id) = list.id(place) {
-            if let Some(line) = facts.at(id).and_then(|f| f.stands) {
-                put_line(sink, text, list.line(place));
-                put_id(sink, id);
-                put_number(sink, " stands on line ", line);
-                sink.put(b" too\n");
-                return;
-            }
-            facts.stand(id, list.line(place));
+        let (id, line) = (list.id(place), list.line(place));
+        if let Some(earlier) = facts.at(id).and_then(|f| f.stands) {
+            let numbers = [id.process as u64, id.number as u64, earlier];
+            return put_told(
+                sink,
+                text,
+                line,
+                "p{} #{} stands on line {} too\n",
+                &numbers,
+            );
         }
+        facts.stand(id, line);
     }
 }
 
@@ -122,15 +123,20 @@ fn put_missing<A: Allocator + Copy, W: Write>(
 ) {
     put_twice(sink, text, facts, list);
     for entry in entries {
-        if let Entry::Answered { id, .. } = *entry {
-            if let Some(fact) = facts.at(id) {
-                if let (None, Some(given)) = (fact.stands, fact.answered) {
-                    put_line(sink, text, given.line);
-                    put_id(sink, id);
-                    sink.put(b" is answered here, and doesn't stand in the order\n");
-                    return;
-                }
-            }
+        let Entry::Answered { id, .. } = *entry else {
+            continue;
+        };
+        if let Some(
+            Fact {
+                stands: None,
+                answered: Some(given),
+                ..
+            },
+        ) = facts.at(id)
+        {
+            let words = "p{} #{} is answered here, and doesn't stand in the order\n";
+            let numbers = [id.process as u64, id.number as u64];
+            return put_told(sink, text, given.line, words, &numbers);
         }
     }
 }
@@ -142,26 +148,39 @@ fn put_own_order<A: Allocator + Copy, W: Write>(
     text: &[u8],
     list: Listing<'_>,
 ) -> Result<(), AllocError> {
-    let mut latest: Vec<Option<OpId>, A> = vec![in alloc; None; 256]?;
+    let mut latest: Vec<u32, A> = vec![in alloc; 0; 256]?;
     for place in 0..list.len() {
-        if let Some(id) = list.id(place) {
-            let last = latest.get(id.process as usize).copied().flatten();
-            if let Some(other) = last {
-                if id.number < other.number {
-                    put_line(sink, text, list.line(place));
-                    put_id(sink, id);
-                    sink.put(b" stands behind ");
-                    put_id(sink, other);
-                    sink.put(b", which its process called later\n");
-                    return Ok(());
-                }
-            }
-            if let Some(slot) = latest.get_mut(id.process as usize) {
-                *slot = Some(id);
-            }
+        let id = list.id(place);
+        let last = latest.get(id.process as usize).copied().unwrap_or(0);
+        if id.number < last {
+            let process = id.process as u64;
+            let numbers = [process, id.number as u64, process, last as u64];
+            let words = "p{} #{} stands behind p{} #{}, which its process called later\n";
+            put_told(sink, text, list.line(place), words, &numbers);
+            return Ok(());
+        }
+        if let Some(slot) = latest.get_mut(id.process as usize) {
+            *slot = id.number;
         }
     }
     Ok(())
+}
+
+/// The memory just before a place of a list.
+fn memory_before<A: Allocator + Copy>(
+    alloc: A,
+    registers: u16,
+    facts: &Facts<A>,
+    list: Listing<'_>,
+    place: usize,
+) -> Result<Registers<A>, AllocError> {
+    let mut memory = Registers::new(alloc, registers)?;
+    for before in 0..place {
+        if let Some(fact) = facts.at(list.id(before)) {
+            memory.apply(&fact.op);
+        }
+    }
+    Ok(memory)
 }
 
 /// What memory answers at a place of a list, and what the report says.
@@ -174,28 +193,21 @@ fn put_wrong<A: Allocator + Copy, W: Write>(
     list: Listing<'_>,
     place: usize,
 ) -> Result<(), AllocError> {
-    let mut memory = Registers::new(alloc, report.names().count() as u16)?;
-    for before in 0..place {
-        if let Some(fact) = list.id(before).and_then(|id| facts.at(id)) {
-            memory.apply(&fact.op);
-        }
-    }
-    let Some(id) = list.id(place) else {
-        return Ok(());
-    };
+    let id = list.id(place);
     let Some(fact) = facts.at(id) else {
         return Ok(());
     };
-    put_line(sink, text, list.line(place));
-    put_id(sink, id);
-    sink.put(b" is ");
+    let registers = report.names().count() as u16;
+    let mut memory = memory_before(alloc, registers, facts, list, place)?;
+    let numbers = [id.process as u64, id.number as u64];
+    put_told(sink, text, list.line(place), "p{} #{} is ", &numbers);
     put_op(sink, report.names(), fact.op);
     if let (Some(answer), Some(given)) = (memory.apply(&fact.op), fact.answered) {
         sink.put(b": memory answers ");
         put_answer(sink, answer);
         sink.put(b" there, and the report says ");
         put_answer(sink, given.answer);
-        put_number(sink, " on line ", given.line);
+        put_with(sink, " on line {}", &[given.line]);
     }
     sink.put(b"\n");
     Ok(())
@@ -209,26 +221,32 @@ fn put_outside<A: Allocator + Copy, W: Write>(
     list: Listing<'_>,
     place: usize,
 ) {
-    put_line(sink, text, list.line(place));
-    if let Some(id) = list.id(place) {
-        if let Some(fact) = facts.at(id) {
-            put_id(sink, id);
-            put_number(sink, " is called at event ", fact.called as u64);
-            match fact.answered {
-                Some(given) => put_number(sink, " and answered at event ", given.at as u64),
-                None => sink.put(b" and not answered"),
-            }
-            sink.put(b": its point is not between them\n");
-        }
-    }
+    let id = list.id(place);
+    let Some(fact) = facts.at(id) else {
+        return;
+    };
+    let (words, answered) = match fact.answered {
+        Some(given) => (
+            "p{} #{} is called at event {} and answered at event {}",
+            given.at,
+        ),
+        None => ("p{} #{} is called at event {} and not answered", 0),
+    };
+    let numbers = [
+        id.process as u64,
+        id.number as u64,
+        fact.called as u64,
+        answered as u64,
+    ];
+    put_told(sink, text, list.line(place), words, &numbers);
+    sink.put(b": its point is not between them\n");
 }
 
 /// A point below the one before it.
 fn put_falling<W: Write>(sink: &mut Sink<'_, W>, text: &[u8], list: Listing<'_>, place: usize) {
-    put_line(sink, text, list.line(place));
     if let Some(point) = list.points.get(place.saturating_sub(1)) {
-        put_number(sink, "the point before it is at event ", point.at as u64);
-        sink.put(b": points never fall\n");
+        let words = "the point before it is at event {}: points never fall\n";
+        put_told(sink, text, list.line(place), words, &[point.at as u64]);
     }
 }
 

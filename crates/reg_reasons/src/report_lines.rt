@@ -1,14 +1,12 @@
 //! The lines of a report, part by part.
-use crate::scanning::{Scan, behind, front_of, spaces_of, token_of};
-use crate::schedule_lines::{VALUE, scan_names, scan_op, scan_processes, words_of};
-use crate::wanting::{Misfit, Range, Wanted};
-use reg_base::limits::{LAST_EVENT, MOST_OPERATIONS, MOST_PROCESSES, MOST_REGISTERS};
-use reg_history::{LONGEST_FRONT, MOST_ENTRIES, MOST_IDS, OLDER_PROCESSES, OLDER_REGISTERS};
-use reg_text::{Lines, are_front_letters, in_front, is_numeral, numeral_within, skip};
+use crate::forms::{Form, VALUE};
+use crate::scanning::behind;
+use crate::schedule_lines::words_of;
+use reg_text::{Lines, numeral_within, skip};
 use std::alloc::{AllocError, Allocator};
 
 /// What stands on a line of a report.
-#[derive(Clone, Copy, Debug, PartialEq, Eq)]
+#[derive(Clone, Copy, PartialEq, Eq)]
 pub enum Part {
     Version,
     Front,
@@ -145,226 +143,26 @@ pub fn report_names<A: Allocator + Copy>(
     Ok(names)
 }
 
-fn most_processes(is_older: bool) -> u64 {
-    if is_older {
-        OLDER_PROCESSES as u64
-    } else {
-        MOST_PROCESSES as u64
-    }
-}
-
-/// The number of processes.
-fn processes(is_older: bool) -> Range {
-    Range {
-        what: "the number of processes is",
-        least: 1,
-        most: most_processes(is_older),
-    }
-}
-
-/// The number of a process.
-fn process(is_older: bool) -> Range {
-    Range {
-        what: "a process is a number",
-        least: 0,
-        most: most_processes(is_older).saturating_sub(1),
-    }
-}
-
-const OPERATION: Range = Range {
-    what: "the number of an operation is",
-    least: 0,
-    most: MOST_OPERATIONS as u64 - 1,
-};
-
-const EVENT: Range = Range {
-    what: "an event is a number",
-    least: 0,
-    most: LAST_EVENT as u64,
-};
-
-const REGISTERS: Range = Range {
-    what: "the number of registers is",
-    least: 1,
-    most: MOST_REGISTERS as u64,
-};
-
-const ENTRIES: Range = Range {
-    what: "the number of lines of a history is",
-    least: 0,
-    most: MOST_ENTRIES as u64,
-};
-
-const IDS: Range = Range {
-    what: "the number of lines is",
-    least: 0,
-    most: MOST_IDS as u64,
-};
-
-fn scan_version<'a>(scan: &mut Scan<'a>) -> Result<(), Misfit<'a>> {
-    scan.word("awreg")?;
-    scan.space()?;
-    scan.word("report")?;
-    scan.space()?;
-    scan.word("1 2")?;
-    scan.end()
-}
-
-fn scan_front<'a>(scan: &mut Scan<'a>) -> Result<(), Misfit<'a>> {
-    scan.word("front")?;
-    scan.space()?;
-    let token = token_of(scan.rest());
-    if token.is_empty() || token.len() > LONGEST_FRONT || !are_front_letters(token) {
-        return Err(scan.misfit(Wanted::Text {
-            words: "1 to 16 letters a to z and hyphens",
-        }));
-    }
-    scan.pass(token.len());
-    scan.end()
-}
-
-fn scan_registers<'a>(scan: &mut Scan<'a>, is_older: bool) -> Result<(), Misfit<'a>> {
-    if is_older {
-        return scan_names(scan, OLDER_REGISTERS as u64);
-    }
-    scan_count(scan, "registers", REGISTERS)
-}
-
-fn scan_count<'a>(scan: &mut Scan<'a>, word: &'static str, range: Range) -> Result<(), Misfit<'a>> {
-    scan.word(word)?;
-    scan.space()?;
-    scan.last_number(range)
-}
-
-/// The number of an event, which ends its column.
-fn scan_event<'a>(scan: &mut Scan<'a>) -> Result<(), Misfit<'a>> {
-    let column = front_of(scan.rest(), 8);
-    let start = spaces_of(column);
-    if column.len() < 8 || !is_numeral(behind(column, start)) {
-        return Err(scan.misfit(Wanted::Text {
-            words: "an event at the right of 8 places",
-        }));
-    }
-    scan.pass(start);
-    scan.number(EVENT)?;
-    Ok(())
-}
-
-/// A number that begins its column.
-fn scan_column<'a>(
-    scan: &mut Scan<'a>,
-    places: usize,
-    words: &'static str,
-    range: Range,
-) -> Result<(), Misfit<'a>> {
-    let column = front_of(scan.rest(), places);
-    let digits = in_front(column);
-    if column.len() < places || !is_numeral(digits) {
-        return Err(scan.misfit(Wanted::Text { words }));
-    }
-    if scan.is_strict() {
-        scan.number(range)?;
-    } else {
-        scan.pass(digits.len());
-    }
-    scan.pass(places.saturating_sub(digits.len()));
-    Ok(())
-}
-
-/// The columns of the line of an entry.
-fn scan_columns<'a>(scan: &mut Scan<'a>, is_older: bool) -> Result<(), Misfit<'a>> {
-    scan_event(scan)?;
-    scan.signs(b"  p", "two spaces and p")?;
-    scan_column(
-        scan,
-        3,
-        "a process at the left of 3 places",
-        process(is_older),
-    )?;
-    scan.signs(b"  #", "two spaces and #")?;
-    scan_column(scan, 6, "a number at the left of 6 places", OPERATION)?;
-    scan.signs(b"  ", "two spaces")
-}
-
-fn scan_answer<'a>(scan: &mut Scan<'a>) -> Result<(), Misfit<'a>> {
-    let word = scan.word("done value")?;
-    if word == b"done".as_slice() {
-        return scan.end();
-    }
-    scan.space()?;
-    scan.last_number(VALUE)
-}
-
-fn scan_entry<'a>(scan: &mut Scan<'a>, names: &[&[u8]], is_older: bool) -> Result<(), Misfit<'a>> {
-    scan_columns(scan, is_older)?;
-    let word = scan.word("call answer")?;
-    if word == b"call".as_slice() {
-        scan.signs(b"    ", "four spaces")?;
-        scan_op(scan, names)
-    } else {
-        scan.signs(b"  ", "two spaces")?;
-        scan_answer(scan)
-    }
-}
-
-/// A process and the number of its operation.
-fn scan_id<'a>(scan: &mut Scan<'a>, is_older: bool) -> Result<(), Misfit<'a>> {
-    scan.signs(b"p", "p and a process, as in p0 #0")?;
-    scan.number(process(is_older))?;
-    scan.space()?;
-    scan.signs(b"#", "# and a number, as in p0 #0")?;
-    scan.number(OPERATION)?;
-    Ok(())
-}
-
-fn scan_point<'a>(scan: &mut Scan<'a>, is_older: bool) -> Result<(), Misfit<'a>> {
-    scan_id(scan, is_older)?;
-    scan.space()?;
-    scan.word("at")?;
-    scan.space()?;
-    scan.last_number(EVENT)
-}
-
-fn scan_tail<'a>(scan: &mut Scan<'a>) -> Result<(), Misfit<'a>> {
-    let word = scan.word("points end")?;
-    if word == b"end".as_slice() {
-        return scan.end();
-    }
-    scan.space()?;
-    scan.last_number(IDS)
-}
-
-/// The first place of a line that doesn't fit where one is in a report.
-pub fn scan_line<'a>(
-    walk: Walk,
-    line: &'a [u8],
-    names: &[&[u8]],
-    is_strict: bool,
-) -> Result<(), Misfit<'a>> {
-    let mut scan = Scan::new(line, is_strict);
-    let is_older = walk.is_older;
+/// The form of a line where one is in a report.
+pub fn form_at(walk: Walk) -> Form {
     match walk.part {
-        Part::Version => scan_version(&mut scan),
-        Part::Front => scan_front(&mut scan),
-        Part::Processes => scan_processes(&mut scan, processes(is_older)),
-        Part::Registers => scan_registers(&mut scan, is_older),
-        Part::Name => {
-            scan.new_name(b"")?;
-            scan.end()
-        }
-        Part::History => scan_count(&mut scan, "history", ENTRIES),
-        Part::Entry => scan_entry(&mut scan, names, is_older),
-        Part::Order => scan_count(&mut scan, "order", IDS),
-        Part::Id => {
-            scan_id(&mut scan, is_older)?;
-            scan.end()
-        }
-        Part::Tail => scan_tail(&mut scan),
-        Part::Point => scan_point(&mut scan, is_older),
-        Part::End => {
-            scan.word("end")?;
-            scan.end()
-        }
-        Part::Behind => Ok(()),
+        Part::Processes if walk.is_older => Form::OlderProcesses,
+        Part::Registers if walk.is_older => Form::OlderNames,
+        Part::Entry if walk.is_older => Form::OlderEntry,
+        Part::Id if walk.is_older => Form::OlderId,
+        Part::Point if walk.is_older => Form::OlderPoint,
+        Part::Version => Form::Version,
+        Part::Front => Form::ReportFront,
+        Part::Processes => Form::Processes,
+        Part::Registers => Form::Registers,
+        Part::Name => Form::Name,
+        Part::History => Form::History,
+        Part::Entry => Form::Entry,
+        Part::Order => Form::Order,
+        Part::Id => Form::Id,
+        Part::Tail => Form::Tail,
+        Part::Point => Form::Point,
+        Part::End => Form::LastLine,
+        Part::Behind => Form::Nothing,
     }
 }

@@ -1,5 +1,5 @@
 //! What doesn't fit, in plain words: the line with its number, a mark below the place, and what was wanted there.
-use crate::scanning::{front_of, spaces_of, token_of};
+use crate::scanning::{behind, front_of, spaces_of, token_of};
 use crate::wanting::{Misfit, Range, Wanted};
 use reg_text::{Sink, is_numeral, put_number, skip};
 use std::alloc::{AllocError, Allocator};
@@ -21,11 +21,30 @@ const SHOWN_BEFORE: usize = 60;
 /// The most names that are listed.
 const MOST_LISTED: usize = 10;
 
-/// Puts words in marks of quotation.
-pub fn put_quoted<W: Write>(sink: &mut Sink<'_, W>, bytes: &[u8]) {
+/// Puts a text with these numbers in the places of its `{}`.
+pub fn put_with<W: Write>(sink: &mut Sink<'_, W>, text: &str, numbers: &[u64]) {
+    for (place, part) in text.split("{}").enumerate() {
+        if place > 0 {
+            put_number(sink, "", numbers.get(place - 1).copied().unwrap_or(0));
+        }
+        sink.put(part.as_bytes());
+    }
+}
+
+/// Puts what was found in marks of quotation, with words before and behind it.
+pub fn put_quoted<W: Write>(sink: &mut Sink<'_, W>, before: &str, found: &[u8], after: &[&str]) {
+    sink.put(before.as_bytes());
     sink.put(b"\"");
-    sink.put(bytes);
+    sink.put(found);
     sink.put(b"\"");
+    for words in after {
+        sink.put(words.as_bytes());
+    }
+}
+
+/// The printed signs at the start, as many as are shown.
+fn shown_token(found: &[u8]) -> &[u8] {
+    front_of(token_of(found), LONGEST_SHOWN)
 }
 
 /// Whether a byte goes on a character of more than one.
@@ -70,8 +89,7 @@ pub fn put_place<W: Write>(sink: &mut Sink<'_, W>, number: u64, line: &[u8], at:
     let shown = skip(bare, MARK).unwrap_or(bare);
     let place = at.saturating_sub(bare.len().saturating_sub(shown.len()));
     let (part, from) = shown_part(shown, place);
-    put_number(sink, "", number);
-    sink.put(b" | ");
+    put_with(sink, "{} | ", &[number]);
     for byte in part {
         put_sign(sink, *byte);
     }
@@ -95,53 +113,40 @@ fn put_margin<W: Write>(sink: &mut Sink<'_, W>, number: u64) {
     sink.put(b" | ");
 }
 
-/// Puts words as a list: `a`, `a or b`, `a, b or c`.
-fn put_words<W: Write>(sink: &mut Sink<'_, W>, words: &str) {
-    let mut rest = words.as_bytes();
-    let mut is_first = true;
-    for _ in 0..words.len() {
-        let word = token_of(rest);
-        if word.is_empty() {
-            return;
-        }
-        rest = crate::scanning::behind(rest, word.len().saturating_add(1));
-        if !is_first {
-            sink.put(if rest.is_empty() {
-                b" or ".as_slice()
-            } else {
-                b", ".as_slice()
-            });
-        }
-        sink.put(word);
-        is_first = false;
+/// What stands before the word of this place in a list of so many: `a`, `a or b`, `a, b or c`.
+fn separator(place: usize, count: usize) -> &'static str {
+    if place == 0 {
+        ""
+    } else if place.saturating_add(1) == count {
+        " or "
+    } else {
+        ", "
+    }
+}
+
+/// Puts words as a list.
+fn put_words<W: Write>(sink: &mut Sink<'_, W>, words: &[&str]) {
+    for (place, word) in words.iter().enumerate() {
+        sink.put(separator(place, words.len()).as_bytes());
+        sink.put(word.as_bytes());
     }
 }
 
 /// Puts what stands at a place.
 fn put_found<W: Write>(sink: &mut Sink<'_, W>, found: &[u8]) {
-    let token = token_of(found);
-    let spaces = spaces_of(found);
+    let token = shown_token(found);
     match found {
         [] => sink.put(b"the end of the line"),
         [b'\t', ..] => sink.put(b"a tab"),
         [b'\r', ..] => sink.put(b"a carriage return"),
         [0xC2, 0xA0, ..] => sink.put(b"a no-break space"),
-        [b' ', ..] => put_spaces(sink, spaces as u64),
+        [b' ', b' ', ..] => put_with(sink, "{} spaces", &[spaces_of(found) as u64]),
+        [b' ', ..] => sink.put(b"a space"),
         [first, ..] if *first >= 0x80 => {
-            put_quoted(sink, character_of(found));
-            sink.put(b", which is not ASCII");
+            put_quoted(sink, "", character_of(found), &[", which is not ASCII"]);
         }
         _ if token.is_empty() => sink.put(b"a control character"),
-        _ => put_quoted(sink, front_of(token, LONGEST_SHOWN)),
-    }
-}
-
-fn put_spaces<W: Write>(sink: &mut Sink<'_, W>, count: u64) {
-    if count == 1 {
-        sink.put(b"a space");
-    } else {
-        put_number(sink, "", count);
-        sink.put(b" spaces");
+        _ => put_quoted(sink, "", token, &[]),
     }
 }
 
@@ -152,23 +157,20 @@ fn character_of(bytes: &[u8]) -> &[u8] {
 }
 
 /// The word that is next to the one that was found: the same but for capital letters, or one or two edits away.
-pub fn near<'a, A: Allocator + Copy>(
+pub fn near<A: Allocator + Copy>(
     alloc: A,
     found: &[u8],
-    words: &'a str,
-) -> Result<Option<&'a [u8]>, AllocError> {
+    words: &'static [&'static str],
+) -> Result<Option<&'static str>, AllocError> {
     let mut best = None;
     let mut least = 3usize;
-    let mut rest = words.as_bytes();
     if found.is_empty() || found.len() > LONGEST_WORD {
         return Ok(None);
     }
-    for _ in 0..words.len() {
-        let word = token_of(rest);
-        rest = crate::scanning::behind(rest, word.len().saturating_add(1));
-        let edits = edits_between(alloc, found, word)?;
+    for word in words {
+        let edits = edits_between(alloc, found, word.as_bytes())?;
         if edits < least && edits < word.len() {
-            best = Some(word);
+            best = Some(*word);
             least = edits;
         }
     }
@@ -189,16 +191,12 @@ fn edits_between<A: Allocator + Copy>(
 pub fn put_wanted_words<A: Allocator + Copy, W: Write>(
     alloc: A,
     sink: &mut Sink<'_, W>,
-    words: &str,
+    words: &'static [&'static str],
     found: &[u8],
 ) -> Result<(), AllocError> {
-    match near(alloc, token_of(found), words)? {
-        Some(word) => {
-            put_quoted(sink, token_of(found));
-            sink.put(b": did you mean ");
-            sink.put(word);
-            sink.put(b"?");
-        }
+    let token = shown_token(found);
+    match near(alloc, token, words)? {
+        Some(word) => put_quoted(sink, "", token, &[": did you mean ", word, "?"]),
         None => {
             sink.put(b"expected ");
             put_words(sink, words);
@@ -209,61 +207,58 @@ pub fn put_wanted_words<A: Allocator + Copy, W: Write>(
     Ok(())
 }
 
-fn put_range<W: Write>(sink: &mut Sink<'_, W>, range: Range) {
-    put_number(sink, " from ", range.least);
-    put_number(sink, " to ", range.most);
-}
-
 /// Puts why a number doesn't fit.
-pub fn put_wanted_number<W: Write>(sink: &mut Sink<'_, W>, range: Range, found: &[u8]) {
-    let token = token_of(found);
+fn put_wanted_number<W: Write>(sink: &mut Sink<'_, W>, range: Range, found: &[u8]) {
+    let token = shown_token(found);
+    let bounds = [range.least, range.most];
     if is_numeral(token) {
-        sink.put(front_of(token, LONGEST_SHOWN));
-        sink.put(b" is out of range: ");
-        sink.put(range.what.as_bytes());
-        put_range(sink, range);
+        sink.put(token);
+        put_out_of_range(sink, range);
     } else if token.len() > 1 && token.iter().all(|b| b.is_ascii_digit()) {
-        put_quoted(sink, front_of(token, LONGEST_SHOWN));
-        sink.put(b": a number doesn't begin with a needless 0");
+        put_quoted(
+            sink,
+            "",
+            token,
+            &[": a number doesn't begin with a needless 0"],
+        );
     } else {
-        sink.put(b"expected a number");
-        put_range(sink, range);
-        sink.put(b", found ");
+        put_with(sink, "expected a number from {} to {}, found ", &bounds);
         put_found(sink, found);
     }
+}
+
+/// Puts what a number is that is out of range, behind it.
+pub fn put_out_of_range<W: Write>(sink: &mut Sink<'_, W>, range: Range) {
+    sink.put(b" is out of range: ");
+    sink.put(range.what.as_bytes());
+    put_with(sink, " from {} to {}", &[range.least, range.most]);
 }
 
 /// Puts the names of the registers, or the first of them.
 fn put_names<W: Write>(sink: &mut Sink<'_, W>, names: &[&[u8]]) {
-    if names.len() == 1 {
-        sink.put(b"the register is ");
+    sink.put(if names.len() == 1 {
+        b"the register is ".as_slice()
     } else {
-        sink.put(b"the registers are ");
-    }
-    let mut is_first = true;
-    for name in names.iter().take(MOST_LISTED) {
-        if !is_first {
+        b"the registers are ".as_slice()
+    });
+    for (place, name) in names.iter().take(MOST_LISTED).enumerate() {
+        if place > 0 {
             sink.put(b", ");
         }
         sink.put(name);
-        is_first = false;
     }
-    let more = names.len().saturating_sub(MOST_LISTED);
-    if more > 0 {
-        put_number(sink, " and ", more as u64);
-        sink.put(b" more");
+    if names.len() > MOST_LISTED {
+        let more = names.len().saturating_sub(MOST_LISTED) as u64;
+        put_with(sink, " and {} more", &[more]);
     }
 }
 
 fn put_register<W: Write>(sink: &mut Sink<'_, W>, names: &[&[u8]], found: &[u8]) {
-    let token = token_of(found);
+    let token = shown_token(found);
     if token.is_empty() {
-        sink.put(b"expected a register, found ");
-        put_found(sink, found);
+        put_expected(sink, "a register", found);
     } else {
-        sink.put(b"no register ");
-        put_quoted(sink, front_of(token, LONGEST_SHOWN));
-        sink.put(b": ");
+        put_quoted(sink, "no register ", token, &[": "]);
         put_names(sink, names);
     }
 }
@@ -275,6 +270,12 @@ fn put_expected<W: Write>(sink: &mut Sink<'_, W>, words: &str, found: &[u8]) {
     put_found(sink, found);
 }
 
+/// What is told of a name that is none.
+pub const NAME_FORM: &str = ": a register's name is 1 to 16 letters a to z";
+
+/// What is told of a name that another register has.
+pub const NAME_TAKEN: &str = " stands before: each register has a name of its own";
+
 /// Puts what was wanted and what was found.
 fn put_wanted<A: Allocator + Copy, W: Write>(
     alloc: A,
@@ -283,37 +284,27 @@ fn put_wanted<A: Allocator + Copy, W: Write>(
     misfit: Misfit<'_>,
 ) -> Result<(), AllocError> {
     let found = misfit.found;
+    let token = shown_token(found);
     match misfit.wanted {
         Wanted::Words { words } => return put_wanted_words(alloc, sink, words, found),
         Wanted::Space => put_expected(sink, "one space", found),
         Wanted::Text { words } => put_expected(sink, words, found),
         Wanted::Number { range } => put_wanted_number(sink, range, found),
         Wanted::Register => put_register(sink, names, found),
-        Wanted::Name => put_name(sink, found),
-        Wanted::OtherName => {
-            put_quoted(sink, token_of(found));
-            sink.put(b" stands before: each register has a name of its own");
+        Wanted::Name if token.is_empty() => put_expected(sink, "a name", found),
+        Wanted::Name => put_quoted(sink, "", token, &[NAME_FORM]),
+        Wanted::OtherName => put_quoted(sink, "", token, &[NAME_TAKEN]),
+        Wanted::Fewer { most } => {
+            put_with(sink, "there are no more registers than {}", &[most]);
         }
-        Wanted::Fewer { most } => put_number(sink, "there are no more registers than ", most),
         Wanted::End => put_end(sink, found),
     }
     Ok(())
 }
 
-pub fn put_name<W: Write>(sink: &mut Sink<'_, W>, found: &[u8]) {
-    let token = token_of(found);
-    if token.is_empty() {
-        put_expected(sink, "a name", found);
-    } else {
-        put_quoted(sink, front_of(token, LONGEST_SHOWN));
-        sink.put(b": a register's name is 1 to 16 letters a to z");
-    }
-}
-
 /// Puts what stands behind the end of a line.
 fn put_end<W: Write>(sink: &mut Sink<'_, W>, found: &[u8]) {
-    let spaces = spaces_of(found);
-    match crate::scanning::behind(found, spaces) {
+    match behind(found, spaces_of(found)) {
         [b'#', ..] => sink.put(b"a comment stands on a line of its own"),
         _ => put_expected(sink, "the end of the line", found),
     }

@@ -1,8 +1,16 @@
 //! A line, part by part, up to the first place that doesn't fit. It judges nothing: the readers have refused the line, and it says where.
-use crate::wanting::{Misfit, Range, Wanted};
+use crate::forms::Form;
+use crate::wanting::{Misfit, Range, Step, Wanted};
 use reg_base::is_name;
-use reg_text::{is_numeral, numeral_within};
+use reg_history::LONGEST_FRONT;
+use reg_text::{are_front_letters, in_front, is_numeral, numeral_within};
 use std::str;
+
+/// No line has more parts.
+const MOST_STEPS: u32 = 32;
+
+/// How many places the number of an event has.
+const EVENT_PLACES: usize = 8;
 
 /// The first bytes, or all where there are fewer.
 pub fn front_of(bytes: &[u8], count: usize) -> &[u8] {
@@ -39,10 +47,15 @@ pub fn is_register(bytes: &[u8]) -> bool {
     }
 }
 
+/// The place of a word among these.
+pub fn place_of(words: &[&str], word: &[u8]) -> Option<usize> {
+    words.iter().position(|it| it.as_bytes() == word)
+}
+
 /// Whether this word stands in a text of words with a space between each two.
-pub fn is_among(words: &[u8], word: &[u8]) -> bool {
-    let mut rest = words;
-    for _ in 0..words.len() {
+fn stands_in(text: &[u8], word: &[u8]) -> bool {
+    let mut rest = text;
+    for _ in 0..text.len() {
         let next = token_of(rest);
         if next == word {
             return true;
@@ -54,7 +67,7 @@ pub fn is_among(words: &[u8], word: &[u8]) -> bool {
 
 /// A line, and what of it is not scanned yet.
 #[derive(Clone, Copy)]
-pub struct Scan<'a> {
+struct Scan<'a> {
     line: &'a [u8],
     rest: &'a [u8],
     /// Whether numbers and names are looked at too, and not the form alone.
@@ -62,131 +75,196 @@ pub struct Scan<'a> {
 }
 
 impl<'a> Scan<'a> {
-    pub fn new(line: &'a [u8], is_strict: bool) -> Scan<'a> {
-        Scan {
-            line,
-            rest: line,
-            is_strict,
-        }
-    }
-
-    /// What is not scanned yet.
-    pub fn rest(&self) -> &'a [u8] {
-        self.rest
-    }
-
-    /// What was scanned.
-    pub fn before(&self) -> &'a [u8] {
-        front_of(self.line, self.place())
-    }
-
     fn place(&self) -> usize {
         self.line.len().saturating_sub(self.rest.len())
     }
 
+    /// Goes behind so many bytes.
+    fn pass(&mut self, count: usize) {
+        self.rest = behind(self.rest, count);
+    }
+
     /// The next part doesn't fit.
-    pub fn misfit(&self, wanted: Wanted) -> Misfit<'a> {
+    fn misfit(&self, wanted: Wanted) -> Misfit<'a> {
+        let is_second_space = matches!(wanted, Wanted::Space) && spaces_of(self.rest) > 1;
         Misfit {
-            at: self.place(),
+            at: self.place().saturating_add(usize::from(is_second_space)),
             found: self.rest,
             wanted,
         }
     }
 
-    /// Whether numbers and names are looked at too.
-    pub fn is_strict(&self) -> bool {
-        self.is_strict
-    }
-
-    /// Goes behind so many bytes, which it gives.
-    pub fn pass(&mut self, count: usize) -> &'a [u8] {
-        let passed = front_of(self.rest, count);
-        self.rest = behind(self.rest, count);
-        passed
-    }
-
-    /// One of these words.
-    pub fn word(&mut self, words: &'static str) -> Result<&'a [u8], Misfit<'a>> {
-        let token = token_of(self.rest);
-        if token.is_empty() || !is_among(words.as_bytes(), token) {
-            return Err(self.misfit(Wanted::Words { words }));
+    /// Goes behind the printed signs that stand next, where they fit.
+    fn token(&mut self, fits: bool) -> bool {
+        if fits {
+            self.pass(token_of(self.rest).len());
         }
-        Ok(self.pass(token.len()))
+        fits
     }
 
-    /// One space, with no second one behind it.
-    pub fn space(&mut self) -> Result<(), Misfit<'a>> {
-        let count = spaces_of(self.rest);
-        if count == 1 {
+    fn space(&mut self) -> bool {
+        let is_one = spaces_of(self.rest) == 1;
+        if is_one {
             self.pass(1);
-            return Ok(());
         }
-        let mut misfit = self.misfit(Wanted::Space);
-        if count > 1 {
-            misfit.at = misfit.at.saturating_add(1);
-        }
-        Err(misfit)
+        is_one
     }
 
-    /// These signs, of which `words` speaks.
-    pub fn signs(&mut self, signs: &[u8], words: &'static str) -> Result<(), Misfit<'a>> {
-        if !self.rest.starts_with(signs) {
-            return Err(self.misfit(Wanted::Text { words }));
+    fn signs(&mut self, signs: &[u8]) -> bool {
+        let stand = self.rest.starts_with(signs);
+        if stand {
+            self.pass(signs.len());
         }
-        self.pass(signs.len());
-        Ok(())
+        stand
     }
 
     /// The number that stands next, within a range.
-    pub fn number(&mut self, range: Range) -> Result<u64, Misfit<'a>> {
+    fn number(&mut self, range: Range) -> bool {
         let token = token_of(self.rest);
-        if !is_numeral(token) {
-            return Err(self.misfit(Wanted::Number { range }));
-        }
-        let number = numeral_within(token, range.most);
-        if self.is_strict && number.is_none_or(|n| n < range.least) {
-            return Err(self.misfit(Wanted::Number { range }));
-        }
-        self.pass(token.len());
-        Ok(number.unwrap_or(range.most))
+        self.token(match numeral_within(token, range.most) {
+            Some(number) if self.is_strict => number >= range.least,
+            Some(_) => true,
+            None => !self.is_strict && is_numeral(token),
+        })
     }
 
-    /// A number, and the end of the line.
-    pub fn last_number(&mut self, range: Range) -> Result<(), Misfit<'a>> {
-        self.number(range)?;
-        self.end()
+    /// A number that ends its column.
+    fn right(&mut self, range: Range) -> Option<Wanted> {
+        let column = front_of(self.rest, EVENT_PLACES);
+        let start = spaces_of(column);
+        if column.len() < EVENT_PLACES || !is_numeral(behind(column, start)) {
+            let words = "an event at the right of 8 places";
+            return Some(Wanted::Text { words });
+        }
+        self.pass(start);
+        unless(self.number(range), Wanted::Number { range })
+    }
+
+    /// A number that begins its column.
+    fn left(&mut self, places: usize, words: &'static str, range: Range) -> Option<Wanted> {
+        let column = front_of(self.rest, places);
+        let digits = in_front(column).len();
+        if column.len() < places || !is_numeral(front_of(column, digits)) {
+            return Some(Wanted::Text { words });
+        }
+        if self.is_strict && !self.number(range) {
+            return Some(Wanted::Number { range });
+        }
+        let passed = if self.is_strict { digits } else { 0 };
+        self.pass(places.saturating_sub(passed));
+        None
+    }
+
+    fn front_end(&mut self) -> bool {
+        let token = token_of(self.rest);
+        self.token(!token.is_empty() && token.len() <= LONGEST_FRONT && are_front_letters(token))
     }
 
     /// The name of a register that the text has named.
-    pub fn register(&mut self, names: &[&[u8]]) -> Result<(), Misfit<'a>> {
+    fn register(&mut self, names: &[&[u8]]) -> bool {
         let token = token_of(self.rest);
-        let is_known = names.iter().any(|name| *name == token);
-        if token.is_empty() || (self.is_strict && !is_known) {
-            return Err(self.misfit(Wanted::Register));
-        }
-        self.pass(token.len());
-        Ok(())
+        let is_known = !self.is_strict || names.iter().any(|name| *name == token);
+        self.token(!token.is_empty() && is_known)
     }
 
-    /// A name that none of these words is.
-    pub fn new_name(&mut self, words: &[u8]) -> Result<(), Misfit<'a>> {
+    /// A name that doesn't stand in this text.
+    fn name(&mut self, before: &[u8]) -> Option<Wanted> {
         let token = token_of(self.rest);
         if token.is_empty() || (self.is_strict && !is_register(token)) {
-            return Err(self.misfit(Wanted::Name));
+            return Some(Wanted::Name);
         }
-        if self.is_strict && is_among(words, token) {
-            return Err(self.misfit(Wanted::OtherName));
+        if self.is_strict && stands_in(before, token) {
+            return Some(Wanted::OtherName);
         }
         self.pass(token.len());
-        Ok(())
+        None
     }
 
-    /// The end of the line.
-    pub fn end(&mut self) -> Result<(), Misfit<'a>> {
-        if self.rest.is_empty() {
-            Ok(())
-        } else {
-            Err(self.misfit(Wanted::End))
+    /// Names, no more than this, up to the end of the line.
+    fn names(&mut self, most: u64) -> Option<Wanted> {
+        for count in 0..=most {
+            if count > 0 && self.rest.is_empty() {
+                return None;
+            }
+            if !self.space() {
+                return Some(Wanted::Space);
+            }
+            if count == most {
+                break;
+            }
+            let wanted = self.name(front_of(self.line, self.place()));
+            if wanted.is_some() {
+                return wanted;
+            }
+        }
+        Some(Wanted::Fewer { most })
+    }
+
+    /// Goes behind a part, or says what is wanted there.
+    fn step(&mut self, step: Step, names: &[&[u8]]) -> Option<Wanted> {
+        match step {
+            Step::Word { words, .. } => {
+                let stands = place_of(words, token_of(self.rest)).is_some();
+                unless(self.token(stands), Wanted::Words { words })
+            }
+            Step::Space => unless(self.space(), Wanted::Space),
+            Step::Signs { signs, words } => unless(self.signs(signs), Wanted::Text { words }),
+            Step::Number { range } => unless(self.number(range), Wanted::Number { range }),
+            Step::Right { range } => self.right(range),
+            Step::Left {
+                places,
+                words,
+                range,
+            } => self.left(places, words, range),
+            Step::FrontEnd => unless(
+                self.front_end(),
+                Wanted::Text {
+                    words: "1 to 16 letters a to z and hyphens",
+                },
+            ),
+            Step::Register => unless(self.register(names), Wanted::Register),
+            Step::Name => self.name(b""),
+            Step::Names { most } => self.names(most),
+            Step::End => unless(self.rest.is_empty(), Wanted::End),
         }
     }
+}
+
+fn unless(fits: bool, wanted: Wanted) -> Option<Wanted> {
+    if fits { None } else { Some(wanted) }
+}
+
+/// The steps that go on from a word with forms, by the place of the word that stands there.
+fn steps_behind(rest: &[u8], step: Step, later: &'static [Step]) -> &'static [Step] {
+    let Step::Word { words, forms } = step else {
+        return later;
+    };
+    let place = place_of(words, token_of(rest));
+    match place.and_then(|place| forms.get(place)) {
+        Some(form) => form.steps(),
+        None => later,
+    }
+}
+
+/// The first place of a line that doesn't fit a form.
+pub fn misfit_of<'a>(
+    line: &'a [u8],
+    form: Form,
+    names: &[&[u8]],
+    is_strict: bool,
+) -> Option<Misfit<'a>> {
+    let mut scan = Scan {
+        line,
+        rest: line,
+        is_strict,
+    };
+    let mut steps = form.steps();
+    for _ in 0..MOST_STEPS {
+        let (step, later) = steps.split_first()?;
+        steps = steps_behind(scan.rest, *step, later);
+        if let Some(wanted) = scan.step(*step, names) {
+            return Some(scan.misfit(wanted));
+        }
+    }
+    None
 }

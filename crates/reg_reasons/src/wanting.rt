@@ -1,4 +1,5 @@
 //! What is wanted at a place of a line.
+use crate::forms::Form;
 
 /// A number that is wanted.
 #[derive(Clone, Copy)]
@@ -9,11 +10,53 @@ pub struct Range {
     pub most: u64,
 }
 
+/// A part of a line. A form of lines is a list of them.
+#[derive(Clone, Copy)]
+pub enum Step {
+    /// One of these words. Where forms are given, that of its place among them goes on.
+    Word {
+        words: &'static [&'static str],
+        forms: &'static [Form],
+    },
+    /// One space, with no second one behind it.
+    Space,
+    /// These signs, of which `words` speaks.
+    Signs {
+        signs: &'static [u8],
+        words: &'static str,
+    },
+    Number {
+        range: Range,
+    },
+    /// A number at the right of 8 places.
+    Right {
+        range: Range,
+    },
+    /// A number at the left of these many places, of which `words` speaks.
+    Left {
+        places: usize,
+        words: &'static str,
+        range: Range,
+    },
+    /// The name of a front end.
+    FrontEnd,
+    /// A register that the text has named.
+    Register,
+    /// The name of a register.
+    Name,
+    /// The names of registers, with a space before each, no more than this, and the end of the line.
+    Names {
+        most: u64,
+    },
+    /// The end of the line.
+    End,
+}
+
 /// What is wanted at a place of a line.
 #[derive(Clone, Copy)]
 pub enum Wanted {
     /// One of these words.
-    Words { words: &'static str },
+    Words { words: &'static [&'static str] },
     /// One space.
     Space,
     /// What these words say.

@@ -1,5 +1,5 @@
-//! Tests of what the programs add to whole runs, over their public calls: running clusters, the words of the command lines, the
-//! lines that tell stops, what is shown of a text, and the data of a run. Each ends by itself, whatever the schedule.
+//! Tests of the words of both command lines, of what is shown of a text, of the data of a run, and of what is told of a wrong text,
+//! over public calls.
 //!
 //! They stand in a crate of their own since a crate with tests is proved twice.
 #![tactic(auto)]
@@ -9,8 +9,6 @@ mod lines;
 #[cfg(test)]
 mod litmus;
 #[cfg(test)]
-mod live;
-#[cfg(test)]
 mod rests_shown;
 #[cfg(test)]
 mod run_data;
@@ -18,8 +16,6 @@ mod run_data;
 mod show_words;
 #[cfg(test)]
 mod shown;
-#[cfg(test)]
-mod stop_lines;
 pub mod values;
 #[cfg(test)]
 mod why;

@@ -1,7 +1,7 @@
 use Rattle.std.proofs.Common.{ℕ, List, Some, Vec, Global, subst, ap, ◌∙◌}
 use Rattle.std.specs.Io.KnownBytes.{Appends}
 use Rattle.reg_show.specs.Showings.{Shows}
-use Rattle.program_tests.proofs.values.shown.Goals as goal
+use Rattle.show_tests.proofs.values.shown.Goals as goal
 
 pub returns-clause-shown : goal.returns-clause-shown
 returns-clause-shown c = λ zero.
