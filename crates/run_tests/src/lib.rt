@@ -15,6 +15,8 @@ mod growths_of_texts;
 #[cfg(test)]
 mod inputs;
 #[cfg(test)]
+mod interleavings;
+#[cfg(test)]
 mod large_shapes;
 #[cfg(test)]
 mod limits;

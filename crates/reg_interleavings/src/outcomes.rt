@@ -1,0 +1,117 @@
+//! All outcomes of scripts.
+ghost use Rattle.std.specs.Prelude.{◌≡◌, ◌<◌, [], map, IfOk, IfErr, OnOk};
+ghost use Rattle.std.specs.BTreeMap.{IsOrdered};
+ghost use Rattle.std.specs.Cmp.Lexicographic.{slice_cmp};
+ghost use Rattle.reg_outcomes.specs.Tables.{told_cmp};
+ghost use Rattle.reg_interleavings.specs.Interleavings.{AreAll, ArePlayable, CountsStages, IsFault, IsWider};
+ghost use Rattle.reg_interleavings.specs.Layers.{Adds, IsToldIn, entries_of, interleaving_of, told_entries};
+
+use crate::faults::InterleavingFault;
+use crate::layers::{LastLayer, Layer, last_layer};
+use crate::stages::Stage;
+use reg_base::Op;
+use reg_outcomes::ToldValue;
+use std::alloc::{AllocError, Allocator, Global};
+use std::collections::BTreeMap;
+use std::marker::Model;
+
+/// An outcome of scripts, and the turns of an interleaving that has it. Contracts see it as that interleaving.
+#[derive(Drop)]
+pub struct Outcome<A: Allocator + Copy = Global> {
+    /// The values that the operations answered, by process and then by number.
+    pub told: Vec<ToldValue, A>,
+    /// The processes in the order of their turns.
+    pub turns: Vec<u8, A>,
+}
+
+impl<A: Allocator + Copy> Model for Outcome<A> {
+    ghost use Rattle.reg_interleavings.specs.Interleavings.{Interleaving};
+
+    ghost Value = { Interleaving };
+
+    ghost view = { λ o. record { turns = o.turns.items; told = o.told.items } };
+}
+
+/// Each outcome once, with turns that have it.
+type TurnsByOutcome<A> = BTreeMap<Vec<ToldValue, A>, Vec<u8, A>, A>;
+
+/// Adds an outcome, unless it is there.
+fn add_outcome<A: Allocator + Copy>(
+    told: Vec<ToldValue, A>,
+    turns: Vec<u8, A>,
+    outcomes: &mut TurnsByOutcome<A>,
+) -> Result<(), AllocError>
+    ensures { OnOk result (Adds (λ o. o ≡ (told.items, turns.items)) (told_entries outcomes.old) (told_entries outcomes.new)) }
+{
+    if !outcomes.contains_key(&told) {
+        outcomes.insert(told, turns)?;
+    }
+    Ok(())
+}
+
+/// What is told at the stages of a layer.
+fn tell_layer<A: Allocator + Copy>(
+    alloc: A,
+    layer: Layer<A>,
+) -> Result<TurnsByOutcome<A>, AllocError>
+    ensures { IfOk result (λ outcomes. Adds (IsToldIn (entries_of layer)) [] (told_entries outcomes)) }
+{
+    let mut outcomes = BTreeMap::new(alloc);
+    for (stage, turns) in layer {
+        let Stage {
+            next: _next,
+            memory: _memory,
+            told,
+        } = stage;
+        add_outcome(told, turns, &mut outcomes)?;
+    }
+    Ok(outcomes)
+}
+
+/// The outcomes in their order.
+fn listed<A: Allocator + Copy>(
+    alloc: A,
+    outcomes: TurnsByOutcome<A>,
+) -> Result<Vec<Outcome<A>, A>, AllocError>
+    ensures list { IfOk result (λ v. v.items ≡ map interleaving_of outcomes.entries) }
+    ensures ordered { OnOk result (IsOrdered (λ a b. slice_cmp told_cmp a.items b.items) outcomes) }
+{
+    let mut list = Vec::new(alloc);
+    for (told, turns) in outcomes {
+        list.push(Outcome { told, turns })?;
+    }
+    Ok(list)
+}
+
+/// All outcomes of scripts, rising, and how many stages interleavings of them go through.
+#[derive(Drop)]
+pub struct AllOutcomes<A: Allocator + Copy = Global> {
+    pub list: Vec<Outcome<A>, A>,
+    pub stages: u64,
+}
+
+/// All outcomes that interleavings of the scripts, one for each process, have on one memory with so many registers: each once,
+/// rising, and with the turns of an interleaving that has it. It goes turn by turn, and keeps each stage after so many turns once,
+/// so what it needs is the number of stages and not that of the interleavings.
+///
+/// # Errors
+///
+/// Some number of turns leads to more stages than the limit, or memory was refused.
+pub fn all_outcomes<A: Allocator + Copy>(
+    alloc: A,
+    scripts: &[Vec<Op, A>],
+    registers: u16,
+    limit: u32,
+) -> Result<AllOutcomes<A>, InterleavingFault>
+    requires playable { ArePlayable (map (λ v. v.items) scripts.now) registers }
+    requires some { 0 < limit }
+    ensures outcomes { IfOk result (λ all. AreAll (map (λ v. v.items) scripts.now) registers all.list.items) }
+    ensures stages { IfOk result (λ all. CountsStages (map (λ v. v.items) scripts.now) registers all.stages) }
+    ensures narrow { OnOk result (¬ IsWider (map (λ v. v.items) scripts.now) registers limit) }
+    ensures refused { IfErr result (IsFault (map (λ v. v.items) scripts.now) registers limit) }
+{
+    let LastLayer { layer, stages } = last_layer(alloc, scripts, registers, limit)?;
+    let outcomes = tell_layer(alloc, layer)?;
+    let list = listed(alloc, outcomes)?;
+    Ok(AllOutcomes { list, stages })
+}
