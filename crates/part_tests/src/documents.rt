@@ -6,7 +6,6 @@ use reg_front::Front;
 use reg_inputs::{Key, Workload, WorkloadFault};
 use std::alloc::{AllocError, Global};
 use std::process::Abort;
-use std::test::Fail;
 
 pub(crate) const SMALL: &str =
     "front = \"local-write\"\nregisters = [\"x\"]\nscripts = [[\"write x 5\", \"read x\"], [\"read x\"]]\n";

@@ -1,10 +1,10 @@
-//! Worked examples, and a plain list beside the queue.
+//! A plain list beside the hold-back queue, and its growths refused.
 ghost use Rattle.std.specs.Prelude.{◌≡◌};
 
 use refusing::Refusing;
 use reg_base::{Op, Shape, Stamp};
 use reg_holdback::{HoldFault, Holdback};
-use std::alloc::{AllocError, Global};
+use std::alloc::{AllocError, Allocator, Global};
 use std::process::Abort;
 
 const WRITE: Op = Op::Write {
@@ -18,156 +18,10 @@ fn stamp(time: u64, process: u8) -> Stamp
     Stamp { time, process }
 }
 
-/// What is done with the queue of a process, and what it answers.
-enum Use {
-    /// A stamp comes, with a write of 5 or alone.
-    Receive {
-        stamp: Stamp,
-        held: bool,
-        answer: Result<(), HoldFault>,
-    },
-    /// The first cast is asked for: a write of 5.
-    Pop {
-        first: Option<Stamp>,
-    },
-}
-
 const FIRST: Stamp = Stamp {
     time: 1,
     process: 0,
 };
-
-const SECOND: Stamp = Stamp {
-    time: 2,
-    process: 2,
-};
-
-/// What is done with the queue of process 1 of 3, and how many casts it then holds.
-const OF_THREE: [(Use, usize); 8] = [
-    (
-        Use::Receive {
-            stamp: FIRST,
-            held: true,
-            answer: Ok(()),
-        },
-        1,
-    ),
-    (Use::Pop { first: None }, 1),
-    (
-        Use::Receive {
-            stamp: SECOND,
-            held: false,
-            answer: Ok(()),
-        },
-        1,
-    ),
-    (Use::Pop { first: Some(FIRST) }, 0),
-    (Use::Pop { first: None }, 0),
-    (
-        Use::Receive {
-            stamp: SECOND,
-            held: false,
-            answer: Err(HoldFault::Stale),
-        },
-        0,
-    ),
-    (
-        Use::Receive {
-            stamp: Stamp {
-                time: 9,
-                process: 1,
-            },
-            held: false,
-            answer: Err(HoldFault::NoProcess),
-        },
-        0,
-    ),
-    (
-        Use::Receive {
-            stamp: Stamp {
-                time: 9,
-                process: 3,
-            },
-            held: false,
-            answer: Err(HoldFault::NoProcess),
-        },
-        0,
-    ),
-];
-
-/// Whether the queue answers so.
-fn answers_so(queue: &mut Holdback, step: &Use) -> bool {
-    match *step {
-        Use::Receive {
-            stamp,
-            held,
-            answer,
-        } => {
-            let op = if held { Some(WRITE) } else { None };
-            queue.receive(stamp, op) == answer
-        }
-        Use::Pop { first } => queue.pop() == first.map(|stamp| (stamp, WRITE)),
-    }
-}
-
-#[test]
-fn delivers_what_is_clear(rt: HostRuntime) {
-    let shape = Shape::new(3, 1).expect(&rt, "a shape of three");
-    let mut queue = Holdback::new(rt.alloc(), 1, shape).expect(&rt, "memory");
-    for (row, (step, held)) in OF_THREE.iter().enumerate() {
-        assert!(rt;
-            answers_so(&mut queue, step) && queue.len() == *held,
-            "{row}"
-        );
-    }
-    for (process, seen) in [(2, Some(2)), (1, None), (3, None)] {
-        assert!(rt; queue.seen(process) == seen, "{process}");
-    }
-}
-
-#[test]
-fn one_process_waits_for_none(rt: HostRuntime) {
-    let shape = Shape::new(1, 1).expect(&rt, "a shape of one");
-    let mut held = Holdback::new(rt.alloc(), 0, shape).expect(&rt, "memory");
-    let read = Op::Read { register: 0 };
-    assert!(rt; held.cast(stamp(1, 0), read).is_ok());
-    assert!(rt; held.pop() == Some((stamp(1, 0), read)));
-}
-
-/// What is done with the queue of process 1 of 2, which holds a cast of its own at the first time.
-const EQUAL_TIMES: [Use; 5] = [
-    Use::Receive {
-        stamp: FIRST,
-        held: true,
-        answer: Ok(()),
-    },
-    Use::Pop { first: Some(FIRST) },
-    Use::Pop { first: None },
-    Use::Receive {
-        stamp: Stamp {
-            time: 2,
-            process: 0,
-        },
-        held: false,
-        answer: Ok(()),
-    },
-    Use::Pop {
-        first: Some(Stamp {
-            time: 1,
-            process: 1,
-        }),
-    },
-];
-
-#[test]
-fn equal_times_go_by_process(rt: HostRuntime) {
-    let shape = Shape::new(2, 1).expect(&rt, "a shape of two");
-    let mut held = Holdback::new(rt.alloc(), 1, shape).expect(&rt, "memory");
-    assert!(rt; held.cast(stamp(1, 1), WRITE).is_ok());
-    for (row, step) in EQUAL_TIMES.iter().enumerate() {
-        assert!(rt; answers_so(&mut held, step), "{row}");
-    }
-}
 
 /// A queue as a plain list, in which the least is searched for.
 #[derive(Drop)]
@@ -276,28 +130,33 @@ fn agrees_with_a_plain_list(rt: HostRuntime) {
     assert!(rt; popped > 50);
 }
 
-/// A cast that comes is refused for want of memory, and not held, and it is held when it comes again.
-const ONCE_REFUSED: [(Result<(), HoldFault>, usize, u64); 2] = [
-    (Err(HoldFault::OutOfMemory), 0, 0),
-    (Ok(()), 1, 1),
-];
+/// Whether a cast that comes is refused for want of memory, and not held, and it is held when it comes again.
+fn holds_it_later<A: Allocator + Copy>(queue: &mut Holdback<A>) -> bool {
+    queue.receive(FIRST, Some(WRITE)) == Err(HoldFault::OutOfMemory)
+        && queue.len() == 0
+        && queue.seen(0) == Some(0)
+        && queue.receive(FIRST, Some(WRITE)) == Ok(())
+        && queue.len() == 1
+        && queue.seen(0) == Some(1)
+}
+
+/// Whether a cast of its own is refused, and not held.
+fn holds_no_own_cast<A: Allocator + Copy>(queue: &mut Holdback<A>) -> bool {
+    queue.cast(stamp(1, 1), WRITE).is_err() && queue.len() == 0
+}
 
 #[test]
 fn a_refused_growth_holds_no_cast(rt: HostRuntime) {
     let shape = Shape::new(2, 1).expect(&rt, "a shape of two");
     let heap = Refusing::new(rt.alloc(), 1);
-    let mut held = Holdback::new(&heap, 1, shape).expect(&rt, "memory for the times");
-    for (answer, count, time) in &ONCE_REFUSED {
-        assert!(rt; held.receive(FIRST, Some(WRITE)) == *answer);
-        assert!(rt; held.len() == *count && held.seen(0) == Some(*time));
-    }
+    let mut queue = Holdback::new(&heap, 1, shape).expect(&rt, "memory for the times");
+    assert!(rt; holds_it_later(&mut queue));
 }
 
 #[test]
 fn a_refused_growth_holds_no_own_cast(rt: HostRuntime) {
     let shape = Shape::new(2, 1).expect(&rt, "a shape of two");
     let heap = Refusing::new(rt.alloc(), 1);
-    let mut own = Holdback::new(&heap, 1, shape).expect(&rt, "memory for the times");
-    assert!(rt; own.cast(stamp(1, 1), WRITE).is_err());
-    assert!(rt; own.len() == 0);
+    let mut queue = Holdback::new(&heap, 1, shape).expect(&rt, "memory for the times");
+    assert!(rt; holds_no_own_cast(&mut queue));
 }

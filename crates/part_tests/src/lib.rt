@@ -7,15 +7,11 @@
 #[cfg(test)]
 mod bases;
 #[cfg(test)]
-mod changed_reports;
-#[cfg(test)]
 mod demands;
 #[cfg(test)]
 mod documents;
 #[cfg(test)]
 mod frames;
-#[cfg(test)]
-mod fronts;
 #[cfg(test)]
 mod growths;
 #[cfg(test)]

@@ -2,24 +2,33 @@
 use refusing::Refusing;
 use std::alloc::Global;
 
-/// Pushes a byte, and says whether there was memory, and whether the refusal is still to come then.
-fn pushed(
+/// Whether a byte is pushed where there is to be memory, and whether the refusal is then still to come as it is to be.
+fn pushes(
     heap: &Refusing<Global>,
     list: &mut Vec<u8, &Refusing<Global>>,
     byte: u8,
-) -> (bool, bool) {
+    told: (bool, bool),
+) -> bool {
     let is_there = list.push(byte).is_ok();
-    (is_there, heap.is_waiting())
+    (is_there, heap.is_waiting()) == told
+}
+
+/// Whether the second list's first growth alone is refused.
+fn refuses_the_second(
+    heap: &Refusing<Global>,
+    first: &mut Vec<u8, &Refusing<Global>>,
+    second: &mut Vec<u8, &Refusing<Global>>,
+) -> bool {
+    pushes(heap, first, 1, (true, true))
+        && pushes(heap, second, 2, (false, false))
+        && pushes(heap, second, 3, (true, false))
+        && first.as_slice() == [1].as_slice()
+        && second.as_slice() == [3].as_slice()
 }
 
 #[test]
 fn refuses_just_one(rt: HostRuntime) {
     let heap = Refusing::new(rt.alloc(), 1);
-    let mut first = Vec::new(&heap);
-    assert!(rt; pushed(&heap, &mut first, 1) == (true, true));
-    let mut second = Vec::new(&heap);
-    assert!(rt; pushed(&heap, &mut second, 2) == (false, false));
-    assert!(rt; pushed(&heap, &mut second, 3).0);
-    assert!(rt; first.as_slice() == [1].as_slice());
-    assert!(rt; second.as_slice() == [3].as_slice());
+    let (mut first, mut second) = (Vec::new(&heap), Vec::new(&heap));
+    assert!(rt; refuses_the_second(&heap, &mut first, &mut second));
 }

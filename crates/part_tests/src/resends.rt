@@ -1,10 +1,10 @@
-//! Frames that a process puts again, and one that has nobody to put them for.
+//! Frames that a process puts again.
 use crate::processes::started;
 use crate::values::WRITE_FIVE;
 use reg_base::limits::MOST_RESENT;
 use reg_frames::{Body, Frame};
 use reg_front::LocalWrite;
-use reg_process::{Outcome, Process, ProcessFault, Put};
+use reg_process::{Outcome, Process, Put};
 use std::process::Abort;
 
 /// The frame at this place of those that were put for process 1, each with the write of 5.
@@ -49,22 +49,4 @@ fn demand_the_first_sixteen(rt: &impl Abort, process: &mut Process<LocalWrite>) 
 fn tick_puts_the_first_sixteen(rt: HostRuntime) {
     let mut process = started::<LocalWrite>(&rt, rt.alloc(), 2);
     demand_the_first_sixteen(&rt, &mut process);
-}
-
-/// How many frames are put and how many casts are delivered, where the step is made.
-fn puts_and_casts(made: Result<Outcome, ProcessFault>) -> Option<(usize, usize)> {
-    match made {
-        Ok(out) => Some((out.frames.len(), out.delivered.len())),
-        Err(_) => None,
-    }
-}
-
-#[test]
-fn process_alone_puts_nothing(rt: HostRuntime) {
-    let mut process = started::<LocalWrite>(&rt, rt.alloc(), 1);
-    for _number in 0..17 {
-        assert!(rt; puts_and_casts(process.call(WRITE_FIVE)) == Some((0, 1)));
-    }
-    let again = puts_and_casts(process.tick());
-    assert!(rt; process.pending() == 0 && matches!(again, Some((0, _))));
 }

@@ -86,14 +86,15 @@ fn stands_before(text: &[u8], number: u64, process: u8) -> Before {
         let Some(line) = lines.next() else {
             return before;
         };
-        if walk.part == Part::Processes {
-            before.processes = column_number(line, 10, 255).unwrap_or(0);
-        }
-        if walk.part == Part::Entry {
-            before.last = columns_of(line);
-            if before.last.is_some_and(|c| c.id.process == process) {
-                before.own = before.last;
+        match walk.part {
+            Part::Processes => before.processes = column_number(line, 10, 255).unwrap_or(0),
+            Part::Entry => {
+                before.last = columns_of(line);
+                if before.last.is_some_and(|c| c.id.process == process) {
+                    before.own = before.last;
+                }
             }
+            _ => {}
         }
         walk = walk.after(line);
     }
@@ -107,20 +108,21 @@ fn put_last<W: Write>(sink: &mut Sink<'_, W>, entry: Columns, last: Columns) {
 
 /// Puts why a call may not come here.
 fn put_call<W: Write>(sink: &mut Sink<'_, W>, entry: Columns, before: Before) {
-    let process = entry.id.process as u64;
-    match (before.last, before.own) {
-        (Some(last), _) if entry.at <= last.at => put_last(sink, entry, last),
-        (_, Some(own)) => {
-            let number = own.id.number as u64;
-            if own.is_call() {
-                let text = "p{} #{}, called at event {}, is not answered yet\n";
-                put_with(sink, text, &[process, number, own.at]);
-            } else {
-                put_with(sink, NEXT, &[process, number.saturating_add(1)]);
-            }
+    if let Some(last) = before.last {
+        if entry.at <= last.at {
+            return put_last(sink, entry, last);
         }
-        _ => put_with(sink, NEXT, &[process, 0]),
     }
+    let process = entry.id.process as u64;
+    let Some(own) = before.own else {
+        return put_with(sink, NEXT, &[process, 0]);
+    };
+    let number = own.id.number as u64;
+    if own.is_call() {
+        let text = "p{} #{}, called at event {}, is not answered yet\n";
+        return put_with(sink, text, &[process, number, own.at]);
+    }
+    put_with(sink, NEXT, &[process, number.saturating_add(1)]);
 }
 
 const NEXT: &str = "the next operation of process {} is #{}\n";

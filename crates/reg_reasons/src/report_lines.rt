@@ -6,7 +6,7 @@ use reg_text::{Lines, numeral_within, skip};
 use std::alloc::{AllocError, Allocator};
 
 /// What stands on a line of a report.
-#[derive(Clone, Copy, PartialEq, Eq)]
+#[derive(Clone, Copy)]
 pub enum Part {
     Version,
     Front,
@@ -127,16 +127,15 @@ pub fn report_names<A: Allocator + Copy>(
     let mut walk = Walk::new();
     for _ in 0..text.len() {
         let Some(line) = lines.next() else {
-            return Ok(names);
+            break;
         };
-        if walk.part == Part::History {
-            return Ok(names);
-        }
-        if walk.part == Part::Registers && walk.is_older {
-            return words_of(alloc, skip(line, b"registers").unwrap_or(line));
-        }
-        if walk.part == Part::Name {
-            names.push(line)?;
+        match walk.part {
+            Part::History => break,
+            Part::Registers if walk.is_older => {
+                return words_of(alloc, skip(line, b"registers").unwrap_or(line));
+            }
+            Part::Name => names.push(line)?,
+            _ => {}
         }
         walk = walk.after(line);
     }

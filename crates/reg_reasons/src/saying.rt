@@ -132,22 +132,33 @@ fn put_words<W: Write>(sink: &mut Sink<'_, W>, words: &[&str]) {
     }
 }
 
+/// What stands at a place: what is quoted of it, and the words behind that.
+fn found_parts(found: &[u8]) -> (&[u8], &'static str) {
+    let token = shown_token(found);
+    let nothing = b"".as_slice();
+    match found {
+        [] => (nothing, "the end of the line"),
+        [b'\t', ..] => (nothing, "a tab"),
+        [b'\r', ..] => (nothing, "a carriage return"),
+        [b' ', ..] => (nothing, "a space"),
+        [0xC2, 0xA0, ..] => (nothing, "a no-break space"),
+        [first, ..] if *first >= 0x80 => (character_of(found), ", which is not ASCII"),
+        _ if token.is_empty() => (nothing, "a control character"),
+        _ => (token, ""),
+    }
+}
+
 /// Puts what stands at a place.
 fn put_found<W: Write>(sink: &mut Sink<'_, W>, found: &[u8]) {
-    let token = shown_token(found);
-    match found {
-        [] => sink.put(b"the end of the line"),
-        [b'\t', ..] => sink.put(b"a tab"),
-        [b'\r', ..] => sink.put(b"a carriage return"),
-        [0xC2, 0xA0, ..] => sink.put(b"a no-break space"),
-        [b' ', b' ', ..] => put_with(sink, "{} spaces", &[spaces_of(found) as u64]),
-        [b' ', ..] => sink.put(b"a space"),
-        [first, ..] if *first >= 0x80 => {
-            put_quoted(sink, "", character_of(found), &[", which is not ASCII"]);
-        }
-        _ if token.is_empty() => sink.put(b"a control character"),
-        _ => put_quoted(sink, "", token, &[]),
+    let spaces = spaces_of(found);
+    if spaces > 1 {
+        return put_with(sink, "{} spaces", &[spaces as u64]);
     }
+    let (quoted, words) = found_parts(found);
+    if !quoted.is_empty() {
+        put_quoted(sink, "", quoted, &[]);
+    }
+    sink.put(words.as_bytes());
 }
 
 /// The bytes of the first character.
@@ -253,16 +264,6 @@ fn put_names<W: Write>(sink: &mut Sink<'_, W>, names: &[&[u8]]) {
     }
 }
 
-fn put_register<W: Write>(sink: &mut Sink<'_, W>, names: &[&[u8]], found: &[u8]) {
-    let token = shown_token(found);
-    if token.is_empty() {
-        put_expected(sink, "a register", found);
-    } else {
-        put_quoted(sink, "no register ", token, &[": "]);
-        put_names(sink, names);
-    }
-}
-
 fn put_expected<W: Write>(sink: &mut Sink<'_, W>, words: &str, found: &[u8]) {
     sink.put(b"expected ");
     sink.put(words.as_bytes());
@@ -276,6 +277,24 @@ pub const NAME_FORM: &str = ": a register's name is 1 to 16 letters a to z";
 /// What is told of a name that another register has.
 pub const NAME_TAKEN: &str = " stands before: each register has a name of its own";
 
+/// What was expected, where nothing more is to be said than that and what was found.
+fn expected_of(wanted: Wanted, found: &[u8]) -> Option<&'static str> {
+    let is_no_token = token_of(found).is_empty();
+    match wanted {
+        Wanted::Space => Some("one space"),
+        Wanted::Text { words } => Some(words),
+        Wanted::Register if is_no_token => Some("a register"),
+        Wanted::Name if is_no_token => Some("a name"),
+        Wanted::End if !is_comment(found) => Some("the end of the line"),
+        _ => None,
+    }
+}
+
+/// Whether a comment stands behind spaces.
+fn is_comment(found: &[u8]) -> bool {
+    behind(found, spaces_of(found)).starts_with(b"#")
+}
+
 /// Puts what was wanted and what was found.
 fn put_wanted<A: Allocator + Copy, W: Write>(
     alloc: A,
@@ -285,29 +304,25 @@ fn put_wanted<A: Allocator + Copy, W: Write>(
 ) -> Result<(), AllocError> {
     let found = misfit.found;
     let token = shown_token(found);
+    if let Some(words) = expected_of(misfit.wanted, found) {
+        put_expected(sink, words, found);
+        return Ok(());
+    }
     match misfit.wanted {
         Wanted::Words { words } => return put_wanted_words(alloc, sink, words, found),
-        Wanted::Space => put_expected(sink, "one space", found),
-        Wanted::Text { words } => put_expected(sink, words, found),
         Wanted::Number { range } => put_wanted_number(sink, range, found),
-        Wanted::Register => put_register(sink, names, found),
-        Wanted::Name if token.is_empty() => put_expected(sink, "a name", found),
+        Wanted::Register => {
+            put_quoted(sink, "no register ", token, &[": "]);
+            put_names(sink, names);
+        }
         Wanted::Name => put_quoted(sink, "", token, &[NAME_FORM]),
         Wanted::OtherName => put_quoted(sink, "", token, &[NAME_TAKEN]),
         Wanted::Fewer { most } => {
             put_with(sink, "there are no more registers than {}", &[most]);
         }
-        Wanted::End => put_end(sink, found),
+        _ => sink.put(b"a comment stands on a line of its own"),
     }
     Ok(())
-}
-
-/// Puts what stands behind the end of a line.
-fn put_end<W: Write>(sink: &mut Sink<'_, W>, found: &[u8]) {
-    match behind(found, spaces_of(found)) {
-        [b'#', ..] => sink.put(b"a comment stands on a line of its own"),
-        _ => put_expected(sink, "the end of the line", found),
-    }
 }
 
 /// Puts why a line doesn't fit, with its line feed.

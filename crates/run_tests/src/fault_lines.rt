@@ -6,78 +6,103 @@ use reg_world::WorldFault;
 use std::alloc::{AllocError, Global};
 use std::test::Fail;
 
-/// Each fault of a stream, and its line.
-const OF_STREAMS: [(Fault, &str); 5] = [
+macro_rules! line {
+    ($line:expr, $why:ident) => {
+        Fault::Line {
+            line: $line,
+            why: ReadWhy::$why,
+        }
+    };
+}
+
+macro_rules! event {
+    ($at:expr, $fault:ident) => {
+        Fault::Event {
+            at: $at,
+            fault: WorldFault::$fault,
+        }
+    };
+}
+
+macro_rules! document {
+    ($fault:ident) => {
+        Fault::Workload {
+            fault: WorkloadFault::$fault,
+        }
+    };
+    ($fault:ident, $key:ident) => {
+        Fault::Workload {
+            fault: WorkloadFault::$fault { key: Key::$key },
+        }
+    };
+}
+
+macro_rules! script {
+    ($process:expr, $place:expr) => {
+        Fault::Workload {
+            fault: WorkloadFault::Script {
+                process: $process,
+                place: $place,
+            },
+        }
+    };
+}
+
+/// Each fault, of streams, lines, events and documents, and its line.
+const LINES: [(Fault, &str); 44] = [
     (Fault::Unread, "input: read\n"),
     (Fault::TooLong, "input: too long\n"),
     (Fault::NotText, "input: not text\n"),
     (Fault::Output, "output: write\n"),
     (Fault::OutOfMemory, "out of memory\n"),
-];
-
-/// A number of a line, what is wrong with it, and the line that tells it.
-const OF_LINES: [(u64, ReadWhy, &str); 5] = [
-    (1, ReadWhy::Form, "line 1: form\n"),
-    (20, ReadWhy::Range, "line 20: range\n"),
-    (305, ReadWhy::Name, "line 305: name\n"),
-    (4294967296, ReadWhy::Place, "line 4294967296: place\n"),
+    (line!(1, Form), "line 1: form\n"),
+    (line!(20, Range), "line 20: range\n"),
+    (line!(305, Name), "line 305: name\n"),
+    (line!(4294967296, Place), "line 4294967296: place\n"),
     (
-        18446744073709551615,
-        ReadWhy::End,
+        line!(18446744073709551615, End),
         "line 18446744073709551615: end\n",
     ),
-];
-
-/// A number of an event, why it is refused, and the line that tells it.
-const OF_EVENTS: [(usize, WorldFault, &str); 8] = [
-    (0, WorldFault::Failed, "event 0: failed\n"),
+    (event!(0, Failed), "event 0: failed\n"),
     (
-        1048576,
-        WorldFault::TooManyEvents,
+        event!(1048576, TooManyEvents),
         "event 1048576: too many events\n",
     ),
-    (2, WorldFault::NoProcess, "event 2: no process\n"),
-    (10, WorldFault::Busy, "event 10: busy\n"),
-    (99, WorldFault::NoRegister, "event 99: no register\n"),
+    (event!(2, NoProcess), "event 2: no process\n"),
+    (event!(10, Busy), "event 10: busy\n"),
+    (event!(99, NoRegister), "event 99: no register\n"),
     (
-        100,
-        WorldFault::TooManyOperations,
+        event!(100, TooManyOperations),
         "event 100: too many operations\n",
     ),
-    (7, WorldFault::NoFrame, "event 7: no frame\n"),
-    (8, WorldFault::OutOfMemory, "event 8: out of memory\n"),
-];
-
-/// Each fault of a document that names no key, and its line.
-const OF_DOCUMENTS: [(WorkloadFault, &str); 5] = [
-    (WorkloadFault::Toml, "toml\n"),
-    (WorkloadFault::UnknownKey, "unknown key\n"),
-    (
-        WorkloadFault::Script {
-            process: 0,
-            place: 12,
-        },
-        "script 0 12\n",
-    ),
-    (
-        WorkloadFault::Script {
-            process: 255,
-            place: 4294967295,
-        },
-        "script 255 4294967295\n",
-    ),
-    (WorkloadFault::OutOfMemory, "out of memory\n"),
-];
-
-/// Each key, and its name.
-const KEYS: [(Key, &str); 7] = [
-    (Key::Front, "front"),
-    (Key::Registers, "registers"),
-    (Key::Scripts, "scripts"),
-    (Key::Seed, "seed"),
-    (Key::Loss, "loss"),
-    (Key::Repeat, "repeat"),
-    (Key::Budget, "budget"),
+    (event!(7, NoFrame), "event 7: no frame\n"),
+    (event!(8, OutOfMemory), "event 8: out of memory\n"),
+    (document!(Toml), "toml\n"),
+    (document!(UnknownKey), "unknown key\n"),
+    (script!(0, 12), "script 0 12\n"),
+    (script!(255, 4294967295), "script 255 4294967295\n"),
+    (document!(OutOfMemory), "out of memory\n"),
+    (document!(Missing, Front), "missing front\n"),
+    (document!(Kind, Front), "kind front\n"),
+    (document!(Range, Front), "range front\n"),
+    (document!(Missing, Registers), "missing registers\n"),
+    (document!(Kind, Registers), "kind registers\n"),
+    (document!(Range, Registers), "range registers\n"),
+    (document!(Missing, Scripts), "missing scripts\n"),
+    (document!(Kind, Scripts), "kind scripts\n"),
+    (document!(Range, Scripts), "range scripts\n"),
+    (document!(Missing, Seed), "missing seed\n"),
+    (document!(Kind, Seed), "kind seed\n"),
+    (document!(Range, Seed), "range seed\n"),
+    (document!(Missing, Loss), "missing loss\n"),
+    (document!(Kind, Loss), "kind loss\n"),
+    (document!(Range, Loss), "range loss\n"),
+    (document!(Missing, Repeat), "missing repeat\n"),
+    (document!(Kind, Repeat), "kind repeat\n"),
+    (document!(Range, Repeat), "range repeat\n"),
+    (document!(Missing, Budget), "missing budget\n"),
+    (document!(Kind, Budget), "kind budget\n"),
+    (document!(Range, Budget), "range budget\n"),
 ];
 
 /// Whether the line of a fault is this one.
@@ -93,75 +118,11 @@ fn shows(alloc: Global, fault: Fault, line: &str) -> Result<bool, AllocError> {
     Ok(shown.as_str() == line)
 }
 
-/// Whether the line of a fault is this one, and is what the fault shows.
-fn has_line(alloc: Global, fault: Fault, line: &str) -> Result<bool, AllocError> {
-    Ok(shows(alloc, fault, line)? && is_line(alloc, fault, line))
-}
-
-/// Whether a fault that names a key has the line of this word and the key's name.
-fn has_key_line(
-    alloc: Global,
-    fault: WorkloadFault,
-    word: &str,
-    name: &str,
-) -> Result<bool, AllocError> {
-    let line = format!(in alloc; "{word} {name}\n")?;
-    has_line(alloc, Fault::Workload { fault }, line.as_str())
-}
-
-/// Whether the faults that name this key have their lines.
-fn has_key_lines(alloc: Global, key: Key, name: &str) -> Result<bool, AllocError> {
-    Ok(
-        has_key_line(alloc, WorkloadFault::Missing { key }, "missing", name)?
-            && has_key_line(alloc, WorkloadFault::Kind { key }, "kind", name)?
-            && has_key_line(alloc, WorkloadFault::Range { key }, "range", name)?,
-    )
-}
-
 #[test]
-fn faults_of_streams_have_their_lines(rt: HostRuntime) -> Result<(), Fail> {
-    for (fault, line) in &OF_STREAMS {
-        assert!(rt; has_line(rt.alloc(), *fault, line)?);
-    }
-    Ok(())
-}
-
-#[test]
-fn faults_of_lines_have_their_lines(rt: HostRuntime) -> Result<(), Fail> {
-    for (number, why, line) in &OF_LINES {
-        let fault = Fault::Line {
-            line: *number,
-            why: *why,
-        };
-        assert!(rt; has_line(rt.alloc(), fault, line)?);
-    }
-    Ok(())
-}
-
-#[test]
-fn faults_of_events_have_their_lines(rt: HostRuntime) -> Result<(), Fail> {
-    for (at, fault, line) in &OF_EVENTS {
-        let fault = Fault::Event {
-            at: *at,
-            fault: *fault,
-        };
-        assert!(rt; has_line(rt.alloc(), fault, line)?);
-    }
-    Ok(())
-}
-
-#[test]
-fn faults_of_documents_have_their_lines(rt: HostRuntime) -> Result<(), Fail> {
-    for (fault, line) in &OF_DOCUMENTS {
-        assert!(rt; has_line(rt.alloc(), Fault::Workload { fault: *fault }, line)?);
-    }
-    Ok(())
-}
-
-#[test]
-fn faults_of_keys_have_their_lines(rt: HostRuntime) -> Result<(), Fail> {
-    for (key, name) in &KEYS {
-        assert!(rt; has_key_lines(rt.alloc(), *key, name)?);
+fn faults_have_their_lines(rt: HostRuntime) -> Result<(), Fail> {
+    for (fault, line) in &LINES {
+        assert!(rt; is_line(rt.alloc(), *fault, line), "{line}");
+        assert!(rt; shows(rt.alloc(), *fault, line)?, "{line}");
     }
     Ok(())
 }

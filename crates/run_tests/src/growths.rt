@@ -4,7 +4,7 @@ use crate::world_rows::{LINEAR, LOCAL_READ, LOCAL_WRITE, Row};
 use refusing::{Trial, refusals};
 use reg_base::{OpId, Shape};
 use reg_front::{Front, FrontEnd, Linear, LocalRead, LocalWrite};
-use reg_history::{CheckFault, History, Point, check_points, check_serial};
+use reg_history::check_serial;
 use reg_world::{Event, RunFault, World, WorldFault};
 use std::alloc::{AllocError, Allocator, Global};
 use std::test::Fail;
@@ -160,54 +160,12 @@ impl Trial for Steps {
     }
 }
 
-/// A run of all events at once, and then its witness, or with a real-time front end its points and both checks.
+/// A run of all events at once, and then its witness.
 #[derive(Clone, Copy)]
 struct Run {
     front: Front,
     processes: u32,
     events: &'static [Event],
-}
-
-/// The order and the points, where both checks say yes. None where one of them wants memory.
-fn judged<A: Allocator + Copy>(
-    alloc: A,
-    ample: Global,
-    history: &History<A>,
-    order: &[OpId],
-    points: &[Point],
-) -> Result<Option<String>, Fail> {
-    let serial = check_serial(alloc, history, order);
-    let pointed = check_points(alloc, history, points);
-    if [serial, pointed].contains(&Err(CheckFault::OutOfMemory)) {
-        return Ok(None);
-    }
-    serial?;
-    pointed?;
-    Ok(Some(format!(in ample; "{order:?} {points:?}")?))
-}
-
-fn judged_with_points<A: Allocator + Copy>(
-    alloc: A,
-    ample: Global,
-    world: &World<Linear, A>,
-    order: &[OpId],
-) -> Result<Option<String>, Fail> {
-    match world.points() {
-        Ok(points) => judged(alloc, ample, world.history(), order, points.as_slice()),
-        Err(_) => Ok(None),
-    }
-}
-
-/// The witness and the points of a run, where both checks say yes. None where memory is wanted.
-fn judged_run<A: Allocator + Copy>(
-    alloc: A,
-    ample: Global,
-    world: &World<Linear, A>,
-) -> Result<Option<String>, Fail> {
-    match world.witness() {
-        Ok(order) => judged_with_points(alloc, ample, world, order.as_slice()),
-        Err(_) => Ok(None),
-    }
 }
 
 /// The run of all events, or None where memory is wanted.
@@ -228,18 +186,8 @@ fn run_at_once<F: FrontEnd, A: Allocator + Copy>(
     }
 }
 
-fn linear_run<A: Allocator + Copy>(
-    alloc: A,
-    ample: Global,
-    run: &Run,
-) -> Result<Option<String>, Fail> {
-    match run_at_once::<Linear, A>(alloc, run)? {
-        Some(world) => judged_run(alloc, ample, &world),
-        None => Ok(None),
-    }
-}
-
-fn local_run<F: FrontEnd, A: Allocator + Copy>(
+/// What the run of all events tells, and its witness. None where memory is wanted.
+fn told_at_once<F: FrontEnd, A: Allocator + Copy>(
     alloc: A,
     ample: Global,
     run: &Run,
@@ -253,9 +201,9 @@ fn local_run<F: FrontEnd, A: Allocator + Copy>(
 impl Trial for Run {
     fn answer<A: Allocator + Copy>(&self, alloc: A, ample: Global) -> Result<Option<String>, Fail> {
         match self.front {
-            Front::Linear => linear_run(alloc, ample, self),
-            Front::LocalRead => local_run::<LocalRead, A>(alloc, ample, self),
-            Front::LocalWrite => local_run::<LocalWrite, A>(alloc, ample, self),
+            Front::Linear => told_at_once::<Linear, A>(alloc, ample, self),
+            Front::LocalRead => told_at_once::<LocalRead, A>(alloc, ample, self),
+            Front::LocalWrite => told_at_once::<LocalWrite, A>(alloc, ample, self),
         }
     }
 }

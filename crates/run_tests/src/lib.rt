@@ -20,8 +20,6 @@ mod interleavings;
 mod large_shapes;
 #[cfg(test)]
 mod limits;
-#[cfg(test)]
-mod lossy_plays;
 pub mod mixed;
 #[cfg(test)]
 mod mixed_runs;

@@ -1,7 +1,7 @@
 //! The limits of a run.
 use part_tests::values::WRITE_FIVE;
 use reg_base::Shape;
-use reg_base::limits::{MOST_EVENTS, MOST_OPERATIONS};
+use reg_base::limits::MOST_OPERATIONS;
 use reg_front::Linear;
 use reg_world::{Event, World, WorldFault};
 use std::alloc::Global;
@@ -21,15 +21,6 @@ fn takes_so_many(world: &mut World<Linear>, event: &Event, count: u32, fault: Wo
         }
     }
     world.step(event) == Err(fault)
-}
-
-#[test]
-fn a_run_has_so_many_events(rt: HostRuntime) -> Result<(), Fail> {
-    let mut world = world_of_one(rt.alloc())?;
-    let tick = Event::Tick { process: 0 };
-    let takes = takes_so_many(&mut world, &tick, MOST_EVENTS, WorldFault::TooManyEvents);
-    assert!(rt; takes && world.events() == MOST_EVENTS);
-    Ok(())
 }
 
 /// Whether a world has so many points.

@@ -2,11 +2,10 @@
 use crate::telling::has_witness;
 use part_tests::values::{READ, WRITE_FIVE, answered, called, id};
 use reg_base::Answer;
-use reg_front::{FrontEnd, Linear, LocalWrite};
-use reg_history::{Entry, check_points, check_serial};
+use reg_front::LocalWrite;
+use reg_history::Entry;
 use reg_workload::{Play, SeedWords, Words, Workload, play_fair, play_seeded};
-use reg_world::World;
-use std::alloc::{AllocError, Global};
+use std::alloc::Global;
 use std::test::Fail;
 
 /// A write and a read at process 0, and a read at process 1.
@@ -45,11 +44,7 @@ fn fair(alloc: Global, lines: &str) -> Result<Play<LocalWrite>, Fail> {
     Ok(play_fair::<LocalWrite, _>(alloc, &work)?)
 }
 
-fn seeded<F: FrontEnd>(alloc: Global, work: &Workload, seed: u64) -> Result<Play<F>, AllocError> {
-    play_seeded(alloc, work, SeedWords::new(seed))
-}
-
-fn has_history<F: FrontEnd>(play: &Play<F>, entries: &[Entry]) -> bool {
+fn has_history(play: &Play<LocalWrite>, entries: &[Entry]) -> bool {
     play.finished && play.world.history().entries() == entries
 }
 
@@ -68,21 +63,9 @@ fn a_fair_play_takes_turns(rt: HostRuntime) -> Result<(), Fail> {
     Ok(())
 }
 
-/// Whether the play is cut off after so many events.
-fn is_cut_off<F: FrontEnd>(play: &Play<F>, budget: u32) -> bool {
-    !play.finished && play.world.events() == budget
-}
-
-#[test]
-fn a_fair_play_keeps_its_budget(rt: HostRuntime) -> Result<(), Fail> {
-    let play = fair(rt.alloc(), "budget = 3\n")?;
-    assert!(rt; is_cut_off(&play, 3) && play.world.history().entries().len() == 4);
-    Ok(())
-}
-
 /// Whether the play of the seed is finished with this history.
 fn gives(alloc: Global, work: &Workload, seed: u64, entries: &[Entry]) -> bool {
-    match seeded::<LocalWrite>(alloc, work, seed) {
+    match play_seeded(alloc, work, SeedWords::new(seed)) {
         Ok(play) => has_history(&play, entries),
         Err(_) => false,
     }
@@ -97,88 +80,6 @@ fn gives_both(alloc: Global, work: &Workload) -> bool {
 fn a_seed_gives_one_play(rt: HostRuntime) -> Result<(), Fail> {
     let work = small(rt.alloc(), LOSSY)?;
     assert!(rt; gives_both(rt.alloc(), &work));
-    Ok(())
-}
-
-fn is_serial(alloc: Global, world: &World<Linear>) -> bool {
-    match world.witness() {
-        Ok(order) => check_serial(alloc, world.history(), order.as_slice()) == Ok(()),
-        Err(_) => false,
-    }
-}
-
-/// Whether the points of the world are a point order of its history.
-pub(crate) fn has_points(alloc: Global, world: &World<Linear>) -> bool {
-    match world.points() {
-        Ok(points) => check_points(alloc, world.history(), points.as_slice()) == Ok(()),
-        Err(_) => false,
-    }
-}
-
-/// Whether the play of the seed is finished. None where one of its orders is wrong.
-fn serial_end(alloc: Global, work: &Workload, seed: u64) -> Option<bool> {
-    match seeded::<Linear>(alloc, work, seed) {
-        Ok(play) => {
-            let is_right = is_serial(alloc, &play.world) && has_points(alloc, &play.world);
-            if is_right { Some(play.finished) } else { None }
-        }
-        Err(_) => None,
-    }
-}
-
-/// Whether some play of ten seeds is finished. None where an order of one is wrong.
-fn serial_ends(alloc: Global, work: &Workload) -> Option<bool> {
-    let mut finished = false;
-    for seed in 0..10 {
-        let end = serial_end(alloc, work, seed)?;
-        finished = finished || end;
-    }
-    Some(finished)
-}
-
-#[test]
-fn seeded_plays_are_serial(rt: HostRuntime) -> Result<(), Fail> {
-    let work = small(rt.alloc(), LOSSY)?;
-    assert!(rt; serial_ends(rt.alloc(), &work) == Some(true));
-    Ok(())
-}
-
-/// Whether the play of the seed is finished within its budget.
-fn is_finished(alloc: Global, work: &Workload, seed: u64) -> bool {
-    match seeded::<Linear>(alloc, work, seed) {
-        Ok(play) => play.finished && play.world.events() < 100_000,
-        Err(_) => false,
-    }
-}
-
-fn all_are_finished(alloc: Global, work: &Workload) -> bool {
-    for seed in 0..10 {
-        if !is_finished(alloc, work, seed) {
-            return false;
-        }
-    }
-    true
-}
-
-#[test]
-fn without_loss_a_play_is_finished(rt: HostRuntime) -> Result<(), Fail> {
-    let work = small(rt.alloc(), "repeat = 50\n")?;
-    assert!(rt; all_are_finished(rt.alloc(), &work));
-    Ok(())
-}
-
-/// Whether the play of the first seed is cut off after so many events.
-fn cuts_off(alloc: Global, work: &Workload, budget: u32) -> bool {
-    match seeded::<LocalWrite>(alloc, work, 0) {
-        Ok(play) => is_cut_off(&play, budget),
-        Err(_) => false,
-    }
-}
-
-#[test]
-fn a_seeded_play_keeps_its_budget(rt: HostRuntime) -> Result<(), Fail> {
-    let work = small(rt.alloc(), "budget = 2\n")?;
-    assert!(rt; cuts_off(rt.alloc(), &work, 2));
     Ok(())
 }
 

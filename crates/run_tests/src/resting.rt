@@ -1,16 +1,13 @@
-//! Worlds brought to rest: behind each event of runs worked by hand, of lossy plays, of large shapes, and at the most events.
-use crate::world_rows::{LINEAR, LOCAL_READ, LOCAL_WRITE, Row};
-use part_tests::values::{READ, WRITE_FIVE, write_of};
+//! Worlds brought to rest: a lost write, as worked by hand, each growth refused, and the most events.
+use part_tests::values::{READ, WRITE_FIVE};
 use refusing::{Trial, refusals};
 use reg_base::Shape;
 use reg_base::limits::MOST_EVENTS;
-use reg_front::{FrontEnd, Linear, LocalRead, LocalWrite};
+use reg_front::Linear;
 use reg_process::Process;
 use reg_runs::{SettleFault, settle};
-use reg_workload::{SeedWords, Words, Workload, play_seeded};
-use reg_world::{Event, PackedWires, RunFault, WireStore, World, WorldFault};
+use reg_world::{Event, RunFault, World, WorldFault};
 use std::alloc::{Allocator, Global};
-use std::process::Abort;
 use std::test::Fail;
 
 macro_rules! take {
@@ -65,7 +62,7 @@ const THREE: [Event; 15] = [
 ];
 
 /// Whether a process has nothing pending, runs nothing, and its copy holds what the other's does.
-fn is_still<F: FrontEnd>(process: &Process<F>, other: &Process<F>, registers: u16) -> bool {
+fn is_still(process: &Process<Linear>, other: &Process<Linear>, registers: u16) -> bool {
     process.pending() == 0
         && !process.busy()
         && (0..registers).all(|register| {
@@ -74,7 +71,7 @@ fn is_still<F: FrontEnd>(process: &Process<F>, other: &Process<F>, registers: u1
 }
 
 /// Whether all processes are still, with equal copies.
-fn is_at_rest<F: FrontEnd, W: WireStore<Global>>(world: &World<F, Global, W>) -> bool {
+fn is_at_rest(world: &World<Linear>) -> bool {
     let Some(first) = world.process(0) else {
         return false;
     };
@@ -91,10 +88,7 @@ fn is_at_rest<F: FrontEnd, W: WireStore<Global>>(world: &World<F, Global, W>) ->
 }
 
 /// Whether a world comes to rest, by as many events as it tells, behind those that it had.
-fn settles<F: FrontEnd, W: WireStore<Global>>(
-    world: &mut World<F, Global, W>,
-    events: &[Event],
-) -> bool {
+fn settles(world: &mut World<Linear>, events: &[Event]) -> bool {
     let Ok(count) = settle(world) else {
         return false;
     };
@@ -119,100 +113,6 @@ fn a_lost_write_is_settled_as_worked_by_hand(rt: HostRuntime) -> Result<(), Fail
     assert!(rt; settles_by(rt.alloc(), 1, &[])?);
     assert!(rt; settles_by(rt.alloc(), 2, TWO.as_slice())?);
     assert!(rt; settles_by(rt.alloc(), 3, THREE.as_slice())?);
-    Ok(())
-}
-
-/// Whether a run settles behind each of its events.
-fn settles_everywhere<F: FrontEnd>(
-    alloc: Global,
-    shape: Shape,
-    events: &[Event],
-) -> Result<bool, Fail> {
-    for count in 0..=events.len() {
-        let first = events.get(..count).unwrap_or(events);
-        let mut world = World::<F>::run(alloc, shape, first)?;
-        if !settles(&mut world, first) {
-            return Ok(false);
-        }
-    }
-    Ok(true)
-}
-
-fn demand<F: FrontEnd>(rt: &(impl Abort + AllocGlobal), rows: &[Row]) -> Result<(), Fail> {
-    for (processes, events, _) in rows {
-        let shape = Shape::new(*processes, 1)?;
-        assert!(rt; settles_everywhere::<F>(rt.alloc(), shape, events)?);
-    }
-    Ok(())
-}
-
-#[test]
-fn runs_worked_by_hand_settle_behind_each_event(rt: HostRuntime) -> Result<(), Fail> {
-    demand::<Linear>(&rt, LINEAR.as_slice())?;
-    demand::<LocalRead>(&rt, LOCAL_READ.as_slice())?;
-    demand::<LocalWrite>(&rt, LOCAL_WRITE.as_slice())
-}
-
-/// Three processes, of whose frames one half is lost.
-const LOSSY: &str = "front = \"local-write\"
-registers = [\"x\", \"y\"]
-scripts = [
-    [\"write x 5\", \"swap y 1\", \"read x\"],
-    [\"swap x 2\", \"write y 7\", \"read y\"],
-    [\"read x\", \"write x 9\", \"swap y 3\"],
-]
-loss = 50
-budget = 500
-";
-
-/// Whether a lossy play settles where it is cut, at an event that its seed picks.
-fn lossy_play_settles<F: FrontEnd>(
-    alloc: Global,
-    work: &Workload,
-    seed: u64,
-) -> Result<bool, Fail> {
-    let play = play_seeded::<F, _, _>(alloc, work, SeedWords::new(seed))?;
-    let events = play.world.accepted();
-    let mut words = SeedWords::new(seed.wrapping_add(1_000));
-    let cut = words.word() as usize % events.len().wrapping_add(1);
-    let first = events.get(..cut).unwrap_or(events);
-    let mut world = World::<F>::run(alloc, work.shape, first)?;
-    Ok(settles(&mut world, first))
-}
-
-#[test]
-fn lossy_plays_settle_where_they_are_cut(rt: HostRuntime) -> Result<(), Fail> {
-    let work = Workload::from_toml(rt.alloc(), LOSSY)?;
-    for seed in 0..200 {
-        assert!(rt; lossy_play_settles::<Linear>(rt.alloc(), &work, seed)?);
-        assert!(rt; lossy_play_settles::<LocalRead>(rt.alloc(), &work, seed)?);
-        assert!(rt; lossy_play_settles::<LocalWrite>(rt.alloc(), &work, seed)?);
-    }
-    Ok(())
-}
-
-/// Whether a world in which the first processes of so many wrote settles.
-fn many_settle<W: WireStore<Global>>(
-    alloc: Global,
-    processes: u8,
-    writers: u8,
-) -> Result<bool, Fail> {
-    let shape = Shape::new(u32::from(processes), 1)?;
-    let mut world = World::<Linear, Global, W>::new(alloc, shape)?;
-    let mut events = Vec::new(alloc);
-    for process in 0..writers {
-        let op = write_of(u64::from(process));
-        let event = Event::Call { process, op };
-        world.step(&event)?;
-        events.push(event)?;
-    }
-    Ok(settles(&mut world, events.as_slice()))
-}
-
-#[test]
-fn large_shapes_settle(rt: HostRuntime) -> Result<(), Fail> {
-    assert!(rt; many_settle::<PackedWires<Global>>(rt.alloc(), 16, 16)?);
-    assert!(rt; many_settle::<PackedWires<Global>>(rt.alloc(), 64, 64)?);
     Ok(())
 }
 

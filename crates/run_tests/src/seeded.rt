@@ -182,7 +182,7 @@ fn are_plain<F: FrontEnd>(alloc: Global, world: &World<F>, ids: &[OpId]) -> bool
 }
 
 /// Whether the witness is the plain list and a serial order.
-pub fn is_right<F: FrontEnd>(alloc: Global, world: &World<F>) -> bool {
+fn is_right<F: FrontEnd>(alloc: Global, world: &World<F>) -> bool {
     match world.witness() {
         Ok(ids) => {
             are_plain(alloc, world, ids.as_slice())

@@ -12,15 +12,6 @@ macro_rules! write_of {
     };
 }
 
-macro_rules! swap_of {
-    ($value:expr) => {
-        Op::Swap {
-            register: 0,
-            value: $value,
-        }
-    };
-}
-
 macro_rules! call {
     ($process:expr, $op:expr) => {
         Event::Call {
@@ -45,144 +36,7 @@ const TICK: Event = Event::Tick { process: 0 };
 /// How many processes, the events, and what the world then tells.
 pub(crate) type Row = (u32, &'static [Event], &'static str);
 
-pub(crate) const LINEAR: [Row; 10] = [
-    // One process answers at once.
-    (
-        1,
-        &[call!(0, WRITE_FIVE), call!(0, READ)],
-        "history: 0 p0 #0 write x 5, 0 p0 #0 done, 1 p0 #1 read x, 1 p0 #1 value 5,
-casts: 1 p0 #0 at 0, 2 p0 #1 at 1,
-reads:
-order: p0 #0, p0 #1,
-p0 clock 2, pending 0, free, x 5
-points: p0 #0 at 0, p0 #1 at 1,
-",
-    ),
-    // A swap answers the old value.
-    (
-        1,
-        &[call!(0, swap_of!(5)), call!(0, swap_of!(6))],
-        "history: 0 p0 #0 swap x 5, 0 p0 #0 value 0, 1 p0 #1 swap x 6, 1 p0 #1 value 5,
-casts: 1 p0 #0 at 0, 2 p0 #1 at 1,
-reads:
-order: p0 #0, p0 #1,
-p0 clock 2, pending 0, free, x 6
-points: p0 #0 at 0, p0 #1 at 1,
-",
-    ),
-    // A write returns when its cast is acknowledged.
-    (
-        2,
-        &[call!(0, WRITE_FIVE), take!(0, 1, 0), take!(1, 0, 1)],
-        "history: 0 p0 #0 write x 5, 2 p0 #0 done,
-casts: 1 p0 #0 at 1,
-reads:
-order: p0 #0,
-p0 clock 3, pending 1, free, x 5
-p1 clock 2, pending 1, free, x 5
-wire 0 1: cast 0 at 1 write x 5, got 1,
-wire 1 0: got 1, ack 0 at 2,
-points: p0 #0 at 1,
-",
-    ),
-    // Nothing is left where all is taken.
-    (
-        2,
-        &[
-            call!(0, WRITE_FIVE),
-            take!(0, 1, 0),
-            take!(1, 0, 1),
-            take!(0, 1, 1),
-            take!(1, 0, 0),
-        ],
-        "history: 0 p0 #0 write x 5, 2 p0 #0 done,
-casts: 1 p0 #0 at 1,
-reads:
-order: p0 #0,
-p0 clock 3, pending 0, free, x 5
-p1 clock 2, pending 0, free, x 5
-wire 0 1: cast 0 at 1 write x 5, got 1,
-wire 1 0: got 1, ack 0 at 2,
-points: p0 #0 at 1,
-",
-    ),
-    // An unfinished write that others delivered stands in the order.
-    (
-        2,
-        &[call!(0, WRITE_FIVE), take!(0, 1, 0), take!(1, 0, 0)],
-        "history: 0 p0 #0 write x 5,
-casts: 1 p0 #0 at 1,
-reads:
-order: p0 #0,
-p0 clock 1, pending 0, busy, x 0
-p1 clock 2, pending 1, free, x 5
-wire 0 1: cast 0 at 1 write x 5,
-wire 1 0: got 1, ack 0 at 2,
-points: p0 #0 at 1,
-",
-    ),
-    // Equal times go by process.
-    (
-        2,
-        &[
-            call!(0, write_of!(1)),
-            call!(1, write_of!(2)),
-            take!(0, 1, 0),
-            take!(1, 0, 0),
-            take!(0, 1, 2),
-        ],
-        "history: 0 p0 #0 write x 1, 1 p1 #0 write x 2, 3 p0 #0 done, 4 p1 #0 done,
-casts: 1 p0 #0 at 2, 1 p1 #0 at 3,
-reads:
-order: p0 #0, p1 #0,
-p0 clock 2, pending 2, free, x 2
-p1 clock 3, pending 2, free, x 2
-wire 0 1: cast 0 at 1 write x 1, got 1, ack 1 at 2,
-wire 1 0: cast 0 at 1 write x 2, got 1, ack 1 at 2, got 2,
-points: p0 #0 at 2, p1 #0 at 3,
-",
-    ),
-    // A repeated frame is dropped.
-    (
-        2,
-        &[
-            call!(0, WRITE_FIVE),
-            take!(0, 1, 0),
-            take!(0, 1, 0),
-            take!(1, 0, 1),
-        ],
-        "history: 0 p0 #0 write x 5, 3 p0 #0 done,
-casts: 1 p0 #0 at 1,
-reads:
-order: p0 #0,
-p0 clock 3, pending 1, free, x 5
-p1 clock 2, pending 1, free, x 5
-wire 0 1: cast 0 at 1 write x 5, got 1,
-wire 1 0: got 1, ack 0 at 2, got 1,
-points: p0 #0 at 1,
-",
-    ),
-    // A frame before its turn is dropped.
-    (
-        2,
-        &[
-            call!(0, write_of!(1)),
-            call!(1, write_of!(2)),
-            take!(0, 1, 0),
-            take!(1, 0, 2),
-            take!(1, 0, 0),
-        ],
-        "history: 0 p0 #0 write x 1, 1 p1 #0 write x 2, 4 p0 #0 done,
-casts: 1 p0 #0 at 2, 1 p1 #0 at 4,
-reads:
-order: p0 #0, p1 #0,
-p0 clock 2, pending 2, free, x 2
-p1 clock 2, pending 2, busy, x 1
-wire 0 1: cast 0 at 1 write x 1, got 0, got 1, ack 1 at 2,
-wire 1 0: cast 0 at 1 write x 2, got 1, ack 1 at 2,
-points: p0 #0 at 2, p1 #0 at 4,
-",
-    ),
+pub(crate) const LINEAR: [Row; 2] = [
     // A tick puts the frames again.
     (
         2,
@@ -229,21 +83,7 @@ points: p0 #0 at 4, p1 #0 at 6,
     ),
 ];
 
-pub(crate) const LOCAL_READ: [Row; 2] = [
-    // An unfinished swap that a read saw stands in the order.
-    (
-        2,
-        &[call!(0, swap_of!(5)), take!(0, 1, 0), call!(1, READ)],
-        "history: 0 p0 #0 swap x 5, 2 p1 #0 read x, 2 p1 #0 value 5,
-casts: 1 p0 #0 at 1,
-reads: p1 #0 place 1,
-order: p0 #0, p1 #0,
-p0 clock 1, pending 1, busy, x 0
-p1 clock 2, pending 1, free, x 5
-wire 0 1: cast 0 at 1 swap x 5,
-wire 1 0: got 1, ack 0 at 2,
-",
-    ),
+pub(crate) const LOCAL_READ: [Row; 1] = [
     // A local read may answer an older value.
     (
         3,
@@ -272,45 +112,7 @@ wire 2 1: ack 0 at 2,
     ),
 ];
 
-pub(crate) const LOCAL_WRITE: [Row; 4] = [
-    // A swap waits for its delivery.
-    (
-        2,
-        &[
-            call!(0, WRITE_FIVE),
-            call!(0, swap_of!(6)),
-            take!(0, 1, 0),
-            take!(1, 0, 1),
-        ],
-        "history: 0 p0 #0 write x 5, 0 p0 #0 done, 1 p0 #1 swap x 6, 3 p0 #1 value 5,
-casts: 1 p0 #0 at 2, 2 p0 #1 at 3,
-reads:
-order: p0 #0, p0 #1,
-p0 clock 3, pending 2, free, x 6
-p1 clock 2, pending 1, free, x 5
-wire 0 1: cast 0 at 1 write x 5, cast 1 at 2 swap x 6, got 1,
-wire 1 0: got 1, ack 0 at 2,
-",
-    ),
-    // A local read waits for own writes.
-    (
-        2,
-        &[
-            call!(0, WRITE_FIVE),
-            call!(0, READ),
-            take!(0, 1, 0),
-            take!(1, 0, 1),
-        ],
-        "history: 0 p0 #0 write x 5, 0 p0 #0 done, 1 p0 #1 read x, 3 p0 #1 value 5,
-casts: 1 p0 #0 at 2,
-reads: p0 #1 place 1,
-order: p0 #0, p0 #1,
-p0 clock 3, pending 1, free, x 5
-p1 clock 2, pending 1, free, x 5
-wire 0 1: cast 0 at 1 write x 5, got 1,
-wire 1 0: got 1, ack 0 at 2,
-",
-    ),
+pub(crate) const LOCAL_WRITE: [Row; 2] = [
     // A finished write that nobody delivered stands last.
     (
         2,

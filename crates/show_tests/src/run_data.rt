@@ -1,8 +1,9 @@
 //! The data and the page of runs, with what was worked out by hand from the definitions.
+use crate::shown::{goes_out_in_part, tells};
 use crate::values::shown;
 use reg_page::head::HEAD;
 use reg_page::tail::TAIL;
-use reg_show::{Showing, show_text};
+use reg_show::Showing;
 use serde_json::Value;
 use std::alloc::Global;
 use std::test::Fail;
@@ -157,15 +158,6 @@ const NOTED_DATA: &str = r##"{"version":1,
 ]}
 "##;
 
-/// Whether a text is shown by this status, output and fault.
-fn tells(alloc: Global, showing: Showing, text: &str, told: (u8, &str, &str)) -> bool {
-    let (status, output, errors) = shown(alloc, showing, text.as_bytes());
-    let (wanted, written, fault) = told;
-    status == wanted
-        && output.as_slice() == written.as_bytes()
-        && errors.as_slice() == fault.as_bytes()
-}
-
 #[test]
 fn data_is_that_worked_by_hand(rt: HostRuntime) {
     for (text, wanted) in [(WRITE, WRITE_DATA), (HELD, HELD_DATA), (NOTED, NOTED_DATA)] {
@@ -254,31 +246,11 @@ fn a_page_is_its_head_the_data_and_its_tail(rt: HostRuntime) {
     }
 }
 
-/// Whether data for which there is so much room goes out in part.
-fn goes_out_in_part(alloc: Global, room: usize) -> bool {
-    let mut buffer = [0u8; 200];
-    if room > buffer.len() {
-        return false;
-    }
-    let mut writer = &mut buffer[..room];
-    let (mut reader, mut errors) = (WRITE.as_bytes(), Vec::new(alloc));
-    let status = show_text(
-        alloc,
-        alloc,
-        Showing::Data,
-        &mut reader,
-        &mut writer,
-        &mut errors,
-    );
-    status == 1
-        && errors.as_slice() == "output: write\n".as_bytes()
-        && WRITE_DATA.as_bytes().starts_with(&buffer[..room])
-}
-
 #[test]
 fn data_whose_writer_is_full_goes_out_in_part(rt: HostRuntime) {
     for room in [0usize, 1, 99, 200] {
-        assert!(rt; goes_out_in_part(rt.alloc(), room), "{room}");
+        let is_part = goes_out_in_part(rt.alloc(), Showing::Data, WRITE, WRITE_DATA, room);
+        assert!(rt; is_part, "{room}");
     }
 }
 

@@ -134,31 +134,31 @@ fn traces_are_those_worked_by_hand(rt: HostRuntime) {
     }
 }
 
-/// Whether a trace for which there is so much room goes out in part.
-fn goes_out_in_part(alloc: Global, room: usize) -> bool {
+/// Whether what is shown of a text goes out in part where there is so much room for it.
+pub(crate) fn goes_out_in_part(
+    alloc: Global,
+    showing: Showing,
+    text: &str,
+    whole: &str,
+    room: usize,
+) -> bool {
     let mut buffer = [0u8; 200];
     if room > buffer.len() {
         return false;
     }
     let mut writer = &mut buffer[..room];
-    let (mut reader, mut errors) = (WRITE.as_bytes(), Vec::new(alloc));
-    let status = show_text(
-        alloc,
-        alloc,
-        Showing::Trace,
-        &mut reader,
-        &mut writer,
-        &mut errors,
-    );
+    let (mut reader, mut errors) = (text.as_bytes(), Vec::new(alloc));
+    let status = show_text(alloc, alloc, showing, &mut reader, &mut writer, &mut errors);
     status == 1
         && errors.as_slice() == "output: write\n".as_bytes()
-        && WRITE_TRACE.as_bytes().starts_with(&buffer[..room])
+        && whole.as_bytes().starts_with(&buffer[..room])
 }
 
 #[test]
 fn a_trace_whose_writer_is_full_goes_out_in_part(rt: HostRuntime) {
     for room in [0usize, 1, 99, 200] {
-        assert!(rt; goes_out_in_part(rt.alloc(), room), "{room}");
+        let is_part = goes_out_in_part(rt.alloc(), Showing::Trace, WRITE, WRITE_TRACE, room);
+        assert!(rt; is_part, "{room}");
     }
 }
 

@@ -4,58 +4,13 @@ use crate::live::parcels::carry;
 use crate::values::{read, write};
 use reg_base::limits::MOST_EVENTS;
 use reg_front::{Linear, LocalWrite};
-use reg_live::{Beat, Honest, LiveFault, NoGate, Parts, Pass, Rough};
+use reg_live::{Honest, LiveFault, NoGate, Parts, Pass, Rough};
 use reg_workload::SeedWords;
 use std::alloc::Global;
 use std::process::Abort;
 use std::sync::Wait;
 use std::thread;
 use std::thread::{JoinHandle, Threads};
-
-/// How many looks there are in an hour, 10 milliseconds apart.
-const HOUR: u32 = 360_000;
-
-/// How many ticks a link makes in so many looks that find it silent.
-fn ticks_in(looks: u32) -> u32 {
-    let mut beat = Beat::new();
-    let mut ticks = 0u32;
-    for _look in 0..looks {
-        if beat.look(Some(7), false) {
-            ticks = ticks.wrapping_add(1);
-        }
-    }
-    ticks
-}
-
-#[test]
-fn a_stopped_peer_costs_few_ticks(rt: HostRuntime) {
-    let ticks = 15u32.wrapping_mul(ticks_in(HOUR));
-    assert!(rt; 15 * 3_600 < ticks && ticks < 100_000);
-}
-
-/// The looks that make the first ticks, where the first one sees the frame.
-const LOOKS: [u32; 9] = [1, 3, 7, 15, 31, 63, 127, 227, 327];
-
-#[test]
-fn ticks_come_later_and_later(rt: HostRuntime) {
-    let mut beat = Beat::new();
-    assert!(rt; !beat.look(None, false) && !beat.look(Some(7), false));
-    for look in 1..328u32 {
-        assert!(rt; beat.look(Some(7), false) == LOOKS.contains(&look));
-    }
-}
-
-#[test]
-fn an_answer_and_mail_put_off_a_tick(rt: HostRuntime) {
-    let mut beat = Beat::new();
-    let first = beat.look(Some(7), false);
-    let mail = beat.look(Some(7), true);
-    let second = beat.look(Some(7), false);
-    let answered = beat.look(Some(8), false);
-    let again = beat.look(Some(8), false);
-    let none = beat.look(None, false);
-    assert!(rt; !first && !mail && second && !answered && again && !none);
-}
 
 /// How many sections the journal has.
 fn length_of(rt: &impl Wait, pass: &mut Pass<LocalWrite, NoGate>) -> Option<u64> {
