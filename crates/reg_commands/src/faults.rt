@@ -8,13 +8,21 @@ use thiserror::Error;
 /// Why a command gives no answer. As text, the line of it on standard error.
 #[derive(Clone, Copy, Debug, PartialEq, Eq, Error)]
 pub enum Fault {
+    /// A read of the input failed.
     Unread,
+    /// The input has more bytes than `limits::LONGEST_INPUT`.
     TooLong,
+    /// The input is not UTF-8.
     NotText,
+    /// A write or a flush of the output failed.
     Output,
+    /// The schedule or report is refused at this line, counted from 1.
     Line { line: u64, why: ReadWhy },
+    /// The event at this place, from 0, is the first that is refused.
     Event { at: usize, fault: WorldFault },
+    /// The document says no workload.
     Workload { fault: WorkloadFault },
+    /// There was no memory for the answer.
     OutOfMemory,
 }
 

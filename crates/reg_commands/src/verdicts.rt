@@ -15,12 +15,19 @@ use std::io::Write;
 /// What is wrong with an order. A place counts from 0.
 #[derive(Clone, Copy)]
 pub enum Reason {
+    /// An id is neither that of a finished operation nor that of a called one that may change the memory.
     Unknown,
+    /// An id stands twice.
     Twice,
+    /// A finished operation is not there.
     Missing,
+    /// An id stands after one of its process with a larger number.
     OwnOrder,
+    /// The operation at this place has another answer than the memory gives.
     Answer { place: usize },
+    /// The point at this place is before its call or after its answer.
     Outside { place: usize },
+    /// The point at this place is below the one before it.
     Falling { place: usize },
 }
 

@@ -48,7 +48,7 @@ fn least(next: u64, counts: &[u64]) -> u64
     least
 }
 
-/// The same of counts that are all at least the bound. Where the slowest process still has this bound, nothing is searched.
+/// The least of the counts, which are all at least the bound. Where the slowest process still has this bound, nothing is searched.
 fn least_again(next: u64, counts: &[u64], bound: u64, slowest: &mut usize) -> u64
     requires { bound ≤ least_from next counts.now }
     ensures { result ≡ least_from next counts.now }
@@ -146,7 +146,7 @@ impl<A: Allocator + Copy> Outboxes<A> {
         Ok(())
     }
 
-    /// The same of a count that is not ahead. The counts are searched for the least only where the least one
+    /// Notes how many bodies a process has accepted, where that is not ahead. The counts are searched for the least only where the least one
     /// rises, and no other has it.
     fn count(&mut self, from: u8, count: u64)
         requires within { from < length self.old.counts }

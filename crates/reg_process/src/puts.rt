@@ -68,7 +68,7 @@ fn put_one<A: Allocator + Copy>(
     put_frame(frames, to, Frame::Numbered { number, body })
 }
 
-/// The same for all processes, by rising number.
+/// Puts a body, and the counts that are owed, for all other processes, by rising number.
 fn put_all<A: Allocator + Copy>(
     frames: &mut Vec<Put, A>,
     processes: u8,
@@ -164,7 +164,7 @@ fn resend_one<A: Allocator + Copy>(
     Ok(())
 }
 
-/// The same for all other processes, in an empty list. Memory is wanting only where a frame is put.
+/// Puts the first unacknowledged frames for all other processes again, in an empty list. It takes memory only where a frame is put.
 pub fn resend_all<A: Allocator + Copy>(
     frames: &mut Vec<Put, A>,
     outboxes: &Outboxes<A>,

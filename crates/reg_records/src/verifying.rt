@@ -28,7 +28,7 @@ pub fn verify<F: FrontEnd, A: Allocator + Copy>(
     verify_in(alloc, shape, order, logs, receipts)
 }
 
-/// The same, in a world that keeps its wires in a store of the caller's choice.
+/// Checks records as `verify` does, in a world that keeps its wires in a store of the caller's choice.
 pub fn verify_in<F: FrontEnd, A: Allocator + Copy, W: WireStore<A>>(
     alloc: A,
     shape: Shape,

@@ -38,7 +38,7 @@ fn parsed(bytes: &[u8]) -> Option<u64>
     }
 }
 
-/// The same of so few bytes that the number fits, with no test of that.
+/// The number that the bytes spell as a numeral, where they are so few that it fits into 64 bits.
 #[inline]
 fn parsed_short(bytes: &[u8]) -> Option<u64>
     requires plain { IsPlain bytes.now }

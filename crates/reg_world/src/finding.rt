@@ -106,7 +106,7 @@ fn take_step(frame: Result<Frame, WorldFault>, from: u8, to: u8) -> Result<(u8, 
     Ok((to, Step::Take { from, frame }))
 }
 
-/// The same, of an event that isn't one too many.
+/// The step that an event makes, or the first fault that applies, where the event isn't one too many.
 // (in line: it runs at each event, and a step handed back by a call would be copied once more)
 #[inline(always)]
 fn found_step<F: FrontEnd, A: Allocator + Copy, W: WireStore<A>>(

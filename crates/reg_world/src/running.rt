@@ -144,7 +144,7 @@ impl<F: FrontEnd, A: Allocator + Copy, W: WireStore<A>> World<F, A, W> {
         Ok(())
     }
 
-    /// The same, with the reply that the event gives: its answer is the one that the history grows by.
+    /// Makes an event as `step` does, and gives the reply of it: its answer is the one that the history grows by.
     pub fn step_reply(&mut self, event: &Event) -> Result<Option<Reply>, WorldFault>
         ensures made { MatchResult result (λ reply. Accepts F.start self.old event.now self.new × (reply ≡ reply_in F.start self.old event.now)) (λ fault. Refuses F.start self.old event.now fault self.new) }
         ensures history { MatchResult result (λ reply. Grows (length self.old.accepted) self.old.history event.now reply self.new.history) (λ _. self.new.history ≡ self.old.history) }
@@ -177,7 +177,7 @@ impl<F: FrontEnd, A: Allocator + Copy, W: WireStore<A>> World<F, A, W> {
         World::run_owned(alloc, shape, events)
     }
 
-    /// The same, with the list itself kept as that of the accepted events, so that it takes no memory for a copy.
+    /// Runs events as `run` does, and keeps the list itself as that of the accepted events, so that it takes no memory for a copy.
     pub fn run_owned(
         alloc: A,
         shape: Shape,
