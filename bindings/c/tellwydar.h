@@ -135,7 +135,8 @@ uint32_t tellwydar_world_new(uint32_t front, uint32_t processes, uint32_t regist
  * swap. What isn't of the event isn't looked at. A refused event changes nothing, but want of memory stops the world for good. */
 uint32_t tellwydar_world_step(struct tellwydar_world *handle, uint32_t kind, uint8_t process, uint32_t number, uint8_t from,
                               uint64_t value);
-/* Asks the world for a serial order of its history and, under `linear`, for a point order: 0, or TELLWYDAR_NO_MEMORY. */
+/* Asks the world for a serial order of its history and, under `linear`, for a point order: 0, or TELLWYDAR_NO_MEMORY, and then the orders
+ * that were asked for before are kept. */
 uint32_t tellwydar_world_arrange(struct tellwydar_world *handle);
 
 /* What to look at. An entry, an id or a point is the one at the place `at`; what isn't there is 0. */

@@ -1,10 +1,12 @@
 //! Tests of running clusters: passes and records worked by hand, stations that are held, that stop and that are lied to, rough
 //! roads, limits, and clusters that run.
+mod calls;
 mod closes;
 mod closing;
 mod crews;
 mod gates;
 mod limits;
+mod looks;
 mod pacing;
 mod parcels;
 mod passes;
@@ -14,3 +16,4 @@ mod roads;
 mod running;
 mod scripts;
 mod stops;
+mod watches;

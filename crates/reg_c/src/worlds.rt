@@ -69,12 +69,12 @@ pub unsafe extern "C" fn tellwydar_world_step(
 }
 
 /// Asks the world behind the handle for its serial order and, where its front end has one, its point order. Where the result isn't 0,
-/// memory was refused.
+/// memory was refused, and the orders that were asked for before are kept.
 #[unsafe(no_mangle)]
 pub unsafe extern "C" fn tellwydar_world_arrange(handle: *mut u8) -> u32
     ghost held: { Held }
     requires* { sem 𝓛 (lies_at the_row full_share handle held) }
-    ensures* { ∃ₛ (λ (after : Held). sem 𝓛 (lies_at the_row full_share handle after) ∗ ⌜ (after.world ≡ held.world) × (after.reply ≡ held.reply) × (result ≡ 0 → HasOrders after.world after.order.items after.points.items) × (0 < result → result ≡ fault_code WorldFault.OutOfMemory) ⌝) }
+    ensures* { ∃ₛ (λ (after : Held). sem 𝓛 (lies_at the_row full_share handle after) ∗ ⌜ (after.world ≡ held.world) × (after.reply ≡ held.reply) × (result ≡ 0 → HasOrders after.world after.order.items after.points.items) × (0 < result → result ≡ fault_code WorldFault.OutOfMemory) × (0 < result → after ≡ held) ⌝) }
 {
     arrange(&mut *(handle as *mut Held))
 }

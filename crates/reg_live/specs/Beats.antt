@@ -1,5 +1,6 @@
 -- When frames are put again: what the pacer goes by, a pure function of what it saw.
-use Rattle.std.specs.Prelude.{ℕ, Bool, false, ◌==◌, ◌&&◌, ◌||◌, ◌+◌, not, Option, Some, None, nat_lt, if◌then◌else◌}
+use Rattle.std.specs.Prelude.{ℕ, ◌≡◌, ◌<◌, Bool, true, false, ◌==◌, ◌&&◌, ◌||◌, ◌+◌, not, List, length, Option, Some, None, slice_get, nat_lt, if◌then◌else◌}
+use Rattle.reg_base.specs.declared.limits.TheConstants.{MOST_PROCESSES}
 use Rattle.reg_live.specs.declared.beats.Beat.{Beat}
 
 -- a link that was never looked at
@@ -29,3 +30,16 @@ watched b first mail =
 -- whether the look makes a tick
 abbrev pub ticks_at : Beat → Option ℕ → Bool → Bool
 ticks_at b first mail = is_same b.first first && (not mail && is_due (next_look b.silent))
+
+-- A look at a link, with mail at one of its ends or without: where it makes a tick, one is due.
+pub record IsLooked (first : Option ℕ) (old new : Beat) (due : Bool) : Type 0 where
+  pub mail : Bool
+  pub beat : new ≡ watched old first mail
+  pub tick : ticks_at old first mail ≡ true → due ≡ true
+
+-- A look at every link of a station, by the first frame to each process that isn't acknowledged. A tick is due exactly where one of
+-- them makes it.
+pub record AreLooked (firsts : ℕ → Option ℕ) (old new : List Beat) (due : Bool) : Type 0 where
+  pub each : (p : ℕ) (before : Beat) → p < MOST_PROCESSES → slice_get old p ≡ Some before
+      → (after : Beat) × (slice_get new p ≡ Some after) × IsLooked (firsts p) before after due
+  pub cause : due ≡ true → (p : ℕ) × (before : Beat) × (mail : Bool) × (slice_get old p ≡ Some before) × (ticks_at before (firsts p) mail ≡ true)

@@ -1,6 +1,6 @@
 //! How far the links of a station have come.
 ghost use Rattle.std.specs.Prelude.{◌≡◌, replicate, IfOk};
-ghost use Rattle.reg_live.specs.Progress.{Reached, first_unacknowledged};
+ghost use Rattle.reg_live.specs.Progress.{Reached, first_unacknowledged, queued_by, queued_by_all, with_puts, with_step};
 
 use reg_frames::Frame;
 use reg_process::{Put, Step};
@@ -23,6 +23,27 @@ impl<A: Allocator + Copy> Model for Links<A> {
     ghost view = { λ l. record { queued = l.queued; counts = l.counts.items } };
 }
 
+/// How many bodies a frame says are queued, where so many were known to be.
+fn queued_by(known: u64, frame: &Frame) -> u64
+    ensures { result ≡ queued_by known frame.now }
+{
+    match *frame {
+        Frame::Numbered { number, body: _ } => known.max(number.saturating_add(1)),
+        Frame::Got { count: _ } => known,
+    }
+}
+
+/// The same of each of some frames in turn.
+fn queued_by_all(known: u64, frames: &[Put]) -> u64
+    ensures { result ≡ queued_by_all known frames.now }
+{
+    let mut queued = known;
+    for put in frames {
+        queued = queued_by(queued, &put.frame);
+    }
+    queued
+}
+
 impl<A: Allocator + Copy> Links<A> {
     /// Links to so many processes, on which nothing was queued.
     pub(crate) fn new(alloc: A, processes: u32) -> Result<Links<A>, AllocError>
@@ -36,25 +57,26 @@ impl<A: Allocator + Copy> Links<A> {
     }
 
     /// Notes the step of a section: a count that is taken says how much its sender has accepted.
-    pub(crate) fn note_step(&mut self, step: &Step) {
+    pub(crate) fn note_step(&mut self, step: &Step)
+        ensures { self.new ≡ with_step self.old step.now }
+    {
         if let Step::Take {
             from,
             frame: Frame::Got { count },
         } = *step
         {
-            if let Some(known) = self.counts.get_mut(usize::from(from)) {
-                *known = count.max(*known);
+            let from = usize::from(from);
+            if from < self.counts.len() && self.counts[from] < count {
+                self.counts[from] = count;
             }
         }
     }
 
     /// Notes the frames of a section: a number says that all bodies up to its own are queued.
-    pub(crate) fn note_frames(&mut self, frames: &[Put]) {
-        for put in frames {
-            if let Frame::Numbered { number, body: _ } = put.frame {
-                self.queued = self.queued.max(number.saturating_add(1));
-            }
-        }
+    pub(crate) fn note_frames(&mut self, frames: &[Put])
+        ensures { self.new ≡ with_puts self.old frames.now }
+    {
+        self.queued = queued_by_all(self.queued, frames);
     }
 
     /// The number of the first frame to a process that it hasn't acknowledged, where there is one.

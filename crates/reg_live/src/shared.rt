@@ -60,6 +60,14 @@ pub(crate) fn new_shared<F: FrontEnd, G: Drop>(
     })
 }
 
+impl<F: FrontEnd> Desk<F> {
+    /// Lets no caller wait here any more, and wakes the one that does.
+    fn end_waiting<R: Wait>(&self, rt: &R) {
+        let ended = self.station.lock(rt).end_waiting();
+        ended.wake(&self.changed);
+    }
+}
+
 /// Whether a section gave an answer.
 fn is_answered(made: &Result<Section, LiveFault>) -> bool {
     match made {
@@ -109,8 +117,7 @@ impl<F: FrontEnd, G: Gate> Shared<F, G> {
     /// Lets no caller wait any more: one that waits at a station, or comes to wait there later, is told that it failed.
     pub(crate) fn end_waiting<R: Wait>(&self, rt: &R) {
         for desk in &self.desks {
-            desk.station.lock(rt).end_waiting();
-            desk.changed.notify_all();
+            desk.end_waiting(rt);
         }
     }
 }

@@ -7,20 +7,29 @@ use std::thread;
 use std::thread::{JoinHandle, Threads};
 use std::time::Clock;
 
+/// A thread of a cluster. It is joined only behind Stop (`Halted::join`).
+#[derive(Drop)]
+pub(crate) struct Worker<T> {
+    handle: JoinHandle<T>,
+}
+
 /// Starts a courier over the road.
 fn carry<
     F: FrontEnd + Send + Sync + 'static,
     G: Gate + Drop + Send + Sync + 'static,
     P: Road + Drop + Send + Sync + 'static,
     R: Threads + Wait + Copy + Send + Sync + 'static,
->(rt: R, courier: Courier<F, G>, road: Arc<P>) -> Result<JoinHandle<Courier<F, G>>, AllocError> {
+>(rt: R, courier: Courier<F, G>, road: Arc<P>) -> Result<Worker<Courier<F, G>>, AllocError> {
     let mut courier = courier;
     let started = thread::spawn(&rt, move || {
         let over: &P = &road;
         courier.run(&rt, over);
         courier
     });
-    started.map_err(|_| AllocError)
+    match started {
+        Ok(handle) => Ok(Worker { handle }),
+        Err(_) => Err(AllocError),
+    }
 }
 
 /// Starts the pacer.
@@ -28,13 +37,16 @@ pub(crate) fn pace<
     F: FrontEnd + Send + Sync + 'static,
     G: Gate + Drop + Send + Sync + 'static,
     R: Threads + Wait + Clock + Copy + Send + Sync + 'static,
->(rt: R, pacer: Pacer<F, G>) -> Result<JoinHandle<Pacer<F, G>>, AllocError> {
+>(rt: R, pacer: Pacer<F, G>) -> Result<Worker<Pacer<F, G>>, AllocError> {
     let mut pacer = pacer;
     let started = thread::spawn(&rt, move || {
         pacer.run(&rt);
         pacer
     });
-    started.map_err(|_| AllocError)
+    match started {
+        Ok(handle) => Ok(Worker { handle }),
+        Err(_) => Err(AllocError),
+    }
 }
 
 /// Starts each courier. Those that were started are in the list, also where one could not be.
@@ -45,7 +57,7 @@ pub(crate) fn carry_all<
     R: Threads + Wait + Copy + Send + Sync + 'static,
 >(
     rt: R,
-    handles: &mut Vec<JoinHandle<Courier<F, G>>>,
+    handles: &mut Vec<Worker<Courier<F, G>>>,
     couriers: Vec<Courier<F, G>>,
     road: &Arc<P>,
 ) -> Result<(), AllocError> {
@@ -56,21 +68,35 @@ pub(crate) fn carry_all<
     Ok(())
 }
 
+/// That Stop was sent to all threads of a cluster, so that they end.
+#[derive(Drop)]
+pub(crate) struct Halted(());
+
 /// Sends Stop until memory is there for it.
-pub(crate) fn halt<F: FrontEnd, G: Gate, R: Wait>(rt: &R, cluster: &Cluster<F, G>) {
+pub(crate) fn halt<F: FrontEnd, G: Gate, R: Wait>(rt: &R, cluster: &Cluster<F, G>) -> Halted {
     for _ in rt.forever() {
         if cluster.stop(rt).is_ok() {
-            return;
+            break;
         }
     }
+    Halted(())
 }
 
-/// Waits until the couriers are done.
-pub(crate) fn join_couriers<F: FrontEnd, G: Gate + Drop, R: Threads + Wait>(
-    rt: &R,
-    couriers: Vec<JoinHandle<Courier<F, G>>>,
-) {
-    for courier in couriers {
-        drop(courier.join(rt));
+impl Halted {
+    /// Waits until a thread is done.
+    pub(crate) fn join<T, R: Threads + Wait>(&self, rt: &R, worker: Worker<T>) -> T {
+        let Worker { handle } = worker;
+        handle.join(rt)
+    }
+
+    /// Waits until the couriers are done.
+    pub(crate) fn join_all<F: FrontEnd, G: Gate + Drop, R: Threads + Wait>(
+        &self,
+        rt: &R,
+        couriers: Vec<Worker<Courier<F, G>>>,
+    ) {
+        for courier in couriers {
+            drop(self.join(rt, courier));
+        }
     }
 }

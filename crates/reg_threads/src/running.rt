@@ -2,7 +2,7 @@
 ghost use Rattle.std.specs.Prelude.{◌≡◌, IfOk, map};
 ghost use Rattle.reg_live.specs.Passes.{IsLived, AreOneEach, AreOwn, AreNew, RespectTime, RespectUpdates};
 
-use crate::crews::{carry_all, halt, join_couriers, pace};
+use crate::crews::{Worker, carry_all, halt, pace};
 use reg_base::Shape;
 use reg_front::FrontEnd;
 use reg_live::{
@@ -12,7 +12,7 @@ use reg_world::WireStore;
 use std::alloc::{AllocError, Global};
 use std::marker::Model;
 use std::sync::{Arc, Wait};
-use std::thread::{JoinHandle, Threads};
+use std::thread::Threads;
 use std::time::Clock;
 use thiserror::Error;
 
@@ -39,8 +39,8 @@ impl From<AllocError> for StartFault {
 #[derive(Drop)]
 pub struct Running<F: FrontEnd, G> {
     cluster: Cluster<F, G>,
-    couriers: Vec<JoinHandle<Courier<F, G>>>,
-    pacer: JoinHandle<Pacer<F, G>>,
+    couriers: Vec<Worker<Courier<F, G>>>,
+    pacer: Worker<Pacer<F, G>>,
 }
 
 impl<F: FrontEnd, G> Model for Running<F, G> {
@@ -94,9 +94,9 @@ impl<F: FrontEnd, G: Gate + Drop> Running<F, G> {
             couriers,
             pacer,
         } = self;
-        halt(rt, &cluster);
-        join_couriers(rt, couriers);
-        let pacer = pacer.join(rt);
+        let halted = halt(rt, &cluster);
+        halted.join_all(rt, couriers);
+        let pacer = halted.join(rt, pacer);
         close_in(rt, alloc, cluster, passes, Vec::new(alloc), pacer)
     }
 }
@@ -121,9 +121,9 @@ fn run_parts<
     let mut carriers = Vec::new(alloc);
     let started = carry_all(rt, &mut carriers, couriers, road);
     if started.is_err() {
-        halt(&rt, &cluster);
-        join_couriers(&rt, carriers);
-        drop(pacer.join(&rt));
+        let halted = halt(&rt, &cluster);
+        halted.join_all(&rt, carriers);
+        drop(halted.join(&rt, pacer));
         return Err(StartFault::OutOfMemory);
     }
     Ok(Running {

@@ -1,5 +1,6 @@
 //! Stations that are held in a section while others go on.
 use crate::live::crews::{answered, end, last_of, parts_of, put_back, shut, start};
+use crate::live::watches::Watch;
 use crate::values::{read, write};
 use reg_base::Op;
 use reg_front::LocalWrite;
@@ -148,6 +149,7 @@ fn two_stations_are_held_at_once(rt: HostRuntime) {
 #[test]
 fn others_go_on_while_one_is_held(rt: HostRuntime) {
     let alloc = rt.alloc();
+    let watch = Watch::new(rt, alloc);
     let (parts, flags) = held(&rt, alloc, 3);
     let (mut passes, running) = start(rt, alloc, parts, Honest);
     let third = last_of(&rt, &mut passes);
@@ -155,5 +157,6 @@ fn others_go_on_while_one_is_held(rt: HostRuntime) {
     put_back(&rt, &mut passes, third);
     let late = flags.late.load(Ordering::SeqCst);
     let closed = end(&rt, alloc, running, passes);
+    watch.end(&rt);
     assert!(rt; !late && closed.world.history().entries().len() == 4);
 }

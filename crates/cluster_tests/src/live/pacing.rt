@@ -13,7 +13,7 @@ use std::thread;
 use std::thread::{JoinHandle, Threads};
 
 /// How many sections the journal has.
-fn length_of(rt: &impl Wait, pass: &mut Pass<LocalWrite, NoGate>) -> Option<u64> {
+pub fn length_of(rt: &impl Wait, pass: &mut Pass<LocalWrite, NoGate>) -> Option<u64> {
     let far = u64::from(MOST_EVENTS) + 1;
     match pass.perform_after(rt, read(0), far) {
         Err(LiveFault::Behind { length }) => Some(length),

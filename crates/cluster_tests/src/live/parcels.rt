@@ -1,5 +1,6 @@
 //! Which parcels come out of a road: of one that tells of each whether it came, and of a rough one by the words it draws.
 use crate::live::crews::{call_all, carry_all, join_all, parts_of, pass_of, shut};
+use crate::live::watches::Watch;
 use crate::values::write;
 use reg_frames::Frame;
 use reg_front::{LocalRead, LocalWrite};
@@ -43,6 +44,7 @@ impl Road for Littering {
 #[test]
 fn litter_is_dropped(rt: HostRuntime) {
     let alloc = rt.alloc();
+    let watch = Watch::new(rt, alloc);
     let Parts {
         cluster,
         passes,
@@ -66,6 +68,7 @@ fn litter_is_dropped(rt: HostRuntime) {
         pacer,
     };
     let closed = shut(&rt, alloc, parts);
+    watch.end(&rt);
     assert!(rt;
         stopped && !wrong.load(Ordering::SeqCst) && closed.world.history().entries().len() == 12
     );
@@ -160,7 +163,7 @@ fn answered(
 }
 
 /// Loses all parcels.
-struct Lost;
+pub struct Lost;
 
 impl Road for Lost {
     fn send<R: Wait>(&self, _rt: &R, _posts: &Posts, _parcel: Parcel) {}

@@ -2,6 +2,7 @@
 use crate::live::crews::{
     answered, call_all, end, join_all, last_of, parts_of, pass_of, put_back, start,
 };
+use crate::live::watches::Watch;
 use crate::values::{read, write};
 use reg_base::Answer;
 use reg_checkers::{check_points, check_serial};
@@ -121,9 +122,11 @@ fn hands_on<R: Threads + Wait + Abort + Copy + Send + Sync + 'static>(
 #[test]
 fn fronts_are_handed_on(rt: HostRuntime) {
     let alloc = rt.alloc();
+    let watch = Watch::new(rt, alloc);
     let parts = parts_of::<Linear, NoGate>(&rt, alloc, (3, 1), NoGate);
     let (mut passes, running) = start(rt, alloc, parts, road(7));
     let behind = hands_on(rt, &mut passes);
     let closed = end(&rt, alloc, running, passes);
+    watch.end(&rt);
     assert!(rt; behind && closed.world.history().entries().len() == 6);
 }

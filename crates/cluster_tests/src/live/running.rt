@@ -1,6 +1,7 @@
 //! Clusters whose threads `start` of a running cluster made, and that `close` of one ends.
 use crate::live::closing::wait;
 use crate::live::crews::{answered, pass_of, shape_of};
+use crate::live::watches::Watch;
 use crate::values::write;
 use reg_front::{Linear, LocalWrite};
 use reg_live::{NoGate, Parcel, Pass, Posts, Road};
@@ -32,6 +33,7 @@ impl Road for Losing {
 #[test]
 fn a_running_cluster_has_a_pacer(rt: HostRuntime) {
     let alloc = rt.alloc();
+    let watch = Watch::new(rt, alloc);
     let lost = AtomicBool::new(false);
     let road = Arc::new(alloc, Losing { lost }).expect(&rt, "memory");
     let shape = shape_of(&rt, 2, 1);
@@ -41,6 +43,7 @@ fn a_running_cluster_has_a_pacer(rt: HostRuntime) {
     );
     let told = pass_of(&rt, &mut passes, 0).perform(&rt, write(0, 1));
     let closed = running.close_in::<_, PackedWires<Global>>(&rt, alloc, passes);
+    watch.end(&rt);
     assert!(rt; told.is_ok() && closed.is_ok());
 }
 

@@ -2,6 +2,7 @@
 use crate::live::crews::{
     call_all, end, join_all, last_of, parts_of, pass_of, put_back, shape_of, start, told,
 };
+use crate::live::watches::Watch;
 use crate::values::{read, write};
 use reg_base::{Answer, Op};
 use reg_front::{FrontEnd, Linear, LocalWrite};
@@ -64,12 +65,14 @@ fn has_all(closed: &Closed<LocalWrite>) -> bool {
 #[test]
 fn each_caller_reads_what_it_wrote(rt: HostRuntime) {
     let alloc = rt.alloc();
+    let watch = Watch::new(rt, alloc);
     let parts = parts_of::<LocalWrite, NoGate>(&rt, alloc, (3, 3), NoGate);
     let (passes, running) = start(rt, alloc, parts, Honest);
     let callers = call_all(rt, alloc, passes);
     let mut passes = join_all(&rt, alloc, callers);
     let behind = is_called_behind(rt, &mut passes);
     let closed = end(&rt, alloc, running, passes);
+    watch.end(&rt);
     assert!(rt; behind && has_all(&closed));
 }
 

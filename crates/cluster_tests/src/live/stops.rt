@@ -3,6 +3,7 @@ use crate::live::closing::wait;
 use crate::live::crews::{
     carry_all, end, join_all, last_of, parts_of, pass_of, put_back, shut, start, told,
 };
+use crate::live::watches::Watch;
 use crate::values::{read, write};
 use reg_base::limits::LAST_TIME;
 use reg_base::{Op, OpId};
@@ -157,11 +158,13 @@ fn has_both_writes(closed: &Closed<LocalWrite>) -> bool {
 #[test]
 fn a_station_stops_alone(rt: HostRuntime) {
     let alloc = rt.alloc();
+    let watch = Watch::new(rt, alloc);
     let (parts, seen) = watched(&rt, alloc);
     let road = Changing::new(alloc, Change::LastTime);
     let (mut passes, running) = start(rt, alloc, parts, road);
     let stopped = stops_second(&rt, &mut passes, &seen);
     let closed = end(&rt, alloc, running, passes);
+    watch.end(&rt);
     assert!(rt; stopped && has_both_writes(&closed));
 }
 
@@ -177,11 +180,13 @@ fn is_refused(rt: &impl Wait, pass: &mut Pass<Linear, NoGate>) -> bool {
 #[test]
 fn no_caller_waits_for_a_station_that_stopped(rt: HostRuntime) {
     let alloc = rt.alloc();
+    let watch = Watch::new(rt, alloc);
     let parts = parts_of::<Linear, NoGate>(&rt, alloc, (2, 1), NoGate);
     let road = Changing::new(alloc, Change::LastTime);
     let (mut passes, running) = start(rt, alloc, parts, road);
     let refused = is_refused(&rt, pass_of(&rt, &mut passes, 0));
     let closed = end(&rt, alloc, running, passes);
+    watch.end(&rt);
     assert!(rt; refused && closed.world.history().entries().len() == 1);
 }
 
@@ -189,6 +194,7 @@ fn no_caller_waits_for_a_station_that_stopped(rt: HostRuntime) {
 #[test]
 fn a_changed_value_is_unfaithful(rt: HostRuntime) {
     let alloc = rt.alloc();
+    let watch = Watch::new(rt, alloc);
     let Parts {
         cluster,
         mut passes,
@@ -203,6 +209,7 @@ fn a_changed_value_is_unfaithful(rt: HostRuntime) {
     let stopped = cluster.stop(&rt).is_ok();
     let couriers = join_all(&rt, alloc, couriers);
     let fault = close(&rt, alloc, cluster, passes, couriers, pacer).err();
+    watch.end(&rt);
     assert!(rt; written && stopped && fault == Some(CloseFault::Unfaithful { place: 1 }));
 }
 
@@ -223,6 +230,7 @@ fn write_apart<R: Threads + Wait + Abort + Copy + Send + Sync + 'static>(
 #[test]
 fn all_callers_are_told_where_a_station_stops(rt: HostRuntime) {
     let alloc = rt.alloc();
+    let watch = Watch::new(rt, alloc);
     let parts = parts_of::<Linear, NoGate>(&rt, alloc, (3, 1), NoGate);
     let road = Changing::new(alloc, Change::LastTime);
     let (mut passes, running) = start(rt, alloc, parts, road);
@@ -235,6 +243,7 @@ fn all_callers_are_told_where_a_station_stops(rt: HostRuntime) {
     let (pass, third_told) = third.join(&rt);
     put_back(&rt, &mut passes, pass);
     let closed = end(&rt, alloc, running, passes);
+    watch.end(&rt);
     assert!(rt; first_told && third_told && closed.world.history().entries().len() == 2);
 }
 
@@ -253,6 +262,7 @@ fn wait_for_callers(rt: &impl Wait, pass: &mut Pass<Linear, NoGate>, sections: u
 #[test]
 fn no_caller_waits_once_the_cluster_is_stopped(rt: HostRuntime) {
     let alloc = rt.alloc();
+    let watch = Watch::new(rt, alloc);
     let mut parts = parts_of::<Linear, NoGate>(&rt, alloc, (4, 1), NoGate);
     let mut fourth = last_of(&rt, &mut parts.passes);
     let mut callers = Vec::new(alloc);
@@ -268,5 +278,6 @@ fn no_caller_waits_once_the_cluster_is_stopped(rt: HostRuntime) {
         told = told && failed;
     }
     let closed = shut(&rt, alloc, parts);
+    watch.end(&rt);
     assert!(rt; told && closed.world.events() == 3);
 }

@@ -70,10 +70,10 @@ tellwydar_world_arrange_spec 𝓤 𝓛 𝓜 𝓡 wired =
     calls_at ! (framed 𝓤 𝓛.H 𝓜 𝓣) G (met 𝓤 𝓛 𝓜 𝓡 (code.calls-reg_c::holding::arrange 𝓡.env wired)) z
     (and_then ! (get ! refl) (no_more !)) (λ v.
     use1 𝓛 (later (some (λ (r : ℕ). ((‵ (flft κ full_share) ⊛ ‵ ftrue) ⊛ ‵ (u32.own_val r (v ∷ []))) ⊛
-    some (λ (ws : Held × Unit {0}). ‵ (lasts g.ended z.0.0 z.0.3 ws) ⊛ (raw (fact 𝓤 ((ws.0.world ≡ held.world) × (ws.0.reply ≡ held.reply))) ⊛ (raw (fact 𝓤 (r ≡ 0 → HasOrders ws.0.world ws.0.order.items ws.0.points.items)) ⊛ raw (fact 𝓤 (0 < r → r ≡ fault_code OutOfMemory)))))))) (id⊢ 𝓤 _) $
+    some (λ (ws : Held × Unit {0}). ‵ (lasts g.ended z.0.0 z.0.3 ws) ⊛ (raw (fact 𝓤 ((ws.0.world ≡ held.world) × (ws.0.reply ≡ held.reply))) ⊛ (raw (fact 𝓤 (r ≡ 0 → HasOrders ws.0.world ws.0.order.items ws.0.points.items)) ⊛ (raw (fact 𝓤 (0 < r → r ≡ fault_code OutOfMemory)) ⊛ raw (fact 𝓤 (0 < r → ws.0 ≡ held))))))))) (id⊢ 𝓤 _) $
     await ! tt $ pick ! (λ r. split ! $ split ! $ split ! $ lft_end ! tt $
     -- [the lifetime is over; nothing; the result; what the call ensures; what the lender keeps; the locals]
-    move ! (3 ∷ []) $ pick ! (λ ws. split ! $ move ! (1 ∷ []) $ split ! $ heard ! _ (λ f0. split ! $ heard ! _ (λ f1. heard ! _ (λ f2. fsplit ! $ fsplit ! $
+    move ! (3 ∷ []) $ pick ! (λ ws. split ! $ move ! (1 ∷ []) $ split ! $ heard ! _ (λ f0. split ! $ heard ! _ (λ f1. split ! $ heard ! _ (λ f2. heard ! _ (λ f3. fsplit ! $ fsplit ! $
     -- [the loan's last value; its borrow; nothing; the lifetime is over; nothing; the result; what the lender keeps; the locals]
     move ! (3 ∷ 6 ∷ 0 ∷ []) $ use3 𝓛 (later (‵ ((mem R).own_at ws.0 b o))) (ref_back 𝓛 R κ γ ws.0 b o) $ await ! tt $
     -- [what is held; the loan's borrow; nothing; nothing; the result; the locals]
@@ -81,4 +81,4 @@ tellwydar_world_arrange_spec 𝓤 𝓛 𝓜 𝓡 wired =
     returns ! (look_at ! 0 refl) $ free_all ! refl $ keep ! (0 ∷ 1 ∷ []) $
     suffices ! _ (ends_at 𝓛 f.ended stayed c (y (block_ptr b o)) v r (tt, tt) (tt, tt)) $
     nothing ! $ nothing ! $ join ! $ nothing ! $ group ! 3 $ frame ! $
-    show ! (λ (h : Held). sep 𝓤 (sem 𝓛 (lies_at R full_share (block_ptr b o) h)) (fact 𝓤 ((h.world ≡ held.world) × (h.reply ≡ held.reply) × (r ≡ 0 → HasOrders h.world h.order.items h.points.items) × (0 < r → r ≡ fault_code OutOfMemory)))) ws.0 $ says ! (f0.0, f0.1, f1, f2) $ done !))))))))))))
+    show ! (λ (h : Held). sep 𝓤 (sem 𝓛 (lies_at R full_share (block_ptr b o) h)) (fact 𝓤 ((h.world ≡ held.world) × (h.reply ≡ held.reply) × (r ≡ 0 → HasOrders h.world h.order.items h.points.items) × (0 < r → r ≡ fault_code OutOfMemory) × (0 < r → h ≡ held)))) ws.0 $ says ! (f0.0, f0.1, f1, f2, f3) $ done !)))))))))))))
