@@ -9,9 +9,9 @@ ghost use Rattle.reg_cli.specs.Statuses.{Obeys, Stops, Tells, memory_line};
 ghost use Rattle.reg_cli.specs.declared.words.Asked.{Asked as AnyAsked};
 
 use crate::performing::run_live;
+use crate::texts::run_text;
 use crate::words::{Asked, choose};
 use reg_args::{WordsFault, tell, words_of};
-use reg_commands::run_text;
 use std::io::{self, BufWriter, Read, Write};
 use std::rt::Env;
 use std::sync::Wait;
@@ -35,9 +35,7 @@ where
 {
     match asked {
         Asked::Live => run_live(*rt, rt.alloc(), reader, writer, errors),
-        Asked::Text { command } => {
-            run_text(rt.alloc(), rt.alloc(), command, reader, writer, errors)
-        }
+        Asked::Text { command } => { run_text(rt.alloc(), command, reader, writer, errors) }
     }
 }
 
