@@ -299,7 +299,7 @@ fn tell_judged<A: Allocator + Copy>(
     }
 }
 
-#[tactic(auto, using(crate::proofs::Told::tells_refused))]
+#[tactic(auto, using(crate::proofs::WhyTold::tells_refused))]
 fn tell_report<A: Allocator + Copy>(
     alloc: A,
     global: Global,

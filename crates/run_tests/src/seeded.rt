@@ -1,10 +1,9 @@
 //! A plain list of the witness, by a scan of all reads for each place, beside the merged one on pseudo-random runs.
-use crate::plays::has_points;
 use part_tests::values::{READ, write_of};
 use reg_base::{Op, OpId, Shape};
 use reg_frames::{Body, Frame};
 use reg_front::{FrontEnd, Linear, LocalRead, LocalWrite};
-use reg_history::{Entry, check_serial};
+use reg_history::{Entry, check_points, check_serial};
 use reg_world::{CopyRead, Event, First, World};
 use std::alloc::{AllocError, Global};
 use std::test::Fail;
@@ -262,6 +261,14 @@ fn the_witness_is_the_plain_list(rt: HostRuntime) -> Result<(), Fail> {
         assert!(rt; all_agree(rt.alloc(), shape, seed));
     }
     Ok(())
+}
+
+/// Whether the points of the world are a point order of its history.
+fn has_points(alloc: Global, world: &World<Linear>) -> bool {
+    match world.points() {
+        Ok(points) => check_points(alloc, world.history(), points.as_slice()) == Ok(()),
+        Err(_) => false,
+    }
 }
 
 /// Whether the points of a run are a point order.
