@@ -1,5 +1,5 @@
 //! A plain list of the witness, by a scan of all reads for each place, beside the merged one on pseudo-random runs.
-use part_tests::values::{READ, write_of};
+use part_tests::values::READ;
 use reg_base::{Op, OpId, Shape};
 use reg_frames::{Body, Frame};
 use reg_front::{FrontEnd, Linear, LocalRead, LocalWrite};
@@ -214,7 +214,10 @@ fn event_of<F: FrontEnd>(world: &World<F>, word: u64) -> Event {
     let process = (word % 3) as u8;
     let op = match word / 3 % 16 {
         0 => return Event::Tick { process },
-        1 => write_of(word / 48 % 1024),
+        1 => Op::Write {
+            register: 0,
+            value: word / 48 % 1024,
+        },
         2 => swap_of(word / 48 % 1024),
         3 | 4 => READ,
         _ => return take_of(world, process, word),
