@@ -1,4 +1,4 @@
-//! The page up to its data: what it looks like, and its fixed parts.
+//! The page up to its data. Written by tools/page: edit page/.
 mod body;
 mod diagram;
 mod frame;

@@ -1,6 +1,6 @@
-//! The fixed parts of the page up to its data.
+//! The page up to its data: its fixed parts. Written by tools/page: edit page/.
 
-/// The fixed parts of the page, up to its data.
+/// Of the page: its fixed parts.
 pub const BODY: &str = r##"</style>
 </head>
 <body>
@@ -24,8 +24,8 @@ pub const BODY: &str = r##"</style>
   <label class="c0"><input type="checkbox" id="show-ack" checked><svg width="26" height="10" aria-hidden="true"><line class="ack" x1="0" y1="5" x2="26" y2="5"/></svg>acknowledgements</label>
   <label class="c0"><input type="checkbox" id="show-count" checked><svg width="26" height="10" aria-hidden="true"><line class="count" x1="1" y1="5" x2="26" y2="5"/></svg>counts</label>
   <label class="c0"><input type="checkbox" id="show-lost" checked><svg width="26" height="12" aria-hidden="true"><line class="cast" x1="0" y1="6" x2="17" y2="6"/><path class="cross" d="M16 2l8 8M24 2l-8 8"/></svg>never taken</label>
-  <span class="c0" style="display:inline-flex;gap:5px;align-items:center"><svg width="22" height="12" aria-hidden="true"><line class="cast" x1="0" y1="6" x2="13" y2="6"/><path class="tip hollow" d="M12 1.5L21 6L12 10.5Z"/></svg>dropped</span>
-  <span id="key-point" style="display:inline-flex;gap:5px;align-items:center"><svg width="14" height="14" aria-hidden="true"><path class="diamond" d="M7 0L14 7L7 14L0 7Z"/></svg>linearization point</span>
+  <span class="c0 sign"><svg width="22" height="12" aria-hidden="true"><line class="cast" x1="0" y1="6" x2="13" y2="6"/><path class="tip hollow" d="M12 1.5L21 6L12 10.5Z"/></svg>dropped</span>
+  <span id="key-point" class="sign"><svg width="14" height="14" aria-hidden="true"><path class="diamond" d="M7 0L14 7L7 14L0 7Z"/></svg>linearization point</span>
   <span>number in a node: the clock</span>
   <span class="space"></span>
   <label><input type="checkbox" id="roomy">texts</label>

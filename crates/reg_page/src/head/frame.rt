@@ -1,6 +1,6 @@
-//! The page up to its style for a diagram: colours, letters and controls.
+//! The page up to its data: the style, css/frame.css. Written by tools/page: edit page/.
 
-/// The beginning of the page, and the style of what stands around the diagram.
+/// Of the page: the style, css/frame.css.
 pub const FRAME: &str = r##"<!doctype html>
 <html lang="en">
 <head>
@@ -250,6 +250,16 @@ header {
 
 .tools svg {
   display: block
+}
+
+.tools .sign {
+  display: inline-flex;
+  gap: 5px;
+  align-items: center
+}
+
+.tools [hidden] {
+  display: none
 }
 
 .tools input {
