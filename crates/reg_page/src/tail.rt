@@ -5,8 +5,10 @@ mod diagram;
 mod elements;
 mod layout;
 mod lists;
+mod nodes;
 mod orders;
 mod page;
+mod points;
 mod run;
 mod sentences;
 mod tips;
@@ -18,14 +20,17 @@ use diagram::DIAGRAM;
 use elements::ELEMENTS;
 use layout::LAYOUT;
 use lists::LISTS;
+use nodes::NODES;
 use orders::ORDERS;
 use page::PAGE;
+use points::POINTS;
 use run::RUN;
 use sentences::SENTENCES;
 use tips::TIPS;
 use view::VIEW;
 
 /// The page behind its data, in parts one behind another.
-pub const TAIL: [&str; 12] = [
-    RUN, ORDERS, SENTENCES, ELEMENTS, LAYOUT, ARROWS, DIAGRAM, CARDS, LISTS, TIPS, VIEW, PAGE,
+pub const TAIL: [&str; 14] = [
+    RUN, ORDERS, SENTENCES, ELEMENTS, LAYOUT, ARROWS, NODES, POINTS, DIAGRAM, CARDS, LISTS, TIPS,
+    VIEW, PAGE,
 ];

@@ -38,9 +38,9 @@ function takenArrow(places, event, curves) {
       svg("text", { class: "rank", x: mx, y: my + 3.6, style: "fill:var(--c)" }, nth + 1 + "\u00d7")] : null);
 }
 
-function stubGroups(run, event, isStub) {
+function stubGroups(run, event, lost) {
   const groups = new Map();
-  for (const put of event.puts.filter(p => !p.takes.length && isStub(p))) {
+  for (const put of lost) {
     const way = run.processes > 4 ? (put.to > event.process ? "+" : "-") : "," + put.to;
     const id = put.frame.kind + way;
     if (!groups.has(id)) groups.set(id, []);
@@ -49,10 +49,12 @@ function stubGroups(run, event, isStub) {
   return [...groups.values()];
 }
 
-function stubsOf(places, event, isStub) {
+const stubKey = lost => lost.map(put => put.to + "." + put.place).join(" ");
+
+function stubsOf(places, event, lost) {
   const { roomy, xs, ys, run } = places;
   let up = 0, down = 0;
-  return stubGroups(run, event, isStub).map(puts => {
+  return stubGroups(run, event, lost).map(puts => {
     const [put] = puts, { kind } = put.frame, below = put.to > event.process, i = below ? down++ : up++;
     const angle = (below ? 1 : -1) * (roomy ? [.5, .18, .85, .05][Math.min(i, 3)] : .7);
     const r = nodeRadius(roomy) + 1, length = roomy ? 15 + 3 * i : 5, c = roomy ? 3 : 1.8;
@@ -61,7 +63,7 @@ function stubsOf(places, event, isStub) {
     const operation = run.operationIn(put.frame);
     return svg("g", {
       class: `stub f-${kind} ${hue(put.from)}`,
-      "data-lost": event.at + ":" + puts.map(p => p.to + "." + p.place).slice(0, 6).join(" ") + ":" + puts.length,
+      "data-lost": event.at + ":" + stubKey(puts.slice(0, 6)) + ":" + puts.length,
       "data-op": operation ? operation.key : null,
     },
     svg("path", { class: "hit", d: `M${x1} ${y1}L${x2} ${y2}` }),

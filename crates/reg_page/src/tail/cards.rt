@@ -9,13 +9,15 @@ const joined = (items, separator = ", ") => items.map((item, i) => [i ? separato
 class Cards {
   constructor() {
     this.pinned = null;
-    this.lines = null; // the lines of the table, and for which event and mark each was made
+    this.lines = null; // the lines of the table, and for which last event and mark each was made
     this.madeFor = [];
   }
 
   setRun(run) {
+    const same = this.run ? run.sharedWith(this.run) : -1;
     this.run = run;
-    this.lines = null;
+    if (same < 0) this.lines = null;
+    this.madeFor = this.madeFor.map(made => made.last < same ? made : { last: -1, sign: "old" }); // of other events
     if (this.pinned !== null && this.pinned >= run.processes) this.pinned = null;
   }
 
@@ -35,18 +37,18 @@ class Cards {
     box.firstChild.replaceChildren(...[...new Set([acting, this.pinned === null ? acting : this.pinned])].map(p => this.card(p, at)));
     for (const p of all) { // only the lines that differ
       const isActing = p === acting && at >= 0;
-      const made = this.run.lastEventOf(p, at) + (isActing ? " acting " : " ") + (this.pinned === p ? "pinned" : "");
-      if (made === this.madeFor[p]) continue;
+      const last = this.run.lastEventOf(p, at), sign = (isActing ? "acting " : "") + (this.pinned === p ? "pinned" : "");
+      if (last === this.madeFor[p].last && sign === this.madeFor[p].sign) continue;
       const line = this.tableLine(p, at, isActing);
       this.lines[p].replaceWith(line);
       this.lines[p] = line;
-      this.madeFor[p] = made;
+      this.madeFor[p] = { last, sign };
     }
   }
 
   makeTable(box, all) {
     this.lines = all.map(p => this.tableLine(p, -1, false));
-    this.madeFor = all.map(() => "-1 ");
+    this.madeFor = all.map(() => ({ last: -1, sign: "" }));
     const head = html("tr", {}, html("th", { style: "width:3.9em" }, ""), html("th", { class: "n", style: "width:3.6em" }, "clock"),
       html("th", {}, "copy"), html("th", { style: "width:7em" }, "runs"), html("th", { class: "n", style: "width:3.6em" }, "holds"),
       html("th", {}, "least held waits for"));

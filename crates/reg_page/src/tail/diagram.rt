@@ -2,75 +2,21 @@
 
 /// Of the page: the script, js/diagram.js.
 pub const DIAGRAM: &str = r##"/* diagram */
-function eventNode(places, event) {
-  const { xs, ys, roomy, run } = places, x = xs[event.at], y = ys[event.process];
-  const group = svg("g", { class: `ev ${hue(event.process)}`, "data-ev": event.at });
-  const isTick = event.text.startsWith("tick");
-  if (!roomy) {
-    group.append(isTick ? svg("rect", { class: "node", x: x - 4, y: y - 4, width: 8, height: 8 }) :
-      svg("circle", { class: "node", cx: x, cy: y, r: 4 }));
-    group.append(...event.delivered.slice(0, 6).map((stamp, i) => svg("rect", {
-      class: "pill " + hue(stamp.process), "data-op": run.operationOf(stamp).key, style: "fill:var(--c)",
-      x: x - 8 + 3.4 * i, y: y + 6, width: 2.4, height: 5,
-    })));
-    return group;
-  }
-  const { call, answered } = event, operation = call || answered;
-  if (operation) {
-    const answer = answered && answered === operation ?
-      svg("tspan", { class: "done" }, (call ? " " : "") + "\u2192 " + shortAnswer(answered.answer.text)) : "";
-    group.append(svg("text", { class: "halo", x: x - 9, y: y - 36, "data-op": operation.key }, call ? call.text : null, answer));
-  }
-  const width = Math.max(20, textWidth(String(event.clock)) + 8);
-  group.append(
-    svg("rect", { class: "node" + (event.take && !event.take.accepted ? " none" : ""), x: x - width / 2, y: y - 10, width, height: 20,
-      rx: isTick ? 2 : 10 }),
-    svg("text", { class: "time", x, y: y + 4 }, String(event.clock)),
-    ...event.delivered.map((stamp, i) => deliveryPill(run.operationOf(stamp), x - 9, y + 22 + 19 * i)));
-  return group;
-}
-
-function deliveryPill(operation, x, y) {
-  const text = pillText(operation), width = textWidth(text) + 8;
-  return svg("g", { class: hue(operation.process) },
-    svg("rect", { class: "pill", "data-op": operation.key, x, y, width, height: 16, rx: 4 }),
-    svg("text", { class: "pilltext", x: x + width / 2, y: y + 12, "data-op": operation.key }, text));
-}
-
-const diamond = (key, x, top, size) => svg("path", { class: "diamond", "data-op": key,
-  d: `M${x} ${top}l${size} ${size}l${-size} ${size}l${-size} ${-size}Z` });
-
-function drawPoints(places, groups) {
-  const { run, roomy, xs } = places, lane = roomy ? 22 : 13, size = roomy ? 9 : 4.5, small = roomy ? 6 : 3.5;
-  const atEvent = new Map();
-  for (const { at } of run.points) atEvent.set(at, (atEvent.get(at) || 0) + 1);
-  const had = new Map();
-  return run.points.map(({ op, at }, place) => {
-    const nth = had.get(at) || 0;
-    had.set(at, nth + 1);
-    const x = xs[at] + (nth - (atEvent.get(at) - 1) / 2) * (roomy ? 17 : 6), bar = barTop(places, op.process) + (roomy ? 3.5 : 2);
-    const group = groups[isUpdate(op) ? at : op.answer.at]; // a read stands in the order once it is answered
-    group.append(diamond(op.key, x, lane - size, size), diamond(op.key, xs[at], bar - small, small));
-    if (roomy) {
-      group.append(svg("text", { class: "rank", x, y: lane + 3.5 }, String(op.first.place)));
-      const label = op.value !== undefined ? `${op.register}=${op.value}` : shortAnswer(op.answer.text);
-      const next = run.points[place + 1], space = next ? xs[next.at] - x - (next.at === at ? 0 : 30) : 99;
-      if (textWidth(label) < space) group.append(svg("text", { class: "halo lane", x: x + 13, y: lane + 4, "data-op": op.key }, label));
-    }
-    return svg("line", { class: "plumb", x1: x, y1: lane + size, x2: xs[at], y2: bar - 6 });
-  });
-}
-
-function operationBar(places, operation) {
-  const { xs, roomy, width } = places, x = xs[operation.call] - (roomy ? 9 : 4);
-  const end = operation.answer ? xs[operation.answer.at] + (roomy ? 9 : 4) : width;
-  return svg("rect", { class: `bar ${hue(operation.process)}` + (operation.answer ? "" : " open"), "data-op": operation.key,
-    x, y: barTop(places, operation.process), width: end - x, height: roomy ? 7 : 4, rx: 2 });
-}
+const LAYERS = ["band", "ticks", "rails", "plumbs", "bars", "stubs", "arrows", "veil", "ghosts", "flight", "nodes", "points", "now", "ends", "overlay"];
 
 function gutterWidth(run, roomy) {
   const longest = Math.max(...run.shownRegisters.slice(0, 2).map(r => `${run.registers[r]} = `.length + 6));
   return roomy ? Math.max(92, 34 + 7 * longest) : 128;
+}
+
+function update(element, attributes) {
+  for (const [name, value] of Object.entries(attributes)) {
+    if (element.getAttribute(name) !== String(value)) element.setAttribute(name, value);
+  }
+}
+
+function cut(elements, from) {
+  for (const element of elements.splice(from)) if (element) element.remove();
 }
 
 class Diagram {
@@ -79,45 +25,137 @@ class Diagram {
     this.isStub = () => true; // whether a frame that no event takes is drawn as lost
     this.roomy = true;
     this.ahead = 0;
+    this.places = null;
   }
 
   draw(run) {
-    this.run = run;
     const room = byId("diagram").clientWidth - gutterWidth(run, this.roomy) - 2;
-    const places = this.places = layOut(run, this.roomy, room, this.ahead);
-    const { xs, ys, width, height, roomy } = places, { events } = run;
-    this.curves = new Map();
-    this.hidden = new Set(["cast", "ack", "count", "lost"].filter(kind => !byId("show-" + kind).checked));
-    const arrows = events.filter(event => event.take && !this.hidden.has(event.frame.kind));
-    this.groups = events.map(event => eventNode(places, event));
-    const plumbs = run.isRealTime ? drawPoints(places, this.groups) : [];
-    this.bars = run.operations.map(operation => operationBar(places, operation));
-    this.band = svg("rect", { class: "band", y: 0, height });
-    this.veil = svg("rect", { class: "veil", y: 0, height, width: width + 2000 });
-    this.nowLine = svg("line", { class: "nowline", y1: 0, y2: height });
-    this.flight = svg("g");
-    this.overlay = svg("g");
-    const ahead = this.drawAhead ? this.drawAhead(places) : { lines: null, ends: null };
-    const rail = (y, style) => svg("line", { class: "rail", style, x1: 0, x2: width, y1: y, y2: y });
-    const lane = run.isRealTime ? rail(roomy ? 22 : 13, "stroke:var(--point);stroke-width:1") : null;
-    const art = svg("g", { id: "art" }, this.band,
-      xs.map(x => svg("line", { class: "tick", x1: x, x2: x, y1: 0, y2: height - 4 })), lane, ys.map(y => rail(y, null)), plumbs, this.bars,
-      this.hidden.has("lost") ? null : events.map(event => stubsOf(places, event, this.isStub)),
-      arrows.map(event => takenArrow(places, event, this.curves)),
-      this.veil, ahead.lines, this.flight, this.groups, this.nowLine, ahead.ends, this.overlay);
-    byId("inner").replaceChildren(svg("svg", { width, height, viewBox: `0 0 ${width} ${height}`, role: this.drawAhead ? "group" : "img",
-      "aria-label": `${run.processes} ${plural(run.processes, "process", "processes")}, ${events.length} ` +
-        `${plural(events.length, "event")}. What each event does is told below.` }, art));
-    this.drawAxis();
-    this.drawGutter();
-    byId("diagram").classList.toggle("hide-point", !roomy);
+    const places = layOut(run, this.roomy, room, this.ahead);
+    const hidden = new Set(["cast", "ack", "count", "lost"].filter(kind => !byId("show-" + kind).checked));
+    const kept = this.keptEvents(run, places, hidden);
+    Object.assign(this, { run, places, hidden });
+    if (kept === 0) this.begin();
+    this.cutTo(kept);
+    for (const event of run.events.slice(kept)) this.addEvent(event);
+    this.drawBars();
+    this.drawStubs();
+    this.drawPoints();
+    this.drawEnds();
+    this.fit();
+    byId("diagram").classList.toggle("hide-point", !this.roomy);
   }
 
-  drawAxis() {
-    const { xs, width, roomy } = this.places;
+  keptEvents(run, places, hidden) {
+    const old = this.places;
+    if (!old || old.roomy !== places.roomy || String(old.ys) !== String(places.ys) || [...hidden].join() !== [...this.hidden].join()) return 0;
+    const same = run.sharedWith(old.run), moved = places.xs.findIndex((x, at) => at >= same || x !== old.xs[at]);
+    return Math.max(0, moved < 0 ? same : Math.min(moved, same));
+  }
+
+  begin() {
+    const { run } = this;
+    this.nodes = [];
+    this.ticks = [];
+    this.arrows = [];
+    this.axisTexts = [];
+    this.stubs = [];
+    this.bars = new Map();
+    this.curves = new Map();
+    this.band = svg("rect", { class: "band", y: 0 });
+    this.veil = svg("rect", { class: "veil", y: 0 });
+    this.nowLine = svg("line", { class: "nowline", y1: 0 });
+    this.rails = this.places.ys.map(y => svg("line", { class: "rail", x1: 0, y1: y, y2: y }));
+    if (run.isRealTime) this.rails.unshift(this.memoryRail());
+    this.layers = Object.fromEntries(LAYERS.map(name => [name, svg("g")]));
+    this.layers.band.append(this.band);
+    this.layers.rails.append(...this.rails);
+    this.layers.veil.append(this.veil);
+    this.layers.now.append(this.nowLine);
+    this.drawing = svg("svg", { role: this.drawAhead ? "group" : "img" }, svg("g", { id: "art" }, Object.values(this.layers)));
+    byId("inner").replaceChildren(this.drawing);
     this.axisMark = svg("rect", { y: 4, height: 18, rx: 9, fill: "var(--now)" });
-    this.axisTexts = xs.map((x, k) => roomy || k % 5 === 0 ? svg("text", { x, y: 17, "data-ev": k }, String(k)) : null);
-    byId("axis").replaceChildren(svg("svg", { width, height: 26 }, this.axisMark, this.axisTexts.filter(text => text)));
+    this.axis = svg("svg", { height: 26 }, this.axisMark);
+    byId("axis").replaceChildren(this.axis);
+    this.drawGutter();
+  }
+
+  memoryRail() {
+    const y = this.roomy ? 22 : 13;
+    return svg("line", { class: "rail", style: "stroke:var(--point);stroke-width:1", x1: 0, y1: y, y2: y });
+  }
+
+  cutTo(kept) {
+    for (const list of [this.nodes, this.ticks, this.arrows, this.axisTexts]) cut(list, kept);
+    for (const { elements } of this.stubs.splice(kept)) cut(elements, 0);
+    for (const at of this.curves.keys()) if (at >= kept) this.curves.delete(at);
+    for (const [key, { call, element }] of this.bars) {
+      if (call < kept) continue;
+      element.remove();
+      this.bars.delete(key);
+    }
+    this.rowAt = this.rowAt.map(at => at === null || at >= kept ? null : at);
+  }
+
+  addEvent(event) {
+    const { places, layers } = this, { xs, roomy } = places, { at } = event, x = xs[at];
+    const isDrawn = event.take && !this.hidden.has(event.frame.kind), hasText = roomy || at % 5 === 0;
+    const add = (list, layer, element) => {
+      list.push(element);
+      if (element) layer.append(element);
+    };
+    add(this.nodes, layers.nodes, eventNode(places, event));
+    add(this.ticks, layers.ticks, svg("line", { class: "tick", x1: x, x2: x, y1: 0, y2: places.height - 4 }));
+    add(this.arrows, layers.arrows, isDrawn ? takenArrow(places, event, this.curves) : null);
+    add(this.axisTexts, this.axis, hasText ? svg("text", { x, y: 17, "data-ev": at }, String(at)) : null);
+  }
+
+  drawBars() {
+    const { run, places, bars } = this;
+    for (const operation of run.operations) {
+      const bar = bars.get(operation.key);
+      if (bar) stretchBar(bar.element, places, operation);
+      else {
+        const element = operationBar(places, operation);
+        this.layers.bars.append(element);
+        bars.set(operation.key, { element, call: operation.call });
+      }
+    }
+  }
+
+  drawStubs() {
+    if (this.hidden.has("lost")) return;
+    for (const event of this.run.events) {
+      const lost = event.puts.filter(put => !put.takes.length && this.isStub(put)), key = stubKey(lost), old = this.stubs[event.at];
+      if (old && old.key === key) continue;
+      if (old) cut(old.elements, 0);
+      const elements = stubsOf(this.places, event, lost);
+      this.layers.stubs.append(...elements);
+      this.stubs[event.at] = { key, elements };
+    }
+  }
+
+  drawPoints() {
+    this.points = this.run.isRealTime ? drawPoints(this.places) : [];
+    this.layers.plumbs.replaceChildren(...this.points.map(({ plumb }) => plumb));
+    this.layers.points.replaceChildren(...this.points.map(({ group }) => group));
+  }
+
+  drawEnds() {
+    const { ghosts, ends } = this.layers, ahead = this.drawAhead ? this.drawAhead(this.places) : { lines: [], ends: [] };
+    ghosts.replaceChildren(...ahead.lines);
+    const stays = ends.childElementCount === ahead.ends.length && ahead.ends.every(group => group.parentNode === ends);
+    if (!stays) ends.replaceChildren(...ahead.ends); // what stays keeps the focus
+  }
+
+  fit() {
+    const { run, places, drawing } = this, { width, height } = places, { events, processes } = run;
+    update(drawing, { width, height, viewBox: `0 0 ${width} ${height}`, "aria-label": `${processes} ` +
+      `${plural(processes, "process", "processes")}, ${events.length} ${plural(events.length, "event")}. What each event does is told below.` });
+    update(this.axis, { width });
+    update(this.band, { height });
+    update(this.veil, { height, width: width + 2000 });
+    update(this.nowLine, { y2: height });
+    for (const rail of this.rails) update(rail, { x2: width });
   }
 
   drawGutter() {
@@ -136,22 +174,22 @@ class Diagram {
 
   show(at) {
     const { places, run } = this, { xs, roomy } = places;
-    this.groups.forEach((group, i) => {
-      group.classList.toggle("future", i > at);
-      group.classList.toggle("current", i === at);
+    this.nodes.forEach((node, i) => {
+      node.classList.toggle("future", i > at);
+      node.classList.toggle("current", i === at);
     });
+    for (const { since, group } of this.points) group.classList.toggle("future", since > at);
     const x = lineBehind(places, at), half = halfStep(roomy), markWidth = at > 99 ? 30 : 24;
-    const place = (element, values) => Object.entries(values).forEach(([name, value]) => element.setAttribute(name, value));
-    place(this.veil, { x });
-    place(this.band, { x: at < 0 ? -99 : xs[at] - half, width: at < 0 ? 0 : 2 * half });
-    place(this.nowLine, { x1: x, x2: x });
-    place(this.axisMark, { x: at < 0 ? -99 : xs[at] - markWidth / 2, width: markWidth });
+    update(this.veil, { x });
+    update(this.band, { x: at < 0 ? -99 : xs[at] - half, width: at < 0 ? 0 : 2 * half });
+    update(this.nowLine, { x1: x, x2: x });
+    update(this.axisMark, { x: at < 0 ? -99 : xs[at] - markWidth / 2, width: markWidth });
     this.axisTexts.forEach((text, i) => text && text.classList.toggle("at", i === at));
-    this.flight.replaceChildren(...run.events.filter(event => this.curves.has(event.at) && event.at > at && event.take.put.at <= at)
-      .map(event => this.flying(event, x)));
+    this.layers.flight.replaceChildren(...run.events
+      .filter(event => this.curves.has(event.at) && event.at > at && event.take.put.at <= at).map(event => this.flying(event, x)));
     this.rows.forEach((row, p) => this.showRow(row, p, at));
     const turned = new Set(turnedAt(run, at).flat());
-    this.bars.forEach((bar, i) => bar.classList.toggle("turned", turned.has(run.operations[i])));
+    for (const operation of run.operations) this.bars.get(operation.key).element.classList.toggle("turned", turned.has(operation));
   }
 
   flying(event, x) {

@@ -94,7 +94,8 @@ class Run {
     this.putBy = new Map(this.puts.map(p => [`${p.from},${p.to},${p.place}`, p]));
     for (const [from, to, place, , at] of told.arrows) {
       const put = /** @type {Put} */ (this.putBy.get(`${from},${to},${place}`));
-      const accepted = put.frame.kind === "count" || this.stateAt(to, at - 1).expected[from] === put.frame.number;
+      const before = this.lastEventOf(to, at - 1), peer = before < 0 ? null : told.states[before].peers[from];
+      const accepted = put.frame.kind === "count" || (peer ? peer[1] : 0) === put.frame.number;
       this.events[at].frame = put.frame;
       this.events[at].take = { put, nth: put.takes.length, accepted };
       put.takes.push(at);
@@ -155,6 +156,13 @@ class Run {
     return [...Array(this.processes).keys()].filter(p => !this.stateAt(p, at).running);
   }
 
+  sharedWith(other) {
+    const shape = run => [run.processes, run.front, run.registers, run.shownRegisters].join(" ");
+    if (shape(this) !== shape(other)) return -1;
+    const differs = this.events.findIndex((event, at) => at > other.last || event.text !== other.events[at].text);
+    return differs < 0 ? this.events.length : differs;
+  }
+
   scheduleAt(at) {
     const head = [`processes ${this.processes}`, `registers ${this.registers.join(" ")}`, `front ${this.front}`];
     return [...head, ...this.events.slice(0, at + 1).map(event => event.text), ""].join("\n");
@@ -176,7 +184,12 @@ function decodeEvent(told, at, state) {
   return {
     at, text: told.event, process: told.process, frame: null, clock: told.clock,
     delivered: told.delivered.map(([time, process]) => ({ time, process })),
-    puts, note: told.note, state: decodeState(state), call: null, answered: null, take: null,
+    puts, note: told.note, call: null, answered: null, take: null,
+    get state() { // decoded where it is looked at: 64 processes have 64 numbers thrice for each event
+      const value = decodeState(state);
+      Object.defineProperty(this, "state", { value });
+      return value;
+    },
   };
 }
 

@@ -93,7 +93,7 @@ class Tips {
 
   light(key) {
     if (key === this.lit) return;
-    const { run, places, overlay } = this.diagram;
+    const { run, places } = this.diagram, { overlay } = this.diagram.layers;
     document.querySelectorAll(".lit").forEach(element => element.classList.remove("lit"));
     overlay.replaceChildren();
     this.lit = key;
