@@ -20,11 +20,13 @@ export function eventNode(places, event) {
   if (operation) {
     const answer = answered && answered === operation ?
       svg("tspan", { class: "done" }, (call ? " " : "") + "\u2192 " + shortAnswer(answered.answer.text)) : "";
-    group.append(svg("text", { class: "halo", x: x - 9, y: y - 36, "data-op": operation.key }, call ? call.text : null, answer));
+    group.append(svg("text", { class: "halo", x: x - 9, y: y - 36, "data-op": operation.key }, call ? call.text : null,
+      answer));
   }
   const width = Math.max(20, textWidth(String(event.clock)) + 8);
   group.append(
-    svg("rect", { class: "node" + (event.take && !event.take.accepted ? " none" : ""), x: x - width / 2, y: y - 10, width, height: 20,
+    svg("rect", { class: "node" + (event.take && !event.take.accepted ? " none" : ""), x: x - width / 2, y: y - 10,
+      width, height: 20,
       rx: isTick ? 2 : 10 }),
     svg("text", { class: "time", x, y: y + 4 }, String(event.clock)),
     ...event.delivered.map((stamp, i) => deliveryPill(run.operationOf(stamp), x - 9, y + 22 + 19 * i)));
@@ -40,7 +42,8 @@ function deliveryPill(operation, x, y) {
 
 /** The bar of an operation, from its call to its answer, or to the end of the diagram. */
 export function operationBar(places, operation) {
-  const bar = svg("rect", { class: `bar ${hue(operation.process)}`, "data-op": operation.key, x: barStart(places, operation),
+  const bar = svg("rect", { class: `bar ${hue(operation.process)}`, "data-op": operation.key,
+    x: barStart(places, operation),
     y: barTop(places, operation.process), height: places.roomy ? 7 : 4, rx: 2 });
   stretchBar(bar, places, operation);
   return bar;

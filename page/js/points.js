@@ -6,7 +6,10 @@ import { hue, svg } from "./elements.js";
 const diamond = (key, x, top, size) => svg("path", { class: "diamond", "data-op": key,
   d: `M${x} ${top}l${size} ${size}l${-size} ${size}l${-size} ${-size}Z` });
 
-/** Each point in the lane of the one memory and on its bar, the event at which it stands in the order, and the plumb line between both. */
+/**
+ * Each point in the lane of the one memory and on its bar, the event at which it stands in the order, and the plumb
+ * line between both.
+ */
 export function drawPoints(places) {
   const { run, roomy, xs } = places, lane = roomy ? 22 : 13, size = roomy ? 9 : 4.5, small = roomy ? 6 : 3.5;
   const atEvent = new Map();
@@ -15,7 +18,8 @@ export function drawPoints(places) {
   return run.points.map(({ op, at }, place) => {
     const nth = had.get(at) || 0;
     had.set(at, nth + 1);
-    const x = xs[at] + (nth - (atEvent.get(at) - 1) / 2) * (roomy ? 17 : 6), bar = barTop(places, op.process) + (roomy ? 3.5 : 2);
+    const x = xs[at] + (nth - (atEvent.get(at) - 1) / 2) * (roomy ? 17 : 6),
+      bar = barTop(places, op.process) + (roomy ? 3.5 : 2);
     const since = isUpdate(op) ? at : op.answer.at; // a read stands in the order once it is answered
     const group = svg("g", { class: `ev ${hue(op.process)}`, "data-ev": since },
       diamond(op.key, x, lane - size, size), diamond(op.key, xs[at], bar - small, small));
@@ -23,7 +27,8 @@ export function drawPoints(places) {
       group.append(svg("text", { class: "rank", x, y: lane + 3.5 }, String(op.first.place)));
       const label = op.value !== undefined ? `${op.register}=${op.value}` : shortAnswer(op.answer.text);
       const next = run.points[place + 1], space = next ? xs[next.at] - x - (next.at === at ? 0 : 30) : 99;
-      if (textWidth(label) < space) group.append(svg("text", { class: "halo lane", x: x + 13, y: lane + 4, "data-op": op.key }, label));
+      if (textWidth(label) < space) group.append(svg("text",
+        { class: "halo lane", x: x + 13, y: lane + 4, "data-op": op.key }, label));
     }
     return { since, group, plumb: svg("line", { class: "plumb", x1: x, y1: lane + size, x2: xs[at], y2: bar - 6 }) };
   });

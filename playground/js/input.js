@@ -20,7 +20,8 @@ export class Input {
   listenToButtons() {
     const { actions, playground } = this;
     const buttons = {
-      undo: () => playground.undo(-1), redo: () => playground.undo(1), cut: () => actions.cut(), rest: () => actions.rest(),
+      undo: () => playground.undo(-1), redo: () => playground.undo(1), cut: () => actions.cut(),
+      rest: () => actions.rest(),
       check: () => actions.check(), save: () => actions.openSaves(), link: () => actions.link(),
       outcomes: () => actions.outcomes(), "as-seeded": () => actions.asSchedule("schedule"),
       "as-fair": () => actions.asSchedule("schedule-fair"),
@@ -35,12 +36,14 @@ export class Input {
       playground.chooseEnds(event.target.checked);
       redraw(event);
     };
-    for (const kind of KINDS) byId("show-" + kind).addEventListener("change", () => playground.showRun(playground.view.at));
+    for (const kind of KINDS) byId("show-" + kind).addEventListener("change",
+      () => playground.showRun(playground.view.at));
   }
 
   clicked(event) {
     const { actions, playground } = this, end = event.target.closest("[data-offer]");
-    const plus = event.target.closest("[data-plus]"), arrow = playground.canClick && event.target.closest("#inner [data-frame]");
+    const plus = event.target.closest("[data-plus]"), arrow = playground.canClick &&
+      event.target.closest("#inner [data-frame]");
     if (!end && !plus && !arrow) return;
     event.stopPropagation();
     if (end && event.shiftKey) actions.leaveLost(end.dataset.put, true);
@@ -80,7 +83,8 @@ export class Input {
 }
 
 const isUndo = key => key.toLowerCase() === "z" || key === "y";
-const isTyping = target => target.closest("textarea,input,select") !== null && target.type !== "range" && target.type !== "checkbox";
+const isTyping = target => target.closest("textarea,input,select") !== null && target.type !== "range" &&
+  target.type !== "checkbox";
 
 /** The signs of a frame that may be taken, in the diagram and in the list, are marked together. */
 function markFrame(target, isOn) {

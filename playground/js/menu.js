@@ -1,4 +1,5 @@
-// The small form at a +, and the menus of a frame and of what is saved: at a place of the screen, gone with Escape or a click elsewhere.
+// The small form at a +, and the menus of a frame and of what is saved: at a place of the screen, gone with Escape or a
+// click elsewhere.
 import { byId, html } from "../../page/js/elements.js";
 
 export class Menu {
@@ -42,7 +43,8 @@ export class Menu {
   }
 
   item(text, hint, choose) {
-    const button = html("button", { type: "button", role: "menuitem", class: "item" }, text, hint ? html("code", {}, hint) : null);
+    const button = html("button", { type: "button", role: "menuitem", class: "item" }, text,
+      hint ? html("code", {}, hint) : null);
     button.onclick = () => {
       this.close();
       choose();

@@ -1,4 +1,5 @@
-// A text, the run that the programs make of it, and what is shown of both. What clicks and keys do to the text stands in actions.js.
+// A text, the run that the programs make of it, and what is shown of both. What clicks and keys do to the text stands
+// in actions.js.
 import { Run } from "../../page/js/run.js";
 import { byId, html } from "../../page/js/elements.js";
 import { Theme, View } from "../../page/js/view.js";
@@ -35,7 +36,8 @@ export class Playground {
     this.signs = new Ahead();
     this.ends = [];
     this.view = new View({
-      drawAhead: places => this.canClick ? this.signs.draw(places, this.ends, this.offers.idle) : { lines: [], ends: [] },
+      drawAhead: places => this.canClick ? this.signs.draw(places, this.ends, this.offers.idle) :
+        { lines: [], ends: [] },
       onShow: at => this.showLine(at),
     });
     this.editor = new Editor({ onType: text => this.typed(text), onLine: line => this.goToLine(line) });
@@ -91,7 +93,9 @@ export class Playground {
     this.showRun(at);
   }
 
-  /** What stays where a text has no run: the last good one, or at first that of the lines above the one that is refused. */
+  /**
+   * What stays where a text has no run: the last good one, or at first that of the lines above the one that is refused.
+   */
   async keepRun(text) {
     const { kind, refusal, why } = this.seen;
     this.canClick = false;
@@ -108,7 +112,10 @@ export class Playground {
 
   /* ---------- what is shown ---------- */
 
-  /** Draws the run with what may come next, which may have changed without it. What asks for places comes before what changes them. */
+  /**
+   * Draws the run with what may come next, which may have changed without it. What asks for places comes before what
+   * changes them.
+   */
   showRun(at, run = this.run) {
     const { view, offers } = this, focused = focusOf(document.activeElement);
     view.play(false);
@@ -127,7 +134,8 @@ export class Playground {
 
   /** The frames that are drawn ahead of the run, and the room for them; what else is never taken is drawn as lost. */
   chooseEnds(isRoomy = this.view.diagram.roomy) {
-    const { diagram } = this.view, hidden = new Set(["cast", "ack", "count"].filter(kind => !byId("show-" + kind).checked));
+    const { diagram } = this.view, hidden =
+      new Set(["cast", "ack", "count"].filter(kind => !byId("show-" + kind).checked));
     this.ends = this.canClick ? endsOf(this.offers.frames, hidden) : [];
     const ahead = new Set(this.ends.flatMap(({ puts }) => puts));
     diagram.isStub = put => !ahead.has(put);

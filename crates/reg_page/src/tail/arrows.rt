@@ -12,7 +12,8 @@ function curveOf(places, put, before, end, radiusAtEnd) {
   const { roomy, xs, ys } = places, start = [xs[put.at], ys[put.from]];
   const size = roomy ? (put.frame.kind === "cast" ? 10 : 8) : 6;
   const middle = bendOf(places, put, before, start, end);
-  const out = Math.atan2(middle[1] - start[1], middle[0] - start[0]), angle = Math.atan2(end[1] - middle[1], end[0] - middle[0]);
+  const out = Math.atan2(middle[1] - start[1], middle[0] - start[0]),
+    angle = Math.atan2(end[1] - middle[1], end[0] - middle[0]);
   const r = nodeRadius(roomy) + 1.5;
   const first = [start[0] + r * Math.cos(out), start[1] + r * Math.sin(out)];
   const last = [end[0] - radiusAtEnd * Math.cos(angle), end[1] - radiusAtEnd * Math.sin(angle)];
@@ -30,7 +31,8 @@ function takenArrow(places, event, curves) {
   const curve = curveOf(places, put, event.at, [xs[event.at], ys[put.to]], nodeRadius(roomy) + 1.5);
   curves.set(event.at, curve);
   const operation = run.operationIn(put.frame), [mx, my] = curve.at(.72);
-  return svg("g", { class: `arrow f-${kind} ${hue(put.from)}`, "data-frame": event.at, "data-op": operation ? operation.key : null },
+  return svg("g", { class: `arrow f-${kind} ${hue(put.from)}`, "data-frame": event.at,
+    "data-op": operation ? operation.key : null },
     svg("path", { class: "hit", d: curve.path }),
     svg("path", { class: kind, d: curve.path }),
     svg("path", { class: "tip" + (accepted ? "" : " hollow"), d: curve.tip }),
@@ -68,7 +70,8 @@ function stubsOf(places, event, lost) {
     },
     svg("path", { class: "hit", d: `M${x1} ${y1}L${x2} ${y2}` }),
     svg("path", { class: kind, d: `M${x1.toFixed(1)} ${y1.toFixed(1)}L${x2.toFixed(1)} ${y2.toFixed(1)}` }),
-    svg("path", { class: "cross", d: `M${x2 - c} ${y2 - c}l${2 * c} ${2 * c}M${x2 + c} ${y2 - c}l${-2 * c} ${2 * c}` }));
+    svg("path", { class: "cross",
+      d: `M${x2 - c} ${y2 - c}l${2 * c} ${2 * c}M${x2 + c} ${y2 - c}l${-2 * c} ${2 * c}` }));
   });
 }
 

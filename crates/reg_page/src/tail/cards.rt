@@ -34,10 +34,12 @@ class Cards {
     }
     const acting = at >= 0 ? this.run.events[at].process : 0;
     if (!this.lines) this.makeTable(box, all);
-    box.firstChild.replaceChildren(...[...new Set([acting, this.pinned === null ? acting : this.pinned])].map(p => this.card(p, at)));
+    box.firstChild.replaceChildren(...[...new Set([acting, this.pinned === null ? acting : this.pinned])].map(p =>
+      this.card(p, at)));
     for (const p of all) { // only the lines that differ
       const isActing = p === acting && at >= 0;
-      const last = this.run.lastEventOf(p, at), sign = (isActing ? "acting " : "") + (this.pinned === p ? "pinned" : "");
+      const last = this.run.lastEventOf(p, at), sign = (isActing ? "acting " : "") +
+        (this.pinned === p ? "pinned" : "");
       if (last === this.madeFor[p].last && sign === this.madeFor[p].sign) continue;
       const line = this.tableLine(p, at, isActing);
       this.lines[p].replaceWith(line);
@@ -49,8 +51,10 @@ class Cards {
   makeTable(box, all) {
     this.lines = all.map(p => this.tableLine(p, -1, false));
     this.madeFor = all.map(() => ({ last: -1, sign: "" }));
-    const head = html("tr", {}, html("th", { style: "width:3.9em" }, ""), html("th", { class: "n", style: "width:3.6em" }, "clock"),
-      html("th", {}, "copy"), html("th", { style: "width:7em" }, "runs"), html("th", { class: "n", style: "width:3.6em" }, "holds"),
+    const head = html("tr", {}, html("th", { style: "width:3.9em" }, ""),
+      html("th", { class: "n", style: "width:3.6em" }, "clock"),
+      html("th", {}, "copy"), html("th", { style: "width:7em" }, "runs"),
+      html("th", { class: "n", style: "width:3.6em" }, "holds"),
       html("th", {}, "least held waits for"));
     box.replaceChildren(html("div", { class: "cards" }),
       html("p", { class: "fine" }, "All processes. Press a line to keep its card open."),
@@ -67,7 +71,8 @@ class Cards {
     const waits = least ? [castChip(run, least), " ", none(blockers.length > 2 ? blockers.length + " processes" :
       blockers.map(r => "p" + r).join(", "))] : none("\u2013");
     return html("tr", { class: `pick ${hue(process)}` + (isActing ? " acting" : ""), "data-pin": process },
-      html("td", {}, pin), html("td", { class: "n" }, String(run.clockAt(process, at))), html("td", { class: "mono" }, copy),
+      html("td", {}, pin), html("td", { class: "n" }, String(run.clockAt(process, at))),
+      html("td", { class: "mono" }, copy),
       html("td", { class: "mono" }, running ? running.text : ""), html("td", { class: "n" }, String(state.held.length)),
       html("td", {}, waits));
   }
@@ -81,13 +86,17 @@ class Cards {
       const value = state.copy.get(r) || "0";
       return mark(value !== (old.copy.get(r) || "0"), `${run.registers[r]} = ${value}`);
     }));
-    const parts = [term("copy"), html("dd", { class: "mono" }, copy), term("runs"), html("dd", {}, this.runs(process, at, state))];
+    const parts = [term("copy"), html("dd", { class: "mono" }, copy), term("runs"),
+      html("dd", {}, this.runs(process, at, state))];
     if (others.length) parts.push(term("heard"), html("dd", {}, this.heard(state, old, others)));
     parts.push(term("holds"), html("dd", {}, this.holds(process, state, old, others)));
-    if (others.length) parts.push(term("kept", "bodies kept until they are acknowledged"), html("dd", {}, this.kept(state, old, others)));
-    return html("article", { class: `card ${hue(process)}` + (isActing ? " acting" : ""), "aria-label": `process ${process}` },
+    if (others.length) parts.push(term("kept", "bodies kept until they are acknowledged"),
+      html("dd", {}, this.kept(state, old, others)));
+    return html("article", { class: `card ${hue(process)}` + (isActing ? " acting" : ""),
+      "aria-label": `process ${process}` },
       html("h3", {}, whoTag(process),
-        html("span", {}, "clock ", mark(clock !== oldClock, clock !== oldClock ? `${oldClock} \u2192 ${clock}` : String(clock))),
+        html("span", {}, "clock ", mark(clock !== oldClock, clock !== oldClock ? `${oldClock} \u2192 ${clock}` :
+          String(clock))),
         html("span", { class: "run" }, `delivered ${state.delivered}`)),
       html("dl", {}, parts));
   }
@@ -101,7 +110,8 @@ class Cards {
   }
 
   heard(state, old, others) {
-    const one = r => mark(state.heard[r] !== old.heard[r], whoTag(r), state.heard[r] ? " at " + state.heard[r] : " \u2013");
+    const one = r => mark(state.heard[r] !== old.heard[r], whoTag(r),
+      state.heard[r] ? " at " + state.heard[r] : " \u2013");
     if (others.length <= 8) return joined(others.map(one));
     const heard = others.filter(r => state.heard[r]);
     return [`${heard.length} of ${others.length}` + (heard.length ? ": " : ""), joined(heard.map(one))];
@@ -115,11 +125,13 @@ class Cards {
       const isFresh = !old.held.some(s => s.time === stamp.time && s.process === stamp.process);
       const one = r => {
         const heard = stampText({ time: state.heard[r], process: r });
-        return blockers.includes(r) ? html("span", { class: "no nowrap" }, `p${r} ${state.heard[r] ? "at " + heard : "not heard"} \u2717 `) :
+        return blockers.includes(r) ? html("span", { class: "no nowrap" },
+          `p${r} ${state.heard[r] ? "at " + heard : "not heard"} \u2717 `) :
           html("span", { class: "yes nowrap" }, `p${r} at ${heard} \u2713 `);
       };
       return html("li", {}, mark(isFresh, castChip(run, stamp, run.operationOf(stamp).text)),
-        html("span", { class: "wait" }, others.length <= 5 ? others.map(r => [one(r), " "]) : ["waits for ", shown(run, some(blockers, 4))]));
+        html("span", { class: "wait" }, others.length <= 5 ? others.map(r => [one(r), " "]) :
+          ["waits for ", shown(run, some(blockers, 4))]));
     });
     const more = state.held.length - 12;
     return html("ol", { class: "queue" }, items, more > 0 ? html("li", { class: "none" }, `and ${more} more`) : null);
@@ -134,7 +146,8 @@ class Cards {
     if (!owed.size) return none(state.queued ? "nothing: all acknowledged" : "nothing queued");
     const isNew = r => old.acknowledged[r] !== state.acknowledged[r] || old.queued !== state.queued;
     const last = state.queued - 1;
-    return joined([...owed].map(([from, rs]) => [mark(rs.some(isNew), from === last ? `data ${from}` : `data ${from}\u2013${last}`),
+    return joined([...owed].map(([from, rs]) =>
+      [mark(rs.some(isNew), from === last ? `data ${from}` : `data ${from}\u2013${last}`),
       " for ", rs.length === others.length && others.length > 1 ? "all others" : shown(this.run, some(rs, 4))]), "; ");
   }
 }

@@ -2,7 +2,8 @@
 
 /// Of the page: the script, js/diagram.js.
 pub const DIAGRAM: &str = r##"/* diagram */
-const LAYERS = ["band", "ticks", "rails", "plumbs", "bars", "stubs", "arrows", "veil", "ghosts", "flight", "nodes", "points", "now", "ends", "overlay"];
+const LAYERS = ["band", "ticks", "rails", "plumbs", "bars", "stubs", "arrows", "veil", "ghosts", "flight", "nodes",
+  "points", "now", "ends", "overlay"];
 
 function gutterWidth(run, roomy) {
   const longest = Math.max(...run.shownRegisters.slice(0, 2).map(r => `${run.registers[r]} = `.length + 6));
@@ -47,7 +48,8 @@ class Diagram {
 
   keptEvents(run, places, hidden) {
     const old = this.places;
-    if (!old || old.roomy !== places.roomy || String(old.ys) !== String(places.ys) || [...hidden].join() !== [...this.hidden].join()) return 0;
+    if (!old || old.roomy !== places.roomy || String(old.ys) !== String(places.ys) ||
+      [...hidden].join() !== [...this.hidden].join()) return 0;
     const same = run.sharedWith(old.run), moved = places.xs.findIndex((x, at) => at >= same || x !== old.xs[at]);
     return Math.max(0, moved < 0 ? same : Math.min(moved, same));
   }
@@ -71,7 +73,8 @@ class Diagram {
     this.layers.rails.append(...this.rails);
     this.layers.veil.append(this.veil);
     this.layers.now.append(this.nowLine);
-    this.drawing = svg("svg", { role: this.drawAhead ? "group" : "img" }, svg("g", { id: "art" }, Object.values(this.layers)));
+    this.drawing = svg("svg", { role: this.drawAhead ? "group" : "img" },
+      svg("g", { id: "art" }, Object.values(this.layers)));
     byId("inner").replaceChildren(this.drawing);
     this.axisMark = svg("rect", { y: 4, height: 18, rx: 9, fill: "var(--now)" });
     this.axis = svg("svg", { height: 26 }, this.axisMark);
@@ -125,7 +128,8 @@ class Diagram {
   drawStubs() {
     if (this.hidden.has("lost")) return;
     for (const event of this.run.events) {
-      const lost = event.puts.filter(put => !put.takes.length && this.isStub(put)), key = stubKey(lost), old = this.stubs[event.at];
+      const lost = event.puts.filter(put => !put.takes.length && this.isStub(put)), key = stubKey(lost),
+        old = this.stubs[event.at];
       if (old && old.key === key) continue;
       if (old) cut(old.elements, 0);
       const elements = stubsOf(this.places, event, lost);
@@ -141,16 +145,19 @@ class Diagram {
   }
 
   drawEnds() {
-    const { ghosts, ends } = this.layers, ahead = this.drawAhead ? this.drawAhead(this.places) : { lines: [], ends: [] };
+    const { ghosts, ends } = this.layers, ahead = this.drawAhead ? this.drawAhead(this.places) :
+      { lines: [], ends: [] };
     ghosts.replaceChildren(...ahead.lines);
     const stays = ends.childElementCount === ahead.ends.length && ahead.ends.every(group => group.parentNode === ends);
     if (!stays) ends.replaceChildren(...ahead.ends); // what stays keeps the focus
   }
 
   fit() {
-    const { run, places, drawing } = this, { width, height } = places, { events, processes } = run;
-    update(drawing, { width, height, viewBox: `0 0 ${width} ${height}`, "aria-label": `${processes} ` +
-      `${plural(processes, "process", "processes")}, ${events.length} ${plural(events.length, "event")}. What each event does is told below.` });
+    const { run, places, drawing } = this, { width, height } = places;
+    const shape = `${run.processes} ${plural(run.processes, "process", "processes")}, ` +
+      `${run.events.length} ${plural(run.events.length, "event")}`;
+    update(drawing, { width, height, viewBox: `0 0 ${width} ${height}`,
+      "aria-label": shape + ". What each event does is told below." });
     update(this.axis, { width });
     update(this.band, { height });
     update(this.veil, { height, width: width + 2000 });
@@ -186,10 +193,12 @@ class Diagram {
     update(this.axisMark, { x: at < 0 ? -99 : xs[at] - markWidth / 2, width: markWidth });
     this.axisTexts.forEach((text, i) => text && text.classList.toggle("at", i === at));
     this.layers.flight.replaceChildren(...run.events
-      .filter(event => this.curves.has(event.at) && event.at > at && event.take.put.at <= at).map(event => this.flying(event, x)));
+      .filter(event => this.curves.has(event.at) && event.at > at &&
+        event.take.put.at <= at).map(event => this.flying(event, x)));
     this.rows.forEach((row, p) => this.showRow(row, p, at));
     const turned = new Set(turnedAt(run, at).flat());
-    for (const operation of run.operations) this.bars.get(operation.key).element.classList.toggle("turned", turned.has(operation));
+    for (const operation of run.operations) this.bars.get(operation.key).element.classList.toggle("turned",
+      turned.has(operation));
   }
 
   flying(event, x) {
@@ -201,7 +210,8 @@ class Diagram {
       else high = middle;
     }
     const [cx, cy] = curve(low);
-    return svg("circle", { class: `flying f-${event.frame.kind} ${hue(event.take.put.from)}`, cx, cy, r: this.places.roomy ? 4.5 : 3 });
+    return svg("circle", { class: `flying f-${event.frame.kind} ${hue(event.take.put.from)}`, cx, cy,
+      r: this.places.roomy ? 4.5 : 3 });
   }
 
   showRow(row, process, at) {
@@ -218,7 +228,8 @@ class Diagram {
     }
     const running = run.runningAt(process, at), registers = run.shownRegisters;
     fill(row, {}, [whoTag(process), " ", small("clock ", html("b", {}, clock)), html("br"),
-      small(...registers.slice(0, 2).flatMap((r, i) => [i ? ", " : "", `${run.registers[r]} = `, html("b", {}, state.copy.get(r) || "0")]),
+      small(...registers.slice(0, 2).flatMap((r, i) => [i ? ", " : "", `${run.registers[r]} = `,
+        html("b", {}, state.copy.get(r) || "0")]),
         registers.length > 2 ? " \u2026" : ""), html("br"),
       running ? [small(running.text + " .."), html("br")] : "", small(held ? `holds ${held}` : "")]);
   }
@@ -231,7 +242,8 @@ class Diagram {
     else if (x < box.scrollLeft + 60 || x > box.scrollLeft + view - 140) box.scrollLeft = Math.max(0, x - view * .6);
     if (at < 0) return;
     const y = ys[this.run.events[at].process];
-    if (y < box.scrollTop + 30 || y > box.scrollTop + box.clientHeight - 60) box.scrollTop = Math.max(0, y - box.clientHeight / 2);
+    if (y < box.scrollTop + 30 || y > box.scrollTop + box.clientHeight - 60) box.scrollTop =
+      Math.max(0, y - box.clientHeight / 2);
   }
 
   sheets() {
@@ -239,7 +251,8 @@ class Diagram {
     for (let x = 0; x < width; x += each) {
       const w = Math.min(each, Math.max(width - x, Math.min(each, 700)));
       const numbers = xs.map((at, k) => at >= x - 5 && at < x + w && (roomy || k % 5 === 0) ?
-        svg("text", { x: at, y: -6, "text-anchor": "middle", style: "fill:var(--soft);font-size:11px" }, String(k)) : null);
+        svg("text", { x: at, y: -6, "text-anchor": "middle", style: "fill:var(--soft);font-size:11px" }, String(k)) :
+          null);
       const names = ys.map((y, p) =>
         svg("text", { x: x - 42, y: y + 4, style: "font-weight:700", class: hue(p), fill: "var(--c)" }, "p" + p));
       sheets.push(svg("svg", { viewBox: `${x - 46} -20 ${w + 50} ${height + 20}` }, svg("use", { href: "#art" }),

@@ -14,7 +14,8 @@ function fill(element, attributes, kids) {
   return element;
 }
 const html = (tag, attributes, ...kids) => fill(document.createElement(tag), attributes, kids);
-const svg = (tag, attributes, ...kids) => fill(document.createElementNS("http://www.w3.org/2000/svg", tag), attributes, kids);
+const svg = (tag, attributes, ...kids) => fill(document.createElementNS("http://www.w3.org/2000/svg", tag),
+  attributes, kids);
 
 const hue = process => "c" + process % 8;
 const whoTag = process => html("span", { class: "who " + hue(process) }, "p" + process);

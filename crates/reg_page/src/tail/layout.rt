@@ -5,8 +5,10 @@ pub const LAYOUT: &str = r##"/* layout */
 const LETTER = 6.95; // the width of a letter of the diagram
 const textWidth = text => text.length * LETTER;
 const shortAnswer = text => text.replace("value ", "");
-const pillText = operation => stampText({ time: operation.castTime, process: operation.process }).replace(" ", "") +
-  (operation.kind === "read" ? ` read ${operation.register}` : ` ${operation.register}=${operation.value}`);
+function pillText({ castTime, process, kind, register, value }) {
+  const stamp = stampText({ time: castTime, process }).replace(" ", "");
+  return stamp + (kind === "read" ? ` read ${register}` : ` ${register}=${value}`);
+}
 
 function layOut(run, roomy, room, ahead = 0) {
   let low = roomy ? 44 : 20, high = roomy ? 150 : 34;
@@ -30,7 +32,8 @@ function placesBy(run, roomy, step, ahead) {
     ys.push(y);
     y += roomy ? (most ? 26 : 18) + 19 * most : 9;
   }
-  const last = xs.length ? xs[xs.length - 1] : (roomy ? 26 : 14) - step, end = Math.max(last + (roomy ? 22 : 12), right);
+  const last = xs.length ? xs[xs.length - 1] : (roomy ? 26 : 14) - step,
+    end = Math.max(last + (roomy ? 22 : 12), right);
   return { run, roomy, xs, ys, end, width: Math.max(last + 30, right, end + ahead) + 14, height: y + (roomy ? 24 : 8) };
 }
 
@@ -72,7 +75,8 @@ function lineBehind({ xs, roomy }, at) {
 }
 
 const curveAt = ([x1, y1], [cx, cy], [x2, y2], t) =>
-  [(1 - t) * (1 - t) * x1 + 2 * t * (1 - t) * cx + t * t * x2, (1 - t) * (1 - t) * y1 + 2 * t * (1 - t) * cy + t * t * y2];
+  [(1 - t) * (1 - t) * x1 + 2 * t * (1 - t) * cx + t * t * x2,
+    (1 - t) * (1 - t) * y1 + 2 * t * (1 - t) * cy + t * t * y2];
 
 function bendOf(places, put, before, [x1, y1], [x2, y2]) {
   const { run, roomy, xs, ys } = places;

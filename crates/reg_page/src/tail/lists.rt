@@ -5,12 +5,14 @@ pub const LISTS: &str = r##"/* lists */
 const empty = text => html("p", { class: "empty" }, text);
 const number = text => html("td", { class: "n" }, text);
 const mono = (...kids) => html("td", { class: "mono" }, ...kids);
-const headOf = cells => html("thead", {}, html("tr", {}, cells.map(([text, cls]) => html("th", { class: cls || null }, text))));
+const headOf = cells => html("thead", {},
+  html("tr", {}, cells.map(([text, cls]) => html("th", { class: cls || null }, text))));
 
 function effectOn(memory, { kind, register, value }) {
   const was = memory.get(register) || "0";
   if (kind !== "read") memory.set(register, value);
-  return kind === "write" ? `${register} = ${value}` : kind === "swap" ? `was ${was}, ${register} = ${value}` : `sees ${was}`;
+  return kind === "write" ? `${register} = ${value}` : kind === "swap" ? `was ${was}, ${register} = ${value}` :
+    `sees ${was}`;
 }
 
 function turnedMarks(run, at) {
@@ -25,8 +27,12 @@ function turnedMarks(run, at) {
 function orderNote(run, list, before, marks) {
   const isOld = ({ op }) => before.has(op.key);
   const inserted = list.find((ranked, i) => !isOld(ranked) && list.slice(i + 1).some(isOld));
-  if (inserted) return `${inserted.op.name} is new, and stands before older ones: this order need not follow the events.`;
-  if (marks.size) return "The marked operations stand otherwise than in real time: one was answered before the other was called.";
+  if (inserted) {
+    return `${inserted.op.name} is new, and stands before older ones: this order need not follow the events.`;
+  }
+  if (marks.size) {
+    return "The marked operations stand otherwise than in real time: one was answered before the other was called.";
+  }
   return "Each operation answers as one memory would, one after another" +
     (run.isRealTime ? "; its point lies between its call and its answer." : ", in each process's own order.");
 }
@@ -36,11 +42,13 @@ function showOrder(run, at, later) {
   const before = at >= 0 ? new Set(witnessAt(run, at - 1).map(({ op }) => op.key)) : new Set();
   const rows = list.map(({ op, rank }, i) => html("tr",
     { class: "line " + hue(op.process) + (before.has(op.key) ? "" : " fresh"), "data-op": op.key },
-    number(String(run.isRealTime ? rank[0] : i)), html("td", {}, opChip(op, op.name)), html("td", { class: "mono nowrap" }, op.text),
+    number(String(run.isRealTime ? rank[0] : i)), html("td", {}, opChip(op, op.name)),
+    html("td", { class: "mono nowrap" }, op.text),
     mono(effectOn(memory, op), op.answer && op.answer.at <= at ? "" : none(" (open)"),
       marks.has(op) ? html("span", { class: "turned" }, marks.get(op)) : ""),
     run.isRealTime ? html("td", { class: "n nowrap" }, op.first ? "\u25c6 " + op.first.at : "") : null));
-  const head = [[run.isRealTime ? "place" : "#", "n"], [""], ["operation"], ["memory"], ...(run.isRealTime ? [["point", "n"]] : [])];
+  const head = [[run.isRealTime ? "place" : "#", "n"], [""], ["operation"], ["memory"],
+    ...(run.isRealTime ? [["point", "n"]] : [])];
   box.replaceChildren(list.length ? html("table", {}, headOf(head), html("tbody", {}, rows)) : empty("Nothing yet."));
   byId("order-fine").textContent = orderNote(run, list, before, marks);
   later(() => {
@@ -51,13 +59,15 @@ function showOrder(run, at, later) {
 
 function showHistory(run, at, later) {
   const box = byId("history");
-  const row = (k, op, what, text) => html("tr", { class: "line " + hue(op.process) + (k === at ? " fresh" : ""), "data-op": op.key },
+  const row = (k, op, what, text) =>
+    html("tr", { class: "line " + hue(op.process) + (k === at ? " fresh" : ""), "data-op": op.key },
     number(String(k)), html("td", {}, opChip(op, op.name)), html("td", {}, what), mono(text));
   const rows = run.events.slice(0, at + 1).flatMap(({ at: k, call, answered }) => [
     ...(call ? [row(k, call, "call", call.text)] : []),
     ...(answered ? [row(k, answered, "answer", answered.answer.text)] : []),
   ]);
-  box.replaceChildren(rows.length ? html("table", {}, headOf([["event", "n"], [""], ["entry"], [""]]), html("tbody", {}, rows)) :
+  box.replaceChildren(rows.length ? html("table", {}, headOf([["event", "n"], [""], ["entry"], [""]]),
+    html("tbody", {}, rows)) :
     empty("Nothing yet."));
   later(() => {
     box.scrollTop = 1e6;
@@ -74,7 +84,8 @@ function showWires(run, at) {
       mono(frameText(put.frame).replace("acknowledgement", "ack")),
       number(put === next ? "next" : put.takes.length ? "at " + put.takes[0] : "never"));
   });
-  const nothing = run.puts.some(put => put.at <= at) ? "Every frame that was put has been taken." : "No frame was put yet.";
+  const nothing = run.puts.some(put => put.at <= at) ? "Every frame that was put has been taken." :
+    "No frame was put yet.";
   byId("wires").replaceChildren(rows.length ? html("table", {}, html("tbody", {}, rows)) : empty(nothing),
     untaken.length > most ? empty(`and ${untaken.length - most} more`) : "");
 }

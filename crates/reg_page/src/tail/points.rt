@@ -13,7 +13,8 @@ function drawPoints(places) {
   return run.points.map(({ op, at }, place) => {
     const nth = had.get(at) || 0;
     had.set(at, nth + 1);
-    const x = xs[at] + (nth - (atEvent.get(at) - 1) / 2) * (roomy ? 17 : 6), bar = barTop(places, op.process) + (roomy ? 3.5 : 2);
+    const x = xs[at] + (nth - (atEvent.get(at) - 1) / 2) * (roomy ? 17 : 6),
+      bar = barTop(places, op.process) + (roomy ? 3.5 : 2);
     const since = isUpdate(op) ? at : op.answer.at; // a read stands in the order once it is answered
     const group = svg("g", { class: `ev ${hue(op.process)}`, "data-ev": since },
       diamond(op.key, x, lane - size, size), diamond(op.key, xs[at], bar - small, small));
@@ -21,7 +22,8 @@ function drawPoints(places) {
       group.append(svg("text", { class: "rank", x, y: lane + 3.5 }, String(op.first.place)));
       const label = op.value !== undefined ? `${op.register}=${op.value}` : shortAnswer(op.answer.text);
       const next = run.points[place + 1], space = next ? xs[next.at] - x - (next.at === at ? 0 : 30) : 99;
-      if (textWidth(label) < space) group.append(svg("text", { class: "halo lane", x: x + 13, y: lane + 4, "data-op": op.key }, label));
+      if (textWidth(label) < space) group.append(svg("text",
+        { class: "halo lane", x: x + 13, y: lane + 4, "data-op": op.key }, label));
     }
     return { since, group, plumb: svg("line", { class: "plumb", x1: x, y1: lane + size, x2: xs[at], y2: bar - 6 }) };
   });

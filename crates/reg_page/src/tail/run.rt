@@ -33,7 +33,8 @@ function decodeState(told) {
 
 function blankState(processes) {
   const zeros = Array(processes).fill(0);
-  return { heard: zeros, expected: zeros, acknowledged: zeros, queued: 0, held: [], copy: new Map(), delivered: 0, running: null };
+  return { heard: zeros, expected: zeros, acknowledged: zeros, queued: 0, held: [], copy: new Map(), delivered: 0,
+    running: null };
 }
 
 const opKey = (process, number) => process + "." + number;
@@ -63,6 +64,10 @@ class Run {
     this.eventsOf = Array.from({ length: told.processes }, () => []);
     for (const event of this.events) this.eventsOf[event.process].push(event.at);
     this.last = this.events.length - 1;
+    this.order = [];
+    this.puts = this.events.flatMap(event => event.puts);
+    this.putBy = new Map(this.puts.map(p => [`${p.from},${p.to},${p.place}`, p]));
+    this.operationOfCast = new Map();
     this.linkOperations(told);
     this.linkFrames(told);
   }
@@ -86,12 +91,11 @@ class Run {
       op.point = at;
       return { op, at };
     });
-    this.operationOfCast = new Map(this.operations.filter(o => o.castTime !== null).map(o => [o.castTime + "," + o.process, o]));
+    this.operationOfCast = new Map(this.operations.filter(o => o.castTime !== null).map(o =>
+      [o.castTime + "," + o.process, o]));
   }
 
   linkFrames(told) {
-    this.puts = this.events.flatMap(event => event.puts);
-    this.putBy = new Map(this.puts.map(p => [`${p.from},${p.to},${p.place}`, p]));
     for (const [from, to, place, , at] of told.arrows) {
       const put = /** @type {Put} */ (this.putBy.get(`${from},${to},${place}`));
       const before = this.lastEventOf(to, at - 1), peer = before < 0 ? null : told.states[before].peers[from];
@@ -172,7 +176,8 @@ class Run {
 function decodeOperation(told) {
   const [kind, register, value] = told.op.split(" ");
   return {
-    process: told.process, number: told.number, text: told.op, kind, register, value, call: told.call, answer: told.answer,
+    process: told.process, number: told.number, text: told.op, kind, register, value, call: told.call,
+    answer: told.answer,
     key: opKey(told.process, told.number), name: `p${told.process} #${told.number}`,
     castTime: null, first: null, readPlace: null, point: null,
   };

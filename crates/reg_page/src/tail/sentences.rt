@@ -49,10 +49,15 @@ function whyHeld(run, state, process, stamp) {
 function whyStarted(run, operation, start) {
   const { front } = run;
   if (start === "look") {
-    return [`Under ${front} a read is not cast. No own cast of `, who(operation.process), " is on its way, so its copy answers at once."];
+    return [`Under ${front} a read is not cast. No own cast of `, who(operation.process),
+      " is on its way, so its copy answers at once."];
   }
-  if (start === "held") return [`Under ${front} a read is not cast, but it waits until the own casts before it are delivered.`];
-  if (front === "linear") return ["The front end linear casts every operation, and answers it when its own process delivers it."];
+  if (start === "held") {
+    return [`Under ${front} a read is not cast, but it waits until the own casts before it are delivered.`];
+  }
+  if (front === "linear") {
+    return ["The front end linear casts every operation, and answers it when its own process delivers it."];
+  }
   if (front === "local-write" && operation.kind === "write") {
     return ["Under local-write a write is answered at once; its cast is still to be delivered."];
   }
@@ -64,15 +69,18 @@ function whyStarted(run, operation, start) {
 
 const START = {
   lead: ["Nothing has happened: every clock is 0, every register holds 0, no frame is on a wire."],
-  lines: [{ word: "step", tone: "next", body: ["Step with \u2192 or the slider. The grey part of the diagram is still to come."] }],
+  lines: [{ word: "step", tone: "next",
+    body: ["Step with \u2192 or the slider. The grey part of the diagram is still to come."] }],
 };
 
 function storyOf(run, at) {
   if (at < 0) return START;
   const event = run.events[at];
   const old = run.stateAt(event.process, at - 1);
-  const story = event.call ? storyOfCall(run, event, event.call) : event.take ? storyOfTake(run, event, old) : storyOfTick(run, event);
-  story.lines.push(...deliveryLines(run, event, old), ...heldLines(run, event), ...answerLines(run, event), ...turnedLines(run, at),
+  const story = event.call ? storyOfCall(run, event, event.call) : event.take ? storyOfTake(run, event, old) :
+    storyOfTick(run, event);
+  story.lines.push(...deliveryLines(run, event, old), ...heldLines(run, event), ...answerLines(run, event),
+    ...turnedLines(run, at),
     ...putLines(run, event));
   return story;
 }
@@ -84,7 +92,8 @@ function storyOfCall(run, event, operation) {
   if (operation.castTime !== null) {
     const others = [...Array(run.processes).keys()].filter(r => r !== me);
     const goes = !others.length ? [". There is nobody else to hear of it."] :
-      [". It goes to ", ...(run.processes > 6 ? [`all ${others.length} others`] : some(others)), ", and into the own queue."];
+      [". It goes to ", ...(run.processes > 6 ? [`all ${others.length} others`] : some(others)),
+        ", and into the own queue."];
     return {
       lead: [...call, ", its operation #" + operation.number + "."],
       lines: [
@@ -103,7 +112,8 @@ function storyOfCall(run, event, operation) {
   const own = event.state.held.filter(stamp => stamp.process === me);
   return {
     lead: [...call, ", which has to wait."],
-    lines: [{ word: "waits", tone: "block", body: [...whyStarted(run, operation, "held"), " On ", plural(own.length, "its", "their"),
+    lines: [{ word: "waits", tone: "block", body: [...whyStarted(run, operation, "held"), " On ",
+      plural(own.length, "its", "their"),
       " way: ", ...listed(own.map(stamp => castPart(stamp))), "."] }],
   };
 }
@@ -121,8 +131,10 @@ function storyOfTake(run, event, old) {
     lines: [
       { word: "heard", tone: "", body: [who(from), ` at time ${frame.time}` +
         (old.heard[from] ? `, before that at ${old.heard[from]}` : " for the first time") +
-        (isCast ? ". The cast is put into the queue, and acknowledged to all others." : ". Whatever it casts from now on has a later time.")] },
-      { word: "clock", tone: "", body: [`${clock} \u2192 max(${clock}, ${frame.time}) + 1 = ${event.clock}: past the time that came in.`] },
+        (isCast ? ". The cast is put into the queue, and acknowledged to all others." :
+          ". Whatever it casts from now on has a later time.")] },
+      { word: "clock", tone: "",
+        body: [`${clock} \u2192 max(${clock}, ${frame.time}) + 1 = ${event.clock}: past the time that came in.`] },
     ],
   };
 }
@@ -131,17 +143,20 @@ function storyOfCount(event, old) {
   const { frame, process: me, state } = event, from = frame.sender;
   const was = old.acknowledged[from], end = Math.min(frame.count, state.queued);
   const body = state.acknowledged[from] > was ?
-    [who(from), ` has accepted ${frame.count} ${plural(frame.count, "body", "bodies")} of `, who(me), ", which no longer keeps ",
+    [who(from), ` has accepted ${frame.count} ${plural(frame.count, "body", "bodies")} of `, who(me),
+      ", which no longer keeps ",
       end - was === 1 ? `data ${was}` : `data ${was} to ${end - 1}`, " for it."] :
     [who(me), " knew already that ", who(from), ` has accepted ${was}: nothing changes.`];
-  return { lead: [who(me), ` takes count ${frame.count} from `, who(from), "."], lines: [{ word: "link", tone: "", body }] };
+  return { lead: [who(me), ` takes count ${frame.count} from `, who(from), "."],
+    lines: [{ word: "link", tone: "", body }] };
 }
 
 function storyOfDrop(event, old) {
   const { frame, process: me } = event, from = frame.sender;
   const wanted = old.expected[from], isOld = frame.number < wanted;
   return {
-    lead: [who(me), ` takes data ${frame.number} from `, who(from), isOld ? " again, and drops it." : " too early, and drops it."],
+    lead: [who(me), ` takes data ${frame.number} from `, who(from),
+      isOld ? " again, and drops it." : " too early, and drops it."],
     lines: [{ word: "why", tone: "block", body: isOld ?
       ["It was accepted before: ", who(me), ` expects data ${wanted} next. A repeated frame changes nothing.`] :
       [who(me), ` still lacks data ${wanted}. What comes from one process is accepted in order, so `, who(from),
@@ -176,7 +191,8 @@ function deliveryLines(run, event, old) {
     const operation = run.operationOf(stamp), { first } = operation;
     const register = run.registers.indexOf(operation.register), before = copy.get(register) || "0";
     if (operation.value !== undefined) copy.set(register, operation.value);
-    const effect = operation.value !== undefined ? [": ", code(operation.register), ` was ${before}, is now ${operation.value}. `] :
+    const effect = operation.value !== undefined ? [": ", code(operation.register),
+      ` was ${before}, is now ${operation.value}. `] :
       [": a read changes nothing. "];
     const where = first.at !== event.at ?
       [who(run.events[first.at].process), ` was first, at event ${first.at}; place ${first.place} here too.`] :
@@ -199,9 +215,11 @@ function heldLines(run, event) {
   const why = whyHeld(run, state, me, least);
   if (fresh && isSame(fresh, least)) return [hold([castPart(least), " can't be delivered yet: ", ...why, "."])];
   if (fresh && state.held.some(stamp => isSame(stamp, fresh))) {
-    return [hold([castPart(fresh), " stands behind ", castPart(least), " in the queue, which can't be delivered yet: ", ...why, "."])];
+    return [hold([castPart(fresh), " stands behind ", castPart(least), " in the queue, which can't be delivered yet: ",
+      ...why, "."])];
   }
-  return [hold([castPart(least, run.operationOf(least).text), " is the least held, and can't be delivered yet: ", ...why, "."])];
+  return [hold([castPart(least, run.operationOf(least).text), " is the least held, and can't be delivered yet: ",
+    ...why, "."])];
 }
 const hold = body => ({ word: "holds", tone: "block", body });
 
@@ -242,7 +260,8 @@ function turnedLines(run, at) {
     namePart(newer), " ", code(newer.text), " now stands before ", namePart(older), " ", code(older.text),
     " in the order. In real time it is the other way round: ", namePart(older),
     ` was answered at event ${older.answer.at}, before the call of `, namePart(newer), ` at event ${newer.call}.`] }));
-  if (turned.length > 3) lines.push({ word: "older", tone: "block", body: [`And ${turned.length - 3} more such pairs.`] });
+  if (turned.length > 3) lines.push({ word: "older", tone: "block",
+    body: [`And ${turned.length - 3} more such pairs.`] });
   return lines;
 }
 

@@ -9,16 +9,19 @@ const codeTag = text => html("code", {}, text);
 function operationTip(run, operation) {
   const { answer, call, castTime, first, process, number, point } = operation, source = sourceOf(run, operation);
   const place = run.witness.findIndex(([p, i]) => p === process && i === number);
-  const answered = answer ? [answer.at === call ? "answered at once: " : `answered at event ${answer.at}: `, boldTag(answer.text)] :
+  const answered = answer ? [answer.at === call ? "answered at once: " : `answered at event ${answer.at}: `,
+    boldTag(answer.text)] :
     "not answered in this run";
-  const cast = castTime === null ? ["not cast: answered from the copy"] : ["cast ", codeTag(`(${castTime}, ${process})`),
+  const cast = castTime === null ? ["not cast: answered from the copy"] :
+    ["cast ", codeTag(`(${castTime}, ${process})`),
     first ? `, delivered first at event ${first.at} by p${run.events[first.at].process}` : ", delivered nowhere"];
   const turned = turnedAt(run, run.last).filter(pair => pair.includes(operation)).slice(0, 3).map(([newer, older]) =>
     tipLine(newer === operation ? `stands before ${older.name} in the order, which was answered before its call` :
       `stands behind ${newer.name} in the order, which was called after its answer`));
   return [boldTag(operation.name), " ", codeTag(operation.text), html("ul", {},
     tipLine(`called at event ${call}, `, answered), tipLine(...cast),
-    tipLine(place >= 0 ? `number ${place} of the order of the whole run` : "not in the order of the run: nobody saw it"),
+    tipLine(place >= 0 ? `number ${place} of the order of the whole run` :
+      "not in the order of the run: nobody saw it"),
     point !== null ? tipLine(`linearization point: event ${point}`) : null, ...turned,
     source ? tipLine("reads ", boldTag(source.name), " ", codeTag(source.text)) :
       source === null ? tipLine("reads the 0 that was there at first") : null)];
@@ -26,7 +29,8 @@ function operationTip(run, operation) {
 
 function takenTip(event) {
   const { put, accepted, nth } = event.take;
-  return [codeTag(frameText(put.frame)), html("ul", {}, tipLine(`p${put.from} put it at event ${put.at}, p${put.to} takes it at event ${event.at}`),
+  return [codeTag(frameText(put.frame)),
+    html("ul", {}, tipLine(`p${put.from} put it at event ${put.at}, p${put.to} takes it at event ${event.at}`),
     accepted ? null : tipLine("dropped there"), nth ? tipLine(`taken before, at event ${put.takes[0]}`) : null)];
 }
 
@@ -34,7 +38,8 @@ function lostTip(run, told) {
   const [at, list, count] = told.split(":"), [to, place] = list.split(" ")[0].split(".");
   const put = run.putBy.get(`${run.events[at].process},${to},${place}`);
   return [codeTag(frameText(put.frame)), html("ul", {},
-    tipLine(`put at event ${at} to ` + (count > 1 ? `${count} processes` : `p${put.to}`) + ", and never taken in this run"))];
+    tipLine(`put at event ${at} to ` + (count > 1 ? `${count} processes` : `p${put.to}`) +
+      ", and never taken in this run"))];
 }
 
 function wireTip(put) {
@@ -71,7 +76,8 @@ class Tips {
   }
 
   point(target, x, y) {
-    const { run } = this.diagram, element = target.closest && target.closest("[data-op],[data-frame],[data-lost],[data-put]");
+    const { run } = this.diagram, element = target.closest &&
+      target.closest("[data-op],[data-frame],[data-lost],[data-put]");
     if (!element || !run) {
       this.clear();
       return;
@@ -99,12 +105,14 @@ class Tips {
     this.lit = key;
     byId("diagram").classList.toggle("dim", key !== null);
     if (key === null) return;
-    const markAll = (k, what) => document.querySelectorAll(`${what}[data-op="${CSS.escape(k)}"]`).forEach(e => e.classList.add("lit"));
+    const markAll = (k, what) => document.querySelectorAll(`${what}[data-op="${CSS.escape(k)}"]`).forEach(e =>
+      e.classList.add("lit"));
     markAll(key, "");
     const operation = run.operationBy.get(key), source = operation ? sourceOf(run, operation) : null;
     if (!source) return;
     const x1 = places.xs[source.first.at], y1 = barTop(places, source.process) + 3;
-    const x2 = places.xs[operation.answer ? operation.answer.at : operation.call], y2 = barTop(places, operation.process) + 3, top = Math.min(y1, y2) - 26;
+    const x2 = places.xs[operation.answer ? operation.answer.at : operation.call],
+      y2 = barTop(places, operation.process) + 3, top = Math.min(y1, y2) - 26;
     overlay.append(svg("path", { class: "source", d: `M${x1} ${y1}C${x1} ${top},${x2} ${top},${x2} ${y2}` }));
     markAll(source.key, ".bar");
   }

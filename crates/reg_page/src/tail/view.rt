@@ -36,7 +36,8 @@ class View {
     const bold = text => html("b", {}, text);
     if (run.title) byId("title").textContent = document.title = run.title;
     byId("facts").replaceChildren(bold(`${run.processes} ${plural(run.processes, "process", "processes")}`),
-      ` \u00b7 ${plural(run.registers.length, "register")} `, bold(names), " \u00b7 front end ", bold(run.front), `: ${FRONTS[run.front]} \u00b7 `,
+      ` \u00b7 ${plural(run.registers.length, "register")} `, bold(names), " \u00b7 front end ", bold(run.front),
+      `: ${FRONTS[run.front]} \u00b7 `,
       bold(`${run.events.length} ${plural(run.events.length, "event")}`));
     byId("key-point").hidden = !run.isRealTime;
   }
@@ -88,7 +89,8 @@ class View {
 
   showStory(at) {
     const { run } = this, event = at >= 0 ? run.events[at] : null, story = storyOf(run, at);
-    const title = event ? ["Event ", String(at), html("code", { class: "words" }, event.text)] : "Before the first event";
+    const title = event ? ["Event ", String(at), html("code", { class: "words" }, event.text)] :
+      "Before the first event";
     byId("story").replaceChildren(html("h2", {}, title), html("p", { class: "lead" }, shown(run, story.lead)),
       event && event.note ? html("p", { class: "note" }, event.note) : "",
       html("ul", { class: "why" }, story.lines.map(({ word, tone, body }) =>
@@ -109,7 +111,8 @@ class View {
     this.timer = null;
     if (isOn) {
       if (this.at >= this.run.last) this.show(-1);
-      this.timer = setInterval(() => this.at >= this.run.last ? this.play(false) : this.show(this.at + 1), this.run.last >= 100 ? 500 : 1400);
+      this.timer = setInterval(() => this.at >= this.run.last ? this.play(false) : this.show(this.at + 1),
+        this.run.last >= 100 ? 500 : 1400);
     }
     byId("play").textContent = isOn ? "Pause" : "Play";
     byId("play").setAttribute("aria-label", isOn ? "Pause" : "Play");
@@ -158,7 +161,8 @@ class View {
   }
 
   clicked({ target, clientX }) {
-    const pin = target.closest("[data-pin]"), at = target.closest("[data-ev]"), chip = target.closest(".panels [data-op]");
+    const pin = target.closest("[data-pin]"), at = target.closest("[data-ev]"),
+      chip = target.closest(".panels [data-op]");
     if (pin && !target.closest("[data-op]")) this.cards.pin(+pin.dataset.pin, this.at);
     else if (at) this.go(+at.dataset.ev);
     else if (chip) this.reach(this.run.operationBy.get(chip.dataset.op));
