@@ -47,9 +47,8 @@ class Diagram {
   }
 
   keptEvents(run, places, hidden) {
-    const old = this.places;
-    if (!old || old.roomy !== places.roomy || String(old.ys) !== String(places.ys) ||
-      [...hidden].join() !== [...this.hidden].join()) return 0;
+    const old = this.places, shape = it => [it.roomy, it.height, ...it.ys].join();
+    if (!old || shape(old) !== shape(places) || [...hidden].join() !== [...this.hidden].join()) return 0;
     const same = run.sharedWith(old.run), moved = places.xs.findIndex((x, at) => at >= same || x !== old.xs[at]);
     return Math.max(0, moved < 0 ? same : Math.min(moved, same));
   }
