@@ -103,7 +103,8 @@ export class Playground {
     document.body.classList.add("stale");
     if (kind === "report") return showReport(text);
     if (this.run) return;
-    byId("no-run").replaceChildren(html("p", { class: "lead" }, refusal));
+    byId("no-run").replaceChildren(html("p", { class: "lead" },
+      refusal || "The text is refused, so there is no run yet. Why it is stands below it."));
     const place = placeOf(why), above = place ? text.split("\n").slice(0, place.line).join("\n") : "";
     const { told } = above ? await look(above) : EMPTY;
     if (told) this.showRun(Infinity, this.run = new Run(told));

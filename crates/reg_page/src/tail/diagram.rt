@@ -76,7 +76,8 @@ class Diagram {
       svg("g", { id: "art" }, Object.values(this.layers)));
     byId("inner").replaceChildren(this.drawing);
     this.axisMark = svg("rect", { y: 4, height: 18, rx: 9, fill: "var(--now)" });
-    this.axis = svg("svg", { height: 26 }, this.axisMark);
+    this.axisNumber = svg("text", { class: "at", y: 17 }); // of an event that has none in a crowd
+    this.axis = svg("svg", { height: 26 }, this.axisMark, this.axisNumber);
     byId("axis").replaceChildren(this.axis);
     this.drawGutter();
   }
@@ -191,6 +192,8 @@ class Diagram {
     update(this.nowLine, { x1: x, x2: x });
     update(this.axisMark, { x: at < 0 ? -99 : xs[at] - markWidth / 2, width: markWidth });
     this.axisTexts.forEach((text, i) => text && text.classList.toggle("at", i === at));
+    this.axisNumber.textContent = at >= 0 && !this.axisTexts[at] ? String(at) : "";
+    if (at >= 0) update(this.axisNumber, { x: xs[at] });
     this.layers.flight.replaceChildren(...run.events
       .filter(event => this.curves.has(event.at) && event.at > at &&
         event.take.put.at <= at).map(event => this.flying(event, x)));

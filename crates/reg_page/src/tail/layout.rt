@@ -34,7 +34,8 @@ function placesBy(run, roomy, step, ahead) {
   }
   const last = xs.length ? xs[xs.length - 1] : (roomy ? 26 : 14) - step,
     end = Math.max(last + (roomy ? 22 : 12), right);
-  return { run, roomy, xs, ys, end, width: Math.max(last + 30, right, end + ahead) + 14, height: y + (roomy ? 24 : 8) };
+  const below = roomy ? Math.max(y + 24, ys[ys.length - 1] + 66) : y + 8; // four lines stand at the left of a process
+  return { run, roomy, xs, ys, end, width: Math.max(last + 30, right, end + ahead) + 14, height: below };
 }
 
 function columns(run, roomy, step) {

@@ -82,7 +82,7 @@ function showWires(run, at) {
     return html("tr", { class: "line " + hue(put.from), "data-op": operation ? operation.key : null },
       html("td", { class: "mono nowrap" }, `take ${put.from} ${put.to} ${put.place}`),
       mono(frameText(put.frame).replace("acknowledgement", "ack")),
-      number(put === next ? "next" : put.takes.length ? "at " + put.takes[0] : "never"));
+      number(put === next ? "next" : put.takes.length ? "at " + put.takes[0] : at < run.last ? "never" : ""));
   });
   const nothing = run.puts.some(put => put.at <= at) ? "Every frame that was put has been taken." :
     "No frame was put yet.";
