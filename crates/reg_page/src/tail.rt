@@ -1,4 +1,4 @@
-//! The page behind its data. Written by tools/page: edit page/.
+//! The page after its data. Written by tools/page: edit page/.
 mod arrows;
 mod cards;
 mod diagram;
@@ -29,7 +29,7 @@ use sentences::SENTENCES;
 use tips::TIPS;
 use view::VIEW;
 
-/// The page behind its data, in parts one behind another.
+/// The page after its data, in parts one after another.
 pub const TAIL: [&str; 14] = [
     RUN, ORDERS, SENTENCES, ELEMENTS, LAYOUT, ARROWS, NODES, POINTS, DIAGRAM, CARDS, LISTS, TIPS,
     VIEW, PAGE,

@@ -1,4 +1,4 @@
-//! The page behind its data: the script, js/arrows.js. Written by tools/page: edit page/.
+//! The page after its data: the script, js/arrows.js. Written by tools/page: edit page/.
 
 /// Of the page: the script, js/arrows.js.
 pub const ARROWS: &str = r##"/* arrows */

@@ -1,4 +1,4 @@
-//! The page behind its data: the script, js/orders.js. Written by tools/page: edit page/.
+//! The page after its data: the script, js/orders.js. Written by tools/page: edit page/.
 
 /// Of the page: the script, js/orders.js.
 pub const ORDERS: &str = r##"/* orders */

@@ -1,4 +1,4 @@
-//! The page behind its data: the script, js/page.js. Written by tools/page: edit page/.
+//! The page after its data: the script, js/page.js. Written by tools/page: edit page/.
 
 /// Of the page: the script, js/page.js.
 pub const PAGE: &str = r##"/* page */

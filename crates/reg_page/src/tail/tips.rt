@@ -1,4 +1,4 @@
-//! The page behind its data: the script, js/tips.js. Written by tools/page: edit page/.
+//! The page after its data: the script, js/tips.js. Written by tools/page: edit page/.
 
 /// Of the page: the script, js/tips.js.
 pub const TIPS: &str = r##"/* tips */
