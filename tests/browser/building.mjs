@@ -7,7 +7,10 @@ import { example, fragment, linesOf, schedule } from "./session.mjs";
 const WRITERS = "two-writers.sched";
 
 /** A try for each way to build a run. */
-export function triesOfBuilding({ session, rounds }) {
+export const triesOfBuilding = context =>
+  ({ ...triesOfWriters(context), ...triesOfChanges(context), ...triesAtRandom(context) });
+
+function triesOfWriters({ session }) {
   const { browser } = session;
   return {
     async "two writers, built by clicks from an empty text"() {
@@ -36,7 +39,12 @@ export function triesOfBuilding({ session, rounds }) {
       await session.press(/\d/.exec(numbered)[0]);
       assert.deepEqual(linesOf(await session.text()), linesOf(example(WRITERS)));
     },
+  };
+}
 
+function triesOfChanges({ session }) {
+  const { browser } = session;
+  return {
     async "up to here, bring to rest, check"() {
       await session.open(fragment(example(WRITERS)));
       await session.click("#first");
@@ -69,7 +77,11 @@ export function triesOfBuilding({ session, rounds }) {
       await session.click("#offers .take.lost");
       assert.equal(await session.count(end), 1);
     },
+  };
+}
 
+function triesAtRandom({ session, rounds }) {
+  return {
     async "random clicks: each text is accepted, and the drawing is the one that is drawn anew"() {
       const random = numbers(12345), kinds = {};
       for (let round = 0; round < rounds; round++) await clickAround(session, round, random, kinds);
@@ -106,7 +118,8 @@ const OFFERED = `[...document.querySelectorAll(
 /** What is drawn, as a sorted list: elements without kids, with all that they say. */
 const DRAWN = `[...document.querySelectorAll("#inner *, #axis *, #gutter *, #cards *")]
   .filter(element => !element.childElementCount)
-  .map(({ outerHTML }) => outerHTML.replace(/ data-try="\\d+"/, "").replace(/ over\\b|over /g, "").replace(' class=""', ""))
+  .map(element => element.outerHTML)
+  .map(text => text.replace(/ data-try="\\d+"/, "").replace(/ over\\b|over /g, "").replace(' class=""', ""))
   .sort()`;
 
 /** One run built by ten random clicks, between which one is undone. */

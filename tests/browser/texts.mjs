@@ -9,7 +9,7 @@ const MARKED = "document.querySelector('.mark.refused').style.top";
 
 /** A try for each kind of text. */
 export const triesOfTexts = context =>
-  ({ ...triesOfRefusals(context), ...triesOfKinds(context), ...triesOfSaving(context) });
+  ({ ...triesOfRefusals(context), ...triesOfHostility(context), ...triesOfKinds(context), ...triesOfSaving(context) });
 
 function triesOfRefusals({ session }) {
   const { browser } = session;
@@ -53,7 +53,12 @@ function triesOfRefusals({ session }) {
       await session.open(fragment(whole + "tick 0\n"));
       assert.match(await session.inside("#no-run"), /too many events to draw/);
     },
+  };
+}
 
+function triesOfHostility({ session }) {
+  const { browser } = session;
+  return {
     async "a hostile text stays in its element"() {
       const evil = "<img src=x onerror=alert(1)></script></textarea><script>document.title='gone'</script>" +
         "\u2028 &amp; ${1} \u0000";
