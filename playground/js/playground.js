@@ -15,7 +15,7 @@ import { Offers } from "./offers.js";
 import { Changes, eventLines, placeOf } from "./texts.js";
 import { showReport, showVerdict } from "./verdict.js";
 
-const REST = 300; // milliseconds behind the last key, then what is typed is sent
+const REST = 300; // milliseconds after the last key: then what was typed is sent
 
 export class Playground {
   constructor(examples, exercises) {

@@ -19,7 +19,7 @@ function turnedMarks(run, at) {
   const marks = new Map();
   for (const [newer, older] of turnedAt(run, at)) {
     if (!marks.has(newer)) marks.set(newer, `\u2191 before the older ${older.name}`);
-    if (!marks.has(older)) marks.set(older, `\u2193 behind the newer ${newer.name}`);
+    if (!marks.has(older)) marks.set(older, `\u2193 after the newer ${newer.name}`);
   }
   return marks;
 }

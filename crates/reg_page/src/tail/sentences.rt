@@ -215,7 +215,7 @@ function heldLines(run, event) {
   const why = whyHeld(run, state, me, least);
   if (fresh && isSame(fresh, least)) return [hold([castPart(least), " can't be delivered yet: ", ...why, "."])];
   if (fresh && state.held.some(stamp => isSame(stamp, fresh))) {
-    return [hold([castPart(fresh), " stands behind ", castPart(least), " in the queue, which can't be delivered yet: ",
+    return [hold([castPart(fresh), " stands after ", castPart(least), " in the queue, which can't be delivered yet: ",
       ...why, "."])];
   }
   return [hold([castPart(least, run.operationOf(least).text), " is the least held, and can't be delivered yet: ",

@@ -17,7 +17,7 @@ function operationTip(run, operation) {
     first ? `, delivered first at event ${first.at} by p${run.events[first.at].process}` : ", delivered nowhere"];
   const turned = turnedAt(run, run.last).filter(pair => pair.includes(operation)).slice(0, 3).map(([newer, older]) =>
     tipLine(newer === operation ? `stands before ${older.name} in the order, which was answered before its call` :
-      `stands behind ${newer.name} in the order, which was called after its answer`));
+      `stands after ${newer.name} in the order, which was called after its answer`));
   return [boldTag(operation.name), " ", codeTag(operation.text), html("ul", {},
     tipLine(`called at event ${call}, `, answered), tipLine(...cast),
     tipLine(place >= 0 ? `number ${place} of the order of the whole run` :

@@ -8,6 +8,8 @@ const FRONTS = {
   "local-write": "writes are answered at once, reads wait for the own writes: sequentially consistent",
 };
 
+const MANY_EVENTS = 100; // a run that has so many more or fewer is another one
+
 class View {
   constructor({ drawAhead = null, onShow = () => {} } = {}) {
     this.onShow = onShow;
@@ -43,7 +45,8 @@ class View {
   }
 
   chooseLook(run) {
-    if (this.run && this.run.processes === run.processes) return;
+    const { run: old } = this;
+    if (old && old.processes === run.processes && Math.abs(old.events.length - run.events.length) < MANY_EVENTS) return;
     this.diagram.roomy = run.processes <= 8 && run.events.length <= 160;
     byId("roomy").checked = this.diagram.roomy;
     const { processes, events } = run, isCrowded = processes > 6 || events.length > 60;
