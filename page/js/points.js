@@ -27,8 +27,8 @@ export function drawPoints(places) {
       group.append(svg("text", { class: "rank", x, y: lane + 3.5 }, String(op.first.place)));
       const label = op.value !== undefined ? `${op.register}=${op.value}` : shortAnswer(op.answer.text);
       const next = run.points[place + 1], space = next ? xs[next.at] - x - (next.at === at ? 0 : 30) : 99;
-      if (textWidth(label) < space) group.append(svg("text",
-        { class: "halo lane", x: x + 13, y: lane + 4, "data-op": op.key }, label));
+      const text = { class: "halo lane", x: x + 13, y: lane + 4, "data-op": op.key };
+      if (textWidth(label) < space) group.append(svg("text", text, label));
     }
     return { since, group, plumb: svg("line", { class: "plumb", x1: x, y1: lane + size, x2: xs[at], y2: bar - 6 }) };
   });

@@ -34,12 +34,12 @@ class Cards {
     }
     const acting = at >= 0 ? this.run.events[at].process : 0;
     if (!this.lines) this.makeTable(box, all);
-    box.firstChild.replaceChildren(...[...new Set([acting, this.pinned === null ? acting : this.pinned])].map(p =>
-      this.card(p, at)));
+    const open = new Set([acting, this.pinned === null ? acting : this.pinned]);
+    box.firstChild.replaceChildren(...[...open].map(p => this.card(p, at)));
     for (const p of all) { // only the lines that differ
       const isActing = p === acting && at >= 0;
-      const last = this.run.lastEventOf(p, at), sign = (isActing ? "acting " : "") +
-        (this.pinned === p ? "pinned" : "");
+      const last = this.run.lastEventOf(p, at);
+      const sign = (isActing ? "acting " : "") + (this.pinned === p ? "pinned" : "");
       if (last === this.madeFor[p].last && sign === this.madeFor[p].sign) continue;
       const line = this.tableLine(p, at, isActing);
       this.lines[p].replaceWith(line);
@@ -90,13 +90,15 @@ class Cards {
       html("dd", {}, this.runs(process, at, state))];
     if (others.length) parts.push(term("heard"), html("dd", {}, this.heard(state, old, others)));
     parts.push(term("holds"), html("dd", {}, this.holds(process, state, old, others)));
-    if (others.length) parts.push(term("kept", "bodies kept until they are acknowledged"),
-      html("dd", {}, this.kept(state, old, others)));
+    if (others.length) {
+      parts.push(term("kept", "bodies kept until they are acknowledged"),
+        html("dd", {}, this.kept(state, old, others)));
+    }
     return html("article", { class: `card ${hue(process)}` + (isActing ? " acting" : ""),
       "aria-label": `process ${process}` },
       html("h3", {}, whoTag(process),
-        html("span", {}, "clock ", mark(clock !== oldClock, clock !== oldClock ? `${oldClock} \u2192 ${clock}` :
-          String(clock))),
+        html("span", {}, "clock ",
+          mark(clock !== oldClock, clock !== oldClock ? `${oldClock} \u2192 ${clock}` : String(clock))),
         html("span", { class: "run" }, `delivered ${state.delivered}`)),
       html("dl", {}, parts));
   }

@@ -194,13 +194,13 @@ class Diagram {
     this.axisTexts.forEach((text, i) => text && text.classList.toggle("at", i === at));
     this.axisNumber.textContent = at >= 0 && !this.axisTexts[at] ? String(at) : "";
     if (at >= 0) update(this.axisNumber, { x: xs[at] });
-    this.layers.flight.replaceChildren(...run.events
-      .filter(event => this.curves.has(event.at) && event.at > at &&
-        event.take.put.at <= at).map(event => this.flying(event, x)));
+    const flying = run.events.filter(event => this.curves.has(event.at) && event.at > at && event.take.put.at <= at);
+    this.layers.flight.replaceChildren(...flying.map(event => this.flying(event, x)));
     this.rows.forEach((row, p) => this.showRow(row, p, at));
     const turned = new Set(turnedAt(run, at).flat());
-    for (const operation of run.operations) this.bars.get(operation.key).element.classList.toggle("turned",
-      turned.has(operation));
+    for (const operation of run.operations) {
+      this.bars.get(operation.key).element.classList.toggle("turned", turned.has(operation));
+    }
   }
 
   flying(event, x) {
@@ -244,8 +244,8 @@ class Diagram {
     else if (x < box.scrollLeft + 60 || x > box.scrollLeft + view - 140) box.scrollLeft = Math.max(0, x - view * .6);
     if (at < 0) return;
     const y = ys[this.run.events[at].process];
-    if (y < box.scrollTop + 30 || y > box.scrollTop + box.clientHeight - 60) box.scrollTop =
-      Math.max(0, y - box.clientHeight / 2);
+    const isSeen = y >= box.scrollTop + 30 && y <= box.scrollTop + box.clientHeight - 60;
+    if (!isSeen) box.scrollTop = Math.max(0, y - box.clientHeight / 2);
   }
 
   sheets() {

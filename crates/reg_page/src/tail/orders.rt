@@ -4,10 +4,12 @@
 pub const ORDERS: &str = r##"/* orders */
 function rankAt(operation, at, delivered) {
   const isDone = operation.answer !== null && operation.answer.at <= at;
-  if (operation.readPlace !== null) return isDone ? [operation.readPlace, 0, operation.process, operation.number] :
-    null;
-  if (operation.first && operation.first.at <= at) return isUpdate(operation) || isDone ?
-    [operation.first.place, 1, 0, 0] : null;
+  if (operation.readPlace !== null) {
+    return isDone ? [operation.readPlace, 0, operation.process, operation.number] : null;
+  }
+  if (operation.first && operation.first.at <= at) {
+    return isUpdate(operation) || isDone ? [operation.first.place, 1, 0, 0] : null;
+  }
   return operation.castTime !== null && isDone ? [delivered, 2, operation.castTime, operation.process] : null;
 }
 

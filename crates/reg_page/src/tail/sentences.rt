@@ -260,8 +260,9 @@ function turnedLines(run, at) {
     namePart(newer), " ", code(newer.text), " now stands before ", namePart(older), " ", code(older.text),
     " in the order. In real time it is the other way round: ", namePart(older),
     ` was answered at event ${older.answer.at}, before the call of `, namePart(newer), ` at event ${newer.call}.`] }));
-  if (turned.length > 3) lines.push({ word: "older", tone: "block",
-    body: [`And ${turned.length - 3} more such pairs.`] });
+  if (turned.length > 3) {
+    lines.push({ word: "older", tone: "block", body: [`And ${turned.length - 3} more such pairs.`] });
+  }
   return lines;
 }
 

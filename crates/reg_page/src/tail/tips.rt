@@ -76,8 +76,7 @@ class Tips {
   }
 
   point(target, x, y) {
-    const { run } = this.diagram, element = target.closest &&
-      target.closest("[data-op],[data-frame],[data-lost],[data-put]");
+    const { run } = this.diagram, element = target.closest?.("[data-op],[data-frame],[data-lost],[data-put]");
     if (!element || !run) {
       this.clear();
       return;
