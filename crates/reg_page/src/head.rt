@@ -1,4 +1,4 @@
-//! The page up to its data: what it looks like, and its fixed parts.
+//! The page up to its data. Written by tools/page: edit page/.
 mod body;
 mod diagram;
 mod frame;
@@ -11,5 +11,5 @@ use frame::FRAME;
 use media::MEDIA;
 use panels::PANELS;
 
-/// The page up to its data, in parts one behind another.
+/// The page up to its data, in parts one after another.
 pub const HEAD: [&str; 5] = [FRAME, DIAGRAM, PANELS, MEDIA, BODY];

@@ -1,19 +1,36 @@
-//! The page behind its data: the script, which derives layout and sentences from the data, and no state.
-mod controls;
-mod drawing;
-mod index;
+//! The page after its data. Written by tools/page: edit page/.
+mod arrows;
+mod cards;
+mod diagram;
+mod elements;
 mod layout;
-mod panels;
-mod stepping;
-mod story;
+mod lists;
+mod nodes;
+mod orders;
+mod page;
+mod points;
+mod run;
+mod sentences;
+mod tips;
+mod view;
 
-use controls::CONTROLS;
-use drawing::DRAWING;
-use index::INDEX;
+use arrows::ARROWS;
+use cards::CARDS;
+use diagram::DIAGRAM;
+use elements::ELEMENTS;
 use layout::LAYOUT;
-use panels::PANELS;
-use stepping::STEPPING;
-use story::STORY;
+use lists::LISTS;
+use nodes::NODES;
+use orders::ORDERS;
+use page::PAGE;
+use points::POINTS;
+use run::RUN;
+use sentences::SENTENCES;
+use tips::TIPS;
+use view::VIEW;
 
-/// The page behind its data, in parts one behind another.
-pub const TAIL: [&str; 7] = [INDEX, LAYOUT, DRAWING, STORY, PANELS, STEPPING, CONTROLS];
+/// The page after its data, in parts one after another.
+pub const TAIL: [&str; 14] = [
+    RUN, ORDERS, SENTENCES, ELEMENTS, LAYOUT, ARROWS, NODES, POINTS, DIAGRAM, CARDS, LISTS, TIPS,
+    VIEW, PAGE,
+];

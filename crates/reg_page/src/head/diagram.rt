@@ -1,6 +1,6 @@
-//! The style of the diagram of a run.
+//! The page up to its data: the style, css/diagram.css. Written by tools/page: edit page/.
 
-/// The style of the diagram.
+/// Of the page: the style, css/diagram.css.
 pub const DIAGRAM: &str = r##"/* diagram */
 .diagram {
   border: 1px solid var(--line);

@@ -1,12 +1,13 @@
-//! The page up to its style for a diagram: colours, letters and controls.
+//! The page up to its data: the style, css/frame.css. Written by tools/page: edit page/.
 
-/// The beginning of the page, and the style of what stands around the diagram.
+/// Of the page: the style, css/frame.css.
 pub const FRAME: &str = r##"<!doctype html>
 <html lang="en">
 <head>
 <meta charset="utf-8">
 <meta name="viewport" content="width=device-width, initial-scale=1">
-<meta http-equiv="Content-Security-Policy" content="default-src 'none'; style-src 'unsafe-inline'; script-src 'unsafe-inline'">
+<meta http-equiv="Content-Security-Policy"
+  content="default-src 'none'; style-src 'unsafe-inline'; script-src 'unsafe-inline'">
 <title>A run of shared registers</title>
 <style>
 :root {
@@ -250,6 +251,16 @@ header {
 
 .tools svg {
   display: block
+}
+
+.tools .sign {
+  display: inline-flex;
+  gap: 5px;
+  align-items: center
+}
+
+.tools [hidden] {
+  display: none
 }
 
 .tools input {

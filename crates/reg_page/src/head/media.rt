@@ -1,6 +1,6 @@
-//! The style of what is small, and of other media: narrow windows, forced colours and paper.
+//! The page up to its data: the style, css/media.css. Written by tools/page: edit page/.
 
-/// The style of notes and tips, and what other media change.
+/// Of the page: the style, css/media.css.
 pub const MEDIA: &str = r##"#tip {
   position: fixed;
   z-index: 20;
@@ -219,4 +219,5 @@ textarea {
     -webkit-print-color-adjust: exact
   }
 }
+
 "##;

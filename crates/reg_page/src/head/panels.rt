@@ -1,6 +1,6 @@
-//! The style of the panels that stand below the diagram.
+//! The page up to its data: the style, css/panels.css. Written by tools/page: edit page/.
 
-/// The style of the panels.
+/// Of the page: the style, css/panels.css.
 pub const PANELS: &str = r##"/* panels */
 .panels {
   display: grid;
@@ -16,6 +16,13 @@ pub const PANELS: &str = r##"/* panels */
 
 .story h2 {
   margin-bottom: 4px
+}
+
+.story h2 .words {
+  text-transform: none;
+  letter-spacing: 0;
+  margin-left: 10px;
+  font-size: 13px
 }
 
 .lead {

@@ -1,0 +1,73 @@
+// What the playground may begin with: an example, an exercise, or the text of an address.
+import { byId, html } from "../../page/js/elements.js";
+import { textOf } from "./links.js";
+import { headOfSchedule } from "./texts.js";
+
+export const START = headOfSchedule(2, "x", "linear");
+const option = (value, text, title = null) => html("option", { value, title }, text);
+
+export class Choices {
+  /** @param {import("./playground.js").Playground} playground */
+  constructor(playground, examples, exercises) {
+    this.playground = playground;
+    this.examples = examples;
+    this.exercises = exercises;
+    playground.exercise.onChoose = name => this.chooseExercise(name);
+    playground.exercise.onSolved = () => this.fillExercises();
+    this.fillExamples();
+    this.fillExercises();
+    byId("examples").onchange = ({ target }) => this.chooseExample(target.value);
+    byId("exercises").onchange = ({ target }) => this.chooseExercise(target.value);
+    addEventListener("hashchange", () => this.readAddress());
+  }
+
+  fillExamples() {
+    const groups = [...new Set(this.examples.map(({ group }) => group))];
+    const optionsOf = group => this.examples.map((example, i) =>
+      example.group === group ? option(i, example.name, example.title) : null);
+    byId("examples").replaceChildren(option("", "choose \u2026"), option("new", "empty: two processes"),
+      ...groups.map(group => html("optgroup", { label: group }, optionsOf(group))));
+  }
+
+  /** The exercises, of which those that were solved are marked. */
+  fillExercises() {
+    const list = byId("exercises"), chosen = list.value, { solved } = this.playground.exercise;
+    list.replaceChildren(option("", "none"), ...this.exercises.map(({ name, title }, i) =>
+      option(name, `${i + 1}. ${title}` + (solved.has(name) ? " \u2713" : ""))));
+    list.value = chosen;
+  }
+
+  async chooseExample(value) {
+    if (value === "") return;
+    await this.begin(value === "new" ? START : this.examples[+value].text, { at: value === "new" ? Infinity : 0 });
+    byId("examples").value = value;
+  }
+
+  async chooseExercise(name) {
+    const { exercise, editor } = this.playground, known = this.exercises.find(one => one.name === name);
+    await this.begin(known ? known.start : editor.text, { exercise: name });
+    byId("exercises").value = exercise.name;
+  }
+
+  /** Begins with a text, and with an exercise or none. */
+  async begin(text, { exercise = "", at = Infinity } = {}) {
+    const { playground } = this;
+    document.body.dataset.state = "asking";
+    await playground.exercise.choose(exercise);
+    byId("exercises").value = exercise;
+    byId("examples").value = "";
+    byId("output").hidden = true;
+    playground.lost.clear();
+    await playground.setText(text, { at });
+  }
+
+  /** Whether the address has a text or an exercise, with which the playground then begins. */
+  async readAddress() {
+    const text = textOf(location.hash), theme = /theme=(dark|light)/.exec(location.hash);
+    const exercise = /exercise=([\w-]+)/.exec(location.hash);
+    if (theme) this.playground.theme.choose(theme[1]);
+    if (text !== null) await this.begin(text, { at: 0 });
+    else if (exercise) await this.chooseExercise(exercise[1]);
+    return text !== null || exercise !== null;
+  }
+}

@@ -1,0 +1,50 @@
+// The one browser check, which tools/pages runs: the pages of all examples, and a session of the playground.
+import assert from "node:assert/strict";
+import { mkdirSync } from "node:fs";
+import { join } from "node:path";
+import { parseArgs } from "node:util";
+import { Browser } from "./driver.mjs";
+import { oddText } from "./stepping.mjs";
+import { Session, startServer } from "./session.mjs";
+import { triesOfPages } from "./example_pages.mjs";
+import { triesOfBuilding } from "./building.mjs";
+import { triesOfTexts } from "./texts.mjs";
+import { triesOfExercises } from "./exercises.mjs";
+import { triesOfSpeed } from "./speed.mjs";
+
+const { values: asked, positionals: words } = parseArgs({ allowPositionals: true,
+  options: { shots: { type: "string", default: "" }, rounds: { type: "string", default: "20" } } });
+
+/** What a try came to: nothing, or what is wrong. The browser's errors and requests to elsewhere are wrong too. */
+async function faultOf(attempt, { browser, session, shots }) {
+  const [hadErrors, hadRequests] = [browser.errors.length, browser.requests.length], faults = [];
+  try {
+    await attempt();
+    const odd = await oddText(browser);
+    if (odd) faults.push("odd text: " + odd);
+  } catch (error) {
+    faults.push(error.message + (error instanceof assert.AssertionError ? "" : "\n" + error.stack));
+    if (shots) await browser.picture(join(shots, "fault.png"));
+  }
+  const isOwn = url => url.startsWith(session.address) || /^(about|blob|data|file):/.test(url);
+  faults.push(...browser.errors.slice(hadErrors));
+  faults.push(...browser.requests.slice(hadRequests).filter(url => !isOwn(url)).map(url => "asked for " + url));
+  return faults.map(fault => fault.slice(0, 2000)).join("\n");
+}
+
+const { address, stop } = await startServer(), browser = await Browser.start();
+const context = { browser, session: new Session(browser, address), shots: asked.shots, rounds: +asked.rounds };
+if (asked.shots) mkdirSync(asked.shots, { recursive: true });
+await browser.size(1440, 940);
+const tries = Object.entries(Object.assign({}, ...[triesOfPages, triesOfBuilding, triesOfTexts, triesOfExercises,
+  triesOfSpeed].map(make => make(context)))).filter(([name]) => words.every(word => name.includes(word)));
+let wrong = 0;
+for (const [name, attempt] of tries) {
+  const fault = await faultOf(attempt, context);
+  console.log((fault ? "not well: " : "well: ") + name + (fault ? "\n  " + fault.replaceAll("\n", "\n  ") : ""));
+  if (fault) wrong++;
+}
+await browser.close();
+stop();
+console.log(`${tries.length} tries, ${wrong} not well`);
+process.exit(wrong || !tries.length ? 1 : 0);
