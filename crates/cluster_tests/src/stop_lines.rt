@@ -1,6 +1,6 @@
 //! The line of each stop on the error stream: its text, and a line feed.
-use reg_commands::Fault;
 use reg_cli::{Stop, run_live, write_stop};
+use reg_commands::Fault;
 use std::alloc::Global;
 use std::fmt::Write;
 use std::sync::Wait;

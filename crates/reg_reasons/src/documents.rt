@@ -11,8 +11,8 @@ use crate::wanting::{Misfit, Range};
 use reg_base::limits::{
     LAST_SEED, MOST_EVENTS, MOST_ODDS, MOST_OPERATIONS, MOST_PROCESSES, MOST_REGISTERS,
 };
-use reg_text::Sink;
 use reg_inputs::{Key, WorkloadFault};
+use reg_text::Sink;
 use std::alloc::{AllocError, Allocator, Global};
 use std::io::Write;
 use toml::{Table, Value, table_from_str};

@@ -2,7 +2,6 @@
 use crate::documents::explain_workload;
 use crate::entries::explain_entry;
 use crate::events::explain_event;
-use crate::facts::Listing;
 use crate::lines_at::{kept_before, line_at};
 use crate::orders::{explain_list, listing};
 use crate::report_lines::{Part, form_at, report_names, walk_to};

@@ -2,7 +2,7 @@
 use crate::facts::{Fact, Facts, Listing};
 use crate::lines_at::line_at;
 use crate::saying::{put_place, put_with};
-use reg_base::{Answer, OpId, Registers};
+use reg_base::{Answer, Registers};
 use reg_commands::Reason;
 use reg_history::{Entry, Report};
 use reg_text::{Sink, put_op};

@@ -128,6 +128,12 @@ pub fn told<F: FrontEnd>(closed: &Closed<F>, process: usize) -> Option<usize> {
     }
 }
 
+/// How many events a closed cluster has, and how many entries its history.
+pub fn size_of<F: FrontEnd>(closed: Closed<F>) -> (u32, usize) {
+    let history = closed.world.history();
+    (closed.world.events(), history.entries().len())
+}
+
 /// A courier in a thread of its own.
 fn carry<
     F: FrontEnd + Send + Sync + 'static,

@@ -1,5 +1,5 @@
 //! The limits of a process and of the journal.
-use crate::live::crews::{close_parts, last_of, parts_of, pass_of, put_back, shut};
+use crate::live::crews::{close_parts, last_of, parts_of, pass_of, put_back, shut, size_of};
 use crate::values::{read, write};
 use reg_base::limits::{MOST_EVENTS, MOST_OPERATIONS};
 use reg_front::{FrontEnd, Linear, LocalRead};
@@ -93,6 +93,6 @@ fn no_caller_waits_once_the_journal_is_full(rt: HostRuntime) {
     let mut parts = parts_of::<LocalRead, NoGate>(&rt, alloc, (16, 1), NoGate);
     let read = reads_all(&rt, &mut parts.passes);
     let told = tells_of_the_end(rt, &mut parts.passes, &mut parts.pacer);
-    let closed = shut(&rt, alloc, parts);
-    assert!(rt; read && told && closed.world.events() == MOST_EVENTS);
+    let (events, _) = size_of(shut(&rt, alloc, parts));
+    assert!(rt; read && told && events == MOST_EVENTS);
 }

@@ -1,5 +1,5 @@
 //! Passes of clusters whose threads were not started, so that each place in the journal is known.
-use crate::live::crews::{parts_of, pass_of, shut};
+use crate::live::crews::{parts_of, pass_of, shut, size_of};
 use crate::values::{read, receipt, write};
 use reg_base::Answer;
 use reg_front::{Linear, LocalWrite};
@@ -57,6 +57,6 @@ fn a_round_makes_a_tick(rt: HostRuntime) {
     let pass = pass_of(&rt, &mut parts.passes, 0);
     let right = has_a_tick_between(&rt, pass, &mut parts.pacer);
     parts.passes.reverse();
-    let closed = shut(&rt, alloc, parts);
-    assert!(rt; right && closed.world.events() == 3);
+    let (events, _) = size_of(shut(&rt, alloc, parts));
+    assert!(rt; right && events == 3);
 }

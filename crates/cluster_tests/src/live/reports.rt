@@ -1,6 +1,6 @@
 //! Workloads performed by threads: the reports that are written, and what the checker says of them.
-use reg_commands::{Command, run_text};
 use reg_cli::run_live;
+use reg_commands::{Command, run_text};
 use std::alloc::Global;
 use std::sync::Wait;
 use std::thread::Threads;
