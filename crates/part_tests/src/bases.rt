@@ -1,7 +1,9 @@
-//! Registers and names, as worked by hand.
+//! Shapes, clocks, registers and names, as worked by hand.
 use crate::demands::demand;
-use reg_base::limits::MOST_REGISTERS;
-use reg_base::{Answer, Names, NamesFault, Op, Registers, is_name};
+use reg_base::limits::{LAST_TIME, MOST_PROCESSES, MOST_REGISTERS};
+use reg_base::{
+    Answer, Clock, ClockFull, Names, NamesFault, Op, Registers, Shape, ShapeFault, Stamp, is_name,
+};
 use std::alloc::{AllocError, Global};
 use std::process::Abort;
 
@@ -41,6 +43,92 @@ fn names_of(rt: &impl Abort, alloc: Global, words: &[&str]) -> Result<Names, Nam
         names.push(name).expect(rt, "memory");
     }
     Names::new(names)
+}
+
+/// How many processes and registers are asked for, and why there is no such shape.
+const SHAPES: [(u32, u32, Option<ShapeFault>); 6] = [
+    (0, 0, Some(ShapeFault::NoProcess)),
+    (MOST_PROCESSES + 1, 0, Some(ShapeFault::TooManyProcesses)),
+    (MOST_PROCESSES, 0, Some(ShapeFault::NoRegister)),
+    (1, MOST_REGISTERS + 1, Some(ShapeFault::TooManyRegisters)),
+    (MOST_PROCESSES, MOST_REGISTERS, None),
+    (1, 1, None),
+];
+
+/// Why there is no shape of this size. Where there is one it has this size.
+fn shape_fault(rt: &impl Abort, processes: u32, registers: u32) -> Option<ShapeFault> {
+    match Shape::new(processes, registers) {
+        Ok(shape) => {
+            let size = (shape.processes(), shape.registers());
+            assert!(rt; size == (processes, registers));
+            None
+        }
+        Err(fault) => Some(fault),
+    }
+}
+
+#[test]
+fn shapes_within_the_limits(rt: HostRuntime) {
+    assert!(rt; MOST_PROCESSES == 64 && MOST_REGISTERS == 4096);
+    for (processes, registers, fault) in &SHAPES {
+        assert!(rt;
+            shape_fault(&rt, *processes, *registers) == *fault,
+            "{processes} {registers}"
+        );
+    }
+}
+
+const LAST: u64 = 281_474_976_710_656;
+
+/// A time that is received, or none at a tick; the answer, and the clock's time then.
+const CLOCK_AT_ITS_END: [(Option<u64>, Result<u64, ClockFull>, u64); 7] = [
+    (None, Ok(1), 1),
+    (Some(0), Ok(2), 2),
+    (Some(LAST - 2), Ok(LAST - 1), LAST - 1),
+    (None, Ok(LAST), LAST),
+    (None, Err(ClockFull), LAST),
+    (Some(0), Err(ClockFull), LAST),
+    (Some(LAST), Err(ClockFull), LAST),
+];
+
+fn answer(clock: &mut Clock, time: Option<u64>) -> Result<u64, ClockFull> {
+    match time {
+        Some(time) => clock.receive(time),
+        None => clock.tick(),
+    }
+}
+
+/// Whether the clock answers so, and tells this time then.
+fn answers_so(clock: &mut Clock, row: &(Option<u64>, Result<u64, ClockFull>, u64)) -> bool {
+    answer(clock, row.0) == row.1 && clock.now() == row.2
+}
+
+#[test]
+fn a_clock_at_its_end(rt: HostRuntime) {
+    let mut clock = Clock::new();
+    for row in &CLOCK_AT_ITS_END {
+        assert!(rt; answers_so(&mut clock, row), "{row:?}");
+    }
+}
+
+#[test]
+fn a_fresh_clock(rt: HostRuntime) {
+    let mut clock = Clock::new();
+    assert!(rt; clock.now() == 0 && LAST_TIME == LAST);
+    assert!(rt; answers_so(&mut clock, &(Some(LAST), Err(ClockFull), 0)));
+}
+
+#[test]
+fn stamps_by_time_and_then_by_process(rt: HostRuntime) {
+    let cases = [((1, 9), (2, 0)), ((2, 0), (2, 1)), ((2, 1), (3, 0))];
+    for ((time, process), (later, other)) in cases {
+        let first = Stamp { time, process };
+        let second = Stamp {
+            time: later,
+            process: other,
+        };
+        assert!(rt; first < second && !(second < first) && !(first < first));
+    }
 }
 
 const READ: Op = Op::Read { register: 0 };
@@ -129,6 +217,18 @@ fn names_and_their_faults(rt: HostRuntime) {
     for (words, fault) in &NAMES {
         assert!(rt; names_of(&rt, rt.alloc(), words).err() == *fault);
     }
+}
+
+/// Whether these are the names x and y.
+fn are_x_and_y(names: &Names) -> bool {
+    let numbers = (names.count(), names.number("y"), names.number("z"));
+    numbers == (2, Some(1), None) && names.name(0) == Some("x") && names.name(2).is_none()
+}
+
+#[test]
+fn names_and_their_numbers(rt: HostRuntime) {
+    let names = names_of(&rt, rt.alloc(), &["x", "y"]).expect(&rt, "names");
+    assert!(rt; are_x_and_y(&names));
 }
 
 /// How many names there are, and why there may not be so many.

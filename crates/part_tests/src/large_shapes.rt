@@ -1,11 +1,13 @@
 //! The largest shapes, and reports of version 2.
 use crate::bases::{many_names, push_name};
 use crate::demands::demand;
-use crate::values::id;
-use reg_base::{Names, Shape};
+use crate::values::{cast, id};
+use reg_base::{Names, Op, Shape};
+use reg_frames::{Frame, FrameFault, decode, encode};
 use reg_history::{History, ReadFault, ReadWhy, Report, read_report, write_report};
 use std::alloc::AllocError;
 use std::process::Abort;
+use std::test::Fail;
 
 /// A report of version 1, whose lines 3, 4 and 5 are to be put in.
 const OLDER: &str = "awreg report 1\nfront linear\nPROCESSES\nREGISTERS\nhistory 0\norder 0\nend\n";
@@ -303,4 +305,35 @@ fn is_largest(report: &Report) -> bool {
 fn the_largest_report_is_read_as_it_was_written(rt: HostRuntime) {
     let again = largest_again(&rt);
     assert!(rt; is_largest(&again));
+}
+
+/// A write of 5 to the register.
+fn write_to(register: u16) -> Frame {
+    cast(1, 3, Op::Write { register, value: 5 })
+}
+
+/// What is read of the bytes, with these in the place of the register.
+fn read_with(rt: &impl Abort, bytes: &[u8], register: [u8; 2]) -> Result<Frame, FrameFault> {
+    let mut copy = [0u8; 32];
+    assert!(rt; bytes.len() == 32);
+    copy.copy_from_slice(bytes);
+    copy[22] = register[0];
+    copy[23] = register[1];
+    decode(copy.as_slice())
+}
+
+#[test]
+fn the_last_register_in_a_frame(rt: HostRuntime) -> Result<(), Fail> {
+    let bytes = encode(rt.alloc(), &write_to(4095))?;
+    assert!(rt; bytes.as_slice().get(22..24) == Some([0x0f, 0xff].as_slice()));
+    assert!(rt; decode(bytes.as_slice()) == Ok(write_to(4095)));
+    let over = read_with(&rt, bytes.as_slice(), [0x10, 0]);
+    assert!(rt; over == Err(FrameFault::Range));
+    Ok(())
+}
+
+#[test]
+fn no_frame_has_a_register_past_the_last(rt: HostRuntime) {
+    let fault = encode(rt.alloc(), &write_to(4096)).err();
+    assert!(rt; fault == Some(FrameFault::Range));
 }

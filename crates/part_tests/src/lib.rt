@@ -13,6 +13,8 @@ mod documents;
 #[cfg(test)]
 mod frames;
 #[cfg(test)]
+mod fronts;
+#[cfg(test)]
 mod growths;
 #[cfg(test)]
 mod holdbacks;

@@ -2,7 +2,7 @@
 use refusing::Refusing;
 use reg_base::limits::FRAME_NUMBERS;
 use reg_frames::{Body, Frame};
-use reg_links::{Ahead, LinkFault, Outbox, Outboxes};
+use reg_links::{Ahead, Inbox, LinkFault, Outbox, Outboxes};
 use std::alloc::{AllocError, Allocator, Global};
 use std::process::Abort;
 
@@ -212,16 +212,44 @@ const AT_THE_END: [Result<Frame, LinkFault>; 2] = [
     Err(LinkFault::NumberFull),
 ];
 
-/// Whether a body is refused for want of memory, and not queued, and it is queued when it comes again.
-fn queues_it_later<A: Allocator + Copy>(out: &mut Outbox<A>) -> bool {
-    out.queue(TWO) == Err(LinkFault::OutOfMemory) && out.pending() == 0 && out.queue(TWO).is_ok()
+#[test]
+fn no_number_is_past_the_end(rt: HostRuntime) {
+    assert!(rt; Outbox::starting(rt.alloc(), FRAME_NUMBERS).is_some());
+    assert!(rt; Outbox::starting(rt.alloc(), FRAME_NUMBERS + 1).is_none());
+}
+
+/// The number of a body, what is accepted of it, and the number that is expected then.
+const TAKEN: [(u64, Option<Body>, u64); 5] = [
+    (1, None, 0),
+    (0, Some(TWO), 1),
+    (0, None, 1),
+    (2, None, 1),
+    (1, Some(TWO), 2),
+];
+
+#[test]
+fn inbox_accepts_in_order(rt: HostRuntime) {
+    let mut inbox = Inbox::new();
+    for (number, accepted, expected) in &TAKEN {
+        assert!(rt; inbox.take(*number, TWO) == *accepted);
+        assert!(rt; inbox.expected() == *expected);
+    }
+}
+
+#[test]
+fn inbox_accepts_up_to_the_last_number(rt: HostRuntime) {
+    let mut last = Inbox::starting(FRAME_NUMBERS).expect(&rt, "the last count");
+    assert!(rt; last.take(FRAME_NUMBERS, TWO).is_none());
+    assert!(rt; Inbox::starting(FRAME_NUMBERS + 1).is_none());
 }
 
 #[test]
 fn a_refused_body_is_not_queued(rt: HostRuntime) {
     let heap = Refusing::new(rt.alloc(), 0);
     let mut out = Outbox::new(&heap);
-    assert!(rt; queues_it_later(&mut out));
+    assert!(rt; out.queue(TWO) == Err(LinkFault::OutOfMemory));
+    assert!(rt; out.pending() == 0);
+    assert!(rt; out.queue(TWO).is_ok());
 }
 
 #[test]

@@ -2,8 +2,9 @@
 use crate::values::{READ, WRITE_FIVE, answered, called, id};
 use reg_base::{Answer, OpId, Shape};
 use reg_history::{CheckFault, Entry, History, HistoryFault, Point, check_points, check_serial};
-use std::alloc::Global;
+use std::alloc::{AllocError, Global};
 use std::process::Abort;
+use std::test::Fail;
 
 fn history_of(rt: &impl Abort, alloc: Global, processes: u32, entries: &[Entry]) -> History {
     let shape = Shape::new(processes, 1).expect(rt, "a shape");
@@ -86,6 +87,56 @@ fn a_stale_read_has_no_points(rt: HostRuntime) {
     }
 }
 
+/// A write at a process, and then a read of it, which isn't answered yet.
+const UNFINISHED: [Entry; 3] = [
+    Entry::Called {
+        at: 0,
+        id: P,
+        op: WRITE_FIVE,
+    },
+    Entry::Answered {
+        at: 0,
+        id: P,
+        answer: Answer::Done,
+    },
+    Entry::Called {
+        at: 1,
+        id: NEXT,
+        op: READ,
+    },
+];
+
+const NEXT: OpId = OpId {
+    process: 0,
+    number: 1,
+};
+
+#[test]
+fn an_unfinished_read_is_unknown(rt: HostRuntime) {
+    let history = history_of(&rt, rt.alloc(), 2, &UNFINISHED);
+    let whole = check_serial(rt.alloc(), &history, &[P, NEXT]);
+    assert!(rt; whole == Err(CheckFault::Unknown));
+    assert!(rt; check_serial(rt.alloc(), &history, &[P]) == Ok(()));
+}
+
+/// The same with the read answered.
+fn finished(rt: &impl Abort, alloc: Global) -> History {
+    let mut history = history_of(rt, alloc, 2, &UNFINISHED);
+    let answer = answered(3, NEXT, Answer::Value(5));
+    history.push(answer).expect(rt, "in place");
+    history
+}
+
+#[test]
+fn own_order_is_kept(rt: HostRuntime) {
+    let history = finished(&rt, rt.alloc());
+    assert!(rt; check_serial(rt.alloc(), &history, &[P, NEXT]) == Ok(()));
+    let turned = check_serial(rt.alloc(), &history, &[NEXT, P]);
+    assert!(rt; turned == Err(CheckFault::OwnOrder));
+    let points = [Point { id: P, at: 0 }, Point { id: NEXT, at: 2 }];
+    assert!(rt; check_points(rt.alloc(), &history, &points) == Ok(()));
+}
+
 /// Demands that an answer is out of place before its call, and in place after it.
 fn demand_places(rt: &impl Abort, history: &mut History) {
     let done = answered(0, P, Answer::Done);
@@ -102,4 +153,30 @@ fn entries_in_place(rt: HostRuntime) {
     let mut history = History::new(rt.alloc(), shape).expect(&rt, "memory");
     demand_places(&rt, &mut history);
     assert!(rt; history.shape() == shape);
+}
+
+/// What is wrong with an order, and what is shown of it.
+const SHOWN: [(CheckFault, &str); 8] = [
+    (CheckFault::Unknown, "unknown"),
+    (CheckFault::Twice, "twice"),
+    (CheckFault::Missing, "missing"),
+    (CheckFault::OwnOrder, "own order"),
+    (CheckFault::Answer { place: 0 }, "answer 0"),
+    (CheckFault::Outside { place: 305 }, "outside 305"),
+    (CheckFault::Falling { place: 1048575 }, "falling 1048575"),
+    (CheckFault::OutOfMemory, "out of memory"),
+];
+
+/// Whether a fault shows these words.
+fn shows(alloc: Global, fault: CheckFault, words: &str) -> Result<bool, AllocError> {
+    let shown = format!(in alloc; "{fault}")?;
+    Ok(shown.as_str() == words)
+}
+
+#[test]
+fn each_fault_is_shown_in_its_words(rt: HostRuntime) -> Result<(), Fail> {
+    for (fault, words) in &SHOWN {
+        assert!(rt; shows(rt.alloc(), *fault, words)?);
+    }
+    Ok(())
 }

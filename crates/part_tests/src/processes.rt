@@ -1,10 +1,11 @@
 //! Worked examples of one process and of several side by side, as tables of steps and what each gives.
 use crate::traces::{Row, follow};
 use crate::values::{READ, WRITE_FIVE};
+use reg_base::limits::MOST_OPERATIONS;
 use reg_base::{Op, Shape};
 use reg_frames::{Body, Frame};
 use reg_front::{FrontEnd, Linear, LocalRead, LocalWrite};
-use reg_process::{Process, Step};
+use reg_process::{Process, ProcessFault, Step};
 use std::alloc::Global;
 use std::process::Abort;
 use std::test::Fail;
@@ -350,4 +351,21 @@ fn three_processes_step_by_step(rt: HostRuntime) -> Result<(), Fail> {
 pub(crate) fn started<F: FrontEnd>(rt: &impl Abort, alloc: Global, processes: u32) -> Process<F> {
     let shape = Shape::new(processes, 1).expect(rt, "a shape");
     Process::new(alloc, shape, 0).expect(rt, "a process of the shape")
+}
+
+#[test]
+fn no_process_past_the_last(rt: HostRuntime) {
+    let shape = Shape::new(2, 1).expect(&rt, "a shape");
+    let fault = Process::<LocalRead>::new(rt.alloc(), shape, 2).err();
+    assert!(rt; fault == Some(ProcessFault::NoProcess));
+}
+
+#[test]
+fn operations_end(rt: HostRuntime) {
+    let mut process = started::<LocalRead>(&rt, rt.alloc(), 1);
+    for _number in 0..MOST_OPERATIONS {
+        assert!(rt; process.call(READ).err().is_none());
+    }
+    assert!(rt; process.call(READ).err() == Some(ProcessFault::TooManyOperations));
+    assert!(rt; process.tick().err().is_none());
 }

@@ -119,7 +119,7 @@ fn tells(alloc: Global, report: &Report, parts: &str) -> bool {
 }
 
 /// Whether the report is written, as this text.
-fn is_written_as(alloc: Global, report: &Report, text: &str) -> bool {
+pub(crate) fn is_written_as(alloc: Global, report: &Report, text: &str) -> bool {
     let mut out = Vec::new(alloc);
     write_report(&mut out, report).is_ok() && out.as_slice() == text.as_bytes()
 }
@@ -140,6 +140,12 @@ Some([Point { id: OpId { process: 0, number: 0 }, at: 0 }, Point { id: OpId { pr
 fn a_report_tells_its_parts(rt: HostRuntime) {
     let report = one_process(&rt);
     assert!(rt; tells(rt.alloc(), &report, PARTS));
+}
+
+#[test]
+fn a_report_is_written(rt: HostRuntime) {
+    let report = one_process(&rt);
+    assert!(rt; is_written_as(rt.alloc(), &report, ONE_PROCESS_NOW));
 }
 
 const FAR: [OpId; 1] = [OpId {
@@ -232,6 +238,23 @@ const WRITTEN: [(&str, &str); 4] = [
 fn reports_are_written_in_version_2(rt: HostRuntime) {
     for (text, now) in &WRITTEN {
         demand(&rt, text, is_written_again(rt.alloc(), text, now));
+    }
+}
+
+fn is_refused_at_a_line(alloc: Global, bytes: &[u8]) -> bool {
+    match std::str::from_utf8(bytes) {
+        Ok(text) => matches!(read_report(alloc, text), Err(ReadFault::Line { .. })),
+        Err(_) => false,
+    }
+}
+
+#[test]
+fn every_shorter_text_is_refused(rt: HostRuntime) {
+    let bytes = ONE_PROCESS_NOW.as_bytes();
+    for length in 0..bytes.len() {
+        let whole = length + 1 == bytes.len();
+        let refused = is_refused_at_a_line(rt.alloc(), &bytes[..length]);
+        assert!(rt; refused == !whole, "{length}");
     }
 }
 
@@ -332,4 +355,16 @@ fn a_report_is_read_at_its_limits(rt: HostRuntime) {
     for (old, new) in &AT_LIMITS {
         demand(&rt, new, refusal(&rt, ONE_PROCESS, old, new).is_none());
     }
+}
+
+#[test]
+fn processes_in_the_order_and_in_the_history(rt: HostRuntime) {
+    assert!(rt; refusal(&rt, NO_POINTS, "p1 #0\n", "p15 #0\n").is_none());
+    let called = refusal(&rt, NO_POINTS, "p1    #0       call", "p3    #0       call");
+    assert!(rt; called == fault(8, ReadWhy::Place));
+}
+
+#[test]
+fn an_empty_text_is_no_report(rt: HostRuntime) {
+    assert!(rt; read_report(rt.alloc(), "").err() == fault(1, ReadWhy::End));
 }
