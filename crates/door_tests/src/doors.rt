@@ -74,7 +74,8 @@ fn links(rt: HostRuntime) {
 
 #[test]
 fn holdback(rt: HostRuntime) -> Result<(), Fail> {
-    let mut held = Holdback::new(rt.alloc(), 1, shape(&rt, 3))?;
+    let shape = Shape::new(3, 1).expect(&rt, "a shape");
+    let mut held = Holdback::new(rt.alloc(), 1, shape)?;
     let stamp = Stamp {
         time: 1,
         process: 0,
@@ -239,7 +240,8 @@ fn records(rt: HostRuntime) -> Result<(), Fail> {
     };
     let log = vec![in rt.alloc(); entry]?;
     let receipts = vec![in rt.alloc(); receipt]?;
-    let verified = verify::<Linear, _>(rt.alloc(), shape(&rt, 1), &[0], &[log], &[receipts]);
+    let shape = Shape::new(1, 1).expect(&rt, "a shape");
+    let verified = verify::<Linear, _>(rt.alloc(), shape, &[0], &[log], &[receipts]);
     assert!(rt; verified.is_ok());
     Ok(())
 }
