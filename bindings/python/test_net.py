@@ -1,4 +1,4 @@
-"""Tests of nodes: python3 -m unittest, with TELLWYDAR_LIB set. They are skipped where there is no ZeroMQ (python3-zmq)."""
+"""Tests of nodes: python3 -m unittest, with TELLWYDAR_LIB set."""
 import os
 import random
 import socket
@@ -7,12 +7,11 @@ import time
 import unittest
 import zlib
 
-try:
-    import zmq
-except ImportError:
-    raise unittest.SkipTest("ZeroMQ isn't installed") from None
+import zmq
 
+from tellwydar import check
 from tellwydar.net import Busy, Closed, Keys, LossyRoad, Node, NodeFailed, Refused, TimedOut, core, log, merge, road
+
 
 def free_addresses(count):
     held = [socket.socket() for _ in range(count)]
@@ -158,6 +157,49 @@ class Merges(unittest.TestCase):
         for logs in ([a], [a, a], [a, b._replace(head=b.head._replace(front="local-read"))]):
             with self.assertRaises(merge.MergeFault):
                 merge.gather(logs)
+
+
+class Judges(unittest.TestCase):
+    """A write of the value 5 by the first of two processes, as worked by hand."""
+
+    cast = data(0, 1)[:-1] + b"\5"
+    ack = data(0, 2, b"\2")
+    entries = [
+        [log.Entry("call", core.WRITE, 0, 5, b"", None), take(1, got(1)), take(1, ack, core.Reply(None, 0))],
+        [take(0, cast)],
+    ]
+
+    def judged(self, *lists):
+        logs = logs_of(*lists)
+        return merge.judge(logs, merge.arrange(logs))
+
+    def refused(self, place, why, *lists):
+        self.assertEqual(self.judged(*lists), (b"", (place, why)))
+
+    def test_a_run_has_its_report(self):
+        report, fault = self.judged(*self.entries)
+        self.assertIsNone(fault)
+        lines = [" ".join(line.split()) for line in report.decode().splitlines()]
+        self.assertEqual(lines[:6], ["awreg report 2", "front linear", "processes 2", "registers 1", "x", "history 2"])
+        self.assertEqual(lines[6:10], ["0 p0 #0 call write x 5", "3 p0 #0 answer done", "order 1", "p0 #0"])
+        self.assertEqual(check(report).answer, b"serial yes\npoints yes\n")
+
+    def test_another_reply_is_refused_at_its_entry(self):
+        (call, count, answer), other = self.entries
+        for reply in (None, core.Reply(None, 1), core.Reply(5, 0)):
+            self.refused(3, "another reply", [call, count, answer._replace(reply=reply)], other)
+        self.refused(0, "another reply", [call._replace(reply=core.Reply(None, 0)), count, answer], other)
+
+    def test_a_frame_that_was_not_put_is_refused_at_its_entry(self):
+        (call, count, answer), other = self.entries
+        self.refused(1, "no such frame was put before", self.entries[0], [take(0, data(0, 1))])
+        self.refused(3, "no such frame was put before", [call, count, take(1, data(0, 3, b"\2"), answer.reply)], other)
+
+    def test_another_value_or_operation_is_refused(self):
+        (call, count, answer), other = self.entries
+        self.refused(1, "no such frame was put before", [call._replace(value=6), count, answer], other)
+        self.refused(0, "no register", [call._replace(register=1), count, answer], other)
+        self.refused(2, "busy", [call, call, count, answer], other)
 
 
 class Roads(unittest.TestCase):

@@ -98,7 +98,7 @@ class Tests(unittest.TestCase):
             with World(front, n, 2) as world, contextlib.ExitStack() as stack:
                 processes = [stack.enter_context(Process(front, n, 2, me)) for me in range(n)]
                 wires = [[[] for _ in range(n)] for _ in range(n)]
-                for _ in range(600):
+                for _ in range(2000):
                     me, sender, register = words.randrange(n), words.randrange(n), words.randrange(2)
                     event = words.choice(["call", "tick", "take", "take", "take"])
                     if event == "call":
