@@ -1,5 +1,5 @@
 //! A process that a caller holds.
-ghost use Rattle.std.specs.Prelude.{◌≡◌, ◌<◌, ◌⊎◌, ◌++◌, [], Some, None, IfErr, IfOk, MatchOption, MatchResult, vec_capacity};
+ghost use Rattle.std.specs.Prelude.{◌≡◌, ◌<◌, ◌⊎◌, ◌++◌, Some, None, IfErr, IfOk, MatchOption, MatchResult, vec_capacity};
 ghost use Rattle.reg_frames.specs.Spelling.{Fits};
 ghost use Rattle.reg_process.specs.Known.{IsNoPeer, known_of};
 ghost use Rattle.reg_process.specs.Process.{peer_at};
