@@ -140,11 +140,6 @@ fn holds_it_later<A: Allocator + Copy>(queue: &mut Holdback<A>) -> bool {
         && queue.seen(0) == Some(1)
 }
 
-/// Whether a cast of its own is refused, and not held.
-fn holds_no_own_cast<A: Allocator + Copy>(queue: &mut Holdback<A>) -> bool {
-    queue.cast(stamp(1, 1), WRITE).is_err() && queue.len() == 0
-}
-
 #[test]
 fn a_refused_growth_holds_no_cast(rt: HostRuntime) {
     let shape = Shape::new(2, 1).expect(&rt, "a shape of two");
@@ -158,5 +153,6 @@ fn a_refused_growth_holds_no_own_cast(rt: HostRuntime) {
     let shape = Shape::new(2, 1).expect(&rt, "a shape of two");
     let heap = Refusing::new(rt.alloc(), 1);
     let mut queue = Holdback::new(&heap, 1, shape).expect(&rt, "memory for the times");
-    assert!(rt; holds_no_own_cast(&mut queue));
+    assert!(rt; queue.cast(stamp(1, 1), WRITE).is_err());
+    assert!(rt; queue.len() == 0);
 }

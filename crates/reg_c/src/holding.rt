@@ -157,8 +157,8 @@ fn orders(alloc: Global, kept: &Kept) -> Option<(Vec<OpId>, Vec<Point>)>
     }
 }
 
-/// Asks the world for its serial order and, where its front end has one, its point order, which `look` then shows. Where memory is
-/// refused nothing changes: the orders that were asked for before are kept.
+/// Asks the world for its serial order and, where its front end has one, its point order, which `look` then shows.
+/// Where memory is refused nothing changes: the orders that were asked for before are kept.
 pub fn arrange(held: &mut Held) -> u32
     ensures same { (held.new.world ≡ held.old.world) × (held.new.reply ≡ held.old.reply) }
     ensures right { result ≡ 0 → HasOrders held.new.world held.new.order.items held.new.points.items }

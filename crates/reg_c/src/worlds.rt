@@ -68,8 +68,8 @@ pub unsafe extern "C" fn tellwydar_world_step(
     )
 }
 
-/// Asks the world behind the handle for its serial order and, where its front end has one, its point order. Where the result isn't 0,
-/// memory was refused, and the orders that were asked for before are kept.
+/// Asks the world behind the handle for its serial order and, where its front end has one, its point order. Where the
+/// result isn't 0, memory was refused, and the orders that were asked for before are kept.
 #[unsafe(no_mangle)]
 pub unsafe extern "C" fn tellwydar_world_arrange(handle: *mut u8) -> u32
     ghost held: { Held }

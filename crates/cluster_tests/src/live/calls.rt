@@ -210,7 +210,7 @@ fn a_caller_is_told_at_once_where_a_station_stops(rt: HostRuntime) {
 fn gets<R: Wait + Clock>(rt: &R, pass: &mut Pass<Linear, NoGate>, sections: u64) -> bool {
     let far = u64::from(MOST_EVENTS) + 1;
     let made = Err(LiveFault::Behind { length: sections });
-    for _look in 0..500u32 {
+    for _look in 0..400u32 {
         if pass.perform_after(rt, read(0), far) == made {
             return true;
         }
@@ -219,11 +219,12 @@ fn gets<R: Wait + Clock>(rt: &R, pass: &mut Pass<Linear, NoGate>, sections: u64)
     false
 }
 
-/// No pacer runs. A write has five sections: its call, the take of its cast, of the count and the acknowledgement that answer it, and of the
-/// count that answers this, though the acknowledgement brought the caller's answer.
+/// No pacer runs. A write has five sections: its call, the take of its cast, of the count and the acknowledgement
+/// that answer it, and of the count that answers this, though the acknowledgement brought the caller's answer.
 #[test]
 fn what_comes_of_an_answering_frame_is_sent(rt: HostRuntime) {
     let alloc = rt.alloc();
+    let watch = Watch::new(rt, alloc);
     let Parts {
         cluster,
         mut passes,
@@ -236,6 +237,7 @@ fn what_comes_of_an_answering_frame_is_sent(rt: HostRuntime) {
     let sent = gets(&rt, pass, 5);
     let stopped = cluster.stop(&rt).is_ok();
     let couriers = join_all(&rt, alloc, couriers);
+    watch.end(&rt);
     let parts = Parts {
         cluster,
         passes,

@@ -72,8 +72,8 @@ impl Road for Late {
     }
 }
 
-/// Whether nine looks find nothing to put again behind two writes all of whose frames came, where an old count came last. Each write
-/// has the five sections of one whose frames all come, and the old count one.
+/// Whether nine looks find nothing to put again behind two writes all of whose frames came, where an old count came
+/// last. Each write has the five sections of one whose frames all come, and the old count one.
 fn rests_behind_an_old_count(
     rt: &(impl Wait + Abort),
     alloc: Global,
@@ -97,7 +97,8 @@ fn an_old_count_makes_no_tick(rt: HostRuntime) {
     assert!(rt; rests && closed.world.events() == 11);
 }
 
-/// Twenty writes whose frames are lost, a tick, which puts the first sixteen again, and nine looks with all frames that they put.
+/// Twenty writes whose frames are lost, a tick, which puts the first sixteen again, and nine looks with all frames
+/// that they put.
 fn put_again(rt: &(impl Wait + Abort), parts: &mut Parts<LocalWrite, NoGate>) -> bool {
     let written = write_often(rt, parts, 0, 20);
     let lost = carry(rt, parts, &Lost);
@@ -140,8 +141,8 @@ fn ticks_in_turn(rt: &(impl Wait + Abort), parts: &mut Parts<LocalWrite, NoGate>
     written && lengths == [Some(1), Some(2), Some(2), Some(3), Some(3)]
 }
 
-/// A look that ended at the first link with a tick due would leave the other one behind, so that the station ticked at the fourth
-/// look too.
+/// A look that ended at the first link with a tick due would leave the other one behind, so that the station ticked
+/// at the fourth look too.
 #[test]
 fn all_links_are_looked_at(rt: HostRuntime) {
     let alloc = rt.alloc();
@@ -177,6 +178,58 @@ fn all_stations_are_looked_at(rt: HostRuntime) {
     }
 }
 
+/// Three stations whose frames are lost. At the second look the first two tick: then each link of the third has mail
+/// at its other end. In a round all three do.
+fn ticks_of_all(rt: &(impl Wait + Abort), parts: &mut Parts<LocalWrite, NoGate>) -> bool {
+    let mut written = true;
+    for process in 0..3usize {
+        written = write_often(rt, parts, process, 1) && written;
+    }
+    let lost = carry(rt, parts, &Lost);
+    let first = length_after_look(rt, parts);
+    let second = length_after_look(rt, parts);
+    parts.pacer.round(rt);
+    let behind = length_of(rt, pass_of(rt, &mut parts.passes, 0));
+    written && lost && first == Some(3) && second == Some(5) && behind == Some(8)
+}
+
+#[test]
+fn stations_tick_at_one_look(rt: HostRuntime) {
+    let alloc = rt.alloc();
+    let mut parts = parts_of::<LocalWrite, NoGate>(&rt, alloc, (3, 1), NoGate);
+    let right = ticks_of_all(&rt, &mut parts);
+    let closed = shut(&rt, alloc, parts);
+    assert!(rt; right && closed.world.events() == 8);
+}
+
+/// A write of a process whose frames all come: at once, or behind a tick where they are lost first.
+fn comes(
+    rt: &(impl Wait + Abort),
+    parts: &mut Parts<LocalWrite, NoGate>,
+    process: usize,
+    lost: bool,
+) -> bool {
+    let mut right = write_often(rt, parts, process, 1);
+    if lost {
+        right = carry(rt, parts, &Lost) && right;
+        parts.pacer.look(rt);
+        parts.pacer.look(rt);
+    }
+    right && carry_often(rt, parts, &Honest, 8)
+}
+
+/// The courier that is told of frames is that of the station which has them.
+#[test]
+fn the_frames_of_each_station_come(rt: HostRuntime) {
+    let alloc = rt.alloc();
+    for (process, lost) in [(0u8, false), (1, false), (0, true), (1, true)] {
+        let mut parts = parts_of::<LocalWrite, NoGate>(&rt, alloc, (2, 1), NoGate);
+        let right = comes(&rt, &mut parts, usize::from(process), lost);
+        let closed = shut(&rt, alloc, parts);
+        assert!(rt; right && rests(&closed, process));
+    }
+}
+
 /// A write of each of two processes, the second one while a frame waits in the mailbox of its courier.
 fn both_write(rt: &(impl Wait + Abort), parts: &mut Parts<LocalWrite, NoGate>) -> bool {
     let first = write_often(rt, parts, 1, 1);
@@ -207,8 +260,8 @@ impl Road for Losing {
     }
 }
 
-/// A clock that stands at the start when it is read first, just before 10 milliseconds up to its hundredth reading, and at 10
-/// milliseconds from then on. It holds whoever reads it then, and 20 readings later, until it may go on.
+/// A clock that stands at the start when it is read first, just before 10 milliseconds up to its hundredth reading,
+/// and at 10 milliseconds from then on. It holds whoever reads it then, and 20 readings later, until it may go on.
 #[derive(Drop)]
 struct Held {
     readings: AtomicU64,
@@ -281,8 +334,8 @@ fn pace<R: Threads + Wait + Abort + Copy + Send + Sync + Drop + 'static>(
     .expect(&rt, "a thread")
 }
 
-/// The frame of a write is lost before the pacer looks at all. Its first look sees that, and the second makes a tick: it comes once 10
-/// milliseconds are over, and no sooner.
+/// The frame of a write is lost before the pacer looks at all. Its first look sees that, and the second makes a tick:
+/// it comes once 10 milliseconds are over, and no sooner.
 #[test]
 fn looks_are_ten_milliseconds_apart(rt: HostRuntime) {
     let alloc = rt.alloc();

@@ -18,6 +18,7 @@ use std::sync::atomic::{AtomicBool, Ordering};
 use std::sync::{Arc, Wait};
 use std::thread;
 use std::thread::{JoinHandle, Threads};
+use std::time::Clock;
 
 /// What is changed in the cast that goes first from process 0 to process 1.
 #[derive(Clone, Copy)]
@@ -192,8 +193,11 @@ fn no_caller_waits_for_a_station_that_stopped(rt: HostRuntime) {
 
 /// Closes a cluster in which a value was changed on its way, without its last pass where `less`. No pacer runs, so that each place in
 /// the journal is known.
-fn fault_of_change(rt: HostRuntime, less: bool) -> Option<CloseFault> {
-    let alloc = rt.alloc();
+fn fault_of_change<R: Threads + Wait + Clock + Abort + Copy + Send + Sync + 'static>(
+    rt: R,
+    alloc: Global,
+    less: bool,
+) -> Option<CloseFault> {
     let watch = Watch::new(rt, alloc);
     let Parts {
         cluster,
@@ -220,8 +224,8 @@ fn fault_of_change(rt: HostRuntime, less: bool) -> Option<CloseFault> {
 #[test]
 fn a_changed_value_is_unfaithful(rt: HostRuntime) {
     let unfaithful = Some(CloseFault::Unfaithful { place: 1 });
-    assert!(rt; fault_of_change(rt, false) == unfaithful);
-    assert!(rt; fault_of_change(rt, true) == unfaithful);
+    assert!(rt; fault_of_change(rt, rt.alloc(), false) == unfaithful);
+    assert!(rt; fault_of_change(rt, rt.alloc(), true) == unfaithful);
 }
 
 /// Writes in a thread of its own. The pass, and whether it was told that no answer comes.
