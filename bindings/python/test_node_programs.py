@@ -68,19 +68,24 @@ class Cluster:
 
 
 class Programs(unittest.TestCase):
+    def wait_until(self, holds, seconds=60):
+        """Whether it holds in time."""
+        end = time.monotonic() + seconds
+        while not holds() and time.monotonic() < end:
+            time.sleep(0.05)
+        return holds()
+
     def play(self, front, killed):
         with tempfile.TemporaryDirectory() as folder:
             cluster = Cluster(folder, front, int(killed))
             for me in range(COUNT):
                 cluster.start(me)
             if killed:
-                time.sleep(0.6)
+                # (once it has answered there is a log to go on with)
+                self.wait_until(lambda: cluster.answers(1))
                 cluster.kill(1)
                 cluster.start(1, "--resume")
-            end = time.monotonic() + 60
-            while not cluster.has_ended() and time.monotonic() < end:
-                time.sleep(0.1)
-            ended = cluster.has_ended()
+            ended = self.wait_until(cluster.has_ended)
             cluster.close()
             told = cluster.merged()
             self.assertTrue(ended)
