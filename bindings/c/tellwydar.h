@@ -4,8 +4,8 @@
  * checked by anything but `tools/bindings`.
  *
  * Duties of the caller. No pointer is null, not even where its length is 0. A length is that of its room. Rooms don't overlap. A
- * handle is one that `tellwydar_world_new` gave, it is in one call at a time, on the thread that made it, and in none after
- * `tellwydar_world_free`. No function is called from a signal handler. A command keeps some 64 KiB on the stack.
+ * handle is one that `tellwydar_world_new` or `tellwydar_process_new` gave to that kind of function, it is in one call at a time, on the
+ * thread that made it, and in none after it was freed. No function is called from a signal handler. A command keeps some 64 KiB on the stack.
  *
  * The library starts no thread and takes no lock. It takes memory by malloc, realloc and free.
  */
@@ -123,10 +123,14 @@ enum {
     TELLWYDAR_TOO_MANY_OPERATIONS = 21,
     TELLWYDAR_NO_FRAME = 22,
     TELLWYDAR_NO_MEMORY = 23,
+    TELLWYDAR_AHEAD = 24,      /* of a process: a count above the number of the next body */
+    TELLWYDAR_STALE = 25,      /* of a process: an expected body whose time isn't above that of the last one from its sender */
+    TELLWYDAR_CLOCK_FULL = 26, /* of a process, which has stopped */
     TELLWYDAR_NO_EVENT = 32, /* no such kind, or a register above 65,535 */
     TELLWYDAR_CLOSED = 33,
     TELLWYDAR_NO_SHAPE = 34,
-    TELLWYDAR_NO_FRONT = 35
+    TELLWYDAR_NO_FRONT = 35,
+    TELLWYDAR_NOT_A_FRAME = 48 /* of a process: these bytes spell no frame (docs/FORMATS.md) */
 };
 
 /* Makes a world in which nothing happened yet. The result is 0, and the handle is set; or one of the last numbers, and it isn't. */
@@ -167,6 +171,61 @@ void tellwydar_world_close(struct tellwydar_world *handle);
 /* Ends a world. */
 static inline void tellwydar_world_free(struct tellwydar_world *handle) {
     tellwydar_world_close(handle);
+    free(handle);
+}
+
+/* --- Processes: one process of a run, whose frames the caller carries ---------------------------------------------------------- */
+
+struct tellwydar_process;
+
+/* Makes the process `me`, from 0, of a run in which all have this front end and this shape. It did nothing yet. The result is 0, and the
+ * handle is set; or TELLWYDAR_NO_SHAPE, TELLWYDAR_NO_FRONT, TELLWYDAR_NO_PROCESS or TELLWYDAR_NO_MEMORY, and it isn't. */
+uint32_t tellwydar_process_new(uint32_t front, uint32_t processes, uint32_t registers, uint8_t me, struct tellwydar_process **handle);
+
+/* Each makes a step, and tells one of the numbers above. A refused step changes nothing, but a full clock and want of memory stop the
+ * process for good; its reply and its frames are none. Bytes that spell no frame, and numbers that say no operation, make no step: the
+ * reply and the frames of the last one are kept. */
+
+/* Calls an operation: the kind is TELLWYDAR_READ, TELLWYDAR_WRITE or TELLWYDAR_SWAP. */
+uint32_t tellwydar_process_call(struct tellwydar_process *handle, uint32_t kind, uint32_t reg, uint64_t value);
+/* Takes a frame that the process `from` put for this one, as often and in whatever order: just the bytes of one frame. */
+uint32_t tellwydar_process_take(struct tellwydar_process *handle, uint8_t from, const uint8_t *bytes, size_t bytes_length);
+/* Puts the first unacknowledged frames of every link again. */
+uint32_t tellwydar_process_tick(struct tellwydar_process *handle);
+
+/* Puts as many bytes of the last step's frames into the room as it takes, and into `length` how many there are: for each frame a byte for
+ * its receiver, and then the frame's bytes, whose first two are how many follow them. 33,264 bytes always do. The result is 0, or
+ * TELLWYDAR_NO_MEMORY, or TELLWYDAR_NOT_A_FRAME where a frame is out of range, and then nothing has changed. */
+uint32_t tellwydar_process_frames(struct tellwydar_process *handle, uint8_t *room, size_t room_length, size_t *length);
+
+/* What to look at. */
+enum {
+    TELLWYDAR_OWN_CLOCK = 0,
+    TELLWYDAR_OWN_DELIVERED = 1, /* how many casts it has delivered */
+    TELLWYDAR_OWN_UNSETTLED = 2, /* how many of its own casts are not delivered here */
+    TELLWYDAR_OWN_PENDING = 3,   /* how many data frames are not acknowledged, over all links */
+    TELLWYDAR_OWN_RUNNING = 4,   /* 0: no operation runs, 1: one waits for its cast, 2: one waits for all own casts */
+    TELLWYDAR_OWN_REGISTER = 5,  /* the value of the register `reg` in its copy, 0 where there is none */
+    TELLWYDAR_OWN_REPLY_VALUE = 6, /* of the last step */
+    TELLWYDAR_OWN_REPLY_PLACE = 7  /* how many casts that reply counts with */
+};
+uint64_t tellwydar_process_look(struct tellwydar_process *handle, uint32_t what, uint16_t reg);
+
+/* What it knows of another process: 0 where there is no other of this number. */
+enum {
+    TELLWYDAR_PEER_FIRST = 0,    /* the number of the first body to it that it hasn't acknowledged */
+    TELLWYDAR_PEER_NEXT = 1,     /* the number of the next body to it */
+    TELLWYDAR_PEER_EXPECTED = 2, /* the number of the next body from it */
+    TELLWYDAR_PEER_SEEN = 3      /* the time of the last body that was accepted from it */
+};
+uint64_t tellwydar_process_known(struct tellwydar_process *handle, uint32_t what, uint8_t peer);
+
+/* Gives back what the process holds, but for the handle's own block: call `tellwydar_process_free` in its place. */
+void tellwydar_process_close(struct tellwydar_process *handle);
+
+/* Ends a process. */
+static inline void tellwydar_process_free(struct tellwydar_process *handle) {
+    tellwydar_process_close(handle);
     free(handle);
 }
 

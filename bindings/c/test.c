@@ -101,11 +101,72 @@ static void verdicts(void) {
     expect("a kind that is none", tellwydar_check_serial(1, 1, &kind, 1, right, 0, &place) == TELLWYDAR_OUT_OF_PLACE && place == 0);
 }
 
+/* A write of the value 5 by the first of two processes: its cast, and what the other one answers, as worked by hand. */
+static const uint8_t cast[] = {0, 0x1e, 1, 1, 0, 0, 0, 0, 0, 0, 0, 0, 1, 0, 0, 0, 0, 0, 0, 0, 1, 2, 0, 0, 0, 0, 0, 0, 0, 0, 0, 5};
+static const uint8_t got[] = {0, 0x0a, 1, 2, 0, 0, 0, 0, 0, 0, 0, 1};
+static const uint8_t ack[] = {0, 0x13, 1, 1, 0, 0, 0, 0, 0, 0, 0, 0, 2, 0, 0, 0, 0, 0, 0, 0, 2};
+
+/* Whether the last step's frames are these bytes. */
+static int puts_bytes(struct tellwydar_process *process, const uint8_t *bytes, size_t count) {
+    uint8_t room[64];
+    size_t length;
+    memset(room, 0xee, sizeof room);
+    return tellwydar_process_frames(process, room, sizeof room, &length) == 0 && length == count && memcmp(room, bytes, count) == 0 &&
+           room[count] == 0xee;
+}
+
+static void processes(void) {
+    struct tellwydar_process *writer = NULL, *other = NULL;
+    expect("no such process", tellwydar_process_new(0, 2, 1, 2, &writer) == TELLWYDAR_NO_PROCESS && writer == NULL);
+    expect("no such shape", tellwydar_process_new(0, 65, 1, 0, &writer) == TELLWYDAR_NO_SHAPE && writer == NULL);
+    expect("no such front end", tellwydar_process_new(3, 2, 1, 0, &writer) == TELLWYDAR_NO_FRONT && writer == NULL);
+    expect("the writer", tellwydar_process_new(TELLWYDAR_LINEAR, 2, 1, 0, &writer) == 0 && writer != NULL);
+    expect("the other", tellwydar_process_new(TELLWYDAR_LINEAR, 2, 1, 1, &other) == 0 && other != NULL);
+    uint8_t sent[33] = {1}, answered[35] = {0}, counted[13] = {1}, short_room[4] = {9, 9, 9, 9};
+    memcpy(sent + 1, cast, sizeof cast);
+    memcpy(answered + 1, got, sizeof got);
+    memcpy(answered + 14, ack, sizeof ack);
+    memcpy(counted + 1, got, sizeof got);
+    size_t length = 7;
+
+    expect("nothing was put", puts_bytes(writer, sent, 0));
+    expect("no such operation", tellwydar_process_call(writer, 3, 0, 5) == TELLWYDAR_NO_EVENT);
+    expect("no such register", tellwydar_process_call(writer, TELLWYDAR_WRITE, 1, 5) == TELLWYDAR_NO_REGISTER);
+    expect("called", tellwydar_process_call(writer, TELLWYDAR_WRITE, 0, 5) == TELLWYDAR_ACCEPTED);
+    expect("its cast goes to the other", puts_bytes(writer, sent, sizeof sent));
+    expect("the room has the front", tellwydar_process_frames(writer, short_room, 3, &length) == 0 && length == 33 && memcmp(short_room, sent, 3) == 0 && short_room[3] == 9);
+    expect("it waits for its cast", tellwydar_process_look(writer, TELLWYDAR_OWN_RUNNING, 0) == 1);
+    expect("one frame is pending", tellwydar_process_look(writer, TELLWYDAR_OWN_PENDING, 0) == 1);
+    expect("its number is used up", tellwydar_process_known(writer, TELLWYDAR_PEER_NEXT, 1) == 1);
+    expect("bytes that are no frame", tellwydar_process_take(writer, 1, ack, sizeof ack - 1) == TELLWYDAR_NOT_A_FRAME);
+    expect("and change nothing", puts_bytes(writer, sent, sizeof sent) && tellwydar_process_look(writer, TELLWYDAR_OWN_CLOCK, 0) == 1);
+    expect("busy", tellwydar_process_call(writer, TELLWYDAR_READ, 0, 0) == TELLWYDAR_BUSY);
+    expect("which puts nothing", puts_bytes(writer, sent, 0));
+    expect("put again", tellwydar_process_tick(writer) == TELLWYDAR_ACCEPTED && puts_bytes(writer, sent, sizeof sent));
+
+    expect("taken", tellwydar_process_take(other, 0, cast, sizeof cast) == TELLWYDAR_ACCEPTED);
+    expect("answered by a count and an acknowledgement", puts_bytes(other, answered, sizeof answered));
+    expect("its clock", tellwydar_process_look(other, TELLWYDAR_OWN_CLOCK, 0) == 2);
+    expect("it has the value", tellwydar_process_look(other, TELLWYDAR_OWN_REGISTER, 0) == 5);
+    expect("of one sender", tellwydar_process_take(writer, 0, got, sizeof got) == TELLWYDAR_NO_PROCESS);
+    expect("the count", tellwydar_process_take(writer, 1, got, sizeof got) == TELLWYDAR_ACCEPTED && puts_bytes(writer, sent, 0));
+    expect("nothing is pending", tellwydar_process_look(writer, TELLWYDAR_OWN_PENDING, 0) == 0);
+    expect("done", tellwydar_process_take(writer, 1, ack, sizeof ack) == TELLWYDAR_DONE && puts_bytes(writer, counted, sizeof counted));
+    expect("as the first", tellwydar_process_look(writer, TELLWYDAR_OWN_REPLY_PLACE, 0) == 0);
+    expect("its clock", tellwydar_process_look(writer, TELLWYDAR_OWN_CLOCK, 0) == 3);
+    expect("the next one is expected", tellwydar_process_known(writer, TELLWYDAR_PEER_EXPECTED, 1) == 1);
+    expect("and seen", tellwydar_process_known(writer, TELLWYDAR_PEER_SEEN, 1) == 2);
+    expect("no peer", tellwydar_process_known(writer, TELLWYDAR_PEER_SEEN, 2) == 0);
+    tellwydar_process_free(writer);
+    tellwydar_process_free(other);
+}
+
 int main(void) {
     rooms();
     refusals();
     fronts();
     verdicts();
+    processes();
     printf("%d passed, %d failed\n", passed, failed);
     return failed != 0;
 }

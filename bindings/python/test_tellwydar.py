@@ -1,9 +1,11 @@
 """Tests of the module: python3 -m unittest, with TELLWYDAR_LIB set."""
+import contextlib
 import os
+import random
 import unittest
 
 import tellwydar
-from tellwydar import Answered, Called, Fault, Front, Read, Refused, Swap, World, Write
+from tellwydar import Answered, Called, Fault, Front, Known, Process, Read, Refused, Swap, World, Write
 
 EXAMPLES = os.path.join(os.path.dirname(os.path.abspath(__file__)), "../../examples")
 
@@ -59,6 +61,66 @@ class Tests(unittest.TestCase):
         self.assertRaisesRegex(Refused, "no shape", World, Front.LINEAR, 65, 1)
         self.assertRaises(ValueError, World, 3, 1, 1)
         self.assertRaises(ValueError, World, Front.LINEAR, -1, 1)
+
+    def test_processes(self):
+        # A write of the value 5 by the first of two processes: its cast, and what the other one answers, as worked by hand.
+        cast = bytes.fromhex("001e0101" + "0" * 16 + "01" + "0" * 14 + "01" + "02" + "0000" + "0" * 14 + "05")
+        got = bytes.fromhex("000a0102" + "0" * 14 + "01")
+        ack = bytes.fromhex("00130101" + "0" * 16 + "02" + "0" * 14 + "02")
+        with Process(Front.LINEAR, 2, 1, 0) as writer, Process(Front.LINEAR, 2, 1, 1) as other:
+            self.assertEqual(writer.frames(), [])
+            self.assertIsNone(writer.call(Write(0, 5)))
+            self.assertEqual(writer.frames(), [(1, cast)])
+            self.assertEqual((writer.busy, writer.pending, writer.known(1)), (True, 1, Known(0, 1, 0, 0)))
+            for bad in (b"", ack[:-1], ack + b"0", b"\xff" * 32):
+                self.assertRaisesRegex(Refused, "not a frame", writer.take, 1, bad)
+            self.assertEqual(writer.frames(), [(1, cast)])
+            self.assertRaisesRegex(Refused, "busy", writer.call, Read(0))
+            self.assertEqual(writer.frames(), [])
+            writer.tick()
+            self.assertEqual(writer.frames(), [(1, cast)])
+            self.assertIsNone(other.take(0, cast))
+            self.assertEqual(other.frames(), [(0, got), (0, ack)])
+            self.assertEqual((other.register(0), other.clock, other.delivered), (5, 2, 1))
+            self.assertIsNone(writer.take(1, got))
+            self.assertEqual(writer.take(1, ack), tellwydar.Reply(None, 0))
+            self.assertEqual(writer.frames(), [(1, got)])
+            self.assertEqual((writer.busy, writer.pending, writer.clock, writer.unsettled), (False, 0, 3, 0))
+            self.assertRaisesRegex(Refused, "no process", writer.take, 0, got)
+        self.assertRaisesRegex(Refused, "closed", writer.tick)
+        self.assertRaisesRegex(Refused, "no process", Process, Front.LINEAR, 2, 1, 2)
+        self.assertRaisesRegex(Refused, "no shape", Process, Front.LINEAR, 65, 1, 0)
+
+    def test_processes_are_a_world(self):
+        """Processes that take what a world's take do what it does."""
+        for front in Front:
+            words, n = random.Random(front), 3
+            with World(front, n, 2) as world, contextlib.ExitStack() as stack:
+                processes = [stack.enter_context(Process(front, n, 2, me)) for me in range(n)]
+                wires = [[[] for _ in range(n)] for _ in range(n)]
+                for _ in range(2000):
+                    me, sender, register = words.randrange(n), words.randrange(n), words.randrange(2)
+                    event = words.choice(["call", "tick", "take", "take", "take"])
+                    if event == "call":
+                        op = words.choice([Read(register), Write(register, words.getrandbits(64)), Swap(register, words.getrandbits(64))])
+                        steps = [lambda: world.call(me, op), lambda: processes[me].call(op)]
+                    elif event == "tick":
+                        steps = [lambda: world.tick(me), processes[me].tick]
+                    elif wires[sender][me]:
+                        place = words.randrange(max(0, len(wires[sender][me]) - 6), len(wires[sender][me]))
+                        steps = [lambda: world.take(sender, me, place), lambda: processes[me].take(sender, wires[sender][me][place])]
+                    else:
+                        continue
+                    told = []
+                    for step in steps:
+                        try:
+                            told.append(step())
+                        except Refused as refused:
+                            told.append(str(refused))
+                    self.assertEqual(*told)
+                    for receiver, frame in processes[me].frames():
+                        wires[me][receiver].append(frame)
+                self.assertGreater(sum(it.delivered for it in processes), 20)
 
 
 if __name__ == "__main__":

@@ -78,5 +78,13 @@ unsafe extern "C" {
     pub fn tellwydar_world_arrange(handle: *mut Opaque) -> u32;
     pub fn tellwydar_world_look(handle: *mut Opaque, what: u32, at: u32) -> u64;
     pub fn tellwydar_world_close(handle: *mut Opaque);
+    pub fn tellwydar_process_new(front: u32, processes: u32, registers: u32, me: u8, handle: *mut *mut Opaque) -> u32;
+    pub fn tellwydar_process_call(handle: *mut Opaque, kind: u32, register: u32, value: u64) -> u32;
+    pub fn tellwydar_process_take(handle: *mut Opaque, from: u8, bytes: *const u8, bytes_length: usize) -> u32;
+    pub fn tellwydar_process_tick(handle: *mut Opaque) -> u32;
+    pub fn tellwydar_process_frames(handle: *mut Opaque, room: *mut u8, room_length: usize, length: *mut usize) -> u32;
+    pub fn tellwydar_process_look(handle: *mut Opaque, what: u32, register: u16) -> u64;
+    pub fn tellwydar_process_known(handle: *mut Opaque, what: u32, peer: u8) -> u64;
+    pub fn tellwydar_process_close(handle: *mut Opaque);
     pub fn free(block: *mut Opaque);
 }

@@ -11,7 +11,7 @@ pub trait Front: sealed::Numbered {}
 /// A front end whose runs have points: they are linearizable.
 pub trait RealTime: Front {}
 
-mod sealed {
+pub(crate) mod sealed {
     pub trait Numbered {
         const NUMBER: u32;
     }
@@ -56,7 +56,8 @@ pub struct Reply {
     pub place: u64,
 }
 
-/// Why an event, or a world, is refused. Nothing has changed, but after `OutOfMemory` the world has stopped, and answers `Failed`.
+/// Why an event, a world or a process is refused. Nothing has changed, but after `OutOfMemory` and `ClockFull` the world or the process has
+/// stopped, and answers `Failed`.
 #[derive(Clone, Copy, Debug, PartialEq, Eq)]
 pub enum Refused {
     Failed,
@@ -67,6 +68,14 @@ pub enum Refused {
     TooManyOperations,
     NoFrame,
     OutOfMemory,
+    /// Of a process: a count is above the number of the next body.
+    Ahead,
+    /// Of a process: the time of an expected body isn't above that of the last one from its sender.
+    Stale,
+    /// Of a process: its clock would pass its last time.
+    ClockFull,
+    /// Of a process: these bytes spell no frame.
+    NotAFrame,
     /// Not 1 to 64 processes, or not 1 to 4,096 registers.
     NoShape,
 }
@@ -82,6 +91,10 @@ impl fmt::Display for Refused {
             Self::TooManyOperations => "too many operations",
             Self::NoFrame => "no frame",
             Self::OutOfMemory => "out of memory",
+            Self::Ahead => "ahead",
+            Self::Stale => "stale",
+            Self::ClockFull => "clock full",
+            Self::NotAFrame => "not a frame",
             Self::NoShape => "no shape",
         })
     }
@@ -89,7 +102,7 @@ impl fmt::Display for Refused {
 
 impl std::error::Error for Refused {}
 
-fn refused(code: u32) -> Refused {
+pub(crate) fn refused(code: u32) -> Refused {
     match code {
         16 => Refused::Failed,
         17 => Refused::TooManyEvents,
@@ -98,6 +111,10 @@ fn refused(code: u32) -> Refused {
         20 => Refused::NoRegister,
         21 => Refused::TooManyOperations,
         22 => Refused::NoFrame,
+        24 => Refused::Ahead,
+        25 => Refused::Stale,
+        26 => Refused::ClockFull,
+        48 => Refused::NotAFrame,
         34 => Refused::NoShape,
         _ => Refused::OutOfMemory,
     }

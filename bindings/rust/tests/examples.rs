@@ -170,3 +170,33 @@ fn refusals() {
     assert_eq!(world.step(Event::Take { from: 0, to: 0, number: 0 }), Err(Refused::NoFrame));
     assert_eq!(world.events(), 0);
 }
+
+/// A write of the value 5 by the first of two processes: its cast, and what the other one answers, as worked by hand.
+const CAST: [u8; 32] = [0, 0x1e, 1, 1, 0, 0, 0, 0, 0, 0, 0, 0, 1, 0, 0, 0, 0, 0, 0, 0, 1, 2, 0, 0, 0, 0, 0, 0, 0, 0, 0, 5];
+const GOT: [u8; 12] = [0, 0x0a, 1, 2, 0, 0, 0, 0, 0, 0, 0, 1];
+const ACK: [u8; 21] = [0, 0x13, 1, 1, 0, 0, 0, 0, 0, 0, 0, 0, 2, 0, 0, 0, 0, 0, 0, 0, 2];
+
+#[test]
+fn processes() -> Result<(), Refused> {
+    assert_eq!(Process::<Linear>::new(2, 1, 2).err(), Some(Refused::NoProcess));
+    assert_eq!(Process::<Linear>::new(65, 1, 0).err(), Some(Refused::NoShape));
+    let (mut writer, mut other) = (Process::<Linear>::new(2, 1, 0)?, Process::<Linear>::new(2, 1, 1)?);
+    assert_eq!(writer.frames()?, []);
+    assert_eq!(writer.call(Op::Write { register: 0, value: 5 })?, None);
+    assert_eq!(writer.frames()?, [(1, CAST.to_vec())]);
+    assert_eq!((writer.busy(), writer.pending(), writer.known(1)), (true, 1, Known { first: 0, next: 1, expected: 0, seen: 0 }));
+    assert_eq!(writer.take(1, &ACK[..20]), Err(Refused::NotAFrame));
+    assert_eq!(writer.frames()?, [(1, CAST.to_vec())]);
+    assert_eq!(writer.call(Op::Read { register: 0 }), Err(Refused::Busy));
+    assert_eq!(writer.frames()?, []);
+    writer.tick()?;
+    assert_eq!(writer.frames()?, [(1, CAST.to_vec())]);
+    assert_eq!(other.take(0, &CAST)?, None);
+    assert_eq!(other.frames()?, [(0, GOT.to_vec()), (0, ACK.to_vec())]);
+    assert_eq!((other.register(0), other.clock(), other.delivered()), (5, 2, 1));
+    assert_eq!(writer.take(1, &GOT)?, None);
+    assert_eq!(writer.take(1, &ACK)?, Some(Reply { answer: Answer::Done, place: 0 }));
+    assert_eq!(writer.frames()?, [(1, GOT.to_vec())]);
+    assert_eq!((writer.busy(), writer.pending(), writer.clock(), writer.unsettled()), (false, 0, 3, 0));
+    Ok(())
+}

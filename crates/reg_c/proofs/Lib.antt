@@ -1,2 +1,3 @@
 mod Rowwise
 mod Received
+mod Spelled

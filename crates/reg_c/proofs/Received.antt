@@ -1,8 +1,8 @@
--- What a walk has of an unboxed value and of a result, at their machine values, and of the world that was opened. Assumes `Logic`.
+-- What a walk has of an unboxed value and of a result, at their machine values, and of the world or the process that was opened. Assumes `Logic`.
 --     word, unboxed_out     an unboxed value is a struct of one pointer, and owns what lies there
 --     result_out            a result is what its live variant holds, and a fact of it that variant's
 --     tells                 a fact that is the goal's first part
---     front_named           a world is of one of the three front ends
+--     front_named, process_front           a world, and a process, is of one of the three front ends
 use Rattle.std.proofs.Common.{◌≡◌, ◌<◌, ℕ, Some, List, [], ◌∷◌, ◌++◌, ap, ◌∙◌, arith}
 use seplogic.Ra.Ura.{Ura}
 use mir.Val.{Val, vptr, vstruct, vcons, vnil, of_list}
@@ -20,6 +20,8 @@ use Rattle.std.specs.declared.result.Result.TheVariants.{Ok, Err}
 use Rattle.reg_base.specs.Shape.{Extent}
 use Rattle.reg_c.specs.declared.holding.Kept.{Kept}
 use Rattle.reg_c.specs.Worlds.{kept_at_first}
+use Rattle.reg_c.specs.declared.processes.KeptProcess.{KeptProcess}
+use Rattle.reg_c.specs.Processes.{process_at_first}
 use Rattle.reg_c.specs.contracts.unboxed.Unboxed as unboxed
 
 abbrev pub word : ℕ → ℕ → Val
@@ -48,3 +50,6 @@ tells {𝓤 = 𝓤} t {φ} {P} x = step (λ s. record { prf = via 𝓤 P s.prf (
 
 pub front_named : (front : ℕ) (shape : Extent) (kept : Kept) → kept_at_first front shape ≡ Some kept → front < 3
 front_named front shape kept is = grind arith
+
+pub process_front : (front me : ℕ) (shape : Extent) (kept : KeptProcess) → process_at_first front me shape ≡ Some kept → front < 3
+process_front front me shape kept is = grind arith

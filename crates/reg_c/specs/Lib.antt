@@ -3,3 +3,4 @@ pub mod Rows
 pub mod Verdicts
 pub mod Events
 pub mod Worlds
+pub mod Processes

@@ -1,10 +1,26 @@
 //! Events, replies and faults as numbers.
 ghost use Rattle.std.specs.Prelude.{◌≡◌};
-ghost use Rattle.reg_c.specs.Events.{answer_code, answer_value, event_of, fault_code, reply_code};
+ghost use Rattle.reg_c.specs.Events.{answer_code, answer_value, event_of, fault_code, op_of, refusal_code, reply_code};
 
 use reg_base::{Answer, Op};
-use reg_process::Reply;
+use reg_process::{ProcessFault, Reply};
 use reg_world::{Event, WorldFault};
+
+/// The operation that these numbers say: `kind` 0, 1 and 2 are a read, a write and a swap.
+pub fn operation(kind: u32, register: u32, value: u64) -> Option<Op>
+    ensures { result ≡ op_of kind register value }
+{
+    if register >= 65536 {
+        return None;
+    }
+    let register = register as u16;
+    match kind {
+        0 => Some(Op::Read { register }),
+        1 => Some(Op::Write { register, value }),
+        2 => Some(Op::Swap { register, value }),
+        _ => None,
+    }
+}
 
 /// The event that these numbers say: `kind` 0, 1 and 2 call a read, a write and a swap of register `number` at the process, 3 has
 /// it take frame `number` of `from`, and 4 is its tick.
@@ -18,19 +34,10 @@ pub fn event(kind: u32, process: u8, number: u32, from: u8, value: u64) -> Optio
             number,
         }),
         4 => Some(Event::Tick { process }),
-        _ => {
-            if number >= 65536 {
-                return None;
-            }
-            let register = number as u16;
-            let op = match kind {
-                0 => Op::Read { register },
-                1 => Op::Write { register, value },
-                2 => Op::Swap { register, value },
-                _ => return None,
-            };
-            Some(Event::Call { process, op })
-        }
+        _ => match operation(kind, number, value) {
+            Some(op) => Some(Event::Call { process, op }),
+            None => None,
+        },
     }
 }
 
@@ -77,5 +84,22 @@ pub fn code_of_fault(fault: WorldFault) -> u32
         WorldFault::TooManyOperations => 21,
         WorldFault::NoFrame => 22,
         WorldFault::OutOfMemory => 23,
+    }
+}
+
+/// Why a process refuses a step: 16 and more, and the same numbers as for a world where the fault is the same.
+pub fn code_of_refusal(fault: ProcessFault) -> u32
+    ensures { result ≡ refusal_code fault }
+{
+    match fault {
+        ProcessFault::Failed => 16,
+        ProcessFault::NoProcess => 18,
+        ProcessFault::Busy => 19,
+        ProcessFault::NoRegister => 20,
+        ProcessFault::TooManyOperations => 21,
+        ProcessFault::OutOfMemory => 23,
+        ProcessFault::Ahead => 24,
+        ProcessFault::Stale => 25,
+        ProcessFault::ClockFull => 26,
     }
 }

@@ -1,11 +1,15 @@
 //! The library for programs in other languages: the functions that C can call, and what stands behind them over values: numbers for
-//! events, replies, faults and verdicts, histories as rows, commands into buffers, and a world that a caller holds by a pointer.
+//! events, replies, faults and verdicts, histories as rows, commands into buffers, and a world or a process that a caller holds by a
+//! pointer.
 #![tactic(auto)]
 
 mod events;
 pub mod holding;
 mod judging;
 mod looking;
+mod parts;
+mod process_handles;
+pub mod processes;
 mod reading;
 mod rows;
 mod telling;
@@ -15,6 +19,11 @@ mod verdicts;
 mod worlds;
 
 pub use judging::{tellwydar_check_points, tellwydar_check_serial};
+pub use process_handles::{
+    tellwydar_process_call, tellwydar_process_close, tellwydar_process_frames,
+    tellwydar_process_known, tellwydar_process_look, tellwydar_process_new, tellwydar_process_take,
+    tellwydar_process_tick,
+};
 pub use texts::{tellwydar_check, tellwydar_play, tellwydar_play_fair, tellwydar_replay};
 pub use worlds::{
     tellwydar_world_arrange, tellwydar_world_close, tellwydar_world_look, tellwydar_world_new,

@@ -22,7 +22,7 @@ struct Ran {
 }
 
 /// Puts as many of the bytes into the room as it takes.
-fn fill(room: &mut [u8], bytes: &[u8])
+pub fn fill(room: &mut [u8], bytes: &[u8])
     ensures { room.new ≡ filled bytes.now room.old }
 {
     let count = bytes.len().min(room.len());

@@ -2,7 +2,8 @@
 
 Each process of a `World` keeps a copy of all registers, and keeps it in step by Lamport's totally ordered multicast. One steps a world
 by events: calls of operations, takes of frames, ticks. A history of one's own is judged by `check_serial` and `check_points`. The
-commands of the program `awreg` are `replay`, `check`, `play` and `play_fair`.
+commands of the program `awreg` are `replay`, `check`, `play` and `play_fair`. A `Process` is one process alone, whose frames one carries
+oneself.
 
 The environment's TELLWYDAR_LIB names the folder of `libtellwydar.so`, which `tools/bindings --keep FOLDER` makes.
 """
@@ -13,7 +14,7 @@ from dataclasses import dataclass
 from typing import List, Optional, Sequence, Union
 
 __all__ = [
-    "Answered", "Called", "Fault", "Front", "Read", "Refused", "Reply", "Swap", "Told", "World", "Write",
+    "Answered", "Called", "Fault", "Front", "Known", "Process", "Read", "Refused", "Reply", "Swap", "Told", "World", "Write",
     "check", "check_points", "check_serial", "play", "play_fair", "replay",
 ]
 
@@ -40,7 +41,7 @@ class _Point(ctypes.Structure):
 def _load():
     folder = os.environ.get("TELLWYDAR_LIB", os.path.dirname(os.path.abspath(__file__)))
     library = ctypes.CDLL(os.path.join(folder, "libtellwydar.so"))
-    u8, u32, u64, size, handle = ctypes.c_uint8, ctypes.c_uint32, ctypes.c_uint64, ctypes.c_size_t, ctypes.c_void_p
+    u8, u16, u32, u64, size, handle = ctypes.c_uint8, ctypes.c_uint16, ctypes.c_uint32, ctypes.c_uint64, ctypes.c_size_t, ctypes.c_void_p
     room = ctypes.c_char_p
     for word in ("replay", "check", "play", "play_fair"):
         call = getattr(library, f"tellwydar_{word}")
@@ -57,6 +58,18 @@ def _load():
         ("close", None, [handle]),
     ):
         call = getattr(library, f"tellwydar_world_{word}")
+        call.restype, call.argtypes = result, given
+    for word, result, given in (
+        ("new", u32, [u32, u32, u32, u8, ctypes.POINTER(handle)]),
+        ("call", u32, [handle, u32, u32, u64]),
+        ("take", u32, [handle, u8, room, size]),
+        ("tick", u32, [handle]),
+        ("frames", u32, [handle, room, size, ctypes.POINTER(size)]),
+        ("look", u64, [handle, u32, u16]),
+        ("known", u64, [handle, u32, u8]),
+        ("close", None, [handle]),
+    ):
+        call = getattr(library, f"tellwydar_process_{word}")
         call.restype, call.argtypes = result, given
     free = ctypes.CDLL(None).free
     free.restype, free.argtypes = None, [handle]
@@ -219,12 +232,13 @@ class Front(enum.IntEnum):
 
 
 class Refused(Exception):
-    """Why an event, or a world, is refused. Nothing has changed, but after `out of memory` the world has stopped."""
+    """Why an event, a world or a process is refused. Nothing has changed, but after `out of memory` and `clock full` the world or the
+    process has stopped."""
 
 
 _REFUSALS = {
     16: "failed", 17: "too many events", 18: "no process", 19: "busy", 20: "no register", 21: "too many operations",
-    22: "no frame", 23: "out of memory", 32: "no event", 33: "closed", 34: "no shape", 35: "no front",
+    22: "no frame", 23: "out of memory", 24: "ahead", 25: "stale", 26: "clock full", 32: "no event", 33: "closed", 34: "no shape", 35: "no front", 48: "not a frame",
 }
 
 
@@ -321,3 +335,120 @@ class World:
         """A linearization of the history, by process, number and event: under `Front.LINEAR`, else none."""
         self._arrange()
         return [(self._look(14, at), self._look(15, at), self._look(16, at)) for at in range(self._look(13))]
+
+
+@dataclass(frozen=True)
+class Known:
+    """What a process knows of another one: the number of the first body to it that it hasn't acknowledged and of the next one, the number
+    of the next body from it, and the time of the last one that was accepted from it."""
+
+    first: int
+    next: int
+    expected: int
+    seen: int
+
+
+class Process:
+    """One process of a run, whose frames its owner carries: whatever is lost, repeated or reordered. It is for one thread at a time."""
+
+    # (63 links, 16 frames each, of at most 32 bytes and one for the receiver)
+    _ROOM = 63 * 16 * 33
+
+    def __init__(self, front: Front, processes: int, registers: int, me: int):
+        self._handle = None
+        handle = ctypes.c_void_p()
+        code = _library.tellwydar_process_new(
+            Front(front), _ranged(processes, 32), _ranged(registers, 32), _ranged(me, 8), ctypes.byref(handle)
+        )
+        if code:
+            raise Refused(_REFUSALS[code])
+        self._handle = handle
+        self._room, self._length = ctypes.create_string_buffer(self._ROOM), ctypes.c_size_t()
+
+    def close(self) -> None:
+        """Gives back what the process holds. Later calls are refused as closed."""
+        if self._handle is not None:
+            _library.tellwydar_process_close(self._handle)
+            _free(self._handle)
+            self._handle = None
+
+    __del__ = close
+
+    def __enter__(self) -> "Process":
+        return self
+
+    def __exit__(self, *_) -> None:
+        self.close()
+
+    def _held(self):
+        if self._handle is None:
+            raise Refused("closed")
+        return self._handle
+
+    def _look(self, what: int, register: int = 0) -> int:
+        return _library.tellwydar_process_look(self._held(), what, register)
+
+    def _told(self, code: int) -> Optional[Reply]:
+        if code > 2:
+            raise Refused(_REFUSALS[code])
+        return None if code == 0 else Reply(None if code == 1 else self._look(6), self._look(7))
+
+    def call(self, op: Op) -> Optional[Reply]:
+        """Calls an operation."""
+        kind = (Read, Write, Swap).index(type(op))
+        value = _ranged(getattr(op, "value", 0), 64)
+        return self._told(_library.tellwydar_process_call(self._held(), kind, _ranged(op.register, 16), value))
+
+    def take(self, sender: int, frame: bytes) -> Optional[Reply]:
+        """Takes a frame of another process. Bytes that spell none are refused as `not a frame`, and make no step."""
+        if not isinstance(frame, bytes):
+            raise TypeError("a frame is bytes")
+        return self._told(_library.tellwydar_process_take(self._held(), _ranged(sender, 8), frame, len(frame)))
+
+    def tick(self) -> None:
+        """Puts the first unacknowledged frames of every link again."""
+        self._told(_library.tellwydar_process_tick(self._held()))
+
+    def frames(self) -> List[tuple]:
+        """The frames that the last step put, in their order: pairs of receiver and bytes. A refused step put none."""
+        code = _library.tellwydar_process_frames(self._held(), self._room, self._ROOM, ctypes.byref(self._length))
+        if code:
+            raise Refused(_REFUSALS[code])
+        told, frames = self._room.raw[: self._length.value], []
+        while told:
+            end = 3 + int.from_bytes(told[1:3], "big")
+            frames.append((told[0], told[1:end]))
+            told = told[end:]
+        return frames
+
+    @property
+    def clock(self) -> int:
+        return self._look(0)
+
+    @property
+    def delivered(self) -> int:
+        """How many casts it has delivered."""
+        return self._look(1)
+
+    @property
+    def unsettled(self) -> int:
+        """How many of its own casts are not delivered here."""
+        return self._look(2)
+
+    @property
+    def pending(self) -> int:
+        """How many data frames are not acknowledged, over all links."""
+        return self._look(3)
+
+    @property
+    def busy(self) -> bool:
+        """Whether an operation runs."""
+        return self._look(4) != 0
+
+    def register(self, register: int) -> int:
+        """The value of a register in its copy."""
+        return self._look(5, _ranged(register, 16))
+
+    def known(self, peer: int) -> Known:
+        """What it knows of another process."""
+        return Known(*(_library.tellwydar_process_known(self._held(), what, _ranged(peer, 8)) for what in range(4)))

@@ -1,0 +1,115 @@
+"""python3 -m tellwydar.net node --me 0 --config cluster.toml --log FILE [--script FILE] ..
+python3 -m tellwydar.net merge [--cut] LOG.. > report
+python3 -m tellwydar.net keys FILE"""
+import argparse
+import os
+import signal
+import sys
+import threading
+import time
+import tomllib
+
+from . import core, log, merge, road
+from .node import Node, NodeFailed
+from .road import Keys, LossyRoad, RoadFault
+
+
+def say(text):
+    print(text, file=sys.stderr, flush=True)
+
+
+def node_of(a) -> Node:
+    with open(a.config, "rb") as file:
+        config = tomllib.load(file)
+    nodes = config["node"]
+    keys = None
+    if any("key" in n for n in nodes):
+        if not a.secret:
+            raise RoadFault("cluster.toml has keys: give --secret FILE")
+        keys = Keys(road.read_secret(a.secret), tuple(n["key"].encode() for n in nodes))
+    lossy = None
+    if a.lossy:
+        seed, loss, duplicates, reorder, delay = map(float, a.lossy.split(","))
+        lossy = lambda r: LossyRoad(r, int(seed) * 1000 + a.me, loss / 100, duplicates / 100, reorder / 100, delay / 1000)
+    return Node(
+        config["front"], config["registers"], a.me, [n["address"] for n in nodes], keys, a.log,
+        sync=a.sync or config.get("sync", False), look=config.get("look_ms", 10) / 1000, resume=a.resume, lossy=lossy, say=say,
+    )
+
+
+def run_script(node, lines, out):
+    """Makes the calls of a script. A node that was resumed goes on where its log ends."""
+    called, going_on = node.so_far()
+    if going_on:
+        answer = node.wait()
+        print("done" if answer is None else f"value {answer}", file=out, flush=True)
+    for line in lines:
+        words = line.split()
+        if not words or words[0].startswith("#"):
+            continue
+        if called > 0:
+            called -= words[0] != "sleep"
+            continue
+        if words[0] == "sleep":
+            time.sleep(float(words[1]))
+            continue
+        given = [words[1]] + [int(w) for w in words[2:]]
+        answer = {"read": node.read, "write": node.write, "swap": node.swap}[words[0]](*given)
+        print("done" if answer is None else f"value {answer}", file=out, flush=True)
+    print("end", file=out, flush=True)
+
+
+def main(words) -> int:
+    parser = argparse.ArgumentParser(prog="python3 -m tellwydar.net", description=__doc__, formatter_class=argparse.RawDescriptionHelpFormatter)
+    sub = parser.add_subparsers(dest="word", required=True)
+    p = sub.add_parser("node", help="runs a node until SIGTERM or SIGINT")
+    p.add_argument("--me", type=int, required=True)
+    p.add_argument("--config", required=True)
+    p.add_argument("--log", required=True)
+    p.add_argument("--script")
+    p.add_argument("--secret")
+    p.add_argument("--sync", action="store_true", help="each entry is on the disk before its frames go out")
+    p.add_argument("--resume", action="store_true", help="go on from the log")
+    p.add_argument("--lossy", help="for tests: SEED,LOSS%%,DUPLICATES%%,REORDER%%,DELAY_MS")
+    p = sub.add_parser("merge", help="prints the report of the run that the logs are")
+    p.add_argument("--cut", action="store_true", help="where no order has all entries, the report of those that one has")
+    p.add_argument("logs", nargs="+")
+    p = sub.add_parser("keys", help="makes a secret key in a new FILE, and prints its public key")
+    p.add_argument("file")
+    a = parser.parse_args(words)
+    if a.word == "keys":
+        public, secret = road.new_keys()
+        file = os.open(a.file, os.O_WRONLY | os.O_CREAT | os.O_EXCL, 0o600)
+        os.write(file, secret + b"\n")
+        os.close(file)
+        print(f'key = "{public.decode()}"')
+        return 0
+    if a.word == "merge":
+        try:
+            status, report, fault = merge.merge(a.logs, say, a.cut)
+        except (merge.MergeFault, log.LogFault, OSError) as why:
+            say(str(why))
+            return 1
+        sys.stdout.buffer.write(report)
+        sys.stderr.buffer.write(fault)
+        return status
+    end = threading.Event()
+    for number in (signal.SIGTERM, signal.SIGINT):
+        signal.signal(number, lambda *_: end.set())
+    try:
+        with node_of(a) as node:
+            if not a.sync:
+                say("without --sync a crash of the machine may lose entries that others have seen; a crash of this program loses none")
+            if a.script:
+                with open(a.script) as file:
+                    lines = file.read().splitlines()
+                threading.Thread(target=run_script, args=(node, lines, sys.stdout), daemon=True).start()
+            end.wait()
+    except (NodeFailed, RoadFault, log.LogFault, OSError, core.Refused) as why:
+        say(str(why))
+        return 1
+    return 0
+
+
+if __name__ == "__main__":
+    sys.exit(main(sys.argv[1:]))

@@ -1,0 +1,339 @@
+"""A node: one process, its log, and a road to the others.
+
+Under one lock a step is made, its entry is written, and only then do its frames go out and its answer is told. The caller's thread does so for
+a call; one receiver thread does so for what comes in, some messages at a time with one write for all, and makes the ticks.
+"""
+import secrets
+import sys
+import threading
+import time
+import zlib
+from typing import List, Optional, Sequence
+
+from . import core, log
+from .road import MOST_BYTES, Complaints, Keys, Road
+
+_DUE = {1, 3, 7, 15, 31, 63, 127, 227}  # as the pacer of a cluster has it: after 1, 2, 4, .. looks, and from 64 on after 100
+
+
+class Busy(Exception):
+    """An operation goes on, or its answer wasn't fetched by `wait`."""
+
+
+class TimedOut(Exception):
+    """No answer yet. The operation goes on; `wait` gives its answer."""
+
+
+class Closed(Exception):
+    """The node was closed."""
+
+
+class NodeFailed(Exception):
+    """The node stopped: its process stopped for good, or its log could not be written."""
+
+
+class Node:
+    """States: up, with no operation, with one going on, or with an answer to be fetched; closed; failed. None of the last two is left."""
+
+    def __init__(self, front: str, registers: Sequence[str], me: int, peers: Sequence[str], keys: Optional[Keys], log_path: str, *,
+                 sync=False, look=0.01, resume=False, lossy=None, say=lambda text: print(text, file=sys.stderr, flush=True)):
+        self._names = {name: r for r, name in enumerate(registers)}
+        self._me, self._count, self._sync, self._look_every = me, len(peers), sync, look
+        self._say, self._complain = say, Complaints(say)
+        self._process = core.Process(core.front_of(front), len(peers), len(registers), me)
+        road = Road(me, peers, keys, self._complain)  # before the log: where it is refused no log is begun
+        try:
+            self._open(log_path, log.Head(front, len(peers), tuple(registers), me, secrets.token_hex(8)), resume)
+        except BaseException:
+            road.close()
+            raise
+        self._lock = threading.Lock()
+        self._answered = threading.Condition(self._lock)
+        self._failed, self._closed, self._idle = None, False, False
+        self._steps_due, self._data_due, self._out, self._staged_answer, self._held_till = False, False, {}, None, None
+        # What stands before the frames of a message: of which cluster, from which run of which process, to whom.
+        shape = b"TW\1" + bytes([core.FRONTS.index(front), len(peers)]) + len(registers).to_bytes(2, "big")
+        shape += zlib.crc32(" ".join(registers).encode()).to_bytes(4, "big")
+        begun = bytes.fromhex(self._head.begun)
+        self._shape, self._width = shape, len(shape) + 10
+        self._start = {p: shape + bytes([me, p]) + begun for p in range(len(peers)) if p != me}
+        self._met_as, self._begun = {}, {}  # the peers that were heard, and the run of each that was heard first
+        self._beats = {p: (None, 0) for p in self._start}
+        self._road = road if lossy is None else lossy(road)
+        self._thread = threading.Thread(target=self._serve, name="tellwydar", daemon=True)
+        self._thread.start()
+
+    def _open(self, path, head, resume):
+        self._head, self._running, self._answer, self._called = head, False, None, 0
+        if not resume:
+            try:
+                self._log = log.Writer(path, head)
+            except FileExistsError:
+                raise NodeFailed(f"{path} is there already: resume it, or take a new one for a new cluster") from None
+            return
+        # The process is a function of the steps in its log: make them again, and go on.
+        writer = log.Writer(path, fresh=False)  # from here on it is in no other program's hands
+        old = log.read(path, self._say)
+        if old.head._replace(begun="") != head._replace(begun=""):
+            raise NodeFailed(f"{path} is of another process, front end or shape")
+        for place, e in enumerate(old.entries):
+            try:
+                reply = core.step(self._process, e)
+            except core.Refused as why:
+                raise NodeFailed(f"{path}: line {place + 7}: {why}") from None
+            if reply != e.reply:
+                raise NodeFailed(f"{path}: line {place + 7}: another reply")
+            if e.step == "call":
+                self._running, self._called = True, self._called + 1
+            if e.reply is not None:
+                self._running = False
+        writer.go_on(old)
+        self._head, self._log = old.head, writer
+
+    # --- steps, all under the lock
+
+    def _staged(self, text: str, reply: Optional[core.Reply], cast: bool) -> None:
+        """Of the step that was just made: its entry, its frames, its reply."""
+        self._log.add(text + log.reply_text(reply))
+        self._steps_due = True
+        for to, frame in self._process.frames():
+            self._data_due |= frame[3] == 1
+            self._out.setdefault(to, []).append(frame)
+        self._data_due |= cast
+        if reply is not None:
+            self._running, self._staged_answer = False, reply
+
+    def _commit(self) -> None:
+        """Writes the entries down; then their frames go out, and then their answer is told.
+
+        With `sync` counts alone are no reason to wait for the disk: they are held until there is one, or for 2 ms."""
+        if not self._steps_due:
+            return
+        sync = self._sync and self._data_due
+        try:
+            self._log.write(sync)
+        except OSError as why:
+            self._fail(f"the log can't be written: {why}")
+            return
+        self._steps_due = self._data_due = False
+        if self._sync and not sync and self._out:
+            self._held_till = self._held_till or time.monotonic() + 0.002
+        else:
+            self._held_till = None
+            self._send()
+        if self._staged_answer is not None:
+            self._answer, self._staged_answer = self._staged_answer, None
+            self._answered.notify_all()
+
+    def _send(self) -> None:
+        for to, frames in self._out.items():
+            message, last = [self._start[to]], None
+            size = self._width
+            for frame in frames:
+                if frame[3] == 2:
+                    last = frame  # of several counts the last says all
+                    continue
+                if size + len(frame) + 12 > MOST_BYTES:
+                    self._road.send(to, b"".join(message))
+                    message, size = [self._start[to]], self._width
+                message.append(frame)
+                size += len(frame)
+            if last is not None:
+                message.append(last)
+            self._road.send(to, b"".join(message))
+        self._out.clear()
+
+    def _fail(self, why: str) -> None:
+        self._failed = why
+        self._out.clear()
+        self._say(f"process {self._me} stopped: {why}")
+        self._answered.notify_all()
+
+    def _up(self) -> None:
+        if self._closed:
+            raise Closed()
+        if self._failed:
+            raise NodeFailed(self._failed)
+
+    # --- the caller's side
+
+    def _call(self, kind, register, value, timeout):
+        register = self._names.get(register, register)
+        if not isinstance(register, int) or not 0 <= register < 2**16:
+            raise core.Refused("no register")
+        if not isinstance(value, int) or not 0 <= value < 2**64:  # ctypes would cut it, and the log would say another value
+            raise ValueError(f"{value!r} is no number of 64 bits")
+        with self._lock:
+            self._up()
+            if self._running or self._answer is not None:
+                raise Busy()
+            try:
+                reply = self._process.call(core.operation(kind, register, value))
+            except core.Refused as why:  # nothing has changed, but it may have stopped for good
+                if str(why) in core.STOPS:
+                    self._fail(str(why))
+                raise
+            self._running, self._called = True, self._called + 1
+            self._staged(log.call_text(kind, register, value), reply, kind != core.READ)
+            self._commit()
+            if self._idle:
+                self._idle = False
+                self._road.wake()
+            return self._wait(timeout)
+
+    def _wait(self, timeout):
+        end = None if timeout is None else time.monotonic() + timeout
+        while self._answer is None:
+            self._up()
+            if not self._running:
+                raise Busy()  # another thread fetched it
+            left = None if end is None else end - time.monotonic()
+            if left is not None and left <= 0:
+                raise TimedOut()
+            self._answered.wait(left)
+        answer, self._answer = self._answer, None
+        return answer.value
+
+    def read(self, register, timeout: Optional[float] = None) -> int:
+        return self._call(core.READ, register, 0, timeout)
+
+    def write(self, register, value: int, timeout: Optional[float] = None) -> None:
+        return self._call(core.WRITE, register, value, timeout)
+
+    def swap(self, register, value: int, timeout: Optional[float] = None) -> int:
+        return self._call(core.SWAP, register, value, timeout)
+
+    def wait(self, timeout: Optional[float] = None) -> Optional[int]:
+        """The answer of the operation that goes on (None: a write is done)."""
+        with self._lock:
+            if not self._running and self._answer is None:
+                raise ValueError("no operation goes on")
+            return self._wait(timeout)
+
+    def so_far(self):
+        """How many operations were called, in earlier runs too, and whether one of them goes on or has an answer to be fetched."""
+        with self._lock:
+            return self._called, self._running or self._answer is not None
+
+    def pending(self) -> int:
+        """How many frames the others haven't acknowledged."""
+        with self._lock:
+            self._up()
+            return self._process.pending
+
+    def close(self) -> None:
+        """Ends the node. Others that need its acknowledgements wait from then on: close it when all are done."""
+        with self._lock:
+            if self._closed:
+                return
+            self._closed = True
+            self._answered.notify_all()
+        self._road.wake()
+        self._thread.join()
+        self._road.close()
+        self._log.close()
+        self._process.close()
+
+    def __enter__(self):
+        return self
+
+    def __exit__(self, *_):
+        self.close()
+
+    # --- the receiver's side
+
+    def _serve(self):
+        look_at, due = time.monotonic() + self._look_every, None
+        while True:
+            with self._lock:
+                if self._closed or self._failed:
+                    break
+                self._idle = self._process.pending == 0
+                ends = [t for t in (None if self._idle else look_at, due, self._held_till) if t is not None]
+            broken, messages = None, []
+            try:
+                messages = self._road.receive(max(0.0, min(ends) - time.monotonic()) if ends else None)
+            except Exception as why:
+                broken = repr(why)
+            now = time.monotonic()
+            with self._lock:
+                if self._closed or self._failed:
+                    break
+                self._idle = False
+                if broken:
+                    self._fail(f"the road broke: {broken}")
+                    break
+                try:
+                    for sender, message in messages:
+                        self._heard(sender, message)
+                    if now >= look_at:
+                        self._look()
+                        look_at = now + self._look_every
+                    if self._held_till and now >= self._held_till:
+                        self._steps_due = self._data_due = True
+                    self._commit()
+                    due = self._road.pump(now)
+                except Exception as why:  # one of core.STOPS, or what nobody thought of: stop, before anything goes out
+                    self._fail(str(why) or repr(why))
+
+    def _look(self):
+        """What the pacer does for a cluster: a tick where a link goes without an answer, with growing pauses."""
+        tick = False
+        for p, (first, silent) in self._beats.items():
+            known = self._process.known(p)
+            now = None if known.first == known.next else known.first
+            if now is None or now != first:
+                self._beats[p] = (now, 0)
+                continue
+            silent = silent + 1 if silent < 227 else 128
+            self._beats[p] = (first, silent)
+            tick |= silent in _DUE
+        if tick:
+            self._process.tick()
+            self._staged("tick", None, False)
+
+    def _heard(self, sender, message):
+        start, at = message[: self._width], self._width
+        claimed = self._met_as.get(start)
+        if claimed is None or sender not in (None, claimed):
+            claimed = self._met(sender, start)
+            if claimed is None:
+                return
+        sender = claimed
+        while at < len(message):
+            end = at + 2 + int.from_bytes(message[at : at + 2], "big")
+            frame = message[at:end]
+            at = end
+            try:
+                reply = self._process.take(sender, frame)
+            except core.Refused as why:
+                if str(why) in core.STOPS:
+                    raise
+                self._complain(f"frame {sender}", f"process {sender}: a frame is refused: {why}")
+                continue
+            self._staged(log.take_text(sender, frame), reply, False)
+
+    def _met(self, sender, start):
+        """The sender of a message that starts otherwise than those before, or None where it is to be dropped."""
+        mine = self._shape
+        claimed = start[len(mine)] if len(start) == self._width else None
+        who = "somebody" if sender is None else f"process {sender}"
+        if claimed is None or start[:3] != mine[:3]:
+            kind, no = "form", "no message of a node"
+        elif start[3] != mine[3]:
+            kind, no = "front", f"has the front end {(core.FRONTS + ('unknown',))[min(start[3], 3)]}, not {core.FRONTS[mine[3]]}"
+        elif start[4] != mine[4]:
+            kind, no = "processes", f"is of {start[4]} processes, not of {mine[4]}"
+        elif start[5:11] != mine[5:]:
+            kind, no = "registers", f"has {int.from_bytes(start[5:7], 'big')} registers, or other names for them"
+        elif start[len(mine) + 1] != self._me:
+            kind, no = "receiver", f"a message for process {start[len(mine) + 1]}"
+        elif claimed not in self._start or sender not in (None, claimed):
+            kind, no = "sender", f"says that it is process {claimed}"
+        elif self._begun.setdefault(claimed, start) != start:
+            kind, no = "begun", f"process {claimed} was begun anew, without its log; only the one that was heard first is in this cluster"
+        else:
+            self._met_as[start] = claimed
+            return claimed
+        self._complain(kind, f"{who}: {no}; dropped")
+        return None

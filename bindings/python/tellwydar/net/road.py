@@ -1,0 +1,218 @@
+"""Roads between nodes. A road may lose, repeat and reorder what it carries; what it must not do is invent it, and if it does `judge` says so.
+
+`Road` is ZeroMQ: a node binds one PULL, in which it hears all others, and connects one PUSH to each of them. With keys (CURVE) both ends are
+known: the listener lets in only keys of its list, and the key says which process a message is from; the sender talks only to the key that it
+was told. Nothing waits on a road: what finds a full queue or no connection is dropped, and is put again by a tick.
+"""
+import heapq
+import ipaddress
+import os
+import random
+import time
+from typing import List, NamedTuple, Optional, Sequence, Tuple
+
+import zmq
+from zmq.utils import z85
+
+MOST_BYTES = 4096  # of a message
+MOST_QUEUED = 1000  # messages to or from one peer
+BATCH = 64  # messages taken at once
+
+
+class RoadFault(Exception):
+    pass
+
+
+class Keys(NamedTuple):
+    """The own secret key, and the public key of each process, in Z85 (40 characters)."""
+
+    secret: bytes
+    known: Tuple[bytes, ...]
+
+
+def new_keys() -> Tuple[bytes, bytes]:
+    """A public key and its secret key."""
+    return zmq.curve_keypair()
+
+
+def read_secret(path) -> bytes:
+    """A secret key from a file that only its owner may read."""
+    file = os.open(path, os.O_RDONLY)
+    try:
+        if os.fstat(file).st_mode & 0o077:
+            raise RoadFault(f"{path}: others may read this secret key: chmod 600")
+        return os.read(file, 100).strip()
+    finally:
+        os.close(file)
+
+
+def is_loopback(address: str) -> bool:
+    if address.startswith("ipc://"):
+        return True
+    host = address.removeprefix("tcp://").rpartition(":")[0].strip("[]")
+    try:
+        return ipaddress.ip_address(host).is_loopback
+    except ValueError:
+        return False  # a name, or a star
+
+
+class Complaints:
+    """Says each kind of complaint the 1st, 2nd, 4th, 8th, .. time, so that no flood fills a disk."""
+
+    def __init__(self, say):
+        self.say, self.counts = say, {}
+
+    def __call__(self, kind: str, text: str) -> None:
+        count = self.counts[kind] = self.counts.get(kind, 0) + 1
+        if count & (count - 1) == 0:
+            self.say(text if count == 1 else f"{text} (the {count}th of this kind)")
+
+
+class Road:
+    """`send` is called under the node's lock, `receive` by its receiver alone: no socket is in two threads at a time."""
+
+    def __init__(self, me: int, addresses: Sequence[str], keys: Optional[Keys], complain: Complaints):
+        self.complain, self.by_key = complain, None
+        if keys is None:
+            for address in addresses:
+                if not is_loopback(address):
+                    raise RoadFault(f"{address} is no loopback address: between machines give keys")
+        else:
+            if len(keys.known) != len(addresses) or len(set(keys.known)) != len(keys.known):
+                raise RoadFault("each process needs a key of its own")
+            if zmq.curve_public(keys.secret) != keys.known[me]:
+                raise RoadFault(f"the secret key isn't that of process {me}")
+            self.by_key = {z85.decode(key): b"%d" % p for p, key in enumerate(keys.known) if p != me}
+        self.context = zmq.Context()
+        try:
+            self._open(me, addresses, keys)
+        except BaseException:
+            self.context.destroy(0)
+            raise
+        self.bell = os.eventfd(0, os.EFD_NONBLOCK | os.EFD_CLOEXEC)
+        self.poller = zmq.Poller()
+        for what in (self.pull, self.door, self.bell):
+            self.poller.register(what, zmq.POLLIN)
+        self.dropped = 0
+
+    def _open(self, me, addresses, keys):
+        self.door = self.context.socket(zmq.REP)
+        self.door.linger = 0
+        self.door.bind("inproc://zeromq.zap.01")
+        self.pull = self.context.socket(zmq.PULL)
+        self.push = {}
+        for socket in [self.pull] + [self.push.setdefault(p, self.context.socket(zmq.PUSH)) for p in range(len(addresses)) if p != me]:
+            socket.linger = 0
+            socket.set(zmq.MAXMSGSIZE, MOST_BYTES)
+            socket.set(zmq.SNDHWM, MOST_QUEUED)
+            socket.set(zmq.RCVHWM, MOST_QUEUED)
+            socket.set(zmq.HANDSHAKE_IVL, 5000)
+            socket.set(zmq.HEARTBEAT_IVL, 2000)
+            socket.set(zmq.HEARTBEAT_TIMEOUT, 6000)
+            socket.set(zmq.RECONNECT_IVL, 50)
+            socket.set(zmq.RECONNECT_IVL_MAX, 2000)
+            socket.set(zmq.IPV6, any("[" in a for a in addresses))
+        self.pull.set(zmq.ZAP_DOMAIN, b"tellwydar")
+        if keys is not None:
+            self.pull.curve_server = True
+            self.pull.curve_secretkey = keys.secret
+        self.pull.bind(addresses[me])
+        for p, socket in self.push.items():
+            socket.set(zmq.IMMEDIATE, 1)  # nothing is kept for a peer that isn't there
+            if keys is not None:
+                socket.curve_secretkey, socket.curve_publickey, socket.curve_serverkey = keys.secret, keys.known[me], keys.known[p]
+            socket.connect(addresses[p])
+
+    def send(self, to: int, message: bytes) -> None:
+        try:
+            self.push[to].send(message, zmq.NOBLOCK)
+        except zmq.Again:
+            self.dropped += 1
+
+    def pump(self, now: float) -> Optional[float]:
+        """Sends what is due, and tells when something is due next."""
+        return None
+
+    def wake(self) -> None:
+        os.eventfd_write(self.bell, 1)
+
+    def receive(self, timeout: Optional[float]) -> List[Tuple[Optional[int], bytes]]:
+        """Some messages, each with the process that its key names (None without keys)."""
+        ready = dict(self.poller.poll(None if timeout is None else max(0, int(timeout * 1000 + 0.999))))
+        if self.bell in ready:
+            os.eventfd_read(self.bell)
+        if self.door in ready:
+            self._answer()
+        out = []
+        if self.pull in ready:
+            try:
+                while len(out) < BATCH:
+                    frame = self.pull.recv(zmq.NOBLOCK, copy=False)
+                    if frame.more:
+                        self.complain("parts", "a message of several parts is dropped")
+                        while self.pull.rcvmore:
+                            self.pull.recv(zmq.NOBLOCK, copy=False)
+                        continue
+                    out.append((int(frame.get("User-Id")) if self.by_key else None, frame.bytes))
+            except zmq.Again:
+                pass
+        return out
+
+    def _answer(self) -> None:
+        """Who may come in (ZAP, RFC 27)."""
+        parts = self.door.recv_multipart()
+        version, request, _, address, _, mechanism = (parts + [b""] * 6)[:6]
+        who = b"-" if self.by_key is None and mechanism == b"NULL" else None
+        if self.by_key is not None and mechanism == b"CURVE" and len(parts) == 7:
+            who = self.by_key.get(parts[6])
+        if who is None:
+            self.complain("key", f"{address.decode(errors='replace')}: no known key; refused")
+            self.door.send_multipart([version, request, b"400", b"unknown", b"", b""])
+        else:
+            self.door.send_multipart([version, request, b"200", b"", who, b""])
+
+    def close(self) -> None:
+        for socket in [self.pull, self.door, *self.push.values()]:
+            socket.close(0)
+        self.context.term()
+        os.close(self.bell)
+
+
+class LossyRoad:
+    """A road for tests: each message is lost, sent twice, kept back behind the next one, or late, as the words of a seed say."""
+
+    def __init__(self, road: Road, seed: int, loss=0.0, duplicates=0.0, reorder=0.0, delay=0.0):
+        self.road, self.random = road, random.Random(seed)
+        self.loss, self.duplicates, self.reorder, self.delay = loss, duplicates, reorder, delay
+        self.kept, self.late, self.count = {}, [], 0
+
+    def send(self, to: int, message: bytes) -> None:
+        draw = self.random.random
+        if draw() < self.loss:
+            return
+        for _ in range(2 if draw() < self.duplicates else 1):
+            if draw() < self.reorder and to not in self.kept:
+                self.kept[to] = message
+                continue
+            self._go(to, message)
+            if to in self.kept:
+                self._go(to, self.kept.pop(to))
+
+    def _go(self, to, message):
+        if self.delay:
+            self.count += 1
+            due = time.monotonic() + self.random.expovariate(1 / self.delay)
+            heapq.heappush(self.late, (due, self.count, to, message))
+            if self.late[0][1] == self.count:
+                self.road.wake()
+        else:
+            self.road.send(to, message)
+
+    def pump(self, now):
+        while self.late and self.late[0][0] <= now:
+            _, _, to, message = heapq.heappop(self.late)
+            self.road.send(to, message)
+        return self.late[0][0] if self.late else None
+
+    def __getattr__(self, name):
+        return getattr(self.road, name)

@@ -1,0 +1,176 @@
+//! Processes: one process of a run, whose frames its owner carries.
+use crate::foreign::{self, Opaque};
+use crate::worlds::refused;
+use crate::{Answer, Front, Op, Refused, Reply};
+use std::marker::PhantomData;
+use std::ptr::NonNull;
+
+/// 63 links, 16 frames each, of at most 32 bytes and one for the receiver.
+const ROOM: usize = 63 * 16 * 33;
+
+/// What a process knows of another one.
+#[derive(Clone, Copy, Debug, PartialEq, Eq)]
+pub struct Known {
+    /// The number of the first body to it that it hasn't acknowledged.
+    pub first: u64,
+    /// The number of the next body to it.
+    pub next: u64,
+    /// The number of the next body from it.
+    pub expected: u64,
+    /// The time of the last body that was accepted from it.
+    pub seen: u64,
+}
+
+/// One process of a run, whose frames its owner carries: whatever is lost, repeated or reordered. It stays on its thread.
+///
+/// ```
+/// use tellwydar::{Answer, Linear, Op, Process};
+///
+/// let (mut writer, mut other) = (Process::<Linear>::new(2, 1, 0)?, Process::<Linear>::new(2, 1, 1)?);
+/// writer.call(Op::Write { register: 0, value: 5 })?;
+/// for (_, frame) in writer.frames()? {
+///     other.take(0, &frame)?;
+/// }
+/// let mut answers = Vec::new();
+/// for (_, frame) in other.frames()? {
+///     answers.extend(writer.take(1, &frame)?.map(|it| it.answer));
+/// }
+/// assert_eq!((answers, other.register(0)), (vec![Answer::Done], 5));
+/// # Ok::<(), tellwydar::Refused>(())
+/// ```
+pub struct Process<F: Front> {
+    handle: NonNull<Opaque>,
+    room: Vec<u8>,
+    front: PhantomData<F>,
+}
+
+impl<F: Front> Process<F> {
+    /// The process `me`, from 0, of a run of this shape. It did nothing yet.
+    ///
+    /// # Errors
+    ///
+    /// `NoShape` for other than 1 to 64 processes and 1 to 4,096 registers, `NoProcess` where the shape has none of this number, and
+    /// `OutOfMemory`.
+    pub fn new(processes: u32, registers: u32, me: u8) -> Result<Self, Refused> {
+        let mut handle = std::ptr::null_mut();
+        // SAFETY: the handle is written where the result is 0.
+        let code = unsafe { foreign::tellwydar_process_new(F::NUMBER, processes, registers, me, &mut handle) };
+        match (code, NonNull::new(handle)) {
+            (0, Some(handle)) => Ok(Self { handle, room: vec![0; ROOM], front: PhantomData }),
+            _ => Err(refused(code)),
+        }
+    }
+
+    /// Calls an operation.
+    ///
+    /// # Errors
+    ///
+    /// The first fault that applies; as of every step, the process is as before, but after `OutOfMemory` and `ClockFull`.
+    pub fn call(&mut self, op: Op) -> Result<Option<Reply>, Refused> {
+        let (kind, register, value) = match op {
+            Op::Read { register } => (0, register, 0),
+            Op::Write { register, value } => (1, register, value),
+            Op::Swap { register, value } => (2, register, value),
+        };
+        // SAFETY: the handle is of `tellwydar_process_new`, and `&mut self` lends it to one call.
+        let code = unsafe { foreign::tellwydar_process_call(self.handle.as_ptr(), kind, register.into(), value) };
+        self.told(code)
+    }
+
+    /// Takes a frame that the process `from` put for this one, as often and in whatever order.
+    ///
+    /// # Errors
+    ///
+    /// `NotAFrame` where the bytes spell none: then no step is made, and the frames of the last one are kept.
+    pub fn take(&mut self, from: u8, frame: &[u8]) -> Result<Option<Reply>, Refused> {
+        // SAFETY: as in `call`; the pointer and the length are those of one slice.
+        let code = unsafe { foreign::tellwydar_process_take(self.handle.as_ptr(), from, frame.as_ptr(), frame.len()) };
+        self.told(code)
+    }
+
+    /// Puts the first unacknowledged frames of every link again.
+    pub fn tick(&mut self) -> Result<(), Refused> {
+        // SAFETY: as in `call`.
+        let code = unsafe { foreign::tellwydar_process_tick(self.handle.as_ptr()) };
+        self.told(code).map(|_| ())
+    }
+
+    /// The frames that the last step put, in their order, each with its receiver. A refused step put none.
+    pub fn frames(&mut self) -> Result<Vec<(u8, Vec<u8>)>, Refused> {
+        let mut length = 0;
+        // SAFETY: as in `call`; the pointer and the length are those of one slice.
+        let code = unsafe { foreign::tellwydar_process_frames(self.handle.as_ptr(), self.room.as_mut_ptr(), self.room.len(), &mut length) };
+        if code != 0 {
+            return Err(refused(code));
+        }
+        let mut told = &self.room[..length];
+        let mut frames = Vec::new();
+        while let [to, high, low, ..] = *told {
+            let end = 3 + usize::from(u16::from_be_bytes([high, low]));
+            frames.push((to, told[1..end].to_vec()));
+            told = &told[end..];
+        }
+        Ok(frames)
+    }
+
+    /// The time of its clock.
+    pub fn clock(&mut self) -> u64 {
+        self.look(0, 0)
+    }
+
+    /// How many casts it has delivered.
+    pub fn delivered(&mut self) -> u64 {
+        self.look(1, 0)
+    }
+
+    /// How many of its own casts are not delivered here.
+    pub fn unsettled(&mut self) -> u64 {
+        self.look(2, 0)
+    }
+
+    /// How many data frames are not acknowledged, over all links.
+    pub fn pending(&mut self) -> u64 {
+        self.look(3, 0)
+    }
+
+    /// Whether an operation runs.
+    pub fn busy(&mut self) -> bool {
+        self.look(4, 0) != 0
+    }
+
+    /// The value of a register in its copy, 0 where there is none.
+    pub fn register(&mut self, register: u16) -> u64 {
+        self.look(5, register)
+    }
+
+    /// What it knows of another process: all 0 where there is no other of this number.
+    pub fn known(&mut self, peer: u8) -> Known {
+        // SAFETY: as in `call`.
+        let [first, next, expected, seen] = [0, 1, 2, 3].map(|what| unsafe { foreign::tellwydar_process_known(self.handle.as_ptr(), what, peer) });
+        Known { first, next, expected, seen }
+    }
+
+    fn told(&mut self, code: u32) -> Result<Option<Reply>, Refused> {
+        match code {
+            0 => Ok(None),
+            1 => Ok(Some(Reply { answer: Answer::Done, place: self.look(7, 0) })),
+            2 => Ok(Some(Reply { answer: Answer::Value(self.look(6, 0)), place: self.look(7, 0) })),
+            code => Err(refused(code)),
+        }
+    }
+
+    fn look(&mut self, what: u32, register: u16) -> u64 {
+        // SAFETY: as in `call`.
+        unsafe { foreign::tellwydar_process_look(self.handle.as_ptr(), what, register) }
+    }
+}
+
+impl<F: Front> Drop for Process<F> {
+    fn drop(&mut self) {
+        // SAFETY: nothing uses the handle later. `close` gives back what it holds, and its own block is of `malloc`.
+        unsafe {
+            foreign::tellwydar_process_close(self.handle.as_ptr());
+            foreign::free(self.handle.as_ptr());
+        }
+    }
+}
