@@ -17,3 +17,5 @@ pub mod Search
 pub mod Arranged
 pub mod Given
 pub mod Overtaken
+pub mod Lives
+pub mod OneWitness

@@ -2,3 +2,4 @@ pub mod Rest
 pub mod RestParts
 pub mod Overtaking
 pub mod Runs
+pub mod Steps

@@ -3,12 +3,15 @@
 ghost use Rattle.std.specs.Prelude.{ℕ, ◌≡◌, ◌↔◌, ◌+◌, ◌≤◌, List, length};
 ghost use Rattle.reg_base.specs.declared.limits.TheConstants.{MOST_EVENTS};
 ghost use Rattle.reg_base.specs.declared.memory.Op.{Op};
+ghost use Rattle.reg_base.specs.declared.memory.OpId.{OpId};
 ghost use Rattle.reg_front.specs.declared.starts.Start.{Start};
 ghost use Rattle.reg_front.specs.Fronts.{KeepsLaws};
 ghost use Rattle.reg_process.specs.declared.events.Event.{Event};
 ghost use Rattle.reg_world.specs.Laws.{AllAcknowledged};
-ghost use Rattle.reg_world.specs.World.{whole};
+ghost use Rattle.reg_world.specs.Keys.{IsWitness};
+ghost use Rattle.reg_world.specs.World.{run_of, whole};
 ghost use Rattle.reg_runs.specs.Rest.{distance, most_to_rest, CanRest};
+ghost use Rattle.reg_runs.specs.Steps.{HaveSameSteps};
 
 /// Every run that has room for as many more events as the bound says can come to rest, by no more ticks and takes than that,
 /// whatever was lost before.
@@ -19,4 +22,10 @@ pub fn can_rest()
 /// A run is at no distance from rest exactly where no frame is left unacknowledged.
 pub fn rests_at_no_distance()
     ensures { (start : Op → ℕ → Start) (n registers : ℕ) (events : List Event) → AllAcknowledged n (whole start n registers events).nodes ↔ distance n (whole start n registers events).nodes ≡ 0 }
+{}
+
+/// Two runs in which each process makes the same steps have the same witness, whatever came when: the order of all operations is
+/// decided by what each process did, and not by an order in which it was told.
+pub fn one_witness()
+    ensures { (start : Op → ℕ → Start) (n registers : ℕ) (a b : List Event) (ids others : List OpId) → KeepsLaws start → HaveSameSteps start n registers a b → IsWitness (run_of registers (whole start n registers a)) ids → IsWitness (run_of registers (whole start n registers b)) others → ids ≡ others }
 {}
