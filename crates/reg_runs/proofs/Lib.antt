@@ -19,3 +19,4 @@ pub mod Given
 pub mod Overtaken
 pub mod Lives
 pub mod OneWitness
+pub mod Logged

@@ -1,5 +1,5 @@
 -- What a process does in a run is decided by its own steps.
-use Rattle.std.proofs.Common.{◌≡◌, ℕ, ◌-◌, Bool, true, false, List, [], ◌∷◌, ◌++◌, map, Option, Some, None, refl, sym, ap, ◌∙◌, subst, append_assoc}
+use Rattle.std.proofs.Common.{◌≡◌, ℕ, ◌-◌, Bool, true, false, List, [], ◌∷◌, ◌++◌, map, Option, Some, None, refl, sym, ap, ◌∙◌, append_assoc}
 use Rattle.std.specs.Prelude.{◌==◌, cond}
 use Rattle.std.proofs.lemmas.Bool.{eqb-true}
 use Rattle.std.proofs.lemmas.List.{append-nil}
@@ -14,7 +14,7 @@ use Rattle.reg_process.specs.Process.{State, Outcome, step}
 use Rattle.reg_world.specs.Nodes.{Node, op_in, after_step}
 use Rattle.reg_world.specs.NodeParts.{nodes_after}
 use Rattle.reg_world.specs.World.{World, move_of, happens, run, empty_world, whole}
-use Rattle.reg_world.proofs.run.Traced.{Called, Answered, Past, Trace, called_in, answered_in, past_after, pasts_after, no_pasts, traced}
+use Rattle.reg_world.proofs.run.Traced.{Called, Answered, Past, Trace, called_in, answered_in, past_after, pasts_after, traced}
 use Rattle.reg_world.proofs.run.Along.{traced_more}
 use Rattle.reg_world.proofs.lists.Members.{map_append, from_end}
 use Rattle.reg_runs.specs.Steps.{step_in, steps_from, steps_of}
@@ -94,7 +94,7 @@ life_moved start v (Some m) p = go (p == m.0) (λ e. eqb-true p m.0 e)
     go true is = life_more start v.count (v.nodes m.0) (v.pasts m.0) m.1 ∙ ap (λ q. life_after start (life_in v q) m.1) (sym (is refl))
     go false is = refl
 
-steps_more : (start : Op → ℕ → Start) (n registers p : ℕ) (es : List Event) (e : Event) (w : World) → steps_from start n registers p (es ++ e ∷ []) w ≡ steps_from start n registers p es w ++ step_in p (move_of n registers (run start n registers es w) e)
+pub steps_more : (start : Op → ℕ → Start) (n registers p : ℕ) (es : List Event) (e : Event) (w : World) → steps_from start n registers p (es ++ e ∷ []) w ≡ steps_from start n registers p es w ++ step_in p (move_of n registers (run start n registers es w) e)
 steps_more start n registers p [] e w = append-nil (step_in p (move_of n registers w e))
 steps_more start n registers p (x ∷ es) e w =
     ap (λ l. step_in p (move_of n registers w x) ++ l) (steps_more start n registers p es e (happens start n registers w x))

@@ -1,11 +1,10 @@
 -- Runs in which each process makes the same steps have one witness.
-use Rattle.std.proofs.Common.{◌≡◌, ℕ, zero, suc, ◌+◌, ◌<◌, List, [], ◌∷◌, ◌++◌, length, map, Option, Some, None, refl, sym, ap, ◌∙◌, subst, inl, inr, arith, length-append}
+use Rattle.std.proofs.Common.{◌≡◌, ℕ, zero, suc, ◌<◌, List, [], ◌∷◌, ◌++◌, length, map, Some, refl, sym, ap, ◌∙◌, subst, inl, inr, arith, length-append}
 use Rattle.std.specs.Prelude.{slice_get}
 use Rattle.std.proofs.lemmas.List.{append-nil, length-map}
 use Rattle.std.proofs.lemmas.Option.{same_Some}
 use Rattle.reg_base.specs.declared.memory.Op.{Op}
 use Rattle.reg_base.specs.declared.memory.OpId.{OpId}
-use Rattle.reg_base.specs.declared.stamps.Stamp.{Stamp}
 use Rattle.reg_base.specs.declared.stamps.Delivered.{Delivered as Delivery}
 use Rattle.reg_base.specs.Memory.{IsUpdate}
 use Rattle.reg_base.specs.Order.{In, IsPrefixOf}
@@ -17,11 +16,10 @@ use Rattle.reg_checkers.specs.History.{IsAt, IsFinished}
 use Rattle.reg_checkers.proofs.Places.{IsAt-map, at_map}
 use Rattle.reg_world.specs.declared.order.First.{First}
 use Rattle.reg_world.specs.declared.order.CopyRead.{CopyRead}
-use Rattle.reg_world.specs.Runs.{Cast, Run, IsWaiting}
-use Rattle.reg_world.specs.Keys.{Key, key, IsBelow, IsKept, HasKey, Copied, Delivered, Lost, Keyed, IsByKeys, IsWitness}
+use Rattle.reg_world.specs.Runs.{Cast, IsWaiting}
+use Rattle.reg_world.specs.Keys.{Key, key, IsBelow, IsKept, HasKey, Copied, Delivered, Lost, Keyed, IsWitness}
 use Rattle.reg_world.specs.World.{World, delivered_of, run_of, whole}
-use Rattle.reg_world.proofs.run.Traced.{Called as PastCall, Answered as PastAnswer, Past, Trace, traced}
-use Rattle.reg_world.proofs.lists.Bodies.{place_in}
+use Rattle.reg_world.proofs.run.Traced.{Called as PastCall, Answered as PastAnswer, Trace, traced}
 use Rattle.reg_world.proofs.lists.Members.{in_at, at_in, in_map, map_in}
 use Rattle.reg_world.proofs.one_memory.Joined.{Joined}
 use Rattle.reg_world.proofs.one_memory.Added.{IsPastCall, IsPastAnswer, cast_of_first}
