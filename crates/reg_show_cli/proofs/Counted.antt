@@ -7,8 +7,8 @@ use Rattle.std.proofs.lemmas.Slice.Eq.{bytes_eq-Decides}
 use Rattle.std.proofs.lemmas.Option.{same_Some}
 use Rattle.clap.specs.Words.{Text}
 use Rattle.reg_show_cli.specs.declared.words.Asked.{Asked}
-use Rattle.reg_show_cli.specs.declared.words.Asked.TheVariants.{Help, Outcomes, Show, Why}
-use Rattle.reg_show_cli.specs.Lines.{IsAnswer, IsChoice, IsOutcomesLine, IsWhyLine, PlaysFit}
+use Rattle.reg_show_cli.specs.declared.words.Asked.TheVariants.{Help, Outcomes, Show, Version, Why}
+use Rattle.reg_show_cli.specs.Lines.{IsAnswer, IsChoice, IsOutcomesLine, IsVersionLine, IsWhyLine, PlaysFit}
 use Rattle.reg_args.specs.declared.faults.WordsFault.{WordsFault}
 use Rattle.reg_args.specs.declared.faults.WordsFault.TheVariants.{CommandLine, OutOfMemory}
 
@@ -100,23 +100,21 @@ said_plays ws word None n h i j read whole = λ plays line. elim (has_length ws 
 said_plays ws word (Some plays) n h i j read whole = these_plays ws plays n h i (j ∙ ap Some read.0) read.1 read.2
 
 -- what clap reads of other lines is what they ask for
-pub chosen : (line : List Text) (r : Result Asked WordsFault) → ((plays : ℕ) → ¬ IsOutcomesLine line plays) → ¬ IsWhyLine line → IsAnswer line r → IsChoice line r
-chosen line (Ok (Show showing)) other none h = h
-chosen line (Ok (Outcomes plays)) other none h = absurd h
-chosen line (Ok Why) other none h = absurd h
-chosen line (Ok Help) other none h = (λ asked. elim asked [ inl shown ↦ h.0 shown | inr (inl (plays, counted)) ↦ other plays counted | inr (inr why) ↦ none why ], h.1)
-chosen line (Err CommandLine) other none h = (λ asked. elim asked [ inl shown ↦ h.0 shown | inr (inl (plays, counted)) ↦ other plays counted | inr (inr why) ↦ none why ], h.1)
-chosen line (Err OutOfMemory) other none h = tt
+pub chosen : (line : List Text) (r : Result Asked WordsFault) → ((plays : ℕ) → ¬ IsOutcomesLine line plays) → ¬ IsWhyLine line → ¬ IsVersionLine line → IsAnswer line r → IsChoice line r
+chosen line (Ok (Show showing)) other none unnamed h = h
+chosen line (Ok (Outcomes plays)) other none unnamed h = absurd h
+chosen line (Ok Why) other none unnamed h = absurd h
+chosen line (Ok Version) other none unnamed h = absurd h
+chosen line (Ok Help) other none unnamed h = (λ asked. elim asked [ inl shown ↦ h.0 shown | inr (inl (plays, counted)) ↦ other plays counted | inr (inr (inl why)) ↦ none why | inr (inr (inr version)) ↦ unnamed version ], h.1)
+chosen line (Err CommandLine) other none unnamed h = (λ asked. elim asked [ inl shown ↦ h.0 shown | inr (inl (plays, counted)) ↦ other plays counted | inr (inr (inl why)) ↦ none why | inr (inr (inr version)) ↦ unnamed version ], h.1)
+chosen line (Err OutOfMemory) other none unnamed h = tt
 
--- the words ask why just where there are two, and the second one is that
-pub why_words : (ws : List Text) → length ws ≡ 2 → slice_get ws 1 ≡ Some (codes "why") → IsWhyLine (drop 1 ws)
-why_words ws n h = one_word ws (codes "why") n h
+-- a word stands alone just where there are two, and the second one is that
+pub alone_length : (ws : List Text) (word : Text) → drop 1 ws ≡ word ∷ [] → length ws ≡ 2
+alone_length ws word e = let n = long_as ws (word ∷ []) word [] e refl in omega (arith, n)
 
-pub why_length : (ws : List Text) → IsWhyLine (drop 1 ws) → length ws ≡ 2
-why_length ws e = let n = long_as ws (codes "why" ∷ []) (codes "why") [] e refl in omega (arith, n)
-
-pub why_named : (ws : List Text) → IsWhyLine (drop 1 ws) → slice_get ws 1 ≡ Some (codes "why")
-why_named ws e = word_at ws (codes "why" ∷ []) 0 (codes "why") e refl
+pub alone_named : (ws : List Text) (word : Text) → drop 1 ws ≡ word ∷ [] → slice_get ws 1 ≡ Some word
+alone_named ws word e = word_at ws (word ∷ []) 0 word e refl
 
 -- what is asked for can be counted
 pub plays_fit : (line : List Text) (asked : Asked) → IsChoice line (Ok asked) → PlaysFit asked
@@ -125,3 +123,4 @@ plays_fit line (Outcomes plays) (inl (e, u)) = omega (arith, u)
 plays_fit line (Outcomes plays) (inr (e, low, high)) = high
 plays_fit line Why h = tt
 plays_fit line Help h = tt
+plays_fit line Version h = tt

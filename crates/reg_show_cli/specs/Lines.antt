@@ -9,7 +9,7 @@ use Rattle.reg_show.specs.declared.Showing.TheVariants.{Data, Draw, Page, Rest, 
 use Rattle.reg_args.specs.Lines.{may_ask_help, named_line}
 use Rattle.reg_show_cli.specs.declared.asking.TheConstants.{USUAL_PLAYS}
 use Rattle.reg_show_cli.specs.declared.words.Asked.{Asked}
-use Rattle.reg_show_cli.specs.declared.words.Asked.TheVariants.{Help, Outcomes, Show, Why}
+use Rattle.reg_show_cli.specs.declared.words.Asked.TheVariants.{Help, Outcomes, Show, Version, Why}
 use Rattle.reg_args.specs.declared.faults.WordsFault.{WordsFault}
 use Rattle.reg_args.specs.declared.faults.WordsFault.TheVariants.{CommandLine, OutOfMemory}
 
@@ -44,9 +44,13 @@ IsOutcomesLine line plays =
 abbrev pub IsWhyLine : List Text → Type 0
 IsWhyLine line = line ≡ codes "why" ∷ []
 
+-- the words ask for the version
+abbrev pub IsVersionLine : List Text → Type 0
+IsVersionLine line = line ≡ codes "--version" ∷ []
+
 -- the words ask for one of these
 abbrev pub IsAskedLine : List Text → Type 0
-IsAskedLine line = IsCommandLine line ⊎ (((plays : ℕ) × IsOutcomesLine line plays) ⊎ IsWhyLine line)
+IsAskedLine line = IsCommandLine line ⊎ (((plays : ℕ) × IsOutcomesLine line plays) ⊎ (IsWhyLine line ⊎ IsVersionLine line))
 
 -- the words ask for help by a flag alone
 abbrev pub IsHelpLine : List Text → Type 0
@@ -58,16 +62,18 @@ abbrev pub IsAnswer : List Text → Result Asked WordsFault → Type 0
 IsAnswer line (Ok (Show showing)) = line ≡ line_of showing
 IsAnswer line (Ok (Outcomes plays)) = ⊥
 IsAnswer line (Ok Why) = ⊥
+IsAnswer line (Ok Version) = ⊥
 IsAnswer line (Ok Help) = ¬ IsCommandLine line × (list_any may_ask_help line ≡ true)
 IsAnswer line (Err CommandLine) = ¬ IsCommandLine line × ¬ IsHelpLine line
 IsAnswer line (Err OutOfMemory) = ⊤
 
--- an answer of the words: just what they ask to show, to count or to explain; else help, only where a word may ask for it, or CommandLine
+-- an answer of the words: just what they ask to show, to count, to explain or to name; else help, only where a word may ask for it, or CommandLine
 -- where no flag alone asks for help
 abbrev pub IsChoice : List Text → Result Asked WordsFault → Type 0
 IsChoice line (Ok (Show showing)) = line ≡ line_of showing
 IsChoice line (Ok (Outcomes plays)) = IsOutcomesLine line plays
 IsChoice line (Ok Why) = IsWhyLine line
+IsChoice line (Ok Version) = IsVersionLine line
 IsChoice line (Ok Help) = ¬ IsAskedLine line × (list_any may_ask_help line ≡ true)
 IsChoice line (Err CommandLine) = ¬ IsAskedLine line × ¬ IsHelpLine line
 IsChoice line (Err OutOfMemory) = ⊤

@@ -13,18 +13,19 @@ use Rattle.reg_show.specs.declared.faults.ShowFault.TheVariants.{Command}
 use Rattle.reg_show.specs.Outcomes.{WritesOutcomes}
 use Rattle.reg_show.specs.Showings.{Blames, Shows, show_line}
 use Rattle.reg_show_cli.specs.declared.words.Asked.{Asked}
-use Rattle.reg_show_cli.specs.declared.words.Asked.TheVariants.{Help, Outcomes, Show, Why}
+use Rattle.reg_show_cli.specs.declared.words.Asked.TheVariants.{Help, Outcomes, Show, Version, Why}
 use Rattle.reg_show.specs.Tellings.{Answers, AnswersAny, Halts}
 
--- Status 0: what was asked for was shown of the input, the input is accepted and that was written, or the text of the help was written. `Wrote` says how a text was written.
-abbrev pub Obeys : List ℕ → Asked → Option (List ℕ) → (List ℕ → Type 0) → Type 0
-Obeys help (Show showing) input Wrote = IfSome input (λ xs. length xs ≤ LONGEST_INPUT) × IfSome input (Shows showing Wrote)
-Obeys help (Outcomes plays) input Wrote = IfSome input (λ xs. length xs ≤ LONGEST_INPUT) × IfSome input (WritesOutcomes plays Wrote)
-Obeys help Why input Wrote = IfSome input (λ xs. length xs ≤ LONGEST_INPUT) × IfSome input (Answers true Wrote)
-Obeys help Help input Wrote = Wrote help
+-- Status 0: what was asked for was shown of the input, the input is accepted and that was written, or the text of the help or of the version was written. `Wrote` says how a text was written.
+abbrev pub Obeys : List ℕ → List ℕ → Asked → Option (List ℕ) → (List ℕ → Type 0) → Type 0
+Obeys help version (Show showing) input Wrote = IfSome input (λ xs. length xs ≤ LONGEST_INPUT) × IfSome input (Shows showing Wrote)
+Obeys help version (Outcomes plays) input Wrote = IfSome input (λ xs. length xs ≤ LONGEST_INPUT) × IfSome input (WritesOutcomes plays Wrote)
+Obeys help version Why input Wrote = IfSome input (λ xs. length xs ≤ LONGEST_INPUT) × IfSome input (Answers true Wrote)
+Obeys help version Help input Wrote = Wrote help
+Obeys help version Version input Wrote = Wrote version
 
 -- Status 1: the line of a fault was told, or a first part of it. It holds of the input, and nothing was written unless the writer
--- failed; then a first part of what is shown was. Where help was asked for, the writer failed. Where the question was why, the text
+-- failed; then a first part of what is shown was. Where help or the version was asked for, the writer failed. Where the question was why, the text
 -- is refused, and its answer was written.
 abbrev pub Stops : Asked → Option (List ℕ) → Type 0 → Option (List ℕ) → Option (List ℕ) → Option (List ℕ) → Option (List ℕ) → Type 0
 Stops (Show showing) input unwritten old new was is =
@@ -35,6 +36,7 @@ Stops Why input unwritten old new was is =
     (IfSome input (Answers false (Appends old new)) × (was ≡ is))
     ⊎ ((f : Fault) × IfSome input (Halts f) × (f ≢ Output → unwritten) × (f ≡ Output → IfSome input (AnswersAny (AppendsPart old new))) × AppendsPart was is (fault_line f))
 Stops Help input unwritten old new was is = AppendsPart was is (fault_line Output)
+Stops Version input unwritten old new was is = AppendsPart was is (fault_line Output)
 
 -- what status 1 says of the error stream alone
 abbrev pub Tells : Asked → Option (List ℕ) → Option (List ℕ) → Type 0
@@ -42,6 +44,7 @@ Tells (Show showing) was is = (f : ShowFault) × AppendsPart was is (show_line f
 Tells (Outcomes plays) was is = (f : Fault) × AppendsPart was is (fault_line f)
 Tells Why was is = (was ≡ is) ⊎ ((f : Fault) × AppendsPart was is (fault_line f))
 Tells Help was is = AppendsPart was is (fault_line Output)
+Tells Version was is = AppendsPart was is (fault_line Output)
 
 -- the line for want of memory to read the words, with its line feed
 abbrev pub memory_line : List ℕ

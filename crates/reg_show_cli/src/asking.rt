@@ -1,10 +1,11 @@
 //! What the words of a command line ask for: to show something, or to count what the plays of a workload tell. The words of the
-//! second are read here, since they have a number, and so is the word of the question why; all others are read by `clap`.
-ghost use Rattle.std.specs.Prelude.{◌≡◌, ◌≤◌, ◌↔◌, ℕ, IfSome, MatchOption, Some, codes, length, map, true, slice_get, string_bytes};
+//! second are read here, since they have a number, and so are those that stand alone: `why` and `--version`. All others are read by
+//! `clap`.
+ghost use Rattle.std.specs.Prelude.{◌≡◌, ◌≤◌, ◌↔◌, ◌∷◌, [], ℕ, IfSome, MatchOption, Some, codes, length, map, true, slice_get, string_bytes};
 ghost use Rattle.std.specs.Fmt.{decimal};
 ghost use Rattle.reg_outcomes.specs.declared.plays.TheConstants.{MOST_PLAYS};
 ghost use Rattle.reg_args.specs.Lines.{behind_name};
-ghost use Rattle.reg_show_cli.specs.Lines.{IsChoice, IsOutcomesLine, IsWhyLine};
+ghost use Rattle.reg_show_cli.specs.Lines.{IsChoice, IsOutcomesLine};
 
 use crate::words::{Asked, choose};
 use reg_args::WordsFault;
@@ -72,22 +73,25 @@ fn plays_asked(words: &[String]) -> Option<u32>
     }
 }
 
-/// Whether the words ask what is wrong with a text.
-fn is_why(words: &[String]) -> bool
-    ensures { result ≡ true ↔ IsWhyLine (behind_name words.now) }
+/// Whether this word alone stands after the program's name.
+fn is_alone(words: &[String], word: &str) -> bool
+    ensures { result ≡ true ↔ behind_name words.now ≡ word.now ∷ [] }
 {
     if words.len() != 2 {
         return false;
     }
-    is_at(words, 1, "why")
+    is_at(words, 1, word)
 }
 
 /// What the words ask for. The first word is the program's name. A word `--` is refused.
 pub fn ask(alloc: Global, words: &[String]) -> Result<Asked, WordsFault>
     ensures { IsChoice (behind_name words.now) result }
 {
-    if is_why(words) {
+    if is_alone(words, "why") {
         return Ok(Asked::Why);
+    }
+    if is_alone(words, "--version") {
+        return Ok(Asked::Version);
     }
     match plays_asked(words) {
         Some(plays) => Ok(Asked::Outcomes { plays }),

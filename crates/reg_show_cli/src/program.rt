@@ -8,10 +8,10 @@ ghost use Rattle.reg_args.specs.Lines.{behind_name};
 ghost use Rattle.reg_show_cli.specs.Lines.{IsAskedLine, IsChoice, IsHelpLine, PlaysFit, refused_line};
 ghost use Rattle.reg_show_cli.specs.Statuses.{Obeys, Stops, Tells, memory_line};
 ghost use Rattle.reg_show_cli.specs.declared.words.Asked.{Asked as AnyAsked};
-ghost use Rattle.reg_show_cli.specs.declared.words.TheConstants.{HELP};
+ghost use Rattle.reg_show_cli.specs.declared.words.TheConstants.{HELP, VERSION};
 
 use crate::asking::ask;
-use crate::words::{Asked, HELP};
+use crate::words::{Asked, HELP, VERSION};
 use reg_args::{WordsFault, tell, words_of};
 use reg_commands::{Fault, write_fault};
 use reg_show::{show_outcomes, show_text, why_text};
@@ -19,8 +19,8 @@ use reg_text::write_bytes;
 use std::io::{self, BufWriter, Read, Write};
 use std::rt::Env;
 
-/// Writes how the program is used. Where the writer fails, that is told.
-fn help<W: Write, E: Write>(text: &str, writer: &mut W, errors: &mut E) -> u8
+/// Writes a text of the program's own. Where the writer fails, that is told.
+fn print<W: Write, E: Write>(text: &str, writer: &mut W, errors: &mut E) -> u8
     ensures range { result ≤ 1 }
     ensures written { result ≡ 0 → Appends (W.contents writer.old) (W.contents writer.new) text.now }
     ensures told { result ≡ 1 → AppendsPart (E.contents errors.old) (E.contents errors.new) (fault_line Fault.Output) }
@@ -33,7 +33,7 @@ fn help<W: Write, E: Write>(text: &str, writer: &mut W, errors: &mut E) -> u8
     1
 }
 
-/// Shows or counts what is asked for, or helps, and gives the status.
+/// Does what is asked for, and gives the status.
 fn obey<R: AllocGlobal, I: Read, O: Write, E: Write>(
     rt: &R,
     asked: Asked,
@@ -43,12 +43,13 @@ fn obey<R: AllocGlobal, I: Read, O: Write, E: Write>(
 ) -> u8
     requires { PlaysFit asked }
     ensures range { result ≤ 1 }
-    ensures obeyed { result ≡ 0 → Obeys HELP.now asked (I.remaining reader.old) (Appends (O.contents writer.old) (O.contents writer.new)) }
+    ensures obeyed { result ≡ 0 → Obeys HELP.now VERSION.now asked (I.remaining reader.old) (Appends (O.contents writer.old) (O.contents writer.new)) }
     ensures stopped { result ≡ 1 → Stops asked (I.remaining reader.old) (writer.new ≡ writer.old) (O.contents writer.old) (O.contents writer.new) (E.contents errors.old) (E.contents errors.new) }
     ensures quiet { result ≡ 0 → errors.new ≡ errors.old }
 {
     match asked {
-        Asked::Help => help(HELP, writer, errors),
+        Asked::Help => print(HELP, writer, errors),
+        Asked::Version => print(VERSION, writer, errors),
         Asked::Show { showing } => {
             show_text(rt.alloc(), rt.alloc(), showing, reader, writer, errors)
         }
@@ -82,7 +83,7 @@ pub fn run_line<R: AllocGlobal, I: Read, O: Write, E: Write>(
     errors: &mut E,
 ) -> u8
     ensures range { result ≤ 2 }
-    ensures obeyed { result ≡ 0 → (asked : AnyAsked) × IsChoice (behind_name words.now) (Ok asked) × Obeys HELP.now asked (I.remaining reader.old) (Appends (O.contents writer.old) (O.contents writer.new)) }
+    ensures obeyed { result ≡ 0 → (asked : AnyAsked) × IsChoice (behind_name words.now) (Ok asked) × Obeys HELP.now VERSION.now asked (I.remaining reader.old) (Appends (O.contents writer.old) (O.contents writer.new)) }
     ensures stopped { result ≡ 1 → ((asked : AnyAsked) × IsChoice (behind_name words.now) (Ok asked) × Stops asked (I.remaining reader.old) (writer.new ≡ writer.old) (O.contents writer.old) (O.contents writer.new) (E.contents errors.old) (E.contents errors.new))
         ⊎ ((writer.new ≡ writer.old) × AppendsPart (E.contents errors.old) (E.contents errors.new) memory_line) }
     ensures refused { result ≡ 2 → (¬ IsAskedLine (behind_name words.now)) × (¬ IsHelpLine (behind_name words.now)) × (writer.new ≡ writer.old) }

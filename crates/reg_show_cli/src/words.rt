@@ -23,7 +23,12 @@ pub enum Asked {
     Why,
     /// How the program is used.
     Help,
+    /// Which version of the program this is.
+    Version,
 }
+
+/// The program's version, and the kit that it was proved with.
+pub const VERSION: &str = "awshow 0.1.0, proved with rattle-kit-13b\n";
 
 /// How the program is used.
 pub const HELP: &str = "\
@@ -38,6 +43,7 @@ usage: awshow schedule [--fair]      reads a workload, prints the schedule of it
        awshow rest                   reads a schedule, prints it with the events that bring its run to rest
        awshow why                    reads any of the three texts, prints what is wrong with it, and where
        awshow help                   prints this
+       awshow --version              prints the version
 ";
 
 /// The program's command line with its first subcommands.
