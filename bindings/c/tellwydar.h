@@ -15,6 +15,8 @@
 #include <stdint.h>
 #include <stdlib.h>
 
+#define TELLWYDAR_VERSION "0.1.0"
+
 #ifdef __cplusplus
 extern "C" {
 #endif

@@ -83,9 +83,9 @@ class Logs(unittest.TestCase):
 
     def test_it_goes_on_where_it_was_cut(self):
         found = self.read(self.data[:-3])
-        writer = log.Writer(self.path, fresh=False)
+        writer = log.Writer(self.path)
         with self.assertRaises(OSError):
-            log.Writer(self.path, fresh=False)
+            log.Writer(self.path)
         writer.go_on(found)
         writer.add("tick")
         writer.write(True)

@@ -11,7 +11,7 @@ import ctypes
 import enum
 import os
 from dataclasses import dataclass
-from typing import List, Optional, Sequence, Union
+from typing import Any, Callable, List, Optional, Sequence, Tuple, Union
 
 __all__ = [
     "Answered", "Called", "Fault", "Front", "Known", "Process", "Read", "Refused", "Reply", "Swap", "Told", "World", "Write",
@@ -38,7 +38,7 @@ class _Point(ctypes.Structure):
     _fields_ = [("at", ctypes.c_uint32), ("number", ctypes.c_uint32), ("process", ctypes.c_uint8)]
 
 
-def _load():
+def _load() -> Tuple[ctypes.CDLL, Any]:
     folder = os.environ.get("TELLWYDAR_LIB", os.path.dirname(os.path.abspath(__file__)))
     library = ctypes.CDLL(os.path.join(folder, "libtellwydar.so"))
     u8, u16, u32, u64, size, handle = ctypes.c_uint8, ctypes.c_uint16, ctypes.c_uint32, ctypes.c_uint64, ctypes.c_size_t, ctypes.c_void_p
@@ -186,7 +186,7 @@ def _ranged(value: int, bits: int) -> int:
     return value
 
 
-def _rows(entries: Sequence[Entry]):
+def _rows(entries: Sequence[Entry]) -> "ctypes.Array[_Entry]":
     rows = (_Entry * max(1, len(entries)))()
     for row, entry in zip(rows, entries):
         row.at, row.number, row.process = _ranged(entry.at, 32), _ranged(entry.number, 32), _ranged(entry.process, 8)
@@ -198,14 +198,14 @@ def _rows(entries: Sequence[Entry]):
     return rows
 
 
-def _judge(call, processes, registers, entries, rows, count):
+def _judge(call: Callable[..., int], processes: int, registers: int, entries: Sequence[Entry], rows: Any, count: int) -> None:
     place = ctypes.c_size_t()
     code = call(_ranged(processes, 32), _ranged(registers, 32), _rows(entries), len(entries), rows, count, ctypes.byref(place))
     if code:
         raise Fault(_FAULTS[code], place.value if code in (5, 6, 7, 10) else None)
 
 
-def check_serial(processes: int, registers: int, history: Sequence[Entry], order: Sequence[tuple]) -> None:
+def check_serial(processes: int, registers: int, history: Sequence[Entry], order: Sequence[Tuple[int, int]]) -> None:
     """Raises a `Fault` unless the operations, each a pair of process and number, are a serial order of the history: sequential
     consistency (Lamport 1979)."""
     rows = (_Id * max(1, len(order)))()
@@ -214,7 +214,7 @@ def check_serial(processes: int, registers: int, history: Sequence[Entry], order
     _judge(_library.tellwydar_check_serial, processes, registers, history, rows, len(order))
 
 
-def check_points(processes: int, registers: int, history: Sequence[Entry], points: Sequence[tuple]) -> None:
+def check_points(processes: int, registers: int, history: Sequence[Entry], points: Sequence[Tuple[int, int, int]]) -> None:
     """Raises a `Fault` unless the points, each of process, number and event, are a point order of the history: linearizability
     (Herlihy and Wing 1990)."""
     rows = (_Point * max(1, len(points)))()
@@ -254,7 +254,7 @@ class World:
     """All processes of a run with their wires, stepped event by event. It is for one thread at a time."""
 
     def __init__(self, front: Front, processes: int, registers: int):
-        self._handle = None
+        self._handle: Optional[ctypes.c_void_p] = None
         handle = ctypes.c_void_p()
         code = _library.tellwydar_world_new(Front(front), _ranged(processes, 32), _ranged(registers, 32), ctypes.byref(handle))
         if code:
@@ -274,16 +274,16 @@ class World:
     def __enter__(self) -> "World":
         return self
 
-    def __exit__(self, *_) -> None:
+    def __exit__(self, *_: object) -> None:
         self.close()
 
-    def _held(self):
+    def _held(self) -> ctypes.c_void_p:
         if self._handle is None:
             raise Refused("closed")
         return self._handle
 
     def _look(self, what: int, at: int = 0) -> int:
-        return _library.tellwydar_world_look(self._held(), what, at)
+        return int(_library.tellwydar_world_look(self._held(), what, at))
 
     def _step(self, kind: int, process: int, number: int, sender: int, value: int) -> Optional[Reply]:
         code = _library.tellwydar_world_step(
@@ -326,12 +326,12 @@ class World:
         if code:
             raise Refused(_REFUSALS[code])
 
-    def serial_order(self) -> List[tuple]:
+    def serial_order(self) -> List[Tuple[int, int]]:
         """A serial order of the history: pairs of process and number."""
         self._arrange()
         return [(self._look(11, at), self._look(12, at)) for at in range(self._look(10))]
 
-    def points(self) -> List[tuple]:
+    def points(self) -> List[Tuple[int, int, int]]:
         """A linearization of the history, by process, number and event: under `Front.LINEAR`, else none."""
         self._arrange()
         return [(self._look(14, at), self._look(15, at), self._look(16, at)) for at in range(self._look(13))]
@@ -355,7 +355,7 @@ class Process:
     _ROOM = 63 * 16 * 33
 
     def __init__(self, front: Front, processes: int, registers: int, me: int):
-        self._handle = None
+        self._handle: Optional[ctypes.c_void_p] = None
         handle = ctypes.c_void_p()
         code = _library.tellwydar_process_new(
             Front(front), _ranged(processes, 32), _ranged(registers, 32), _ranged(me, 8), ctypes.byref(handle)
@@ -377,16 +377,16 @@ class Process:
     def __enter__(self) -> "Process":
         return self
 
-    def __exit__(self, *_) -> None:
+    def __exit__(self, *_: object) -> None:
         self.close()
 
-    def _held(self):
+    def _held(self) -> ctypes.c_void_p:
         if self._handle is None:
             raise Refused("closed")
         return self._handle
 
     def _look(self, what: int, register: int = 0) -> int:
-        return _library.tellwydar_process_look(self._held(), what, register)
+        return int(_library.tellwydar_process_look(self._held(), what, register))
 
     def _told(self, code: int) -> Optional[Reply]:
         if code > 2:
@@ -409,7 +409,7 @@ class Process:
         """Puts the first unacknowledged frames of every link again."""
         self._told(_library.tellwydar_process_tick(self._held()))
 
-    def frames(self) -> List[tuple]:
+    def frames(self) -> List[Tuple[int, bytes]]:
         """The frames that the last step put, in their order: pairs of receiver and bytes. A refused step put none."""
         code = _library.tellwydar_process_frames(self._held(), self._room, self._ROOM, ctypes.byref(self._length))
         if code:

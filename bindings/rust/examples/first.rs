@@ -11,3 +11,8 @@ fn main() -> Result<(), Box<dyn std::error::Error>> {
     println!("{order:?} is a serial order");
     Ok(())
 }
+
+#[test]
+fn ends_well() {
+    main().expect("a serial order");
+}

@@ -33,6 +33,7 @@ pub struct PointRow {
 }
 
 /// What a handle points to.
+#[derive(Debug)]
 #[repr(C)]
 pub struct Opaque {
     _bytes: [u8; 0],

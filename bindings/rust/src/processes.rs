@@ -38,6 +38,7 @@ pub struct Known {
 /// assert_eq!((answers, other.register(0)), (vec![Answer::Done], 5));
 /// # Ok::<(), tellwydar::Refused>(())
 /// ```
+#[derive(Debug)]
 pub struct Process<F: Front> {
     handle: NonNull<Opaque>,
     room: Vec<u8>,

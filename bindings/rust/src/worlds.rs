@@ -18,10 +18,13 @@ pub(crate) mod sealed {
 }
 
 /// Casts every operation and waits for its delivery.
+#[derive(Clone, Copy, Debug)]
 pub enum Linear {}
 /// Casts writes and swaps, and reads its own copy.
+#[derive(Clone, Copy, Debug)]
 pub enum LocalRead {}
 /// Answers writes at once; a read waits for the process's own writes.
+#[derive(Clone, Copy, Debug)]
 pub enum LocalWrite {}
 
 impl sealed::Numbered for Linear {
@@ -121,6 +124,7 @@ pub(crate) fn refused(code: u32) -> Refused {
 }
 
 /// All processes of a run with their wires. It stays on its thread.
+#[derive(Debug)]
 pub struct World<F: Front> {
     handle: NonNull<Opaque>,
     front: PhantomData<F>,

@@ -40,7 +40,7 @@ module _ (program : Text) (subs : List Shape) where
   unfolding walk_fault
   first_turn word rest e = (both_none _ _ (both_none _ _ e).0).0
 
-  -- the words behind a subcommand's name are left to it
+  -- the words after a subcommand's name are left to it
   stop_is : (name : Text) (rest : List Text) → walked whole.top.rules names start name ≡ record start { stopped = Some (name, []) }
       → Some (name, rest) ≡ (walk whole.top.rules names nothing_held (name ∷ rest)).stopped
   stop_is name rest stops = ap (λ (w : Walk). w.stopped)

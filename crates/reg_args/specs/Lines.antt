@@ -5,7 +5,7 @@ use Rattle.std.specs.Str.{bytes_eq}
 use Rattle.clap.specs.Words.{App, Row, Rule, Text, new_app, new_rule, one_of, with_rule}
 use Rattle.clap.specs.declared.builder.ArgAction.TheVariants.{SetTrue}
 
--- the words behind the program's name
+-- the words after the program's name
 abbrev pub behind_name : {A : Type 0} → List (String A) → List Text
 behind_name words = drop 1 (map string_bytes words)
 

@@ -28,7 +28,7 @@ pub fn with_fair<'a>(alloc: Global, name: &'a str) -> Result<Command<'a>, AllocE
     Command::new(alloc, name).arg(fair)
 }
 
-/// Whether a word behind the program's name is `--`.
+/// Whether a word after the program's name is `--`.
 pub fn has_dashes(words: &[String]) -> bool
     ensures { result ≡ list_any is_dashes (behind_name words.now) }
 {

@@ -13,7 +13,7 @@ use Rattle.reg_base.specs.Names.{texts, repeat_after, first_repeat}
 use Rattle.reg_base.proofs.NamesLaws.{repeat_step, repeat_here}
 use Rattle.reg_base.specs.Chains.{mix, chain, chain_at, IsLastBelow, AreChains}
 
--- where a search stands: the name is at no place behind this one, and this one is of its chain or the first
+-- where a search stands: the name is at no place after this one, and this one is of its chain or the first
 pub record Seeks (names : List (List ℕ)) (name : List ℕ) (place turn : ℕ) : Type 0 where
   pub behind : (other : ℕ) → place < other → slice_get names other ≢ Some name
   pub here : (place ≡ 0) ⊎ ((place < length names) × (chain_at names place ≡ chain name))
@@ -99,7 +99,7 @@ kept names name c end place le last = (behind, here last.1)
     here (inl z) = inl z
     here (inr w) = inr (w.0, same place w.0 ∙ w.1)
 
--- a name of another chain behind
+-- a name of another chain after
 passed : (names : List (List ℕ)) (c end place : ℕ) → chain_at names end ≢ c → IsLastBelow names c end place → IsLastBelow names c (end + 1) place
 passed names c end place differs last = (behind, here last.1)
   where

@@ -44,7 +44,7 @@ fn stands_at<A: Allocator>(names: &[String<A>], place: usize, name: &[u8]) -> bo
 }
 
 impl Chains {
-    /// Adds the name behind those that are chained.
+    /// Adds the name after those that are chained.
     fn add(&mut self, place: u16, name: &[u8])
         requires { place < MOST_REGISTERS }
         ensures heads { self.new.heads ≡ set self.old.heads (chain name.now) place }

@@ -52,7 +52,7 @@ pub extern "C" fn tellwydar_play(
     tell(alloc, command, text, output, errors, lengths)
 }
 
-/// The same, but the play is the fair one.
+/// Plays a workload fairly. The answer is the report of the play, and the status 0; or 1 with the line of a fault.
 #[unsafe(no_mangle)]
 pub extern "C" fn tellwydar_play_fair(
     alloc: Global,

@@ -34,7 +34,7 @@ module _ (n registers : ℕ) (es : List Entry) (good : IsHistory n registers es)
       go (inr (inl less)) = inr less
       go (inr (inr more)) = let inside : k < length es = within es k e here in absurd (omega arith)
 
-  -- what comes behind the last entry comes behind all
+  -- what comes after the last entry comes after all
   pub behind_all : (t : ℕ) → IsBehindLast es t → (k : ℕ) (e : Entry) → IsAt es k e → event_of e < t
   behind_all t behind k e here =
       let last : (c : Entry) × IsAt es (length es - 1) c = element_at es (length es - 1) (let inside : k < length es = within es k e here in omega arith) in

@@ -25,7 +25,7 @@ HasTwice ids = (i : ℕ) × (j : ℕ) × (id : OpId) × IsAt ids i id × IsAt id
 abbrev pub HasMissing : List Entry → List OpId → Type 0
 HasMissing h ids = (id : OpId) × IsFinished h id × ((k : ℕ) → IsAt ids k id → ⊥)
 
--- some id stands behind one of its process with a larger number
+-- some id stands after one of its process with a larger number
 abbrev pub BreaksOwnOrder : List OpId → Type 0
 BreaksOwnOrder ids = (i : ℕ) × (j : ℕ) × (a : OpId) × (b : OpId) × IsAt ids i a × IsAt ids j b × (i < j) × (a.process ≡ b.process) × (b.number < a.number)
 

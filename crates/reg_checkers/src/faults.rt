@@ -11,7 +11,7 @@ pub enum CheckFault {
     Twice,
     /// Some finished operation isn't there.
     Missing,
-    /// Some operation stands behind a later one of its process.
+    /// Some operation stands after a later one of its process.
     OwnOrder,
     /// The operation at this place, the first such, has another answer than one memory gives.
     Answer { place: usize },

@@ -126,7 +126,7 @@ fn passes<A: Allocator + Copy>(next: &mut Vec<u64, A>, id: OpId) -> bool
     true
 }
 
-/// Whether an id stands behind one of its process with a larger number.
+/// Whether an id stands after one of its process with a larger number.
 pub fn breaks_own_order<A: Allocator + Copy>(alloc: A, ids: &[OpId]) -> Result<bool, AllocError>
     requires { IsDistinct ids.now }
     ensures { IfOk result (λ b. MatchBool b (BreaksOwnOrder ids.now) (KeepsOwnOrder ids.now)) }

@@ -20,7 +20,7 @@ abbrev pub is_fair : Asked → Bool
 is_fair (OverText (Play fair)) = fair
 is_fair _ = false
 
--- the words behind the program's name that ask for it
+-- the words after the program's name that ask for it
 abbrev pub line_of : Asked → List Text
 line_of asked = named_line (name_of asked) (is_fair asked)
 

@@ -51,7 +51,7 @@ pub record IsOrdered (r : Contents) : Type 0 where
   pub points : PointsStand r.shape.registers r.entries r.points
 
 -- All events of a plan are accepted, and this is the report of the run: its history and its witness, under the plan's front
--- end and names. In that order what may change the memory stands behind what was answered before its call, but where the front
+-- end and names. In that order what may change the memory stands after what was answered before its call, but where the front
 -- end may answer that before its delivery.
 pub record Shows (start : Op → ℕ → Start) (p : Plan) (r : Contents) : Type 0 where
   pub accepted : (run_by start p).accepted ≡ p.events

@@ -55,7 +55,7 @@ is_yes_or_none (Some verdict) = is_yes verdict
 abbrev pub all_yes : Verdicts → Bool
 all_yes v = is_yes v.serial && is_yes_or_none v.points
 
--- the words of a verdict behind its name
+-- the words of a verdict after its name
 abbrev pub verdict_words : Verdict → List ℕ
 verdict_words Yes = codes " yes"
 verdict_words (No Unknown) = codes " no: unknown"

@@ -1,4 +1,4 @@
--- One thing put behind another.
+-- One thing put after another.
 use Rattle.std.proofs.Common.{ℕ, ◌≡◌, List, ◌++◌, Option}
 use Rattle.reg_text.specs.declared.writing.Sink.{Sink}
 use Rattle.reg_text.specs.Writing.{Puts}

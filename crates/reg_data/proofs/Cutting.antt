@@ -26,7 +26,7 @@ cut_more b bs false e l more =
     let n : 1 + position_or_len feeds bs + 1 ≡ suc (position_or_len feeds bs + 1) = omega arith in
     rw (e, more within) (ap₂ (λ i j. take i (b ∷ bs) ∷ lines_of (drop j (b ∷ bs))) (sym k) (sym n))
 
--- the line before the first line feed, and the rest behind it
+-- the line before the first line feed, and the rest after it
 pub cut_first : (bs : List ℕ) → position_or_len feeds bs < length bs → lines_of bs ≡ before_first feeds bs ∷ lines_of (after_first feeds bs)
 cut_first [] l = absurd (omega (arith, l))
 cut_first (b ∷ bs) l = cut_more b bs (b == 10) refl l (cut_first bs)

@@ -10,7 +10,7 @@ use Rattle.reg_data.proofs.Behind.{◌▸◌, as_text}
 abbrev behind_comma : List ℕ → List ℕ
 behind_comma part = 44 ∷ part
 
--- one more part behind a comma
+-- one more part after a comma
 tail_more : {X : Type 0} (f : X → List ℕ) (xs : List X) (i : ℕ) (d : X) → i < length xs → flat_map behind_comma (map f (take (i + 1) xs)) ≡ flat_map behind_comma (map f (take i xs)) ++ (44 ∷ f (get_or xs i d))
 tail_more f [] i d l = absurd (omega (arith, l))
 tail_more f (x ∷ xs) zero d l = append-nil (44 ∷ f x)

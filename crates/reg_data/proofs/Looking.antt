@@ -1,4 +1,4 @@
--- The states behind the events of a run, one after another, and the registers of a copy.
+-- The states after the events of a run, one after another, and the registers of a copy.
 use Rattle.std.proofs.Common.{ℕ, zero, suc, ◌≡◌, ◌+◌, ◌<◌, ◌≤◌, List, [], ◌∷◌, ◌++◌, length, drop, get_or, append_assoc, append-nil, refl, sym, ap, ap₂, ◌∙◌, arith, drop-cons, unwrap_or}
 use Rattle.std.proofs.lemmas.List.{drop_all}
 use Rattle.std.specs.Prelude.{slice_index, slice_get, cond, ◌==◌}

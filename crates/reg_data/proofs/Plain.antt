@@ -60,7 +60,7 @@ abbrev together : List (List ℕ) → List ℕ
 together pieces = flat_map (λ piece. piece) pieces
 
 infixr 5 ◌⊳◌
--- one plain text behind another
+-- one plain text after another
 ◌⊳◌ : {xs ys : List ℕ} → IsPlainText xs → IsPlainText ys → IsPlainText (xs ++ ys)
 ◌⊳◌ {xs} {ys} p q = record {
   plain = both xs ys p.plain q.plain;

@@ -24,7 +24,7 @@ use Rattle.reg_data.specs.Parts.{bar_part, look_part, moment_part}
 use Rattle.reg_data.specs.Rows.{arrow_row, first_row, id_row, point_row, read_row}
 use Rattle.reg_data.specs.Strings.{string_text}
 
--- What is told of a run: what the comments of its schedule say; its processes, names and front end; what each event did, and the state of its process behind it; each take with
+-- What is told of a run: what the comments of its schedule say; its processes, names and front end; what each event did, and the state of its process after it; each take with
 -- the event that put its frame; the operations; the first delivery of each cast; the reads answered from a copy; the
 -- witness; and the points, where there are any.
 pub record Data : Type 0 where

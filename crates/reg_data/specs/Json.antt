@@ -29,6 +29,6 @@ numbers_text numbers = list_text decimal numbers
 abbrev pub quoted : List ℕ → List ℕ
 quoted text = 34 ∷ (text ++ 34 ∷ [])
 
--- texts one behind another
+-- texts one after another
 abbrev pub one_text : List (Bor (List ℕ)) → List ℕ
 one_text texts = flat_map (λ text. text.now) texts

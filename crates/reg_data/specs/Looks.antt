@@ -1,4 +1,4 @@
--- What is told of the state of a process, and those behind each event of a run.
+-- What is told of the state of a process, and those after each event of a run.
 use Rattle.std.specs.Prelude.{ℕ, zero, suc, ◌==◌, cond, List, [], ◌∷◌, ◌++◌, Option, None, Some, slice_index}
 use Rattle.reg_base.specs.Shape.{Extent}
 use Rattle.reg_base.specs.declared.memory.Op.{Op}
@@ -43,15 +43,15 @@ kept_of values (suc r) = kept_of values r ++ kept_at values r
 abbrev pub look_of : Extent → State → Look
 look_of shape s = record { peers = peers_of s shape.processes; held = s.held; copy = kept_of s.copy shape.registers; delivered = s.delivered; running = s.running }
 
--- the same of the state behind an event in this world, of the event's process
+-- the same of the state after an event in this world, of the event's process
 abbrev pub look_behind : (Op → ℕ → Start) → Made → Event → Look
 look_behind start w e = look_of (record { processes = w.processes; registers = w.registers }) ((run_in start (with_event start w e)).nodes (process_of e)).state
 
--- of the first event in this world, and then of the others in the world behind it
+-- of the first event in this world, and then of the others in the world after it
 abbrev pub looks_from : (Op → ℕ → Start) → Made → List Event → List Look
 looks_from start w [] = []
 looks_from start w (e ∷ es) = look_behind start w e ∷ looks_from start (with_event start w e) es
 
--- the states behind the events of a run
+-- the states after the events of a run
 abbrev pub looks_of : (Op → ℕ → Start) → Extent → List Event → List Look
 looks_of start shape events = looks_from start (new_world shape) events

@@ -7,7 +7,7 @@ abbrev pub past_space : List ℕ → List ℕ
 past_space [] = []
 past_space (b ∷ bytes) = if b == 32 then bytes else b ∷ bytes
 
--- what a comment says: its line behind the # and one space; another line says nothing
+-- what a comment says: its line after the # and one space; another line says nothing
 abbrev pub comment_of : List ℕ → List ℕ
 comment_of [] = []
 comment_of (b ∷ bytes) = if b == 35 then past_space bytes else []
@@ -23,7 +23,7 @@ abbrev pub above_first : List ℕ → List (List ℕ) → List (List ℕ)
 above_first words [] = []
 above_first words (note ∷ notes) = spaced words note ∷ notes
 
--- For each line that is kept its note: what the comments say that stand directly above it, which is behind the kept line before it.
+-- For each line that is kept its note: what the comments say that stand directly above it, which is after the kept line before it.
 unfoldable pub notes_above : List (List ℕ) → List (List ℕ)
 notes_above [] = []
 notes_above (line ∷ lines) = if is_kept line then [] ∷ notes_above lines else above_first (comment_of line) (notes_above lines)
@@ -33,7 +33,7 @@ pub record Notes : Type 0 where
   pub title : List ℕ
   pub notes : List (List ℕ)
 
--- the first note is the title; those of the events come behind the three of the head
+-- the first note is the title; those of the events come after the three of the head
 abbrev pub notes_from : List (List ℕ) → Notes
 notes_from above = record { title = get_or above 0 []; notes = drop 3 above }
 

@@ -23,7 +23,7 @@ pub struct Data<A: Allocator + Copy = Global> {
     pub front: Front,
     /// What each event did.
     pub moments: Vec<Moment<A>, A>,
-    /// The state of each event's process behind it.
+    /// The state of each event's process after it.
     pub looks: Vec<Look<A>, A>,
     /// Each take, with the event that put its frame.
     pub arrows: Vec<Arrow, A>,

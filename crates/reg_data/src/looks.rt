@@ -108,7 +108,7 @@ fn look_at<F: FrontEnd, A: Allocator + Copy>(
     })
 }
 
-/// The same of a process of a world.
+/// The state of a process of a world.
 fn look_in<F: FrontEnd, A: Allocator + Copy>(
     alloc: A,
     world: &World<F, A>,
@@ -124,7 +124,7 @@ fn look_in<F: FrontEnd, A: Allocator + Copy>(
     }
 }
 
-/// Makes an event to which no fault applies, and tells the state of its process behind it.
+/// Makes an event to which no fault applies, and tells the state of its process after it.
 fn look_behind_event<F: FrontEnd, A: Allocator + Copy>(
     alloc: A,
     world: &mut World<F, A>,
@@ -144,7 +144,7 @@ fn look_behind_event<F: FrontEnd, A: Allocator + Copy>(
     look_in(alloc, world, process)
 }
 
-/// Makes these events, all of which are accepted, and adds the state behind each.
+/// Makes these events, all of which are accepted, and adds the state after each.
 fn look_behind_all<F: FrontEnd, A: Allocator + Copy>(
     alloc: A,
     world: &mut World<F, A>,
@@ -162,7 +162,7 @@ fn look_behind_all<F: FrontEnd, A: Allocator + Copy>(
     Ok(())
 }
 
-/// The states behind the events of a run that accepts them all.
+/// The states after the events of a run that accepts them all.
 ///
 /// # Errors
 ///

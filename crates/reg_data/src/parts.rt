@@ -57,7 +57,7 @@ fn put_awaited<W: Write>(sink: &mut Sink<'_, W>, awaited: Awaited)
     }
 }
 
-/// The same, where an operation runs.
+/// Puts what the running operation waits for, or null where none runs.
 fn put_running<W: Write>(sink: &mut Sink<'_, W>, awaited: Option<Awaited>)
     ensures { Puts W.contents sink.old sink.new (running_part (option_map running_of awaited)) }
 {

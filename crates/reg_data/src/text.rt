@@ -78,7 +78,7 @@ fn put_orders<A: Allocator + Copy, W: Write>(sink: &mut Sink<'_, W>, run: &Data<
     sink.put(b"}");
 }
 
-/// Puts texts one behind another.
+/// Puts texts one after another.
 fn put_texts<W: Write>(sink: &mut Sink<'_, W>, texts: &[&str])
     ensures { Puts W.contents sink.old sink.new (one_text texts.now) }
 {

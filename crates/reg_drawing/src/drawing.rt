@@ -307,7 +307,7 @@ impl<A: Allocator + Copy> Drawing<'_, A> {
         Ok(())
     }
 
-    /// Shows the events on their lines, each with the clock behind it in it.
+    /// Shows the events on their lines, each with the clock after it in it.
     fn show_dots<W: fmt::Write>(&self, f: &mut fmt::Formatter<W>) -> fmt::Result {
         for (number, moment) in self.moments.iter().enumerate() {
             let clock = moment.clock;

@@ -149,7 +149,7 @@ impl Sign {
     }
 }
 
-/// Where the sign behind this one begins.
+/// Where the sign after this one begins.
 fn next_to(x: u32, sign: Sign, words: &str) -> u32 {
     x.saturating_add(sign.wide())
         .saturating_add(width_of(words.len()))

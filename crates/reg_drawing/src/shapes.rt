@@ -125,7 +125,7 @@ impl fmt::Display for Diamond {
     }
 }
 
-/// An event with the clock behind it, in a group that the caller ends.
+/// An event with the clock after it, in a group that the caller ends.
 #[derive(Clone, Copy)]
 pub struct Node {
     pub middle: Spot,

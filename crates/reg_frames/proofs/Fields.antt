@@ -44,7 +44,7 @@ wide64 = record {
 }
 
 module _ (bytes : List ℕ) (fits : IsBytes bytes) where
-  -- a number, and what stands behind it
+  -- a number, and what stands after it
   pub number_there : (w : Width) (limit : ℕ) → IsWide w limit → (at next : ℕ) → at + byte_len w ≡ next → next ≤ length bytes → drop at bytes ≡ to_be_bytes w (number_at w at bytes) ++ drop next bytes
   number_there w limit wide at next e le =
       let len : length (take (byte_len w) (drop at bytes)) ≡ byte_len w = omega (arith, length-take (byte_len w) (drop at bytes), length-drop at bytes) in
@@ -55,7 +55,7 @@ module _ (bytes : List ℕ) (fits : IsBytes bytes) where
   pub number_below : (w : Width) (limit : ℕ) → IsWide w limit → (at : ℕ) → number_at w at bytes < limit
   number_below w limit wide at = wide.below (take (byte_len w) (drop at bytes)) (IsBytes-take (byte_len w) (drop at bytes) (IsBytes-drop at bytes fits))
 
-  -- a byte, and what stands behind it
+  -- a byte, and what stands after it
   pub byte_there : (at b : ℕ) → at < length bytes → get_or bytes at 0 ≡ b → drop at bytes ≡ b ∷ drop (suc at) bytes
   byte_there at b lt is = drop-cons bytes at 0 lt ∙ ap (λ (x : ℕ). x ∷ drop (suc at) bytes) is
 

@@ -4,7 +4,7 @@ use Rattle.std.specs.Fmt.{decimal}
 use Rattle.reg_text.specs.Reading.{IsBlock}
 use Rattle.reg_history.specs.LineForms.{IsCounted}
 
--- what stands behind the count
+-- what stands after the count
 pub block_of : {X : Type 0} (mark : List ℕ) (line_of : X → List ℕ) (Fits : List X → X → Type 0) (limit n : ℕ) (old mid rest : List (List ℕ)) (ys : List X)
     → ((k : ℕ) (r : List (List ℕ)) → k ≤ limit → old ≡ (mark ++ decimal k) ∷ r → (n ≡ k) × (mid ≡ r))
     → IsCounted mark line_of Fits limit old rest ys → IsBlock line_of Fits n mid rest ys

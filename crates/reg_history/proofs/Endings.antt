@@ -1,4 +1,4 @@
--- The lines of a report behind its head, up to its first wrong line.
+-- The lines of a report after its head, up to its first wrong line.
 use Rattle.std.proofs.Common.{nat_eq, nat_lt, cond, ℕ, ◌≡◌, ◌+◌, ◌⊎◌, ◌-◌, ◌^◌, inl, inr, ◌<◌, ◌≤◌, true, false, List, [], ◌∷◌, ◌++◌, length, map, codes, Option, None, Some, Result, Ok, Err, refl, sym, ap, ◌∙◌, subst, arith, append-nil, append_assoc}
 use Rattle.std.specs.Prelude.{IfErr}
 use Rattle.std.specs.Fmt.{decimal}

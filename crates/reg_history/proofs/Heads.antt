@@ -18,7 +18,7 @@ use Rattle.reg_history.specs.declared.versions.Version.TheVariants.{One, Two}
 use Rattle.reg_history.specs.Versions.{most_processes, most_registers, version_line}
 use Rattle.reg_history.proofs.Stopping.{stops_now, same_why, told_why}
 
--- the first line of a part with a count is wrong, or one behind it
+-- the first line of a part with a count is wrong, or one after it
 pub counted_first : {X : Type 0} (mark : List ℕ) (least limit : ℕ) (line_of : X → List ℕ) (Fits : List X → X → Type 0) (IsNone : List X → List ℕ → ReadWhy → Type 0) (before : List (List ℕ)) (next : Option (List ℕ)) (why : ReadWhy)
     → IsFirst (IsNoCount mark least limit) before next why → IsWrongCounted mark least limit line_of Fits IsNone before next why
 counted_first mark least limit line_of Fits IsNone [] next why w = w.1
@@ -45,7 +45,7 @@ pub fourth_wrong : (version : Version) (front : List ℕ) (processes : ℕ) → 
     → IsWrongNames version before next why → IsWrongHead (version_line version ∷ (codes "front " ++ front) ∷ (codes "processes " ++ decimal processes) ∷ before) next why
 fourth_wrong version front processes ok some few before next why w = (version, refl, (front, ok, refl), (processes, some, few, refl), w)
 
--- the lines of a head, and others behind them
+-- the lines of a head, and others after them
 pub head_behind : (version : Version) (front : List ℕ) (processes : ℕ) (names rest : List (List ℕ)) → head_lines version front processes names rest ≡ head_lines version front processes names [] ++ rest
 head_behind One front processes names rest = refl
 head_behind Two front processes names rest =

@@ -61,7 +61,7 @@ all_new old earlier (n ∷ ns) i t spelt h =
       | false ↦ λ e k. all_new old (earlier ++ n ∷ []) ns (i + 1) (grown old earlier n ns i t (spelt 0 n refl) e) (tail_spelt n ns spelt) k
     ] refl h
 
--- the first that stands earlier, behind names that are new
+-- the first that stands earlier, after names that are new
 pub record Repeat (names : List (List ℕ)) (place : ℕ) : Type 0 where
   pub before : List (List ℕ)
   pub name : List ℕ
@@ -154,7 +154,7 @@ no_name names (Some line) why w = inl w
 no_memory : (number : ℕ) (why : ReadWhy) (f : ReadFault) → f ≡ Line number why → f ≡ OutOfMemory → ⊥
 no_memory number why f told e = let bad : Line number why ≡ OutOfMemory = sym told ∙ e in absurd (cc)
 
--- the line behind these names is none
+-- the line after these names is none
 pub wrong_name : (count : ℕ) (old now new : Rest) (names : List (List ℕ)) (i : ℕ) → i < count → Taken (λ n. n) (λ _ n. is_name n ≡ true) count old.left now.left names i → GoesOn old now
     → (fault : ReadFault) (why : ReadWhy) (next : Option (List ℕ)) → fault ≡ Line new.number why → IsAsked now new → IsNext now.left next → IsWrongNext IsNoName next why → (fault ≡ OutOfMemory) ⊎ IsWrongName count old names fault
 wrong_name count old now new names i less t on fault why next told asked comes wrong =

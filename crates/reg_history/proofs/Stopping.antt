@@ -77,7 +77,7 @@ pub stops_first : (IsNone : List ℕ → ReadWhy → Type 0) (old new : Rest) (f
     → IsFailure (IsFirst IsNone) old fault
 stops_first IsNone old new fault why next told asked comes wrong = stops_now (IsFirst IsNone) old new fault why next told asked comes (refl, wrong)
 
--- a line behind these is wrong
+-- a line after these is wrong
 pub fails_behind : (W V : Wrongs) (xs : List (List ℕ)) (old mid : Rest) (fault : ReadFault) → old.left ≡ xs ++ mid.left → GoesOn old mid
     → ((before : List (List ℕ)) (next : Option (List ℕ)) (why : ReadWhy) → V before next why → W (xs ++ before) next why) → IsFailure V mid fault → IsFailure W old fault
 fails_behind W V xs old mid fault read on more (inl memory) = inl memory
@@ -109,7 +109,7 @@ pub failure_as : {T : Type 0} (r : Result T ReadFault) (P Q : ReadFault → Type
 failure_as (Ok x) P Q h p = tt
 failure_as (Err f) P Q h p = h f p
 
--- what comes on behind a part goes on from before it
+-- what comes on after a part goes on from before it
 pub on_behind : {T : Type 0} (r : Result T ReadFault) (old mid new : Rest) → GoesOn old mid → OnOk r (GoesOn mid new) → OnOk r (GoesOn old new)
 on_behind (Ok x) old mid new first then = goes_on old mid new first then
 on_behind (Err f) old mid new first then = tt
@@ -157,7 +157,7 @@ zero_fails mark limit count old new fault told asked read zero only =
       form = λ none. no_truth (sym (none (decimal count) refl) ∙ number_form (decimal count) count (omega (arith, zero)) refl);
     })
 
--- the line behind these elements is none
+-- the line after these elements is none
 pub item_fails : {X : Type 0} (line_of : X → List ℕ) (Fits : List X → X → Type 0) (IsNone : List X → List ℕ → ReadWhy → Type 0) (count : ℕ) (old now new : Rest) (xs : List X) (i : ℕ) → i < count → Taken line_of Fits count old.left now.left xs i → GoesOn old now
     → (fault : ReadFault) (why : ReadWhy) (next : Option (List ℕ)) → fault ≡ Line new.number why → IsAsked now new → IsNext now.left next → IsWrongNext (IsNone xs) next why → IsFailure (IsWrongItem line_of Fits IsNone count) old fault
 item_fails line_of Fits IsNone count old now new xs i less t on fault why next told asked comes wrong =

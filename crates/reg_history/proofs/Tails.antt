@@ -1,4 +1,4 @@
--- What stands behind the columns of a history line.
+-- What stands after the columns of a history line.
 use Rattle.std.proofs.Common.{ℕ, ◌≡◌, ◌++◌, ◌⊎◌, List, codes, inl, inr, Option, None, Some, IfSome, IsSome, sym, ◌∙◌, subst, rules}
 use Rattle.reg_text.specs.declared.faults.Why.{Why}
 use Rattle.reg_text.specs.declared.faults.Why.TheVariants.{Range, Name}

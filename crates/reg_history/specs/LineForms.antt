@@ -23,7 +23,7 @@ Follows version names shape before e = EntryFits version names e × IsInPlace sh
 abbrev pub HasAnswerForm : List ℕ → Type 0
 HasAnswerForm text = (text ≡ codes "done") ⊎ ((digits : List ℕ) × ((is_numeral digits ≡ true) × (text ≡ codes "value " ++ digits)))
 
--- the form of what stands behind the columns
+-- the form of what stands after the columns
 abbrev pub HasTailForm : List ℕ → Type 0
 HasTailForm rest = ((text : List ℕ) × ((rest ≡ codes "call    " ++ text) × HasOpForm text)) ⊎ ((text : List ℕ) × ((rest ≡ codes "answer  " ++ text) × HasAnswerForm text))
 
@@ -48,13 +48,13 @@ AreWithin version at process number =
 abbrev pub HasEntryForm : List ℕ → Type 0
 HasEntryForm line = (at process number rest : List ℕ) × HasColumns line at process number rest × HasTailForm rest
 
--- Why what stands behind the columns is not read, though it has its form: the value of an answer is beyond its range, or the
+-- Why what stands after the columns is not read, though it has its form: the value of an answer is beyond its range, or the
 -- operation of a call tells.
 pub record IsTailWhy (names : List (List ℕ)) (rest : List ℕ) (why : Why) : Type 0 where
   pub answer : (text : List ℕ) → rest ≡ codes "answer  " ++ text → why ≡ Range
   pub call : (text : List ℕ) → rest ≡ codes "call    " ++ text → IsOpWhy names text why
 
--- why a line is no entry's: its form is not kept, or a number of its columns is beyond its limit, or what stands behind them tells
+-- why a line is no entry's: its form is not kept, or a number of its columns is beyond its limit, or what stands after them tells
 pub record IsEntryWhy (version : Version) (names : List (List ℕ)) (line : List ℕ) (why : ReadWhy) : Type 0 where
   pub form : (¬ (HasEntryForm line)) → why ≡ Misspelt
   pub beyond : (at process number rest : List ℕ) → HasColumns line at process number rest → HasTailForm rest → ¬ (AreWithin version at process number) → why ≡ BeyondLimit

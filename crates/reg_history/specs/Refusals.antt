@@ -103,8 +103,8 @@ IsWrongHead (a ∷ []) next why = (version : Version) × (a ≡ version_line ver
 IsWrongHead (a ∷ b ∷ []) next why = (version : Version) × (a ≡ version_line version) × IsFrontLine b × IsWrongNext (IsNoCount (codes "processes ") 1 (most_processes version)) next why
 IsWrongHead (a ∷ b ∷ c ∷ lines) next why = (version : Version) × (a ≡ version_line version) × IsFrontLine b × IsProcessesLine version c × IsWrongNames version lines next why
 
--- The lines behind the order: the next is neither `end` nor a count of points; or one of the points is wrong; or their last line is
--- missing; or one more line stands behind the last.
+-- The lines after the order: the next is neither `end` nor a count of points; or one of the points is wrong; or their last line is
+-- missing; or one more line stands after the last.
 abbrev pub IsWrongTail : Version → List (List ℕ) → Option (List ℕ) → ReadWhy → Type 0
 IsWrongTail version lines next why =
     ((lines ≡ []) × IsWrongNext IsNoTail next why)
@@ -112,19 +112,19 @@ IsWrongTail version lines next why =
     ⊎ (((points : List Point) × PointsFit version (Some points) × (lines ≡ counted_lines (codes "points ") point_text points []) × IsWrongNext IsNoEnd next why)
     ⊎ ((points : Option (List Point)) × PointsFit version points × (lines ≡ tail_lines points) × (line : List ℕ) × (next ≡ Some line) × (why ≡ End))))
 
--- the lines behind the history: the order, and what stands behind a whole one
+-- the lines after the history: the order, and what stands after a whole one
 abbrev pub IsWrongLists : Version → List (List ℕ) → Option (List ℕ) → ReadWhy → Type 0
 IsWrongLists version lines next why =
     IsWrongCounted (codes "order ") 0 MOST_IDS id_text (λ _ id. IdFits version id) (λ _. IsBadLine id_text (IdFits version) HasIdForm) lines next why
     ⊎ ((order : List OpId) × (tail : List (List ℕ)) × IsCounted (codes "order ") id_text (λ _ id. IdFits version id) MOST_IDS lines tail order × IsWrongTail version tail next why)
 
--- the lines behind the head: the history, and what stands behind a whole one
+-- the lines after the head: the history, and what stands after a whole one
 abbrev pub IsWrongBody : Version → List (List ℕ) → Extent → List (List ℕ) → Option (List ℕ) → ReadWhy → Type 0
 IsWrongBody version names shape lines next why =
     IsWrongCounted (codes "history ") 0 MOST_ENTRIES (entry_text names) (Follows version names shape) (IsNoNextEntry version names shape) lines next why
     ⊎ ((entries : List Entry) × (lists : List (List ℕ)) × IsCounted (codes "history ") (entry_text names) (Follows version names shape) MOST_ENTRIES lines lists entries × IsWrongLists version lists next why)
 
--- the lines are a whole head and lines behind it, and the next one is none that may follow them
+-- the lines are a whole head and lines after it, and the next one is none that may follow them
 pub record IsWrongBehind (lines : List (List ℕ)) (next : Option (List ℕ)) (why : ReadWhy) : Type 0 where
   pub version : Version
   pub front : List ℕ

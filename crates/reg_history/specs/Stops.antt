@@ -22,7 +22,7 @@ abbrev pub EntryHasValue : Entry → Type 0
 EntryHasValue (Called at id op) = HasValue op
 EntryHasValue (Answered at id answer) = AnswerFits answer
 
--- the line with this number comes behind those before it, or the text ends there
+-- the line with this number comes after those before it, or the text ends there
 pub record IsPlaced (old : Rest) (number : ℕ) (before : List (List ℕ)) (next : Option (List ℕ)) : Type 0 where
   pub middle : List (List ℕ)
   pub read : old.left ≡ before ++ middle
@@ -66,11 +66,11 @@ IsFirst IsNone before next why = (before ≡ []) × IsWrongNext IsNone next why
 abbrev pub IsFurther : List (List ℕ) → Option (List ℕ) → ReadWhy → Type 0
 IsFurther before next why = (before ≡ []) × (line : List ℕ) × (next ≡ Some line) × (why ≡ NoLine)
 
--- the last line is missing, or one more stands behind it
+-- the last line is missing, or one more stands after it
 abbrev pub IsWrongEnd : List (List ℕ) → Option (List ℕ) → ReadWhy → Type 0
 IsWrongEnd before next why = IsFirst IsNoEnd before next why ⊎ ((before ≡ codes "end" ∷ []) × (line : List ℕ) × (next ≡ Some line) × (why ≡ NoLine))
 
--- one of so many points is wrong, or their last line is, or one more stands behind it
+-- one of so many points is wrong, or their last line is, or one more stands after it
 abbrev pub IsWrongPoints : Version → ℕ → List (List ℕ) → Option (List ℕ) → ReadWhy → Type 0
 IsWrongPoints version count before next why =
     IsWrongItem point_text (λ _ p. PointFits version p) (λ _. IsBadLine point_text (PointFits version) HasPointForm) count before next why

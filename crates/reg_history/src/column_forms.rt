@@ -6,7 +6,7 @@ ghost use Rattle.reg_history.specs.LineForms.{FitsColumn, HasColumns};
 
 use reg_text::{cut, in_front, is_numeral, skip, spaces_before};
 
-/// What stands behind the spaces at the start.
+/// What stands after the spaces at the start.
 fn behind(bytes: &[u8]) -> &[u8]
     ensures only { bytes.now ≡ to_right (length bytes.now) result.now }
     ensures whole { (digits : List ℕ) → is_numeral_of digits ≡ true → bytes.now ≡ to_right (length bytes.now) digits → result.now ≡ digits }

@@ -93,7 +93,7 @@ fn answer_form(text: &[u8]) -> Option<Why>
     }
 }
 
-/// Why what stands behind the columns is not read. None where its form is not kept.
+/// Why what stands after the columns is not read. None where its form is not kept.
 fn tail_form<A: Allocator + Copy>(rest: &[u8], names: &Names<A>) -> Option<Why>
     ensures read { IfSome result (λ why. HasTailForm rest.now × IsTailWhy names.now rest.now why × ((why ≡ Why.Range) ⊎ (why ≡ Why.Name))) }
     ensures whole { HasTailForm rest.now → IsSome result }
@@ -129,7 +129,7 @@ fn entry_form<A: Allocator + Copy>(line: &[u8], names: &Names<A>, version: Versi
     }
 }
 
-/// Why a line is no entry: its form is not kept, or a number of its columns is beyond its limit, or what stands behind them
+/// Why a line is no entry: its form is not kept, or a number of its columns is beyond its limit, or what stands after them
 /// tells.
 pub fn why_entry<A: Allocator + Copy>(line: &[u8], names: &Names<A>, version: Version) -> ReadWhy
     ensures form { (¬ (HasEntryForm line.now)) → result ≡ ReadWhy.Form }

@@ -164,7 +164,7 @@ fn expect_none(lines: &mut Lines<'_>) -> Result<(), ReadFault>
     }
 }
 
-/// The last line, with none behind it.
+/// The last line, with none after it.
 fn read_end(lines: &mut Lines<'_>) -> Result<(), ReadFault>
     ensures read { OnOk result (lines.old.left ≡ codes "end" ∷ []) }
     ensures whole { lines.old.left ≡ codes "end" ∷ [] → result ≡ Ok tt }
@@ -229,7 +229,7 @@ fn read_tail<A: Allocator + Copy>(
     Ok(Some(points))
 }
 
-/// The lists of a report: its order, and its points, if it has any. The last line is behind them.
+/// The lists of a report: its order, and its points, if it has any. The last line is after them.
 pub fn read_lists<A: Allocator + Copy>(
     alloc: A,
     lines: &mut Lines<'_>,

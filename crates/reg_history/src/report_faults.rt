@@ -31,7 +31,7 @@ pub enum ReadWhy {
     Name,
     /// The entry may not come after those before it.
     Place,
-    /// The text ends before this line, or goes on behind its last one.
+    /// The text ends before this line, or goes on after its last one.
     End,
 }
 

@@ -20,7 +20,7 @@ use std::io::Write;
 /// No number of 64 bits has more digits.
 const DIGITS: usize = 20;
 
-/// Puts a number at the right of so many places, and the mark that stands behind twenty spaces.
+/// Puts a number at the right of so many places, and the mark that stands after twenty spaces.
 fn put_right<W: Write>(sink: &mut Sink<'_, W>, number: u64, places: usize, marked: &mut [u8])
     requires places { places ≤ DIGITS }
     requires marked { marked.old ≡ replicate DIGITS 32 ++ drop DIGITS marked.old }
@@ -30,7 +30,7 @@ fn put_right<W: Write>(sink: &mut Sink<'_, W>, number: u64, places: usize, marke
     sink.put(&marked[start.min(DIGITS - places)..]);
 }
 
-/// Puts a number at the left of so many places, and the mark that stands behind as many spaces.
+/// Puts a number at the left of so many places, and the mark that stands after as many spaces.
 fn put_left<W: Write>(sink: &mut Sink<'_, W>, number: u64, places: usize, marked: &[u8])
     requires { marked.now ≡ replicate places 32 ++ drop places marked.now }
     ensures { Puts W.contents sink.old sink.new (to_left places (decimal number) ++ drop places marked.now) }
@@ -41,7 +41,7 @@ fn put_left<W: Write>(sink: &mut Sink<'_, W>, number: u64, places: usize, marked
     sink.put(&marked[digits.len().min(places)..]);
 }
 
-/// Puts the columns that a line of the history begins with, and the mark that stands behind six spaces.
+/// Puts the columns that a line of the history begins with, and the mark that stands after six spaces.
 fn put_columns<W: Write>(sink: &mut Sink<'_, W>, at: u32, id: OpId, marked: &[u8])
     requires { marked.now ≡ replicate 6 32 ++ drop 6 marked.now }
     ensures { Puts W.contents sink.old sink.new (to_right 8 (decimal at) ++ (codes "  p" ++ (to_left 3 (decimal id.process) ++ (codes "  #" ++ (to_left 6 (decimal id.number) ++ drop 6 marked.now))))) }
@@ -111,7 +111,7 @@ pub fn put_entries<A: Allocator + Copy, W: Write>(
     }
 }
 
-/// Puts an operation of an order, and the mark that stands behind twenty spaces.
+/// Puts an operation of an order, and the mark that stands after twenty spaces.
 fn put_id<W: Write>(sink: &mut Sink<'_, W>, id: OpId, marked: &mut [u8])
     requires { marked.old ≡ replicate DIGITS 32 ++ drop DIGITS marked.old }
     ensures { Puts W.contents sink.old sink.new (id_text id ++ drop DIGITS marked.old) }

@@ -9,7 +9,7 @@ use Rattle.reg_text.proofs.Formed.{numeral_lacks}
 use Rattle.reg_text.proofs.OpWhys.{Told, op_why}
 use Rattle.reg_inputs.specs.LineForms.{HasEventForm, IsCallForm, IsTakeForm, IsTickForm, IsEventWhy}
 
--- what stands before the first mark of a text, and what behind it
+-- what stands before the first mark of a text, and what after it
 abbrev pub IsCut : List ℕ → List ℕ → List ℕ → Type 0
 IsCut text front behind = (f r : List ℕ) → Lacks 32 f → text ≡ f ++ 32 ∷ r → (front ≡ f) × (behind ≡ r)
 
@@ -72,7 +72,7 @@ take_parts text first behind second last from to number cut again h =
     let inner = again to number (numeral_lacks 32 to (omega arith) h.1) outer.1 in
     (outer.0, inner.0, inner.1)
 
--- behind its first space there is another one
+-- after its first space there is another one
 pub has_second : (text first behind from to number : List ℕ) → IsCut text first behind → IsTakeForm (codes "take " ++ text) from to number → behind ≡ to ++ 32 ∷ number
 has_second text first behind from to number cut h =
     let e = h.3 in

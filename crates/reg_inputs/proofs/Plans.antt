@@ -1,4 +1,4 @@
--- Where and why the reader of a schedule stops, behind its header lines and in a text.
+-- Where and why the reader of a schedule stops, after its header lines and in a text.
 use Rattle.std.proofs.Common.{ℕ, suc, ◌≡◌, ◌⊎◌, inl, inr, ◌-◌, ◌<◌, ◌≤◌, ◌^◌, true, List, [], ◌∷◌, ◌++◌, length, map, get_or, drop, codes, None, Some, Result, Ok, Err, refl, sym, ap, ◌∙◌, subst, arith, append_assoc, append-nil}
 use Rattle.std.specs.Prelude.{slice_get, IfErr}
 use Rattle.reg_base.specs.Names.{names_fault}
@@ -17,7 +17,7 @@ use Rattle.reg_inputs.specs.Schedules.{Plan, IsPlan, plan_head, plan_lines, even
 use Rattle.reg_inputs.specs.Stops.{StopsFirst, IsWrongEvent}
 use Rattle.reg_inputs.proofs.Heads.{processes_line, registers_line}
 
--- behind the lines of these events the next one is that of an event
+-- after the lines of these events the next one is that of an event
 find : (f : Event → List ℕ) (F : Event → Type 0) (line : List ℕ) (more : List (List ℕ)) (before es : List Event) → map f es ≡ map f before ++ line ∷ more → ((k : ℕ) (e : Event) → slice_get es k ≡ Some e → F e)
     → (e : Event) × F e × (line ≡ f e) × (length before < length es)
 find f F line more [] [] same fit = absurd (cc)

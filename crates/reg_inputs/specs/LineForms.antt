@@ -45,7 +45,7 @@ pub record IsLineWhy (names : List (List ℕ)) (line : List ℕ) (why : Why) : T
   pub form : (¬ HasEventForm line) → why ≡ Form
   pub within : HasEventForm line → IsEventWhy names line why
 
--- why a line is refused behind the last event that a schedule may have: its form is judged before its place
+-- why a line is refused after the last event that a schedule may have: its form is judged before its place
 pub record IsFurtherWhy (line : List ℕ) (why : Why) : Type 0 where
   pub form : (¬ HasEventForm line) → why ≡ Form
   pub further : HasEventForm line → why ≡ Range

@@ -35,7 +35,7 @@ pub record Plan : Type 0 where
 abbrev pub plan_head : ℕ → List (List ℕ) → Front → List (List ℕ) → List (List ℕ)
 plan_head processes names front rest = (codes "processes " ++ decimal processes) ∷ (codes "registers" ++ names_text names) ∷ (codes "front " ++ front_name front) ∷ rest
 
--- the lines of a schedule, one for each event behind the header lines
+-- the lines of a schedule, one for each event after the header lines
 abbrev pub plan_lines : Plan → List (List ℕ)
 plan_lines p = plan_head p.shape.processes p.names p.front (map (event_text p.names) p.events)
 

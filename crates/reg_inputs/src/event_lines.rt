@@ -62,7 +62,7 @@ pub fn read_event<A: Allocator + Copy>(line: &[u8], names: &Names<A>) -> Option<
     })
 }
 
-/// Why a line of a call, with this behind its first word, is no event. None where its form is not kept.
+/// Why a line of a call, with this after its first word, is no event. None where its form is not kept.
 fn call_form<A: Allocator + Copy>(text: &[u8], names: &Names<A>) -> Option<Why>
     ensures read { IfSome result (IsEventWhy names.now (codes "call " ++ text.now)) }
     ensures whole { HasEventForm (codes "call " ++ text.now) → IsSome result }
@@ -116,7 +116,7 @@ pub fn why_event<A: Allocator + Copy>(line: &[u8], names: &Names<A>) -> Why
     }
 }
 
-/// Why a line behind the last event that a schedule may have is refused: its form is judged before its place.
+/// Why a line after the last event that a schedule may have is refused: its form is judged before its place.
 pub fn why_further<A: Allocator + Copy>(line: &[u8], names: &Names<A>) -> Why
     ensures { IsFurtherWhy line.now result }
 {

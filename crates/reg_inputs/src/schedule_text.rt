@@ -69,7 +69,7 @@ fn put_events<A: Allocator + Copy, W: Write>(
     }
 }
 
-/// Puts a name behind a space.
+/// Puts a name after a space.
 fn put_name<W: Write>(sink: &mut Sink<'_, W>, name: &str)
     ensures { Puts W.contents sink.old sink.new (32 ∷ name.now) }
 {
@@ -77,7 +77,7 @@ fn put_name<W: Write>(sink: &mut Sink<'_, W>, name: &str)
     sink.put(name.as_bytes());
 }
 
-/// Puts each name behind a space.
+/// Puts each name after a space.
 fn put_names<A: Allocator + Copy, W: Write>(sink: &mut Sink<'_, W>, names: &Names<A>)
     ensures { Puts W.contents sink.old sink.new (names_text names.now) }
 {

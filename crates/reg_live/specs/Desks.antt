@@ -77,12 +77,12 @@ pub record Desk : Type 0 where
 abbrev pub frames_of : (Op → ℕ → Start) → Kept → Step → List Put
 frames_of start k e = puts (step start k.state e).1.frames (length k.state.peers)
 
--- the frames of one section more behind those of earlier ones; a section without any leaves them
+-- the frames of one section more after those of earlier ones; a section without any leaves them
 abbrev pub with_frames : List (List Put) → List Put → List (List Put)
 with_frames lists [] = lists
 with_frames lists (p ∷ ps) = lists ++ (p ∷ ps) ∷ []
 
--- why a journal of so many sections doesn't take one at the floor or behind it: the first of these that applies
+-- why a journal of so many sections doesn't take one at the floor or after it: the first of these that applies
 abbrev pub IsUnplaced : ℕ → ℕ → AppendFault → Type 0
 IsUnplaced length floor IsBehind = length < floor
 IsUnplaced length floor IsFull = (floor ≤ length) × (MOST_EVENTS ≤ length)

@@ -33,7 +33,7 @@ fn queued_by(known: u64, frame: &Frame) -> u64
     }
 }
 
-/// The same of each of some frames in turn.
+/// How many bodies are known to be queued once these frames are seen, where so many were known before.
 fn queued_by_all(known: u64, frames: &[Put]) -> u64
     ensures { result ≡ queued_by_all known frames.now }
 {

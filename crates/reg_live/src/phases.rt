@@ -20,7 +20,7 @@ pub(crate) enum Phase {
     Ended,
 }
 
-/// Whether a journal has no place left behind this one.
+/// Whether a journal has no place left after this one.
 fn is_last(place: u64) -> bool
     ensures { IsTrue result ↔ (MOST_EVENTS ≤ place + 1) }
 {

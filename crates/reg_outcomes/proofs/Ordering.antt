@@ -70,7 +70,7 @@ outcome_flips a b = ap is_eq (outcomes_total.antisymm a.outcome b.outcome) ∙ e
 pub lines_total : IsTotalOrder line_cmp
 lines_total = then_total (back_total (on_total (λ l. l.tally.count) nat_cmp_total)) (on_total (λ l. l.outcome) outcomes_total)
 
--- a line that is no smaller, with another outcome, stands behind
+-- a line that is no smaller, with another outcome, stands after
 pub stands_before : (a b : Line) → is_lt (line_cmp b a) ≡ false → same_outcome a b ≡ false → StandsBefore a b
 stands_before a b up apart = go (nat_cmp a.tally.count b.tally.count) refl (slice_cmp told_cmp b.outcome a.outcome) refl up
   where

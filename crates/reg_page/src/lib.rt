@@ -1,4 +1,4 @@
-//! The page of a run: what stands before its data, and what stands behind.
+//! The page of a run: what stands before its data, and what stands after.
 #![tactic(auto)]
 
 pub mod head;

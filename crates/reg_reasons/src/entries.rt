@@ -30,7 +30,7 @@ impl Columns {
     }
 }
 
-/// The number that begins a column, behind spaces.
+/// The number that begins a column, after spaces.
 fn column_number(line: &[u8], start: usize, most: u64) -> Option<u64>
     ensures { IfSome result (λ n. n ≤ most) }
 {

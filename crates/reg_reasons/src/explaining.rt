@@ -1,4 +1,4 @@
-//! What stands behind the first line of a refused text: where it doesn't fit, and why. It is safe; what it says is shown by tests.
+//! What stands after the first line of a refused text: where it doesn't fit, and why. It is safe; what it says is shown by tests.
 use crate::documents::explain_workload;
 use crate::entries::explain_entry;
 use crate::events::explain_event;
@@ -64,7 +64,7 @@ fn explain_schedule_line<A: Allocator + Copy, W: Write>(
     Ok(())
 }
 
-/// Puts that a report goes on behind its end, or that it ends too early.
+/// Puts that a report goes on after its end, or that it ends too early.
 fn explain_end<W: Write>(sink: &mut Sink<'_, W>, text: &[u8], number: u64, part: Part) {
     match line_at(text, number) {
         Some(line) => {

@@ -3,7 +3,7 @@ use crate::wanting::{Range, Step};
 use reg_base::limits::{LAST_EVENT, MOST_OPERATIONS, MOST_PROCESSES, MOST_REGISTERS};
 use reg_history::{MOST_ENTRIES, MOST_IDS, OLDER_PROCESSES, OLDER_REGISTERS};
 
-/// The form of a line, or of what stands behind a word.
+/// The form of a line, or of what stands after a word.
 #[derive(Clone, Copy)]
 pub enum Form {
     Processes,
@@ -93,7 +93,7 @@ macro_rules! word {
     };
 }
 
-/// One of these words, and the form behind each.
+/// One of these words, and the form after each.
 macro_rules! choice {
     ($($word:literal => $form:ident),*) => {
         Step::Word {
@@ -178,7 +178,7 @@ macro_rules! entry {
     };
 }
 
-/// An operation by its process and number, and these parts behind it.
+/// An operation by its process and number, and these parts after it.
 macro_rules! id {
     ($range:expr, $($step:expr),*) => {
         &[
@@ -192,7 +192,7 @@ macro_rules! id {
     };
 }
 
-/// A word, a number behind it, and the end of the line.
+/// A word, a number after it, and the end of the line.
 macro_rules! count {
     ($word:literal, $range:expr) => {
         &[

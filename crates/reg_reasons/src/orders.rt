@@ -141,7 +141,7 @@ fn put_missing<A: Allocator + Copy, W: Write>(
     }
 }
 
-/// The first operation of an order behind a later one of its process.
+/// The first operation of an order after a later one of its process.
 fn put_own_order<A: Allocator + Copy, W: Write>(
     alloc: A,
     sink: &mut Sink<'_, W>,

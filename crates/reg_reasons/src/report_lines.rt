@@ -56,7 +56,7 @@ impl Walk {
         }
     }
 
-    /// As many lines as were announced, and what stands behind them.
+    /// As many lines as were announced, and what stands after them.
     fn block(self, left: u64, part: Part, next: Part) -> Walk {
         if left == 0 {
             return self.to(next);

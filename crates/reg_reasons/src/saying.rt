@@ -31,7 +31,7 @@ pub fn put_with<W: Write>(sink: &mut Sink<'_, W>, text: &str, numbers: &[u64]) {
     }
 }
 
-/// Puts what was found in marks of quotation, with words before and behind it.
+/// Puts what was found in marks of quotation, with words before and after it.
 pub fn put_quoted<W: Write>(sink: &mut Sink<'_, W>, before: &str, found: &[u8], after: &[&str]) {
     sink.put(before.as_bytes());
     sink.put(b"\"");
@@ -132,7 +132,7 @@ fn put_words<W: Write>(sink: &mut Sink<'_, W>, words: &[&str]) {
     }
 }
 
-/// What stands at a place: what is quoted of it, and the words behind that.
+/// What stands at a place: what is quoted of it, and the words after that.
 fn found_parts(found: &[u8]) -> (&[u8], &'static str) {
     let token = shown_token(found);
     let nothing = b"".as_slice();
@@ -238,7 +238,7 @@ fn put_wanted_number<W: Write>(sink: &mut Sink<'_, W>, range: Range, found: &[u8
     }
 }
 
-/// Puts what a number is that is out of range, behind it.
+/// Puts what a number is that is out of range, after it.
 pub fn put_out_of_range<W: Write>(sink: &mut Sink<'_, W>, range: Range) {
     sink.put(b" is out of range: ");
     sink.put(range.what.as_bytes());
@@ -290,7 +290,7 @@ fn expected_of(wanted: Wanted, found: &[u8]) -> Option<&'static str> {
     }
 }
 
-/// Whether a comment stands behind spaces.
+/// Whether a comment stands after spaces.
 fn is_comment(found: &[u8]) -> bool {
     behind(found, spaces_of(found)).starts_with(b"#")
 }

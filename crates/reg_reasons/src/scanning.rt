@@ -20,7 +20,7 @@ pub fn front_of(bytes: &[u8], count: usize) -> &[u8] {
     }
 }
 
-/// What stands behind the first bytes.
+/// What stands after the first bytes.
 pub fn behind(bytes: &[u8], count: usize) -> &[u8] {
     match bytes.split_at_checked(count) {
         Some((_, rest)) => rest,

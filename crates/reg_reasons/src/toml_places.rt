@@ -112,7 +112,7 @@ fn begins_item(byte: u8) -> bool {
     !matches!(byte, b' ' | b'\t' | b'\r' | b'\n' | b',' | b']' | b'#')
 }
 
-/// The place of an item of the array that stands behind this place.
+/// The place of an item of the array that stands after this place.
 pub fn item_place(text: &[u8], start: usize, item: Item) -> Option<usize> {
     let mut nest = Nest {
         inside: Inside::Nothing,

@@ -18,7 +18,7 @@ pub enum Step {
         words: &'static [&'static str],
         forms: &'static [Form],
     },
-    /// One space, with no second one behind it.
+    /// One space, with no second one after it.
     Space,
     /// These signs, of which `words` speaks.
     Signs {

@@ -44,7 +44,7 @@ pub record IsFaithful (start : Op → ℕ → Start) (shape : Extent) (order : L
   pub all : NothingLeft order logs
 
 -- The first place at which it is none: the mentions before it are a run, and with the one at it they are none; or it is
--- behind the last mention, and some entry is left.
+-- after the last mention, and some entry is left.
 pub record FailsAt (start : Op → ℕ → Start) (shape : Extent) (order : List ℕ) (logs : List (List LogEntry)) (place : ℕ) : Type 0 where
   pub reached : Made
   pub plays : Plays start shape order logs place reached

@@ -74,7 +74,7 @@ may fs m x xs A = and_from (is_told x.told (answer_of x.op m)) (not (list_any (i
     none true t = absurd (found t)
     none false t = t
 
--- the others are arranged behind it
+-- the others are arranged after it
 rest : (fs : List Fact) (m : Memory) (x : Fact) (xs : List Fact) → IsArranged fs m (x ∷ xs) → IsArranged (without x.id fs) (after x.op m) xs
 rest fs m x xs A = record {
   known = λ f i. kept_in (λ f. not (is_id f.id x.id)) f fs (A.known f (inr i)) (not_from (is_id f.id x.id) (other f i (is_id f.id x.id) refl));

@@ -74,7 +74,7 @@ later_one passed old new e is later = record { each = λ k f l at. only old.acce
     only (x ∷ es) zero f l at = absurd (omega (arith, l))
     only (x ∷ es) (suc k) f l at = only es k f (omega (arith, l)) at
 
--- an end behind events
+-- an end after events
 pub halts_both : (start : Op → ℕ → Start) (passed : ℕ → ℕ → ℕ) (old mid new : Made) (limit all : ℕ) (fault : SettleFault) → Moves start old mid → AreLaterSince passed old mid → length mid.accepted + limit ≤ length old.accepted + all → Halts start passed mid limit fault new → Halts start passed old all fault new
 halts_both start passed old mid new limit all Failed M L le H = H
 halts_both start passed old mid new limit all TooManyEvents M L le H = (moves_both start old mid new M H.0, later_both start passed old mid new H.0 L H.1, H.2, H.3, let x = H.4 in omega (arith, x, le))

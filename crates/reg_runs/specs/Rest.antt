@@ -47,7 +47,7 @@ most_to_rest n w = 3 * distance n w
 abbrev pub put_for : Nodes → ℕ → ℕ → ℕ
 put_for w from to = length ((w from).wire to)
 
--- a tick, or a take of a frame behind the first ones of its wire, so many on each
+-- a tick, or a take of a frame after the first ones of its wire, so many on each
 abbrev pub IsLater : (ℕ → ℕ → ℕ) → Event → Type 0
 IsLater passed (Call p op) = ⊥
 IsLater passed (Take from to number) = passed from to ≤ number
@@ -61,7 +61,7 @@ AreLater w events = (e : Event) → In e events → IsLater (put_for w) e
 abbrev pub with_events : (Op → ℕ → Start) → Made → List Event → Made
 with_events start w more = record w { accepted = w.accepted ++ more; history = (whole start w.processes w.registers (w.accepted ++ more)).history }
 
--- More ticks and takes, each accepted, were made behind the events before.
+-- More ticks and takes, each accepted, were made after the events before.
 pub record GoesOn (start : Op → ℕ → Start) (old : Made) (new : Made) : Type 0 where
   pub more : List Event
   pub later : AreLater (run_in start old).nodes more

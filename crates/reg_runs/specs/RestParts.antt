@@ -59,7 +59,7 @@ Halts start passed old limit TooManyEvents new =
     Moves start old new × AreLaterSince passed old new × (0 < distance_in start new) × (length new.accepted ≡ MOST_EVENTS) × (length new.accepted < length old.accepted + limit)
 Halts start passed old limit OutOfMemory new = (last : Made) × Moves start old last × AreLaterSince passed old last × (0 < distance_in start last) × LacksMemory start last new
 
--- what a tick put again for a process stands at the end of the wire, behind the frames that were passed
+-- what a tick put again for a process stands at the end of the wire, after the frames that were passed
 pub record IsAgain (start : Op → ℕ → Start) (passed : ℕ → ℕ → ℕ) (m : Made) (from to : ℕ) : Type 0 where
   pub before : List Frame
   pub wire : (nodes_in start m from).wire to ≡ before ++ resent (nodes_in start m from).state to

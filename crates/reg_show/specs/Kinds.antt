@@ -7,7 +7,7 @@ use Rattle.reg_commands.specs.declared.command.Command.TheVariants.{Replay, Chec
 use Rattle.reg_show.specs.declared.kinds.Kind.{Kind}
 use Rattle.reg_show.specs.declared.kinds.Kind.TheVariants.{Report, Schedule, Workload}
 
--- the text behind a byte order mark, where one stands at its start
+-- the text after a byte order mark, where one stands at its start
 abbrev pub behind_mark : List ℕ → List ℕ
 behind_mark text = if starts_with nat_eq text (239 ∷ 187 ∷ 191 ∷ []) then drop 3 text else text
 

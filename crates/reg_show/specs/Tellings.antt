@@ -65,7 +65,7 @@ pub record IsWorkload (answer text : List ℕ) : Type 0 where
   pub holds : Holds text work
   pub said : answer ≡ subject_text (codes "a workload: ") work.shape.processes work.shape.registers (front_name work.front) (sum_by length work.scripts) (codes " operation") (codes " operations") ++ 10 ∷ []
 
--- what stands behind the numbers of a report of which every verdict is yes
+-- what stands after the numbers of a report of which every verdict is yes
 abbrev pub yes_text : Option (List Point) → List ℕ
 yes_text None = codes "; serial yes" ++ 10 ∷ []
 yes_text (Some points) = codes "; serial yes; points yes" ++ 10 ∷ []

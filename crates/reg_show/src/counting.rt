@@ -54,7 +54,7 @@ fn write_plays<F: FrontEnd, A: Allocator + Copy, W: Write>(
     Ok(())
 }
 
-/// The same, by the front end of the workload.
+/// Plays a workload under its front end, and writes the table of its plays.
 fn write_outcomes<A: Allocator + Copy, W: Write>(
     alloc: A,
     work: &Workload<A>,

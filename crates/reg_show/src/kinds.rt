@@ -13,7 +13,7 @@ pub enum Kind {
     Workload,
 }
 
-/// The bytes behind a byte order mark, where one stands at the start.
+/// The bytes after a byte order mark, where one stands at the start.
 fn behind_mark(text: &[u8]) -> &[u8]
     ensures { result.now ≡ behind_mark_of text.now }
 {

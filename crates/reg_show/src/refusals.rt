@@ -88,7 +88,7 @@ fn is_of_text(fault: Fault) -> bool
     }
 }
 
-/// The same, where the fault is one of the text; else the fault.
+/// The answer for a refused text, where the fault is one of the text; else the fault.
 fn refused_or_halted<A: Allocator + Copy>(
     alloc: A,
     global: Global,

@@ -50,7 +50,7 @@ fn rest_run<F: FrontEnd, A: Allocator + Copy>(
     }
 }
 
-/// The same, and writes the schedule of all events.
+/// Runs a schedule, brings its world to rest, and writes the schedule of all events.
 fn write_rest<F: FrontEnd, A: Allocator + Copy, W: Write>(
     alloc: A,
     schedule: Schedule<A>,
@@ -75,7 +75,7 @@ fn write_rest<F: FrontEnd, A: Allocator + Copy, W: Write>(
     }
 }
 
-/// Reads a schedule, brings its run to rest, and writes the schedule of all events: the same, with ticks and takes behind it.
+/// Reads a schedule, brings its run to rest, and writes the schedule of all events: the same, with ticks and takes after it.
 pub(crate) fn rest<A: Allocator + Copy, W: Write>(
     alloc: A,
     text: &str,

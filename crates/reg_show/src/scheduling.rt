@@ -74,7 +74,7 @@ fn write_play<F: FrontEnd, A: Allocator + Copy, W: Write>(
     Ok(())
 }
 
-/// The same, by the front end of the workload.
+/// Plays a workload under its front end, and writes the schedule of the play.
 fn write_workload<A: Allocator + Copy, W: Write>(
     alloc: A,
     work: &Workload<A>,

@@ -16,6 +16,6 @@ pub enum Showing {
     Data,
     /// The run of a schedule as a page that one steps through.
     Page,
-    /// The schedule with the ticks and takes behind it that bring its run to rest.
+    /// The schedule with the ticks and takes after it that bring its run to rest.
     Rest,
 }

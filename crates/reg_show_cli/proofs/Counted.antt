@@ -29,7 +29,7 @@ tells_word r a x w o is e there =
     let test = bytes_eq-Decides a w in
     (λ t. there ∙ ap Some (sym e ∙ test.0 (sym is ∙ t)), λ h. is ∙ test.1 (e ∙ same_Some x w (sym there ∙ h)))
 
--- words behind the program's name, by their places
+-- words after the program's name, by their places
 pub one_word : (ws : List Text) (x : Text) → length ws ≡ 2 → slice_get ws 1 ≡ Some x → drop 1 ws ≡ x ∷ []
 one_word [] x n h = absurd cc
 one_word (a ∷ []) x n h = absurd cc
@@ -44,7 +44,7 @@ three_words (a ∷ b ∷ c ∷ []) x y z n h i j = absurd cc
 three_words (a ∷ b ∷ c ∷ d ∷ []) x y z n h i j = ap (λ t. t ∷ c ∷ d ∷ []) (same_Some b x h) ∙ (ap (λ t. x ∷ t ∷ d ∷ []) (same_Some c y i) ∙ ap (λ t. x ∷ y ∷ t ∷ []) (same_Some d z j))
 three_words (a ∷ b ∷ c ∷ d ∷ e ∷ ws) x y z n h i j = absurd (omega arith)
 
--- a word of the line has its place behind the program's name
+-- a word of the line has its place after the program's name
 pub word_at : (ws line : List Text) (k : ℕ) (x : Text) → drop 1 ws ≡ line → slice_get line k ≡ Some x → slice_get ws (suc k) ≡ Some x
 word_at [] line k x e h = ap (λ l. slice_get l k) e ∙ h
 word_at (a ∷ ws) line k x e h = ap (λ l. slice_get l k) e ∙ h

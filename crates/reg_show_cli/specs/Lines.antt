@@ -27,7 +27,7 @@ abbrev pub is_fair : Showing → Bool
 is_fair (Schedule fair) = fair
 is_fair _ = false
 
--- the words behind the program's name that ask for it
+-- the words after the program's name that ask for it
 abbrev pub line_of : Showing → List Text
 line_of showing = named_line (name_of showing) (is_fair showing)
 

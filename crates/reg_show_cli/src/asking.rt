@@ -38,7 +38,7 @@ fn plays_of(word: &str) -> Option<u32>
     Some(plays as u32)
 }
 
-/// The number of plays that the fourth word says behind the flag `--plays`.
+/// The number of plays that the fourth word says after the flag `--plays`.
 fn plays_flagged(words: &[String]) -> Option<u32>
     requires length { length words.now ≡ 4 }
     requires named { slice_get (map string_bytes words.now) 1 ≡ Some (codes "outcomes") }

@@ -4,7 +4,7 @@ use Rattle.reg_text.specs.Lines.{shown, Rest, StandsIn, StandsAt, IsAsked}
 use Rattle.reg_text.specs.Reading.{IsFound}
 use Rattle.reg_text.proofs.Split.{kept_line, none_kept}
 
--- the line was found behind lines that are skipped, in one of both ways
+-- the line was found after lines that are skipped, in one of both ways
 pub record IsMet (skips : Bool) (line : List ℕ) (old new : List (List ℕ)) (from to : ℕ) : Type 0 where
   pub skipped : List (List ℕ)
   pub lines : old ≡ skipped ++ line ∷ new

@@ -35,7 +35,7 @@ module _ (old now new : List (List ℕ)) (line : List ℕ) (from at next : ℕ) 
   pub one_found : is_kept line ≡ true → IsFound line old new from next
   one_found kept = record { skipped = p.passed; lines = whole; kept = kept; number = counted }
 
--- the end is behind the last line
+-- the end is after the last line
 pub counted_end : (old now : List (List ℕ)) (from at next : ℕ) → from + length old < 2 ^ 64 - 1 → IsPassed old now from at → now ≡ [] → next ≡ min (at + 1) (2 ^ 64 - 1) → next ≡ from + length old + 1
 counted_end old now from at next few p e more =
     let all : length p.passed + length now ≡ length old = sym (ap length p.lines ∙ length-append p.passed now) in

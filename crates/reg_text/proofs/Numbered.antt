@@ -40,7 +40,7 @@ goes_on a b c first second skips whole s = second skips whole (first skips whole
 pub stopped_now : (next : Option (List ℕ)) (old new : Rest) → IsNext old.left next → IsAsked old new → IsStopped [] next old new
 stopped_now next old new comes asked = record { middle = old; read = refl; on = stays old; comes = comes; asked = asked }
 
--- it stops behind these lines
+-- it stops after these lines
 pub stopped_behind : (xs before : List (List ℕ)) (next : Option (List ℕ)) (old mid new : Rest) → old.left ≡ xs ++ mid.left → GoesOn old mid → IsStopped before next mid new → IsStopped (xs ++ before) next old new
 stopped_behind xs before next old mid new read on s = record {
   middle = s.middle;

@@ -38,7 +38,7 @@ all_or_part old new bs (Err e) m = m
 pub part_of_first : (a b : Option (List ℕ)) (xs ys : List ℕ) → AppendsPart a b xs → AppendsPart a b (xs ++ ys)
 part_of_first a b xs ys p = (p.0, p.1 ++ ys, sym (append_assoc p.0 p.1 ys) ∙ ap (λ l. l ++ ys) p.2, p.3)
 
--- behind the first of two, a first part of the second
+-- after the first of two, a first part of the second
 pub part_behind : (a b c : Option (List ℕ)) (xs ys : List ℕ) → Appends a b xs → AppendsPart b c ys → AppendsPart a c (xs ++ ys)
 part_behind a b c xs ys h p = (xs ++ p.0, p.1, append_assoc xs p.0 p.1 ∙ ap (λ l. xs ++ l) p.2, appends_two a b c xs p.0 h p.3)
 
@@ -73,7 +73,7 @@ sends_none true a = keeps_none a
 pub puts_none : {X : Type 0} (contents : X → Option (List ℕ)) (a : Sink X) → Puts contents a a []
 puts_none contents a = record { same = refl; sent = sends_none a.failed (contents a.writer.now) }
 
--- one thing was put behind another
+-- one thing was put after another
 pub puts_two : {X : Type 0} (contents : X → Option (List ℕ)) (a b c : Sink X) (xs ys : List ℕ) → Puts contents a b xs → Puts contents b c ys → Puts contents a c (xs ++ ys)
 puts_two contents a b c xs ys p q = record {
   same = q.same ∙ p.same;
@@ -84,7 +84,7 @@ puts_two contents a b c xs ys p q = record {
 pub puts_as : {X : Type 0} (contents : X → Option (List ℕ)) (a b : Sink X) (xs ys : List ℕ) → xs ≡ ys → Puts contents a b xs → Puts contents a b ys
 puts_as contents a b xs ys e p = subst (λ bs. Puts contents a b bs) e p
 
--- several things were put, one behind another
+-- several things were put, one after another
 pub puts_three : {S : Type 0} (held : S → Option (List ℕ)) (a b c d : Sink S) (xs ys zs : List ℕ) → Puts held a b xs → Puts held b c ys → Puts held c d zs → Puts held a d (xs ++ (ys ++ zs))
 puts_three held a b c d xs ys zs p q r = puts_two held a b d xs (ys ++ zs) p (puts_two held b c d ys zs q r)
 

@@ -7,7 +7,7 @@ use Rattle.reg_text.specs.declared.faults.Why.{Why}
 use Rattle.reg_text.specs.declared.faults.Why.TheVariants.{Form, Range, Name, End}
 use Rattle.reg_text.specs.Forms.{is_word}
 
--- each name behind a space
+-- each name after a space
 abbrev pub names_text : List (List ℕ) → List ℕ
 names_text names = flat_map (λ name. 32 ∷ name) names
 
@@ -19,7 +19,7 @@ is_front_letter b = is_ascii_lowercase b || (b == 45)
 abbrev pub AreWords : List (List ℕ) → Type 0
 AreWords ws = (0 < length ws) × (list_all is_word ws ≡ true)
 
--- such words, each behind a space
+-- such words, each after a space
 abbrev pub HasWords : List ℕ → Type 0
 HasWords text = (ws : List (List ℕ)) × (AreWords ws × (text ≡ names_text ws))
 

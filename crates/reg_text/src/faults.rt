@@ -14,7 +14,7 @@ pub enum Why {
     /// A name is misspelt, repeated or not known.
     #[error("name")]
     Name,
-    /// The text ends before this line, or goes on behind its last one.
+    /// The text ends before this line, or goes on after its last one.
     #[error("end")]
     End,
 }

@@ -25,7 +25,7 @@ pub enum WordsFault {
     OutOfMemory,
 }
 
-/// The word behind a space, and the rest.
+/// The word after a space, and the rest.
 pub fn next_word(text: &[u8]) -> Option<(&[u8], &[u8])>
     ensures read { IfSome result (λ p. text.now ≡ 32 ∷ (p.0.now ++ p.1.now)) }
     ensures whole { (word after : List ℕ) → Lacks 32 word → Starts 32 after → text.now ≡ 32 ∷ (word ++ after) → IsSomeAnd result (λ p. (p.0.now ≡ word) × (p.1.now ≡ after)) }
@@ -37,7 +37,7 @@ pub fn next_word(text: &[u8]) -> Option<(&[u8], &[u8])>
     }
 }
 
-/// Why there may be no more words behind these: Range where they are names that differ, and else Name.
+/// Why there may be no more words after these: Range where they are names that differ, and else Name.
 fn why_more<A: Allocator + Copy>(words: Vec<String<A>, A>) -> Why
     ensures { ((result ≡ Why.Range) × (names_fault (texts words.items) ≡ None)) ⊎ ((result ≡ Why.Name) × ¬ (names_fault (texts words.items) ≡ None)) }
 {
@@ -47,7 +47,7 @@ fn why_more<A: Allocator + Copy>(words: Vec<String<A>, A>) -> Why
     }
 }
 
-/// The words, each behind a space, and no more than the limit. Where there are more, the first that is wrong in the
+/// The words, each after a space, and no more than the limit. Where there are more, the first that is wrong in the
 /// order from left to right decides: Name for one of those that may be, and else Range.
 pub fn read_words<A: Allocator + Copy>(
     alloc: A,

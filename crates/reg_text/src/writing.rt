@@ -34,7 +34,7 @@ pub fn write_bytes<W: Write>(writer: &mut W, bytes: &[u8]) -> Result<(), Unwritt
     Err(Unwritten)
 }
 
-/// A writer, and whether it has failed. What is put behind a failure goes nowhere.
+/// A writer, and whether it has failed. What is put after a failure goes nowhere.
 #[derive(Drop)]
 pub struct Sink<'a, W> {
     pub writer: &'a mut W,
@@ -75,7 +75,7 @@ impl<'a, W: Write> Sink<'a, W> {
     }
 }
 
-/// Puts words, and a number behind them.
+/// Puts words, and a number after them.
 pub fn put_number<W: Write>(sink: &mut Sink<'_, W>, words: &str, number: u64)
     ensures { Puts W.contents sink.old sink.new (words.now ++ decimal number) }
 {

@@ -10,7 +10,7 @@ use Rattle.reg_records.specs.declared.entries.Receipt.{Receipt}
 use Rattle.reg_live.specs.Passes.{Held, AreOwn, IsListOf}
 use Rattle.reg_threads.specs.Scripts.{ops_of, IsBack, AreStarted, ArePerformed}
 
--- what stands first behind n elements
+-- what stands first after n elements
 pub drop_at : {X : Type 0} (xs : List X) (n : ℕ) (x : X) (rest : List X) → drop n xs ≡ x ∷ rest → IsAt xs n x × (rest ≡ drop (n + 1) xs)
 drop_at [] zero x rest h = absurd cc
 drop_at [] (suc n) x rest h = absurd cc

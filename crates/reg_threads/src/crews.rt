@@ -7,7 +7,7 @@ use std::thread;
 use std::thread::{JoinHandle, Threads};
 use std::time::Clock;
 
-/// A thread of a cluster. It is joined only behind Stop (`Halted::join`).
+/// A thread of a cluster. It is joined only after Stop (`Halted::join`).
 #[derive(Drop)]
 pub(crate) struct Worker<T> {
     handle: JoinHandle<T>,

@@ -72,7 +72,7 @@ impl<F: FrontEnd, G: Gate + Drop> Running<F, G> {
         self.close_in(rt, alloc, passes)
     }
 
-    /// The same, with the run in a world that keeps its wires in a store of the caller's choice.
+    /// `close`, with the run in a world that keeps its wires in a store of the caller's choice.
     ///
     /// # Errors
     ///

@@ -144,7 +144,7 @@ fn script_end(process: u8, fault: Option<LiveFault>) -> Result<(), RunStop>
     }
 }
 
-/// Waits until a caller is done, and puts its pass behind those of earlier ones. What was told of earlier ones comes first, then
+/// Waits until a caller is done, and puts its pass after those of earlier ones. What was told of earlier ones comes first, then
 /// its own refusal.
 fn join_caller<F: FrontEnd, R: Threads + Wait>(
     rt: &R,
@@ -257,7 +257,7 @@ pub fn run_scripts<
     run_scripts_in::<F, R, Wires<Global>>(rt, alloc, shape, scripts)
 }
 
-/// The same, with the run in a world that keeps its wires in a store of the caller's choice.
+/// `run_scripts`, with the run in a world that keeps its wires in a store of the caller's choice.
 ///
 /// # Errors
 ///

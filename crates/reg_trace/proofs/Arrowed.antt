@@ -69,7 +69,7 @@ placed_has to place first (f ∷ fs) low high = by (cases_eq first place) (λ lo
     by (inl e) later = or_left ((to == to) && (first == place)) rest (rw (eq-eqb to to refl, eq-eqb first place e) refl)
     by (inr ne) later = or_right ((to == to) && (first == place)) rest (later (omega (arith, low, ne)) (omega (arith, high)))
 
--- among the frames that an event put is each that stands behind the wire as it was
+-- among the frames that an event put is each that stands after the wire as it was
 puts_has : (p to place : ℕ) (lengths : ℕ → ℕ) (wire : ℕ → List Frame) (n : ℕ) → to < n → (to ≡ p → ⊥) → lengths to ≤ place → place < length (wire to) → list_any (is_at to place) (puts_since p lengths wire n) ≡ true
 puts_has p to place lengths wire zero l ne low high = absurd (omega (arith, l))
 puts_has p to place lengths wire (suc n) l ne low high =

@@ -51,7 +51,7 @@ mover_there n registers w (Tick p) m =
     cond_both (nat_lt p n) (Some (p, TickStep)) None (λ (o : Option (ℕ × Step)). o ≡ Some m → p < n) (λ e h. ltb-true p n e) (λ _ h. absurd (none-some m h))
 
 -- of events that are all accepted, the first one is of a process that is there, no fault applies to it, and the others are
--- accepted behind it
+-- accepted after it
 pub record FirstAccepted (start : Op → ℕ → Start) (w : Made) (e : Event) (es : List Event) : Type 0 where
   pub process : process_of e < w.processes
   pub none : refusal start w e ≡ None

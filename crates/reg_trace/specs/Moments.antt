@@ -19,7 +19,7 @@ use Rattle.reg_trace.specs.declared.waits.Wait.{Wait}
 use Rattle.reg_trace.specs.Waits.{waits_of}
 
 -- What an event did: the process that it is of, the frame that a take took, the number that was expected where that is a data
--- frame out of turn, the clock of the process behind it, the casts that the process delivered, the reply, the casts that it holds back, each with whom it
+-- frame out of turn, the clock of the process after it, the casts that the process delivered, the reply, the casts that it holds back, each with whom it
 -- waits for, and the frames that it put, each with its wire's end and its place there.
 pub record Fact : Type 0 where
   pub event : Event
@@ -54,12 +54,12 @@ abbrev pub placed : ℕ → ℕ → List Frame → List Sent
 placed to place [] = []
 placed to place (frame ∷ frames) = record { to = to; place = place; frame = frame } ∷ placed to (place + 1) frames
 
--- the frames on the wires of p to the first n processes that stand behind so many on each
+-- the frames on the wires of p to the first n processes that stand after so many on each
 abbrev pub puts_since : ℕ → (ℕ → ℕ) → (ℕ → List Frame) → ℕ → List Sent
 puts_since p lengths wire zero = []
 puts_since p lengths wire (suc to) = puts_since p lengths wire to ++ cond (to == p) [] (placed to (lengths to) (drop (lengths to) (wire to)))
 
--- what an event of process p did, by the worlds before and after it: of the one order of casts, p delivered those behind the
+-- what an event of process p did, by the worlds before and after it: of the one order of casts, p delivered those after the
 -- ones that it had delivered before, up to as many as it has delivered now
 abbrev pub moment_between : ℕ → Event → ℕ → Option Reply → World → World → Fact
 moment_between n e p reply before after = record {
@@ -77,7 +77,7 @@ moment_between n e p reply before after = record {
 abbrev pub moment_of : (Op → ℕ → Start) → Made → Event → Fact
 moment_of start w e = moment_between w.processes e (process_of e) (reply_in start w e) (run_in start w) (run_in start (with_event start w e))
 
--- the moment of the first event in this world, and then those of the others in the world behind it
+-- the moment of the first event in this world, and then those of the others in the world after it
 abbrev pub moments_from : (Op → ℕ → Start) → Made → List Event → List Fact
 moments_from start w [] = []
 moments_from start w (e ∷ es) = moment_of start w e ∷ moments_from start (with_event start w e) es

@@ -53,11 +53,11 @@ abbrev pub drops_lines : Option ℕ → List (List ℕ)
 drops_lines None = []
 drops_lines (Some number) = (codes "    drops it: number " ++ (decimal number ++ codes " is expected")) ∷ []
 
--- the value that a memory has of an operation's register behind it, where the operation changes that
+-- the value that a memory has of an operation's register after it, where the operation changes that
 abbrev pub value_behind : Op → ℕ
 value_behind op = slice_index (after op (blank (register_of op + 1))) (register_of op)
 
--- the line of a copy behind the delivery of an operation, where that changes it
+-- the line of a copy after the delivery of an operation, where that changes it
 abbrev pub copy_lines : List (List ℕ) → Op → List (List ℕ)
 copy_lines names op = cond (updates op) ((codes "    copy " ++ valued names (register_of op) (value_behind op)) ∷ []) []
 
@@ -65,7 +65,7 @@ copy_lines names op = cond (updates op) ((codes "    copy " ++ valued names (reg
 abbrev pub delivers_line : List (List ℕ) → Delivered → List ℕ
 delivers_line names cast = codes "    delivers " ++ cast_text names cast
 
--- the lines of a cast that was delivered: with the copy behind it
+-- the lines of a cast that was delivered: with the copy after it
 abbrev pub delivers_lines : List (List ℕ) → Delivered → List (List ℕ)
 delivers_lines names cast = delivers_line names cast ∷ copy_lines names cast.op
 
@@ -82,8 +82,8 @@ holds_line wait = codes "    holds " ++ (stamp_text wait.stamp ++ (codes ": p" +
 abbrev pub puts_line : List (List ℕ) → ℕ → Sent → List ℕ
 puts_line names from sent = codes "    puts " ++ (frame_text names from sent.frame ++ (codes " (" ++ (event_text names (Take from sent.to sent.place) ++ codes ")")))
 
--- the lines of an event: its number and its words; the frame that it took, and whether it was dropped; its process's clock behind it;
--- the casts delivered, each with the copy behind it; the reply; the casts held back; and the frames put
+-- the lines of an event: its number and its words; the frame that it took, and whether it was dropped; its process's clock after it;
+-- the casts delivered, each with the copy after it; the reply; the casts held back; and the frames put
 abbrev pub moment_lines : List (List ℕ) → ℕ → Fact → List (List ℕ)
 moment_lines names number f =
     (decimal number ++ (codes " " ++ event_text names f.event))

@@ -36,13 +36,13 @@ pub struct Moment<A: Allocator + Copy = Global> {
     pub frame: Option<Frame>,
     /// The number that was expected, where the frame is a data frame of another number: it was dropped.
     pub expected: Option<u64>,
-    /// The clock of the process behind the event.
+    /// The clock of the process after the event.
     pub clock: u64,
     /// The casts that the process delivered, in order.
     pub delivered: Vec<Delivered, A>,
     /// The reply that the event gave.
     pub reply: Option<Reply>,
-    /// The casts that the process holds back behind the event, in the order of their stamps.
+    /// The casts that the process holds back after the event, in the order of their stamps.
     pub waits: Vec<Wait, A>,
     /// The frames that the process put, by rising receiver and place.
     pub sent: Vec<Sent, A>,
@@ -162,7 +162,7 @@ fn push_sent<A: Allocator + Copy>(
     Ok(())
 }
 
-/// The frames that a process put behind those of these lengths.
+/// The frames that a process put after those of these lengths.
 fn sent_since<F: FrontEnd, A: Allocator + Copy>(
     alloc: A,
     world: &World<F, A>,

@@ -33,7 +33,7 @@ impl Filled {
         x
     }
 
-    /// The same below it, where a text stands a little to the left.
+    /// Puts a text below the line of a process, a little to the left of x or where that line is free: tells from where.
     pub fn put_below(&mut self, process: u8, x: u32, wide: u32) -> u32
         ensures { x ≤ result }
     {

@@ -170,7 +170,7 @@ fn value_left(op: Op) -> Option<u64>
     }
 }
 
-/// Puts the line of the copy behind the delivery of an operation, if that changes it.
+/// Puts the line of the copy after the delivery of an operation, if that changes it.
 fn put_copy<A: Allocator + Copy, W: Write>(sink: &mut Sink<'_, W>, names: &Names<A>, op: Op)
     ensures { Puts W.contents sink.old sink.new (text_of (copy_lines names.now op)) }
 {
@@ -182,7 +182,7 @@ fn put_copy<A: Allocator + Copy, W: Write>(sink: &mut Sink<'_, W>, names: &Names
     }
 }
 
-/// Puts the lines of a cast that was delivered, with the copy behind it.
+/// Puts the lines of a cast that was delivered, with the copy after it.
 fn put_delivered<A: Allocator + Copy, W: Write>(
     sink: &mut Sink<'_, W>,
     names: &Names<A>,

@@ -92,7 +92,7 @@ fn waits_at<F: FrontEnd, A: Allocator + Copy>(
     Ok(waits)
 }
 
-/// The same of a process of a world.
+/// The casts that a process of a world holds back, each with the process that it waits for.
 pub(crate) fn waits_in<F: FrontEnd, A: Allocator + Copy>(
     alloc: A,
     world: &World<F, A>,

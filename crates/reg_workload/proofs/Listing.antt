@@ -17,7 +17,7 @@ use Rattle.reg_workload.specs.Plays.{Playing, may_call, next_frame, next_at, scr
 use Rattle.reg_workload.specs.PlayParts.{IsReadyToCall, IsChoice, AreChoices, AllStill}
 use Rattle.reg_world.specs.Worlds.{run_in}
 
--- what stands in a part, and behind it
+-- what stands in a part, and after it
 pub part_at : {X : Type 0} (xs ys : List X) (k : ℕ) (c : X) → slice_get xs k ≡ Some c → slice_get (xs ++ ys) k ≡ Some c
 part_at [] ys k c e = absurd (cc)
 part_at (x ∷ xs) ys zero c e = e
@@ -41,7 +41,7 @@ first_at f m (suc n) k c l e = elim (cases_lt n m) [
   | inr other ↦ ap (λ xs. slice_get xs k) (flat_suc f n) ∙ part_at (flat_map f (range_with_len 0 n)) (f n) k c (first_at f m n k c (omega (arith, other)) e)
 ]
 
--- a choice of one process stands behind those of the processes before it
+-- a choice of one process stands after those of the processes before it
 found_at : {X : Type 0} (f : ℕ → List X) (p n j k : ℕ) (c : X) → p < n → k ≡ length (flat_map f (range_with_len 0 p)) + j → slice_get (f p) j ≡ Some c → slice_get (flat_map f (range_with_len 0 n)) k ≡ Some c
 found_at f p n j k c l e at = first_at f (p + 1) n k c (omega (arith, l))
     (ap (λ xs. slice_get xs k) (flat_more f p) ∙ (ap (slice_get (flat_map f (range_with_len 0 p) ++ f p)) e ∙ (behind_at (flat_map f (range_with_len 0 p)) (f p) j ∙ at)))

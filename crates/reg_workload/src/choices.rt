@@ -169,7 +169,7 @@ pub(crate) fn count<F: FrontEnd, A: Allocator + Copy, W: WireStore<A>>(
     total
 }
 
-/// The call at this place of all calls, or how far behind them it is.
+/// The call at this place of all calls, or how far after them it is.
 fn nth_call<F: FrontEnd, A: Allocator + Copy, W: WireStore<A>>(
     player: &Player<'_, F, A, W>,
     chances: &[Chance<A>],
@@ -191,7 +191,7 @@ fn nth_call<F: FrontEnd, A: Allocator + Copy, W: WireStore<A>>(
     Err(left)
 }
 
-/// The same of all takes.
+/// The take at this place of all takes, or how far after them it is.
 fn nth_take<F: FrontEnd, A: Allocator + Copy, W: WireStore<A>>(
     player: &Player<'_, F, A, W>,
     chances: &[Chance<A>],
@@ -212,7 +212,7 @@ fn nth_take<F: FrontEnd, A: Allocator + Copy, W: WireStore<A>>(
     Err(left)
 }
 
-/// The same of all ticks.
+/// The tick at this place of all ticks, or how far after them it is.
 fn nth_tick<F: FrontEnd, A: Allocator + Copy, W: WireStore<A>>(
     player: &Player<'_, F, A, W>,
     chances: &[Chance<A>],

@@ -37,7 +37,7 @@ pub fn play_fair<F: FrontEnd, A: Allocator + Copy>(
     play_fair_in(alloc, work)
 }
 
-/// The same, in a world that keeps its wires in a store of the caller's choice.
+/// `play_fair`, in a world that keeps its wires in a store of the caller's choice.
 ///
 /// # Errors
 ///
@@ -77,7 +77,7 @@ pub fn play_seeded<F: FrontEnd, R: Words + Drop, A: Allocator + Copy>(
     play_seeded_in(alloc, work, words)
 }
 
-/// The same, in a world that keeps its wires in a store of the caller's choice.
+/// `play_seeded`, in a world that keeps its wires in a store of the caller's choice.
 ///
 /// # Errors
 ///

@@ -28,7 +28,7 @@ IsKept r c = IsUpdate c.op ⊎ IsFinished r.history c.id
 -- The operations that have a key.
 -- Read: a finished read answered from a copy has the place of its answer, and stands before the cast at that place.
 -- Delivered: a cast that was delivered, if it is an update or finished, has its place in the order.
--- Lost: a finished cast that was delivered nowhere stands behind all others, by its stamp.
+-- Lost: a finished cast that was delivered nowhere stands after all others, by its stamp.
 pub data HasKey (r : Run) (id : OpId) (k : Key) : Type 0 where
   Copied : (q : CopyRead) → ((k : ℕ) × IsAt r.reads k q) → q.id ≡ id → k ≡ key q.place 0 id.process id.number → HasKey r id k
   Delivered : (place : ℕ) (c : First) → IsAt r.order place c → c.id ≡ id → IsKept r c → k ≡ key place 1 0 0 → HasKey r id k

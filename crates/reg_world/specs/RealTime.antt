@@ -1,4 +1,4 @@
--- Which operations stand behind those that were answered before their call. To be believed: promises speak of it.
+-- Which operations stand after those that were answered before their call. To be believed: promises speak of it.
 use Rattle.std.specs.Prelude.{ℕ, ◌≡◌, ◌≢◌, ◌<◌, List}
 use Rattle.reg_base.specs.declared.memory.OpId.{OpId}
 use Rattle.reg_base.specs.declared.memory.Op.{Op}
@@ -25,19 +25,19 @@ WaitsForDelivery start op = (unsettled : ℕ) → start op unsettled ≢ CastsAn
 abbrev pub AnswersNothingFirst : (Op → ℕ → Start) → Type 0
 AnswersNothingFirst start = (op : Op) → WaitsForDelivery start op
 
--- An operation that may change the memory stands behind each that was answered before its call, but where the front end may
+-- An operation that may change the memory stands after each that was answered before its call, but where the front end may
 -- answer that one before its delivery.
 abbrev pub KeepsUpdates : (Op → ℕ → Start) → List Entry → List OpId → Type 0
 KeepsUpdates start h ids = (i j : ℕ) (a b : OpId) → IsAt ids i a → IsAt ids j b → IsEarlier h a b → IsCallOf (WaitsForDelivery start) h a → IsCallOf IsUpdate h b → i < j
 
--- An operation that may change the memory stands behind each that was answered before its call.
+-- An operation that may change the memory stands after each that was answered before its call.
 abbrev pub KeepsAllUpdates : List Entry → List OpId → Type 0
 KeepsAllUpdates h ids = (i j : ℕ) (a b : OpId) → IsAt ids i a → IsAt ids j b → IsEarlier h a b → IsCallOf IsUpdate h b → i < j
 
--- An operation stands behind each of its own process that was answered before its call.
+-- An operation stands after each of its own process that was answered before its call.
 abbrev pub KeepsOwnTime : List Entry → List OpId → Type 0
 KeepsOwnTime h ids = (i j : ℕ) (a b : OpId) → IsAt ids i a → IsAt ids j b → IsEarlier h a b → a.process ≡ b.process → i < j
 
--- An operation stands behind each that was answered before its call.
+-- An operation stands after each that was answered before its call.
 abbrev pub KeepsRealTime : List Entry → List OpId → Type 0
 KeepsRealTime h ids = (i j : ℕ) (a b : OpId) → IsAt ids i a → IsAt ids j b → IsEarlier h a b → i < j

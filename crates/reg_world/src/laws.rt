@@ -25,16 +25,16 @@ pub fn witness_is_serial()
     ensures { (start : Op → ℕ → Start) (n registers : ℕ) (events : List Event) (ids : List OpId) → KeepsLaws start → IsWitness (run_of registers (whole start n registers events)) ids → IsSerial registers (whole start n registers events).history ids }
 {}
 
-/// In that order an operation that may change the memory stands behind each that was answered before its call, but where
-/// the front end may answer that one before its delivery. Where it answers none so, behind each; and where every operation
-/// is cast, each operation stands behind those that were answered before its call.
+/// In that order an operation that may change the memory stands after each that was answered before its call, but where
+/// the front end may answer that one before its delivery. Where it answers none so, after each; and where every operation
+/// is cast, each operation stands after those that were answered before its call.
 pub fn witness_keeps_updates()
     ensures updates { (start : Op → ℕ → Start) (n registers : ℕ) (events : List Event) (ids : List OpId) → KeepsLaws start → IsWitness (run_of registers (whole start n registers events)) ids → KeepsUpdates start (whole start n registers events).history ids }
     ensures all_updates { (start : Op → ℕ → Start) (n registers : ℕ) (events : List Event) (ids : List OpId) → KeepsLaws start → AnswersNothingFirst start → IsWitness (run_of registers (whole start n registers events)) ids → KeepsAllUpdates (whole start n registers events).history ids }
     ensures real_time { (start : Op → ℕ → Start) (n registers : ℕ) (events : List Event) (ids : List OpId) → CastsAll start → IsWitness (run_of registers (whole start n registers events)) ids → KeepsRealTime (whole start n registers events).history ids }
 {}
 
-/// In a serial order of a history each operation stands behind those of its own process that were answered before its call.
+/// In a serial order of a history each operation stands after those of its own process that were answered before its call.
 pub fn serial_order_keeps_own_time()
     ensures { (n registers : ℕ) (h : List Entry) (ids : List OpId) → IsHistory n registers h → IsSerial registers h ids → KeepsOwnTime h ids }
 {}

@@ -310,9 +310,9 @@ impl<F: FrontEnd, A: Allocator + Copy, W: WireStore<A>> World<F, A, W> {
     }
 
     /// The operations that are finished, and the updates that some process has delivered, in one order: the reads from a
-    /// copy and the casts by place, and behind them the finished casts that were delivered nowhere. It is a serial order of
-    /// the history (Lamport 1979), in which an operation that may change the memory stands behind each that was answered before
-    /// its call, but where the front end may answer that one before its delivery; so behind each, where it answers none so.
+    /// copy and the casts by place, and after them the finished casts that were delivered nowhere. It is a serial order of
+    /// the history (Lamport 1979), in which an operation that may change the memory stands after each that was answered before
+    /// its call, but where the front end may answer that one before its delivery; so after each, where it answers none so.
     pub fn witness(&self) -> Result<Vec<OpId, A>, AllocError>
         ensures keyed { IfOk result (λ ids. IsWitness (run_of self.now.registers (run_in F.start self.now)) ids.items) }
         ensures serial { IfOk result (λ ids. IsSerial self.now.registers (run_in F.start self.now).history ids.items) }

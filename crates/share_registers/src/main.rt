@@ -12,7 +12,7 @@ use tellwydar::{
     write,
 };
 
-/// Writes with one pass, and has another thread read with the other from behind the answer on.
+/// Writes with one pass, and has another thread read with the other from after the answer on.
 fn write_and_read<R: Threads + Wait + Copy + Send + Sync + 'static>(
     rt: R,
     passes: &mut Vec<Pass<Linear, NoGate>>,

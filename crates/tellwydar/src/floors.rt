@@ -1,4 +1,4 @@
-//! A read behind what another thread was told.
+//! A read after what another thread was told.
 ghost use Rattle.std.specs.Prelude.{◌≡◌, ◌≤◌, IfErr, IfOk};
 ghost use Rattle.reg_base.specs.Memory.{Memory, answer_of};
 ghost use Rattle.reg_base.specs.declared.memory.Op.{Op};
@@ -12,7 +12,7 @@ use reg_front::FrontEnd;
 use reg_live::{Gate, LiveFault, Pass, Receipt};
 use std::sync::Wait;
 
-/// Reads a register at a place of the journal that is not below the floor. With the place behind the answer that another thread was
+/// Reads a register at a place of the journal that is not below the floor. With the place after the answer that another thread was
 /// told as the floor, the read is called after that answer.
 ///
 /// # Errors

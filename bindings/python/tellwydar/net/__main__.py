@@ -8,17 +8,18 @@ import sys
 import threading
 import time
 import tomllib
+from typing import Callable, Dict, List, Optional, TextIO
 
 from . import core, log, merge, road
 from .node import Node, NodeFailed
-from .road import Keys, LossyRoad, RoadFault
+from .road import Keys, LossyRoad, Road, RoadFault
 
 
-def say(text):
+def say(text: str) -> None:
     print(text, file=sys.stderr, flush=True)
 
 
-def node_of(a) -> Node:
+def node_of(a: argparse.Namespace) -> Node:
     with open(a.config, "rb") as file:
         config = tomllib.load(file)
     nodes = config["node"]
@@ -30,14 +31,17 @@ def node_of(a) -> Node:
     lossy = None
     if a.lossy:
         seed, loss, duplicates, reorder, delay = map(float, a.lossy.split(","))
-        lossy = lambda r: LossyRoad(r, int(seed) * 1000 + a.me, loss / 100, duplicates / 100, reorder / 100, delay / 1000)
+
+        def lossy(r: Road) -> LossyRoad:
+            return LossyRoad(r, int(seed) * 1000 + a.me, loss / 100, duplicates / 100, reorder / 100, delay / 1000)
+
     return Node(
         config["front"], config["registers"], a.me, [n["address"] for n in nodes], keys, a.log,
         sync=a.sync or config.get("sync", False), look=config.get("look_ms", 10) / 1000, resume=a.resume, lossy=lossy, say=say,
     )
 
 
-def run_script(node, lines, out):
+def run_script(node: Node, lines: List[str], out: TextIO) -> None:
     """Makes the calls of a script. A node that was resumed goes on where its log ends."""
     called, going_on = node.so_far()
     if going_on:
@@ -53,13 +57,14 @@ def run_script(node, lines, out):
         if words[0] == "sleep":
             time.sleep(float(words[1]))
             continue
-        given = [words[1]] + [int(w) for w in words[2:]]
-        answer = {"read": node.read, "write": node.write, "swap": node.swap}[words[0]](*given)
+        given = [words[1], *map(int, words[2:])]
+        calls: Dict[str, Callable[..., Optional[int]]] = {"read": node.read, "write": node.write, "swap": node.swap}
+        answer = calls[words[0]](*given)
         print("done" if answer is None else f"value {answer}", file=out, flush=True)
     print("end", file=out, flush=True)
 
 
-def main(words) -> int:
+def main(words: List[str]) -> int:
     parser = argparse.ArgumentParser(prog="python3 -m tellwydar.net", description=__doc__, formatter_class=argparse.RawDescriptionHelpFormatter)
     sub = parser.add_subparsers(dest="word", required=True)
     p = sub.add_parser("node", help="runs a node until SIGTERM or SIGINT")
@@ -79,9 +84,9 @@ def main(words) -> int:
     a = parser.parse_args(words)
     if a.word == "keys":
         public, secret = road.new_keys()
-        file = os.open(a.file, os.O_WRONLY | os.O_CREAT | os.O_EXCL, 0o600)
-        os.write(file, secret + b"\n")
-        os.close(file)
+        made = os.open(a.file, os.O_WRONLY | os.O_CREAT | os.O_EXCL, 0o600)
+        os.write(made, secret + b"\n")
+        os.close(made)
         print(f'key = "{public.decode()}"')
         return 0
     if a.word == "merge":

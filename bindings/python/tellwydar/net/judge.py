@@ -6,7 +6,7 @@ another place makes another run, and not a wrong one. So what is believed here i
 the replies.
 """
 import contextlib
-from typing import List, NamedTuple, Optional
+from typing import Dict, List, NamedTuple, Optional, Sequence, Tuple
 
 from .. import World, replay
 from . import core, log
@@ -28,7 +28,7 @@ class _Wires:
     """At which place of its wire each frame was put first."""
 
     def __init__(self, count: int):
-        self.places = [[{} for _ in range(count)] for _ in range(count)]
+        self.places: List[List[Dict[bytes, int]]] = [[{} for _ in range(count)] for _ in range(count)]
         self.counts = [[0] * count for _ in range(count)]
 
     def put(self, sender: int, receiver: int, frame: bytes) -> None:
@@ -39,15 +39,16 @@ class _Wires:
         return self.places[sender][receiver].get(frame)
 
 
-def _event(world: World, names, p: int, e: log.Entry, place: Optional[int]):
-    """Makes the event at the world: its line in a schedule, and its reply."""
+def _event(world: World, names: Sequence[str], p: int, e: log.Entry, place: int) -> Tuple[str, Optional[core.Reply]]:
+    """Makes the event at the world, a take from this place of the wire: its line in a schedule, and its reply."""
     if e.step == "call":
         reply = world.call(p, core.operation(e.process, e.register, e.value))
         value = "" if e.process == core.READ else f" {e.value}"
         return f"call {p} {core.KINDS[e.process]} {names[e.register]}{value}\n", reply
     if e.step == "take":
         return f"take {e.process} {p} {place}\n", world.take(e.process, p, place)
-    return f"tick {p}\n", world.tick(p)
+    world.tick(p)
+    return f"tick {p}\n", None
 
 
 def judge(logs: List[log.Log], order: List[int]) -> Verdict:
@@ -62,8 +63,8 @@ def judge(logs: List[log.Log], order: List[int]) -> Verdict:
         for place, p in enumerate(order):
             e = logs[p].entries[at[p]]
             at[p] += 1
-            found = wires.place(e.process, p, e.frame) if e.step == "take" else None
-            if e.step == "take" and found is None:
+            found = wires.place(e.process, p, e.frame) if e.step == "take" else 0
+            if found is None:
                 return Verdict(b"", Fault(place, "no such frame was put before"))
             try:
                 line, reply = _event(world, names, p, e, found)

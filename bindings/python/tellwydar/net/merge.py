@@ -9,7 +9,7 @@ one for each call that is cast, one for each take of a cast that it expected. So
 counts that it puts for one sender each take of a data frame puts the number of frames accepted so far: all from 1 up to now, and 0
 where a frame came that wasn't expected yet. That the frames are equal, and not only their numbers, is for `judge` to say.
 """
-from typing import List, NamedTuple
+from typing import Callable, Dict, List, NamedTuple, Optional, Sequence, Tuple
 
 from . import core, log
 from .judge import judge
@@ -30,7 +30,7 @@ class Waits(NamedTuple):
 class Stuck(MergeFault):
     """No order has all entries. `waits`: the next entry of each log that isn't placed whole; the first is one to look at first."""
 
-    def __init__(self, order, waits):
+    def __init__(self, order: List[int], waits: List[Waits]):
         first = waits[0]
         why = "whose log ends before it puts it" if first.sender_done else "which waits itself"
         super().__init__(
@@ -40,7 +40,7 @@ class Stuck(MergeFault):
         self.order, self.waits = order, waits
 
 
-def arrange(logs: List[log.Log], pick=None) -> List[int]:
+def arrange(logs: List[log.Log], pick: Optional[Callable[[List[int]], int]] = None) -> List[int]:
     """The processes of the entries in order: the k-th mention of one stands for the k-th entry of its log. Linear in the entries.
 
     `pick(ready)` takes one of the processes that can go on (for tests); else the one goes on that came longest ago, entry by entry."""
@@ -50,11 +50,12 @@ def arrange(logs: List[log.Log], pick=None) -> List[int]:
     queued = [0] * count  # bodies queued by each, for all others alike
     expected = [[0] * count for _ in logs]  # expected[p][s]: the frames from s that p accepted
     early = [[False] * count for _ in logs]  # early[p][s]: p has put the count 0 for s
-    for_body = [{} for _ in logs]  # for_body[s][k]: who waits for the frame k of s
+    for_body: List[Dict[int, List[int]]] = [{} for _ in logs]  # for_body[s][k]: who waits for the frame k of s
     for_count = [[-1] * count for _ in logs]  # for_count[s][p]: the count that p waits for from s
-    order, ready = [], []
+    order: List[int] = []
+    ready: List[int] = []
 
-    def ask(p):
+    def ask(p: int) -> None:
         """Puts p among the ready, or with what it waits for."""
         if at[p] == len(logs[p].entries):
             return
@@ -72,7 +73,7 @@ def arrange(logs: List[log.Log], pick=None) -> List[int]:
                 return
         ready.append(p)
 
-    def place(p):
+    def place(p: int) -> None:
         e = logs[p].entries[at[p]]
         at[p] += 1
         order.append(p)
@@ -122,7 +123,7 @@ def arrange(logs: List[log.Log], pick=None) -> List[int]:
 def gather(logs: List[log.Log]) -> List[log.Log]:
     """The logs by their processes, where they are those of one cluster."""
     first = logs[0].head
-    found = {}
+    found: Dict[int, log.Log] = {}
     for one in logs:
         head = one.head
         if (head.front, head.processes, head.registers) != (first.front, first.processes, first.registers):
@@ -136,10 +137,10 @@ def gather(logs: List[log.Log]) -> List[log.Log]:
     return [found[p] for p in range(first.processes)]
 
 
-def merge(paths, say, cut=False):
+def merge(paths: Sequence[str], say: Callable[[str], None], cut: bool = False) -> Tuple[int, bytes, bytes]:
     """The status, the report and the line of a fault. With `cut` a merge that is stuck ends where it is, with a word."""
     logs = gather([log.read(path, say) for path in paths])
-    stuck = None
+    stuck: Optional[Stuck] = None
     try:
         order = arrange(logs)
     except Stuck as why:

@@ -8,10 +8,16 @@ import sys
 import threading
 import time
 import zlib
-from typing import List, Optional, Sequence
+from types import TracebackType
+from typing import Callable, Dict, List, Optional, Sequence, Tuple, Type, Union
 
 from . import core, log
-from .road import MOST_BYTES, Complaints, Keys, Road
+from .road import MOST_BYTES, Complaints, Keys, LossyRoad, Road
+
+
+def _say(text: str) -> None:
+    print(text, file=sys.stderr, flush=True)
+
 
 _DUE = {1, 3, 7, 15, 31, 63, 127, 227}  # as the pacer of a cluster has it: after 1, 2, 4, .. looks, and from 64 on after 100
 
@@ -36,7 +42,8 @@ class Node:
     """States: up, with no operation, with one going on, or with an answer to be fetched; closed; failed. None of the last two is left."""
 
     def __init__(self, front: str, registers: Sequence[str], me: int, peers: Sequence[str], keys: Optional[Keys], log_path: str, *,
-                 sync=False, look=0.01, resume=False, lossy=None, say=lambda text: print(text, file=sys.stderr, flush=True)):
+                 sync: bool = False, look: float = 0.01, resume: bool = False,
+                 lossy: Optional[Callable[[Road], LossyRoad]] = None, say: Callable[[str], None] = _say):
         self._names = {name: r for r, name in enumerate(registers)}
         self._me, self._count, self._sync, self._look_every = me, len(peers), sync, look
         self._say, self._complain = say, Complaints(say)
@@ -49,22 +56,28 @@ class Node:
             raise
         self._lock = threading.Lock()
         self._answered = threading.Condition(self._lock)
-        self._failed, self._closed, self._idle = None, False, False
-        self._steps_due, self._data_due, self._out, self._staged_answer, self._held_till = False, False, {}, None, None
+        self._failed, self._closed, self._idle = "", False, False
+        self._steps_due, self._data_due = False, False
+        self._out: Dict[int, List[bytes]] = {}
+        self._staged_answer: Optional[core.Reply] = None
+        self._held_till: Optional[float] = None
         # What stands before the frames of a message: of which cluster, from which run of which process, to whom.
         shape = b"TW\1" + bytes([core.FRONTS.index(front), len(peers)]) + len(registers).to_bytes(2, "big")
         shape += zlib.crc32(" ".join(registers).encode()).to_bytes(4, "big")
         begun = bytes.fromhex(self._head.begun)
         self._shape, self._width = shape, len(shape) + 10
         self._start = {p: shape + bytes([me, p]) + begun for p in range(len(peers)) if p != me}
-        self._met_as, self._begun = {}, {}  # the peers that were heard, and the run of each that was heard first
-        self._beats = {p: (None, 0) for p in self._start}
-        self._road = road if lossy is None else lossy(road)
+        # the peers that were heard, and the run of each that was heard first
+        self._met_as: Dict[bytes, int] = {}
+        self._begun: Dict[int, bytes] = {}
+        self._beats: Dict[int, Tuple[Optional[int], int]] = {p: (None, 0) for p in self._start}
+        self._road: Union[Road, LossyRoad] = road if lossy is None else lossy(road)
         self._thread = threading.Thread(target=self._serve, name="tellwydar", daemon=True)
         self._thread.start()
 
-    def _open(self, path, head, resume):
-        self._head, self._running, self._answer, self._called = head, False, None, 0
+    def _open(self, path: str, head: log.Head, resume: bool) -> None:
+        self._head, self._running, self._called = head, False, 0
+        self._answer: Optional[core.Reply] = None
         if not resume:
             try:
                 self._log = log.Writer(path, head)
@@ -72,7 +85,7 @@ class Node:
                 raise NodeFailed(f"{path} is there already: resume it, or take a new one for a new cluster") from None
             return
         # The process is a function of the steps in its log: make them again, and go on.
-        writer = log.Writer(path, fresh=False)  # from here on it is in no other program's hands
+        writer = log.Writer(path)  # from here on it is in no other program's hands
         old = log.read(path, self._say)
         if old.head._replace(begun="") != head._replace(begun=""):
             raise NodeFailed(f"{path} is of another process, front end or shape")
@@ -157,8 +170,8 @@ class Node:
 
     # --- the caller's side
 
-    def _call(self, kind, register, value, timeout):
-        register = self._names.get(register, register)
+    def _call(self, kind: int, name: Union[str, int], value: int, timeout: Optional[float]) -> Optional[int]:
+        register = self._names.get(name) if isinstance(name, str) else name
         if not isinstance(register, int) or not 0 <= register < 2**16:
             raise core.Refused("no register")
         if not isinstance(value, int) or not 0 <= value < 2**64:  # ctypes would cut it, and the log would say another value
@@ -181,7 +194,7 @@ class Node:
                 self._road.wake()
             return self._wait(timeout)
 
-    def _wait(self, timeout):
+    def _wait(self, timeout: Optional[float]) -> Optional[int]:
         end = None if timeout is None else time.monotonic() + timeout
         while self._answer is None:
             self._up()
@@ -194,14 +207,18 @@ class Node:
         answer, self._answer = self._answer, None
         return answer.value
 
-    def read(self, register, timeout: Optional[float] = None) -> int:
-        return self._call(core.READ, register, 0, timeout)
+    def read(self, register: Union[str, int], timeout: Optional[float] = None) -> int:
+        value = self._call(core.READ, register, 0, timeout)
+        assert value is not None
+        return value
 
-    def write(self, register, value: int, timeout: Optional[float] = None) -> None:
-        return self._call(core.WRITE, register, value, timeout)
+    def write(self, register: Union[str, int], value: int, timeout: Optional[float] = None) -> None:
+        self._call(core.WRITE, register, value, timeout)
 
-    def swap(self, register, value: int, timeout: Optional[float] = None) -> int:
-        return self._call(core.SWAP, register, value, timeout)
+    def swap(self, register: Union[str, int], value: int, timeout: Optional[float] = None) -> int:
+        old = self._call(core.SWAP, register, value, timeout)
+        assert old is not None
+        return old
 
     def wait(self, timeout: Optional[float] = None) -> Optional[int]:
         """The answer of the operation that goes on (None: a write is done)."""
@@ -210,7 +227,7 @@ class Node:
                 raise ValueError("no operation goes on")
             return self._wait(timeout)
 
-    def so_far(self):
+    def so_far(self) -> Tuple[int, bool]:
         """How many operations were called, in earlier runs too, and whether one of them goes on or has an answer to be fetched."""
         with self._lock:
             return self._called, self._running or self._answer is not None
@@ -234,15 +251,15 @@ class Node:
         self._log.close()
         self._process.close()
 
-    def __enter__(self):
+    def __enter__(self) -> "Node":
         return self
 
-    def __exit__(self, *_):
+    def __exit__(self, kind: Optional[Type[BaseException]], why: Optional[BaseException], trace: Optional[TracebackType]) -> None:
         self.close()
 
     # --- the receiver's side
 
-    def _serve(self):
+    def _serve(self) -> None:
         look_at, due = time.monotonic() + self._look_every, None
         while True:
             with self._lock:
@@ -250,7 +267,8 @@ class Node:
                     break
                 self._idle = self._process.pending == 0
                 ends = [t for t in (None if self._idle else look_at, due, self._held_till) if t is not None]
-            broken, messages = None, []
+            broken = ""
+            messages: List[Tuple[Optional[int], bytes]] = []
             try:
                 messages = self._road.receive(max(0.0, min(ends) - time.monotonic()) if ends else None)
             except Exception as why:
@@ -276,7 +294,7 @@ class Node:
                 except Exception as why:  # one of core.STOPS, or what nobody thought of: stop, before anything goes out
                     self._fail(str(why) or repr(why))
 
-    def _look(self):
+    def _look(self) -> None:
         """What the pacer does for a cluster: a tick where a link goes without an answer, with growing pauses."""
         tick = False
         for p, (first, silent) in self._beats.items():
@@ -292,7 +310,7 @@ class Node:
             self._process.tick()
             self._staged("tick", None, False)
 
-    def _heard(self, sender, message):
+    def _heard(self, sender: Optional[int], message: bytes) -> None:
         start, at = message[: self._width], self._width
         claimed = self._met_as.get(start)
         if claimed is None or sender not in (None, claimed):
@@ -313,7 +331,7 @@ class Node:
                 continue
             self._staged(log.take_text(sender, frame), reply, False)
 
-    def _met(self, sender, start):
+    def _met(self, sender: Optional[int], start: bytes) -> Optional[int]:
         """The sender of a message that starts otherwise than those before, or None where it is to be dropped."""
         mine = self._shape
         claimed = start[len(mine)] if len(start) == self._width else None

@@ -9,7 +9,7 @@ import ipaddress
 import os
 import random
 import time
-from typing import List, NamedTuple, Optional, Sequence, Tuple
+from typing import Any, Callable, Dict, List, NamedTuple, Optional, Sequence, Tuple
 
 import zmq
 from zmq.utils import z85
@@ -17,6 +17,11 @@ from zmq.utils import z85
 MOST_BYTES = 4096  # of a message
 MOST_QUEUED = 1000  # messages to or from one peer
 BATCH = 64  # messages taken at once
+
+
+# (type checkers know neither of them whole)
+_os: Any = os
+_of_z85: Callable[[bytes], bytes] = getattr(z85, "decode")
 
 
 class RoadFault(Exception):
@@ -35,7 +40,7 @@ def new_keys() -> Tuple[bytes, bytes]:
     return zmq.curve_keypair()
 
 
-def read_secret(path) -> bytes:
+def read_secret(path: str) -> bytes:
     """A secret key from a file that only its owner may read."""
     file = os.open(path, os.O_RDONLY)
     try:
@@ -59,8 +64,9 @@ def is_loopback(address: str) -> bool:
 class Complaints:
     """Says each kind of complaint the 1st, 2nd, 4th, 8th, .. time, so that no flood fills a disk."""
 
-    def __init__(self, say):
-        self.say, self.counts = say, {}
+    def __init__(self, say: Callable[[str], None]):
+        self.say = say
+        self.counts: Dict[str, int] = {}
 
     def __call__(self, kind: str, text: str) -> None:
         count = self.counts[kind] = self.counts.get(kind, 0) + 1
@@ -72,7 +78,8 @@ class Road:
     """`send` is called under the node's lock, `receive` by its receiver alone: no socket is in two threads at a time."""
 
     def __init__(self, me: int, addresses: Sequence[str], keys: Optional[Keys], complain: Complaints):
-        self.complain, self.by_key = complain, None
+        self.complain = complain
+        self.by_key: Optional[Dict[bytes, bytes]] = None
         if keys is None:
             for address in addresses:
                 if not is_loopback(address):
@@ -82,25 +89,25 @@ class Road:
                 raise RoadFault("each process needs a key of its own")
             if zmq.curve_public(keys.secret) != keys.known[me]:
                 raise RoadFault(f"the secret key isn't that of process {me}")
-            self.by_key = {z85.decode(key): b"%d" % p for p, key in enumerate(keys.known) if p != me}
+            self.by_key = {_of_z85(key): b"%d" % p for p, key in enumerate(keys.known) if p != me}
         self.context = zmq.Context()
         try:
             self._open(me, addresses, keys)
         except BaseException:
             self.context.destroy(0)
             raise
-        self.bell = os.eventfd(0, os.EFD_NONBLOCK | os.EFD_CLOEXEC)
+        self.bell = _os.eventfd(0, _os.EFD_NONBLOCK | _os.EFD_CLOEXEC)
         self.poller = zmq.Poller()
         for what in (self.pull, self.door, self.bell):
             self.poller.register(what, zmq.POLLIN)
         self.dropped = 0
 
-    def _open(self, me, addresses, keys):
+    def _open(self, me: int, addresses: Sequence[str], keys: Optional[Keys]) -> None:
         self.door = self.context.socket(zmq.REP)
         self.door.linger = 0
         self.door.bind("inproc://zeromq.zap.01")
         self.pull = self.context.socket(zmq.PULL)
-        self.push = {}
+        self.push: Dict[int, Any] = {}
         for socket in [self.pull] + [self.push.setdefault(p, self.context.socket(zmq.PUSH)) for p in range(len(addresses)) if p != me]:
             socket.linger = 0
             socket.set(zmq.MAXMSGSIZE, MOST_BYTES)
@@ -134,20 +141,20 @@ class Road:
         return None
 
     def wake(self) -> None:
-        os.eventfd_write(self.bell, 1)
+        _os.eventfd_write(self.bell, 1)
 
     def receive(self, timeout: Optional[float]) -> List[Tuple[Optional[int], bytes]]:
         """Some messages, each with the process that its key names (None without keys)."""
         ready = dict(self.poller.poll(None if timeout is None else max(0, int(timeout * 1000 + 0.999))))
         if self.bell in ready:
-            os.eventfd_read(self.bell)
+            _os.eventfd_read(self.bell)
         if self.door in ready:
             self._answer()
-        out = []
+        out: List[Tuple[Optional[int], bytes]] = []
         if self.pull in ready:
             try:
                 while len(out) < BATCH:
-                    frame = self.pull.recv(zmq.NOBLOCK, copy=False)
+                    frame: Any = self.pull.recv(zmq.NOBLOCK, copy=False)
                     if frame.more:
                         self.complain("parts", "a message of several parts is dropped")
                         while self.pull.rcvmore:
@@ -181,10 +188,12 @@ class Road:
 class LossyRoad:
     """A road for tests: each message is lost, sent twice, kept back behind the next one, or late, as the words of a seed say."""
 
-    def __init__(self, road: Road, seed: int, loss=0.0, duplicates=0.0, reorder=0.0, delay=0.0):
+    def __init__(self, road: Road, seed: int, loss: float = 0.0, duplicates: float = 0.0, reorder: float = 0.0, delay: float = 0.0):
         self.road, self.random = road, random.Random(seed)
         self.loss, self.duplicates, self.reorder, self.delay = loss, duplicates, reorder, delay
-        self.kept, self.late, self.count = {}, [], 0
+        self.kept: Dict[int, bytes] = {}
+        self.late: List[Tuple[float, int, int, bytes]] = []
+        self.count = 0
 
     def send(self, to: int, message: bytes) -> None:
         draw = self.random.random
@@ -198,7 +207,7 @@ class LossyRoad:
             if to in self.kept:
                 self._go(to, self.kept.pop(to))
 
-    def _go(self, to, message):
+    def _go(self, to: int, message: bytes) -> None:
         if self.delay:
             self.count += 1
             due = time.monotonic() + self.random.expovariate(1 / self.delay)
@@ -208,11 +217,11 @@ class LossyRoad:
         else:
             self.road.send(to, message)
 
-    def pump(self, now):
+    def pump(self, now: float) -> Optional[float]:
         while self.late and self.late[0][0] <= now:
             _, _, to, message = heapq.heappop(self.late)
             self.road.send(to, message)
         return self.late[0][0] if self.late else None
 
-    def __getattr__(self, name):
+    def __getattr__(self, name: str) -> Any:
         return getattr(self.road, name)

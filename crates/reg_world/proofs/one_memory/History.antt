@@ -130,7 +130,7 @@ module _ (registers p at : ℕ) (x : Node) (h : Past) (me : x.state.me ≡ p) (t
         insert_new _ _ x.state.held (ap (λ z. cast_of z op) q),
       ))
 
-  -- what is looked up stands behind all own casts so far
+  -- what is looked up stands after all own casts so far
   look_stands : (new : Called) → new.cast ≡ None → unsettled x.state ≡ 0 → Stands (x.deliveries ++ []) (h.calls ++ new ∷ []) (x.state.calls + 1 - 1) (x.state.delivered + 0) new None
   look_stands new none settled j e stamp at c =
       let front_is : take (x.state.delivered + 0) (x.deliveries ++ []) ≡ x.deliveries = ap (take (x.state.delivered + 0)) (append-nil x.deliveries) ∙ take_all (x.state.delivered + 0) x.deliveries (let z = R.count in omega (arith, z)) in

@@ -58,7 +58,7 @@ still_fits s s1 (Some y) running s' k pos d e f =
     let b = pos g in
     ((let z = a in omega (arith, k, z)), λ r q. ((f r q).1, (let z = a in omega (arith, k, z)), (let z = b in omega (arith, k, z))))
 
--- a reply of delivery is of what runs, behind what was delivered
+-- a reply of delivery is of what runs, after what was delivered
 reply_behind : (s : State) (cs : List Delivered) (running : Option Running) (r : Reply) → reply_of s cs running ≡ Some r → (running ≡ None → ⊥) × (s.delivered ≤ r.place)
 reply_behind s cs None r e = absurd (let bad : ⊥ = cc in bad)
 reply_behind s cs (Some (Own stamp op)) r e =

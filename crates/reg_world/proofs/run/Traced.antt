@@ -122,7 +122,7 @@ RepliesRight n registers w =
 abbrev pub cast_of : Stamp → Op → Delivered
 cast_of stamp op = record { stamp = stamp; op = op }
 
--- Where an answer stands: at its own cast, or anywhere if it is always Done; one from the copy behind all own casts called
+-- Where an answer stands: at its own cast, or anywhere if it is always Done; one from the copy after all own casts called
 -- before it, and before all called after it.
 abbrev pub Stands : List Delivered → List Called → ℕ → ℕ → Called → Option Stamp → Type 0
 Stands deliveries calls number place d (Some stamp) = ((m : Memory) → answer_of d.op m ≡ Done) ⊎ (slice_get deliveries place ≡ Some (cast_of stamp d.op))

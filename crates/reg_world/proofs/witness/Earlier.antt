@@ -1,4 +1,4 @@
--- Updates stand behind what was answered before their call: the run up to that answer has delivered no cast of theirs.
+-- Updates stand after what was answered before their call: the run up to that answer has delivered no cast of theirs.
 use Rattle.std.proofs.Common.{◌≡◌, ◌≢◌, ℕ, ◌+◌, ◌<◌, ◌≤◌, ◌⊎◌, inl, inr, List, length, refl, ap, sym, ◌∙◌, subst, arith, length-append}
 use Rattle.std.proofs.lemmas.Bool.{cases_order}
 use Rattle.reg_base.specs.declared.memory.OpId.{OpId}
@@ -100,7 +100,7 @@ module _ (start : Op → ℕ → Start) (n registers : ℕ) (laws : KeepsLaws st
         let kind : k.kind ≡ 2 = ap (λ (x : Key). x.kind) e in
         absurd (elim among.1 [ inl zero ↦ (let z : ⊥ = omega arith in z) | inr one ↦ (let o = one.1 in let z : ⊥ = omega (arith, o) in z) ])
 
-    -- what is called later has its key behind them
+    -- what is called later has its key after them
     later : (b : OpId) (t : ℕ) (op : Op) → IsCalled w.history b t op → length u.accepted ≤ t → IsNoCopy (R start n registers laws events) b → (l : Key) → HasKey (R start n registers laws events) b l → IsBehind (length u.order) l
     later b t op call late none l (Copied q i is e) = absurd (none q i is)
     later b t op call late none l (Delivered place c at is kept e) = elim (place_split u.order B.order.0 place c (subst (λ (xs : List First). IsAt xs place c) B.order.1 at)) [

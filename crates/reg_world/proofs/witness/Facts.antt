@@ -23,7 +23,7 @@ pub record RunFacts (n registers : ℕ) (w : Trace) : Type 0 where
   pub delivered : (k : ℕ) (c : Delivered) → slice_get (casts_of w.order) k ≡ Some c → (c.stamp.process < n) × ((number : ℕ) × IsCastAt w c.stamp.process number c)
   pub waiting : (p number : ℕ) (c : Delivered) → p < n → IsCastAt w p number c → IsWaiting w c → (k : ℕ) (o : Delivered) → slice_get (casts_of w.order) k ≡ Some o → Below o.stamp c.stamp
   pub own_casts : (p i j : ℕ) (a b : Delivered) → p < n → IsCastAt w p i a → IsCastAt w p j b → i < j → (a.stamp.process ≡ p) × (b.stamp.process ≡ p) × Below a.stamp b.stamp
-  -- an answer from a copy: behind the own casts called before it, and before those called after it
+  -- an answer from a copy: after the own casts called before it, and before those called after it
   pub earlier : (p : ℕ) (a : Answered) (d : Called) (j : ℕ) (c : Delivered) → p < n → In a (w.pasts p).answers → slice_get (w.pasts p).calls a.number ≡ Some d → d.cast ≡ None → IsCastAt w p j c → j < a.number → (k : ℕ) × (k < a.reply.place) × (slice_get (casts_of w.order) k ≡ Some c)
   pub later : (p : ℕ) (a : Answered) (d : Called) (j : ℕ) (c : Delivered) (k : ℕ) → p < n → In a (w.pasts p).answers → slice_get (w.pasts p).calls a.number ≡ Some d → d.cast ≡ None → IsCastAt w p j c → a.number < j → slice_get (casts_of w.order) k ≡ Some c → a.reply.place ≤ k
   -- every answer is the memory's at its place

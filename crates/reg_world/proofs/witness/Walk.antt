@@ -56,7 +56,7 @@ memory_at_head : (r : Run) (e : Keyed) (w : List Keyed) (c : ℕ) → Rising (e 
     → memory_of r e.key.place ≡ memory_of r c
 memory_at_head r e w c rising left fits = gap_to r c e.key.place (left.low 0 e refl) fits (no_update r e w c rising left)
 
--- the updates from a place on are left behind the head, if the head is none of them
+-- the updates from a place on are left after the head, if the head is none of them
 left_behind : (r : Run) (e : Keyed) (w : List Keyed) (c n : ℕ) → IsLeft r (e ∷ w) c → c ≤ n
     → ((j : ℕ) → n ≤ j → e.key ≡ key j 1 0 0 → ⊥)
     → (j : ℕ) (d : First) → n ≤ j → IsAt r.order j d → IsUpdate d.op → (i : ℕ) × (f : Keyed) × IsAt w i f × (f.key ≡ key j 1 0 0)

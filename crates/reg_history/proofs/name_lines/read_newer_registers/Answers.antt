@@ -15,7 +15,7 @@ use Rattle.reg_history.proofs.PassedOn.{nothing_read}
 use Rattle.reg_history.proofs.Stopping.{count_fails, failure_as, failure_passed_on, fails_as, fails_behind, not_failed, on_behind, zero_fails}
 use Rattle.reg_history.proofs.name_lines.read_newer_registers.Goals as goal
 
--- the names behind their count
+-- the names after their count
 registered : (r : Result (List (List ℕ)) ReadFault) (old now left : List (List ℕ)) (count : ℕ) → old ≡ (codes "registers " ++ decimal count) ∷ now → count ≤ MOST_REGISTERS
     → IfOk r (λ n. (now ≡ n ++ left) × (length n ≡ count) × (names_fault n ≡ None)) → IfOk r (λ n. (old ≡ registers_lines Two n left) × (names_fault n ≡ None) × (length n ≤ MOST_REGISTERS))
 registered (Ok n) old now left count e few h = (counted_names old now left n count e h.0 h.1, h.2, omega (arith, few, h.1))

@@ -18,7 +18,7 @@ use Rattle.reg_history.proofs.Stopping.{count_fails, failure_passed_on, fails_as
 use Rattle.reg_history.proofs.PassedOn.{memory_passed_on, nothing_read}
 use Rattle.reg_history.proofs.parts.read_history.Goals as goal
 
--- the block behind a count
+-- the block after a count
 block : (version : Version) (names : List (List ℕ)) (shape s : Extent) (old mid rest : List (List ℕ)) (n : ℕ) (ys : List Entry) → s ≡ shape
     → ((k : ℕ) (r : List (List ℕ)) → k ≤ MOST_ENTRIES → old ≡ (codes "history " ++ decimal k) ∷ r → (n ≡ k) × (mid ≡ r))
     → IsCounted (codes "history ") (entry_text names) (Follows version names shape) MOST_ENTRIES old rest ys → IsBlock (entry_text names) (Follows version names s) n mid rest ys

@@ -34,7 +34,7 @@ no_tail (Some ps) e = none_first e
 no_points : {A : Type 0} (digits : List ℕ) → codes "end" ≡ codes "points " ++ digits → A
 no_points digits e = let same : get_or (codes "end") 0 0 ≡ get_or (codes "points " ++ digits) 0 0 = ap (λ l. get_or l 0 0) e in absurd (omega (arith, same))
 
--- behind the last line stand no points
+-- after the last line stand no points
 no_list : (left : List (List ℕ)) (points : Option (List Point)) → codes "end" ∷ left ≡ tail_lines points → None ≡ points
 no_list left None e = refl
 no_list left (Some ps) e = no_points (decimal (length ps)) (first_line e)
@@ -44,7 +44,7 @@ no_line : (left : List (List ℕ)) (points : Option (List Point)) → codes "end
 no_line left None e = other_lines e
 no_line left (Some ps) e = no_points (decimal (length ps)) (first_line e)
 
--- the points behind their count
+-- the points after their count
 block : (version : Version) (line : List ℕ) (left : List (List ℕ)) (count : ℕ) (ps : List Point) → PointsFit version (Some ps) → line ∷ left ≡ tail_lines (Some ps) → count ≡ length ps
     → IsBlock point_text (λ _ p. PointFits version p) count left (codes "end" ∷ []) ps
 block version line left count ps fit e same = record { lines = other_lines e; fit = fit.0; count = sym same }

@@ -8,7 +8,7 @@ use Rattle.reg_trace.specs.Moments.{Fact}
 use Rattle.reg_trace.proofs.figures.arrows.Goals as goal
 use Rattle.reg_trace.proofs.figures.arrows.Goals.{in-Take+in-Some+in_ok-push, in-Take+in_default-putter_of, in_default}
 
--- behind one more moment
+-- after one more moment
 one_more : (all : List Fact) (k : ℕ) (f : Fact) (old new added : List Arrow) → k < length all → f ≡ get_or all k f → arrow_of all k f.event ≡ added → new ≡ old ++ added → old ++ arrows_in all k (drop k all) ≡ arrows_of all → new ++ arrows_in all (k + 1) (drop (k + 1) all) ≡ arrows_of all
 one_more all k f old new added l is own grown h =
     let rest : List Arrow = arrows_in all (k + 1) (drop (k + 1) all) in

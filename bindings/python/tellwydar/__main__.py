@@ -1,0 +1,20 @@
+"""python3 -m tellwydar replay|check|play|play-fair < FILE: the commands of `awreg`, from the library."""
+import sys
+
+from . import check, play, play_fair, replay
+
+COMMANDS = {"replay": replay, "check": check, "play": play, "play-fair": play_fair}
+
+
+def main(words: list[str]) -> int:
+    if len(words) != 1 or words[0] not in COMMANDS:
+        print(__doc__, file=sys.stderr)
+        return 2
+    told = COMMANDS[words[0]](sys.stdin.buffer.read())
+    sys.stdout.buffer.write(told.answer)
+    sys.stderr.buffer.write(told.line)
+    return told.status
+
+
+if __name__ == "__main__":
+    sys.exit(main(sys.argv[1:]))
