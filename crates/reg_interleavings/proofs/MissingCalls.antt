@@ -10,7 +10,6 @@ use Rattle.reg_base.specs.declared.memory.Op.{Op}
 use Rattle.reg_base.specs.declared.memory.OpId.{OpId}
 use Rattle.reg_base.specs.declared.stamps.Stamp.{Stamp}
 use Rattle.reg_base.specs.Memory.{register_of}
-use Rattle.reg_frames.specs.declared.bodies.Frame.{Frame}
 use Rattle.reg_front.specs.declared.starts.Start.{Start}
 use Rattle.reg_front.specs.Fronts.{KeepsLaws}
 use Rattle.reg_process.specs.declared.events.Event.{Event}
@@ -55,12 +54,6 @@ Calls e m = (p : ℕ) → call_at p e ≡ cond (m.0 == p) (ops_in m.1) []
 calls_none : (q p : ℕ) → [] ≡ cond {A = List Op} (q == p) [] []
 calls_none q p = cond_both (q == p) [] [] (λ l. [] ≡ l) (λ e. refl) (λ e. refl)
 
-taken : (from to number : ℕ) (o : Option Frame) (m : ℕ × Step) → take_step from to o ≡ Some m → Calls (Take from to number) m
-taken from to number None m e = absurd (none-some m e)
-taken from to number (Some frame) m e =
-    let same : (to, TakeStep from frame) ≡ m = same_Some (to, TakeStep from frame) m e in
-    subst (Calls (Take from to number)) same (calls_none to)
-
 -- the step of a call calls its operation, and no other step calls any
 step_calls : (n registers : ℕ) (w : Nodes) (e : Event) (m : ℕ × Step) → step_of n registers w e ≡ Some m → Calls e m
 step_calls n registers w (Call q op) m =
@@ -69,7 +62,10 @@ step_calls n registers w (Call q op) m =
     (λ b e. absurd (none-some m e))
 step_calls n registers w (Take from to number) m =
     cond_both (nat_lt from n && (nat_lt to n && not (from == to))) (take_step from to (slice_get ((w from).wire to) number)) None (λ o. o ≡ Some m → Calls (Take from to number) m)
-    (λ b e. taken from to number (slice_get ((w from).wire to) number) m e)
+    (λ b. elim (slice_get ((w from).wire to) number) as (λ o. take_step from to o ≡ Some m → Calls (Take from to number) m) [
+      | None ↦ λ e. absurd (none-some m e)
+      | Some frame ↦ λ e. let same : (to, TakeStep from frame) ≡ m = same_Some (to, TakeStep from frame) m e in subst (Calls (Take from to number)) same (calls_none to)
+    ])
     (λ b e. absurd (none-some m e))
 step_calls n registers w (Tick q) m =
     cond_both (nat_lt q n) (Some (q, TickStep)) None (λ o. o ≡ Some m → Calls (Tick q) m)
