@@ -37,7 +37,7 @@ abbrev turn_events : ℕ → ℕ
 turn_events n = 1 + 3 * (n * (n - 1))
 
 -- a run that made these turns, and is at rest
-record Made (start : Op → ℕ → Start) (scripts : List (List Op)) (registers : ℕ) (turns : List ℕ) (s : Stage) : Type 0 where
+record Turned (start : Op → ℕ → Start) (scripts : List (List Op)) (registers : ℕ) (turns : List ℕ) (s : Stage) : Type 0 where
   events : List Event
   accepted : (whole start (length scripts) registers events).accepted ≡ events
   called : (q : ℕ) → q < length scripts → calls_of q events ≡ take (slice_index s.next q) (script_of scripts q)
@@ -55,12 +55,12 @@ module _ (start : Op → ℕ → Start) (scripts : List (List Op)) (registers : 
   abbrev n : ℕ
   n = length scripts
 
-  abbrev run_of : List Event → World
-  run_of events = whole start n registers events
+  abbrev run_by : List Event → World
+  run_by events = whole start n registers events
 
   -- nothing happened
-  first_made : Made start scripts registers [] (record { next = replicate n 0; memory = replicate registers 0; told = [] })
-  first_made = record {
+  first_turned : Turned start scripts registers [] (record { next = replicate n 0; memory = replicate registers 0; told = [] })
+  first_turned = record {
     events = [];
     accepted = refl;
     called = λ q l. take_none (script_of scripts q) (slice_index (replicate n 0) q) (replicate_at n q 0);
@@ -72,7 +72,7 @@ module _ (start : Op → ℕ → Start) (scripts : List (List Op)) (registers : 
   }
 
   -- a turn more
-  module _ (turns : List ℕ) (s : Stage) (leads : Leads scripts registers turns s) (p : ℕ) (op : Op) (at : IsAt (script_of scripts p) (slice_index s.next p) op) (old : Made start scripts registers turns s) (room : (length turns + 1) * turn_events n ≤ MOST_EVENTS) where
+  module _ (turns : List ℕ) (s : Stage) (leads : Leads scripts registers turns s) (p : ℕ) (op : Op) (at : IsAt (script_of scripts p) (slice_index s.next p) op) (old : Turned start scripts registers turns s) (room : (length turns + 1) * turn_events n ≤ MOST_EVENTS) where
     l : p < n
     l = has_script scripts p (slice_index s.next p) op at
 
@@ -112,7 +112,7 @@ module _ (start : Op → ℕ → Start) (scripts : List (List Op)) (registers : 
     next_other : (q : ℕ) → (q ≡ p → ⊥) → slice_index (stage_after p op s).next q ≡ slice_index s.next q
     next_other q ne = index_other s.next p q (slice_index s.next p + 1) ne
 
-    F : Follows n p (run_of (old.events ++ Call p op ∷ [])) (run_of all)
+    F : Follows n p (run_by (old.events ++ Call p op ∷ [])) (run_by all)
     F = quiet_more start n registers laws old.events p op M R
 
     calls_more : (q : ℕ) → q < n → calls_of q all ≡ take (slice_index (stage_after p op s).next q) (script_of scripts q)
@@ -122,14 +122,14 @@ module _ (start : Op → ℕ → Start) (scripts : List (List Op)) (registers : 
       | inr ne ↦ other_calls p q op old.events R.more (take (slice_index s.next q) (script_of scripts q)) quiet (old.called q lq) ne ∙ ap (λ k. take k (script_of scripts q)) (sym (next_other q ne))
     ]
 
-    counts_more : (q : ℕ) → q < n → ((run_of all).nodes q).state.calls ≡ slice_index (stage_after p op s).next q
+    counts_more : (q : ℕ) → q < n → ((run_by all).nodes q).state.calls ≡ slice_index (stage_after p op s).next q
     counts_more q lq = elim (cases_eq q p) [
-      | inl e ↦ subst (λ z. ((run_of all).nodes z).state.calls ≡ slice_index (stage_after p op s).next z) (sym e)
+      | inl e ↦ subst (λ z. ((run_by all).nodes z).state.calls ≡ slice_index (stage_after p op s).next z) (sym e)
           (F.calls p ∙ own_count start n registers laws old.events p op M ∙ ap (λ k. k + 1) (old.counts p l) ∙ sym next_own)
       | inr ne ↦ F.calls q ∙ other_count start n registers laws old.events p op M q ne ∙ old.counts q lq ∙ sym (next_other q ne)
     ]
 
-    accepted_more : (run_of all).accepted ≡ all
+    accepted_more : (run_by all).accepted ≡ all
     accepted_more = R.accepted ∙ ap (λ es. es ++ R.more) (called_accepted start n registers laws old.events p op M ∙ ap (λ es. es ++ Call p op ∷ []) old.accepted)
 
     few_more : length all ≤ length (turns ++ p ∷ []) * turn_events n
@@ -142,20 +142,20 @@ module _ (start : Op → ℕ → Start) (scripts : List (List Op)) (registers : 
         let g = grows in
         omega (arith, a, b, more, few, e, g)
 
-    told_more : outcome_of n (run_of all).history ≡ (stage_after p op s).told
+    told_more : outcome_of n (run_by all).history ≡ (stage_after p op s).told
     told_more =
-        let h = (run_of old.events).history in
-        let id = op_id p ((run_of old.events).nodes p).state.calls in
+        let h = (run_by old.events).history in
+        let id = op_id p ((run_by old.events).nodes p).state.calls in
         let T = told start n registers laws old.events p op M R in
         let right = turn_right start n registers laws old.events p op M R s.memory old.memory in
         ap (outcome_of n) T.history
-        ∙ turn_told n h (length (run_of old.events).accepted) T.later id op T.answer l
+        ∙ turn_told n h (length (run_by old.events).accepted) T.later id op T.answer l
         ∙ ap (λ l. told_after id T.answer l) old.told
         ∙ ap (λ a. told_after id a s.told) right.0
         ∙ ap (λ k. told_after (op_id p k) (answer_of op s.memory) s.told) (old.counts p l)
 
-    turn_made : Made start scripts registers (turns ++ p ∷ []) (stage_after p op s)
-    turn_made = record {
+    turned_more : Turned start scripts registers (turns ++ p ∷ []) (stage_after p op s)
+    turned_more = record {
       events = all;
       accepted = accepted_more;
       called = calls_more;
@@ -166,17 +166,17 @@ module _ (start : Op → ℕ → Start) (scripts : List (List Op)) (registers : 
       few = few_more;
     }
 
-  all_made : (turns : List ℕ) (s : Stage) → Leads scripts registers turns s → length turns * turn_events n ≤ MOST_EVENTS → Made start scripts registers turns s
-  all_made turns s Nothing room = first_made
-  all_made turns s (Turn {turns = before} {s = from} p op leads at) room =
+  all_turned : (turns : List ℕ) (s : Stage) → Leads scripts registers turns s → length turns * turn_events n ≤ MOST_EVENTS → Turned start scripts registers turns s
+  all_turned turns s Nothing room = first_turned
+  all_turned turns s (Turn {turns = before} {s = from} p op leads at) room =
       let e : length (before ++ p ∷ []) * turn_events n ≡ (length before + 1) * turn_events n = ap (λ k. k * turn_events n) (length-append before (p ∷ [])) in
       let more = ap (λ k. k * turn_events n) (let e : length before + 1 ≡ suc (length before) = omega arith in e) ∙ suc-mul (length before) (turn_events n) in
-      turn_made before from leads p op at (all_made before from leads (omega (arith, room, e, more))) (omega (arith, room, e))
+      turned_more before from leads p op at (all_turned before from leads (omega (arith, room, e, more))) (omega (arith, room, e))
 
 pub each_has_a_run : (start : Op → ℕ → Start) (scripts : List (List Op)) (registers : ℕ) (i : Interleaving) → KeepsLaws start → ArePlayable scripts registers → HasRoom scripts → IsInterleaving scripts registers i → IsOutcome start scripts registers i.told
 each_has_a_run start scripts registers i laws playable room is =
     let count = ap (λ k. k * turn_events (length scripts)) (turns_of_all scripts registers i.turns is.last is.leads is.used_up) in
-    let run = all_made start scripts registers laws playable i.turns is.last is.leads (omega (arith, room, count)) in
+    let run = all_turned start scripts registers laws playable i.turns is.last is.leads (omega (arith, room, count)) in
     let Q : IsQuiescent (length scripts) (whole start (length scripts) registers run.events).nodes = rests start (length scripts) registers laws run.events run.none in (
       run.events,
       record {

@@ -17,6 +17,7 @@ use Rattle.reg_process.specs.declared.steps.Reply.{Reply}
 use Rattle.reg_process.specs.declared.steps.Step.{Step}
 use Rattle.reg_process.specs.declared.steps.Step.TheVariants.{Call as CallStep}
 use Rattle.reg_process.specs.Process.{State, Outcome, step, unsettled}
+use Rattle.reg_checkers.specs.declared.entries.Entry.{Entry}
 use Rattle.reg_checkers.specs.declared.entries.Entry.TheVariants.{Called, Answered}
 use Rattle.reg_world.specs.Laws.{AllAcknowledged, IsQuiescent}
 use Rattle.reg_world.specs.Nodes.{Node, after_step}
@@ -127,16 +128,20 @@ module _ (start : Op → ℕ → Start) (n registers : ℕ) (laws : KeepsLaws st
     abbrev id : OpId
     id = op_id p S.calls
 
+    -- the history with the call
+    abbrev asked : List Entry
+    asked = w.history ++ Called (length w.accepted) id op ∷ []
+
     same_id : (k : ℕ) → k ≡ S.calls + 1 → op_id p (k - 1) ≡ id
     same_id k e = ap (op_id p) (omega (arith, e))
 
     running_is : (u.nodes p).state.running ≡ r.0.running
     running_is = ap (λ (x : Node). x.state.running) node_own
 
-    history_is : u.history ≡ (w.history ++ Called (length w.accepted) id op ∷ []) ++ answers_in (length w.accepted) (op_id p (r.0.calls - 1)) r.1.reply
+    history_is : u.history ≡ asked ++ answers_in (length w.accepted) (op_id p (r.0.calls - 1)) r.1.reply
     history_is = ap (λ (z : World). z.history) called_is
 
-    joined : (later : ℕ) (a : Answer) → (w.history ++ Called (length w.accepted) id op ∷ []) ++ Answered later id a ∷ [] ≡ w.history ++ Called (length w.accepted) id op ∷ Answered later id a ∷ []
+    joined : (later : ℕ) (a : Answer) → asked ++ Answered later id a ∷ [] ≡ w.history ++ Called (length w.accepted) id op ∷ Answered later id a ∷ []
     joined later a = append_assoc w.history (Called (length w.accepted) id op ∷ []) (Answered later id a ∷ [])
 
     -- the operation waits, and is answered on the way to rest
@@ -146,8 +151,8 @@ module _ (start : Op → ℕ → Start) (n registers : ℕ) (laws : KeepsLaws st
       later = T.at;
       answer = T.answer;
       history = T.history
-          ∙ ap (λ h. h ++ Answered T.at (op_id p ((u.nodes p).state.calls - 1)) T.answer ∷ []) (history_is ∙ ap (λ o. (w.history ++ Called (length w.accepted) id op ∷ []) ++ answers_in (length w.accepted) (op_id p (r.0.calls - 1)) o) silent ∙ append-nil (w.history ++ Called (length w.accepted) id op ∷ []))
-          ∙ ap (λ i. (w.history ++ Called (length w.accepted) id op ∷ []) ++ Answered T.at i T.answer ∷ []) (same_id (u.nodes p).state.calls own_count)
+          ∙ ap (λ h. h ++ Answered T.at (op_id p ((u.nodes p).state.calls - 1)) T.answer ∷ []) (history_is ∙ ap (λ o. asked ++ answers_in (length w.accepted) (op_id p (r.0.calls - 1)) o) silent ∙ append-nil asked)
+          ∙ ap (λ i. asked ++ Answered T.at i T.answer ∷ []) (same_id (u.nodes p).state.calls own_count)
           ∙ joined T.at T.answer;
       now = λ y e. absurd (none-some y (sym silent ∙ e));
     }
@@ -158,8 +163,8 @@ module _ (start : Op → ℕ → Start) (n registers : ℕ) (laws : KeepsLaws st
       later = length w.accepted;
       answer = y.answer;
       history = U.history ∙ history_is
-          ∙ ap (λ o. (w.history ++ Called (length w.accepted) id op ∷ []) ++ answers_in (length w.accepted) (op_id p (r.0.calls - 1)) o) says
-          ∙ ap (λ i. (w.history ++ Called (length w.accepted) id op ∷ []) ++ Answered (length w.accepted) i y.answer ∷ []) (same_id r.0.calls B.calls)
+          ∙ ap (λ o. asked ++ answers_in (length w.accepted) (op_id p (r.0.calls - 1)) o) says
+          ∙ ap (λ i. asked ++ Answered (length w.accepted) i y.answer ∷ []) (same_id r.0.calls B.calls)
           ∙ joined (length w.accepted) y.answer;
       now = λ z e. ap (λ (x : Reply). x.answer) (same_Some y z (sym says ∙ e));
     }
