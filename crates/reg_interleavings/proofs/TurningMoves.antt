@@ -1,5 +1,5 @@
--- What events that call nothing do to a run in which one process alone is busy: no cast is made, and that process may be
--- answered.
+-- What events that call nothing do to a run in which one process alone is busy: no cast is made, and that process
+-- may be answered.
 use Rattle.std.proofs.Common.{◌≡◌, ◌⊎◌, ℕ, ◌-◌, ◌<◌, List, [], ◌∷◌, ◌++◌, length, map, Option, Some, None, refl, sym, ap, ◌∙◌, subst, inl, inr, append_assoc}
 use Rattle.std.specs.Prelude.{◌==◌, ◌&&◌, not, nat_lt, slice_get}
 use Rattle.std.proofs.lemmas.Bool.{cases_eq, cond_both}
