@@ -9,7 +9,8 @@ use Rattle.reg_world.specs.World.{whole}
 use Rattle.reg_workload.specs.Plays.{calls_of}
 use Rattle.reg_outcomes.specs.declared.outcomes.ToldValue.{ToldValue}
 use Rattle.reg_outcomes.specs.Told.{outcome_of}
-use Rattle.reg_interleavings.specs.Interleavings.{script_of}
+use Rattle.reg_checkers.specs.History.{IsAt}
+use Rattle.reg_interleavings.specs.Interleavings.{Interleaving, script_of}
 
 -- Each of these events is accepted, by them each process calls the operations of its script, in order and no other, and in the
 -- end nobody is busy. There is a script for each process.
@@ -25,6 +26,11 @@ told_by start scripts registers events = outcome_of (length scripts) (whole star
 -- some run that uses the scripts up has this outcome
 abbrev pub IsOutcome : (Op → ℕ → Start) → List (List Op) → ℕ → List ToldValue → Type 0
 IsOutcome start scripts registers told = (events : List Event) × UsesUp start scripts registers events × (told_by start scripts registers events ≡ told)
+
+-- These interleavings tell all outcomes of runs that use the scripts up, and no other.
+pub record HaveAllOutcomes (start : Op → ℕ → Start) (scripts : List (List Op)) (registers : ℕ) (found : List Interleaving) : Type 0 where
+  pub each : (k : ℕ) (i : Interleaving) → IsAt found k i → IsOutcome start scripts registers i.told
+  pub all : (told : List ToldValue) → IsOutcome start scripts registers told → (k : ℕ) × (i : Interleaving) × IsAt found k i × (i.told ≡ told)
 
 -- A run has room to call the operations one after another, and to come to rest after each: by a call, and by three events for
 -- each frame that it makes needed, which is a cast or an acknowledgement from each process to each other.

@@ -1,13 +1,27 @@
-//! Laws of interleavings, for every lawful front end. Each is a function that does nothing: its contract is the law.
+//! Laws of interleavings and runs, for every lawful front end. Each is a function that does nothing: its contract is
+//! the law.
 ghost use Rattle.std.specs.Prelude.{ℕ, List};
 ghost use Rattle.reg_base.specs.declared.memory.Op.{Op};
 ghost use Rattle.reg_front.specs.declared.starts.Start.{Start};
 ghost use Rattle.reg_front.specs.Fronts.{KeepsLaws};
 ghost use Rattle.reg_outcomes.specs.declared.outcomes.ToldValue.{ToldValue as AnyValue};
-ghost use Rattle.reg_interleavings.specs.Interleavings.{IsInterleaving};
-ghost use Rattle.reg_interleavings.specs.Finishing.{IsOutcome};
+ghost use Rattle.reg_interleavings.specs.Finishing.{HasRoom, HaveAllOutcomes, IsOutcome};
+ghost use Rattle.reg_interleavings.specs.Interleavings.{AreAll, ArePlayable, Interleaving, IsInterleaving};
 
 /// No outcome is missing among the interleavings: whatever a run that uses the scripts up tells, some interleaving tells.
 pub fn none_missing()
     ensures { (start : Op → ℕ → Start) (scripts : List (List Op)) (registers : ℕ) (told : List AnyValue) → KeepsLaws start → IsOutcome start scripts registers told → (turns : List ℕ) × IsInterleaving scripts registers (record { turns = turns; told = told }) }
+{}
+
+/// Each interleaving has a run: whatever the operations of the scripts are told in it, they are told the same in some
+/// run that uses the scripts up, under any lawful front end, if a run has room for its events.
+pub fn each_has_a_run()
+    ensures { (start : Op → ℕ → Start) (scripts : List (List Op)) (registers : ℕ) (i : Interleaving) → KeepsLaws start → ArePlayable scripts registers → HasRoom scripts → IsInterleaving scripts registers i → IsOutcome start scripts registers i.told }
+{}
+
+/// So the outcomes of the interleavings are those of the runs, whatever is lost, repeated or reordered, and by its outcomes
+/// no lawful front end is told from another.
+pub fn alike()
+    ensures all { (start : Op → ℕ → Start) (scripts : List (List Op)) (registers : ℕ) (found : List Interleaving) → KeepsLaws start → ArePlayable scripts registers → HasRoom scripts → AreAll scripts registers found → HaveAllOutcomes start scripts registers found }
+    ensures alike { (one other : Op → ℕ → Start) (scripts : List (List Op)) (registers : ℕ) (told : List AnyValue) → KeepsLaws one → KeepsLaws other → ArePlayable scripts registers → HasRoom scripts → IsOutcome one scripts registers told → IsOutcome other scripts registers told }
 {}
