@@ -1,7 +1,9 @@
 //! Shapes, clocks, registers and names, as worked by hand.
 use reg_base::limits::{MOST_PROCESSES, MOST_REGISTERS};
-use reg_base::{Answer, Clock, ClockFull, Names, NamesFault, Op, Registers, Shape, ShapeFault};
-use std::alloc::{AllocError, Global};
+use reg_base::{
+    Answer, Clock, ClockFull, Names, NamesFault, Op, OutOfMemory, Registers, Shape, ShapeFault,
+};
+use std::alloc::Global;
 use std::process::Abort;
 
 /// How many processes and registers are asked for, and why there is no such shape.
@@ -110,7 +112,7 @@ const NAMES: [(&[&str], Option<NamesFault>); 6] = [
     (&["x", "abcdefghijklmnop"], None),
 ];
 
-fn add_all(names: &mut Vec<String>, alloc: Global, words: &[&str]) -> Result<(), AllocError> {
+fn add_all(names: &mut Vec<String>, alloc: Global, words: &[&str]) -> Result<(), OutOfMemory> {
     for word in words {
         names.push(String::from_str(alloc, word)?)?;
     }
@@ -127,7 +129,7 @@ fn names_and_their_faults(rt: HostRuntime) {
 }
 
 /// Adds names of three letters, all different, as long as there are no more than 17,576.
-fn add_many(names: &mut Vec<String>, alloc: Global, count: u32) -> Result<(), AllocError> {
+fn add_many(names: &mut Vec<String>, alloc: Global, count: u32) -> Result<(), OutOfMemory> {
     for number in 0..count {
         let mut name = String::new(alloc);
         for place in [number / 676, number / 26, number] {
