@@ -5,6 +5,7 @@ mod closes;
 mod closing;
 mod crews;
 mod gates;
+mod holds;
 mod limits;
 mod looks;
 mod pacing;

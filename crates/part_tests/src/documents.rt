@@ -1,13 +1,11 @@
 //! Workloads that are read, and that are refused.
-use crate::bases::push_name;
 use crate::demands::demand;
-use reg_base::{Op, Shape};
 use reg_front::Front;
 use reg_inputs::{Key, Workload, WorkloadFault};
 use std::alloc::{AllocError, Global};
 use std::process::Abort;
 
-pub(crate) const SMALL: &str =
+const SMALL: &str =
     "front = \"local-write\"\nregisters = [\"x\"]\nscripts = [[\"write x 5\", \"read x\"], [\"read x\"]]\n";
 
 const MOST: &str =
@@ -43,13 +41,10 @@ const READ: [(&str, &str); 3] = [
     ),
 ];
 
-fn push_names(text: &mut String, work: &Workload) -> Result<(), AllocError> {
+fn push_head(text: &mut String, work: &Workload) -> Result<(), AllocError> {
     let (first, second) = (work.names.name(0), work.names.name(1));
     let count = work.names.count();
-    write!(text, "{:?}, {first:?} {second:?} of {count}, ", work.front)
-}
-
-fn push_numbers(text: &mut String, work: &Workload) -> Result<(), AllocError> {
+    write!(text, "{:?}, {first:?} {second:?} of {count}, ", work.front)?;
     write!(
         text,
         "seed {}, loss {}, repeat {}, budget {}\n",
@@ -57,23 +52,13 @@ fn push_numbers(text: &mut String, work: &Workload) -> Result<(), AllocError> {
     )
 }
 
-fn push_scripts(text: &mut String, scripts: &[Vec<Op>]) -> Result<(), AllocError> {
-    for script in scripts {
+fn push_work(text: &mut String, work: &Workload) -> Result<(), AllocError> {
+    push_head(text, work)?;
+    for script in &work.scripts {
         write!(text, "{:?}\n", script.as_slice())?;
     }
-    Ok(())
-}
-
-fn push_shape(text: &mut String, shape: Shape) -> Result<(), AllocError> {
-    let (processes, registers) = (shape.processes(), shape.registers());
+    let (processes, registers) = (work.shape.processes(), work.shape.registers());
     write!(text, "{processes} processes, {registers} registers\n")
-}
-
-fn push_work(text: &mut String, work: &Workload) -> Result<(), AllocError> {
-    push_names(text, work)?;
-    push_numbers(text, work)?;
-    push_scripts(text, work.scripts.as_slice())?;
-    push_shape(text, work.shape)
 }
 
 fn is_told(alloc: Global, work: &Workload, told: &str) -> bool {
@@ -96,11 +81,6 @@ fn documents_are_read(rt: HostRuntime) {
     }
 }
 
-fn refused(rt: &(impl AllocGlobal + Abort), text: &str, fault: WorkloadFault) {
-    let found = Workload::from_toml(rt.alloc(), text).err();
-    demand(rt, text, found == Some(fault));
-}
-
 /// A part of a document, and the fault.
 type Refused = (&'static str, WorkloadFault);
 
@@ -108,7 +88,8 @@ type Refused = (&'static str, WorkloadFault);
 fn all_refused(rt: &(impl AllocGlobal + Abort), before: &str, rows: &[Refused], behind: &str) {
     for (part, fault) in rows {
         let text = format!(in rt.alloc(); "{before}{part}{behind}").expect(rt, "memory");
-        refused(rt, text.as_str(), *fault);
+        let found = Workload::from_toml(rt.alloc(), text.as_str()).err();
+        demand(rt, part, found == Some(*fault));
     }
 }
 
@@ -146,11 +127,6 @@ const DOCUMENTS: [Refused; 10] = [
     ("front = \"linear\"\nloss = 101", missing!(Key::Registers)),
 ];
 
-#[test]
-fn documents_are_refused(rt: HostRuntime) {
-    all_refused(&rt, "", DOCUMENTS.as_slice(), "");
-}
-
 const REGISTERS: [Refused; 11] = [
     ("\"x\"", kind!(Key::Registers)),
     ("[\"x\", 1]", kind!(Key::Registers)),
@@ -164,16 +140,6 @@ const REGISTERS: [Refused; 11] = [
     ("[\"abcdefghijklmnop\"]", missing!(Key::Scripts)),
     ("[\"x\"]", missing!(Key::Scripts)),
 ];
-
-#[test]
-fn registers_are_refused(rt: HostRuntime) {
-    all_refused(
-        &rt,
-        "front = \"linear\"\nregisters = ",
-        REGISTERS.as_slice(),
-        "\n",
-    );
-}
 
 const SCRIPTS: [Refused; 12] = [
     ("[]", range!(Key::Scripts)),
@@ -226,16 +192,6 @@ const SCRIPTS: [Refused; 12] = [
     ),
 ];
 
-#[test]
-fn scripts_are_refused(rt: HostRuntime) {
-    all_refused(
-        &rt,
-        "front = \"linear\"\nregisters = [\"x\"]\nscripts = ",
-        SCRIPTS.as_slice(),
-        "\n",
-    );
-}
-
 const NUMBERS: [Refused; 15] = [
     ("seed = -1", range!(Key::Seed)),
     ("seed = 1.0", kind!(Key::Seed)),
@@ -257,99 +213,25 @@ const NUMBERS: [Refused; 15] = [
     ("budget = 0\nrepeat = 101", range!(Key::Repeat)),
 ];
 
-#[test]
-fn numbers_are_refused(rt: HostRuntime) {
-    all_refused(
-        &rt,
-        "front = \"linear\"\nregisters = [\"x\"]\nscripts = [[\"none\"]]\n",
-        NUMBERS.as_slice(),
+/// What stands before each kind of parts, the parts, and what stands behind each.
+const REFUSED: [(&str, &[Refused], &str); 4] = [
+    ("", &DOCUMENTS, ""),
+    ("front = \"linear\"\nregisters = ", &REGISTERS, "\n"),
+    (
+        "front = \"linear\"\nregisters = [\"x\"]\nscripts = ",
+        &SCRIPTS,
         "\n",
-    );
-}
-
-/// A document with one script of so many reads.
-fn long(rt: &(impl AllocGlobal + Abort), count: u32) -> Result<String, AllocError> {
-    let mut text = String::from_str(
-        rt.alloc(),
-        "front = \"linear\"\nregisters = [\"x\"]\nscripts = [[",
-    )?;
-    for _ in 0..count {
-        text.push_str("\"read x\",")?;
-    }
-    text.push_str("]]\n")?;
-    Ok(text)
-}
-
-#[test]
-fn a_script_is_not_too_long(rt: HostRuntime) {
-    let most = long(&rt, 65_535).expect(&rt, "memory");
-    let work = Workload::from_toml(rt.alloc(), most.as_str()).expect(&rt, "a workload");
-    assert!(rt; work.scripts[0].len() == 65_535);
-    let more = long(&rt, 65_536).expect(&rt, "memory");
-    refused(&rt, more.as_str(), range!(Key::Scripts));
-}
-
-/// A name of four letters in quotes, another for each number up to 17,575.
-fn push_quoted(text: &mut String, number: u32) -> Result<(), AllocError> {
-    text.push('"')?;
-    push_name(text, number)?;
-    text.push_str("\",")
-}
-
-/// A document with so many names and so many empty scripts.
-fn wide(alloc: Global, names: u32, scripts: u32) -> Result<String, AllocError> {
-    let mut text = String::from_str(alloc, "front = \"linear\"\nregisters = [")?;
-    for number in 0..names {
-        push_quoted(&mut text, number)?;
-    }
-    text.push_str("]\nscripts = [")?;
-    for _ in 0..scripts {
-        text.push_str("[],")?;
-    }
-    text.push_str("]\n")?;
-    Ok(text)
-}
-
-/// How many names and scripts a document has, and the fault.
-const WIDE: [(u32, u32, Option<WorkloadFault>); 4] = [
-    (4_096, 1, None),
-    (4_097, 1, Some(range!(Key::Registers))),
-    (1, 64, None),
-    (1, 65, Some(range!(Key::Scripts))),
-];
-
-/// Why such a document is refused.
-fn wide_fault(
-    alloc: Global,
-    names: u32,
-    scripts: u32,
-) -> Result<Option<WorkloadFault>, AllocError> {
-    let text = wide(alloc, names, scripts)?;
-    Ok(Workload::from_toml(alloc, text.as_str()).err())
-}
-
-#[test]
-fn a_document_has_as_many_names_and_scripts_as_it_may(rt: HostRuntime) {
-    for (names, scripts, fault) in &WIDE {
-        let found = wide_fault(rt.alloc(), *names, *scripts);
-        assert!(rt; found == Ok(*fault), "{names} {scripts}");
-    }
-}
-
-/// Keys, and how each is spelled.
-const KEYS: [(Key, &str); 7] = [
-    (Key::Front, "front"),
-    (Key::Registers, "registers"),
-    (Key::Scripts, "scripts"),
-    (Key::Seed, "seed"),
-    (Key::Loss, "loss"),
-    (Key::Repeat, "repeat"),
-    (Key::Budget, "budget"),
+    ),
+    (
+        "front = \"linear\"\nregisters = [\"x\"]\nscripts = [[\"none\"]]\n",
+        &NUMBERS,
+        "\n",
+    ),
 ];
 
 #[test]
-fn keys_are_spelled(rt: HostRuntime) {
-    for (key, name) in &KEYS {
-        demand(&rt, name, key.name() == *name);
+fn documents_are_refused(rt: HostRuntime) {
+    for (before, rows, behind) in &REFUSED {
+        all_refused(&rt, before, rows, behind);
     }
 }

@@ -24,8 +24,13 @@ const READ: [u8; 24] = [
     0, 0x16, 1, 1, 0, 0, 0, 0, 0, 0, 0, 0, 1, 0, 0, 0, 0, 0, 0, 0, 1, 1, 0, 0,
 ];
 
+const LAST_REGISTER: [u8; 32] = [
+    0, 0x1e, 1, 1, 0, 0, 0, 0, 0, 0, 0, 1, 1, 0, 0, 0, 0, 0, 0, 0, 3, 2, 0x0f, 0xff, 0, 0, 0, 0, 0,
+    0, 0, 5,
+];
+
 /// Frames, and the bytes of each.
-const FRAMES: [(Frame, &[u8]); 5] = [
+const FRAMES: [(Frame, &[u8]); 6] = [
     (
         Frame::Numbered {
             number: 0,
@@ -67,7 +72,23 @@ const FRAMES: [(Frame, &[u8]); 5] = [
         },
         &READ,
     ),
+    (
+        Frame::Numbered {
+            number: 1,
+            body: Body::Cast {
+                time: 3,
+                op: Op::Write {
+                    register: 4095,
+                    value: 5,
+                },
+            },
+        },
+        &LAST_REGISTER,
+    ),
 ];
+
+/// A read of the first register that no frame names.
+const PAST_THE_LAST: Op = Op::Read { register: 4096 };
 
 /// Whether these are the bytes of the frame.
 fn is_spelled(rt: &(impl Abort + AllocGlobal), frame: &Frame, bytes: &[u8]) -> bool {
@@ -80,8 +101,9 @@ fn each_form_there_and_back(rt: HostRuntime) {
         assert!(rt; decode(bytes) == Ok(*frame));
         assert!(rt; is_spelled(&rt, frame, bytes));
     }
-    let early = cast(0, 0, READ_FIRST);
-    assert!(rt; encode(rt.alloc(), &early).err() == Some(FrameFault::Range));
+    for frame in [cast(0, 0, READ_FIRST), cast(1, 3, PAST_THE_LAST)] {
+        assert!(rt; encode(rt.alloc(), &frame).err() == Some(FrameFault::Range));
+    }
 }
 
 /// The bytes of a frame, of which the one at a place is changed, and the fault.

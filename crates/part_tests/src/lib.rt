@@ -13,17 +13,11 @@ mod documents;
 #[cfg(test)]
 mod frames;
 #[cfg(test)]
-mod fronts;
-#[cfg(test)]
 mod growths;
 #[cfg(test)]
 mod holdbacks;
 #[cfg(test)]
-mod large_shapes;
-#[cfg(test)]
 mod links;
-#[cfg(test)]
-mod operations;
 #[cfg(test)]
 mod orders;
 #[cfg(test)]
@@ -32,10 +26,6 @@ mod processes;
 mod refusals;
 #[cfg(test)]
 mod reports;
-#[cfg(test)]
-mod resends;
-#[cfg(test)]
-mod tellings;
 #[cfg(test)]
 mod texts;
 #[cfg(test)]

@@ -1,34 +1,63 @@
 //! Histories and their orders, as worked by hand.
-use crate::values::{READ, WRITE_FIVE, answered, called, id};
+use crate::values::{READ, WRITE_FIVE, answered, called};
 use reg_base::{Answer, OpId, Shape};
 use reg_history::{CheckFault, Entry, History, HistoryFault, Point, check_points, check_serial};
 use std::alloc::{AllocError, Global};
 use std::process::Abort;
 use std::test::Fail;
 
-fn history_of(rt: &impl Abort, alloc: Global, processes: u32, entries: &[Entry]) -> History {
-    let shape = Shape::new(processes, 1).expect(rt, "a shape");
-    let mut history = History::new(alloc, shape).expect(rt, "memory");
+/// A history of three processes with one register.
+fn history_of(rt: &(impl Abort + AllocGlobal), entries: &[Entry]) -> History {
+    let shape = Shape::new(3, 1).expect(rt, "a shape");
+    let mut history = History::new(rt.alloc(), shape).expect(rt, "memory");
     for entry in entries {
         history.push(*entry).expect(rt, "in place");
     }
     history
 }
 
-/// A write at process 0 that is answered before a read at process 1 is called, which still answers 0.
-fn stale_read(rt: &impl Abort, alloc: Global) -> History {
-    history_of(
-        rt,
-        alloc,
-        3,
-        &[
-            called(0, id(0, 0), WRITE_FIVE),
-            answered(4, id(0, 0), Answer::Done),
-            called(5, id(1, 0), READ),
-            answered(5, id(1, 0), Answer::Value(0)),
-        ],
-    )
+macro_rules! called {
+    ($at:expr, $id:expr, $op:expr) => {
+        Entry::Called {
+            at: $at,
+            id: $id,
+            op: $op,
+        }
+    };
 }
+
+macro_rules! answered {
+    ($at:expr, $id:expr, $answer:expr) => {
+        Entry::Answered {
+            at: $at,
+            id: $id,
+            answer: $answer,
+        }
+    };
+}
+
+/// A write at process 0 that is answered before a read at process 1 is called, which still answers 0.
+const STALE: [Entry; 4] = [
+    called!(0, P, WRITE_FIVE),
+    answered!(4, P, Answer::Done),
+    called!(5, Q, READ),
+    answered!(5, Q, Answer::Value(0)),
+];
+
+/// A write at a process, and then a read of it, which isn't answered yet.
+const UNFINISHED: [Entry; 3] = [
+    called!(0, P, WRITE_FIVE),
+    answered!(0, P, Answer::Done),
+    called!(1, NEXT, READ),
+];
+
+/// The same with the read answered.
+const FINISHED: [Entry; 4] = [
+    called!(0, P, WRITE_FIVE),
+    answered!(0, P, Answer::Done),
+    called!(1, NEXT, READ),
+    answered!(3, NEXT, Answer::Value(5)),
+];
 
 /// The operation of the writer, and that of the reader.
 const P: OpId = OpId {
@@ -39,6 +68,12 @@ const P: OpId = OpId {
 const Q: OpId = OpId {
     process: 1,
     number: 0,
+};
+
+/// The second one of the writer.
+const NEXT: OpId = OpId {
+    process: 0,
+    number: 1,
 };
 
 /// Orders of the stale read, and what is said of each.
@@ -65,76 +100,52 @@ const POINTS: [(&[Point], Result<(), CheckFault>); 3] = [
     ),
 ];
 
+/// An order, and what is said of it.
+type Ordered = (&'static [OpId], Result<(), CheckFault>);
+
+/// Histories, and orders of each.
+const JUDGED: [(&[Entry], &[Ordered]); 3] = [
+    (&STALE, &ORDERS),
+    (
+        &UNFINISHED,
+        &[(&[P, NEXT], Err(CheckFault::Unknown)), (&[P], Ok(()))],
+    ),
+    (
+        &FINISHED,
+        &[
+            (&[P, NEXT], Ok(())),
+            (&[NEXT, P], Err(CheckFault::OwnOrder)),
+        ],
+    ),
+];
+
+/// Whether this is said of the orders of a history.
+fn are_judged(alloc: Global, history: &History, orders: &[Ordered]) -> bool {
+    for (order, said) in orders {
+        if check_serial(alloc, history, order) != *said {
+            return false;
+        }
+    }
+    true
+}
+
 #[test]
 fn a_stale_read_is_serial(rt: HostRuntime) {
-    let history = stale_read(&rt, rt.alloc());
-    for (order, said) in &ORDERS {
-        assert!(rt;
-            check_serial(rt.alloc(), &history, order) == *said,
-            "{order:?}"
-        );
+    for (entries, orders) in &JUDGED {
+        let history = history_of(&rt, entries);
+        assert!(rt; are_judged(rt.alloc(), &history, orders));
     }
 }
 
 #[test]
 fn a_stale_read_has_no_points(rt: HostRuntime) {
-    let history = stale_read(&rt, rt.alloc());
+    let history = history_of(&rt, STALE.as_slice());
     for (points, said) in &POINTS {
         assert!(rt;
             check_points(rt.alloc(), &history, points) == *said,
             "{points:?}"
         );
     }
-}
-
-/// A write at a process, and then a read of it, which isn't answered yet.
-const UNFINISHED: [Entry; 3] = [
-    Entry::Called {
-        at: 0,
-        id: P,
-        op: WRITE_FIVE,
-    },
-    Entry::Answered {
-        at: 0,
-        id: P,
-        answer: Answer::Done,
-    },
-    Entry::Called {
-        at: 1,
-        id: NEXT,
-        op: READ,
-    },
-];
-
-const NEXT: OpId = OpId {
-    process: 0,
-    number: 1,
-};
-
-#[test]
-fn an_unfinished_read_is_unknown(rt: HostRuntime) {
-    let history = history_of(&rt, rt.alloc(), 2, &UNFINISHED);
-    let whole = check_serial(rt.alloc(), &history, &[P, NEXT]);
-    assert!(rt; whole == Err(CheckFault::Unknown));
-    assert!(rt; check_serial(rt.alloc(), &history, &[P]) == Ok(()));
-}
-
-/// The same with the read answered.
-fn finished(rt: &impl Abort, alloc: Global) -> History {
-    let mut history = history_of(rt, alloc, 2, &UNFINISHED);
-    let answer = answered(3, NEXT, Answer::Value(5));
-    history.push(answer).expect(rt, "in place");
-    history
-}
-
-#[test]
-fn own_order_is_kept(rt: HostRuntime) {
-    let history = finished(&rt, rt.alloc());
-    assert!(rt; check_serial(rt.alloc(), &history, &[P, NEXT]) == Ok(()));
-    let turned = check_serial(rt.alloc(), &history, &[NEXT, P]);
-    assert!(rt; turned == Err(CheckFault::OwnOrder));
-    let points = [Point { id: P, at: 0 }, Point { id: NEXT, at: 2 }];
-    assert!(rt; check_points(rt.alloc(), &history, &points) == Ok(()));
 }
 
 /// Demands that an answer is out of place before its call, and in place after it.

@@ -1,13 +1,10 @@
 //! Worked examples of one process and of several side by side, as tables of steps and what each gives.
 use crate::traces::{Row, follow};
 use crate::values::{READ, WRITE_FIVE};
-use reg_base::limits::MOST_OPERATIONS;
 use reg_base::{Op, Shape};
 use reg_frames::{Body, Frame};
-use reg_front::{FrontEnd, Linear, LocalRead, LocalWrite};
-use reg_process::{Process, ProcessFault, Step};
-use std::alloc::Global;
-use std::process::Abort;
+use reg_front::{Linear, LocalRead, LocalWrite};
+use reg_process::{Process, ProcessFault, Put, Step};
 use std::test::Fail;
 
 const BEYOND: Op = Op::Read { register: 1 };
@@ -348,11 +345,6 @@ fn three_processes_step_by_step(rt: HostRuntime) -> Result<(), Fail> {
     follow::<LocalWrite>(&rt, 3, EACH_LACKS.as_slice())
 }
 
-pub(crate) fn started<F: FrontEnd>(rt: &impl Abort, alloc: Global, processes: u32) -> Process<F> {
-    let shape = Shape::new(processes, 1).expect(rt, "a shape");
-    Process::new(alloc, shape, 0).expect(rt, "a process of the shape")
-}
-
 #[test]
 fn no_process_past_the_last(rt: HostRuntime) {
     let shape = Shape::new(2, 1).expect(&rt, "a shape");
@@ -360,12 +352,38 @@ fn no_process_past_the_last(rt: HostRuntime) {
     assert!(rt; fault == Some(ProcessFault::NoProcess));
 }
 
-#[test]
-fn operations_end(rt: HostRuntime) {
-    let mut process = started::<LocalRead>(&rt, rt.alloc(), 1);
-    for _number in 0..MOST_OPERATIONS {
-        assert!(rt; process.call(READ).err().is_none());
+/// Whether these are the frames of the first sixteen writes for process 1.
+fn are_first_sixteen(puts: &[Put]) -> bool {
+    let mut number = 0u64;
+    for put in puts {
+        let time = number.wrapping_add(1);
+        let op = WRITE_FIVE;
+        let body = Body::Cast { time, op };
+        let frame = Frame::Numbered { number, body };
+        if *put != (Put { to: 1, frame }) {
+            return false;
+        }
+        number = time;
     }
-    assert!(rt; process.call(READ).err() == Some(ProcessFault::TooManyOperations));
-    assert!(rt; process.tick().err().is_none());
+    number == 16
+}
+
+/// Whether a new process makes so many writes, and then a tick puts the first sixteen frames again.
+fn puts_the_first_sixteen(process: &mut Process<LocalWrite>, writes: u8) -> bool {
+    for _write in 0..writes {
+        if process.call(WRITE_FIVE).is_err() {
+            return false;
+        }
+    }
+    match process.tick() {
+        Ok(again) => are_first_sixteen(again.frames.as_slice()),
+        Err(_) => false,
+    }
+}
+
+#[test]
+fn tick_puts_the_first_sixteen(rt: HostRuntime) {
+    let shape = Shape::new(2, 1).expect(&rt, "a shape");
+    let mut process = Process::<LocalWrite>::new(rt.alloc(), shape, 0).expect(&rt, "a process");
+    assert!(rt; puts_the_first_sixteen(&mut process, 17));
 }

@@ -1,10 +1,9 @@
+//! Reports of both versions: what they tell, how they are written, and the line at which a text is refused.
 use crate::demands::demand;
-use crate::values::id;
-use reg_base::limits::MOST_PROCESSES;
-use reg_base::{Answer, Names, Op, OpId, Shape};
-use reg_history::{
-    Entry, History, Point, ReadFault, ReadWhy, Report, ReportFault, read_report, write_report,
-};
+use crate::texts::names_of;
+use crate::values::{READ, WRITE_FIVE, answered, called, id, point};
+use reg_base::{Answer, Shape};
+use reg_history::{History, ReadFault, ReadWhy, Report, read_report, write_report};
 use std::alloc::{AllocError, Global};
 use std::process::Abort;
 
@@ -21,82 +20,30 @@ pub(crate) const ONE_PROCESS_NOW: &str =
 pub(crate) const NO_POINTS_NOW: &str =
     "awreg report 2\nfront local-read\nprocesses 3\nregisters 1\nx\nhistory 4\n       0  p0    #0       call    write x 5\n       4  p0    #0       answer  done\n       5  p1    #0       call    read x\n       5  p1    #0       answer  value 0\norder 2\np1 #0\np0 #0\nend\n";
 
-fn fault(line: u64, why: ReadWhy) -> Option<ReadFault> {
-    Some(ReadFault::Line { line, why })
-}
-
-fn entries() -> [Entry; 4] {
-    [
-        Entry::Called {
-            at: 0,
-            id: id(0, 0),
-            op: Op::Write {
-                register: 0,
-                value: 5,
-            },
-        },
-        Entry::Answered {
-            at: 0,
-            id: id(0, 0),
-            answer: Answer::Done,
-        },
-        Entry::Called {
-            at: 1,
-            id: id(0, 1),
-            op: Op::Read { register: 0 },
-        },
-        Entry::Answered {
-            at: 1,
-            id: id(0, 1),
-            answer: Answer::Value(5),
-        },
-    ]
-}
-
-fn points() -> [Point; 2] {
-    [
-        Point {
-            id: id(0, 0),
-            at: 0,
-        },
-        Point {
-            id: id(0, 1),
-            at: 1,
-        },
-    ]
-}
-
+/// The history of the first report.
 fn history(rt: &(impl Abort + AllocGlobal)) -> History {
     let shape = Shape::new(1, 1).expect(rt, "a shape");
     let mut history = History::new(rt.alloc(), shape).expect(rt, "memory");
-    for entry in entries() {
+    for entry in [
+        called(0, id(0, 0), WRITE_FIVE),
+        answered(0, id(0, 0), Answer::Done),
+        called(1, id(0, 1), READ),
+        answered(1, id(0, 1), Answer::Value(5)),
+    ] {
         history.push(entry).expect(rt, "in place");
     }
     history
 }
 
-fn names_of(rt: &(impl Abort + AllocGlobal), words: &[&str]) -> Names {
-    let mut names = Vec::new(rt.alloc());
-    for word in words {
-        let name = String::from_str(rt.alloc(), *word).expect(rt, "memory");
-        names.push(name).expect(rt, "memory");
-    }
-    Names::new(names).expect(rt, "names")
-}
-
-fn made(
-    rt: &(impl Abort + AllocGlobal),
-    front: &str,
-    names: &[&str],
-    ids: &[OpId],
-    points: &[Point],
-) -> Result<Report, ReportFault> {
-    let front = String::from_str(rt.alloc(), front).expect(rt, "memory");
-    let names = names_of(rt, names);
-    let history = history(rt);
-    let order = ids.to_vec(rt.alloc()).expect(rt, "memory");
-    let points = points.to_vec(rt.alloc()).expect(rt, "memory");
-    Report::new(front, names, history, order, Some(points))
+/// The first report, of its parts.
+fn one_process(rt: &(impl Abort + AllocGlobal)) -> Report {
+    let front = String::from_str(rt.alloc(), "linear").expect(rt, "memory");
+    let names = names_of(rt.alloc(), "registers x").expect(rt, "names");
+    let order = [id(0, 0), id(0, 1)].to_vec(rt.alloc()).expect(rt, "memory");
+    let points = [point(0, 0, 0), point(0, 1, 1)]
+        .to_vec(rt.alloc())
+        .expect(rt, "memory");
+    Report::new(front, names, history(rt), order, Some(points)).expect(rt, "a report")
 }
 
 /// What the getters of a report give.
@@ -112,110 +59,24 @@ fn push_parts(text: &mut String, report: &Report) -> Result<(), AllocError> {
     )
 }
 
-/// Whether the getters of a report give this.
-fn tells(alloc: Global, report: &Report, parts: &str) -> bool {
-    let mut text = String::new(alloc);
-    push_parts(&mut text, report).is_ok() && text.as_str() == parts
-}
-
-/// Whether the report is written, as this text.
-pub(crate) fn is_written_as(alloc: Global, report: &Report, text: &str) -> bool {
-    let mut out = Vec::new(alloc);
-    write_report(&mut out, report).is_ok() && out.as_slice() == text.as_bytes()
-}
-
-/// The report of one process, of its parts.
-fn one_process(rt: &(impl Abort + AllocGlobal)) -> Report {
-    let order = [id(0, 0), id(0, 1)];
-    made(rt, "linear", &["x"], &order, &points()).expect(rt, "a report")
-}
-
 const PARTS: &str = "linear, 1 names
 [Called { at: 0, id: OpId { process: 0, number: 0 }, op: Write { register: 0, value: 5 } }, Answered { at: 0, id: OpId { process: 0, number: 0 }, answer: Done }, Called { at: 1, id: OpId { process: 0, number: 1 }, op: Read { register: 0 } }, Answered { at: 1, id: OpId { process: 0, number: 1 }, answer: Value(5) }]
 [OpId { process: 0, number: 0 }, OpId { process: 0, number: 1 }]
 Some([Point { id: OpId { process: 0, number: 0 }, at: 0 }, Point { id: OpId { process: 0, number: 1 }, at: 1 }])
 ";
 
+/// Whether the report is written, as this text.
+fn is_written_as(alloc: Global, report: &Report, text: &str) -> bool {
+    let mut out = Vec::new(alloc);
+    write_report(&mut out, report).is_ok() && out.as_slice() == text.as_bytes()
+}
+
 #[test]
 fn a_report_tells_its_parts(rt: HostRuntime) {
     let report = one_process(&rt);
-    assert!(rt; tells(rt.alloc(), &report, PARTS));
-}
-
-#[test]
-fn a_report_is_written(rt: HostRuntime) {
-    let report = one_process(&rt);
-    assert!(rt; is_written_as(rt.alloc(), &report, ONE_PROCESS_NOW));
-}
-
-const FAR: [OpId; 1] = [OpId {
-    process: MOST_PROCESSES as u8,
-    number: 0,
-}];
-
-const NUMBER_TOO_FAR: [OpId; 1] = [OpId {
-    process: 0,
-    number: 65_535,
-}];
-
-const LAST_NUMBER: [OpId; 1] = [OpId {
-    process: 0,
-    number: 65_534,
-}];
-
-const LATE: [Point; 1] = [Point {
-    id: OpId {
-        process: 0,
-        number: 0,
-    },
-    at: 1_048_576,
-}];
-
-/// The word of the front end, the names, the order, the points, and why they are no report of the history above.
-type Parts = (
-    &'static str,
-    &'static [&'static str],
-    &'static [OpId],
-    &'static [Point],
-    Option<ReportFault>,
-);
-
-const CASES: [Parts; 9] = [
-    ("", &["x", "y"], &FAR, &LATE, Some(ReportFault::Front)),
-    (
-        "abcdefghijklmnopq",
-        &["x"],
-        &[],
-        &[],
-        Some(ReportFault::Front),
-    ),
-    ("a word", &["x"], &[], &[], Some(ReportFault::Front)),
-    (
-        "a-word-of-sixteen",
-        &["x"],
-        &[],
-        &[],
-        Some(ReportFault::Front),
-    ),
-    ("linear", &["x", "y"], &FAR, &[], Some(ReportFault::Names)),
-    ("linear", &["x"], &FAR, &[], Some(ReportFault::Range)),
-    (
-        "linear",
-        &["x"],
-        &NUMBER_TOO_FAR,
-        &[],
-        Some(ReportFault::Range),
-    ),
-    ("linear", &["x"], &[], &LATE, Some(ReportFault::Range)),
-    ("another-word-too", &["x"], &LAST_NUMBER, &[], None),
-];
-
-#[test]
-fn parts_that_are_no_report_are_refused(rt: HostRuntime) {
-    for (front, names, ids, points, fault) in &CASES {
-        let found = made(&rt, front, names, ids, points).err();
-        demand(&rt, front, found == *fault);
-    }
+    let mut text = String::new(rt.alloc());
+    let told = push_parts(&mut text, &report).is_ok() && text.as_str() == PARTS;
+    assert!(rt; told && is_written_as(rt.alloc(), &report, ONE_PROCESS_NOW));
 }
 
 /// Whether the text is read, and written as the other.
@@ -241,130 +102,265 @@ fn reports_are_written_in_version_2(rt: HostRuntime) {
     }
 }
 
-fn is_refused_at_a_line(alloc: Global, bytes: &[u8]) -> bool {
-    match std::str::from_utf8(bytes) {
-        Ok(text) => matches!(read_report(alloc, text), Err(ReadFault::Line { .. })),
-        Err(_) => false,
-    }
-}
+/// A report of version 1 without entries.
+const OLDER: &str =
+    "awreg report 1\nfront linear\nprocesses 1\nregisters x\nhistory 0\norder 0\nend\n";
 
-#[test]
-fn every_shorter_text_is_refused(rt: HostRuntime) {
-    let bytes = ONE_PROCESS_NOW.as_bytes();
-    for length in 0..bytes.len() {
-        let whole = length + 1 == bytes.len();
-        let refused = is_refused_at_a_line(rt.alloc(), &bytes[..length]);
-        assert!(rt; refused == !whole, "{length}");
-    }
-}
+const OLDER_HEAD: &str = "processes 1\nregisters x";
 
+/// The same of version 2.
+const NEWER: &str =
+    "awreg report 2\nfront linear\nprocesses 1\nregisters 1\nx\nhistory 0\norder 0\nend\n";
+
+const NEWER_HEAD: &str = "processes 1\nregisters 1\nx";
+
+const NEWER_REST: &str = "registers 1\nx\nhistory 0\norder 0\nend\n";
+
+/// What the text is refused for where a part of it is replaced once.
 fn refusal(rt: &(impl Abort + AllocGlobal), text: &str, old: &str, new: &str) -> Option<ReadFault> {
     let changed = text.replacen(rt.alloc(), old, new, 1).expect(rt, "memory");
     read_report(rt.alloc(), changed.as_str()).err()
 }
 
-/// What is put in the place of a part of the first report, and the line and cause of the refusal.
-const CHANGED: [(&str, &str, u64, ReadWhy); 35] = [
-    ("end\n", "", 16, ReadWhy::End),
-    ("end\n", "end\n\n", 17, ReadWhy::End),
-    ("end\n", "end\nend\n", 17, ReadWhy::End),
-    ("answer  done", "answer done", 7, ReadWhy::Form),
+/// What is refused at this line.
+macro_rules! at {
+    ($line:expr, $why:ident) => {
+        ReadFault::Line {
+            line: $line,
+            why: ReadWhy::$why,
+        }
+    };
+}
+
+/// A report, a part of it, what is put in its place, and the refusal.
+const CHANGED: [(&str, &str, &str, ReadFault); 59] = [
+    (ONE_PROCESS, "end\n", "", at!(16, End)),
+    (ONE_PROCESS, "end\n", "end\n\n", at!(17, End)),
+    (ONE_PROCESS, "end\n", "end\nend\n", at!(17, End)),
+    (ONE_PROCESS, "answer  done", "answer done", at!(7, Form)),
     (
+        ONE_PROCESS,
         "p0    #0       call    write x 5\n       0  p0    #0       answer  done",
         "p0    #0       answer  done\n       0  p0    #0       call    write x 5",
-        6,
-        ReadWhy::Place,
+        at!(6, Place),
     ),
-    ("write x 5", "write y 5", 6, ReadWhy::Name),
+    (ONE_PROCESS, "write x 5", "write y 5", at!(6, Name)),
     (
+        ONE_PROCESS,
         "write x 5",
         "write x 18446744073709551616",
-        6,
-        ReadWhy::Range,
+        at!(6, Range),
     ),
-    ("write x 5", "write x 05", 6, ReadWhy::Form),
-    ("write x 5", "write x 5 ", 6, ReadWhy::Form),
-    ("write x 5", "write  x 5", 6, ReadWhy::Form),
-    ("write x 5", "write x 5\r", 6, ReadWhy::Form),
+    (ONE_PROCESS, "write x 5", "write x 05", at!(6, Form)),
+    (ONE_PROCESS, "write x 5", "write x 5 ", at!(6, Form)),
+    (ONE_PROCESS, "write x 5", "write  x 5", at!(6, Form)),
+    (ONE_PROCESS, "write x 5", "write x 5\r", at!(6, Form)),
     (
+        ONE_PROCESS,
         "       0  p0    #0       call",
         " 1048576  p0    #0       call",
-        6,
-        ReadWhy::Range,
+        at!(6, Range),
     ),
     (
+        ONE_PROCESS,
         "       0  p0    #0       call",
         "       0  p16   #0       call",
-        6,
-        ReadWhy::Range,
+        at!(6, Range),
     ),
     (
+        ONE_PROCESS,
         "       0  p0    #0       call",
         "       0  p0    #65535   call",
-        6,
-        ReadWhy::Range,
+        at!(6, Range),
     ),
-    ("history 4", "history 2097153", 5, ReadWhy::Range),
-    ("history 4", "history 2097152", 10, ReadWhy::Form),
-    ("history 4", "history 04", 5, ReadWhy::Form),
-    ("history 4", "history 5", 10, ReadWhy::Form),
-    ("front linear", "front local read", 2, ReadWhy::Form),
-    ("front linear", "front abcdefghijklmnopq", 2, ReadWhy::Form),
-    ("registers x", "registers x x", 4, ReadWhy::Name),
-    ("registers x", "registers x1", 4, ReadWhy::Name),
-    ("registers x", "registers", 4, ReadWhy::Form),
-    ("registers x", "registers x ", 4, ReadWhy::Form),
-    ("processes 1", "processes 0", 3, ReadWhy::Range),
-    ("processes 1", "processes 17", 3, ReadWhy::Range),
-    ("report 1", "report 3", 1, ReadWhy::Form),
-    ("p0 #1\npoints", "p0 #65535\npoints", 12, ReadWhy::Range),
-    ("order 2", "order 1048577", 10, ReadWhy::Range),
-    ("order 2", "order 1048576", 13, ReadWhy::Form),
-    ("points 2", "points 1048577", 13, ReadWhy::Range),
-    ("points 2", "points 1048576", 16, ReadWhy::Form),
-    ("p0 #1 at 1", "p0 #1 at 1048576", 15, ReadWhy::Range),
-    ("p0 #1 at 1", "p0 #1 at1", 15, ReadWhy::Form),
-    ("p0 #1 at 1", "p16 #1 at 1", 15, ReadWhy::Range),
+    (ONE_PROCESS, "history 4", "history 2097153", at!(5, Range)),
+    (ONE_PROCESS, "history 4", "history 2097152", at!(10, Form)),
+    (ONE_PROCESS, "history 4", "history 04", at!(5, Form)),
+    (ONE_PROCESS, "history 4", "history 5", at!(10, Form)),
+    (
+        ONE_PROCESS,
+        "front linear",
+        "front local read",
+        at!(2, Form),
+    ),
+    (
+        ONE_PROCESS,
+        "front linear",
+        "front abcdefghijklmnopq",
+        at!(2, Form),
+    ),
+    (ONE_PROCESS, "registers x", "registers x x", at!(4, Name)),
+    (ONE_PROCESS, "registers x", "registers x1", at!(4, Name)),
+    (ONE_PROCESS, "registers x", "registers", at!(4, Form)),
+    (ONE_PROCESS, "registers x", "registers x ", at!(4, Form)),
+    (ONE_PROCESS, "processes 1", "processes 0", at!(3, Range)),
+    (ONE_PROCESS, "processes 1", "processes 17", at!(3, Range)),
+    (ONE_PROCESS, "report 1", "report 3", at!(1, Form)),
+    (
+        ONE_PROCESS,
+        "p0 #1\npoints",
+        "p0 #65535\npoints",
+        at!(12, Range),
+    ),
+    (ONE_PROCESS, "order 2", "order 1048577", at!(10, Range)),
+    (ONE_PROCESS, "order 2", "order 1048576", at!(13, Form)),
+    (ONE_PROCESS, "points 2", "points 1048577", at!(13, Range)),
+    (ONE_PROCESS, "points 2", "points 1048576", at!(16, Form)),
+    (
+        ONE_PROCESS,
+        "p0 #1 at 1",
+        "p0 #1 at 1048576",
+        at!(15, Range),
+    ),
+    (ONE_PROCESS, "p0 #1 at 1", "p0 #1 at1", at!(15, Form)),
+    (ONE_PROCESS, "p0 #1 at 1", "p16 #1 at 1", at!(15, Range)),
+    (
+        NO_POINTS,
+        "p1    #0       call",
+        "p3    #0       call",
+        at!(8, Place),
+    ),
+    (NO_POINTS, NO_POINTS, "", at!(1, End)),
+    (
+        OLDER,
+        OLDER_HEAD,
+        "processes 17\nregisters x",
+        at!(3, Range),
+    ),
+    (
+        OLDER,
+        OLDER_HEAD,
+        "processes 1\nregisters 1\nx",
+        at!(4, Name),
+    ),
+    (
+        NEWER,
+        NEWER_HEAD,
+        "processes 65\nregisters 1\nx",
+        at!(3, Range),
+    ),
+    (
+        NEWER,
+        NEWER_HEAD,
+        "processes 0\nregisters 1\nx",
+        at!(3, Range),
+    ),
+    (NEWER, NEWER_HEAD, "processes 1\nregisters x", at!(4, Form)),
+    (
+        NEWER,
+        NEWER_HEAD,
+        "processes 1\nregisters 01\nx",
+        at!(4, Form),
+    ),
+    (NEWER, NEWER_HEAD, "processes 1\nregisters 0", at!(4, Range)),
+    (
+        NEWER,
+        NEWER_HEAD,
+        "processes 1\nregisters 4097",
+        at!(4, Range),
+    ),
+    (
+        NEWER,
+        NEWER_HEAD,
+        "processes 1\nregisters 2\nx\nx",
+        at!(6, Name),
+    ),
+    (
+        NEWER,
+        NEWER_HEAD,
+        "processes 1\nregisters 2\nx\nx1",
+        at!(6, Name),
+    ),
+    (
+        NEWER,
+        NEWER_HEAD,
+        "processes 1\nregisters 2\nx\n",
+        at!(6, Form),
+    ),
+    (
+        NEWER,
+        NEWER_HEAD,
+        "processes 1\nregisters 2\nx\ny z",
+        at!(6, Form),
+    ),
+    (
+        NEWER,
+        NEWER_HEAD,
+        "processes 1\nregisters 2\nx\ny ",
+        at!(6, Form),
+    ),
+    (
+        NEWER,
+        NEWER_HEAD,
+        "processes 1\nregisters 2\nx\né",
+        at!(6, Form),
+    ),
+    (
+        NEWER,
+        NEWER_HEAD,
+        "processes 1\nregisters 3\nx\nx\ny z",
+        at!(6, Name),
+    ),
+    (
+        NEWER,
+        NEWER_HEAD,
+        "processes 1\nregisters 9\nx\nx",
+        at!(6, Name),
+    ),
+    (
+        NEWER,
+        NEWER_HEAD,
+        "processes 1\nregisters 9\nx\ny",
+        at!(7, Form),
+    ),
+    (
+        NEWER,
+        NEWER_HEAD,
+        "processes 1\nregisters 1\nx\ny",
+        at!(6, Form),
+    ),
+    (NEWER, NEWER_REST, "registers 3\nx\ny\n", at!(7, End)),
+    (NEWER, NEWER_REST, "registers 3\nx\nx\n", at!(6, Name)),
+    (OLDER, "order 0", "order 1\np16 #0", at!(7, Range)),
+    (NEWER, "order 0", "order 1\np64 #0", at!(8, Range)),
 ];
 
-#[test]
-fn a_report_is_refused_at_its_line(rt: HostRuntime) {
-    for (old, new, line, why) in &CHANGED {
-        let found = refusal(&rt, ONE_PROCESS, old, new);
-        demand(&rt, new, found == fault(*line, *why));
+fn demand_refused(rt: &(impl Abort + AllocGlobal), rows: &[(&str, &str, &str, ReadFault)]) {
+    for (text, old, new, fault) in rows {
+        demand(rt, new, refusal(rt, text, old, new) == Some(*fault));
     }
 }
 
-/// The same at the limits, where the report is still read.
-const AT_LIMITS: [(&str, &str); 8] = [
-    ("front linear", "front abcdefghijklmnop"),
-    ("processes 1", "processes 16"),
-    ("registers x", "registers x abcdefghijklmnop"),
-    ("write x 5", "write x 18446744073709551615"),
+#[test]
+fn a_report_is_refused_at_its_line(rt: HostRuntime) {
+    demand_refused(&rt, CHANGED.as_slice());
+}
+
+/// The same at the limits of both versions, where the report is still read.
+const AT_LIMITS: [(&str, &str, &str); 14] = [
+    (ONE_PROCESS, "front linear", "front abcdefghijklmnop"),
+    (ONE_PROCESS, "processes 1", "processes 16"),
+    (ONE_PROCESS, "registers x", "registers x abcdefghijklmnop"),
+    (ONE_PROCESS, "write x 5", "write x 18446744073709551615"),
     (
+        ONE_PROCESS,
         "       1  p0    #1       answer",
         " 1048575  p0    #1       answer",
     ),
-    ("p0 #1\npoints", "p0 #65534\npoints"),
-    ("p0 #1 at 1", "p0 #1 at 1048575"),
-    ("p0 #1 at 1", "p15 #1 at 1"),
+    (ONE_PROCESS, "p0 #1\npoints", "p0 #65534\npoints"),
+    (ONE_PROCESS, "p0 #1 at 1", "p0 #1 at 1048575"),
+    (ONE_PROCESS, "p0 #1 at 1", "p15 #1 at 1"),
+    (NO_POINTS, "p1 #0\n", "p15 #0\n"),
+    (OLDER, OLDER_HEAD, "processes 16\nregisters x y"),
+    (NEWER, NEWER_HEAD, "processes 17\nregisters 1\nx"),
+    (NEWER, NEWER_HEAD, "processes 64\nregisters 2\ny\nx"),
+    (OLDER, "order 0", "order 1\np15 #0"),
+    (NEWER, "order 0", "order 1\np63 #0"),
 ];
 
 #[test]
 fn a_report_is_read_at_its_limits(rt: HostRuntime) {
-    for (old, new) in &AT_LIMITS {
-        demand(&rt, new, refusal(&rt, ONE_PROCESS, old, new).is_none());
+    for (text, old, new) in &AT_LIMITS {
+        demand(&rt, new, refusal(&rt, text, old, new).is_none());
     }
-}
-
-#[test]
-fn processes_in_the_order_and_in_the_history(rt: HostRuntime) {
-    assert!(rt; refusal(&rt, NO_POINTS, "p1 #0\n", "p15 #0\n").is_none());
-    let called = refusal(&rt, NO_POINTS, "p1    #0       call", "p3    #0       call");
-    assert!(rt; called == fault(8, ReadWhy::Place));
-}
-
-#[test]
-fn an_empty_text_is_no_report(rt: HostRuntime) {
-    assert!(rt; read_report(rt.alloc(), "").err() == fault(1, ReadWhy::End));
 }

@@ -1,6 +1,5 @@
 //! Values that several tests speak of.
 ghost use Rattle.std.specs.Prelude.{◌≡◌};
-ghost use Rattle.reg_base.specs.declared.memory.Op.{Op};
 ghost use Rattle.reg_base.specs.declared.memory.OpId.{OpId};
 ghost use Rattle.reg_frames.specs.declared.bodies.Body.{Body};
 ghost use Rattle.reg_frames.specs.declared.bodies.Frame.{Frame};
@@ -19,13 +18,6 @@ pub const WRITE_FIVE: Op = Op::Write {
     register: 0,
     value: 5,
 };
-
-/// A write of this value to the first register.
-pub fn write_of(value: u64) -> Op
-    ensures { result ≡ Op.Write 0 value }
-{
-    Op::Write { register: 0, value }
-}
 
 /// The operation of this number at this process.
 pub fn id(process: u8, number: u32) -> OpId
@@ -61,13 +53,5 @@ pub fn cast(number: u64, time: u64, op: Op) -> Frame
     ensures { result ≡ Frame.Numbered number (Body.Cast time op) }
 {
     let body = Body::Cast { time, op };
-    Frame::Numbered { number, body }
-}
-
-/// A numbered frame that acknowledges at this time.
-pub fn ack(number: u64, time: u64) -> Frame
-    ensures { result ≡ Frame.Numbered number (Body.Ack time) }
-{
-    let body = Body::Ack { time };
     Frame::Numbered { number, body }
 }

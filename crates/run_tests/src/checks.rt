@@ -106,19 +106,6 @@ pub(crate) fn answers_joined(
     answers(alloc, command, &mut reader, status, output, faults)
 }
 
-/// Demands the status, the output and the faults of a command over this reader.
-pub(crate) fn demand_read(
-    rt: &impl Abort,
-    alloc: Global,
-    command: Command,
-    reader: &mut Source<'_>,
-    status: u8,
-    output: &str,
-    faults: &str,
-) {
-    assert!(rt; answers(alloc, command, reader, status, output, faults));
-}
-
 /// Demands the status, the output and the faults of a command.
 pub(crate) fn demand(
     rt: &impl Abort,
@@ -130,7 +117,7 @@ pub(crate) fn demand(
     faults: &str,
 ) {
     let mut reader = whole(input, &[]);
-    demand_read(rt, alloc, command, &mut reader, status, output, faults);
+    assert!(rt; answers(alloc, command, &mut reader, status, output, faults));
 }
 
 /// The rest of a report, and what is said of it.
@@ -246,5 +233,16 @@ fn reports_are_read_as_they_were_written(rt: HostRuntime) {
         let status = u8::from(!line.is_empty());
         assert!(rt; answers_joined(alloc, check, (front, behind), status, both, line));
     }
-    demand(&rt, alloc, check, b"\xff", 1, "", "input: not text\n");
+}
+
+#[test]
+fn an_input_is_text(rt: HostRuntime) {
+    let alloc = rt.alloc();
+    for command in [
+        Command::Check,
+        Command::Replay,
+        Command::Play { fair: true },
+    ] {
+        demand(&rt, alloc, command, b"\xff", 1, "", "input: not text\n");
+    }
 }

@@ -1,5 +1,4 @@
 //! Each growth of runs refused in turn: the answer is want of memory, or the one with ample memory.
-use crate::telling::{has_witness, keeps, push_kept};
 use crate::world_rows::{LINEAR, LOCAL_READ, LOCAL_WRITE, Row};
 use refusing::{Trial, refusals};
 use reg_base::{OpId, Shape};
@@ -9,75 +8,62 @@ use reg_world::{Event, RunFault, World, WorldFault};
 use std::alloc::{AllocError, Allocator, Global};
 use std::test::Fail;
 
-/// A run step by step, and then its witness.
+/// A run step by step, or of all events at once, and then its witness.
 #[derive(Clone, Copy)]
-struct Steps {
+struct Run {
     front: Front,
     processes: u32,
     events: &'static [Event],
+    at_once: bool,
 }
 
-/// Whether the world keeps just what a run of ample memory keeps.
-fn keeps_the_same<F: FrontEnd, A: Allocator + Copy>(
+/// Whether its witness is a serial order of the other one's history.
+fn has_witness_of<F: FrontEnd, A: Allocator + Copy>(
     ample: Global,
     world: &World<F, A>,
     other: &World<F>,
 ) -> bool {
-    let mut text = String::new(ample);
-    push_kept(&mut text, other).is_ok()
-        && keeps(ample, world, text.as_str())
-        && world.events() == other.events()
-}
-
-/// Whether its witness is that of the other one, and a serial order of that one's history.
-fn has_the_same_witness<F: FrontEnd, A: Allocator + Copy>(
-    ample: Global,
-    world: &World<F, A>,
-    other: &World<F>,
-) -> bool {
-    match other.witness() {
-        Ok(order) => {
-            has_witness(world, order.as_slice())
-                && check_serial(ample, other.history(), order.as_slice()) == Ok(())
-        }
+    match world.witness() {
+        Ok(order) => check_serial(ample, other.history(), order.as_slice()) == Ok(()),
         Err(_) => false,
     }
 }
 
-fn has_stopped<F: FrontEnd, A: Allocator + Copy>(world: &mut World<F, A>) -> bool {
+/// Whether the world has stopped, and tells what the other one does.
+fn stops_as<F: FrontEnd, A: Allocator + Copy>(
+    ample: Global,
+    world: &mut World<F, A>,
+    other: &World<F>,
+) -> bool {
     world.step(&Event::Tick { process: 0 }) == Err(WorldFault::Failed)
+        && world.events() == other.events()
+        && world.history().entries() == other.history().entries()
+        && world.order() == other.order()
+        && has_witness_of(ample, world, other)
 }
 
-/// Whether the world has stopped, tells what it told after the first events, and its witness is a serial order of the
-/// history so far.
+/// Whether the world has stopped, and tells what it told after the first events.
 fn stops_behind<F: FrontEnd, A: Allocator + Copy>(
     ample: Global,
     world: &mut World<F, A>,
     first: &[Event],
 ) -> bool {
     match World::<F>::run(ample, world.shape(), first) {
-        Ok(other) => {
-            keeps_the_same(ample, world, &other)
-                && has_stopped(world)
-                && has_the_same_witness(ample, world, &other)
-        }
+        Ok(other) => stops_as(ample, world, &other),
         Err(_) => false,
     }
 }
 
-/// None where a world whose memory is refused behind the first events has stopped as it should; otherwise where it hasn't.
-fn refused<F: FrontEnd, A: Allocator + Copy>(
-    ample: Global,
-    world: &mut World<F, A>,
-    first: &[Event],
-) -> Result<Option<String>, Fail> {
-    if stops_behind(ample, world, first) {
-        return Ok(None);
-    }
-    Ok(Some(format!(in ample; "otherwise at {}", first.len())?))
+/// The history, the casts and the reads of a copy.
+pub(crate) fn push_kept<F: FrontEnd, A: Allocator + Copy>(
+    text: &mut String,
+    world: &World<F, A>,
+) -> Result<(), AllocError> {
+    let entries = world.history().entries();
+    write!(text, "{entries:?} {:?} {:?}", world.order(), world.reads())
 }
 
-fn push_kept_and_ids<F: FrontEnd, A: Allocator + Copy>(
+fn push_all<F: FrontEnd, A: Allocator + Copy>(
     text: &mut String,
     world: &World<F, A>,
     ids: &[OpId],
@@ -86,23 +72,23 @@ fn push_kept_and_ids<F: FrontEnd, A: Allocator + Copy>(
     write!(text, "{ids:?}")
 }
 
-fn kept_and_ids<F: FrontEnd, A: Allocator + Copy>(
+fn all_told<F: FrontEnd, A: Allocator + Copy>(
     ample: Global,
     world: &World<F, A>,
     ids: &[OpId],
 ) -> Result<Option<String>, Fail> {
     let mut text = String::new(ample);
-    push_kept_and_ids(&mut text, world, ids)?;
+    push_all(&mut text, world, ids)?;
     Ok(Some(text))
 }
 
 /// What a world tells, and its witness. None where memory is wanted.
-fn kept_with_witness<F: FrontEnd, A: Allocator + Copy>(
+fn told_with_witness<F: FrontEnd, A: Allocator + Copy>(
     ample: Global,
     world: &World<F, A>,
 ) -> Result<Option<String>, Fail> {
     match world.witness() {
-        Ok(order) => kept_and_ids(ample, world, order.as_slice()),
+        Ok(order) => all_told(ample, world, order.as_slice()),
         Err(_) => Ok(None),
     }
 }
@@ -120,122 +106,96 @@ fn step_all<F: FrontEnd, A: Allocator + Copy>(
     Ok(())
 }
 
-/// What the world tells after the events. None where memory is wanted.
+/// What the world tells after the events. None where memory is wanted, and it has stopped as it should.
 fn follow<F: FrontEnd, A: Allocator + Copy>(
     ample: Global,
     world: &mut World<F, A>,
     events: &[Event],
 ) -> Result<Option<String>, Fail> {
     match step_all(world, events) {
-        Ok(()) => kept_with_witness(ample, world),
-        Err(
-            RunFault {
-                at,
-                fault: WorldFault::OutOfMemory,
-            },
-        ) => refused(ample, world, events.get(..at).unwrap_or(&[])),
-        Err(fault) => Err(fault)?,
+        Ok(()) => told_with_witness(ample, world),
+        Err(RunFault { at, fault }) => {
+            let first = events.get(..at).unwrap_or(&[]);
+            if fault == WorldFault::OutOfMemory && stops_behind(ample, world, first) {
+                return Ok(None);
+            }
+            Err(fault)?
+        }
     }
 }
 
 fn step_by_step<F: FrontEnd, A: Allocator + Copy>(
     alloc: A,
     ample: Global,
-    steps: &Steps,
+    run: &Run,
 ) -> Result<Option<String>, Fail> {
-    let shape = Shape::new(steps.processes, 1)?;
+    let shape = Shape::new(run.processes, 1)?;
     match World::<F, A>::new(alloc, shape) {
-        Ok(mut world) => follow(ample, &mut world, steps.events),
+        Ok(mut world) => follow(ample, &mut world, run.events),
         Err(_) => Ok(None),
     }
 }
 
-impl Trial for Steps {
-    fn answer<A: Allocator + Copy>(&self, alloc: A, ample: Global) -> Result<Option<String>, Fail> {
-        match self.front {
-            Front::Linear => step_by_step::<Linear, A>(alloc, ample, self),
-            Front::LocalRead => step_by_step::<LocalRead, A>(alloc, ample, self),
-            Front::LocalWrite => step_by_step::<LocalWrite, A>(alloc, ample, self),
-        }
-    }
-}
-
-/// A run of all events at once, and then its witness.
-#[derive(Clone, Copy)]
-struct Run {
-    front: Front,
-    processes: u32,
-    events: &'static [Event],
-}
-
-/// The run of all events, or None where memory is wanted.
-fn run_at_once<F: FrontEnd, A: Allocator + Copy>(
-    alloc: A,
-    run: &Run,
-) -> Result<Option<World<F, A>>, Fail> {
-    let shape = Shape::new(run.processes, 1)?;
-    match World::run(alloc, shape, run.events) {
-        Ok(world) => Ok(Some(world)),
-        Err(
-            RunFault {
-                at: _,
-                fault: WorldFault::OutOfMemory,
-            },
-        ) => Ok(None),
-        Err(fault) => Err(fault)?,
-    }
-}
-
-/// What the run of all events tells, and its witness. None where memory is wanted.
-fn told_at_once<F: FrontEnd, A: Allocator + Copy>(
+fn all_at_once<F: FrontEnd, A: Allocator + Copy>(
     alloc: A,
     ample: Global,
     run: &Run,
 ) -> Result<Option<String>, Fail> {
-    match run_at_once::<F, A>(alloc, run)? {
-        Some(world) => kept_with_witness(ample, &world),
-        None => Ok(None),
+    let shape = Shape::new(run.processes, 1)?;
+    match World::<F, A>::run(alloc, shape, run.events) {
+        Ok(world) => told_with_witness(ample, &world),
+        Err(RunFault { at: _, fault }) if fault == WorldFault::OutOfMemory => Ok(None),
+        Err(fault) => Err(fault)?,
     }
+}
+
+fn told<F: FrontEnd, A: Allocator + Copy>(
+    alloc: A,
+    ample: Global,
+    run: &Run,
+) -> Result<Option<String>, Fail> {
+    if run.at_once {
+        return all_at_once::<F, A>(alloc, ample, run);
+    }
+    step_by_step::<F, A>(alloc, ample, run)
 }
 
 impl Trial for Run {
     fn answer<A: Allocator + Copy>(&self, alloc: A, ample: Global) -> Result<Option<String>, Fail> {
         match self.front {
-            Front::Linear => told_at_once::<Linear, A>(alloc, ample, self),
-            Front::LocalRead => told_at_once::<LocalRead, A>(alloc, ample, self),
-            Front::LocalWrite => told_at_once::<LocalWrite, A>(alloc, ample, self),
+            Front::Linear => told::<Linear, A>(alloc, ample, self),
+            Front::LocalRead => told::<LocalRead, A>(alloc, ample, self),
+            Front::LocalWrite => told::<LocalWrite, A>(alloc, ample, self),
         }
     }
 }
 
-/// Refuses each growth of the runs of one front end, step by step and at once.
-fn demand(alloc: Global, front: Front, rows: &[Row]) -> Result<(), Fail> {
-    for (processes, events, _) in rows {
-        let (processes, events) = (*processes, *events);
-        refusals(
-            &Steps {
-                front,
-                processes,
-                events,
-            },
-            alloc,
-        )?;
-        refusals(
-            &Run {
-                front,
-                processes,
-                events,
-            },
-            alloc,
-        )?;
-    }
+const RUNS: [(Front, &[Row]); 3] = [
+    (Front::Linear, &LINEAR),
+    (Front::LocalRead, &LOCAL_READ),
+    (Front::LocalWrite, &LOCAL_WRITE),
+];
+
+/// Refuses each growth of a run, step by step and at once.
+fn demand(alloc: Global, front: Front, row: &Row) -> Result<(), Fail> {
+    let mut run = Run {
+        front,
+        processes: row.processes,
+        events: row.events,
+        at_once: false,
+    };
+    refusals(&run, alloc)?;
+    run.at_once = true;
+    refusals(&run, alloc)?;
     Ok(())
 }
 
 #[test]
 fn each_growth_of_a_run_is_refused(rt: HostRuntime) -> Result<(), Fail> {
-    demand(rt.alloc(), Front::Linear, LINEAR.as_slice())?;
-    demand(rt.alloc(), Front::LocalRead, LOCAL_READ.as_slice())?;
-    demand(rt.alloc(), Front::LocalWrite, LOCAL_WRITE.as_slice())?;
+    for (front, rows) in &RUNS {
+        for row in *rows {
+            demand(rt.alloc(), *front, row)?;
+        }
+    }
     Ok(())
 }

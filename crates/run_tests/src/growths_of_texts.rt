@@ -1,20 +1,22 @@
 //! Each growth of what is read and played refused in turn: the answer is want of memory, or the one with ample memory.
+use crate::growths::push_kept;
 use crate::plays::SMALL;
-use crate::telling::push_kept;
 use refusing::{Trial, refusals};
 use reg_front::LocalWrite;
-use reg_inputs::{Workload, WorkloadFault, read_table};
+use reg_inputs::read_table;
 use reg_workload::{
-    Play, Schedule, ScheduleFault, SeedWords, parse_schedule, play_fair, play_seeded,
+    Play, Schedule, ScheduleFault, SeedWords, Workload, WorkloadFault, parse_schedule, play_fair,
+    play_seeded,
 };
 use std::alloc::{AllocError, Allocator, Global};
 use std::test::Fail;
 
-/// A schedule that is read, or a workload of a document that is played by both players.
+/// A schedule that is read, or a workload of a document that a player plays.
 #[derive(Clone, Copy)]
 enum Read {
     Schedule,
-    Plays,
+    Fair,
+    Seeded,
 }
 
 const SCHEDULE: &str =
@@ -43,57 +45,28 @@ fn push_play<A: Allocator + Copy>(
     play: &Play<LocalWrite, A>,
 ) -> Result<(), AllocError> {
     push_kept(text, &play.world)?;
-    text.push_str(if play.finished { "true\n" } else { "false\n" })
+    write!(text, " {}", play.finished)
 }
 
-/// What a player made of a workload. False where memory was wanted for it.
-fn push_made<A: Allocator + Copy>(
-    text: &mut String,
-    made: &Result<Play<LocalWrite, A>, AllocError>,
-) -> Result<bool, AllocError> {
-    let Ok(play) = made else {
-        return Ok(false);
-    };
-    push_play(text, play)?;
-    Ok(true)
-}
-
-fn push_fair<A: Allocator + Copy>(
-    text: &mut String,
-    alloc: A,
-    work: &Workload<A>,
-) -> Result<bool, AllocError> {
-    let made = play_fair::<LocalWrite, A>(alloc, work);
-    push_made(text, &made)
-}
-
-fn push_seeded<A: Allocator + Copy>(
-    text: &mut String,
-    alloc: A,
-    work: &Workload<A>,
-) -> Result<bool, AllocError> {
-    let made = play_seeded::<LocalWrite, _, A>(alloc, work, SeedWords::new(0));
-    push_made(text, &made)
-}
-
-/// What both players make of a workload. False where memory was wanted for it.
-fn push_both<A: Allocator + Copy>(
-    text: &mut String,
-    alloc: A,
-    work: &Workload<A>,
-) -> Result<bool, AllocError> {
-    Ok(push_fair(text, alloc, work)? && push_seeded(text, alloc, work)?)
-}
-
-/// What both players make of a workload. None where memory is wanted.
-fn played<A: Allocator + Copy>(
-    alloc: A,
+fn play_told<A: Allocator + Copy>(
     ample: Global,
-    work: &Workload<A>,
+    play: &Play<LocalWrite, A>,
 ) -> Result<Option<String>, Fail> {
     let mut text = String::new(ample);
-    let is_whole = push_both(&mut text, alloc, work)?;
-    Ok(if is_whole { Some(text) } else { None })
+    push_play(&mut text, play)?;
+    Ok(Some(text))
+}
+
+/// The fair play of the small workload, or its seeded one.
+fn play<A: Allocator + Copy>(
+    alloc: A,
+    work: &Workload<A>,
+    fair: bool,
+) -> Result<Play<LocalWrite, A>, AllocError> {
+    if fair {
+        return play_fair::<LocalWrite, A>(alloc, work);
+    }
+    play_seeded::<LocalWrite, _, A>(alloc, work, SeedWords::new(0))
 }
 
 fn small_work<A: Allocator + Copy>(alloc: A, ample: Global) -> Result<Workload<A>, WorkloadFault> {
@@ -101,9 +74,26 @@ fn small_work<A: Allocator + Copy>(alloc: A, ample: Global) -> Result<Workload<A
     Workload::from_table(alloc, &table)
 }
 
-fn both_plays<A: Allocator + Copy>(alloc: A, ample: Global) -> Result<Option<String>, Fail> {
+/// What a player makes of a workload. None where memory is wanted for it.
+fn work_told<A: Allocator + Copy>(
+    alloc: A,
+    ample: Global,
+    work: &Workload<A>,
+    fair: bool,
+) -> Result<Option<String>, Fail> {
+    match play(alloc, work, fair) {
+        Ok(play) => play_told(ample, &play),
+        Err(_) => Ok(None),
+    }
+}
+
+fn played<A: Allocator + Copy>(
+    alloc: A,
+    ample: Global,
+    fair: bool,
+) -> Result<Option<String>, Fail> {
     match small_work(alloc, ample) {
-        Ok(work) => played(alloc, ample, &work),
+        Ok(work) => work_told(alloc, ample, &work, fair),
         Err(WorkloadFault::OutOfMemory) => Ok(None),
         Err(fault) => Err(fault)?,
     }
@@ -113,14 +103,16 @@ impl Trial for Read {
     fn answer<A: Allocator + Copy>(&self, alloc: A, ample: Global) -> Result<Option<String>, Fail> {
         match self {
             Read::Schedule => schedule(alloc, ample),
-            Read::Plays => both_plays(alloc, ample),
+            Read::Fair => played(alloc, ample, true),
+            Read::Seeded => played(alloc, ample, false),
         }
     }
 }
 
 #[test]
 fn each_growth_of_what_is_read_and_played_is_refused(rt: HostRuntime) -> Result<(), Fail> {
-    let alloc = rt.alloc();
-    assert!(rt; refusals(&Read::Schedule, alloc)? > 2 && refusals(&Read::Plays, alloc)? > 20);
+    for (read, least) in [(Read::Schedule, 2), (Read::Fair, 10), (Read::Seeded, 10)] {
+        assert!(rt; refusals(&read, rt.alloc())? > least);
+    }
     Ok(())
 }

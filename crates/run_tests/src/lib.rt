@@ -13,8 +13,6 @@ mod growths;
 #[cfg(test)]
 mod growths_of_texts;
 #[cfg(test)]
-mod inputs;
-#[cfg(test)]
 mod interleavings;
 #[cfg(test)]
 mod large_shapes;
@@ -25,8 +23,6 @@ pub mod mixed;
 mod mixed_runs;
 #[cfg(test)]
 mod overtaking;
-#[cfg(test)]
-mod owned;
 #[cfg(test)]
 mod play_reports;
 #[cfg(test)]
@@ -42,13 +38,9 @@ mod resting;
 #[cfg(test)]
 mod schedules;
 #[cfg(test)]
-mod seeded;
-#[cfg(test)]
 mod sources;
 #[cfg(test)]
 mod streams;
-#[cfg(test)]
-mod telling;
 #[cfg(test)]
 mod world_rows;
 #[cfg(test)]

@@ -1,20 +1,29 @@
 //! The limits of a run.
 use part_tests::values::WRITE_FIVE;
 use reg_base::Shape;
-use reg_base::limits::MOST_OPERATIONS;
 use reg_front::Linear;
 use reg_world::{Event, World, WorldFault};
-use std::alloc::Global;
 use std::test::Fail;
 
-/// A world of one process and one register.
-fn world_of_one(alloc: Global) -> Result<World<Linear>, Fail> {
-    let shape = Shape::new(1, 1)?;
-    Ok(World::new(alloc, shape)?)
-}
+/// An event, how often a world of one process accepts it, and why not once more.
+const LIMITS: [(Event, u32, WorldFault); 2] = [
+    (
+        Event::Call {
+            process: 0,
+            op: WRITE_FIVE,
+        },
+        65_535,
+        WorldFault::TooManyOperations,
+    ),
+    (
+        Event::Tick { process: 0 },
+        1_048_576,
+        WorldFault::TooManyEvents,
+    ),
+];
 
-/// Whether a world takes the event so many times, and then refuses it so.
-fn takes_so_many(world: &mut World<Linear>, event: &Event, count: u32, fault: WorldFault) -> bool {
+/// Whether a world accepts the event so many times, and then refuses it so.
+fn accepts(world: &mut World<Linear>, event: &Event, count: u32, fault: WorldFault) -> bool {
     for _ in 0..count {
         if world.step(event).is_err() {
             return false;
@@ -23,23 +32,12 @@ fn takes_so_many(world: &mut World<Linear>, event: &Event, count: u32, fault: Wo
     world.step(event) == Err(fault)
 }
 
-/// Whether a world has so many points.
-fn has_points(world: &World<Linear>, count: u32) -> bool {
-    match world.points() {
-        Ok(points) => points.len() == count as usize,
-        Err(_) => false,
-    }
-}
-
 #[test]
-fn a_process_calls_so_many_operations(rt: HostRuntime) -> Result<(), Fail> {
-    let mut world = world_of_one(rt.alloc())?;
-    let call = Event::Call {
-        process: 0,
-        op: WRITE_FIVE,
-    };
-    let fault = WorldFault::TooManyOperations;
-    let takes = takes_so_many(&mut world, &call, MOST_OPERATIONS, fault);
-    assert!(rt; takes && has_points(&world, MOST_OPERATIONS));
+fn a_run_has_so_many_operations_and_events(rt: HostRuntime) -> Result<(), Fail> {
+    let shape = Shape::new(1, 1)?;
+    for (event, count, fault) in &LIMITS {
+        let mut world = World::<Linear>::new(rt.alloc(), shape)?;
+        assert!(rt; accepts(&mut world, event, *count, *fault));
+    }
     Ok(())
 }

@@ -1,8 +1,9 @@
 //! Runs in which an operation stands before one that was answered before its call: the schedules of `examples`, and what the
 //! checker says of the order that the clock would give.
-use crate::checks::{answers_joined, demand};
+use crate::checks::answers_joined;
 use crate::replay_rows::Row;
 use reg_commands::Command;
+use std::alloc::Global;
 
 /// A run with its report, the lines of its order, those of the order in which the operations were called, and what is said
 /// of that one.
@@ -267,19 +268,25 @@ end
     },
 ];
 
+/// Whether a run has its report, and this is said of its order and of the order of the calls.
+fn is_overtaken(alloc: Global, row: &Overtaking) -> bool {
+    let report = row.run.report;
+    let head = report.strip_suffix(row.order).unwrap_or("");
+    let (order, in_time) = ((head, row.order), (head, row.in_time));
+    answers_joined(
+        alloc,
+        Command::Replay,
+        (row.run.schedule, ""),
+        0,
+        report,
+        "",
+    ) && answers_joined(alloc, Command::Check, order, 0, "serial yes\n", "")
+        && answers_joined(alloc, Command::Check, in_time, 1, row.refusal, "")
+}
+
 #[test]
 fn no_order_keeps_the_time_of_what_is_overtaken(rt: HostRuntime) {
-    let alloc = rt.alloc();
-    for Overtaking {
-        run,
-        order,
-        in_time,
-        refusal,
-    } in &RUNS {
-        let schedule = run.schedule.as_bytes();
-        demand(&rt, alloc, Command::Replay, schedule, 0, run.report, "");
-        let head = run.report.strip_suffix(*order).unwrap_or("");
-        assert!(rt; answers_joined(alloc, Command::Check, (head, order), 0, "serial yes\n", ""));
-        assert!(rt; answers_joined(alloc, Command::Check, (head, in_time), 1, refusal, ""));
+    for row in RUNS.as_slice() {
+        assert!(rt; is_overtaken(rt.alloc(), row));
     }
 }

@@ -1,14 +1,11 @@
 //! Plays of workloads, with reports worked out apart from this code, and documents that are refused.
-use crate::checks::{answers_joined, demand};
+use crate::checks::answers_joined;
+use crate::plays::SMALL;
 use crate::replay_reports::verdict_on;
 use crate::streams::{demand_each_growth, demand_failing_streams};
 use reg_commands::Command;
 use std::alloc::{AllocError, Global};
 use std::test::Fail;
-
-/// A write and a read at process 0, and a read at process 1.
-const SMALL: &str =
-    "front = \"local-write\"\nregisters = [\"x\"]\nscripts = [[\"write x 5\", \"read x\"], [\"read x\"]]\n";
 
 /// How the report of its plays begins.
 const SMALL_HEAD: &str = "awreg report 2
@@ -377,23 +374,10 @@ fn documents_are_refused(rt: HostRuntime) {
 }
 
 #[test]
-fn a_document_is_text(rt: HostRuntime) {
-    let (command, line) = (Command::Play { fair: true }, "input: not text\n");
-    demand(&rt, rt.alloc(), command, b"\xff", 1, "", line);
-}
-
-#[test]
 fn a_play_with_failing_streams(rt: HostRuntime) -> Result<(), Fail> {
     let report = joined(rt.alloc(), SMALL_HEAD, FAIR)?;
     let command = Command::Play { fair: true };
     demand_failing_streams(&rt, rt.alloc(), command, SMALL, report.as_str());
-    Ok(())
-}
-
-#[test]
-fn a_play_with_each_growth_refused(rt: HostRuntime) -> Result<(), Fail> {
-    let report = joined(rt.alloc(), SMALL_HEAD, FAIR)?;
-    let command = Command::Play { fair: true };
     demand_each_growth(&rt, rt.alloc(), command, SMALL, report.as_str());
     Ok(())
 }

@@ -1,6 +1,6 @@
 //! Schedules that are refused, and the limits and streams of a replay.
 use crate::checks::{ONE_PROCESS, answers_joined, demand};
-use crate::streams::demand_failing_streams;
+use crate::streams::{demand_each_growth, demand_failing_streams};
 use reg_commands::Command;
 use std::alloc::{AllocError, Global};
 use std::test::Fail;
@@ -38,12 +38,6 @@ fn events_are_refused(rt: HostRuntime) {
     }
 }
 
-#[test]
-fn a_schedule_is_text(rt: HostRuntime) {
-    let line = "input: not text\n";
-    demand(&rt, rt.alloc(), Command::Replay, b"\xff", 1, "", line);
-}
-
 /// A schedule of one process with one read more than it may call.
 fn too_many_reads(alloc: Global) -> Result<String, AllocError> {
     let mut text = String::from_str(alloc, ONE)?;
@@ -64,6 +58,7 @@ fn a_process_calls_as_many_operations_as_it_may(rt: HostRuntime) -> Result<(), F
 
 #[test]
 fn a_replay_with_failing_streams(rt: HostRuntime) {
-    let schedule = ONE_PROCESS_SCHEDULE;
-    demand_failing_streams(&rt, rt.alloc(), Command::Replay, schedule, ONE_PROCESS);
+    let (schedule, report) = (ONE_PROCESS_SCHEDULE, ONE_PROCESS);
+    demand_failing_streams(&rt, rt.alloc(), Command::Replay, schedule, report);
+    demand_each_growth(&rt, rt.alloc(), Command::Replay, schedule, report);
 }

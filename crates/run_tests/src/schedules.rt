@@ -1,21 +1,14 @@
 //! Schedules as they are read, and the lines that they are refused at.
 use reg_base::Op;
 use reg_front::Front;
-use reg_text::Why;
-use reg_workload::{Schedule, ScheduleFault, parse_schedule};
+use reg_workload::{Schedule, ScheduleFault, Why, parse_schedule};
 use reg_world::Event;
 use std::alloc::{AllocError, Global};
 use std::test::Fail;
 
-/// The fault of a line. None where nothing is wrong with it.
-fn fault(line: u64, why: Option<Why>) -> Option<ScheduleFault> {
-    let why = why?;
-    Some(ScheduleFault::Line { line, why })
-}
-
-/// Whether a text is refused at this line and for this cause, or is read where there is none.
-fn is_judged(alloc: Global, text: &str, line: u64, why: Option<Why>) -> bool {
-    parse_schedule(alloc, text).err() == fault(line, why)
+/// Whether a text is refused at this line and for this cause.
+fn is_judged(alloc: Global, text: &str, line: u64, why: Why) -> bool {
+    parse_schedule(alloc, text).err() == Some(ScheduleFault::Line { line, why })
 }
 
 const SCHEDULE: &str =
@@ -85,7 +78,7 @@ const HEADERS: [(&str, u64, Why); 20] = [
 #[test]
 fn a_header_is_refused_at_its_line(rt: HostRuntime) {
     for (text, line, why) in &HEADERS {
-        assert!(rt; is_judged(rt.alloc(), text, *line, Some(*why)), "{text}");
+        assert!(rt; is_judged(rt.alloc(), text, *line, *why), "{text}");
     }
 }
 
@@ -112,7 +105,7 @@ fn is_no_event(alloc: Global, line: &str, why: Why) -> Result<bool, AllocError> 
     let text = format!(in alloc;
         "processes 2\nregisters x\nfront linear\ntick 0\n{line}\ntick 1\n"
     )?;
-    Ok(is_judged(alloc, text.as_str(), 5, Some(why)))
+    Ok(is_judged(alloc, text.as_str(), 5, why))
 }
 
 #[test]
@@ -123,84 +116,19 @@ fn an_event_is_refused_at_its_line(rt: HostRuntime) -> Result<(), Fail> {
     Ok(())
 }
 
-/// A schedule of as many ticks as it may have, and then this line.
-fn push_ticks(text: &mut String, last: &str) -> Result<(), AllocError> {
+/// Adds a schedule of one tick more than it may have.
+fn push_ticks(text: &mut String) -> Result<(), AllocError> {
     text.push_str("processes 1\nregisters x\nfront linear\n")?;
-    for _ in 0..1_048_576u32 {
+    for _ in 0..1_048_577u32 {
         text.push_str("tick 0\n")?;
-    }
-    text.push_str(last)
-}
-
-/// A line behind as many events as a schedule may have, and why it is refused.
-const FURTHER: [(&str, Option<Why>); 3] = [
-    ("# the last\n", None),
-    ("call 0 read zz\n", Some(Why::Range)),
-    ("call 0 read\n", Some(Why::Form)),
-];
-
-/// Whether the line behind so many events is refused for this cause, or is read where there is none.
-fn is_judged_behind(alloc: Global, last: &str, why: Option<Why>) -> Result<bool, AllocError> {
-    let mut text = String::new(alloc);
-    push_ticks(&mut text, last)?;
-    Ok(is_judged(alloc, text.as_str(), 1_048_580, why))
-}
-
-#[test]
-fn a_schedule_has_not_too_many_events(rt: HostRuntime) -> Result<(), Fail> {
-    for (last, why) in &FURTHER {
-        assert!(rt; is_judged_behind(rt.alloc(), last, *why)?);
     }
     Ok(())
 }
 
-/// The letter of the last four bits.
-fn letter(number: u32) -> char {
-    char::from(b'a' + (number % 16) as u8)
-}
-
-/// A name of three letters behind a space, another for each number below 4,096.
-fn push_name(text: &mut String, number: u32) -> Result<(), AllocError> {
-    text.push(' ')?;
-    text.push(letter(number / 256))?;
-    text.push(letter(number / 16))?;
-    text.push(letter(number))
-}
-
-/// A schedule without events of so many names, and then these.
-fn push_names(text: &mut String, count: u32, rest: &str) -> Result<(), AllocError> {
-    text.push_str("processes 1\nregisters")?;
-    for number in 0..count {
-        push_name(text, number)?;
-    }
-    text.push_str(rest)?;
-    text.push_str("\nfront linear\n")
-}
-
-/// How many names of three letters there are, what follows them, and why the names are refused.
-const NAMES: [(u32, &str, Option<Why>); 4] = [
-    (4096, "", None),
-    (4096, " aaa", Some(Why::Range)),
-    (4096, " a1", Some(Why::Range)),
-    (4095, " aaa b", Some(Why::Name)),
-];
-
-/// Whether so many names, and then these, are refused for this cause, or are read where there is none.
-fn are_names_judged(
-    alloc: Global,
-    count: u32,
-    rest: &str,
-    why: Option<Why>,
-) -> Result<bool, AllocError> {
-    let mut text = String::new(alloc);
-    push_names(&mut text, count, rest)?;
-    Ok(is_judged(alloc, text.as_str(), 2, why))
-}
-
 #[test]
-fn a_schedule_has_not_too_many_names(rt: HostRuntime) -> Result<(), Fail> {
-    for (count, rest, why) in &NAMES {
-        assert!(rt; are_names_judged(rt.alloc(), *count, rest, *why)?, "{rest}");
-    }
+fn a_schedule_has_not_too_many_events(rt: HostRuntime) -> Result<(), Fail> {
+    let mut text = String::new(rt.alloc());
+    push_ticks(&mut text)?;
+    assert!(rt; is_judged(rt.alloc(), text.as_str(), 1_048_580, Why::Range));
     Ok(())
 }

@@ -1,14 +1,13 @@
-//! The reader that the tests hand to a command.
+//! The readers that the tests hand to a command.
 use std::io;
 use std::io::{ErrorKind, Read};
 
-/// Gives a text in two parts, and so many spaces behind it, at most so many bytes a read. It fails so many times after so many reads.
+/// Gives a text in two parts, at most so many bytes a read. It fails so many times after so many reads.
 #[derive(Drop)]
 pub(crate) struct Source<'a> {
     pub(crate) bytes: &'a [u8],
     /// What comes behind them.
     pub(crate) rest: &'a [u8],
-    pub(crate) spaces: usize,
     /// The most bytes of a read.
     pub(crate) most: usize,
     /// How many reads are left before it fails.
@@ -22,7 +21,6 @@ pub(crate) fn whole<'a>(bytes: &'a [u8], rest: &'a [u8]) -> Source<'a> {
     Source {
         bytes,
         rest,
-        spaces: 0,
         most: usize::MAX,
         before: u32::MAX,
         times: 0,
@@ -41,20 +39,19 @@ impl Read for Source<'_> {
             self.bytes = self.rest;
             self.rest = &[];
         }
-        let most = buf.len().min(self.most);
-        if self.bytes.is_empty() {
-            let count = most.min(self.spaces);
-            for byte in buf.iter_mut().take(count) {
-                *byte = b' ';
-            }
-            self.spaces -= count;
-            return Ok(count);
-        }
-        let mut front = &self.bytes[..self.bytes.len().min(most)];
-        let count = front.read(buf)?;
-        if count <= self.bytes.len() {
-            self.bytes = &self.bytes[count..];
-        }
+        let count = buf.len().min(self.most).min(self.bytes.len());
+        buf[..count].copy_from_slice(&self.bytes[..count]);
+        self.bytes = &self.bytes[count..];
         Ok(count)
+    }
+}
+
+/// A reader that never ends.
+#[derive(Drop)]
+pub(crate) struct Endless {}
+
+impl Read for Endless {
+    fn read(&mut self, buf: &mut [u8]) -> io::Result<usize> {
+        Ok(buf.len())
     }
 }

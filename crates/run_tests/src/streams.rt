@@ -1,6 +1,6 @@
 //! Streams that fail, that never end, and memory that is refused in the midst of a command.
-use crate::checks::{ONE_PROCESS, answers, demand_read, is_answer};
-use crate::sources::{Source, whole};
+use crate::checks::{ONE_PROCESS, answers, is_answer};
+use crate::sources::{Endless, Source, whole};
 use refusing::Refusing;
 use reg_commands::{Command, run_text};
 use std::alloc::Global;
@@ -280,20 +280,21 @@ pub(crate) fn demand_each_growth(
 fn a_check_with_failing_streams(rt: HostRuntime) {
     let both = "serial yes\npoints yes\n";
     demand_failing_streams(&rt, rt.alloc(), Command::Check, ONE_PROCESS, both);
+    demand_each_growth(&rt, rt.alloc(), Command::Check, ONE_PROCESS, both);
 }
 
 #[test]
 fn an_input_without_end(rt: HostRuntime) {
-    let line = "input: too long\n";
-    let mut reader = Source {
-        spaces: usize::MAX,
-        ..whole(&[], &[])
-    };
-    demand_read(&rt, rt.alloc(), Command::Check, &mut reader, 1, "", line);
-}
-
-#[test]
-fn a_check_with_each_growth_refused(rt: HostRuntime) {
-    let both = "serial yes\npoints yes\n";
-    demand_each_growth(&rt, rt.alloc(), Command::Check, ONE_PROCESS, both);
+    let alloc = rt.alloc();
+    let (mut output, mut errors) = (Vec::new(alloc), Vec::new(alloc));
+    let status = run_text(
+        alloc,
+        alloc,
+        Command::Check,
+        &mut Endless {},
+        &mut output,
+        &mut errors,
+    );
+    let done = (status, output.as_slice(), errors.as_slice());
+    assert!(rt; is_answer(done, 1, "", "input: too long\n"));
 }

@@ -1,7 +1,9 @@
 //! Runs as worked by hand, and what a world tells after each.
 use part_tests::values::{READ, WRITE_FIVE};
-use reg_base::Op;
-use reg_world::Event;
+use reg_base::{Answer, Op, OpId, Stamp};
+use reg_frames::{Body, Frame};
+use reg_history::{Entry, Point};
+use reg_world::{CopyRead, Event, First};
 
 macro_rules! write_of {
     ($value:expr) => {
@@ -31,31 +33,131 @@ macro_rules! take {
     };
 }
 
+macro_rules! id {
+    ($process:expr, $number:expr) => {
+        OpId {
+            process: $process,
+            number: $number,
+        }
+    };
+}
+
+macro_rules! called {
+    ($at:expr, $process:expr, $number:expr, $op:expr) => {
+        Entry::Called {
+            at: $at,
+            id: id!($process, $number),
+            op: $op,
+        }
+    };
+}
+
+macro_rules! answered {
+    ($at:expr, $process:expr, $number:expr, $answer:expr) => {
+        Entry::Answered {
+            at: $at,
+            id: id!($process, $number),
+            answer: $answer,
+        }
+    };
+}
+
+/// A first operation that was cast at time 1, and the event at which it was delivered first.
+macro_rules! first {
+    ($process:expr, $op:expr, $at:expr) => {
+        First {
+            stamp: Stamp {
+                time: 1,
+                process: $process,
+            },
+            id: id!($process, 0),
+            op: $op,
+            at: $at,
+        }
+    };
+}
+
+macro_rules! cast {
+    ($number:expr, $time:expr, $op:expr) => {
+        Frame::Numbered {
+            number: $number,
+            body: Body::Cast {
+                time: $time,
+                op: $op,
+            },
+        }
+    };
+}
+
+macro_rules! ack {
+    ($number:expr, $time:expr) => {
+        Frame::Numbered {
+            number: $number,
+            body: Body::Ack { time: $time },
+        }
+    };
+}
+
+macro_rules! got {
+    ($count:expr) => {
+        Frame::Got { count: $count }
+    };
+}
+
+macro_rules! point {
+    ($process:expr, $at:expr) => {
+        Point {
+            id: id!($process, 0),
+            at: $at,
+        }
+    };
+}
+
 const TICK: Event = Event::Tick { process: 0 };
 
-/// How many processes, the events, and what the world then tells.
-pub(crate) type Row = (u32, &'static [Event], &'static str);
+/// A run over one register, and what its world then tells.
+pub(crate) struct Row {
+    pub(crate) processes: u32,
+    pub(crate) events: &'static [Event],
+    pub(crate) history: &'static [Entry],
+    pub(crate) casts: &'static [First],
+    pub(crate) reads: &'static [CopyRead],
+    pub(crate) order: &'static [OpId],
+    /// The points, where the run is linear.
+    pub(crate) points: &'static [Point],
+    /// The clock of each process, how many of its frames are pending, whether it is busy, and what the register holds in its copy.
+    pub(crate) copies: &'static [(u64, u64, bool, u64)],
+    /// The frames put from one process to another, where there are any.
+    pub(crate) wires: &'static [(u8, u8, &'static [Frame])],
+}
 
 pub(crate) const LINEAR: [Row; 2] = [
     // A tick puts the frames again.
-    (
-        2,
-        &[call!(0, WRITE_FIVE), TICK, take!(0, 1, 1), take!(1, 0, 1)],
-        "history: 0 p0 #0 write x 5, 3 p0 #0 done,
-casts: 1 p0 #0 at 2,
-reads:
-order: p0 #0,
-p0 clock 3, pending 1, free, x 5
-p1 clock 2, pending 1, free, x 5
-wire 0 1: cast 0 at 1 write x 5, cast 0 at 1 write x 5, got 1,
-wire 1 0: got 1, ack 0 at 2,
-points: p0 #0 at 2,
-",
-    ),
+    Row {
+        processes: 2,
+        events: &[call!(0, WRITE_FIVE), TICK, take!(0, 1, 1), take!(1, 0, 1)],
+        history: &[
+            called!(0, 0, 0, WRITE_FIVE),
+            answered!(3, 0, 0, Answer::Done),
+        ],
+        casts: &[first!(0, WRITE_FIVE, 2)],
+        reads: &[],
+        order: &[id!(0, 0)],
+        points: &[point!(0, 2)],
+        copies: &[(3, 1, false, 5), (2, 1, false, 5)],
+        wires: &[
+            (
+                0,
+                1,
+                &[cast!(0, 1, WRITE_FIVE), cast!(0, 1, WRITE_FIVE), got!(1)],
+            ),
+            (1, 0, &[got!(1), ack!(0, 2)]),
+        ],
+    },
     // The order is that of whoever delivers first.
-    (
-        3,
-        &[
+    Row {
+        processes: 3,
+        events: &[
             call!(0, write_of!(1)),
             call!(1, write_of!(2)),
             take!(0, 2, 0),
@@ -65,29 +167,37 @@ points: p0 #0 at 2,
             take!(0, 1, 2),
             take!(2, 0, 1),
         ],
-        "history: 0 p0 #0 write x 1, 1 p1 #0 write x 2, 6 p1 #0 done, 7 p0 #0 done,
-casts: 1 p0 #0 at 4, 1 p1 #0 at 6,
-reads:
-order: p0 #0, p1 #0,
-p0 clock 3, pending 4, free, x 2
-p1 clock 5, pending 4, free, x 2
-p2 clock 2, pending 2, free, x 0
-wire 0 1: cast 0 at 1 write x 1, got 1, ack 1 at 2,
-wire 0 2: cast 0 at 1 write x 1, ack 1 at 2, got 1,
-wire 1 0: cast 0 at 1 write x 2, got 1, ack 1 at 4, got 2,
-wire 1 2: cast 0 at 1 write x 2, got 1, ack 1 at 4,
-wire 2 0: got 1, ack 0 at 2,
-wire 2 1: ack 0 at 2,
-points: p0 #0 at 4, p1 #0 at 6,
-",
-    ),
+        history: &[
+            called!(0, 0, 0, write_of!(1)),
+            called!(1, 1, 0, write_of!(2)),
+            answered!(6, 1, 0, Answer::Done),
+            answered!(7, 0, 0, Answer::Done),
+        ],
+        casts: &[first!(0, write_of!(1), 4), first!(1, write_of!(2), 6)],
+        reads: &[],
+        order: &[id!(0, 0), id!(1, 0)],
+        points: &[point!(0, 4), point!(1, 6)],
+        copies: &[(3, 4, false, 2), (5, 4, false, 2), (2, 2, false, 0)],
+        wires: &[
+            (0, 1, &[cast!(0, 1, write_of!(1)), got!(1), ack!(1, 2)]),
+            (0, 2, &[cast!(0, 1, write_of!(1)), ack!(1, 2), got!(1)]),
+            (
+                1,
+                0,
+                &[cast!(0, 1, write_of!(2)), got!(1), ack!(1, 4), got!(2)],
+            ),
+            (1, 2, &[cast!(0, 1, write_of!(2)), got!(1), ack!(1, 4)]),
+            (2, 0, &[got!(1), ack!(0, 2)]),
+            (2, 1, &[ack!(0, 2)]),
+        ],
+    },
 ];
 
 pub(crate) const LOCAL_READ: [Row; 1] = [
     // A local read may answer an older value.
-    (
-        3,
-        &[
+    Row {
+        processes: 3,
+        events: &[
             call!(0, WRITE_FIVE),
             take!(0, 1, 0),
             take!(0, 2, 0),
@@ -95,54 +205,75 @@ pub(crate) const LOCAL_READ: [Row; 1] = [
             take!(2, 0, 1),
             call!(1, READ),
         ],
-        "history: 0 p0 #0 write x 5, 4 p0 #0 done, 5 p1 #0 read x, 5 p1 #0 value 0,
-casts: 1 p0 #0 at 4,
-reads: p1 #0 place 0,
-order: p1 #0, p0 #0,
-p0 clock 4, pending 2, free, x 5
-p1 clock 2, pending 2, free, x 0
-p2 clock 2, pending 2, free, x 0
-wire 0 1: cast 0 at 1 write x 5, got 1,
-wire 0 2: cast 0 at 1 write x 5, got 1,
-wire 1 0: got 1, ack 0 at 2,
-wire 1 2: ack 0 at 2,
-wire 2 0: got 1, ack 0 at 2,
-wire 2 1: ack 0 at 2,
-",
-    ),
+        history: &[
+            called!(0, 0, 0, WRITE_FIVE),
+            answered!(4, 0, 0, Answer::Done),
+            called!(5, 1, 0, READ),
+            answered!(5, 1, 0, Answer::Value(0)),
+        ],
+        casts: &[first!(0, WRITE_FIVE, 4)],
+        reads: &[CopyRead {
+            id: id!(1, 0),
+            place: 0,
+        }],
+        order: &[id!(1, 0), id!(0, 0)],
+        points: &[],
+        copies: &[(4, 2, false, 5), (2, 2, false, 0), (2, 2, false, 0)],
+        wires: &[
+            (0, 1, &[cast!(0, 1, WRITE_FIVE), got!(1)]),
+            (0, 2, &[cast!(0, 1, WRITE_FIVE), got!(1)]),
+            (1, 0, &[got!(1), ack!(0, 2)]),
+            (1, 2, &[ack!(0, 2)]),
+            (2, 0, &[got!(1), ack!(0, 2)]),
+            (2, 1, &[ack!(0, 2)]),
+        ],
+    },
 ];
 
 pub(crate) const LOCAL_WRITE: [Row; 2] = [
     // A finished write that nobody delivered stands last.
-    (
-        2,
-        &[call!(0, WRITE_FIVE)],
-        "history: 0 p0 #0 write x 5, 0 p0 #0 done,
-casts:
-reads:
-order: p0 #0,
-p0 clock 1, pending 1, free, x 0
-p1 clock 0, pending 0, free, x 0
-wire 0 1: cast 0 at 1 write x 5,
-",
-    ),
+    Row {
+        processes: 2,
+        events: &[call!(0, WRITE_FIVE)],
+        history: &[
+            called!(0, 0, 0, WRITE_FIVE),
+            answered!(0, 0, 0, Answer::Done),
+        ],
+        casts: &[],
+        reads: &[],
+        order: &[id!(0, 0)],
+        points: &[],
+        copies: &[(1, 1, false, 0), (0, 0, false, 0)],
+        wires: &[(0, 1, &[cast!(0, 1, WRITE_FIVE)])],
+    },
     // A waiting read answers before a later cast.
-    (
-        2,
-        &[
+    Row {
+        processes: 2,
+        events: &[
             call!(0, write_of!(1)),
             call!(1, write_of!(2)),
             call!(0, READ),
             take!(1, 0, 0),
         ],
-        "history: 0 p0 #0 write x 1, 0 p0 #0 done, 1 p1 #0 write x 2, 1 p1 #0 done, 2 p0 #1 read x, 3 p0 #1 value 1,
-casts: 1 p0 #0 at 3, 1 p1 #0 at 3,
-reads: p0 #1 place 1,
-order: p0 #0, p0 #1, p1 #0,
-p0 clock 2, pending 2, free, x 2
-p1 clock 1, pending 1, free, x 0
-wire 0 1: cast 0 at 1 write x 1, got 1, ack 1 at 2,
-wire 1 0: cast 0 at 1 write x 2,
-",
-    ),
+        history: &[
+            called!(0, 0, 0, write_of!(1)),
+            answered!(0, 0, 0, Answer::Done),
+            called!(1, 1, 0, write_of!(2)),
+            answered!(1, 1, 0, Answer::Done),
+            called!(2, 0, 1, READ),
+            answered!(3, 0, 1, Answer::Value(1)),
+        ],
+        casts: &[first!(0, write_of!(1), 3), first!(1, write_of!(2), 3)],
+        reads: &[CopyRead {
+            id: id!(0, 1),
+            place: 1,
+        }],
+        order: &[id!(0, 0), id!(0, 1), id!(1, 0)],
+        points: &[],
+        copies: &[(2, 2, false, 2), (1, 1, false, 0)],
+        wires: &[
+            (0, 1, &[cast!(0, 1, write_of!(1)), got!(1), ack!(1, 2)]),
+            (1, 0, &[cast!(0, 1, write_of!(2))]),
+        ],
+    },
 ];

@@ -1,51 +1,154 @@
 //! Runs as worked by hand: what a world tells after its events.
-use crate::telling::{tells, tells_with_points};
 use crate::world_rows::{LINEAR, LOCAL_READ, LOCAL_WRITE, Row};
-use reg_base::Shape;
+use part_tests::values::WRITE_FIVE;
+use reg_base::{OpId, Shape};
+use reg_frames::Frame;
 use reg_front::{FrontEnd, Linear, LocalRead, LocalWrite};
+use reg_history::Point;
+use reg_process::Process;
 use reg_world::{Event, World};
-use std::alloc::Global;
-use std::process::Abort;
+use std::alloc::{Allocator, Global};
 use std::test::Fail;
 
-/// Whether the world has this shape, and accepted just these events.
-fn is_run_of<F: FrontEnd>(world: &World<F>, shape: Shape, events: &[Event]) -> bool {
-    world.shape() == shape && world.accepted() == events && world.events() as usize == events.len()
+fn is_copy<F: FrontEnd>(process: &Process<F>, copy: &(u64, u64, bool, u64)) -> bool {
+    let (clock, pending, busy, value) = *copy;
+    process.clock() == clock
+        && process.pending() == pending
+        && process.busy() == busy
+        && process.registers().get(0) == Some(value)
 }
 
-/// Whether a linear run tells what its row says.
-fn linear_run_is_right(alloc: Global, row: &Row) -> Result<bool, Fail> {
-    let (processes, events, says) = row;
-    let shape = Shape::new(*processes, 1)?;
-    let world = World::<Linear>::run(alloc, shape, events)?;
-    Ok(is_run_of(&world, shape, events) && tells_with_points(alloc, &world, says))
+/// Whether these are the copies of the processes.
+fn has_copies<F: FrontEnd>(world: &World<F>, copies: &[(u64, u64, bool, u64)]) -> bool {
+    let mut number = 0u8;
+    for copy in copies {
+        match world.process(number) {
+            Some(process) if is_copy(process, copy) => {}
+            _ => return false,
+        }
+        number = number.wrapping_add(1);
+    }
+    world.process(number).is_none()
+}
+
+/// Whether these are frames of the world.
+fn has_wires<F: FrontEnd>(world: &World<F>, wires: &[(u8, u8, &[Frame])]) -> bool {
+    for (from, to, frames) in wires {
+        if world.wire(*from, *to) != Some(*frames) {
+            return false;
+        }
+    }
+    true
+}
+
+/// Whether the witness of the world is this one.
+pub(crate) fn has_witness<F: FrontEnd, A: Allocator + Copy>(
+    world: &World<F, A>,
+    ids: &[OpId],
+) -> bool {
+    match world.witness() {
+        Ok(order) => order.as_slice() == ids,
+        Err(_) => false,
+    }
+}
+
+/// Whether the world tells its history with these as its serial order.
+fn has_order<F: FrontEnd>(world: &World<F>, ids: &[OpId]) -> bool {
+    match world.serial_order() {
+        Ok((history, order)) => {
+            history.entries() == world.history().entries() && order.as_slice() == ids
+        }
+        Err(_) => false,
+    }
+}
+
+/// Whether the world tells what its row says, but for the points.
+fn tells<F: FrontEnd>(world: &World<F>, row: &Row) -> bool {
+    world.shape().processes() == row.processes
+        && world.accepted() == row.events
+        && world.history().entries() == row.history
+        && world.order() == row.casts
+        && world.reads() == row.reads
+        && has_witness(world, row.order)
+        && has_order(world, row.order)
+        && has_copies(world, row.copies)
+        && has_wires(world, row.wires)
+}
+
+/// Whether the world tells its history with these as its linearization.
+fn has_linearization(world: &World<Linear>, ids: &[Point]) -> bool {
+    match world.linearization() {
+        Ok((history, points)) => {
+            history.entries() == world.history().entries() && points.as_slice() == ids
+        }
+        Err(_) => false,
+    }
+}
+
+/// Whether these are the points of the world.
+fn has_points(world: &World<Linear>, ids: &[Point]) -> bool {
+    match world.points() {
+        Ok(points) => points.as_slice() == ids && has_linearization(world, ids),
+        Err(_) => false,
+    }
+}
+
+/// The world of a row.
+fn world_of<F: FrontEnd>(alloc: Global, row: &Row) -> Option<World<F>> {
+    let shape = Shape::new(row.processes, 1).ok()?;
+    World::run(alloc, shape, row.events).ok()
+}
+
+fn is_right<F: FrontEnd>(alloc: Global, row: &Row) -> bool {
+    match world_of::<F>(alloc, row) {
+        Some(world) => tells(&world, row),
+        None => false,
+    }
+}
+
+fn has_its_points(alloc: Global, row: &Row) -> bool {
+    match world_of::<Linear>(alloc, row) {
+        Some(world) => has_points(&world, row.points),
+        None => false,
+    }
 }
 
 #[test]
-fn linear_runs(rt: HostRuntime) -> Result<(), Fail> {
-    for row in &LINEAR {
-        assert!(rt; linear_run_is_right(rt.alloc(), row)?);
+fn linear_runs(rt: HostRuntime) {
+    for row in LINEAR.as_slice() {
+        assert!(rt; is_right::<Linear>(rt.alloc(), row) && has_its_points(rt.alloc(), row));
     }
-    Ok(())
-}
-
-/// Whether a run tells what its row says, which has no points.
-fn run_is_right<F: FrontEnd>(alloc: Global, row: &Row) -> Result<bool, Fail> {
-    let (processes, events, says) = row;
-    let shape = Shape::new(*processes, 1)?;
-    let world = World::<F>::run(alloc, shape, events)?;
-    Ok(is_run_of(&world, shape, events) && tells(alloc, &world, says))
-}
-
-fn follow<F: FrontEnd>(rt: &(impl Abort + AllocGlobal), rows: &[Row]) -> Result<(), Fail> {
-    for row in rows {
-        assert!(rt; run_is_right::<F>(rt.alloc(), row)?);
-    }
-    Ok(())
 }
 
 #[test]
-fn local_runs(rt: HostRuntime) -> Result<(), Fail> {
-    follow::<LocalRead>(&rt, LOCAL_READ.as_slice())?;
-    follow::<LocalWrite>(&rt, LOCAL_WRITE.as_slice())
+fn local_runs(rt: HostRuntime) {
+    for row in LOCAL_READ.as_slice() {
+        assert!(rt; is_right::<LocalRead>(rt.alloc(), row));
+    }
+    for row in LOCAL_WRITE.as_slice() {
+        assert!(rt; is_right::<LocalWrite>(rt.alloc(), row));
+    }
+}
+
+const CALL: Event = Event::Call {
+    process: 0,
+    op: WRITE_FIVE,
+};
+
+const TICK: Event = Event::Tick { process: 1 };
+
+/// Whether the world accepted the call, and goes on with a tick.
+fn goes_on(world: &mut World<Linear>) -> bool {
+    world.accepted() == [CALL].as_slice()
+        && world.step(&TICK) == Ok(())
+        && world.accepted() == [CALL, TICK].as_slice()
+}
+
+#[test]
+fn a_run_goes_on_behind_its_list(rt: HostRuntime) -> Result<(), Fail> {
+    let shape = Shape::new(2, 1)?;
+    let events = vec![in rt.alloc(); CALL]?;
+    let mut world = World::<Linear>::run_owned(rt.alloc(), shape, events)?;
+    assert!(rt; goes_on(&mut world));
+    Ok(())
 }

@@ -145,16 +145,6 @@ fn no_outcome_is_seen_that_sequential_consistency_forbids(rt: HostRuntime) -> Re
 }
 
 #[test]
-fn nothing_is_late_where_every_operation_is_cast(rt: HostRuntime) -> Result<(), Fail> {
-    let alloc = rt.alloc();
-    for test in &TESTS {
-        let table = table(alloc, test.plays, "linear", test.work)?;
-        assert!(rt; !table.contains("late"), "{table}");
-    }
-    Ok(())
-}
-
-#[test]
 fn without_budget_no_play_is_finished(rt: HostRuntime) -> Result<(), Fail> {
     let alloc = rt.alloc();
     let work = "registers = [\"x\"]\nscripts = [[\"write x 1\"], [\"read x\"]]\nbudget = 1\n";

@@ -1,23 +1,14 @@
 //! The data and the page of runs, with what was worked out by hand from the definitions.
-use crate::shown::{goes_out_in_part, tells};
+use crate::shown::{WRITE, tells};
 use crate::values::shown;
 use reg_page::head::HEAD;
 use reg_page::tail::TAIL;
 use reg_show::Showing;
 use serde_json::Value;
 use std::alloc::Global;
-use std::test::Fail;
 
-/// A write that is done once the other process has acknowledged its cast.
-const WRITE: &str = "processes 2
-registers x
-front linear
-call 0 write x 5
-take 0 1 0
-take 1 0 1
-";
-
-const WRITE_DATA: &str = r##"{"version":1,
+/// What is told of a write.
+pub(crate) const WRITE_DATA: &str = r##"{"version":1,
 "title":"",
 "processes":2,
 "registers":["x"],
@@ -168,27 +159,6 @@ fn data_is_that_worked_by_hand(rt: HostRuntime) {
     }
 }
 
-/// The member of this path of the data, as a number.
-fn number_at(alloc: Global, json: &str, path: &str) -> Option<u64> {
-    match Value::from_str(alloc, json) {
-        Ok(value) => value.pointer(path).and_then(Value::as_u64),
-        Err(_) => None,
-    }
-}
-
-#[test]
-fn a_json_reader_reads_the_data(rt: HostRuntime) {
-    for (json, path, wanted) in [
-        (WRITE_DATA, "/events/2/clock", 3u64),
-        (WRITE_DATA, "/states/2/peers/1/0", 2),
-        (WRITE_DATA, "/points/0/2", 1),
-        (HELD_DATA, "/operations/2/answer/at", 3),
-        (HELD_DATA, "/reads/0/2", 1),
-    ] {
-        assert!(rt; number_at(rt.alloc(), json, path) == Some(wanted), "{path}");
-    }
-}
-
 /// Whether the member of this path of the data is this string.
 fn is_string_at(alloc: Global, json: &str, path: &str, wanted: &str) -> bool {
     match Value::from_str(alloc, json) {
@@ -199,20 +169,24 @@ fn is_string_at(alloc: Global, json: &str, path: &str, wanted: &str) -> bool {
 
 #[test]
 fn a_json_reader_reads_the_comments(rt: HostRuntime) {
-    for (path, wanted) in [
+    for (json, path, wanted) in [
+        (WRITE_DATA, "/events/2/event", "take 1 0 1"),
+        (HELD_DATA, "/operations/2/answer/text", "value 1"),
         (
+            NOTED_DATA,
             "/title",
             "</script><script>alert(1)</script>  He said \"no\" & left \\ here.",
         ),
-        ("/events/0/note", "no space \u{e9} \u{2603} \u{1f600}"),
-        ("/events/1/note", "\ttab\u{7f}"),
-        ("/events/2/note", ""),
-        ("/events/3/note", "<!-- -->"),
+        (
+            NOTED_DATA,
+            "/events/0/note",
+            "no space \u{e9} \u{2603} \u{1f600}",
+        ),
+        (NOTED_DATA, "/events/1/note", "\ttab\u{7f}"),
+        (NOTED_DATA, "/events/2/note", ""),
+        (NOTED_DATA, "/events/3/note", "<!-- -->"),
     ] {
-        assert!(rt;
-            is_string_at(rt.alloc(), NOTED_DATA, path, wanted),
-            "{path}"
-        );
+        assert!(rt; is_string_at(rt.alloc(), json, path, wanted), "{path}");
     }
 }
 
@@ -225,18 +199,17 @@ fn behind<'b>(bytes: &'b [u8], texts: &[&str]) -> Option<&'b [u8]> {
     Some(rest)
 }
 
-/// What stands behind a page that is its head, this data and its tail.
-fn behind_page<'b>(page: &'b [u8], json: &str) -> Option<&'b [u8]> {
-    let data = behind(page, &HEAD)?;
-    let tail = behind(data, &[json])?;
-    behind(tail, &TAIL)
+/// Whether the page is its head, the data without its last line feed, and its tail.
+fn is_page(page: &[u8], data_text: &str) -> bool {
+    let data = behind(page, &HEAD).unwrap_or(&[]);
+    let tail = behind(data, &[data_text.trim_end()]).unwrap_or(&[]);
+    matches!(behind(tail, &TAIL), Some([]))
 }
 
-/// Whether the page is its head, the data without its last line feed, and its tail.
+/// Whether the page of a text has this data.
 fn is_framed(alloc: Global, text: &str, data_text: &str) -> bool {
     let (status, page, errors) = shown(alloc, Showing::Page, text.as_bytes());
-    let rest = behind_page(page.as_slice(), data_text.trim_end());
-    status == 0 && errors.is_empty() && rest.is_some_and(|bytes| bytes.is_empty())
+    status == 0 && errors.is_empty() && is_page(page.as_slice(), data_text)
 }
 
 #[test]
@@ -244,33 +217,4 @@ fn a_page_is_its_head_the_data_and_its_tail(rt: HostRuntime) {
     for (text, wanted) in [(WRITE, WRITE_DATA), (HELD, HELD_DATA), (NOTED, NOTED_DATA)] {
         assert!(rt; is_framed(rt.alloc(), text, wanted), "{text}");
     }
-}
-
-#[test]
-fn data_whose_writer_is_full_goes_out_in_part(rt: HostRuntime) {
-    for room in [0usize, 1, 99, 200] {
-        let is_part = goes_out_in_part(rt.alloc(), Showing::Data, WRITE, WRITE_DATA, room);
-        assert!(rt; is_part, "{room}");
-    }
-}
-
-/// Whether one event more than are drawn is refused. They are put into the text, which is empty.
-fn refuses_so_many(alloc: Global, text: &mut String) -> Result<bool, Fail> {
-    text.push_str("processes 1\nregisters x\nfront linear\n")?;
-    for _ in 0..401 {
-        text.push_str("tick 0\n")?;
-    }
-    let told = (1, "", "too many events to draw\n");
-    Ok(
-        tells(alloc, Showing::Data, text.as_str(), told)
-            && tells(alloc, Showing::Page, text.as_str(), told),
-    )
-}
-
-#[test]
-fn a_page_has_at_most_400_events(rt: HostRuntime) -> Result<(), Fail> {
-    let mut text = String::new(rt.alloc());
-    let refused = refuses_so_many(rt.alloc(), &mut text);
-    assert!(rt; refused?);
-    Ok(())
 }

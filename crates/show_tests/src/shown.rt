@@ -1,4 +1,5 @@
 //! Schedules, traces and drawings of texts, with what was worked out by hand from the rules.
+use crate::run_data::WRITE_DATA;
 use crate::values::shown;
 use reg_commands::{Command, run_text};
 use reg_show::{Showing, show_text};
@@ -6,7 +7,7 @@ use std::alloc::Global;
 use std::test::Fail;
 
 /// A write that is done once the other process has acknowledged its cast.
-const WRITE: &str = "processes 2
+pub(crate) const WRITE: &str = "processes 2
 registers x
 front linear
 call 0 write x 5
@@ -135,13 +136,7 @@ fn traces_are_those_worked_by_hand(rt: HostRuntime) {
 }
 
 /// Whether what is shown of a text goes out in part where there is so much room for it.
-pub(crate) fn goes_out_in_part(
-    alloc: Global,
-    showing: Showing,
-    text: &str,
-    whole: &str,
-    room: usize,
-) -> bool {
+fn goes_out_in_part(alloc: Global, showing: Showing, text: &str, whole: &str, room: usize) -> bool {
     let mut buffer = [0u8; 200];
     if room > buffer.len() {
         return false;
@@ -155,10 +150,14 @@ pub(crate) fn goes_out_in_part(
 }
 
 #[test]
-fn a_trace_whose_writer_is_full_goes_out_in_part(rt: HostRuntime) {
-    for room in [0usize, 1, 99, 200] {
-        let is_part = goes_out_in_part(rt.alloc(), Showing::Trace, WRITE, WRITE_TRACE, room);
-        assert!(rt; is_part, "{room}");
+fn what_is_shown_to_a_writer_that_is_full_goes_out_in_part(rt: HostRuntime) {
+    for (showing, whole) in [(Showing::Trace, WRITE_TRACE), (Showing::Data, WRITE_DATA)] {
+        for room in [0usize, 1, 99, 200] {
+            assert!(rt;
+                goes_out_in_part(rt.alloc(), showing, WRITE, whole, room),
+                "{room}"
+            );
+        }
     }
 }
 
@@ -183,7 +182,7 @@ fn is_drawn(alloc: Global, text: &str) -> bool {
     status == 0 && errors.is_empty() && output.as_slice().starts_with(b"<svg ")
 }
 
-/// Whether 400 events are drawn, and one more is refused. They are put into the text, which is empty.
+/// Whether 400 events are drawn, and one more is refused, for data and for a page too. They are put into the text, which is empty.
 fn draws_so_many(alloc: Global, text: &mut String) -> Result<bool, Fail> {
     text.push_str("processes 1\nregisters x\nfront linear\n")?;
     for _ in 0..400 {
@@ -192,7 +191,12 @@ fn draws_so_many(alloc: Global, text: &mut String) -> Result<bool, Fail> {
     let drawn = is_drawn(alloc, text.as_str());
     text.push_str("tick 0\n")?;
     let told = (1, "", "too many events to draw\n");
-    Ok(drawn && tells(alloc, Showing::Draw, text.as_str(), told))
+    Ok(
+        drawn
+            && tells(alloc, Showing::Draw, text.as_str(), told)
+            && tells(alloc, Showing::Data, text.as_str(), told)
+            && tells(alloc, Showing::Page, text.as_str(), told),
+    )
 }
 
 #[test]

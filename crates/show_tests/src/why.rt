@@ -1,15 +1,32 @@
 //! How it is told what is wrong with a text: all of the answer, a first part where the writer fails, and nothing where there is no memory.
+use crate::{why_reports, why_schedules, why_workloads};
 use refusing::{Trial, refusals};
 use reg_show::why_text;
 use std::alloc::{Allocator, Global};
 use std::test::Fail;
 
 /// Whether this is told of a text, with the status that goes with it.
-pub(crate) fn is_told(alloc: Global, text: &str, is_accepted: bool, answer: &str) -> bool {
+fn is_told(alloc: Global, text: &str, is_accepted: bool, answer: &str) -> bool {
     let mut reader = text.as_bytes();
     let (mut output, mut errors) = (Vec::new(alloc), Vec::new(alloc));
     let status = why_text(alloc, alloc, &mut reader, &mut output, &mut errors);
     status == u8::from(!is_accepted) && output.as_slice() == answer.as_bytes() && errors.is_empty()
+}
+
+/// A text, whether it is accepted, and what is told of it.
+pub(crate) type Row = (&'static str, bool, &'static str);
+
+#[test]
+fn texts_are_told_as_worked_by_hand(rt: HostRuntime) {
+    for rows in [
+        why_schedules::ROWS.as_slice(),
+        why_workloads::ROWS.as_slice(),
+        why_reports::ROWS.as_slice(),
+    ] {
+        for (text, is_accepted, answer) in rows {
+            assert!(rt; is_told(rt.alloc(), text, *is_accepted, answer), "{text}");
+        }
+    }
 }
 
 /// A schedule of which the last event is refused, and what is told of it.

@@ -1,8 +1,8 @@
 //! What is told of schedules: what an accepted one is, and where one is wrong that has a mistake.
-use crate::why::is_told;
+use crate::why::Row;
 
 /// A text, whether it is accepted, and what is told of it, worked out by hand.
-const ROWS: [(&str, bool, &str); 61] = [
+pub(crate) const ROWS: [Row; 61] = [
     (
         "processes 2\nregisters x z\nfront linear\ncall 0 write x 1\ntake 0 1 0\n",
         true,
@@ -309,10 +309,3 @@ const ROWS: [(&str, bool, &str); 61] = [
         "event 1: no frame\n6 | take 1 0 0\n  |          ^\nthe wire from 1 to 0 has no frame yet\n",
     ),
 ];
-
-#[test]
-fn schedules_are_told_as_worked_by_hand(rt: HostRuntime) {
-    for (text, is_accepted, answer) in &ROWS {
-        assert!(rt; is_told(rt.alloc(), text, *is_accepted, answer), "{text}");
-    }
-}

@@ -1,8 +1,8 @@
 //! What is told of workloads: what an accepted one is, and where one is wrong that has a mistake.
-use crate::why::is_told;
+use crate::why::Row;
 
 /// A text, whether it is accepted, and what is told of it, worked out by hand.
-const ROWS: [(&str, bool, &str); 22] = [
+pub(crate) const ROWS: [Row; 22] = [
     (
         "front = \"local-write\"\nregisters = [\"x\"]\nscripts = [[\"write x 5\", \"read x\"], [\"read x\"]]\n",
         true,
@@ -114,10 +114,3 @@ const ROWS: [(&str, bool, &str); 22] = [
         "toml\n1 | proceses 2\n  |          ^\nkey with no value, expected `=`\na schedule begins with processes and a number, as in processes 2\n",
     ),
 ];
-
-#[test]
-fn workloads_are_told_as_worked_by_hand(rt: HostRuntime) {
-    for (text, is_accepted, answer) in &ROWS {
-        assert!(rt; is_told(rt.alloc(), text, *is_accepted, answer), "{text}");
-    }
-}

@@ -4,14 +4,16 @@ use crate::values::{read, write};
 use reg_base::{Answer, Op, Shape};
 use reg_front::FrontEnd;
 use reg_live::{
-    CloseFault, Closed, Cluster, Courier, Gate, Pacer, Parts, Pass, Receipt, Road, close, set_up,
+    CloseFault, Closed, Cluster, Courier, Gate, LiveFault, Pacer, Parts, Pass, Receipt, Road,
+    close, set_up,
 };
 use std::alloc::Global;
 use std::process::Abort;
+use std::sync::atomic::{AtomicBool, Ordering};
 use std::sync::{Arc, Wait};
-use std::thread;
 use std::thread::{JoinHandle, Threads};
 use std::time::Clock;
+use std::{mem, thread};
 
 pub fn shape_of(rt: &impl Abort, processes: u32, registers: u32) -> Shape {
     Shape::new(processes, registers).expect(rt, "a shape")
@@ -95,16 +97,16 @@ pub fn call_all<
     F: FrontEnd + Send + Sync + 'static,
     G: Gate + Drop + Send + Sync + 'static,
     R: Threads + Wait + Abort + Copy + Send + Sync + 'static,
->(rt: R, alloc: Global, passes: Vec<Pass<F, G>>) -> Vec<JoinHandle<Pass<F, G>>> {
+>(rt: R, alloc: Global, passes: &mut Vec<Pass<F, G>>) {
     let mut callers = Vec::new(alloc);
     let mut register = 0u16;
-    for pass in passes {
+    for pass in mem::replace(passes, Vec::new(alloc)) {
         callers
             .push(call_both(rt, pass, register))
             .expect(&rt, "memory");
         register = register.wrapping_add(1);
     }
-    callers
+    *passes = join_all(&rt, alloc, callers);
 }
 
 /// What the threads ended with, in their order.
@@ -118,6 +120,48 @@ pub fn join_all<T: Send + Drop + 'static, R: Threads + Wait + Abort>(
         ended.push(handle.join(rt)).expect(rt, "memory");
     }
     ended
+}
+
+/// A pass, and what it was told.
+type Performed<F, G> = (Pass<F, G>, Result<Receipt, LiveFault>);
+
+/// Takes the pass of the last process, which performs an operation from this place on, in a thread of its own.
+pub fn perform_apart<
+    F: FrontEnd + Send + Sync + 'static,
+    G: Gate + Drop + Send + Sync + 'static,
+    R: Threads + Wait + Abort + Copy + Send + Sync + 'static,
+>(rt: R, passes: &mut Vec<Pass<F, G>>, op: Op, floor: u64) -> JoinHandle<Performed<F, G>> {
+    let mut pass = last_of(&rt, passes);
+    thread::spawn(&rt, move || {
+        let told = pass.perform_after(&rt, op, floor);
+        (pass, told)
+    })
+    .expect(&rt, "a thread")
+}
+
+/// What such a pass was told, once it is back behind the others.
+pub fn told_apart<
+    F: FrontEnd + Send + Sync + 'static,
+    G: Gate + Drop + Send + Sync + 'static,
+    R: Threads + Wait + Abort,
+>(
+    rt: &R,
+    passes: &mut Vec<Pass<F, G>>,
+    caller: JoinHandle<Performed<F, G>>,
+) -> Result<Receipt, LiveFault> {
+    let (pass, told) = caller.join(rt);
+    put_back(rt, passes, pass);
+    told
+}
+
+/// Counts turns until the flag is set, or there were so many. Whether it was set.
+pub fn wait(flag: &AtomicBool, turns: u32) -> bool {
+    for _ in 0..turns {
+        if flag.load(Ordering::SeqCst) {
+            return true;
+        }
+    }
+    false
 }
 
 /// How many receipts a process has in a closed cluster.
@@ -165,6 +209,33 @@ pub fn carry_all<
             .expect(&rt, "memory");
     }
     handles
+}
+
+/// Has the couriers of a cluster work, each in a thread of its own.
+pub fn send_off<
+    F: FrontEnd + Send + Sync + 'static,
+    G: Gate + Drop + Send + Sync + 'static,
+    P: Road + Drop + Send + Sync + 'static,
+    R: Threads + Wait + Abort + Copy + Send + Sync + 'static,
+>(rt: R, alloc: Global, parts: &mut Parts<F, G>, road: P) -> Vec<JoinHandle<Courier<F, G>>> {
+    let couriers = mem::replace(&mut parts.couriers, Vec::new(alloc));
+    carry_all(rt, alloc, couriers, road)
+}
+
+/// Stops a cluster and waits for its couriers. Whether it was stopped.
+pub fn call_back<
+    F: FrontEnd + Send + Sync + 'static,
+    G: Gate + Drop + Send + Sync + 'static,
+    R: Threads + Wait + Abort,
+>(
+    rt: &R,
+    alloc: Global,
+    parts: &mut Parts<F, G>,
+    couriers: Vec<JoinHandle<Courier<F, G>>>,
+) -> bool {
+    let stopped = parts.cluster.stop(rt).is_ok();
+    parts.couriers = join_all(rt, alloc, couriers);
+    stopped
 }
 
 /// The pacer in a thread of its own.

@@ -1,5 +1,8 @@
 //! Stations that are held in a section while others go on.
-use crate::live::crews::{answered, end, last_of, parts_of, put_back, shut, size_of, start};
+use crate::live::crews::{
+    answered, end, last_of, parts_of, perform_apart, put_back, shut, size_of, start, told_apart,
+    wait,
+};
 use crate::live::watches::Watch;
 use crate::values::{read, write};
 use reg_base::Op;
@@ -40,12 +43,9 @@ impl Flags {
 
     /// Counts turns until the flag is set.
     fn wait(&self, flag: &AtomicBool) {
-        for _ in 0..TURNS {
-            if flag.load(Ordering::SeqCst) {
-                return;
-            }
+        if !wait(flag, TURNS) {
+            self.late.store(true, Ordering::SeqCst);
         }
-        self.late.store(true, Ordering::SeqCst);
     }
 }
 
@@ -74,22 +74,9 @@ impl Gate for Holding {
     }
 }
 
-/// Writes in a thread of its own.
-fn write_apart<R: Threads + Wait + Abort + Copy + Send + Sync + 'static>(
-    rt: R,
-    pass: Pass<LocalWrite, Holding>,
-) -> JoinHandle<Pass<LocalWrite, Holding>> {
-    let mut pass = pass;
-    thread::spawn(&rt, move || {
-        let _receipt = answered(&rt, &mut pass, write(0, 1));
-        pass
-    })
-    .expect(&rt, "a thread")
-}
-
 /// Performs an operation in a thread of its own, once station 0 is held, and tells that it was answered. The section that is
 /// held isn't in the journal yet, so no place behind it is there to be called at.
-fn perform_apart<R: Threads + Wait + Abort + Copy + Send + Sync + 'static>(
+fn perform_once_held<R: Threads + Wait + Abort + Copy + Send + Sync + 'static>(
     rt: R,
     pass: Pass<LocalWrite, Holding>,
     op: Op,
@@ -116,9 +103,9 @@ fn perform_both<R: Threads + Wait + Abort + Copy + Send + Sync + 'static>(
     flags: &Arc<Flags>,
 ) {
     let second = last_of(&rt, passes);
-    let one = write_apart(rt, last_of(&rt, passes));
-    let two = perform_apart(rt, second, op, flags);
-    put_back(&rt, passes, one.join(&rt));
+    let one = perform_apart(rt, passes, write(0, 1), 0);
+    let two = perform_once_held(rt, second, op, flags);
+    let _receipt = told_apart(&rt, passes, one).expect(&rt, "an answer");
     put_back(&rt, passes, two.join(&rt));
 }
 

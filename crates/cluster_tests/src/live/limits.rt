@@ -1,13 +1,14 @@
 //! The limits of a process and of the journal.
-use crate::live::crews::{close_parts, last_of, parts_of, pass_of, put_back, shut, size_of};
+use crate::live::crews::{
+    close_parts, parts_of, pass_of, perform_apart, shut, size_of, told_apart,
+};
 use crate::values::{read, write};
 use reg_base::limits::{MOST_EVENTS, MOST_OPERATIONS};
 use reg_front::{FrontEnd, Linear, LocalRead};
-use reg_live::{LiveFault, NoGate, Pacer, Pass, Receipt};
+use reg_live::{LiveFault, NoGate, Pacer, Pass};
 use std::process::Abort;
 use std::sync::Wait;
-use std::thread;
-use std::thread::{JoinHandle, Threads};
+use std::thread::Threads;
 
 /// Whether so many reads are all answered.
 fn reads_so_often<F: FrontEnd>(rt: &impl Wait, pass: &mut Pass<F, NoGate>, times: u32) -> bool {
@@ -45,22 +46,6 @@ fn reads_all(rt: &impl Wait, passes: &mut Vec<Pass<LocalRead, NoGate>>) -> bool 
     true
 }
 
-/// A pass, and what it was told.
-type Performed = (Pass<LocalRead, NoGate>, Result<Receipt, LiveFault>);
-
-/// Writes in a thread of its own.
-fn write_apart<R: Threads + Wait + Abort + Copy + Send + Sync + 'static>(
-    rt: R,
-    pass: Pass<LocalRead, NoGate>,
-) -> JoinHandle<Performed> {
-    let mut pass = pass;
-    thread::spawn(&rt, move || {
-        let told = pass.perform(&rt, write(0, 1));
-        (pass, told)
-    })
-    .expect(&rt, "a thread")
-}
-
 /// Makes rounds until the journal is full.
 fn fill(rt: &impl Wait, pass: &mut Pass<LocalRead, NoGate>, pacer: &mut Pacer<LocalRead, NoGate>) {
     let last = u64::from(MOST_EVENTS);
@@ -79,10 +64,9 @@ fn tells_of_the_end<R: Threads + Wait + Abort + Copy + Send + Sync + 'static>(
     passes: &mut Vec<Pass<LocalRead, NoGate>>,
     pacer: &mut Pacer<LocalRead, NoGate>,
 ) -> bool {
-    let caller = write_apart(rt, last_of(&rt, passes));
+    let caller = perform_apart(rt, passes, write(0, 1), 0);
     fill(&rt, pass_of(&rt, passes, 14), pacer);
-    let (pass, told) = caller.join(&rt);
-    put_back(&rt, passes, pass);
+    let told = told_apart(&rt, passes, caller);
     let later = pass_of(&rt, passes, 14).perform(&rt, read(0));
     told == Err(LiveFault::Failed) && later == Err(LiveFault::Full)
 }

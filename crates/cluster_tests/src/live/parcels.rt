@@ -1,5 +1,5 @@
 //! Which parcels come out of a road: of one that tells of each whether it came, and of a rough one by the words it draws.
-use crate::live::crews::{call_all, carry_all, join_all, parts_of, pass_of, shut};
+use crate::live::crews::{call_all, call_back, parts_of, pass_of, send_off, shut};
 use crate::live::watches::Watch;
 use crate::values::write;
 use reg_frames::Frame;
@@ -45,28 +45,15 @@ impl Road for Littering {
 fn litter_is_dropped(rt: HostRuntime) {
     let alloc = rt.alloc();
     let watch = Watch::new(rt, alloc);
-    let Parts {
-        cluster,
-        passes,
-        couriers,
-        pacer,
-    } = parts_of::<LocalRead, NoGate>(&rt, alloc, (3, 3), NoGate);
+    let mut parts = parts_of::<LocalRead, NoGate>(&rt, alloc, (3, 3), NoGate);
     let wrong = Arc::new(alloc, AtomicBool::new(false)).expect(&rt, "memory");
     let road = Littering {
         alloc,
         wrong: Arc::try_clone(&wrong).expect(&rt, "memory"),
     };
-    let couriers = carry_all(rt, alloc, couriers, road);
-    let callers = call_all(rt, alloc, passes);
-    let passes = join_all(&rt, alloc, callers);
-    let stopped = cluster.stop(&rt).is_ok();
-    let couriers = join_all(&rt, alloc, couriers);
-    let parts = Parts {
-        cluster,
-        passes,
-        couriers,
-        pacer,
-    };
+    let couriers = send_off(rt, alloc, &mut parts, road);
+    call_all(rt, alloc, &mut parts.passes);
+    let stopped = call_back(&rt, alloc, &mut parts, couriers);
     let closed = shut(&rt, alloc, parts);
     watch.end(&rt);
     assert!(rt;

@@ -5,8 +5,7 @@ use refusing::Refusing;
 use reg_base::{Answer, Op, Shape};
 use reg_frames::Frame;
 use reg_front::Linear;
-use reg_live::{CloseFault, LogEntry, Receipt, verify, verify_in};
-use reg_process::{Reply, Step};
+use reg_live::{CloseFault, LogEntry, Receipt, Reply, Step, verify, verify_in};
 use reg_world::{PackedWires, WireStore, World};
 use std::alloc::{AllocError, Allocator, Global};
 
@@ -56,35 +55,37 @@ struct Case {
     fault: Option<CloseFault>,
 }
 
-fn make_case(order: &'static [u8], entry: LogEntry, told: bool, fault: Option<CloseFault>) -> Case {
-    Case {
-        order,
-        entry,
-        told,
-        fault,
-    }
+macro_rules! case {
+    ($order:expr, $entry:expr, $told:expr, $fault:expr) => {
+        Case {
+            order: $order,
+            entry: $entry,
+            told: $told,
+            fault: $fault,
+        }
+    };
 }
 
-fn unfaithful(place: u64) -> Option<CloseFault> {
-    Some(CloseFault::Unfaithful { place })
+macro_rules! unfaithful {
+    ($place:expr) => {
+        Some(CloseFault::Unfaithful { place: $place })
+    };
 }
 
-fn cases() -> [Case; 7] {
-    [
-        make_case(&[0], ENTRY, true, None),
-        make_case(
-            &[0],
-            ENTRY,
-            false,
-            Some(CloseFault::Mismatch { process: 0 }),
-        ),
-        make_case(&[0, 0], ENTRY, true, unfaithful(1)),
-        make_case(&[], ENTRY, true, unfaithful(0)),
-        make_case(&[1], ENTRY, true, unfaithful(0)),
-        make_case(&[0], MISPLACED, true, unfaithful(0)),
-        make_case(&[0], TAKEN, false, unfaithful(0)),
-    ]
-}
+const CASES: [Case; 7] = [
+    case!(&[0], ENTRY, true, None),
+    case!(
+        &[0],
+        ENTRY,
+        false,
+        Some(CloseFault::Mismatch { process: 0 })
+    ),
+    case!(&[0, 0], ENTRY, true, unfaithful!(1)),
+    case!(&[], ENTRY, true, unfaithful!(0)),
+    case!(&[1], ENTRY, true, unfaithful!(0)),
+    case!(&[0], MISPLACED, true, unfaithful!(0)),
+    case!(&[0], TAKEN, false, unfaithful!(0)),
+];
 
 /// Adds a list of this item, or of none.
 fn add_list<T: Copy, A: Allocator + Copy>(
@@ -157,7 +158,7 @@ fn is_right<A: Allocator + Copy>(shape: Shape, alloc: A, row: &Case) -> Result<b
 #[test]
 fn damage_is_told(rt: HostRuntime) {
     let shape = shape_of(&rt, 1, 1);
-    for row in &cases() {
+    for row in &CASES {
         assert!(rt; is_right(shape, rt.alloc(), row) == Ok(true));
     }
 }
@@ -185,7 +186,7 @@ fn refusals(shape: Shape, ample: Global, row: &Case) -> u64 {
 #[test]
 fn each_growth_is_refused(rt: HostRuntime) {
     let shape = shape_of(&rt, 1, 1);
-    for row in &cases() {
+    for row in &CASES {
         assert!(rt; refusals(shape, rt.alloc(), row) > 4);
     }
 }

@@ -1,7 +1,6 @@
 //! Workloads performed by threads: the reports that are written, and what the checker says of them.
-use reg_cli::run_live;
-use reg_commands::{Command, run_text};
-use std::alloc::Global;
+use reg_cli::{Command, run_live, run_text};
+use std::alloc::{AllocError, Global};
 use std::sync::Wait;
 use std::thread::Threads;
 use std::time::Clock;
@@ -52,95 +51,64 @@ registers = [\"x\"]
 scripts = [[], []]
 ";
 
-/// What a command answers: the status, the output and the faults.
-type Answer = (u8, Vec<u8>, Vec<u8>);
-
-/// What threads make of a workload.
+/// What threads make of a workload. None where it is refused.
 fn lived<R: Threads + Wait + Clock + Copy + Send + Sync + 'static>(
     rt: R,
     alloc: Global,
-    text: &[u8],
-) -> Answer {
-    let mut reader = text;
+    text: &str,
+) -> Option<Vec<u8>> {
+    let mut reader = text.as_bytes();
     let (mut output, mut errors) = (Vec::new(alloc), Vec::new(alloc));
     let status = run_live(rt, alloc, &mut reader, &mut output, &mut errors);
-    (status, output, errors)
+    if status == 0 && errors.is_empty() {
+        return Some(output);
+    }
+    None
 }
 
-/// What the checker says of a report.
-fn checked(alloc: Global, report: &[u8]) -> Answer {
+/// Whether the checker says this of a report.
+fn is_checked(alloc: Global, report: &[u8], verdicts: &str) -> bool {
     let mut reader = report;
     let (mut output, mut errors) = (Vec::new(alloc), Vec::new(alloc));
-    let status = run_text(
-        alloc,
-        alloc,
-        Command::Check,
-        &mut reader,
-        &mut output,
-        &mut errors,
-    );
-    (status, output, errors)
-}
-
-/// Whether an answer is this text, with no fault.
-fn is_answer(answer: &Answer, text: &str) -> bool {
-    let (status, output, errors) = answer;
-    *status == 0 && output.as_slice() == text.as_bytes() && errors.is_empty()
-}
-
-/// Whether threads make a report of a workload of which the checker says this.
-fn is_lived<R: Threads + Wait + Clock + Copy + Send + Sync + 'static>(
-    rt: R,
-    alloc: Global,
-    text: &str,
-    verdicts: &str,
-) -> bool {
-    let (status, report, errors) = lived(rt, alloc, text.as_bytes());
-    let verdict = checked(alloc, report.as_slice());
-    status == 0 && errors.is_empty() && is_answer(&verdict, verdicts)
+    let status = run_text(alloc, Command::Check, &mut reader, &mut output, &mut errors);
+    status == 0 && output.as_slice() == verdicts.as_bytes()
 }
 
 #[test]
 fn one_process_has_one_report(rt: HostRuntime) {
-    let alloc = rt.alloc();
-    let answer = lived(rt, alloc, ONE.as_bytes());
-    assert!(rt; is_answer(&answer, ONE_REPORT));
+    let report = lived(rt, rt.alloc(), ONE).expect(&rt, "a report");
+    assert!(rt; report.as_slice() == ONE_REPORT.as_bytes());
 }
 
 #[test]
 fn reports_of_threads_are_accepted(rt: HostRuntime) {
-    let alloc = rt.alloc();
-    let serial = "serial yes\n";
-    let both = "serial yes\npoints yes\n";
-    assert!(rt; is_lived(rt, alloc, LINEAR, both));
-    assert!(rt; is_lived(rt, alloc, LOCAL_READ, serial));
-    assert!(rt; is_lived(rt, alloc, LOCAL_WRITE, serial));
-    assert!(rt; is_lived(rt, alloc, EMPTY, both));
-}
-
-/// Adds a text behind what there is.
-fn add(text: &mut Vec<u8>, more: &str) -> bool {
-    text.extend_from_slice(more.as_bytes()).is_ok()
-}
-
-/// A workload of 64 processes, of which the first writes and all others read.
-fn largest(text: &mut Vec<u8>) -> bool {
-    let mut added = add(
-        text,
-        "front = \"local-read\"\nregisters = [\"x\"]\nscripts = [[\"write x 1\"]",
-    );
-    for _reader in 1..64u8 {
-        added = add(text, ", [\"read x\"]") && added;
+    for (text, verdicts) in [
+        (LINEAR, "serial yes\npoints yes\n"),
+        (LOCAL_READ, "serial yes\n"),
+        (LOCAL_WRITE, "serial yes\n"),
+        (EMPTY, "serial yes\npoints yes\n"),
+    ] {
+        let report = lived(rt, rt.alloc(), text).expect(&rt, "a report");
+        assert!(rt;
+            is_checked(rt.alloc(), report.as_slice(), verdicts),
+            "{text}"
+        );
     }
-    add(text, "]\n") && added
+}
+
+/// Adds a workload of 64 processes, of which the first writes and all others read.
+fn add_largest(text: &mut String) -> Result<(), AllocError> {
+    text.push_str("front = \"local-read\"\nregisters = [\"x\"]\nscripts = [[\"write x 1\"]")?;
+    for _reader in 1..64u8 {
+        text.push_str(", [\"read x\"]")?;
+    }
+    text.push_str("]\n")
 }
 
 #[test]
 fn so_many_processes_are_performed(rt: HostRuntime) {
     let alloc = rt.alloc();
-    let mut text = Vec::new(alloc);
-    let made = largest(&mut text);
-    let (status, report, errors) = lived(rt, alloc, text.as_slice());
-    let verdict = checked(alloc, report.as_slice());
-    assert!(rt; made && status == 0 && errors.is_empty() && is_answer(&verdict, "serial yes\n"));
+    let mut text = String::new(alloc);
+    let added = add_largest(&mut text).is_ok();
+    assert!(rt; added && lived(rt, alloc, text.as_str()).is_some());
 }

@@ -1,19 +1,17 @@
 //! Roads that lose, repeat and reorder parcels.
 use crate::live::crews::{
-    answered, call_all, end, join_all, last_of, parts_of, pass_of, put_back, start,
+    answered, call_all, end, parts_of, pass_of, perform_apart, size_of, start, told_apart,
 };
 use crate::live::watches::Watch;
 use crate::values::{read, write};
 use reg_base::Answer;
-use reg_checkers::{check_points, check_serial};
 use reg_front::{FrontEnd, Linear, LocalRead, LocalWrite};
-use reg_live::{Closed, LiveFault, NoGate, Pass, Rough};
+use reg_live::{LiveFault, NoGate, Pass, Receipt, Rough};
 use reg_workload::SeedWords;
 use std::alloc::Global;
 use std::process::Abort;
 use std::sync::Wait;
-use std::thread;
-use std::thread::{JoinHandle, Threads};
+use std::thread::Threads;
 use std::time::Clock;
 
 /// A road that loses a fifth of the parcels, and puts a fifth of the others twice.
@@ -21,102 +19,53 @@ fn road(seed: u64) -> Rough<SeedWords> {
     Rough::new(SeedWords::new(seed), 20, 20)
 }
 
-/// Three callers, each with a register of its own, over a rough road.
-fn run_rough<
+/// Three callers, each with a register of its own, over a rough road. How many entries the history has.
+fn entries_of<
     F: FrontEnd + Send + Sync + 'static,
     R: Threads + Wait + Clock + Abort + Copy + Send + Sync + 'static,
->(rt: R, alloc: Global, seed: u64) -> Closed<F> {
+>(rt: R, alloc: Global, seed: u64) -> usize {
     let parts = parts_of::<F, NoGate>(&rt, alloc, (3, 3), NoGate);
-    let (passes, running) = start(rt, alloc, parts, road(seed));
-    let callers = call_all(rt, alloc, passes);
-    let passes = join_all(&rt, alloc, callers);
-    end(&rt, alloc, running, passes)
-}
-
-/// Whether the witness of a run holds its six operations in a serial order.
-fn is_serial<F: FrontEnd>(alloc: Global, closed: &Closed<F>) -> bool {
-    match closed.world.witness() {
-        Ok(order) => {
-            order.len() == 6 && check_serial(alloc, closed.world.history(), &order).is_ok()
-        }
-        Err(_) => false,
-    }
-}
-
-/// Runs ten seeds, and checks the witness of each run.
-fn run_seeds<
-    F: FrontEnd + Send + Sync + 'static,
-    R: Threads + Wait + Clock + Abort + Copy + Send + Sync + 'static,
->(rt: R, alloc: Global) {
-    for seed in 0..10u64 {
-        let serial = is_serial(alloc, &run_rough::<F, R>(rt, alloc, seed));
-        assert!(rt; serial);
-    }
+    let (mut passes, running) = start(rt, alloc, parts, road(seed));
+    call_all(rt, alloc, &mut passes);
+    let (_, entries) = size_of(end(&rt, alloc, running, passes));
+    entries
 }
 
 #[test]
-fn local_reads_over_rough_roads(rt: HostRuntime) {
-    run_seeds::<LocalRead, HostRuntime>(rt, rt.alloc());
-}
-
-#[test]
-fn local_writes_over_rough_roads(rt: HostRuntime) {
-    run_seeds::<LocalWrite, HostRuntime>(rt, rt.alloc());
-}
-
-/// Whether the points of a run place its six operations in a point order.
-fn is_pointed(alloc: Global, closed: &Closed<Linear>) -> bool {
-    match closed.world.points() {
-        Ok(points) => {
-            points.len() == 6 && check_points(alloc, closed.world.history(), &points).is_ok()
-        }
-        Err(_) => false,
-    }
-}
-
-#[test]
-fn linear_operations_over_rough_roads(rt: HostRuntime) {
+fn callers_are_answered_over_rough_roads(rt: HostRuntime) {
     let alloc = rt.alloc();
-    run_seeds::<Linear, HostRuntime>(rt, alloc);
     for seed in 0..10u64 {
-        let pointed = is_pointed(alloc, &run_rough::<Linear, HostRuntime>(rt, alloc, seed));
-        assert!(rt; pointed);
+        let linear = entries_of::<Linear, HostRuntime>(rt, alloc, seed);
+        let local_read = entries_of::<LocalRead, HostRuntime>(rt, alloc, seed);
+        let local_write = entries_of::<LocalWrite, HostRuntime>(rt, alloc, seed);
+        assert!(rt;
+            linear == 12 && local_read == 12 && local_write == 12,
+            "seed {seed}"
+        );
     }
 }
 
-/// Reads the register from this place on.
-fn read_after(rt: &(impl Wait + Abort), pass: &mut Pass<Linear, NoGate>, front: u64) {
-    let seen = pass.perform_after(rt, read(0), front).expect(rt, "a value");
-    assert!(rt; seen.answer == Answer::Value(1) && seen.called >= front);
+/// Whether a read is answered 1, and called at this place or after it.
+fn is_read(seen: Result<Receipt, LiveFault>, front: u64) -> bool {
+    matches!(seen, Ok(seen) if seen.answer == Answer::Value(1) && seen.called >= front)
 }
 
-/// The same in a thread of its own.
-fn read_apart<R: Threads + Wait + Abort + Copy + Send + Sync + 'static>(
-    rt: R,
-    pass: Pass<Linear, NoGate>,
-    front: u64,
-) -> JoinHandle<Pass<Linear, NoGate>> {
-    let mut pass = pass;
-    thread::spawn(&rt, move || {
-        read_after(&rt, &mut pass, front);
-        pass
-    })
-    .expect(&rt, "a thread")
-}
-
-/// The first of three writes and hands its front to the others. Whether it is refused at a front that is far ahead.
+/// The first of three writes and hands its front to the others. Whether these read what it wrote, and it is refused at a front that
+/// is far ahead.
 fn hands_on<R: Threads + Wait + Abort + Copy + Send + Sync + 'static>(
     rt: R,
     passes: &mut Vec<Pass<Linear, NoGate>>,
 ) -> bool {
     let written = answered(&rt, pass_of(&rt, passes, 0), write(0, 1));
     let front = written.answered.wrapping_add(1);
-    let three = read_apart(rt, last_of(&rt, passes), front);
-    let two = read_apart(rt, last_of(&rt, passes), front);
+    let three = perform_apart(rt, passes, read(0), front);
+    let two = perform_apart(rt, passes, read(0), front);
     let behind = pass_of(&rt, passes, 0).perform_after(&rt, read(0), 2_000_000);
-    put_back(&rt, passes, two.join(&rt));
-    put_back(&rt, passes, three.join(&rt));
-    matches!(behind, Err(LiveFault::Behind { length }) if length < 2_000_000)
+    let two = told_apart(&rt, passes, two);
+    let three = told_apart(&rt, passes, three);
+    is_read(two, front)
+        && is_read(three, front)
+        && matches!(behind, Err(LiveFault::Behind { length }) if length < 2_000_000)
 }
 
 #[test]
@@ -125,8 +74,8 @@ fn fronts_are_handed_on(rt: HostRuntime) {
     let watch = Watch::new(rt, alloc);
     let parts = parts_of::<Linear, NoGate>(&rt, alloc, (3, 1), NoGate);
     let (mut passes, running) = start(rt, alloc, parts, road(7));
-    let behind = hands_on(rt, &mut passes);
+    let right = hands_on(rt, &mut passes);
     let closed = end(&rt, alloc, running, passes);
     watch.end(&rt);
-    assert!(rt; behind && closed.world.history().entries().len() == 6);
+    assert!(rt; right && closed.world.history().entries().len() == 6);
 }

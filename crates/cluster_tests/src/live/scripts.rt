@@ -1,18 +1,18 @@
 //! Scripts in threads of their own.
 use crate::live::crews::{
-    call_all, end, join_all, last_of, parts_of, pass_of, put_back, shape_of, start, told,
+    call_all, end, last_of, parts_of, pass_of, perform_apart, put_back, shape_of, start, told,
+    told_apart,
 };
 use crate::live::watches::Watch;
 use crate::values::{read, write};
-use reg_base::{Answer, Op};
+use reg_base::Op;
 use reg_front::{FrontEnd, Linear, LocalWrite};
-use reg_live::{Closed, Honest, LiveFault, NoGate, Pass, Receipt};
+use reg_live::{Closed, Honest, LiveFault, NoGate, Pass};
 use reg_threads::{RunStop, run_scripts};
 use std::alloc::Global;
 use std::process::Abort;
 use std::sync::Wait;
-use std::thread;
-use std::thread::{JoinHandle, Threads};
+use std::thread::Threads;
 use std::time::Clock;
 
 /// The place behind the answer of the last operation of a pass.
@@ -23,23 +23,6 @@ fn front_of(pass: &Pass<LocalWrite, NoGate>) -> u64 {
     }
 }
 
-/// A pass, and what it was told.
-type Performed = (Pass<LocalWrite, NoGate>, Result<Receipt, LiveFault>);
-
-/// Reads from this place on, in a thread of its own.
-fn read_apart<R: Threads + Wait + Abort + Copy + Send + Sync + 'static>(
-    rt: R,
-    pass: Pass<LocalWrite, NoGate>,
-    front: u64,
-) -> JoinHandle<Performed> {
-    let mut pass = pass;
-    thread::spawn(&rt, move || {
-        let told = pass.perform_after(&rt, read(0), front);
-        (pass, told)
-    })
-    .expect(&rt, "a thread")
-}
-
 /// Whether a read by the second of three is called behind the last answer of the first.
 fn is_called_behind<R: Threads + Wait + Abort + Copy + Send + Sync + 'static>(
     rt: R,
@@ -47,9 +30,8 @@ fn is_called_behind<R: Threads + Wait + Abort + Copy + Send + Sync + 'static>(
 ) -> bool {
     let front = front_of(pass_of(&rt, passes, 0));
     let third = last_of(&rt, passes);
-    let reader = read_apart(rt, last_of(&rt, passes), front);
-    let (second, seen) = reader.join(&rt);
-    put_back(&rt, passes, second);
+    let reader = perform_apart(rt, passes, read(0), front);
+    let seen = told_apart(&rt, passes, reader);
     put_back(&rt, passes, third);
     matches!(seen, Ok(seen) if front > 0 && seen.called >= front)
 }
@@ -67,9 +49,8 @@ fn each_caller_reads_what_it_wrote(rt: HostRuntime) {
     let alloc = rt.alloc();
     let watch = Watch::new(rt, alloc);
     let parts = parts_of::<LocalWrite, NoGate>(&rt, alloc, (3, 3), NoGate);
-    let (passes, running) = start(rt, alloc, parts, Honest);
-    let callers = call_all(rt, alloc, passes);
-    let mut passes = join_all(&rt, alloc, callers);
+    let (mut passes, running) = start(rt, alloc, parts, Honest);
+    call_all(rt, alloc, &mut passes);
     let behind = is_called_behind(rt, &mut passes);
     let closed = end(&rt, alloc, running, passes);
     watch.end(&rt);
@@ -104,33 +85,12 @@ fn performed<
     run_scripts::<F, R>(rt, alloc, shape, scripts)
 }
 
-/// Whether these are the receipts of a write, and of a read of what it wrote.
-fn is_performed(list: &[Receipt]) -> bool {
-    if let [_, seen] = list {
-        return seen.answer == Answer::Value(5);
-    }
-    false
-}
-
-/// Whether these many processes have performed their scripts.
-fn are_performed<F: FrontEnd>(closed: &Closed<F>, processes: usize) -> bool {
-    for list in &closed.receipts {
-        if !is_performed(list.as_slice()) {
-            return false;
-        }
-    }
-    closed.receipts.len() == processes
-}
-
 #[test]
 fn scripts_are_performed(rt: HostRuntime) {
     let alloc = rt.alloc();
     for processes in [1u16, 3] {
-        let closed = performed::<Linear, HostRuntime>(rt, alloc, processes, 4).expect(
-            &rt,
-            "a faithful record",
-        );
-        assert!(rt; are_performed(&closed, usize::from(processes)));
+        let closed = performed::<Linear, HostRuntime>(rt, alloc, processes, 4);
+        assert!(rt; closed.is_ok());
     }
 }
 

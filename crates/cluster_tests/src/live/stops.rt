@@ -1,7 +1,7 @@
 //! Stations that stop, and frames that were changed on their way.
-use crate::live::closing::wait;
 use crate::live::crews::{
-    carry_all, end, join_all, last_of, parts_of, pass_of, put_back, shut, start, told,
+    call_back, close_parts, end, last_of, parts_of, pass_of, perform_apart, put_back, send_off,
+    shut, start, told, told_apart, wait,
 };
 use crate::live::watches::Watch;
 use crate::values::{read, write};
@@ -10,19 +10,18 @@ use reg_base::{Op, OpId};
 use reg_frames::{Body, Frame, decode, encode};
 use reg_front::{Linear, LocalWrite};
 use reg_live::{
-    CloseFault, Closed, Gate, LiveFault, NoGate, Parcel, Parts, Pass, Posts, Road, close,
+    CloseFault, Closed, Gate, LiveFault, NoGate, Parcel, Parts, Pass, Posts, Receipt, Road,
 };
 use std::alloc::Global;
 use std::process::Abort;
 use std::sync::atomic::{AtomicBool, Ordering};
 use std::sync::{Arc, Wait};
-use std::thread;
-use std::thread::{JoinHandle, Threads};
+use std::thread::Threads;
 use std::time::Clock;
 
 /// What is changed in the cast that goes first from process 0 to process 1.
 #[derive(Clone, Copy)]
-enum Change {
+pub enum Change {
     /// It is of the last time, so that the clock of its receiver is full.
     LastTime,
     /// It writes another value.
@@ -32,14 +31,14 @@ enum Change {
 /// Changes one frame, and hands all parcels on, but for those from process 2 to process 1, which are lost: so the first cast that comes
 /// to process 1 is the changed one, also where process 0 has answered another one before.
 #[derive(Drop)]
-struct Changing {
+pub struct Changing {
     alloc: Global,
     change: Change,
     done: AtomicBool,
 }
 
 impl Changing {
-    fn new(alloc: Global, change: Change) -> Changing {
+    pub fn new(alloc: Global, change: Change) -> Changing {
         Changing {
             alloc,
             change,
@@ -102,16 +101,6 @@ impl Gate for Seeing {
     }
 }
 
-/// Counts turns until the flag is set, and tells whether it was.
-fn was_set(flag: &AtomicBool) -> bool {
-    for _ in 0..1_000_000_000u32 {
-        if flag.load(Ordering::SeqCst) {
-            return true;
-        }
-    }
-    false
-}
-
 /// A cluster of two, and what tells that station 1 made a section.
 fn watched(
     rt: &(impl Wait + Abort),
@@ -131,7 +120,7 @@ fn stops_second(
     seen: &AtomicBool,
 ) -> bool {
     let before = pass_of(rt, passes, 0).perform(rt, write(0, 1)).is_ok();
-    let came = was_set(seen);
+    let came = wait(seen, 1_000_000_000);
     let refused = pass_of(rt, passes, 1).perform(rt, read(0));
     let after = pass_of(rt, passes, 0).perform(rt, write(0, 2)).is_ok();
     before && came && refused == Err(LiveFault::Failed) && after
@@ -169,28 +158,6 @@ fn a_station_stops_alone(rt: HostRuntime) {
     assert!(rt; stopped && has_both_writes(&closed));
 }
 
-/// Whether two writes are told that the station has stopped, and leave no receipt.
-fn is_refused(rt: &impl Wait, pass: &mut Pass<Linear, NoGate>) -> bool {
-    let first = pass.perform(rt, write(0, 1));
-    let second = pass.perform(rt, write(0, 2));
-    first == Err(LiveFault::Failed)
-        && second == Err(LiveFault::Failed)
-        && pass.receipts().is_empty()
-}
-
-#[test]
-fn no_caller_waits_for_a_station_that_stopped(rt: HostRuntime) {
-    let alloc = rt.alloc();
-    let watch = Watch::new(rt, alloc);
-    let parts = parts_of::<Linear, NoGate>(&rt, alloc, (2, 1), NoGate);
-    let road = Changing::new(alloc, Change::LastTime);
-    let (mut passes, running) = start(rt, alloc, parts, road);
-    let refused = is_refused(&rt, pass_of(&rt, &mut passes, 0));
-    let closed = end(&rt, alloc, running, passes);
-    watch.end(&rt);
-    assert!(rt; refused && closed.world.history().entries().len() == 1);
-}
-
 /// Closes a cluster in which a value was changed on its way, without its last pass where `less`. No pacer runs, so that each place in
 /// the journal is known.
 fn fault_of_change<R: Threads + Wait + Clock + Abort + Copy + Send + Sync + 'static>(
@@ -199,23 +166,17 @@ fn fault_of_change<R: Threads + Wait + Clock + Abort + Copy + Send + Sync + 'sta
     less: bool,
 ) -> Option<CloseFault> {
     let watch = Watch::new(rt, alloc);
-    let Parts {
-        cluster,
-        mut passes,
-        couriers,
-        pacer,
-    } = parts_of::<Linear, NoGate>(&rt, alloc, (2, 1), NoGate);
+    let mut parts = parts_of::<Linear, NoGate>(&rt, alloc, (2, 1), NoGate);
     let road = Changing::new(alloc, Change::Value(6));
-    let couriers = carry_all(rt, alloc, couriers, road);
-    let written = pass_of(&rt, &mut passes, 0)
+    let couriers = send_off(rt, alloc, &mut parts, road);
+    let written = pass_of(&rt, &mut parts.passes, 0)
         .perform(&rt, write(0, 5))
         .is_ok();
-    let stopped = cluster.stop(&rt).is_ok();
-    let couriers = join_all(&rt, alloc, couriers);
+    let stopped = call_back(&rt, alloc, &mut parts, couriers);
     if less {
-        drop(last_of(&rt, &mut passes));
+        drop(last_of(&rt, &mut parts.passes));
     }
-    let fault = close(&rt, alloc, cluster, passes, couriers, pacer).err();
+    let fault = close_parts(&rt, alloc, parts).err();
     watch.end(&rt);
     assert!(rt; written && stopped);
     fault
@@ -228,17 +189,21 @@ fn a_changed_value_is_unfaithful(rt: HostRuntime) {
     assert!(rt; fault_of_change(rt, rt.alloc(), true) == unfaithful);
 }
 
-/// Writes in a thread of its own. The pass, and whether it was told that no answer comes.
-fn write_apart<R: Threads + Wait + Abort + Copy + Send + Sync + 'static>(
+/// What a caller is told whose station has stopped.
+const STOPPED: Result<Receipt, LiveFault> = Err(LiveFault::Failed);
+
+/// Whether the first and the last of three that write are told that no answer comes.
+fn both_are_told<R: Threads + Wait + Abort + Copy + Send + Sync + 'static>(
     rt: R,
-    pass: Pass<Linear, NoGate>,
-) -> JoinHandle<(Pass<Linear, NoGate>, bool)> {
-    let mut pass = pass;
-    thread::spawn(&rt, move || {
-        let told = pass.perform(&rt, write(0, 1));
-        (pass, told == Err(LiveFault::Failed))
-    })
-    .expect(&rt, "a thread")
+    passes: &mut Vec<Pass<Linear, NoGate>>,
+) -> bool {
+    let third = perform_apart(rt, passes, write(0, 1), 0);
+    let second = last_of(&rt, passes);
+    let first = perform_apart(rt, passes, write(0, 1), 0);
+    let first = told_apart(&rt, passes, first);
+    put_back(&rt, passes, second);
+    let third = told_apart(&rt, passes, third);
+    first == STOPPED && third == STOPPED
 }
 
 /// The caller of the process whose cast stops another, and that of a third process, both wait for what that one never says.
@@ -249,17 +214,10 @@ fn all_callers_are_told_where_a_station_stops(rt: HostRuntime) {
     let parts = parts_of::<Linear, NoGate>(&rt, alloc, (3, 1), NoGate);
     let road = Changing::new(alloc, Change::LastTime);
     let (mut passes, running) = start(rt, alloc, parts, road);
-    let third = write_apart(rt, last_of(&rt, &mut passes));
-    let second = last_of(&rt, &mut passes);
-    let first = write_apart(rt, last_of(&rt, &mut passes));
-    let (pass, first_told) = first.join(&rt);
-    put_back(&rt, &mut passes, pass);
-    put_back(&rt, &mut passes, second);
-    let (pass, third_told) = third.join(&rt);
-    put_back(&rt, &mut passes, pass);
+    let told = both_are_told(rt, &mut passes);
     let closed = end(&rt, alloc, running, passes);
     watch.end(&rt);
-    assert!(rt; first_told && third_told && closed.world.history().entries().len() == 2);
+    assert!(rt; told && closed.world.history().entries().len() == 2);
 }
 
 /// Counts turns until so many sections were made, and some more, in which their callers begin to wait.
@@ -270,7 +228,7 @@ fn wait_for_callers(rt: &impl Wait, pass: &mut Pass<Linear, NoGate>, sections: u
             break;
         }
     }
-    wait(&AtomicBool::new(false), 30_000_000);
+    let _set = wait(&AtomicBool::new(false), 30_000_000);
 }
 
 /// No courier runs, so that each caller would wait for ever.
@@ -282,15 +240,14 @@ fn no_caller_waits_once_the_cluster_is_stopped(rt: HostRuntime) {
     let mut fourth = last_of(&rt, &mut parts.passes);
     let mut callers = Vec::new(alloc);
     for _caller in 0..3u8 {
-        let caller = write_apart(rt, last_of(&rt, &mut parts.passes));
+        let caller = perform_apart(rt, &mut parts.passes, write(0, 1), 0);
         callers.push(caller).expect(&rt, "memory");
     }
     wait_for_callers(&rt, &mut fourth, 3);
     let mut told = parts.cluster.stop(&rt).is_ok();
     put_back(&rt, &mut parts.passes, fourth);
-    for (pass, failed) in join_all(&rt, alloc, callers) {
-        put_back(&rt, &mut parts.passes, pass);
-        told = told && failed;
+    for caller in callers {
+        told = told_apart(&rt, &mut parts.passes, caller) == STOPPED && told;
     }
     let closed = shut(&rt, alloc, parts);
     watch.end(&rt);
