@@ -38,6 +38,8 @@ mod resting;
 #[cfg(test)]
 mod schedules;
 #[cfg(test)]
+mod seeded;
+#[cfg(test)]
 mod sources;
 #[cfg(test)]
 mod streams;
