@@ -171,8 +171,8 @@ fn is_written<A: Allocator + Copy>(alloc: A, report: &Report<A>, now: &str) -> O
     }
 }
 
-/// What both checks say of a report, which has the points of a stale read, and whether it is written as this text. None where one of
-/// them wants memory.
+/// What both checks say of a report, which has the points of a stale read, and whether it is written as this text.
+/// None where one of them wants memory.
 fn told<A: Allocator + Copy>(
     alloc: A,
     ample: Global,

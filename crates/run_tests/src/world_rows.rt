@@ -125,7 +125,8 @@ pub(crate) struct Row {
     pub(crate) order: &'static [OpId],
     /// The points, where the run is linear.
     pub(crate) points: &'static [Point],
-    /// The clock of each process, how many of its frames are pending, whether it is busy, and what the register holds in its copy.
+    /// The clock of each process, how many of its frames are pending, whether it is busy, and what the register holds
+    /// in its copy.
     pub(crate) copies: &'static [(u64, u64, bool, u64)],
     /// The frames put from one process to another, where there are any.
     pub(crate) wires: &'static [(u8, u8, &'static [Frame])],

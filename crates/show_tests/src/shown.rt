@@ -182,7 +182,8 @@ fn is_drawn(alloc: Global, text: &str) -> bool {
     status == 0 && errors.is_empty() && output.as_slice().starts_with(b"<svg ")
 }
 
-/// Whether 400 events are drawn, and one more is refused, for data and for a page too. They are put into the text, which is empty.
+/// Whether 400 events are drawn, and one more is refused, for data and for a page too. They are put into the text,
+/// which is empty.
 fn draws_so_many(alloc: Global, text: &mut String) -> Result<bool, Fail> {
     text.push_str("processes 1\nregisters x\nfront linear\n")?;
     for _ in 0..400 {

@@ -72,8 +72,9 @@ fn length_after_looks(
     length_after_look(rt, parts)
 }
 
-/// Whether a station whose frames are lost ticks at the second look, and again after two looks more. A look that ended at the first
-/// link with a tick due would leave the other one behind, so that the station ticked at the fourth look too.
+/// Whether a station whose frames are lost ticks at the second look, and again after two looks more. A look that
+/// ended at the first link with a tick due would leave the other one behind, so that the station ticked at the fourth
+/// look too.
 fn ticks_in_turn(rt: &(impl Wait + Abort), parts: &mut Parts<LocalWrite, NoGate>) -> bool {
     let written = write_often(rt, parts, 0, 1);
     let mut lengths = [None; 5];
@@ -118,7 +119,8 @@ impl Road for Late {
     }
 }
 
-/// Whether no look makes a tick behind so many writes all of whose frames come over the road, and behind their sections.
+/// Whether no look makes a tick behind so many writes all of whose frames come over the road, and behind their
+/// sections.
 fn rests_behind(
     rt: &(impl Wait + Abort),
     parts: &mut Parts<LocalWrite, NoGate>,
@@ -146,8 +148,8 @@ fn put_again(rt: &(impl Wait + Abort), parts: &mut Parts<LocalWrite, NoGate>) ->
     written && lost && carried
 }
 
-/// Whether the journal has these lengths after a first look, a second one and a round, where the frame of one write of each of these
-/// processes is lost.
+/// Whether the journal has these lengths after a first look, a second one and a round, where the frame of one write
+/// of each of these processes is lost.
 fn has_lengths(
     rt: &(impl Wait + Abort),
     parts: &mut Parts<LocalWrite, NoGate>,
@@ -197,14 +199,15 @@ fn both_write(rt: &(impl Wait + Abort), parts: &mut Parts<LocalWrite, NoGate>) -
 enum Scene {
     TicksInTurn,
     WaitsForMail,
-    /// A write has five sections where all its frames come: its call, the take of its cast, of the count and the acknowledgement that
-    /// answer it, and of the count that answers this.
+    /// A write has five sections where all its frames come: its call, the take of its cast, of the count and the
+    /// acknowledgement that answer it, and of the count that answers this.
     RestsBehindAWrite,
     /// Two writes, and one more section, of the old count.
     RestsBehindAnOldCount,
     PutsAgain,
     TicksOf { process: usize },
-    /// At the second look the first two tick: then each link of the third has mail at its other end. In a round all three do.
+    /// At the second look the first two tick: then each link of the third has mail at its other end. In a round all
+    /// three do.
     TicksOfAll,
     Comes { process: usize, lost: bool },
     BothWrite,

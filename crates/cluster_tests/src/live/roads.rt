@@ -50,8 +50,8 @@ fn is_read(seen: Result<Receipt, LiveFault>, front: u64) -> bool {
     matches!(seen, Ok(seen) if seen.answer == Answer::Value(1) && seen.called >= front)
 }
 
-/// The first of three writes and hands its front to the others. Whether these read what it wrote, and it is refused at a front that
-/// is far ahead.
+/// The first of three writes and hands its front to the others. Whether these read what it wrote, and it is refused
+/// at a front that is far ahead.
 fn hands_on<R: Threads + Wait + Abort + Copy + Send + Sync + 'static>(
     rt: R,
     passes: &mut Vec<Pass<Linear, NoGate>>,
