@@ -1,12 +1,13 @@
 //! Roads that lose, repeat and reorder parcels.
 use crate::live::crews::{
-    answered, call_all, end, parts_of, pass_of, perform_apart, size_of, start, told_apart,
+    answered, call_all, end, parts_of, pass_of, perform_apart, start, told_apart,
 };
 use crate::live::watches::Watch;
 use crate::values::{read, write};
 use reg_base::Answer;
-use reg_front::{FrontEnd, Linear, LocalRead, LocalWrite};
-use reg_live::{LiveFault, NoGate, Pass, Receipt, Rough};
+use reg_front::{Front, FrontEnd, Linear, LocalRead, LocalWrite};
+use reg_history::{check_points, check_serial};
+use reg_live::{Closed, LiveFault, NoGate, Pass, Receipt, Rough};
 use reg_workload::SeedWords;
 use std::alloc::Global;
 use std::process::Abort;
@@ -19,29 +20,58 @@ fn road(seed: u64) -> Rough<SeedWords> {
     Rough::new(SeedWords::new(seed), 20, 20)
 }
 
-/// Three callers, each with a register of its own, over a rough road. How many entries the history has.
-fn entries_of<
+/// What three callers, each with a register of its own, made over a rough road.
+fn run_rough<
     F: FrontEnd + Send + Sync + 'static,
     R: Threads + Wait + Clock + Abort + Copy + Send + Sync + 'static,
->(rt: R, alloc: Global, seed: u64) -> usize {
+>(rt: R, alloc: Global, seed: u64) -> Closed<F> {
     let parts = parts_of::<F, NoGate>(&rt, alloc, (3, 3), NoGate);
     let (mut passes, running) = start(rt, alloc, parts, road(seed));
     call_all(rt, alloc, &mut passes);
-    let (_, entries) = size_of(end(&rt, alloc, running, passes));
-    entries
+    end(&rt, alloc, running, passes)
+}
+
+/// Whether the witness of a run holds its six operations in a serial order.
+fn is_serial<F: FrontEnd>(alloc: Global, closed: &Closed<F>) -> bool {
+    match closed.world.witness() {
+        Ok(order) => {
+            order.len() == 6 && check_serial(alloc, closed.world.history(), &order).is_ok()
+        }
+        Err(_) => false,
+    }
+}
+
+/// Whether a run over a rough road is serial, and under the linear front end its points place its six operations.
+fn is_right<R: Threads + Wait + Clock + Abort + Copy + Send + Sync + 'static>(
+    rt: R,
+    alloc: Global,
+    front: Front,
+    seed: u64,
+) -> bool {
+    match front {
+        Front::Linear => is_pointed(alloc, &run_rough::<Linear, R>(rt, alloc, seed)),
+        Front::LocalRead => is_serial(alloc, &run_rough::<LocalRead, R>(rt, alloc, seed)),
+        Front::LocalWrite => is_serial(alloc, &run_rough::<LocalWrite, R>(rt, alloc, seed)),
+    }
+}
+
+/// Whether the witness of a run is serial, and its points place its six operations in a point order.
+fn is_pointed(alloc: Global, closed: &Closed<Linear>) -> bool {
+    let pointed = match closed.world.points() {
+        Ok(points) => {
+            points.len() == 6 && check_points(alloc, closed.world.history(), &points).is_ok()
+        }
+        Err(_) => false,
+    };
+    pointed && is_serial(alloc, closed)
 }
 
 #[test]
 fn callers_are_answered_over_rough_roads(rt: HostRuntime) {
-    let alloc = rt.alloc();
-    for seed in 0..10u64 {
-        let linear = entries_of::<Linear, HostRuntime>(rt, alloc, seed);
-        let local_read = entries_of::<LocalRead, HostRuntime>(rt, alloc, seed);
-        let local_write = entries_of::<LocalWrite, HostRuntime>(rt, alloc, seed);
-        assert!(rt;
-            linear == 12 && local_read == 12 && local_write == 12,
-            "seed {seed}"
-        );
+    for front in [Front::Linear, Front::LocalRead, Front::LocalWrite] {
+        for seed in 0..10u64 {
+            assert!(rt; is_right(rt, rt.alloc(), front, seed), "seed {seed}");
+        }
     }
 }
 
