@@ -1,5 +1,5 @@
 -- Looking for entries of a history.
-use Rattle.std.proofs.Common.{◌≡◌, ℕ, ◌+◌, ◌<◌, ◌⊎◌, inl, inr, sym, ◌∙◌, subst, arith}
+use Rattle.std.proofs.Common.{◌≡◌, ℕ, ◌+◌, ◌<◌, inl, inr, sym, ◌∙◌, subst, arith}
 use Rattle.std.specs.Prelude.{List, slice_index}
 use Rattle.std.proofs.lemmas.Bool.{cases_eq}
 use Rattle.reg_base.specs.declared.memory.Answer.{Answer}

@@ -26,10 +26,10 @@ use Rattle.reg_interleavings.proofs.MissingCalls.{HasScripts}
 use Rattle.reg_interleavings.proofs.MissingTold.{Answers, IsTold, told_first, told_one_more, answer_in, answers_in, history_told}
 use Rattle.reg_interleavings.proofs.Stepping.{has_script}
 
-pub take_next : {X : Type 0} (xs : List X) (k : ℕ) (x : X) → IsAt xs k x → take (suc k) xs ≡ take k xs ++ x ∷ []
+take_next : {X : Type 0} (xs : List X) (k : ℕ) (x : X) → IsAt xs k x → take (suc k) xs ≡ take k xs ++ x ∷ []
 take_next xs k x at = let one : suc k ≡ k + 1 = omega arith in ap (λ n. take n xs) one ∙ take_at xs k x at
 
-pub none_at_first : (n p : ℕ) → slice_index (replicate n 0) p ≡ 0
+none_at_first : (n p : ℕ) → slice_index (replicate n 0) p ≡ 0
 none_at_first zero p = refl
 none_at_first (suc n) zero = refl
 none_at_first (suc n) (suc p) = none_at_first n p

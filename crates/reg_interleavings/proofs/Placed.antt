@@ -1,5 +1,5 @@
 -- Operations of a history, placed one after another: one layer after another.
-use Rattle.std.proofs.Common.{◌≡◌, inl, inr, ℕ, ◌+◌, ◌<◌, ◌≤◌, List, [], ◌∷◌, ◌++◌, length, map, take, replicate, refl, ap, ap₂, sym, ◌∙◌, subst, arith, length-append, length-set}
+use Rattle.std.proofs.Common.{◌≡◌, inl, inr, ℕ, ◌+◌, ◌<◌, ◌≤◌, List, [], ◌∷◌, ◌++◌, length, take, replicate, refl, ap, ap₂, sym, ◌∙◌, subst, arith, length-append, length-set}
 use Rattle.std.specs.Prelude.{◌-◌, ◌^◌, slice_index, slice_set}
 use Rattle.std.proofs.lemmas.List.{length-map, length-replicate}
 use Rattle.reg_base.specs.declared.limits.TheConstants.{MOST_OPERATIONS}
@@ -10,7 +10,7 @@ use Rattle.reg_base.specs.Memory.{answer_of, register_of}
 use Rattle.reg_base.specs.Order.{In}
 use Rattle.reg_checkers.specs.declared.entries.Entry.{Entry}
 use Rattle.reg_checkers.specs.declared.entries.Entry.TheVariants.{Called}
-use Rattle.reg_checkers.specs.History.{IsAt, IsCalled, IsHistory, MayCall, WasCalled}
+use Rattle.reg_checkers.specs.History.{IsCalled, IsHistory, MayCall, WasCalled}
 use Rattle.reg_checkers.specs.Progress.{op_of}
 use Rattle.reg_checkers.proofs.Histories.{call_is}
 use Rattle.reg_world.proofs.lists.Members.{map_append}

@@ -1,5 +1,5 @@
 -- Operations placed with all finished ones are a serial order, and each serial order can be placed.
-use Rattle.std.proofs.Common.{◌≡◌, ◌≢◌, ◌⊎◌, inl, inr, ℕ, zero, suc, ◌+◌, ◌<◌, ◌≤◌, true, List, [], ◌∷◌, ◌++◌, length, take, replicate, refl, ap, sym, ◌∙◌, subst, arith, get_or-set_same, get_or-set_other}
+use Rattle.std.proofs.Common.{◌≡◌, ◌≢◌, ◌⊎◌, inl, inr, ℕ, zero, suc, ◌+◌, ◌<◌, ◌≤◌, true, List, [], ◌∷◌, ◌++◌, length, take, replicate, refl, ap, sym, ◌∙◌, subst, arith, get_or-set_same, get_or-set_other, add-one}
 use Rattle.std.specs.Prelude.{slice_index, slice_set}
 use Rattle.std.specs.List.{AllZip}
 use Rattle.std.proofs.lemmas.Bool.{cases_eq, cases_order}
@@ -13,7 +13,7 @@ use Rattle.reg_base.specs.Order.{In}
 use Rattle.reg_checkers.specs.declared.entries.Entry.{Entry}
 use Rattle.reg_checkers.specs.declared.entries.Entry.TheVariants.{Called}
 use Rattle.reg_checkers.specs.Checks.{AreCalled}
-use Rattle.reg_checkers.specs.History.{IsAt, IsAnswered, IsCalled, IsFinished, IsHistory, MayCall, WasCalled}
+use Rattle.reg_checkers.specs.History.{IsAt, IsAnswered, IsCalled, IsHistory, MayCall, WasCalled}
 use Rattle.reg_checkers.specs.Orders.{IsDistinct, IsSerial, KeepsOwnOrder}
 use Rattle.reg_checkers.specs.Progress.{id_of, op_of}
 use Rattle.reg_checkers.specs.Table.{MayStand}
@@ -23,6 +23,7 @@ use Rattle.reg_checkers.proofs.NoOrder.{same_ops}
 use Rattle.reg_checkers.proofs.OwnOrder.{zip_push}
 use Rattle.reg_checkers.proofs.Places.{at_take, element_at, in_take, within}
 use Rattle.reg_checkers.proofs.Pushing.{at_push}
+use Rattle.reg_outcomes.proofs.InTime.{take_at as first_and_next}
 use Rattle.reg_world.proofs.lists.Bodies.{place_first, place_last}
 use Rattle.reg_world.proofs.lists.Members.{at_in}
 use Rattle.reg_world.proofs.one_memory.Replicas.{memory-append}
@@ -30,8 +31,12 @@ use Rattle.reg_interleavings.specs.Finding.{MayCome, Next, Nothing, Places, plac
 use Rattle.reg_interleavings.specs.Interleavings.{Stage, first_stage}
 use Rattle.reg_interleavings.specs.Placing.{IsComplete, IsSerialBy, ids_along}
 use Rattle.reg_interleavings.proofs.Layering.{no_more}
-use Rattle.reg_interleavings.proofs.MissingWalk.{none_at_first, take_next}
 use Rattle.reg_interleavings.proofs.Placed.{IsPlacedLayer, along, in_bounds, room}
+
+none_at_first : (n p : ℕ) → slice_index (replicate n 0) p ≡ 0
+none_at_first zero p = refl
+none_at_first (suc n) zero = refl
+none_at_first (suc n) (suc p) = none_at_first n p
 
 as_long : {X Y : Type 0} (R : X → Y → Type 0) (xs : List X) (ys : List Y) → AllZip R xs ys → length xs ≡ length ys
 as_long R [] [] all = refl
@@ -284,7 +289,7 @@ module _ (n registers : ℕ) (h : List Entry) (good : IsHistory n registers h) w
           ],
         ) in (
           placed_after id.process op s,
-          subst (λ (l : List OpId). Places n registers h l (placed_after id.process op s)) (sym (take_next ids k id here.1))
+          subst (λ (l : List OpId). Places n registers h l (placed_after id.process op s)) (sym (ap (λ (m : ℕ). take m ids) (sym (add-one k)) ∙ first_and_next ids k id here.1))
               (Next id op its.2.0 before.1 (is_next k s id its.2.0 op before.1 here.1 its.2.1) its.2.1 comes),
         )
 

@@ -1,4 +1,4 @@
-use Rattle.std.proofs.Common.{◌≡◌, ℕ, ◌+◌, ◌<◌, List, [], ◌∷◌, ◌++◌, drop, get_or, length, set, replicate, refl, ap, ap₂, sym, ◌∙◌, arith, length-set}
+use Rattle.std.proofs.Common.{◌≡◌, ℕ, ◌+◌, List, [], ◌∷◌, ◌++◌, drop, get_or, length, set, ap, ap₂, ◌∙◌, arith, length-set}
 use Rattle.std.specs.Prelude.{slice_index}
 use Rattle.reg_base.specs.declared.memory.OpId.{OpId}
 use Rattle.reg_checkers.specs.Progress.{op_of}
