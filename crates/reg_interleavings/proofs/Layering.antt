@@ -16,6 +16,37 @@ use Rattle.reg_interleavings.specs.Layers.{Adds, IsLayer, IsNextOf, Refuses, ope
 use Rattle.reg_interleavings.proofs.Leading.{most_operations, no_more_turns}
 use Rattle.reg_interleavings.proofs.Numbering.{behind, different_of, in_at, once_of, stages_of}
 
+-- a list but for one of its elements
+others : {F : Type 0} (fs : List F) (f : F) → In f fs → (rest : List F) × (length rest + 1 ≡ length fs) × ((g : F) → In g fs → (g ≡ f) ⊎ In g rest)
+others [] f h = absurd h
+others (x ∷ xs) f (inl e) = (xs, (omega arith), λ g h. elim h [ inl same ↦ inl (same ∙ sym e) | inr other ↦ inr other ])
+others (x ∷ xs) f (inr h) =
+    let less = others xs f h in
+    let count = less.1 in
+    (x ∷ less.0, omega (arith, count), λ g at. elim at [ inl same ↦ inr (inl same) | inr other ↦ elim (less.2 g other) [ inl e ↦ inl e | inr k ↦ inr (inr k) ] ])
+
+-- no more elements, each once, than those that they are read from
+pub no_more : {X F : Type 0} (read : F → X) (xs : List X) (fs : List F) → ((i j : ℕ) (x : X) → IsAt xs i x → IsAt xs j x → i ≡ j) → ((i : ℕ) (x : X) → IsAt xs i x → (f : F) × In f fs × (read f ≡ x)) → length xs ≤ length fs
+no_more read [] fs once found = omega arith
+no_more {X} {F} read (s ∷ ss) fs once found =
+    let here = found 0 s refl in
+    let f : F = here.0 in
+    let less = others fs f here.1 in
+    let rest = no_more read ss less.0 (λ i j x at again. same_suc (once (suc i) (suc j) x at again)) (λ i x at.
+    let there = found (suc i) x at in
+    elim (less.2 there.0 there.1) [
+      | inl same ↦ absurd (not_first (once 0 (suc i) x (ap Some (sym here.2 ∙ sym (ap read same) ∙ there.2)) at))
+      | inr other ↦ (there.0, other, there.2)
+    ]) in
+    let count = less.1 in
+    omega (arith, rest, count)
+  where
+    same_suc : {i j : ℕ} → suc i ≡ suc j → i ≡ j
+    same_suc e = omega arith
+
+    not_first : {i : ℕ} → 0 ≡ suc i → ⊥
+    not_first e = omega arith
+
 -- no turn leads to the first stage, and to no other
 pub first_is : (scripts : List (List Op)) (registers : ℕ) → IsLayer scripts registers 0 ((first_stage (length scripts) registers, []) ∷ [])
 first_is scripts registers = record { each = each; all = all }
@@ -76,41 +107,10 @@ module _ (scripts : List (List Op)) (registers k : ℕ) (layer : List (Stage × 
   }
   is_fault limit OutOfMemory h = tt
 
-  -- the entries but for one
-  others : (fs : List (Stage × List ℕ)) (f : Stage × List ℕ) → In f fs → (rest : List (Stage × List ℕ)) × (length rest + 1 ≡ length fs) × ((g : Stage × List ℕ) → In g fs → (g ≡ f) ⊎ In g rest)
-  others [] f h = absurd h
-  others (x ∷ xs) f (inl e) = (xs, (omega arith), λ g h. elim h [ inl same ↦ inl (same ∙ sym e) | inr other ↦ inr other ])
-  others (x ∷ xs) f (inr h) =
-      let less = others xs f h in
-      let count = less.1 in
-      (x ∷ less.0, omega (arith, count), λ g at. elim at [ inl same ↦ inr (inl same) | inr other ↦ elim (less.2 g other) [ inl e ↦ inl e | inr k ↦ inr (inr k) ] ])
-
-  -- no more stages, each once, than entries that have them
-  no_more : (stages : List Stage) (fs : List (Stage × List ℕ)) → ((i j : ℕ) (s : Stage) → IsAt stages i s → IsAt stages j s → i ≡ j) → ((i : ℕ) (s : Stage) → IsAt stages i s → (f : Stage × List ℕ) × In f fs × (f.0 ≡ s)) → length stages ≤ length fs
-  no_more [] fs once found = omega arith
-  no_more (s ∷ ss) fs once found =
-      let here = found 0 s refl in
-      let f : Stage × List ℕ = here.0 in
-      let less = others fs f here.1 in
-      let rest = no_more ss less.0 (λ i j x at again. same_suc (once (suc i) (suc j) x at again)) (λ i x at.
-      let there = found (suc i) x at in
-      elim (less.2 there.0 there.1) [
-        | inl same ↦ absurd (not_first (once 0 (suc i) x (ap Some (sym here.2 ∙ sym (ap (λ (g : Stage × List ℕ). g.0) same) ∙ there.2)) at))
-        | inr other ↦ (there.0, other, there.2)
-      ]) in
-      let count = less.1 in
-      omega (arith, rest, count)
-    where
-      same_suc : {i j : ℕ} → suc i ≡ suc j → i ≡ j
-      same_suc e = omega arith
-
-      not_first : {i : ℕ} → 0 ≡ suc i → ⊥
-      not_first e = omega arith
-
   -- a layer that is no wider than the limit has no more stages
   pub is_narrow : (limit : ℕ) → length layer ≤ limit → (w : IsWider scripts registers limit) → w.turns ≡ k → ⊥
   is_narrow limit few w e =
-      let most = no_more w.stages layer w.once (λ i s at. let led = w.led i s at in is.all led.0 s led.1 (led.2 ∙ e)) in
+      let most = no_more (λ (f : Stage × List ℕ). f.0) w.stages layer w.once (λ i s at. let led = w.led i s at in is.all led.0 s led.1 (led.2 ∙ e)) in
       let more = w.more in
       omega (arith, few, most, more)
 

@@ -30,7 +30,7 @@ one_more_behind (n ∷ ns) [] p op h at = absurd h
 one_more_behind (n ∷ ns) (s ∷ ss) zero op h at = (let l = slice_get_within s n op at in omega (arith, l), h.1)
 one_more_behind (n ∷ ns) (s ∷ ss) (suc p) op h at = (h.0, one_more_behind ns ss p op h.1 at)
 
-length-after : (op : Op) (m : List ℕ) → length (after op m) ≡ length m
+pub length-after : (op : Op) (m : List ℕ) → length (after op m) ≡ length m
 length-after (Read r) m = refl
 length-after (Write r v) m = length-set m r v
 length-after (Swap r v) m = length-set m r v

@@ -9,7 +9,7 @@ use Rattle.reg_base.specs.Order.{In}
 use Rattle.reg_checkers.specs.History.{IsAt}
 use Rattle.reg_interleavings.specs.declared.stages.Stage.{Stage as Held}
 use Rattle.reg_interleavings.specs.Interleavings.{Stage, script_of, stage_after}
-use Rattle.reg_interleavings.specs.Layers.{Adds, IsFirstStep, IsNext, IsNextOf, IsReady, IsStep, reached}
+use Rattle.reg_interleavings.specs.Layers.{Adds, IsAfterSome, IsFirstOf, IsFirstStep, IsNext, IsReady, IsSomeOf, IsStep, reached}
 
 -- so many operations of each script are behind
 abbrev pub AreBehind : List ℕ → List (List Op) → Type 0
@@ -48,23 +48,24 @@ module _ (scripts : List (List Op)) (p : ℕ) (op : Op) (from to : Stage × List
       ap₂ (λ (s : Stage) (t : List ℕ). (s, t)) (step.stage ∙ ap (λ o. stage_after p o from.0) same ∙ sym after) step.turns
 
 -- the steps of the first processes, and of the next one
-pub one_more_step : (scripts : List (List Op)) (n : ℕ) (from f : Stage × List ℕ) → IsFirstStep scripts n from f ⊎ IsStep scripts n from f → IsFirstStep scripts (n + 1) from f
-one_more_step scripts n from f (inl (p, lt, step)) = (p, omega arith, step)
-one_more_step scripts n from f (inr step) = (n, omega arith, step)
+module _ (Step : ℕ → Stage × List ℕ → Stage × List ℕ → Type 0) (n : ℕ) (from f : Stage × List ℕ) where
+  pub one_more_step : IsFirstOf Step n from f ⊎ Step n from f → IsFirstOf Step (n + 1) from f
+  one_more_step (inl (p, lt, step)) = (p, omega arith, step)
+  one_more_step (inr step) = (n, omega arith, step)
 
-pub step_cases : (scripts : List (List Op)) (n : ℕ) (from f : Stage × List ℕ) → IsFirstStep scripts (n + 1) from f → IsFirstStep scripts n from f ⊎ IsStep scripts n from f
-step_cases scripts n from f (p, lt, step) = elim (cases_eq p n) [
-  | inl e ↦ inr (subst (λ q. IsStep scripts q from f) e step)
-  | inr ne ↦ inl (p, omega arith, step)
-]
+  pub step_cases : IsFirstOf Step (n + 1) from f → IsFirstOf Step n from f ⊎ Step n from f
+  step_cases (p, lt, step) = elim (cases_eq p n) [
+    | inl e ↦ inr (subst (λ q. Step q from f) e step)
+    | inr ne ↦ inl (p, omega arith, step)
+  ]
+
+  pub some_step : IsFirstOf Step n from f ⊎ Step n from f → IsSomeOf Step from f
+  some_step (inl h) = (h.0, h.2)
+  some_step (inr step) = (n, step)
 
 -- a process with a step is one of those with scripts
 pub within_steps : (scripts : List (List Op)) (n : ℕ) (from f : Stage × List ℕ) → length scripts ≤ n → IsNext scripts from f → IsFirstStep scripts n from f
 within_steps scripts n from f e (p, step) = (p, (let l = has_script scripts p (slice_index from.0.next p) step.op step.next in omega (arith, l)), step)
-
-pub some_step : (scripts : List (List Op)) (n : ℕ) (from f : Stage × List ℕ) → IsFirstStep scripts n from f ⊎ IsStep scripts n from f → IsNext scripts from f
-some_step scripts n from f (inl h) = (h.0, h.2)
-some_step scripts n from f (inr step) = (n, step)
 
 -- one entry more
 pub in_more : {X Y : Type 0} (read : X → Y) (xs : List X) (x : X) (y : Y) → In y (map read xs) ⊎ (y ≡ read x) → In y (map read (xs ++ x ∷ []))
@@ -92,16 +93,16 @@ one_behind behind ahead rest all x e f = append_assoc behind (x ∷ []) rest ∙
 pub among : {X Y : Type 0} (read : X → Y) (behind rest all : List X) (y : Y) → behind ++ rest ≡ all → In y (map read behind) → In y (map read all)
 among read behind rest all y e h = subst (λ l. In y (map read l)) e (in_start read behind rest y h)
 
-module _ {X : Type 0} (read : X → Stage × List ℕ) (scripts : List (List Op)) (xs : List X) (x : X) (f : Stage × List ℕ) where
-  pub next_more : IsNextOf scripts (map read xs) f ⊎ IsNext scripts (read x) f → IsNextOf scripts (map read (xs ++ x ∷ [])) f
+module _ {X : Type 0} (read : X → Stage × List ℕ) (Step : ℕ → Stage × List ℕ → Stage × List ℕ → Type 0) (xs : List X) (x : X) (f : Stage × List ℕ) where
+  pub next_more : IsAfterSome Step (map read xs) f ⊎ IsSomeOf Step (read x) f → IsAfterSome Step (map read (xs ++ x ∷ [])) f
   next_more (inl (from, at, next)) = (from, in_more read xs x from (inl at), next)
   next_more (inr next) = (read x, in_more read xs x (read x) (inr refl), next)
 
-  pub next_cases : IsNextOf scripts (map read (xs ++ x ∷ [])) f → IsNextOf scripts (map read xs) f ⊎ IsNext scripts (read x) f
-  next_cases (from, at, next) = elim (in_cases read xs x from at) [ inl old ↦ inl (from, old, next) | inr e ↦ inr (subst (λ r. IsNext scripts r f) e next) ]
+  pub next_cases : IsAfterSome Step (map read (xs ++ x ∷ [])) f → IsAfterSome Step (map read xs) f ⊎ IsSomeOf Step (read x) f
+  next_cases (from, at, next) = elim (in_cases read xs x from at) [ inl old ↦ inl (from, old, next) | inr e ↦ inr (subst (λ r. IsSomeOf Step r f) e next) ]
 
 -- entries are behind, and what follows them was added, within the limit
-pub record IsUnderWay {A : Type 0} (scripts : List (List Op)) (limit : ℕ) (behind ahead all next : List (Held A × Vec ℕ A)) : Type 0 where
+pub record IsUnderWay {A : Type 0} (Step : ℕ → Stage × List ℕ → Stage × List ℕ → Type 0) (limit : ℕ) (behind ahead all next : List (Held A × Vec ℕ A)) : Type 0 where
   pub split : behind ++ ahead ≡ all
-  pub added : Adds (IsNextOf scripts (map reached behind)) [] (map reached next)
+  pub added : Adds (IsAfterSome Step (map reached behind)) [] (map reached next)
   pub narrow : length next ≤ limit

@@ -46,15 +46,24 @@ pub record IsStep (scripts : List (List Op)) (p : ℕ) (from to : Stage × List 
   pub stage : to.0 ≡ stage_after p op from.0
   pub turns : to.1 ≡ from.1 ++ p ∷ []
 
--- the same of one of the first n processes, of any process, and from any of these entries
+-- the same of one of the first n processes, of any process, and from any of these entries, whatever the steps of a process are
+abbrev pub IsFirstOf : (ℕ → Stage × List ℕ → Stage × List ℕ → Type 0) → ℕ → Stage × List ℕ → Stage × List ℕ → Type 0
+IsFirstOf Step n from to = (p : ℕ) × (p < n) × Step p from to
+
+abbrev pub IsSomeOf : (ℕ → Stage × List ℕ → Stage × List ℕ → Type 0) → Stage × List ℕ → Stage × List ℕ → Type 0
+IsSomeOf Step from to = (p : ℕ) × Step p from to
+
+abbrev pub IsAfterSome : (ℕ → Stage × List ℕ → Stage × List ℕ → Type 0) → List (Stage × List ℕ) → Stage × List ℕ → Type 0
+IsAfterSome Step layer to = (from : Stage × List ℕ) × In from layer × IsSomeOf Step from to
+
 abbrev pub IsFirstStep : List (List Op) → ℕ → Stage × List ℕ → Stage × List ℕ → Type 0
-IsFirstStep scripts n from to = (p : ℕ) × (p < n) × IsStep scripts p from to
+IsFirstStep scripts = IsFirstOf (IsStep scripts)
 
 abbrev pub IsNext : List (List Op) → Stage × List ℕ → Stage × List ℕ → Type 0
-IsNext scripts from to = (p : ℕ) × IsStep scripts p from to
+IsNext scripts = IsSomeOf (IsStep scripts)
 
 abbrev pub IsNextOf : List (List Op) → List (Stage × List ℕ) → Stage × List ℕ → Type 0
-IsNextOf scripts layer to = (from : Stage × List ℕ) × In from layer × IsNext scripts from to
+IsNextOf scripts = IsAfterSome (IsStep scripts)
 
 -- Entries were added: only new ones, and for each new one an entry with its key is there.
 pub record Adds {Key : Type 0} (IsNew : Key × List ℕ → Type 0) (old new : List (Key × List ℕ)) : Type 0 where

@@ -23,7 +23,7 @@ pub(crate) struct Stage<A: Allocator + Copy = Global> {
 }
 
 /// Applies an operation to a memory, and answers it.
-fn apply(memory: &mut [u64], op: Op) -> Answer
+pub(crate) fn apply(memory: &mut [u64], op: Op) -> Answer
     requires { register_of op < length memory.old }
     ensures answer { result ≡ answer_of op memory.old }
     ensures memory { memory.new ≡ after op memory.old }

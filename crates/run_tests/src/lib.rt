@@ -40,6 +40,8 @@ mod schedules;
 #[cfg(test)]
 mod seeded;
 #[cfg(test)]
+mod serial_orders;
+#[cfg(test)]
 mod sources;
 #[cfg(test)]
 mod streams;
