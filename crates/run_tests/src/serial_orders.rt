@@ -123,6 +123,6 @@ impl Trial for Starved {
 #[test]
 fn want_of_memory(rt: HostRuntime) -> Result<(), Fail> {
     let refused = refusals(&Starved, rt.alloc())?;
-    assert!(rt; refused > 20);
+    assert!(rt; refused > 10);
     Ok(())
 }
