@@ -15,6 +15,9 @@ use std::alloc::{AllocError, Allocator, Global};
 use std::collections::BTreeMap;
 use std::marker::Model;
 
+/// The most stages that the same number of turns may lead to, for a command that is given no limit.
+pub const MOST_STAGES: u32 = 4_000_000;
+
 /// An outcome of scripts, and the turns of an interleaving that has it. Contracts see it as that interleaving.
 #[derive(Drop)]
 pub struct Outcome<A: Allocator + Copy = Global> {

@@ -8,9 +8,13 @@ use Rattle.reg_outcomes.specs.declared.outcomes.ToldValue.{ToldValue}
 use Rattle.reg_outcomes.specs.declared.tallies.Tally.{Tally}
 use Rattle.reg_outcomes.specs.Tables.{Line}
 
--- an operation and its value, and two spaces
+-- an operation and its value
+abbrev pub value_text : ToldValue → List ℕ
+value_text t = codes "p" ++ (decimal t.process ++ (codes " #" ++ (decimal t.number ++ (codes " value " ++ decimal t.value))))
+
+-- and two spaces
 abbrev pub told_text : ToldValue → List ℕ
-told_text t = codes "p" ++ (decimal t.process ++ (codes " #" ++ (decimal t.number ++ (codes " value " ++ (decimal t.value ++ codes "  ")))))
+told_text t = value_text t ++ codes "  "
 
 abbrev pub time_text : Bool → List ℕ
 time_text true = codes "real time"

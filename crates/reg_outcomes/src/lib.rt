@@ -12,5 +12,5 @@ pub use outcomes::ToldValue;
 pub use plays::{MOST_PLAYS, Outcomes, play_many};
 pub use rows::Row;
 pub use tallies::Tally;
-pub use text::write_table;
+pub use text::{put_count, put_outcome, put_value, write_table};
 pub use timing::keeps_real_time;

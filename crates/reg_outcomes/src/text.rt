@@ -6,7 +6,7 @@ ghost use Rattle.std.specs.Io.KnownBytes.{Appends};
 ghost use Rattle.reg_text.specs.Columns.{to_right};
 ghost use Rattle.reg_text.specs.Lines.{text_of};
 ghost use Rattle.reg_text.specs.Writing.{AppendsPart, Puts};
-ghost use Rattle.reg_outcomes.specs.TableText.{line_text, play_text, table_text, time_text, told_text};
+ghost use Rattle.reg_outcomes.specs.TableText.{line_text, play_text, table_text, time_text, told_text, value_text};
 
 use crate::outcomes::ToldValue;
 use crate::rows::Row;
@@ -17,7 +17,7 @@ use std::alloc::Allocator;
 use std::io::Write;
 
 /// Puts a mark, and then a number, and ends the line.
-fn put_count<W: Write>(sink: &mut Sink<'_, W>, mark: &str, number: u64)
+pub fn put_count<W: Write>(sink: &mut Sink<'_, W>, mark: &str, number: u64)
     ensures { Puts W.contents sink.old sink.new ((mark.now ++ decimal number) ++ 10 ∷ []) }
 {
     put_number(sink, mark, number);
@@ -43,18 +43,25 @@ fn put_right<W: Write>(sink: &mut Sink<'_, W>, number: u64, places: usize)
     sink.put(digits);
 }
 
-/// Puts a value that an operation answered.
-fn put_told<W: Write>(sink: &mut Sink<'_, W>, told: ToldValue)
-    ensures { Puts W.contents sink.old sink.new (told_text told) }
+/// Puts an operation and the value that it answered.
+pub fn put_value<W: Write>(sink: &mut Sink<'_, W>, told: ToldValue)
+    ensures { Puts W.contents sink.old sink.new (value_text told) }
 {
     put_number(sink, "p", told.process as u64);
     put_number(sink, " #", told.number as u64);
     put_number(sink, " value ", told.value);
+}
+
+/// Puts a value that an operation answered, and two spaces.
+fn put_told<W: Write>(sink: &mut Sink<'_, W>, told: ToldValue)
+    ensures { Puts W.contents sink.old sink.new (told_text told) }
+{
+    put_value(sink, told);
     sink.put(b"  ");
 }
 
-/// Puts an outcome.
-fn put_outcome<W: Write>(sink: &mut Sink<'_, W>, outcome: &[ToldValue])
+/// Puts an outcome, two spaces after each value.
+pub fn put_outcome<W: Write>(sink: &mut Sink<'_, W>, outcome: &[ToldValue])
     ensures { Puts W.contents sink.old sink.new (flat_map told_text outcome.now) }
 {
     for told in outcome {

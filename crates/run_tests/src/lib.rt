@@ -22,6 +22,8 @@ pub mod mixed;
 #[cfg(test)]
 mod mixed_runs;
 #[cfg(test)]
+mod nevers;
+#[cfg(test)]
 mod overtaking;
 #[cfg(test)]
 mod play_reports;

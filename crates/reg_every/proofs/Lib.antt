@@ -1,0 +1,3 @@
+pub mod Playable
+pub mod Sending
+pub mod Shown
