@@ -11,7 +11,7 @@ use Rattle.reg_interleavings.specs.Interleavings.{Interleaving}
 abbrev pub tells : List Interleaving → List (List ToldValue)
 tells found = map (λ i. i.told) found
 
--- In one of these outcomes an operation has this value, at this place. All outcomes of scripts have the same operations at the same places.
+-- In one of these outcomes this value stands at this place. A told value names its operation.
 abbrev pub StandsAt : List (List ToldValue) → ℕ → ToldValue → Type 0
 StandsAt outcomes k v = (i : ℕ) × (o : List ToldValue) × IsAt outcomes i o × IsAt o k v
 

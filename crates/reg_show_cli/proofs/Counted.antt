@@ -7,8 +7,8 @@ use Rattle.std.proofs.lemmas.Slice.Eq.{bytes_eq-Decides}
 use Rattle.std.proofs.lemmas.Option.{same_Some}
 use Rattle.clap.specs.Words.{Text}
 use Rattle.reg_show_cli.specs.declared.words.Asked.{Asked}
-use Rattle.reg_show_cli.specs.declared.words.Asked.TheVariants.{Help, Outcomes, Show, Version, Why}
-use Rattle.reg_show_cli.specs.Lines.{IsAnswer, IsChoice, IsOutcomesLine, IsVersionLine, IsWhyLine, PlaysFit}
+use Rattle.reg_show_cli.specs.declared.words.Asked.TheVariants.{AllOutcomes, Help, Outcomes, Show, Version, Why}
+use Rattle.reg_show_cli.specs.Lines.{IsAllLine, IsAnswer, IsChoice, IsOutcomesLine, IsVersionLine, IsWhyLine, PlaysFit}
 use Rattle.reg_args.specs.declared.faults.WordsFault.{WordsFault}
 use Rattle.reg_args.specs.declared.faults.WordsFault.TheVariants.{CommandLine, OutOfMemory}
 
@@ -43,6 +43,13 @@ three_words (a ∷ b ∷ []) x y z n h i j = absurd cc
 three_words (a ∷ b ∷ c ∷ []) x y z n h i j = absurd cc
 three_words (a ∷ b ∷ c ∷ d ∷ []) x y z n h i j = ap (λ t. t ∷ c ∷ d ∷ []) (same_Some b x h) ∙ (ap (λ t. x ∷ t ∷ d ∷ []) (same_Some c y i) ∙ ap (λ t. x ∷ y ∷ t ∷ []) (same_Some d z j))
 three_words (a ∷ b ∷ c ∷ d ∷ e ∷ ws) x y z n h i j = absurd (omega arith)
+
+pub two_words : (ws : List Text) (x y : Text) → length ws ≡ 3 → slice_get ws 1 ≡ Some x → slice_get ws 2 ≡ Some y → drop 1 ws ≡ x ∷ y ∷ []
+two_words [] x y n h i = absurd cc
+two_words (a ∷ []) x y n h i = absurd cc
+two_words (a ∷ b ∷ []) x y n h i = absurd cc
+two_words (a ∷ b ∷ c ∷ []) x y n h i = ap (λ t. t ∷ c ∷ []) (same_Some b x h) ∙ ap (λ t. x ∷ t ∷ []) (same_Some c y i)
+two_words (a ∷ b ∷ c ∷ d ∷ ws) x y n h i = absurd (omega arith)
 
 -- a word of the line has its place after the program's name
 pub word_at : (ws line : List Text) (k : ℕ) (x : Text) → drop 1 ws ≡ line → slice_get line k ≡ Some x → slice_get ws (suc k) ≡ Some x
@@ -100,14 +107,15 @@ said_plays ws word None n h i j read whole = λ plays line. elim (has_length ws 
 said_plays ws word (Some plays) n h i j read whole = these_plays ws plays n h i (j ∙ ap Some read.0) read.1 read.2
 
 -- what clap reads of other lines is what they ask for
-pub chosen : (line : List Text) (r : Result Asked WordsFault) → ((plays : ℕ) → ¬ IsOutcomesLine line plays) → ¬ IsWhyLine line → ¬ IsVersionLine line → IsAnswer line r → IsChoice line r
-chosen line (Ok (Show showing)) other none unnamed h = h
-chosen line (Ok (Outcomes plays)) other none unnamed h = absurd h
-chosen line (Ok Why) other none unnamed h = absurd h
-chosen line (Ok Version) other none unnamed h = absurd h
-chosen line (Ok Help) other none unnamed h = (λ asked. elim asked [ inl shown ↦ h.0 shown | inr (inl (plays, counted)) ↦ other plays counted | inr (inr (inl why)) ↦ none why | inr (inr (inr version)) ↦ unnamed version ], h.1)
-chosen line (Err CommandLine) other none unnamed h = (λ asked. elim asked [ inl shown ↦ h.0 shown | inr (inl (plays, counted)) ↦ other plays counted | inr (inr (inl why)) ↦ none why | inr (inr (inr version)) ↦ unnamed version ], h.1)
-chosen line (Err OutOfMemory) other none unnamed h = tt
+pub chosen : (line : List Text) (r : Result Asked WordsFault) → ((plays : ℕ) → ¬ IsOutcomesLine line plays) → ¬ IsWhyLine line → ¬ IsVersionLine line → ¬ IsAllLine line → IsAnswer line r → IsChoice line r
+chosen line (Ok (Show showing)) other none unnamed part h = h
+chosen line (Ok (Outcomes plays)) other none unnamed part h = absurd h
+chosen line (Ok AllOutcomes) other none unnamed part h = absurd h
+chosen line (Ok Why) other none unnamed part h = absurd h
+chosen line (Ok Version) other none unnamed part h = absurd h
+chosen line (Ok Help) other none unnamed part h = (λ asked. elim asked [ inl shown ↦ h.0 shown | inr (inl (plays, counted)) ↦ other plays counted | inr (inr (inl why)) ↦ none why | inr (inr (inr (inl version))) ↦ unnamed version | inr (inr (inr (inr every))) ↦ part every ], h.1)
+chosen line (Err CommandLine) other none unnamed part h = (λ asked. elim asked [ inl shown ↦ h.0 shown | inr (inl (plays, counted)) ↦ other plays counted | inr (inr (inl why)) ↦ none why | inr (inr (inr (inl version))) ↦ unnamed version | inr (inr (inr (inr every))) ↦ part every ], h.1)
+chosen line (Err OutOfMemory) other none unnamed part h = tt
 
 -- a word stands alone just where there are two, and the second one is that
 pub alone_length : (ws : List Text) (word : Text) → drop 1 ws ≡ word ∷ [] → length ws ≡ 2
@@ -116,11 +124,19 @@ alone_length ws word e = let n = long_as ws (word ∷ []) word [] e refl in omeg
 pub alone_named : (ws : List Text) (word : Text) → drop 1 ws ≡ word ∷ [] → slice_get ws 1 ≡ Some word
 alone_named ws word e = word_at ws (word ∷ []) 0 word e refl
 
+-- so do the words that ask for all outcomes
+pub all_length : (ws : List Text) → IsAllLine (drop 1 ws) → length ws ≡ 3
+all_length ws e = let n = long_as ws (codes "outcomes" ∷ codes "--all" ∷ []) (codes "outcomes") (codes "--all" ∷ []) e refl in omega (arith, n)
+
+pub all_word : (ws : List Text) (k : ℕ) (x : Text) → slice_get (codes "outcomes" ∷ codes "--all" ∷ []) k ≡ Some x → IsAllLine (drop 1 ws) → slice_get ws (suc k) ≡ Some x
+all_word ws k x at e = word_at ws (codes "outcomes" ∷ codes "--all" ∷ []) k x e at
+
 -- what is asked for can be counted
 pub plays_fit : (line : List Text) (asked : Asked) → IsChoice line (Ok asked) → PlaysFit asked
 plays_fit line (Show showing) h = tt
 plays_fit line (Outcomes plays) (inl (e, u)) = omega (arith, u)
 plays_fit line (Outcomes plays) (inr (e, low, high)) = high
+plays_fit line AllOutcomes h = tt
 plays_fit line Why h = tt
 plays_fit line Help h = tt
 plays_fit line Version h = tt

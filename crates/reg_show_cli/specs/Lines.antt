@@ -9,7 +9,7 @@ use Rattle.reg_show.specs.declared.Showing.TheVariants.{Data, Draw, Page, Rest, 
 use Rattle.reg_args.specs.Lines.{may_ask_help, named_line}
 use Rattle.reg_show_cli.specs.declared.asking.TheConstants.{USUAL_PLAYS}
 use Rattle.reg_show_cli.specs.declared.words.Asked.{Asked}
-use Rattle.reg_show_cli.specs.declared.words.Asked.TheVariants.{Help, Outcomes, Show, Version, Why}
+use Rattle.reg_show_cli.specs.declared.words.Asked.TheVariants.{AllOutcomes, Help, Outcomes, Show, Version, Why}
 use Rattle.reg_args.specs.declared.faults.WordsFault.{WordsFault}
 use Rattle.reg_args.specs.declared.faults.WordsFault.TheVariants.{CommandLine, OutOfMemory}
 
@@ -48,9 +48,13 @@ IsWhyLine line = line ≡ codes "why" ∷ []
 abbrev pub IsVersionLine : List Text → Type 0
 IsVersionLine line = line ≡ codes "--version" ∷ []
 
+-- the words ask for all outcomes
+abbrev pub IsAllLine : List Text → Type 0
+IsAllLine line = line ≡ codes "outcomes" ∷ codes "--all" ∷ []
+
 -- the words ask for one of these
 abbrev pub IsAskedLine : List Text → Type 0
-IsAskedLine line = IsCommandLine line ⊎ (((plays : ℕ) × IsOutcomesLine line plays) ⊎ (IsWhyLine line ⊎ IsVersionLine line))
+IsAskedLine line = IsCommandLine line ⊎ (((plays : ℕ) × IsOutcomesLine line plays) ⊎ (IsWhyLine line ⊎ (IsVersionLine line ⊎ IsAllLine line)))
 
 -- the words ask for help by a flag alone
 abbrev pub IsHelpLine : List Text → Type 0
@@ -61,6 +65,7 @@ IsHelpLine line = (line ≡ codes "-h" ∷ []) ⊎ (line ≡ codes "--help" ∷ 
 abbrev pub IsAnswer : List Text → Result Asked WordsFault → Type 0
 IsAnswer line (Ok (Show showing)) = line ≡ line_of showing
 IsAnswer line (Ok (Outcomes plays)) = ⊥
+IsAnswer line (Ok AllOutcomes) = ⊥
 IsAnswer line (Ok Why) = ⊥
 IsAnswer line (Ok Version) = ⊥
 IsAnswer line (Ok Help) = ¬ IsCommandLine line × (list_any may_ask_help line ≡ true)
@@ -72,6 +77,7 @@ IsAnswer line (Err OutOfMemory) = ⊤
 abbrev pub IsChoice : List Text → Result Asked WordsFault → Type 0
 IsChoice line (Ok (Show showing)) = line ≡ line_of showing
 IsChoice line (Ok (Outcomes plays)) = IsOutcomesLine line plays
+IsChoice line (Ok AllOutcomes) = IsAllLine line
 IsChoice line (Ok Why) = IsWhyLine line
 IsChoice line (Ok Version) = IsVersionLine line
 IsChoice line (Ok Help) = ¬ IsAskedLine line × (list_any may_ask_help line ≡ true)
@@ -85,4 +91,4 @@ PlaysFit _ = ⊤
 
 -- the line for words that ask for nothing, with its line feed
 abbrev pub refused_line : List ℕ
-refused_line = codes "usage: awshow schedule [--fair] | outcomes [--plays N] | trace | draw | data | page | rest | why" ++ 10 ∷ []
+refused_line = codes "usage: awshow schedule [--fair] | outcomes [--all | --plays N] | trace | draw | data | page | rest | why" ++ 10 ∷ []

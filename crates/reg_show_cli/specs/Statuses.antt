@@ -8,18 +8,22 @@ use Rattle.reg_commands.specs.declared.command.Command.TheVariants.{Play}
 use Rattle.reg_commands.specs.declared.faults.Fault.{Fault}
 use Rattle.reg_commands.specs.declared.faults.Fault.TheVariants.{Output}
 use Rattle.reg_commands.specs.FaultLines.{fault_line}
+use Rattle.reg_every.specs.AllOutcomes.{BlamesAll, WritesAll, all_line}
+use Rattle.reg_every.specs.declared.every.AllFault.{AllFault}
+use Rattle.reg_every.specs.declared.every.AllFault.TheVariants.{Command as AllCommand}
 use Rattle.reg_show.specs.declared.faults.ShowFault.{ShowFault}
 use Rattle.reg_show.specs.declared.faults.ShowFault.TheVariants.{Command}
 use Rattle.reg_show.specs.Outcomes.{WritesOutcomes}
 use Rattle.reg_show.specs.Showings.{Blames, Shows, show_line}
 use Rattle.reg_show_cli.specs.declared.words.Asked.{Asked}
-use Rattle.reg_show_cli.specs.declared.words.Asked.TheVariants.{Help, Outcomes, Show, Version, Why}
+use Rattle.reg_show_cli.specs.declared.words.Asked.TheVariants.{AllOutcomes, Help, Outcomes, Show, Version, Why}
 use Rattle.reg_show.specs.Tellings.{Answers, AnswersAny, Halts}
 
 -- Status 0: what was asked for was shown of the input, the input is accepted and that was written, or the text of the help or of the version was written. `Wrote` says how a text was written.
 abbrev pub Obeys : List ℕ → List ℕ → Asked → Option (List ℕ) → (List ℕ → Type 0) → Type 0
 Obeys help version (Show showing) input Wrote = IfSome input (λ xs. length xs ≤ LONGEST_INPUT) × IfSome input (Shows showing Wrote)
 Obeys help version (Outcomes plays) input Wrote = IfSome input (λ xs. length xs ≤ LONGEST_INPUT) × IfSome input (WritesOutcomes plays Wrote)
+Obeys help version AllOutcomes input Wrote = IfSome input (λ xs. length xs ≤ LONGEST_INPUT) × IfSome input (WritesAll Wrote)
 Obeys help version Why input Wrote = IfSome input (λ xs. length xs ≤ LONGEST_INPUT) × IfSome input (Answers true Wrote)
 Obeys help version Help input Wrote = Wrote help
 Obeys help version Version input Wrote = Wrote version
@@ -32,6 +36,8 @@ Stops (Show showing) input unwritten old new was is =
     (f : ShowFault) × IfSome input (Blames showing f) × (f ≢ Command Output → unwritten) × (f ≡ Command Output → IfSome input (Shows showing (AppendsPart old new))) × AppendsPart was is (show_line f)
 Stops (Outcomes plays) input unwritten old new was is =
     (f : Fault) × IfSome input (BlamesCommand (Play false) f) × (f ≢ Output → unwritten) × (f ≡ Output → IfSome input (WritesOutcomes plays (AppendsPart old new))) × AppendsPart was is (fault_line f)
+Stops AllOutcomes input unwritten old new was is =
+    (f : AllFault) × IfSome input (BlamesAll f) × (f ≢ AllCommand Output → unwritten) × (f ≡ AllCommand Output → IfSome input (WritesAll (AppendsPart old new))) × AppendsPart was is (all_line f)
 Stops Why input unwritten old new was is =
     (IfSome input (Answers false (Appends old new)) × (was ≡ is))
     ⊎ ((f : Fault) × IfSome input (Halts f) × (f ≢ Output → unwritten) × (f ≡ Output → IfSome input (AnswersAny (AppendsPart old new))) × AppendsPart was is (fault_line f))
@@ -42,6 +48,7 @@ Stops Version input unwritten old new was is = AppendsPart was is (fault_line Ou
 abbrev pub Tells : Asked → Option (List ℕ) → Option (List ℕ) → Type 0
 Tells (Show showing) was is = (f : ShowFault) × AppendsPart was is (show_line f)
 Tells (Outcomes plays) was is = (f : Fault) × AppendsPart was is (fault_line f)
+Tells AllOutcomes was is = (f : AllFault) × AppendsPart was is (all_line f)
 Tells Why was is = (was ≡ is) ⊎ ((f : Fault) × AppendsPart was is (fault_line f))
 Tells Help was is = AppendsPart was is (fault_line Output)
 Tells Version was is = AppendsPart was is (fault_line Output)

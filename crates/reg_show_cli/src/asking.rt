@@ -5,7 +5,7 @@ ghost use Rattle.std.specs.Prelude.{◌≡◌, ◌≤◌, ◌↔◌, ◌∷◌, 
 ghost use Rattle.std.specs.Fmt.{decimal};
 ghost use Rattle.reg_outcomes.specs.declared.plays.TheConstants.{MOST_PLAYS};
 ghost use Rattle.reg_args.specs.Lines.{behind_name};
-ghost use Rattle.reg_show_cli.specs.Lines.{IsChoice, IsOutcomesLine};
+ghost use Rattle.reg_show_cli.specs.Lines.{IsAllLine, IsChoice, IsOutcomesLine};
 
 use crate::words::{Asked, choose};
 use reg_args::WordsFault;
@@ -73,6 +73,19 @@ fn plays_asked(words: &[String]) -> Option<u32>
     }
 }
 
+/// Whether the words ask for all outcomes.
+fn asks_all(words: &[String]) -> bool
+    ensures { result ≡ true ↔ IsAllLine (behind_name words.now) }
+{
+    if words.len() != 3 {
+        return false;
+    }
+    if !is_at(words, 1, "outcomes") {
+        return false;
+    }
+    is_at(words, 2, "--all")
+}
+
 /// Whether this word alone stands after the program's name.
 fn is_alone(words: &[String], word: &str) -> bool
     ensures { result ≡ true ↔ behind_name words.now ≡ word.now ∷ [] }
@@ -92,6 +105,9 @@ pub fn ask(alloc: Global, words: &[String]) -> Result<Asked, WordsFault>
     }
     if is_alone(words, "--version") {
         return Ok(Asked::Version);
+    }
+    if asks_all(words) {
+        return Ok(Asked::AllOutcomes);
     }
     match plays_asked(words) {
         Some(plays) => Ok(Asked::Outcomes { plays }),

@@ -19,6 +19,8 @@ pub enum Asked {
     Show { showing: Showing },
     /// To count what so many plays of the workload on the input tell.
     Outcomes { plays: u32 },
+    /// To print all outcomes that the scripts of the workload on the input can have.
+    AllOutcomes,
     /// To tell what is wrong with the text on the input.
     Why,
     /// How the program is used.
@@ -36,6 +38,7 @@ Shows what processes that share registers do. Each command reads standard input.
 
 usage: awshow schedule [--fair]      reads a workload, prints the schedule of its play
        awshow outcomes [--plays N]   reads a workload, prints what N plays of it answer, counted
+       awshow outcomes --all         reads a workload, prints all that it may answer, and what it never does
        awshow trace                  reads a schedule, prints what happens, event by event
        awshow draw                   reads a schedule, prints its space-time diagram as SVG
        awshow data                   reads a schedule, prints its run as JSON

@@ -5,6 +5,8 @@
 #![tactic(auto)]
 
 #[cfg(test)]
+mod all_shown;
+#[cfg(test)]
 mod lines;
 #[cfg(test)]
 mod litmus;

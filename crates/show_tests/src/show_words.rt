@@ -5,7 +5,7 @@ use std::alloc::Global;
 use std::process::Abort;
 
 /// Each line, and what it asks for.
-const LINES: [(&str, Result<Asked, WordsFault>); 36] = [
+const LINES: [(&str, Result<Asked, WordsFault>); 39] = [
     (
         "schedule",
         Ok(Asked::Show {
@@ -36,6 +36,9 @@ const LINES: [(&str, Result<Asked, WordsFault>); 36] = [
         "outcomes --plays 1000000",
         Ok(Asked::Outcomes { plays: 1_000_000 }),
     ),
+    ("outcomes --all", Ok(Asked::AllOutcomes)),
+    ("outcomes --all 3", Err(WordsFault::CommandLine)),
+    ("outcomes --plays --all", Err(WordsFault::CommandLine)),
     (
         "data",
         Ok(Asked::Show {
@@ -104,6 +107,6 @@ fn is_told(alloc: Global, status: u8, line: &str) -> bool {
 #[test]
 fn a_refused_command_line_is_told_by_a_usage_line(rt: HostRuntime) {
     let usage =
-        "usage: awshow schedule [--fair] | outcomes [--plays N] | trace | draw | data | page | rest | why\n";
+        "usage: awshow schedule [--fair] | outcomes [--all | --plays N] | trace | draw | data | page | rest | why\n";
     assert!(rt; is_told(rt.alloc(), 2, usage));
 }

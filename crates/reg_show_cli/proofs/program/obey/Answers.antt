@@ -1,6 +1,12 @@
 use Rattle.std.proofs.Common.{rules}
 use Rattle.reg_show_cli.proofs.program.obey.Goals as goal
 
+pub returns-in-AllOutcomes-clause-obeyed : goal.returns-in-AllOutcomes-clause-obeyed
+returns-in-AllOutcomes-clause-obeyed g c = search rules
+
+pub returns-in-AllOutcomes-clause-stopped : goal.returns-in-AllOutcomes-clause-stopped
+returns-in-AllOutcomes-clause-stopped g c = search rules
+
 pub returns-in-Outcomes-clause-obeyed : goal.returns-in-Outcomes-clause-obeyed
 returns-in-Outcomes-clause-obeyed g c = search rules
 
