@@ -10,7 +10,8 @@ use Rattle.reg_interleavings.specs.declared.faults.InterleavingFault.{Interleavi
 use Rattle.reg_interleavings.specs.declared.faults.InterleavingFault.TheVariants.{TooManyStages, OutOfMemory}
 use Rattle.reg_interleavings.specs.Interleavings.{Stage, first_stage}
 
--- The operation may come where the memory gives it this answer: it was answered no other, and it is finished, or may change the memory.
+-- The operation may come where the memory gives it this answer: it was answered no other, and it is finished, or may
+-- change the memory.
 abbrev pub MayCome : List Entry → OpId → Op → Answer → Type 0
 MayCome h id op answer = ((at : ℕ) (given : Answer) → IsAnswered h id at given → given ≡ answer) × (IsFinished h id ⊎ (updates op ≡ true))
 

@@ -46,7 +46,8 @@ pub record IsStep (scripts : List (List Op)) (p : ℕ) (from to : Stage × List 
   pub stage : to.0 ≡ stage_after p op from.0
   pub turns : to.1 ≡ from.1 ++ p ∷ []
 
--- the same of one of the first n processes, of any process, and from any of these entries, whatever the steps of a process are
+-- the same of one of the first n processes, of any process, and from any of these entries, whatever the steps of a
+-- process are
 abbrev pub IsFirstOf : (ℕ → Stage × List ℕ → Stage × List ℕ → Type 0) → ℕ → Stage × List ℕ → Stage × List ℕ → Type 0
 IsFirstOf Step n from to = (p : ℕ) × (p < n) × Step p from to
 

@@ -1,4 +1,5 @@
--- A search for a serial order under way: the operations that may come next. They carry a proof: no promise speaks of them.
+-- A search for a serial order under way: the operations that may come next. They carry a proof: no promise speaks of
+-- them.
 use Rattle.std.specs.Prelude.{ℕ, ◌≡◌, ◌+◌, ◌<◌, List, [], ◌∷◌, ◌++◌, length, map, replicate, slice_index, slice_set}
 use Rattle.reg_base.specs.declared.limits.TheConstants.{MOST_OPERATIONS}
 use Rattle.reg_base.specs.declared.memory.Op.{Op}

@@ -1,5 +1,5 @@
-//! A serial order of a history, found or by proof none: operations are placed one after another (Wing and Gong 1993), and
-//! each stage that they lead to is kept once (Lowe 2017).
+//! A serial order of a history, found or by proof none: operations are placed one after another (Wing and Gong 1993),
+//! and each stage that they lead to is kept once (Lowe 2017).
 ghost use Rattle.std.specs.Prelude.{◌≡◌, ◌∷◌, [], ℕ, List, ◌<◌, ◌≤◌, ◌⊎◌, ◌↔◌, IsTrue, MatchBool, MatchOption, IfOk, IfErr, OnOk, length, replicate, slice_index};
 ghost use Rattle.reg_base.specs.declared.memory.OpId.{OpId as AnyId};
 ghost use Rattle.reg_base.specs.declared.memory.Answer.{Answer as AnyAnswer};
@@ -271,9 +271,9 @@ fn serial_turns<A: Allocator + Copy>(
     Ok(None)
 }
 
-/// A serial order of a history, None where there is none (sequential consistency, Lamport 1979). Operations are placed one
-/// after another, and each stage that they lead to is kept once, so what it needs is the number of stages and not that of
-/// the orders.
+/// A serial order of a history, None where there is none (sequential consistency, Lamport 1979). Operations are placed
+/// one after another, and each stage that they lead to is kept once, so what it needs is the number of stages and not
+/// that of the orders.
 ///
 /// # Errors
 ///
