@@ -5,7 +5,7 @@ use std::alloc::Global;
 use std::process::Abort;
 
 /// Each line, and what it asks for.
-const LINES: [(&str, Result<Asked, WordsFault>); 39] = [
+const LINES: [(&str, Result<Asked, WordsFault>); 42] = [
     (
         "schedule",
         Ok(Asked::Show {
@@ -58,6 +58,7 @@ const LINES: [(&str, Result<Asked, WordsFault>); 39] = [
         }),
     ),
     ("why", Ok(Asked::Why)),
+    ("--version", Ok(Asked::Version)),
     ("help", Ok(Asked::Help)),
     ("-h", Ok(Asked::Help)),
     ("--help", Ok(Asked::Help)),
@@ -72,6 +73,8 @@ const LINES: [(&str, Result<Asked, WordsFault>); 39] = [
     ("page --fair", Err(WordsFault::CommandLine)),
     ("rest --fair", Err(WordsFault::CommandLine)),
     ("why why", Err(WordsFault::CommandLine)),
+    ("version", Err(WordsFault::CommandLine)),
+    ("--version --version", Err(WordsFault::CommandLine)),
     ("why --fair", Err(WordsFault::CommandLine)),
     ("schedule schedule", Err(WordsFault::CommandLine)),
     ("schedule --fair --fair", Err(WordsFault::CommandLine)),
