@@ -1,12 +1,17 @@
 //! Serial orders of small histories, found: those worked out by hand, the limit, and want of memory.
-use part_tests::values::{READ, WRITE_FIVE, answered, called, id, write_of};
+use part_tests::values::{READ, WRITE_FIVE, answered, called, id};
 use refusing::{Trial, refusals};
-use reg_base::{Answer, OpId, Shape};
+use reg_base::{Answer, Op, OpId, Shape};
 use reg_history::{Entry, History, check_serial};
 use reg_interleavings::{InterleavingFault, find_serial};
 use std::alloc::{Allocator, Global};
 use std::process::Abort;
 use std::test::Fail;
+
+/// A write of this value to the register.
+fn write_of(value: u64) -> Op {
+    Op::Write { register: 0, value }
+}
 
 /// A history of four processes on one register. None where memory is refused.
 fn history_of<A: Allocator + Copy>(alloc: A, entries: &[Entry]) -> Option<History<A>> {
