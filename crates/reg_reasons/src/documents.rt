@@ -3,10 +3,10 @@ use crate::forms::Form;
 use crate::lines_at::{kept_at, line_at, line_of_place};
 use crate::saying::{
     NAME_FORM, NAME_TAKEN, near, put_misfit, put_out_of_range, put_place, put_quoted,
-    put_wanted_words, put_with,
+    put_wanted_words, put_with, put_words,
 };
 use crate::scanning::{behind, is_register, misfit_of, place_of, token_of};
-use crate::toml_places::{Item, item_place, key_place};
+use crate::toml_places::{Item, item_place, key_place, open_array};
 use crate::wanting::{Misfit, Range};
 use reg_base::limits::{
     LAST_SEED, MOST_EVENTS, MOST_ODDS, MOST_OPERATIONS, MOST_PROCESSES, MOST_REGISTERS,
@@ -69,12 +69,17 @@ fn kind_of_key(key: Key) -> &'static str {
 /// The range of a key's number.
 fn range_of(key: Key) -> Range {
     let (what, least, most) = match key {
-        Key::Seed => ("seed is", 0, LAST_SEED),
-        Key::Loss => ("loss is", 0, MOST_ODDS as u64),
-        Key::Repeat => ("repeat is", 0, MOST_ODDS as u64),
-        _ => ("budget is", 1, MOST_EVENTS as u64),
+        Key::Seed => ("seed", 0, LAST_SEED),
+        Key::Loss => ("loss", 0, MOST_ODDS as u64),
+        Key::Repeat => ("repeat", 0, MOST_ODDS as u64),
+        _ => ("budget", 1, MOST_EVENTS as u64),
     };
-    Range { what, least, most }
+    Range {
+        what,
+        verb: "is",
+        least,
+        most,
+    }
 }
 
 fn put_kind_of_key<W: Write>(sink: &mut Sink<'_, W>, key: Key) {
@@ -98,6 +103,10 @@ fn explain_toml<W: Write>(
     put_text_place(sink, text.as_bytes(), span.start);
     sink.put(error.message().as_bytes());
     sink.put(b"\n");
+    if let Some(place) = open_array(text.as_bytes(), span.start) {
+        let (number, _) = line_of_place(text.as_bytes(), place);
+        put_with(sink, "an array of line {} is still open here\n", &[number]);
+    }
     Ok(())
 }
 
@@ -347,7 +356,12 @@ pub fn explain_workload<A: Allocator + Copy, W: Write>(
         WorkloadFault::UnknownKey => explain_unknown_key(alloc, sink, bytes, &table)?,
         WorkloadFault::Missing { key } => {
             put_kind_of_key(sink, key);
-            sink.put(b", and no line has it\n");
+            sink.put(b", and no line has it");
+            if let Key::Front = key {
+                sink.put(b": ");
+                put_words(sink, FRONTS);
+            }
+            sink.put(b"\n");
         }
         WorkloadFault::Kind { key } => explain_kind(sink, bytes, &table, key),
         WorkloadFault::Range { key } => {

@@ -41,44 +41,51 @@ pub enum Form {
 }
 
 const PROCESS: Range = Range {
-    what: "a process is a number",
+    what: "a process",
+    verb: "is a number",
     least: 0,
     most: 255,
 };
 
 const FRAME: Range = Range {
-    what: "the place of a frame is a number",
+    what: "the place of a frame",
+    verb: "is a number",
     least: 0,
     most: 4_294_967_295,
 };
 
 /// What a value of a register is.
 pub const VALUE: Range = Range {
-    what: "a value is a number",
+    what: "a value",
+    verb: "is a number",
     least: 0,
     most: 18_446_744_073_709_551_615,
 };
 
 const PROCESSES: Range = Range {
-    what: "the number of processes is",
+    what: "the number of processes",
+    verb: "is",
     least: 1,
     most: MOST_PROCESSES as u64,
 };
 
 const OPERATION: Range = Range {
-    what: "the number of an operation is",
+    what: "the number of an operation",
+    verb: "is",
     least: 0,
     most: MOST_OPERATIONS as u64 - 1,
 };
 
 const EVENT: Range = Range {
-    what: "an event is a number",
+    what: "an event",
+    verb: "is a number",
     least: 0,
     most: LAST_EVENT as u64,
 };
 
 const IDS: Range = Range {
-    what: "the number of lines is",
+    what: "the number of lines",
+    verb: "is",
     least: 0,
     most: MOST_IDS as u64,
 };
@@ -115,13 +122,15 @@ macro_rules! signs {
 
 /// The number of a process in a report of version 2, and of version 1.
 const IN_REPORT: Range = Range {
-    what: "a process is a number",
+    what: "a process",
+    verb: "is a number",
     least: 0,
     most: MOST_PROCESSES as u64 - 1,
 };
 
 const IN_OLDER_REPORT: Range = Range {
-    what: "a process is a number",
+    what: "a process",
+    verb: "is a number",
     least: 0,
     most: OLDER_PROCESSES as u64 - 1,
 };
@@ -209,7 +218,8 @@ const PROCESSES_LINE: &[Step] = count!("processes", PROCESSES);
 const OLDER_PROCESSES_LINE: &[Step] = count!(
     "processes",
     Range {
-        what: "the number of processes is",
+        what: "the number of processes",
+        verb: "is",
         least: 1,
         most: OLDER_PROCESSES as u64,
     }
@@ -258,7 +268,7 @@ const EVENT_TICK: &[Step] = &[Step::Space, A_PROCESS, Step::End];
 
 const OP: &[Step] = &[OPS];
 
-const READ: &[Step] = &[Step::Space, Step::Register, Step::End];
+const READ: &[Step] = &[Step::Space, Step::Register, Step::NoValue];
 
 const WRITE: &[Step] = &[Step::Space, Step::Register, Step::Space, A_VALUE, Step::End];
 
@@ -276,7 +286,8 @@ const REPORT_FRONT: &[Step] = &[FRONT_WORD, Step::Space, Step::FrontEnd, Step::E
 const REGISTERS: &[Step] = count!(
     "registers",
     Range {
-        what: "the number of registers is",
+        what: "the number of registers",
+        verb: "is",
         least: 1,
         most: MOST_REGISTERS as u64,
     }
@@ -287,7 +298,8 @@ const NAME: &[Step] = &[Step::Name, Step::End];
 const HISTORY: &[Step] = count!(
     "history",
     Range {
-        what: "the number of lines of a history is",
+        what: "the number of lines of a history",
+        verb: "is",
         least: 0,
         most: MOST_ENTRIES as u64,
     }

@@ -125,7 +125,7 @@ fn separator(place: usize, count: usize) -> &'static str {
 }
 
 /// Puts words as a list.
-fn put_words<W: Write>(sink: &mut Sink<'_, W>, words: &[&str]) {
+pub fn put_words<W: Write>(sink: &mut Sink<'_, W>, words: &[&str]) {
     for (place, word) in words.iter().enumerate() {
         sink.put(separator(place, words.len()).as_bytes());
         sink.put(word.as_bytes());
@@ -242,6 +242,8 @@ fn put_wanted_number<W: Write>(sink: &mut Sink<'_, W>, range: Range, found: &[u8
 pub fn put_out_of_range<W: Write>(sink: &mut Sink<'_, W>, range: Range) {
     sink.put(b" is out of range: ");
     sink.put(range.what.as_bytes());
+    sink.put(b" ");
+    sink.put(range.verb.as_bytes());
     put_with(sink, " from {} to {}", &[range.least, range.most]);
 }
 
@@ -319,6 +321,11 @@ fn put_wanted<A: Allocator + Copy, W: Write>(
         Wanted::OtherName => put_quoted(sink, "", token, &[NAME_TAKEN]),
         Wanted::Fewer { most } => {
             put_with(sink, "there are no more registers than {}", &[most]);
+        }
+        Wanted::NoValue => sink.put(b"a read takes no value"),
+        Wanted::Missing { what } => {
+            sink.put(what.as_bytes());
+            sink.put(b" is missing");
         }
         _ => sink.put(b"a comment stands on a line of its own"),
     }

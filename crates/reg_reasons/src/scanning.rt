@@ -84,11 +84,15 @@ impl<'a> Scan<'a> {
         self.rest = behind(self.rest, count);
     }
 
-    /// The next part doesn't fit.
+    /// The next part doesn't fit. What is too much after one space is marked, and not the space.
     fn misfit(&self, wanted: Wanted) -> Misfit<'a> {
-        let is_second_space = matches!(wanted, Wanted::Space) && spaces_of(self.rest) > 1;
+        let is_after_space = match wanted {
+            Wanted::Space => spaces_of(self.rest) > 1,
+            Wanted::NoValue => true,
+            _ => false,
+        };
         Misfit {
-            at: self.place().saturating_add(usize::from(is_second_space)),
+            at: self.place().saturating_add(usize::from(is_after_space)),
             found: self.rest,
             wanted,
         }
@@ -186,6 +190,9 @@ impl<'a> Scan<'a> {
             if count > 0 && self.rest.is_empty() {
                 return None;
             }
+            if self.rest.is_empty() {
+                return Some(Wanted::Missing { what: "a name" });
+            }
             if !self.space() {
                 return Some(Wanted::Space);
             }
@@ -226,7 +233,27 @@ impl<'a> Scan<'a> {
             Step::Name => self.name(b""),
             Step::Names { most } => self.names(most),
             Step::End => unless(self.rest.is_empty(), Wanted::End),
+            Step::NoValue => unless(self.rest.is_empty(), end_of_read(self.rest)),
         }
+    }
+}
+
+/// What is wanted where a read ends, and this stands there.
+fn end_of_read(rest: &[u8]) -> Wanted {
+    if spaces_of(rest) == 1 && is_numeral(token_of(behind(rest, 1))) {
+        Wanted::NoValue
+    } else {
+        Wanted::End
+    }
+}
+
+/// What is missing where the line ends in the place of a space and these steps.
+fn missing(later: &'static [Step]) -> Wanted {
+    match later.first().copied() {
+        Some(Step::Number { range }) => Wanted::Missing { what: range.what },
+        Some(Step::Register) => Wanted::Missing { what: "a register" },
+        Some(Step::Word { words, .. }) => Wanted::Words { words },
+        _ => Wanted::Space,
     }
 }
 
@@ -263,7 +290,10 @@ pub fn misfit_of<'a>(
         let (step, later) = steps.split_first()?;
         steps = steps_behind(scan.rest, *step, later);
         if let Some(wanted) = scan.step(*step, names) {
-            return Some(scan.misfit(wanted));
+            return Some(scan.misfit(match wanted {
+                Wanted::Space if scan.rest.is_empty() => missing(later),
+                _ => wanted,
+            }));
         }
     }
     None

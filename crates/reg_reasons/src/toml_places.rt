@@ -48,6 +48,14 @@ struct Nest {
     inner: usize,
 }
 
+/// Outside any array.
+const START: Nest = Nest {
+    inside: Inside::Nothing,
+    depth: 0,
+    outer: 0,
+    inner: 0,
+};
+
 /// An item of an array, or of an array in an array.
 #[derive(Clone, Copy)]
 pub struct Item {
@@ -112,14 +120,23 @@ fn begins_item(byte: u8) -> bool {
     !matches!(byte, b' ' | b'\t' | b'\r' | b'\n' | b',' | b']' | b'#')
 }
 
+/// The place of the outermost array that is open before this place.
+pub fn open_array(text: &[u8], end: usize) -> Option<usize> {
+    let mut nest = START;
+    let mut opened = 0;
+    for (place, byte) in text.iter().take(end).enumerate() {
+        let before = nest.depth;
+        nest = nest.after(*byte);
+        if before == 0 && nest.depth > 0 {
+            opened = place;
+        }
+    }
+    if nest.depth > 0 { Some(opened) } else { None }
+}
+
 /// The place of an item of the array that stands after this place.
 pub fn item_place(text: &[u8], start: usize, item: Item) -> Option<usize> {
-    let mut nest = Nest {
-        inside: Inside::Nothing,
-        depth: 0,
-        outer: 0,
-        inner: 0,
-    };
+    let mut nest = START;
     let mut place = start;
     for byte in behind(text, start) {
         if nest.inside == Inside::Nothing && begins_item(*byte) && nest.is_at(item) {

@@ -4,8 +4,10 @@ use crate::forms::Form;
 /// A number that is wanted.
 #[derive(Clone, Copy)]
 pub struct Range {
-    /// What the number is, as in `a process is a number from 0 to 255`.
+    /// What the number is, as `a process`.
     pub what: &'static str,
+    /// What joins that and the bounds, as in `a process is a number from 0 to 255`.
+    pub verb: &'static str,
     pub least: u64,
     pub most: u64,
 }
@@ -50,6 +52,8 @@ pub enum Step {
     },
     /// The end of the line.
     End,
+    /// The end of the line of a read.
+    NoValue,
 }
 
 /// What is wanted at a place of a line.
@@ -72,6 +76,10 @@ pub enum Wanted {
     Fewer { most: u64 },
     /// The end of the line.
     End,
+    /// The end of the line of a read, where a value stands.
+    NoValue,
+    /// More of the line, which ends: this.
+    Missing { what: &'static str },
 }
 
 /// The first place of a line that doesn't fit: how many bytes stand before it, what stands there, and what was wanted.

@@ -101,7 +101,7 @@ pub(crate) const ROWS: [Row; 61] = [
     (
         "processes 2\nregisters x z\nfront linear\ntick\n",
         false,
-        "line 4: form\n4 | tick\n  |     ^\nexpected one space, found the end of the line\n",
+        "line 4: form\n4 | tick\n  |     ^\na process is missing\n",
     ),
     (
         "processes 2\nregisters x z\nfront linear\ntick \n",
@@ -166,7 +166,7 @@ pub(crate) const ROWS: [Row; 61] = [
     (
         "processes 2\nregisters x z\nfront linear\ntake 0 1\n",
         false,
-        "line 4: form\n4 | take 0 1\n  |         ^\nexpected one space, found the end of the line\n",
+        "line 4: form\n4 | take 0 1\n  |         ^\nthe place of a frame is missing\n",
     ),
     (
         "processes 2\nregisters x z\nfront linear\ntake 0 1 4294967296\n",
@@ -176,12 +176,12 @@ pub(crate) const ROWS: [Row; 61] = [
     (
         "processes 2\nregisters x z\nfront linear\ncall 0 write x\n",
         false,
-        "line 4: form\n4 | call 0 write x\n  |               ^\nexpected one space, found the end of the line\n",
+        "line 4: form\n4 | call 0 write x\n  |               ^\na value is missing\n",
     ),
     (
         "processes 2\nregisters x z\nfront linear\ncall 0 read x 1\n",
         false,
-        "line 4: form\n4 | call 0 read x 1\n  |              ^\nexpected the end of the line, found a space\n",
+        "line 4: form\n4 | call 0 read x 1\n  |               ^\na read takes no value\n",
     ),
     (
         "processes 2\nregisters x z\nfront linear\ncall 0 write x 18446744073709551616\n",
@@ -236,7 +236,7 @@ pub(crate) const ROWS: [Row; 61] = [
     (
         "processes 1\nregisters\nfront linear\n",
         false,
-        "line 2: form\n2 | registers\n  |          ^\nexpected one space, found the end of the line\n",
+        "line 2: form\n2 | registers\n  |          ^\na name is missing\n",
     ),
     (
         "processes 1\nregisters x  y\nfront linear\n",

@@ -16,7 +16,7 @@ pub(crate) const ROWS: [Row; 22] = [
     (
         "front = \"local-write\"\nregisters = [\"x\"\nscripts = [[\"write x 5\", \"read x\"], [\"read x\"]]\n",
         false,
-        "toml\n3 | scripts = [[\"write x 5\", \"read x\"], [\"read x\"]]\n  | ^\nmissing comma between array elements, expected `,` or `]`\n",
+        "toml\n3 | scripts = [[\"write x 5\", \"read x\"], [\"read x\"]]\n  | ^\nmissing comma between array elements, expected `,` or `]`\nan array of line 2 is still open here\n",
     ),
     (
         "front = \"local-write\"\nregister = [\"x\"]\nscripts = [[\"write x 5\", \"read x\"], [\"read x\"]]\n",
@@ -36,7 +36,7 @@ pub(crate) const ROWS: [Row; 22] = [
     (
         "",
         false,
-        "missing front\nfront is a string, and no line has it\n",
+        "missing front\nfront is a string, and no line has it: linear, local-read or local-write\n",
     ),
     (
         "front = \"linear\"\nregisters = [\"x\"]\n",
