@@ -1,0 +1,7 @@
+pub mod Heads
+pub mod Accounts
+pub mod Signs
+pub mod Entries
+pub mod Hexes
+pub mod Logged
+pub mod Shown
