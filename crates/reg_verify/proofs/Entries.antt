@@ -9,7 +9,7 @@ use Rattle.reg_text.specs.Parts.{Lacks}
 use Rattle.reg_text.proofs.Joining.{joined}
 use Rattle.reg_text.proofs.Worded.{not_lacking}
 use Rattle.reg_verify.specs.RecordLines.{EntryFits, IsFitting, ReplyFits, entry_text, reply_text, step_text, told_text}
-use Rattle.reg_verify.proofs.Signs.{step_lacks}
+use Rattle.reg_verify.proofs.Signs.{clear_step}
 
 -- the parts at the first equals sign
 abbrev pub IsCut : List ℕ → List ℕ → List ℕ → Type 0
@@ -34,7 +34,7 @@ module _ (names : List (List ℕ)) (text front behind : List ℕ) (spelt : names
       record { reply = reply; is = is; fits = fits; step = parts.0; words = parts.1 }
 
   pub answered : EntryFits names entry → text ≡ entry_text names entry → Answered names front behind entry
-  answered fits same = of_reply entry.reply refl (step_lacks names entry.step spelt fits.0) fits.1 same
+  answered fits same = of_reply entry.reply refl (clear_step names entry.step spelt fits.0).0 fits.1 same
 
 pub same_entry : (entry : LogEntry) (step : Step) (reply told : Reply) → (let one : Step × Reply = (step, reply) in let other : Step × Reply = (entry.step, told) in Some one ≡ Some other) → entry.reply ≡ Some told → Some (record { step = step; reply = Some reply }) ≡ Some entry
 same_entry entry step reply told both is =

@@ -5,3 +5,4 @@ pub mod Entries
 pub mod Hexes
 pub mod Logged
 pub mod Shown
+pub mod Written

@@ -1,4 +1,4 @@
--- Which signs the text of a step lacks.
+-- Which signs the text of a step lacks: there is no equals sign in it, and no line feed.
 use Rattle.std.proofs.Common.{ℕ, zero, suc, ◌≡◌, ◌<◌, length, ◌/◌, ◌%◌, ◌==◌, ◌^◌, not, true, List, [], ◌∷◌, ◌++◌, get_or, codes, None, refl, arith, rules}
 use Rattle.std.specs.Fmt.{decimal}
 use Rattle.std.specs.List.{list_all}
@@ -15,47 +15,56 @@ use Rattle.reg_process.specs.declared.steps.Step.TheVariants.{Call, Take, Tick}
 use Rattle.reg_text.specs.Ops.{name_of, valued, op_text, OpFits}
 use Rattle.reg_text.specs.Parts.{Lacks}
 use Rattle.reg_text.proofs.Decimals.{own}
-use Rattle.reg_text.proofs.Joining.{joined}
+use Rattle.reg_text.proofs.Joining.{joined, number}
 use Rattle.reg_text.proofs.NamesLack.{both_true, nth_lacks}
 use Rattle.reg_verify.specs.RecordLines.{StepFits, step_text}
 
--- an equals sign is none of these
-abbrev sign : ℕ
-sign = 61
+abbrev pub IsClear : List ℕ → Type 0
+IsClear text = Lacks 61 text × Lacks 10 text
 
-digits_lack : (ds : List ℕ) → AllDigits 10 ds → Lacks sign ds
+pub both : (a b : List ℕ) → IsClear a → IsClear b → IsClear (a ++ b)
+both a b h k = (joined 61 a b h.0 k.0, joined 10 a b h.1 k.1)
+
+digits_lack : (ds : List ℕ) → AllDigits 10 ds → Lacks 61 ds
 digits_lack [] h = refl
 digits_lack (d ∷ ds) h =
     let digit = digit_from_value d h.0 in
-    let other : not (d == sign) ≡ true = search (rules, digit) in
+    let other : not (d == 61) ≡ true = search (rules, digit) in
     rw other (digits_lack ds h.1)
 
-number_lacks : (n : ℕ) → n < 2 ^ 64 → Lacks sign (decimal n)
-number_lacks n small = digits_lack (decimal n) (digits_decimal own n small)
+pub clear_number : (n : ℕ) → n < 2 ^ 64 → IsClear (decimal n)
+clear_number n small = (digits_lack (decimal n) (digits_decimal own n small), number n small)
 
--- nor is it at any place of a text that lacks it
-at_place : (xs : List ℕ) (i : ℕ) → Lacks sign xs → not (get_or xs i 0 == sign) ≡ true
-at_place [] i h = refl
-at_place (x ∷ xs) zero h = (both_true (not (x == sign)) (list_all (λ b. not (b == sign)) xs) h).0
-at_place (x ∷ xs) (suc i) h = at_place xs i (both_true (not (x == sign)) (list_all (λ b. not (b == sign)) xs) h).1
+-- a sign that a text lacks is at no place of it
+at_place : (sign : ℕ) (xs : List ℕ) (i : ℕ) → not (0 == sign) ≡ true → Lacks sign xs → not (get_or xs i 0 == sign) ≡ true
+at_place sign [] i none h = none
+at_place sign (x ∷ xs) zero none h = (both_true (not (x == sign)) (list_all (λ b. not (b == sign)) xs) h).0
+at_place sign (x ∷ xs) (suc i) none h = at_place sign xs i none (both_true (not (x == sign)) (list_all (λ b. not (b == sign)) xs) h).1
 
-hex_lacks : (bytes : List ℕ) → Lacks sign (encode_lower bytes)
+clear_hex : (bytes : List ℕ) → IsClear (encode_lower bytes)
 unfolding encode_with
-hex_lacks [] = refl
-hex_lacks (b ∷ bytes) = rw (at_place lower_digits (b / 16) refl, at_place lower_digits (b % 16) refl) (hex_lacks bytes)
+clear_hex [] = (refl, refl)
+clear_hex (b ∷ bytes) =
+    let rest = clear_hex bytes in (
+      rw (at_place 61 lower_digits (b / 16) refl refl, at_place 61 lower_digits (b % 16) refl refl) rest.0,
+      rw (at_place 10 lower_digits (b / 16) refl refl, at_place 10 lower_digits (b % 16) refl refl) rest.1,
+    )
 
-valued_lacks : (names : List (List ℕ)) (r v : ℕ) → names_fault names ≡ None → r < length names → v < 2 ^ 64 → Lacks sign (valued names r v)
-valued_lacks names r v ok fits small = joined sign (name_of names r) (32 ∷ decimal v) (nth_lacks sign names r (omega arith) ok fits) (joined sign (32 ∷ []) (decimal v) refl (number_lacks v small))
+clear_name : (names : List (List ℕ)) (r : ℕ) → names_fault names ≡ None → r < length names → IsClear (name_of names r)
+clear_name names r ok fits = (nth_lacks 61 names r (omega arith) ok fits, nth_lacks 10 names r (omega arith) ok fits)
 
-op_lacks : (names : List (List ℕ)) (op : Op) → names_fault names ≡ None → OpFits names op → Lacks sign (op_text names op)
-op_lacks names (Read r) ok fits = joined sign (codes "read ") (name_of names r) refl (nth_lacks sign names r (omega arith) ok fits)
-op_lacks names (Write r v) ok fits = joined sign (codes "write ") (valued names r v) refl (valued_lacks names r v ok fits.0 fits.1)
-op_lacks names (Swap r v) ok fits = joined sign (codes "swap ") (valued names r v) refl (valued_lacks names r v ok fits.0 fits.1)
+clear_valued : (names : List (List ℕ)) (r v : ℕ) → names_fault names ≡ None → r < length names → v < 2 ^ 64 → IsClear (valued names r v)
+clear_valued names r v ok fits small = both (name_of names r) (32 ∷ decimal v) (clear_name names r ok fits) (both (32 ∷ []) (decimal v) (refl, refl) (clear_number v small))
 
-pub step_lacks : (names : List (List ℕ)) (step : Step) → names_fault names ≡ None → StepFits names step → Lacks 61 (step_text names step)
-step_lacks names (Call op) ok fits = joined sign (codes "call ") (op_text names op) refl (op_lacks names op ok fits)
-step_lacks names (Take from frame) ok fits =
-    joined sign (codes "take ") (decimal from ++ 32 ∷ encode_lower (spelling frame)) refl
-    (joined sign (decimal from) (32 ∷ encode_lower (spelling frame)) (number_lacks from (let l = fits.0 in omega (arith, l)))
-    (joined sign (32 ∷ []) (encode_lower (spelling frame)) refl (hex_lacks (spelling frame))))
-step_lacks names Tick ok fits = refl
+clear_op : (names : List (List ℕ)) (op : Op) → names_fault names ≡ None → OpFits names op → IsClear (op_text names op)
+clear_op names (Read r) ok fits = both (codes "read ") (name_of names r) (refl, refl) (clear_name names r ok fits)
+clear_op names (Write r v) ok fits = both (codes "write ") (valued names r v) (refl, refl) (clear_valued names r v ok fits.0 fits.1)
+clear_op names (Swap r v) ok fits = both (codes "swap ") (valued names r v) (refl, refl) (clear_valued names r v ok fits.0 fits.1)
+
+pub clear_step : (names : List (List ℕ)) (step : Step) → names_fault names ≡ None → StepFits names step → IsClear (step_text names step)
+clear_step names (Call op) ok fits = both (codes "call ") (op_text names op) (refl, refl) (clear_op names op ok fits)
+clear_step names (Take from frame) ok fits =
+    both (codes "take ") (decimal from ++ 32 ∷ encode_lower (spelling frame)) (refl, refl)
+    (both (decimal from) (32 ∷ encode_lower (spelling frame)) (clear_number from (let l = fits.0 in omega (arith, l)))
+    (both (32 ∷ []) (encode_lower (spelling frame)) (refl, refl) (clear_hex (spelling frame))))
+clear_step names Tick ok fits = (refl, refl)

@@ -17,7 +17,7 @@ use Rattle.reg_process.specs.declared.steps.Step.TheVariants.{Call, Take, Tick}
 use Rattle.reg_records.specs.declared.entries.LogEntry.{LogEntry}
 use Rattle.reg_text.specs.Ops.{op_text, OpFits}
 use Rattle.reg_text.specs.Words.{names_text}
-use Rattle.reg_text.specs.Lines.{AllFit, lines_of}
+use Rattle.reg_text.specs.Lines.{AllFit, lines_of, text_of}
 use Rattle.reg_verify.specs.declared.recorded.Recorded.{Recorded}
 
 -- the bytes of a frame, each as two hexadecimal digits in lower case
@@ -101,3 +101,7 @@ pub record IsAccount (a : Account) : Type 0 where
 -- the lines of the text are those of the record
 abbrev pub SpellsAccount : List ℕ → Account → Type 0
 SpellsAccount text a = lines_of text ≡ account_lines a
+
+-- the text of a record: each line with its line feed
+abbrev pub account_text : Account → List ℕ
+account_text a = text_of (account_lines a)

@@ -4,6 +4,7 @@
 
 mod faults;
 mod frame_text;
+pub mod laws;
 mod logs;
 mod record_text;
 mod recorded;
