@@ -1,4 +1,5 @@
-/* Runs a command of `awreg` over standard input: command replay|check|play|play-fair. It prints what the program prints, with its status. */
+/* Runs a command of `awreg`, or `verify` of `awshow`, over standard input: command replay|check|play|play-fair|verify. It prints what
+ * the program prints, with its status. */
 #include "tellwydar.h"
 #include <stdio.h>
 #include <string.h>
@@ -9,6 +10,7 @@ static command *named(const char *word) {
     if (strcmp(word, "check") == 0) return tellwydar_check;
     if (strcmp(word, "play") == 0) return tellwydar_play;
     if (strcmp(word, "play-fair") == 0) return tellwydar_play_fair;
+    if (strcmp(word, "verify") == 0) return tellwydar_verify;
     return tellwydar_replay;
 }
 

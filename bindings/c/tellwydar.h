@@ -21,7 +21,7 @@
 extern "C" {
 #endif
 
-/* --- Texts: the commands of the program `awreg` ------------------------------------------------------------------------------- */
+/* --- Texts: the commands of the program `awreg`, and `verify` of `awshow` ----------------------------------------------------- */
 
 /* How many bytes an answer has, and how many the line of a fault, also where less room was lent. */
 struct tellwydar_lengths {
@@ -44,6 +44,9 @@ uint8_t tellwydar_play(const uint8_t *text, size_t text_length, uint8_t *output,
 /* The same of the fair play. */
 uint8_t tellwydar_play_fair(const uint8_t *text, size_t text_length, uint8_t *output, size_t output_length, uint8_t *errors,
                             size_t errors_length, struct tellwydar_lengths *lengths);
+/* A record of processes that ran apart, as `awshow verify` reads it: the answer is the report of the run that it is. */
+uint8_t tellwydar_verify(const uint8_t *text, size_t text_length, uint8_t *output, size_t output_length, uint8_t *errors,
+                         size_t errors_length, struct tellwydar_lengths *lengths);
 
 /* --- Checkers: a history of your own, judged ---------------------------------------------------------------------------------- */
 

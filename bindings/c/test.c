@@ -22,6 +22,8 @@ static void rooms(void) {
     expect("a bad schedule has status 1", status == 1);
     expect("no answer, and the whole line's length", lengths.output == 0 && lengths.errors == strlen("line 4: name\n"));
     expect("the room has the front of the line, and no more", memcmp(line, "lin.", 4) == 0);
+    status = tellwydar_verify((const uint8_t *)text, 0, answer, 0, line, 0, &lengths);
+    expect("no text is no record", status == 1 && lengths.errors == strlen("line 1: end\n"));
 }
 
 static void refusals(void) {

@@ -176,6 +176,13 @@ class Judges(unittest.TestCase):
     def refused(self, place, why, *lists):
         self.assertEqual(self.judged(*lists), (b"", (place, why)))
 
+    def test_the_record_is_one_text(self):
+        logs = logs_of(*self.entries)
+        self.assertEqual(merge.record(logs, merge.arrange(logs)), (
+            b"tellwydar record 1\nfront linear\nprocesses 2\nregisters x\n0 call write x 5\n"
+            b"1 take 0 001e010100000000000000000100000000000000010200000000000000000005\n"
+            b"0 take 1 000a01020000000000000001\n0 take 1 001301010000000000000000020000000000000002 = done 0\n"))
+
     def test_a_run_has_its_report(self):
         report, fault = self.judged(*self.entries)
         self.assertIsNone(fault)
@@ -187,19 +194,20 @@ class Judges(unittest.TestCase):
     def test_another_reply_is_refused_at_its_entry(self):
         (call, count, answer), other = self.entries
         for reply in (None, core.Reply(None, 1), core.Reply(5, 0)):
-            self.refused(3, "another reply", [call, count, answer._replace(reply=reply)], other)
-        self.refused(0, "another reply", [call._replace(reply=core.Reply(None, 0)), count, answer], other)
+            self.refused(3, "unfaithful", [call, count, answer._replace(reply=reply)], other)
+        self.refused(0, "unfaithful", [call._replace(reply=core.Reply(None, 0)), count, answer], other)
 
     def test_a_frame_that_was_not_put_is_refused_at_its_entry(self):
         (call, count, answer), other = self.entries
-        self.refused(1, "no such frame was put before", self.entries[0], [take(0, data(0, 1))])
-        self.refused(3, "no such frame was put before", [call, count, take(1, data(0, 3, b"\2"), answer.reply)], other)
+        self.refused(1, "unfaithful", self.entries[0], [take(0, data(0, 1))])
+        self.refused(3, "unfaithful", [call, count, take(1, data(0, 3, b"\2"), answer.reply)], other)
+        self.refused(3, "form", [call, count, take(1, data(0, 3, b"\3"), answer.reply)], other)
 
     def test_another_value_or_operation_is_refused(self):
         (call, count, answer), other = self.entries
-        self.refused(1, "no such frame was put before", [call._replace(value=6), count, answer], other)
-        self.refused(0, "no register", [call._replace(register=1), count, answer], other)
-        self.refused(2, "busy", [call, call, count, answer], other)
+        self.refused(1, "unfaithful", [call._replace(value=6), count, answer], other)
+        self.refused(0, "form", [call._replace(register=1), count, answer], other)
+        self.refused(2, "unfaithful", [call, call, count, answer], other)
 
 
 class Roads(unittest.TestCase):

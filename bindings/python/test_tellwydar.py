@@ -30,6 +30,7 @@ class Tests(unittest.TestCase):
             self.assertEqual(tellwydar.check(file.read()), tellwydar.Told(0, b"serial yes\n", b""))
         self.assertEqual(tellwydar.check(told.answer), tellwydar.Told(0, b"serial yes\n", b""))
         self.assertEqual(tellwydar.play(b"").line, b"missing front\n")
+        self.assertEqual(tellwydar.verify(b""), tellwydar.Told(1, b"", b"line 1: end\n"))
         self.assertRaises(TypeError, tellwydar.replay, "text")
 
     def test_verdicts(self):

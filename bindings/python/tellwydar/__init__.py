@@ -3,7 +3,7 @@
 Each process of a `World` keeps a copy of all registers, and keeps it in step by Lamport's totally ordered multicast. One steps a world
 by events: calls of operations, takes of frames, ticks. A history of one's own is judged by `check_serial` and `check_points`. The
 commands of the program `awreg` are `replay`, `check`, `play` and `play_fair`. A `Process` is one process alone, whose frames one carries
-oneself.
+oneself; what such processes did is judged by `verify`.
 
 The environment's TELLWYDAR_LIB names the folder of `libtellwydar.so`, which `tools/bindings --keep FOLDER` makes.
 """
@@ -15,7 +15,7 @@ from typing import Any, Callable, List, Optional, Sequence, Tuple, Union
 
 __all__ = [
     "Answered", "Called", "Fault", "Front", "Known", "Process", "Read", "Refused", "Reply", "Swap", "Told", "World", "Write",
-    "check", "check_points", "check_serial", "play", "play_fair", "replay",
+    "check", "check_points", "check_serial", "play", "play_fair", "replay", "verify",
 ]
 
 
@@ -43,7 +43,7 @@ def _load() -> Tuple[ctypes.CDLL, Any]:
     library = ctypes.CDLL(os.path.join(folder, "libtellwydar.so"))
     u8, u16, u32, u64, size, handle = ctypes.c_uint8, ctypes.c_uint16, ctypes.c_uint32, ctypes.c_uint64, ctypes.c_size_t, ctypes.c_void_p
     room = ctypes.c_char_p
-    for word in ("replay", "check", "play", "play_fair"):
+    for word in ("replay", "check", "play", "play_fair", "verify"):
         call = getattr(library, f"tellwydar_{word}")
         call.restype, call.argtypes = u8, [room, size, room, size, room, size, ctypes.POINTER(_Lengths)]
     for word, row in (("serial", _Id), ("points", _Point)):
@@ -119,6 +119,11 @@ def play(workload: bytes) -> Told:
 def play_fair(workload: bytes) -> Told:
     """Plays a workload fairly."""
     return _tell("play_fair", workload)
+
+
+def verify(record: bytes) -> Told:
+    """Judges a record of processes that ran apart: the answer is the report of the run that it is."""
+    return _tell("verify", record)
 
 
 @dataclass(frozen=True)

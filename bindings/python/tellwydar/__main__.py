@@ -1,9 +1,9 @@
-"""python3 -m tellwydar replay|check|play|play-fair < FILE: the commands of `awreg`, from the library."""
+"""python3 -m tellwydar replay|check|play|play-fair|verify < FILE: the commands of `awreg` and `verify` of `awshow`, from the library."""
 import sys
 
-from . import check, play, play_fair, replay
+from . import check, play, play_fair, replay, verify
 
-COMMANDS = {"replay": replay, "check": check, "play": play, "play-fair": play_fair}
+COMMANDS = {"replay": replay, "check": check, "play": play, "play-fair": play_fair, "verify": verify}
 
 
 def main(words: list[str]) -> int:

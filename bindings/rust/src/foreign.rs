@@ -71,6 +71,7 @@ unsafe extern "C" {
     pub fn tellwydar_replay(text: *const u8, text_length: usize, output: *mut u8, output_length: usize, errors: *mut u8, errors_length: usize, lengths: *mut Lengths) -> u8;
     pub fn tellwydar_check(text: *const u8, text_length: usize, output: *mut u8, output_length: usize, errors: *mut u8, errors_length: usize, lengths: *mut Lengths) -> u8;
     pub fn tellwydar_play(text: *const u8, text_length: usize, output: *mut u8, output_length: usize, errors: *mut u8, errors_length: usize, lengths: *mut Lengths) -> u8;
+    pub fn tellwydar_verify(text: *const u8, text_length: usize, output: *mut u8, output_length: usize, errors: *mut u8, errors_length: usize, lengths: *mut Lengths) -> u8;
     pub fn tellwydar_play_fair(text: *const u8, text_length: usize, output: *mut u8, output_length: usize, errors: *mut u8, errors_length: usize, lengths: *mut Lengths) -> u8;
     pub fn tellwydar_check_serial(processes: u32, registers: u32, entries: *const EntryRow, entries_length: usize, ids: *const IdRow, ids_length: usize, place: *mut usize) -> u32;
     pub fn tellwydar_check_points(processes: u32, registers: u32, entries: *const EntryRow, entries_length: usize, points: *const PointRow, points_length: usize, place: *mut usize) -> u32;

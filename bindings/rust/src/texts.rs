@@ -1,4 +1,4 @@
-//! The commands of `awreg` over texts.
+//! The commands of `awreg` over texts, and `verify` of `awshow`.
 use crate::foreign::{self, Command, Lengths};
 
 /// What a command told.
@@ -47,4 +47,9 @@ pub fn play(workload: &[u8]) -> Told {
 /// Plays a workload fairly.
 pub fn play_fair(workload: &[u8]) -> Told {
     tell(foreign::tellwydar_play_fair, workload)
+}
+
+/// Judges a record of processes that ran apart: the answer is the report of the run that it is.
+pub fn verify(record: &[u8]) -> Told {
+    tell(foreign::tellwydar_verify, record)
 }

@@ -16,6 +16,7 @@ fn texts() {
     assert_eq!(play(b"").line, b"missing front\n");
     assert_eq!(play_fair(b"").status, 1);
     assert_eq!(replay(b"").line, b"line 1: end\n");
+    assert_eq!(verify(b"").line, b"line 1: end\n");
 }
 
 const WRITE: OpId = OpId { process: 0, number: 0 };

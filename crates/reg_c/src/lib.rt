@@ -24,7 +24,9 @@ pub use process_handles::{
     tellwydar_process_known, tellwydar_process_look, tellwydar_process_new, tellwydar_process_take,
     tellwydar_process_tick,
 };
-pub use texts::{tellwydar_check, tellwydar_play, tellwydar_play_fair, tellwydar_replay};
+pub use texts::{
+    tellwydar_check, tellwydar_play, tellwydar_play_fair, tellwydar_replay, tellwydar_verify,
+};
 pub use worlds::{
     tellwydar_world_arrange, tellwydar_world_close, tellwydar_world_look, tellwydar_world_new,
     tellwydar_world_step,

@@ -1,8 +1,9 @@
 //! The commands over memory that the caller lends.
-ghost use Rattle.std.specs.Prelude.{◌≡◌};
-ghost use Rattle.reg_c.specs.Texts.{IsAnswer, Tells, filled};
+ghost use Rattle.std.specs.Prelude.{◌≡◌, length};
+ghost use Rattle.reg_c.specs.Texts.{IsAnswer, IsVerdict, Tells, TellsVerdict, filled};
 
 use reg_commands::{Command, run_text};
+use reg_verify::verify_text;
 use std::alloc::Global;
 
 /// How many bytes an answer has, and how many the line of a fault: also where less room was lent.
@@ -44,6 +45,36 @@ fn run(alloc: Global, command: Command, text: &[u8]) -> Ran
     }
 }
 
+/// Judges the record that a text spells.
+fn run_verify(alloc: Global, text: &[u8]) -> Ran
+    ensures { IsVerdict text.now result.status result.answer.items result.told.items }
+{
+    let mut reader = text;
+    let mut answer = Vec::new(alloc);
+    let mut told = Vec::new(alloc);
+    let status = verify_text(alloc, &mut reader, &mut answer, &mut told);
+    Ran {
+        status,
+        answer,
+        told,
+    }
+}
+
+/// Puts what was told into the rooms, as far as they take it.
+fn hand_over(ran: &Ran, output: &mut [u8], errors: &mut [u8], lengths: &mut Lengths)
+    ensures output { output.new ≡ filled ran.now.answer.items output.old }
+    ensures errors { errors.new ≡ filled ran.now.told.items errors.old }
+    ensures many { lengths.new.output ≡ length ran.now.answer.items }
+    ensures few { lengths.new.errors ≡ length ran.now.told.items }
+{
+    fill(output, &ran.answer);
+    fill(errors, &ran.told);
+    *lengths = Lengths {
+        output: ran.answer.len(),
+        errors: ran.told.len(),
+    };
+}
+
 /// Runs a command over a text, and puts what it tells into the rooms, as far as they take it.
 pub fn tell(
     alloc: Global,
@@ -56,11 +87,21 @@ pub fn tell(
     ensures { Tells command text.now result output.old output.new errors.old errors.new lengths.new }
 {
     let ran = run(alloc, command, text);
-    fill(output, &ran.answer);
-    fill(errors, &ran.told);
-    *lengths = Lengths {
-        output: ran.answer.len(),
-        errors: ran.told.len(),
-    };
+    hand_over(&ran, output, errors, lengths);
+    ran.status
+}
+
+/// Judges the record that a text spells, and puts what is told of it into the rooms, as far as they take it.
+pub fn tell_verdict(
+    alloc: Global,
+    text: &[u8],
+    output: &mut [u8],
+    errors: &mut [u8],
+    lengths: &mut Lengths,
+) -> u8
+    ensures { TellsVerdict text.now result output.old output.new errors.old errors.new lengths.new }
+{
+    let ran = run_verify(alloc, text);
+    hand_over(&ran, output, errors, lengths);
     ran.status
 }

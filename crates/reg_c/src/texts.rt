@@ -1,9 +1,9 @@
 //! The commands over memory that the caller lends.
 ghost use Rattle.std.specs.Prelude.{true, false};
 ghost use Rattle.reg_commands.specs.declared.command.Command.{Command};
-ghost use Rattle.reg_c.specs.Texts.{Tells};
+ghost use Rattle.reg_c.specs.Texts.{Tells, TellsVerdict};
 
-use crate::telling::{Lengths, tell};
+use crate::telling::{Lengths, tell, tell_verdict};
 use reg_commands::Command;
 use std::alloc::Global;
 
@@ -65,4 +65,19 @@ pub extern "C" fn tellwydar_play_fair(
 {
     let command = Command::Play { fair: true };
     tell(alloc, command, text, output, errors, lengths)
+}
+
+/// Judges a record of processes that ran apart. The answer is the report of the run that it is, and the status 0; or 1 with
+/// the line of a fault.
+#[unsafe(no_mangle)]
+pub extern "C" fn tellwydar_verify(
+    alloc: Global,
+    text: &[u8],
+    output: &mut [u8],
+    errors: &mut [u8],
+    lengths: &mut Lengths,
+) -> u8
+    ensures { TellsVerdict text.now result output.old output.new errors.old errors.new lengths.new }
+{
+    tell_verdict(alloc, text, output, errors, lengths)
 }

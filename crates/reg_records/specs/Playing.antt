@@ -1,7 +1,6 @@
 -- The turns of a record, as its reader plays it. They carry a proof: no promise speaks of them.
 use Rattle.std.specs.Prelude.{ℕ, ◌≡◌, ◌<◌, Bool, true, false, List, length, take, Some, slice_index}
 use Rattle.reg_base.specs.declared.memory.Op.{Op}
-use Rattle.reg_base.specs.Shape.{Extent}
 use Rattle.reg_frames.specs.declared.bodies.Frame.{Frame}
 use Rattle.reg_front.specs.declared.starts.Start.{Start}
 use Rattle.reg_process.specs.declared.steps.Step.{Step}
@@ -13,9 +12,7 @@ use Rattle.reg_world.specs.Nodes.{Nodes}
 use Rattle.reg_world.specs.World.{move_of}
 use Rattle.reg_world.specs.Worlds.{Made, run_in, with_event, reply_in}
 use Rattle.reg_records.specs.declared.entries.LogEntry.{LogEntry}
-use Rattle.reg_records.specs.declared.faults.CloseFault.{CloseFault}
-use Rattle.reg_records.specs.declared.faults.CloseFault.TheVariants.{Unfaithful, Mismatch, OutOfMemory}
-use Rattle.reg_records.specs.Records.{Turn, FailsAt, mentions}
+use Rattle.reg_records.specs.Records.{Turn, mentions}
 
 -- two processes of the world, between which there is a wire
 abbrev pub AreTwo : Made → ℕ → ℕ → Type 0
@@ -57,9 +54,3 @@ IsTurn start order logs place old false new = (w : Made) → Turn start order lo
 -- how often each process is mentioned before a place
 abbrev pub AreTallied : List ℕ → List ℕ → ℕ → Type 0
 AreTallied counts order place = (p : ℕ) → p < length counts → slice_index counts p ≡ mentions p (take place order)
-
--- why a record can't be played
-abbrev pub IsPlayFault : (Op → ℕ → Start) → Extent → List ℕ → List (List LogEntry) → CloseFault → Type 0
-IsPlayFault start shape order logs (Unfaithful place) = FailsAt start shape order logs place
-IsPlayFault start shape order logs (Mismatch p) = ⊥
-IsPlayFault start shape order logs OutOfMemory = Unit {0}

@@ -53,3 +53,9 @@ abbrev pub IsRecordFault : (Op → ℕ → Start) → Extent → List ℕ → Li
 IsRecordFault start shape order logs lists (Unfaithful place) = FailsAt start shape order logs place
 IsRecordFault start shape order logs lists (Mismatch p) = IsMismatch start shape order logs lists p
 IsRecordFault start shape order logs lists OutOfMemory = Unit {0}
+
+-- the same where no list is compared
+abbrev pub IsPlayFault : (Op → ℕ → Start) → Extent → List ℕ → List (List LogEntry) → CloseFault → Type 0
+IsPlayFault start shape order logs (Unfaithful place) = FailsAt start shape order logs place
+IsPlayFault start shape order logs (Mismatch p) = ⊥
+IsPlayFault start shape order logs OutOfMemory = Unit {0}

@@ -13,4 +13,5 @@ mod verifying;
 
 pub use entries::{LogEntry, Receipt};
 pub use faults::CloseFault;
+pub use playing::play;
 pub use verifying::{verify, verify_in};

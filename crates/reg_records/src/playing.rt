@@ -1,7 +1,8 @@
 //! A record played as a run.
 ghost use Rattle.std.specs.Prelude.{◌≡◌, ◌<◌, ◌≤◌, ◌+◌, ◌^◌, ℕ, length, map, slice_index, false, true, vec_len, MatchResult, IfOk, IsTrue, ◌↔◌};
 ghost use Rattle.reg_records.specs.Records.{IsFaithful};
-ghost use Rattle.reg_records.specs.Playing.{AreTallied, IsMade, IsTurn, IsPlayFault};
+ghost use Rattle.reg_records.specs.Playing.{AreTallied, IsMade, IsTurn};
+ghost use Rattle.reg_records.specs.Receipts.{IsPlayFault};
 
 use crate::entries::LogEntry;
 use crate::faults::CloseFault;
@@ -90,8 +91,13 @@ fn unfaithful(place: usize) -> CloseFault
     }
 }
 
-/// Plays a record as a run, and gives the world that it ends in.
-pub(crate) fn play<F: FrontEnd, A: Allocator + Copy, W: WireStore<A>>(
+/// The run of a record, as `verify` has it, where no caller says what it was told. It is Ok exactly where the steps are a
+/// run that gives the replies written down.
+///
+/// # Errors
+///
+/// `Unfaithful` with the first place from which the order and the logs are no run, and `OutOfMemory`.
+pub fn play<F: FrontEnd, A: Allocator + Copy, W: WireStore<A>>(
     alloc: A,
     shape: Shape,
     order: &[u8],

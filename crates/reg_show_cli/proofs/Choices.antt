@@ -22,7 +22,7 @@ use Rattle.reg_show_cli.specs.Words.{awshow, told_of}
 use Rattle.reg_show_cli.specs.Lines.{IsAnswer, IsCommandLine, IsHelpLine, is_fair, line_of, name_of}
 use Rattle.reg_show_cli.proofs.Lines.{awshow_lines, no_name, subs}
 use Rattle.reg_show_cli.specs.declared.words.Asked.{Asked}
-use Rattle.reg_show_cli.specs.declared.words.Asked.TheVariants.{AllOutcomes, Help, Outcomes, Show, Version, Why}
+use Rattle.reg_show_cli.specs.declared.words.Asked.TheVariants.{AllOutcomes, Help, Outcomes, Show, Verify, Version, Why}
 use Rattle.reg_args.specs.declared.faults.WordsFault.{WordsFault}
 use Rattle.reg_args.specs.declared.faults.WordsFault.TheVariants.{CommandLine, OutOfMemory}
 
@@ -146,6 +146,11 @@ never_asked DisplayHelp e = cc
 never_asked NoMemory e = cc
 never_asked _ e = cc
 
+never_judged : (k : ErrorKind) → told_of k ≡ Ok Verify → ⊥
+never_judged DisplayHelp e = cc
+never_judged NoMemory e = cc
+never_judged _ e = cc
+
 never_named : (k : ErrorKind) → told_of k ≡ Ok Version → ⊥
 never_named DisplayHelp e = cc
 never_named NoMemory e = cc
@@ -185,6 +190,7 @@ refused words error memory kinds = go (told_of (kind_of error)) refl
     go (Ok (Outcomes plays)) is = absurd (never_counted (kind_of error) plays is)
     go (Ok AllOutcomes) is = absurd (never_all (kind_of error) is)
     go (Ok Why) is = absurd (never_asked (kind_of error) is)
+    go (Ok Verify) is = absurd (never_judged (kind_of error) is)
     go (Ok Version) is = absurd (never_named (kind_of error) is)
     go (Ok Help) is = (shows_nothing (Ok Help) is (λ e. cc), asked is)
     go (Err OutOfMemory) is = tt

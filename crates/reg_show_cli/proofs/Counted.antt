@@ -7,8 +7,8 @@ use Rattle.std.proofs.lemmas.Slice.Eq.{bytes_eq-Decides}
 use Rattle.std.proofs.lemmas.Option.{same_Some}
 use Rattle.clap.specs.Words.{Text}
 use Rattle.reg_show_cli.specs.declared.words.Asked.{Asked}
-use Rattle.reg_show_cli.specs.declared.words.Asked.TheVariants.{AllOutcomes, Help, Outcomes, Show, Version, Why}
-use Rattle.reg_show_cli.specs.Lines.{IsAllLine, IsAnswer, IsChoice, IsOutcomesLine, IsVersionLine, IsWhyLine, PlaysFit}
+use Rattle.reg_show_cli.specs.declared.words.Asked.TheVariants.{AllOutcomes, Help, Outcomes, Show, Verify, Version, Why}
+use Rattle.reg_show_cli.specs.Lines.{IsAllLine, IsAnswer, IsChoice, IsOutcomesLine, IsVerifyLine, IsVersionLine, IsWhyLine, PlaysFit}
 use Rattle.reg_args.specs.declared.faults.WordsFault.{WordsFault}
 use Rattle.reg_args.specs.declared.faults.WordsFault.TheVariants.{CommandLine, OutOfMemory}
 
@@ -107,15 +107,16 @@ said_plays ws word None n h i j read whole = λ plays line. elim (has_length ws 
 said_plays ws word (Some plays) n h i j read whole = these_plays ws plays n h i (j ∙ ap Some read.0) read.1 read.2
 
 -- what clap reads of other lines is what they ask for
-pub chosen : (line : List Text) (r : Result Asked WordsFault) → ((plays : ℕ) → ¬ IsOutcomesLine line plays) → ¬ IsWhyLine line → ¬ IsVersionLine line → ¬ IsAllLine line → IsAnswer line r → IsChoice line r
-chosen line (Ok (Show showing)) other none unnamed part h = h
-chosen line (Ok (Outcomes plays)) other none unnamed part h = absurd h
-chosen line (Ok AllOutcomes) other none unnamed part h = absurd h
-chosen line (Ok Why) other none unnamed part h = absurd h
-chosen line (Ok Version) other none unnamed part h = absurd h
-chosen line (Ok Help) other none unnamed part h = (λ asked. elim asked [ inl shown ↦ h.0 shown | inr (inl (plays, counted)) ↦ other plays counted | inr (inr (inl why)) ↦ none why | inr (inr (inr (inl version))) ↦ unnamed version | inr (inr (inr (inr every))) ↦ part every ], h.1)
-chosen line (Err CommandLine) other none unnamed part h = (λ asked. elim asked [ inl shown ↦ h.0 shown | inr (inl (plays, counted)) ↦ other plays counted | inr (inr (inl why)) ↦ none why | inr (inr (inr (inl version))) ↦ unnamed version | inr (inr (inr (inr every))) ↦ part every ], h.1)
-chosen line (Err OutOfMemory) other none unnamed part h = tt
+pub chosen : (line : List Text) (r : Result Asked WordsFault) → ((plays : ℕ) → ¬ IsOutcomesLine line plays) → ¬ IsWhyLine line → ¬ IsVersionLine line → ¬ IsAllLine line → ¬ IsVerifyLine line → IsAnswer line r → IsChoice line r
+chosen line (Ok (Show showing)) other none unnamed part unjudged h = h
+chosen line (Ok (Outcomes plays)) other none unnamed part unjudged h = absurd h
+chosen line (Ok AllOutcomes) other none unnamed part unjudged h = absurd h
+chosen line (Ok Why) other none unnamed part unjudged h = absurd h
+chosen line (Ok Verify) other none unnamed part unjudged h = absurd h
+chosen line (Ok Version) other none unnamed part unjudged h = absurd h
+chosen line (Ok Help) other none unnamed part unjudged h = (λ asked. elim asked [ inl shown ↦ h.0 shown | inr (inl (plays, counted)) ↦ other plays counted | inr (inr (inl why)) ↦ none why | inr (inr (inr (inl version))) ↦ unnamed version | inr (inr (inr (inr (inl every)))) ↦ part every | inr (inr (inr (inr (inr judged)))) ↦ unjudged judged ], h.1)
+chosen line (Err CommandLine) other none unnamed part unjudged h = (λ asked. elim asked [ inl shown ↦ h.0 shown | inr (inl (plays, counted)) ↦ other plays counted | inr (inr (inl why)) ↦ none why | inr (inr (inr (inl version))) ↦ unnamed version | inr (inr (inr (inr (inl every)))) ↦ part every | inr (inr (inr (inr (inr judged)))) ↦ unjudged judged ], h.1)
+chosen line (Err OutOfMemory) other none unnamed part unjudged h = tt
 
 -- a word stands alone just where there are two, and the second one is that
 pub alone_length : (ws : List Text) (word : Text) → drop 1 ws ≡ word ∷ [] → length ws ≡ 2
@@ -138,5 +139,6 @@ plays_fit line (Outcomes plays) (inl (e, u)) = omega (arith, u)
 plays_fit line (Outcomes plays) (inr (e, low, high)) = high
 plays_fit line AllOutcomes h = tt
 plays_fit line Why h = tt
+plays_fit line Verify h = tt
 plays_fit line Help h = tt
 plays_fit line Version h = tt

@@ -9,7 +9,7 @@ use Rattle.reg_show.specs.declared.Showing.TheVariants.{Data, Draw, Page, Rest, 
 use Rattle.reg_args.specs.Lines.{may_ask_help, named_line}
 use Rattle.reg_show_cli.specs.declared.asking.TheConstants.{USUAL_PLAYS}
 use Rattle.reg_show_cli.specs.declared.words.Asked.{Asked}
-use Rattle.reg_show_cli.specs.declared.words.Asked.TheVariants.{AllOutcomes, Help, Outcomes, Show, Version, Why}
+use Rattle.reg_show_cli.specs.declared.words.Asked.TheVariants.{AllOutcomes, Help, Outcomes, Show, Verify, Version, Why}
 use Rattle.reg_args.specs.declared.faults.WordsFault.{WordsFault}
 use Rattle.reg_args.specs.declared.faults.WordsFault.TheVariants.{CommandLine, OutOfMemory}
 
@@ -44,6 +44,10 @@ IsOutcomesLine line plays =
 abbrev pub IsWhyLine : List Text → Type 0
 IsWhyLine line = line ≡ codes "why" ∷ []
 
+-- the words ask to judge a record
+abbrev pub IsVerifyLine : List Text → Type 0
+IsVerifyLine line = line ≡ codes "verify" ∷ []
+
 -- the words ask for the version
 abbrev pub IsVersionLine : List Text → Type 0
 IsVersionLine line = line ≡ codes "--version" ∷ []
@@ -54,7 +58,7 @@ IsAllLine line = line ≡ codes "outcomes" ∷ codes "--all" ∷ []
 
 -- the words ask for one of these
 abbrev pub IsAskedLine : List Text → Type 0
-IsAskedLine line = IsCommandLine line ⊎ (((plays : ℕ) × IsOutcomesLine line plays) ⊎ (IsWhyLine line ⊎ (IsVersionLine line ⊎ IsAllLine line)))
+IsAskedLine line = IsCommandLine line ⊎ (((plays : ℕ) × IsOutcomesLine line plays) ⊎ (IsWhyLine line ⊎ (IsVersionLine line ⊎ (IsAllLine line ⊎ IsVerifyLine line))))
 
 -- the words ask for help by a flag alone
 abbrev pub IsHelpLine : List Text → Type 0
@@ -67,18 +71,20 @@ IsAnswer line (Ok (Show showing)) = line ≡ line_of showing
 IsAnswer line (Ok (Outcomes plays)) = ⊥
 IsAnswer line (Ok AllOutcomes) = ⊥
 IsAnswer line (Ok Why) = ⊥
+IsAnswer line (Ok Verify) = ⊥
 IsAnswer line (Ok Version) = ⊥
 IsAnswer line (Ok Help) = ¬ IsCommandLine line × (list_any may_ask_help line ≡ true)
 IsAnswer line (Err CommandLine) = ¬ IsCommandLine line × ¬ IsHelpLine line
 IsAnswer line (Err OutOfMemory) = ⊤
 
--- an answer of the words: just what they ask to show, to count, to explain or to name; else help, only where a word may ask for it, or CommandLine
+-- an answer of the words: just what they ask to show, to count, to explain, to judge or to name; else help, only where a word may ask for it, or CommandLine
 -- where no flag alone asks for help
 abbrev pub IsChoice : List Text → Result Asked WordsFault → Type 0
 IsChoice line (Ok (Show showing)) = line ≡ line_of showing
 IsChoice line (Ok (Outcomes plays)) = IsOutcomesLine line plays
 IsChoice line (Ok AllOutcomes) = IsAllLine line
 IsChoice line (Ok Why) = IsWhyLine line
+IsChoice line (Ok Verify) = IsVerifyLine line
 IsChoice line (Ok Version) = IsVersionLine line
 IsChoice line (Ok Help) = ¬ IsAskedLine line × (list_any may_ask_help line ≡ true)
 IsChoice line (Err CommandLine) = ¬ IsAskedLine line × ¬ IsHelpLine line
@@ -91,4 +97,4 @@ PlaysFit _ = ⊤
 
 -- the line for words that ask for nothing, with its line feed
 abbrev pub refused_line : List ℕ
-refused_line = codes "usage: awshow schedule [--fair] | outcomes [--all | --plays N] | trace | draw | data | page | rest | why" ++ 10 ∷ []
+refused_line = codes "usage: awshow schedule [--fair] | outcomes [--all | --plays N] | trace | draw | data | page | rest | why | verify" ++ 10 ∷ []

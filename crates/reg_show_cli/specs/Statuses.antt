@@ -15,8 +15,11 @@ use Rattle.reg_show.specs.declared.faults.ShowFault.{ShowFault}
 use Rattle.reg_show.specs.declared.faults.ShowFault.TheVariants.{Command}
 use Rattle.reg_show.specs.Outcomes.{WritesOutcomes}
 use Rattle.reg_show.specs.Showings.{Blames, Shows, show_line}
+use Rattle.reg_verify.specs.Verifies.{BlamesAccount, Verifies, verify_line}
+use Rattle.reg_verify.specs.declared.faults.VerifyFault.{VerifyFault}
+use Rattle.reg_verify.specs.declared.faults.VerifyFault.TheVariants.{Command as VerifyCommand}
 use Rattle.reg_show_cli.specs.declared.words.Asked.{Asked}
-use Rattle.reg_show_cli.specs.declared.words.Asked.TheVariants.{AllOutcomes, Help, Outcomes, Show, Version, Why}
+use Rattle.reg_show_cli.specs.declared.words.Asked.TheVariants.{AllOutcomes, Help, Outcomes, Show, Verify, Version, Why}
 use Rattle.reg_show.specs.Tellings.{Answers, AnswersAny, Halts}
 
 -- Status 0: what was asked for was shown of the input, the input is accepted and that was written, or the text of the help or of the version was written. `Wrote` says how a text was written.
@@ -25,6 +28,7 @@ Obeys help version (Show showing) input Wrote = IfSome input (λ xs. length xs �
 Obeys help version (Outcomes plays) input Wrote = IfSome input (λ xs. length xs ≤ LONGEST_INPUT) × IfSome input (WritesOutcomes plays Wrote)
 Obeys help version AllOutcomes input Wrote = IfSome input (λ xs. length xs ≤ LONGEST_INPUT) × IfSome input (WritesAll Wrote)
 Obeys help version Why input Wrote = IfSome input (λ xs. length xs ≤ LONGEST_INPUT) × IfSome input (Answers true Wrote)
+Obeys help version Verify input Wrote = IfSome input (λ xs. length xs ≤ LONGEST_INPUT) × IfSome input (Verifies Wrote)
 Obeys help version Help input Wrote = Wrote help
 Obeys help version Version input Wrote = Wrote version
 
@@ -41,6 +45,8 @@ Stops AllOutcomes input unwritten old new was is =
 Stops Why input unwritten old new was is =
     (IfSome input (Answers false (Appends old new)) × (was ≡ is))
     ⊎ ((f : Fault) × IfSome input (Halts f) × (f ≢ Output → unwritten) × (f ≡ Output → IfSome input (AnswersAny (AppendsPart old new))) × AppendsPart was is (fault_line f))
+Stops Verify input unwritten old new was is =
+    (f : VerifyFault) × IfSome input (BlamesAccount f) × (f ≢ VerifyCommand Output → unwritten) × (f ≡ VerifyCommand Output → IfSome input (Verifies (AppendsPart old new))) × AppendsPart was is (verify_line f)
 Stops Help input unwritten old new was is = AppendsPart was is (fault_line Output)
 Stops Version input unwritten old new was is = AppendsPart was is (fault_line Output)
 
@@ -50,6 +56,7 @@ Tells (Show showing) was is = (f : ShowFault) × AppendsPart was is (show_line f
 Tells (Outcomes plays) was is = (f : Fault) × AppendsPart was is (fault_line f)
 Tells AllOutcomes was is = (f : AllFault) × AppendsPart was is (all_line f)
 Tells Why was is = (was ≡ is) ⊎ ((f : Fault) × AppendsPart was is (fault_line f))
+Tells Verify was is = (f : VerifyFault) × AppendsPart was is (verify_line f)
 Tells Help was is = AppendsPart was is (fault_line Output)
 Tells Version was is = AppendsPart was is (fault_line Output)
 

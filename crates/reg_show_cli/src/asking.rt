@@ -1,5 +1,5 @@
 //! What the words of a command line ask for: to show something, or to count what the plays of a workload tell. The words of the
-//! second are read here, since they have a number, and so are those that stand alone: `why` and `--version`. All others are read by
+//! second are read here, since they have a number, and so are those that stand alone: `why`, `verify` and `--version`. All others are read by
 //! `clap`.
 ghost use Rattle.std.specs.Prelude.{◌≡◌, ◌≤◌, ◌↔◌, ◌∷◌, [], ℕ, IfSome, MatchOption, Some, codes, length, map, true, slice_get, string_bytes};
 ghost use Rattle.std.specs.Fmt.{decimal};
@@ -102,6 +102,9 @@ pub fn ask(alloc: Global, words: &[String]) -> Result<Asked, WordsFault>
 {
     if is_alone(words, "why") {
         return Ok(Asked::Why);
+    }
+    if is_alone(words, "verify") {
+        return Ok(Asked::Verify);
     }
     if is_alone(words, "--version") {
         return Ok(Asked::Version);

@@ -17,6 +17,7 @@ use reg_commands::{Fault, write_fault};
 use reg_every::show_all_outcomes;
 use reg_show::{show_outcomes, show_text, why_text};
 use reg_text::write_bytes;
+use reg_verify::verify_text;
 use std::io::{self, BufWriter, Read, Write};
 use std::rt::Env;
 
@@ -59,6 +60,7 @@ fn obey<R: AllocGlobal, I: Read, O: Write, E: Write>(
         }
         Asked::AllOutcomes => show_all_outcomes(rt.alloc(), rt.alloc(), reader, writer, errors),
         Asked::Why => why_text(rt.alloc(), rt.alloc(), reader, writer, errors),
+        Asked::Verify => verify_text(rt.alloc(), reader, writer, errors),
     }
 }
 
@@ -70,7 +72,7 @@ pub fn refuse<E: Write>(fault: WordsFault, errors: &mut E) -> u8
 {
     tell(
         fault,
-        b"usage: awshow schedule [--fair] | outcomes [--all | --plays N] | trace | draw | data | page | rest | why\n",
+        b"usage: awshow schedule [--fair] | outcomes [--all | --plays N] | trace | draw | data | page | rest | why | verify\n",
         errors,
     )
 }

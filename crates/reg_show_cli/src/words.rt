@@ -23,6 +23,8 @@ pub enum Asked {
     AllOutcomes,
     /// To tell what is wrong with the text on the input.
     Why,
+    /// To judge the record on the input.
+    Verify,
     /// How the program is used.
     Help,
     /// Which version of the program this is.
@@ -45,6 +47,7 @@ usage: awshow schedule [--fair]      reads a workload, prints the schedule of it
        awshow page                   reads a schedule, prints a page that steps through its run
        awshow rest                   reads a schedule, prints it with the events that bring its run to rest
        awshow why                    reads any of the three texts, prints what is wrong with it, and where
+       awshow verify                 reads a record of processes that ran apart, prints the report of their run
        awshow help                   prints this
        awshow --version              prints the version
 ";

@@ -5,7 +5,7 @@ use std::alloc::Global;
 use std::process::Abort;
 
 /// Each line, and what it asks for.
-const LINES: [(&str, Result<Asked, WordsFault>); 42] = [
+const LINES: [(&str, Result<Asked, WordsFault>); 43] = [
     (
         "schedule",
         Ok(Asked::Show {
@@ -58,6 +58,7 @@ const LINES: [(&str, Result<Asked, WordsFault>); 42] = [
         }),
     ),
     ("why", Ok(Asked::Why)),
+    ("verify", Ok(Asked::Verify)),
     ("--version", Ok(Asked::Version)),
     ("help", Ok(Asked::Help)),
     ("-h", Ok(Asked::Help)),
@@ -110,6 +111,6 @@ fn is_told(alloc: Global, status: u8, line: &str) -> bool {
 #[test]
 fn a_refused_command_line_is_told_by_a_usage_line(rt: HostRuntime) {
     let usage =
-        "usage: awshow schedule [--fair] | outcomes [--all | --plays N] | trace | draw | data | page | rest | why\n";
+        "usage: awshow schedule [--fair] | outcomes [--all | --plays N] | trace | draw | data | page | rest | why | verify\n";
     assert!(rt; is_told(rt.alloc(), 2, usage));
 }

@@ -12,7 +12,10 @@ where a frame came that wasn't expected yet. That the frames are equal, and not 
 from typing import Callable, Dict, List, NamedTuple, Optional, Sequence, Tuple
 
 from . import core, log
-from .judge import judge
+from .judge import judge, record
+
+
+__all__ = ["MergeFault", "Stuck", "Waits", "arrange", "gather", "judge", "merge", "record"]
 
 
 class MergeFault(Exception):

@@ -1,7 +1,8 @@
 use Rattle.std.proofs.Common.{arith, ◌≡◌, ap, sym, subst, List, length, map, ℕ, add-one, refl, ◌∙◌}
 use Rattle.reg_world.specs.Worlds.{Made}
 use Rattle.reg_records.specs.Records.{Plays}
-use Rattle.reg_records.specs.Playing.{AreTallied, IsPlayFault}
+use Rattle.reg_records.specs.Playing.{AreTallied}
+use Rattle.reg_records.specs.Receipts.{IsPlayFault}
 use Rattle.reg_records.specs.declared.faults.CloseFault.{CloseFault}
 use Rattle.reg_records.proofs.Turns.{fails_in, fails_behind}
 use Rattle.reg_records.proofs.playing.play.Goals as goal

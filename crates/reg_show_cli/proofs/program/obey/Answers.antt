@@ -24,3 +24,9 @@ returns-in-Why-clause-obeyed g c = search rules
 
 pub returns-in-Why-clause-stopped : goal.returns-in-Why-clause-stopped
 returns-in-Why-clause-stopped g c = search rules
+
+pub returns-in-Verify-clause-obeyed : goal.returns-in-Verify-clause-obeyed
+returns-in-Verify-clause-obeyed g c = search rules
+
+pub returns-in-Verify-clause-stopped : goal.returns-in-Verify-clause-stopped
+returns-in-Verify-clause-stopped g c = search rules

@@ -1,0 +1,48 @@
+-- The report of a record, by what its run answers.
+use Rattle.std.proofs.Common.{ℕ, ◌≡◌, ◌≢◌, false, List, length, Option, None, Some, refl, sym, ap, ◌∙◌, subst}
+use Rattle.std.specs.Prelude.{IfSome}
+use Rattle.reg_base.specs.declared.memory.Op.{Op}
+use Rattle.reg_base.specs.Shape.{Extent}
+use Rattle.reg_checkers.specs.declared.entries.Point.{Point}
+use Rattle.reg_front.specs.declared.named.Front.{Front}
+use Rattle.reg_front.specs.declared.starts.Start.{Start}
+use Rattle.reg_history.specs.Reports.{Contents}
+use Rattle.reg_inputs.specs.Schedules.{Plan}
+use Rattle.reg_world.specs.Worlds.{Made}
+use Rattle.reg_records.proofs.Turns.{plays_shape}
+use Rattle.reg_commands.specs.Answers.{Blames}
+use Rattle.reg_commands.specs.Replays.{Shows, plan_in}
+use Rattle.reg_commands.specs.declared.command.Command.{Command}
+use Rattle.reg_commands.specs.declared.command.Command.TheVariants.{Check, Play}
+use Rattle.reg_commands.specs.declared.faults.Fault.{Fault}
+use Rattle.reg_commands.specs.declared.faults.Fault.TheVariants.{Unread, TooLong, NotText, Output, Line, Event, Workload, OutOfMemory}
+use Rattle.reg_verify.specs.declared.recorded.Recorded.{Recorded}
+use Rattle.reg_verify.specs.Logs.{order_of}
+use Rattle.reg_verify.specs.RecordLines.{Account, IsAccount}
+use Rattle.reg_verify.specs.Verifies.{BlamesText, Runs, ShowsAccount}
+
+-- the run has a register for each name
+pub as_many_registers : (start : Op → ℕ → Start) (a : Account) (shape : Extent) (names : List (List ℕ)) (steps : List Recorded) (w : Made) → IsAccount a → shape ≡ a.shape → names ≡ a.names → Runs start shape steps w → w.registers ≡ length names
+as_many_registers start a shape names steps w good same_shape same_names runs =
+    (plays_shape start shape (order_of steps) runs.logs (length (order_of steps)) w runs.faithful.plays).1 ∙ ap (λ (s : Extent). s.registers) same_shape ∙ good.registers ∙ ap length (sym same_names)
+
+pub shown : (start : Op → ℕ → Start) (a : Account) (front : Front) (shape : Extent) (names : List (List ℕ)) (steps : List Recorded) (w : Made) (AreSo : Plan → Option (List Point) → Type 0) (r : Contents)
+    → record { front = front; shape = shape; names = names; steps = steps } ≡ a → Runs start shape steps w → Shows start (plan_in front names w) r → AreSo (plan_in front names w) r.points → ShowsAccount start a AreSo r
+shown start a front shape names steps w AreSo r same runs shows points =
+    let it : ShowsAccount start (record { front = front; shape = shape; names = names; steps = steps }) AreSo r = record { world = w; runs = runs; shows = shows; points = points } in
+    subst (λ (b : Account). ShowsAccount start b AreSo r) same it
+
+-- what every command says of an input that it couldn't read is said of a record too
+blamed : (fault : Fault) (text : List ℕ) → fault ≢ Output → ((command : Command) → Blames command fault text) → BlamesText fault text
+blamed Unread text other told = tt
+blamed TooLong text other told = told Check
+blamed NotText text other told = told Check
+blamed Output text other told = absurd (other refl)
+blamed (Line line why) text other told = absurd (told (Play false))
+blamed (Event at fault) text other told = absurd (told Check)
+blamed (Workload fault) text other told = absurd (told Check)
+blamed OutOfMemory text other told = tt
+
+pub blamed_input : (fault : Fault) (input : Option (List ℕ)) → fault ≢ Output → IfSome input (λ xs. (command : Command) → Blames command fault xs) → IfSome input (BlamesText fault)
+blamed_input fault None other told = tt
+blamed_input fault (Some xs) other told = blamed fault xs other told

@@ -1,0 +1,15 @@
+use Rattle.std.proofs.Common.{ap}
+use Rattle.reg_commands.specs.Replays.{ShowsPoints}
+use Rattle.reg_verify.specs.RecordLines.{Account}
+use Rattle.reg_verify.proofs.Shown.{as_many_registers, shown}
+use Rattle.reg_verify.proofs.verifying.report_with_points.Goals as goal
+
+pub report_run_with_points-requires : goal.report_run_with_points-requires
+report_run_with_points-requires g c =
+    let i = c.account.inside in
+    as_many_registers g.F.FrontEnd.start c.args.account i.shape i.names i.steps.items c.in_ok-world.world c.requires (ap (λ (a : Account). a.shape) c.account.view_is) (ap (λ (a : Account). a.names) c.account.view_is) c.in_ok-world.ensures.ran
+
+pub returns-in-Ok-clause-shows : goal.returns-in-Ok-clause-shows
+returns-in-Ok-clause-shows g c =
+    let i = c.account.inside in
+    shown g.F.FrontEnd.start c.args.account i.front i.shape i.names i.steps.items c.in_ok-world.world (ShowsPoints g.F.FrontEnd.start) c.in-Ok.report c.account.view_is c.in_ok-world.ensures.ran c.in-Ok.ensures.shows c.in-Ok.ensures.points

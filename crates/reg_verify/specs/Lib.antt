@@ -1,0 +1,7 @@
+pub mod RecordLines
+pub mod Refusals
+pub mod Stops
+pub mod Logs
+pub mod Adding
+pub mod Verifies
+pub mod Judging

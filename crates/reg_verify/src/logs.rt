@@ -1,0 +1,67 @@
+//! The steps of a record, process by process.
+ghost use Rattle.std.specs.Prelude.{◌≡◌, ◌<◌, [], IfOk, OnOk, map, vec_len};
+ghost use Rattle.reg_verify.specs.Logs.{AreLogs, order_of as order_of_steps};
+ghost use Rattle.reg_verify.specs.Adding.{IsAdded};
+
+use crate::recorded::Recorded;
+use reg_records::LogEntry;
+use std::alloc::{AllocError, Allocator};
+
+/// The processes of the steps, in order.
+pub(crate) fn order_of<A: Allocator + Copy>(
+    alloc: A,
+    steps: &[Recorded],
+) -> Result<Vec<u8, A>, AllocError>
+    ensures { IfOk result (λ v. v.items ≡ order_of_steps steps.now) }
+{
+    let mut order = Vec::new(alloc);
+    for step in steps {
+        order.push(step.process)?;
+    }
+    Ok(order)
+}
+
+/// An empty log for each process.
+fn no_logs<A: Allocator + Copy>(
+    alloc: A,
+    processes: u32,
+) -> Result<Vec<Vec<LogEntry, A>, A>, AllocError>
+    ensures { IfOk result (λ v. AreLogs processes [] (map (λ l. l.items) v.items)) }
+{
+    let mut logs = Vec::new(alloc);
+    for _process in 0..processes {
+        logs.push(Vec::new(alloc))?;
+    }
+    Ok(logs)
+}
+
+/// Adds an entry to the log of a process.
+fn add<A: Allocator + Copy>(
+    logs: &mut Vec<Vec<LogEntry, A>, A>,
+    process: u8,
+    entry: LogEntry,
+) -> Result<(), AllocError>
+    requires { process < vec_len logs.old }
+    ensures added { OnOk result (IsAdded (map (λ l. l.items) logs.old.items) (map (λ l. l.items) logs.new.items) process entry) }
+    ensures len { vec_len logs.new ≡ vec_len logs.old }
+{
+    logs[usize::from(process)].push(entry)?;
+    Ok(())
+}
+
+/// The log of each process. The steps of further processes are in none.
+pub(crate) fn logs_of<A: Allocator + Copy>(
+    alloc: A,
+    processes: u32,
+    steps: &[Recorded],
+) -> Result<Vec<Vec<LogEntry, A>, A>, AllocError>
+    ensures { IfOk result (λ v. AreLogs processes steps.now (map (λ l. l.items) v.items)) }
+{
+    let mut logs = no_logs(alloc, processes)?;
+    for step in steps {
+        if usize::from(step.process) < logs.len() {
+            add(&mut logs, step.process, step.entry)?;
+        }
+    }
+    Ok(logs)
+}

@@ -1,0 +1,109 @@
+//! Records judged: one that is worked out by hand, and what is told of others.
+use refusing::{Trial, refusals};
+use reg_verify::verify_text;
+use std::alloc::{Allocator, Global};
+use std::test::Fail;
+
+/// A write of the first of two processes: the second one takes it, and the first one takes the count and the acknowledgement that come
+/// back.
+const WRITE: &str = "tellwydar record 1
+front linear
+processes 2
+registers x
+0 call write x 5
+1 take 0 001e010100000000000000000100000000000000010200000000000000000005
+0 take 1 000a01020000000000000001
+0 take 1 001301010000000000000000020000000000000002 = done 0
+";
+
+/// The report of its run. The write is first delivered by the second process, in the event 1.
+const REPORT: &str = "awreg report 2
+front linear
+processes 2
+registers 1
+x
+history 2
+       0  p0    #0       call    write x 5
+       3  p0    #0       answer  done
+order 1
+p0 #0
+points 1
+p0 #0 at 1
+end
+";
+
+/// What is written in that record, in its place, and the line that is told of it then.
+const CHANGES: [(&str, &str, &str); 10] = [
+    ("= done 0", "= done 1", "line 8: unfaithful\n"),
+    (" = done 0", "", "line 8: unfaithful\n"),
+    ("write x 5", "write x 6", "line 6: unfaithful\n"),
+    ("0000000005\n", "0000000006\n", "line 6: unfaithful\n"),
+    ("1 take 0", "2 take 0", "line 6: unfaithful\n"),
+    ("000a0102", "000A0102", "line 7: form\n"),
+    ("000a0102", "000b0102", "line 7: form\n"),
+    ("write x 5", "write y 5", "line 5: form\n"),
+    ("processes 2", "processes 65", "line 3: range\n"),
+    ("linear", "local", "line 2: name\n"),
+];
+
+/// Whether a record gets this status, this report and this line.
+fn is_told(alloc: Global, text: &str, status: u8, report: &str, line: &str) -> bool {
+    let mut reader = text.as_bytes();
+    let (mut output, mut errors) = (Vec::new(alloc), Vec::new(alloc));
+    let given = verify_text(alloc, &mut reader, &mut output, &mut errors);
+    given == status
+        && output.as_slice() == report.as_bytes()
+        && errors.as_slice() == line.as_bytes()
+}
+
+#[test]
+fn a_record_worked_by_hand_has_the_report_of_its_run(rt: HostRuntime) {
+    assert!(rt; is_told(rt.alloc(), WRITE, 0, REPORT, ""));
+}
+
+#[test]
+fn a_record_that_ends_in_its_head_is_told_there(rt: HostRuntime) {
+    assert!(rt; is_told(rt.alloc(), "tellwydar record 1\n", 1, "", "line 2: end\n"));
+}
+
+/// Whether the record with the one in the place of the other is refused with this line.
+fn is_refused(alloc: Global, old: &str, new: &str, line: &str) -> Result<bool, Fail> {
+    let Some((front, rest)) = WRITE.split_once(old) else {
+        return Ok(false);
+    };
+    let text = format!(in alloc; "{front}{new}{rest}")?;
+    Ok(is_told(alloc, text.as_str(), 1, "", line))
+}
+
+#[test]
+fn a_changed_record_is_refused_at_its_line(rt: HostRuntime) -> Result<(), Fail> {
+    for (old, new, line) in &CHANGES {
+        assert!(rt; is_refused(rt.alloc(), *old, *new, *line)?, "{new}");
+    }
+    Ok(())
+}
+
+/// The record, judged.
+#[derive(Clone, Copy)]
+struct Judged;
+
+impl Trial for Judged {
+    fn answer<A: Allocator + Copy>(&self, alloc: A, ample: Global) -> Result<Option<String>, Fail> {
+        let mut reader = WRITE.as_bytes();
+        let (mut output, mut errors) = (Vec::new(ample), Vec::new(ample));
+        verify_text(alloc, &mut reader, &mut output, &mut errors);
+        if errors.as_slice() == "out of memory\n".as_bytes() && output.is_empty() {
+            return Ok(None);
+        }
+        match String::from_utf8(output) {
+            Ok(told) => Ok(Some(told)),
+            Err(_) => Ok(Some(String::new(ample))),
+        }
+    }
+}
+
+#[test]
+fn want_of_memory_is_told_of_a_record(rt: HostRuntime) -> Result<(), Fail> {
+    assert!(rt; refusals(&Judged, rt.alloc())? > 3);
+    Ok(())
+}
