@@ -41,14 +41,14 @@ def take(sender, frame, reply=None):
 
 
 def logs_of(*lists, front="linear"):
-    return [log.Log(f"{p}.log", log.Head(front, len(lists), ("x",), p, "0" * 16), list(e), 0, 0, 0) for p, e in enumerate(lists)]
+    return [log.Log(f"{p}.log", log.Head(front, len(lists), ("x",), p, 0, "0" * 16), list(e), 0, 0, 0) for p, e in enumerate(lists)]
 
 
 class Logs(unittest.TestCase):
     def setUp(self):
         self.folder = tempfile.TemporaryDirectory()
         self.path = os.path.join(self.folder.name, "0.log")
-        self.head = log.Head("linear", 2, ("x", "y"), 0, "00112233445566aa")
+        self.head = log.Head("linear", 2, ("x", "y"), 0, 3, "00112233445566aa")
         self.entries = [
             log.Entry("call", core.SWAP, 1, 2**64 - 1, b"", None), take(1, got(1)), take(1, data(0, 1), core.Reply(7, 3)),
             log.Entry("tick", 0, 0, 0, b"", None), log.Entry("call", core.READ, 0, 0, b"", core.Reply(0, 0)),
