@@ -14,8 +14,8 @@ from typing import Callable, Dict, List, Optional, TextIO
 from .. import check
 from . import core, log, merge, road
 from .chapters import StoryFault, check_story
-from .node import CHAPTER_ENTRIES, CHAPTER_OPERATIONS, Node, NodeFailed
-from .road import Keys, LossyRoad, Road, RoadFault
+from .node import CHAPTER_ENTRIES, CHAPTER_OPERATIONS, AnyRoad, Node, NodeFailed
+from .road import Keys, LossyRoad, RoadFault
 
 
 def say(text: str) -> None:
@@ -35,7 +35,7 @@ def node_of(a: argparse.Namespace) -> Node:
     if a.lossy:
         seed, loss, duplicates, reorder, delay = map(float, a.lossy.split(","))
 
-        def lossy(r: Road) -> LossyRoad:
+        def lossy(r: AnyRoad) -> LossyRoad:
             return LossyRoad(r, int(seed) * 1000 + a.me, loss / 100, duplicates / 100, reorder / 100, delay / 1000)
 
     return Node(

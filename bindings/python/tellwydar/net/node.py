@@ -15,7 +15,11 @@ from typing import Callable, Dict, List, Optional, Sequence, Tuple, Type, Union
 
 from . import core, log
 from .chapters import State, is_over, opening_of
-from .road import MOST_BYTES, Complaints, Keys, LossyRoad, Road
+from .datagrams import DatagramRoad
+from .road import Complaints, Keys, LossyRoad, Road
+
+
+AnyRoad = Union[Road, DatagramRoad]
 
 
 def _say(text: str) -> None:
@@ -55,7 +59,7 @@ class Node:
     def __init__(self, front: str, registers: Sequence[str], me: int, peers: Sequence[str], keys: Optional[Keys], log_path: str, *,
                  sync: bool = False, look: float = 0.01, resume: bool = False,
                  chapter_operations: int = CHAPTER_OPERATIONS, chapter_entries: int = CHAPTER_ENTRIES,
-                 lossy: Optional[Callable[[Road], LossyRoad]] = None, say: Callable[[str], None] = _say):
+                 lossy: Optional[Callable[[AnyRoad], LossyRoad]] = None, say: Callable[[str], None] = _say):
         self._names = {name: r for r, name in enumerate(registers)}
         self._me, self._count, self._sync, self._look_every = me, len(peers), sync, look
         self._say, self._complain = say, Complaints(say)
@@ -65,7 +69,8 @@ class Node:
         self._called_before, self._opening = 0, []  # type: int, List[Tuple[int, int]]
         self._last_state, self._last_begun = b"", ""
         self._answer: Optional[core.Reply] = None
-        road = Road(me, peers, keys, self._complain)  # before the log: where it is refused no log is begun
+        kind = DatagramRoad if peers[me].startswith("udp://") else Road
+        road = kind(me, peers, keys, self._complain)  # before the log: where it is refused no log is begun
         try:
             self._open(log.Head(front, len(peers), tuple(registers), me, 0, ""), resume)
         except BaseException:
@@ -83,7 +88,7 @@ class Node:
         shape += zlib.crc32(" ".join(registers).encode()).to_bytes(4, "big")
         self._shape, self._width = shape, len(shape) + 15
         self._met_peers()
-        self._road: Union[Road, LossyRoad] = road if lossy is None else lossy(road)
+        self._road: Union[Road, DatagramRoad, LossyRoad] = road if lossy is None else lossy(road)
         self._thread = threading.Thread(target=self._serve, name="tellwydar", daemon=True)
         self._thread.start()
 
@@ -272,7 +277,7 @@ class Node:
                 if frame[3] == 2:
                     last = frame  # of several counts the last says all
                     continue
-                if size + len(frame) + 12 > MOST_BYTES:
+                if size + len(frame) + 12 > self._road.most_bytes:
                     self._road.send(to, b"".join(message))
                     message, size = [self._start[to], _FRAMES], self._width
                 message.append(frame)
