@@ -373,7 +373,7 @@ class Nodes(unittest.TestCase):
         def full(sync):
             raise OSError("no space")
 
-        a._log.write = full
+        a._story.log.write = full
         with self.assertRaises(NodeFailed):
             a.write("x", 6, 5)
         self.assertEqual(self.merged(2).count(" call "), 1)

@@ -4,7 +4,6 @@ Under one lock a step is made, its entry is written, and only then do its frames
 a call; one receiver thread does so for what comes in, some messages at a time with one write for all, and makes the ticks. It also ends a chapter
 and begins the next one (`chapters`): callers wait meanwhile.
 """
-import os
 import secrets
 import sys
 import threading
@@ -14,9 +13,10 @@ from types import TracebackType
 from typing import Callable, Dict, List, Optional, Sequence, Tuple, Type, Union
 
 from . import core, log
-from .chapters import State, is_over, opening_of
+from .chapters import State
 from .datagrams import DatagramRoad
 from .road import Complaints, Keys, LossyRoad, Road
+from .story import NodeFailed, Story
 
 
 AnyRoad = Union[Road, DatagramRoad]
@@ -49,10 +49,6 @@ class Closed(Exception):
     """The node was closed."""
 
 
-class NodeFailed(Exception):
-    """The node stopped: its process stopped for good, or its log could not be written."""
-
-
 class Node:
     """States: up, with no operation, with one going on, or with an answer to be fetched; closed; failed. None of the last two is left."""
 
@@ -65,14 +61,12 @@ class Node:
         self._say, self._complain = say, Complaints(say)
         if chapter_operations <= len(registers):
             raise ValueError("a chapter has room for a write of each register, and more")
-        self._path, self._most = log_path, (chapter_operations, chapter_entries // len(peers))
-        self._called_before, self._opening = 0, []  # type: int, List[Tuple[int, int]]
-        self._last_state, self._last_begun = b"", ""
         self._answer: Optional[core.Reply] = None
         kind = DatagramRoad if peers[me].startswith("udp://") else Road
         road = kind(me, peers, keys, self._complain)  # before the log: where it is refused no log is begun
+        most = chapter_operations, chapter_entries // len(peers)
         try:
-            self._open(log.Head(front, len(peers), tuple(registers), me, 0, ""), resume)
+            self._story = Story(log.Head(front, len(peers), tuple(registers), me, 0, ""), log_path, most, resume, say)
         except BaseException:
             road.close()
             raise
@@ -94,158 +88,61 @@ class Node:
 
     # --- chapters
 
-    def _log_of(self, chapter: int) -> str:
-        return self._path if chapter == 0 else f"{self._path}.{chapter}"
-
-    def _open(self, head: log.Head, resume: bool) -> None:
-        if not resume:
-            self._begin(head)
-            return
-        chapter = 0
-        while os.path.exists(self._log_of(chapter + 1)):
-            chapter += 1
-        for earlier in range(chapter):
-            old = log.read(self._log_of(earlier))
-            self._called_before += sum(e.step == "call" for e in old.entries) - len(self._opening)
-            if earlier == chapter - 1:
-                self._made_again(head._replace(chapter=earlier), old)
-                self._end()
-            elif self._me == 0:
-                self._opening = self._opening_after(old)
-        self._go_on(head._replace(chapter=chapter))
-
-    def _opening_after(self, old: log.Log) -> List[Tuple[int, int]]:
-        """What process 0 writes first in the chapter after a log's."""
-        with self._process_of(old.head) as process:
-            for e in old.entries:
-                core.step(process, e)
-            return opening_of([process.register(r) for r in range(len(self._names))])
-
-    def _process_of(self, head: log.Head) -> core.Process:
-        return core.Process(core.front_of(head.front), head.processes, len(head.registers), head.me)
-
-    def _begin(self, head: log.Head) -> None:
-        """Begins a chapter with a log of its own."""
-        self._head = head._replace(begun=secrets.token_hex(8))
-        self._process = self._process_of(head)
-        self._running, self._called, self._entries, self._ending = False, 0, 0, False
-        self._states: Dict[int, State] = {}
-        path = self._log_of(head.chapter)
-        try:
-            self._log = log.Writer(path, self._head)
-        except FileExistsError:
-            raise NodeFailed(f"{path} is there already: resume it, or take a new one for a new cluster") from None
-
-    def _go_on(self, head: log.Head) -> None:
-        """Goes on with a chapter whose log is there."""
-        path = self._log_of(head.chapter)
-        writer = log.Writer(path)  # from here on it is in no other program's hands
-        old = log.read(path, self._say)
-        self._made_again(head, old)
-        writer.go_on(old)
-        self._log = writer
-
-    def _made_again(self, head: log.Head, old: log.Log) -> None:
-        """The process is a function of the steps in its log: makes them again."""
-        if old.head._replace(begun="") != head:
-            raise NodeFailed(f"{old.path} is of another process, chapter, front end or shape")
-        self._head, self._process = old.head, self._process_of(head)
-        self._running, self._called, self._entries, self._states = False, 0, len(old.entries), {}
-        for place, e in enumerate(old.entries):
-            try:
-                reply = core.step(self._process, e)
-            except core.Refused as why:
-                raise NodeFailed(f"{old.path}: line {place + 7}: {why}") from None
-            if reply != e.reply:
-                raise NodeFailed(f"{old.path}: line {place + 7}: another reply")
-            if e.step == "call":
-                self._running, self._called = True, self._called + 1
-            if e.reply is not None:
-                self._running = False
-        is_full = self._called >= self._most[0] or self._entries >= self._most[1]
-        self._ending = is_full or os.path.exists(old.path + ".quiet")
-
-    def _state(self) -> State:
-        """How far this node has come in its chapter."""
-        known = {p: self._process.known(p) for p in range(self._head.processes) if p != self._me}
-        put = max((it.next for it in known.values()), default=0)
-        accepted = tuple(known[p].expected if p in known else 0 for p in range(self._head.processes))
-        return State(self._ending and not self._running and not self._opening_left(), self._process.pending == 0, put, accepted)
-
-    def _opening_left(self) -> bool:
-        """Whether the values that the last chapter ended with aren't all written here: then nothing else is called."""
-        return self._process.delivered < len(self._opening)
-
-    def _end(self) -> None:
-        """The chapter is over: what the next one begins with, and what is told to those who don't know it yet."""
-        self._last_state = self._state()._replace(quiet=True, at_rest=True).data()
-        self._last_begun = self._head.begun
-        self._opening = opening_of([self._process.register(r) for r in range(len(self._names))])
-        self._process.close()
-
     def _turn(self) -> None:
-        """Where the chapter is over, ends it and begins the next one."""
-        if self._ending and not self._steps_due:
-            self._states[self._me] = self._state()
-            if is_over(self._states, self._head.processes):
-                self._called_before += self._called - (len(self._opening) if self._me == 0 else 0)
-                self._end()
-                self._log.close()
-                self._begin(self._head._replace(chapter=self._head.chapter + 1))
-                self._met_peers()
-                self._is_opening = True
-                self._say(f"chapter {self._head.chapter} begins, in {self._log_of(self._head.chapter)}")
+        """Where the chapter is over, the next one begins."""
+        if not self._steps_due and self._story.turn():
+            self._met_peers()
+            self._is_opening = True
 
     def _write_opening(self) -> None:
         """Process 0 writes what the last chapter ended with, one register after another."""
-        while self._me == 0 and self._called < len(self._opening) and not self._running and not self._failed:
-            register, value = self._opening[self._called]
-            reply = self._process.call(core.operation(core.WRITE, register, value))
-            self._running, self._called = True, self._called + 1
+        while (due := self._story.next_opening()) is not None and not self._story.running and not self._failed:
+            register, value = due
+            reply = self._story.process.call(core.operation(core.WRITE, register, value))
+            self._story.running, self._story.called = True, self._story.called + 1
             self._staged(log.call_text(core.WRITE, register, value), reply, True)
             self._commit()
-        if self._is_opening and not self._opening_left():
+        if self._is_opening and not self._story.is_opening():
             self._is_opening = False
             self._answered.notify_all()
 
     def _met_peers(self) -> None:
         """Nobody was heard yet in this chapter."""
-        begun, chapter = bytes.fromhex(self._head.begun), self._head.chapter.to_bytes(4, "big")
-        self._start = {p: self._shape + bytes([self._me, p]) + begun + chapter for p in range(self._head.processes) if p != self._me}
+        begun, chapter = bytes.fromhex(self._story.head.begun), self._story.head.chapter.to_bytes(4, "big")
+        self._start = {p: self._shape + bytes([self._me, p]) + begun + chapter for p in range(self._story.head.processes) if p != self._me}
         self._met_as: Dict[bytes, int] = {}  # who starts a message so
         self._begun: Dict[int, bytes] = {}  # the run of each peer that was heard first
         self._beats: Dict[int, Tuple[Optional[int], int]] = {p: (None, 0) for p in self._start}
 
     def _tell_states(self) -> None:
         """Tells all others how far this node has come. Once it said that it calls nothing more in this chapter, it knows so when it is resumed."""
-        state = self._state()
+        state = self._story.state()
         if self._sync:
-            self._log.write(True)
+            self._story.log.write(True)
         if state.quiet:
-            with open(self._log_of(self._head.chapter) + ".quiet", "a") as file:
-                os.fsync(file.fileno())
+            self._story.say_quiet()
         for to, start in self._start.items():
             self._road.send(to, start + _STATE + state.data())
 
     def _tell_last(self, to: int) -> None:
         """Tells one that is still in the last chapter how far this node came there."""
-        start = self._shape + bytes([self._me, to]) + bytes.fromhex(self._last_begun) + (self._head.chapter - 1).to_bytes(4, "big")
-        self._road.send(to, start + _STATE + self._last_state)
+        start = self._shape + bytes([self._me, to]) + bytes.fromhex(self._story.last_begun) + (self._story.head.chapter - 1).to_bytes(4, "big")
+        self._road.send(to, start + _STATE + self._story.last_state)
 
     # --- steps, all under the lock
 
     def _staged(self, text: str, reply: Optional[core.Reply], cast: bool) -> None:
         """Of the step that was just made: its entry, its frames, its reply."""
-        self._log.add(text + log.reply_text(reply))
-        self._steps_due, self._entries = True, self._entries + 1
-        self._ending |= self._called >= self._most[0] or self._entries >= self._most[1]
-        for to, frame in self._process.frames():
+        self._story.log.add(text + log.reply_text(reply))
+        self._steps_due = True
+        self._story.count()
+        for to, frame in self._story.process.frames():
             self._data_due |= frame[3] == 1
             self._out.setdefault(to, []).append(frame)
         self._data_due |= cast
         if reply is not None:
-            is_opening = self._me == 0 and self._called <= len(self._opening)
-            self._running, self._staged_answer = False, None if is_opening else reply
+            is_own = self._story.called > self._story.opened()
+            self._story.running, self._staged_answer = False, reply if is_own else None
 
     def _commit(self) -> None:
         """Writes the entries down; then their frames go out, and then their answer is told.
@@ -255,7 +152,7 @@ class Node:
             return
         sync = self._sync and self._data_due
         try:
-            self._log.write(sync)
+            self._story.log.write(sync)
         except OSError as why:
             self._fail(f"the log can't be written: {why}")
             return
@@ -310,15 +207,15 @@ class Node:
         with self._lock:
             self._up()
             end = self._till_open(timeout)
-            if self._running or self._answer is not None:
+            if self._story.running or self._answer is not None:
                 raise Busy()
             try:
-                reply = self._process.call(core.operation(kind, register, value))
+                reply = self._story.process.call(core.operation(kind, register, value))
             except core.Refused as why:  # nothing has changed, but it may have stopped for good
                 if str(why) in core.STOPS:
                     self._fail(str(why))
                 raise
-            self._running, self._called = True, self._called + 1
+            self._story.running, self._story.called = True, self._story.called + 1
             self._staged(log.call_text(kind, register, value), reply, kind != core.READ)
             self._commit()
             if self._idle:
@@ -329,7 +226,7 @@ class Node:
     def _till_open(self, timeout: Optional[float]) -> Optional[float]:
         """Waits while a chapter ends and the next one begins. When the time is up that the caller has."""
         end = None if timeout is None else time.monotonic() + timeout
-        while self._opening_left() or self._ending and not self._running and self._answer is None:
+        while self._story.is_opening() or self._story.ending and not self._story.running and self._answer is None:
             left = None if end is None else end - time.monotonic()
             if left is not None and left <= 0:
                 raise Paused()
@@ -340,7 +237,7 @@ class Node:
     def _wait(self, end: Optional[float]) -> Optional[int]:
         while self._answer is None:
             self._up()
-            if not self._running:
+            if not self._story.running:
                 raise Busy()  # another thread fetched it
             left = None if end is None else end - time.monotonic()
             if left is not None and left <= 0:
@@ -365,21 +262,21 @@ class Node:
     def wait(self, timeout: Optional[float] = None) -> Optional[int]:
         """The answer of the operation that goes on (None: a write is done)."""
         with self._lock:
-            if not self._running and self._answer is None:
+            if not self._story.running and self._answer is None:
                 raise ValueError("no operation goes on")
             return self._wait(None if timeout is None else time.monotonic() + timeout)
 
     def so_far(self) -> Tuple[int, bool]:
         """How many operations were called, in earlier runs too, and whether one of them goes on or has an answer to be fetched."""
         with self._lock:
-            opening = min(self._called, len(self._opening)) if self._me == 0 else 0
-            return self._called_before + self._called - opening, self._running and self._called > opening or self._answer is not None
+            called = self._story.called - self._story.opened()
+            return self._story.called_before + called, self._story.running and called > 0 or self._answer is not None
 
     def pending(self) -> int:
         """How many frames the others haven't acknowledged."""
         with self._lock:
             self._up()
-            return self._process.pending
+            return self._story.process.pending
 
     def close(self) -> None:
         """Ends the node. Others that need its acknowledgements wait from then on: close it when all are done."""
@@ -391,8 +288,7 @@ class Node:
         self._road.wake()
         self._thread.join()
         self._road.close()
-        self._log.close()
-        self._process.close()
+        self._story.close()
 
     def __enter__(self) -> "Node":
         return self
@@ -408,7 +304,7 @@ class Node:
             with self._lock:
                 if self._closed or self._failed:
                     break
-                self._idle = self._process.pending == 0 and not self._ending and not self._opening_left()
+                self._idle = self._story.process.pending == 0 and not self._story.ending and not self._story.is_opening()
                 ends = [t for t in (None if self._idle else look_at, due, self._held_till) if t is not None]
             broken = ""
             messages: List[Tuple[Optional[int], bytes]] = []
@@ -443,7 +339,7 @@ class Node:
         """What the pacer does for a cluster: a tick where a link goes without an answer, with growing pauses."""
         tick = False
         for p, (first, silent) in self._beats.items():
-            known = self._process.known(p)
+            known = self._story.process.known(p)
             now = None if known.first == known.next else known.first
             if now is None or now != first:
                 self._beats[p] = (now, 0)
@@ -452,9 +348,9 @@ class Node:
             self._beats[p] = (first, silent)
             tick |= silent in _DUE
         if tick:
-            self._process.tick()
+            self._story.process.tick()
             self._staged("tick", None, False)
-        if self._ending:
+        if self._story.ending:
             self._tell_states()
 
     def _heard(self, sender: Optional[int], message: bytes) -> None:
@@ -466,19 +362,18 @@ class Node:
                 return
         sender = claimed
         if kind == _STATE:
-            state = State.of(message[at:], self._head.processes)
+            state = State.of(message[at:], self._story.head.processes)
             if state is None:
                 self._complain(f"state {sender}", f"process {sender}: no state of a node")
                 return
-            self._ending = True  # somebody has little room left, or heard of it
-            self._states[sender] = state.later(self._states.get(sender))
+            self._story.heard(sender, state)
             return
         while at < len(message):
             end = at + 2 + int.from_bytes(message[at : at + 2], "big")
             frame = message[at:end]
             at = end
             try:
-                reply = self._process.take(sender, frame)
+                reply = self._story.process.take(sender, frame)
             except core.Refused as why:
                 if str(why) in core.STOPS:
                     raise
@@ -504,7 +399,7 @@ class Node:
         elif claimed not in self._start or sender not in (None, claimed):
             kind, no = "sender", f"says that it is process {claimed}"
         elif start[-4:] != self._start[claimed][-4:]:
-            if int.from_bytes(start[-4:], "big") + 1 == self._head.chapter:  # it doesn't know yet that its chapter is over
+            if int.from_bytes(start[-4:], "big") + 1 == self._story.head.chapter:  # it doesn't know yet that its chapter is over
                 self._tell_last(claimed)
             return None
         elif self._begun.setdefault(claimed, start) != start:
