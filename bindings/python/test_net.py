@@ -1,4 +1,5 @@
 """Tests of nodes: python3 -m unittest, with TELLWYDAR_LIB set."""
+import importlib.util
 import os
 import random
 import socket
@@ -11,13 +12,17 @@ import zmq
 
 from tellwydar import check
 from tellwydar.net import Busy, Closed, Keys, LossyRoad, Node, NodeFailed, Refused, TimedOut, core, log, merge, road
+from tellwydar.net.datagrams import DatagramRoad
+
+if importlib.util.find_spec("nacl"):
+    from nacl.public import Box, PrivateKey, PublicKey
 
 
-def free_addresses(count):
-    held = [socket.socket() for _ in range(count)]
+def free_addresses(count, scheme="tcp"):
+    held = [socket.socket(type=socket.SOCK_DGRAM if scheme == "udp" else socket.SOCK_STREAM) for _ in range(count)]
     for s in held:
         s.bind(("127.0.0.1", 0))
-    addresses = [f"tcp://127.0.0.1:{s.getsockname()[1]}" for s in held]
+    addresses = [f"{scheme}://127.0.0.1:{s.getsockname()[1]}" for s in held]
     for s in held:
         s.close()
     return addresses
@@ -41,14 +46,14 @@ def take(sender, frame, reply=None):
 
 
 def logs_of(*lists, front="linear"):
-    return [log.Log(f"{p}.log", log.Head(front, len(lists), ("x",), p, "0" * 16), list(e), 0, 0, 0) for p, e in enumerate(lists)]
+    return [log.Log(f"{p}.log", log.Head(front, len(lists), ("x",), p, 0, "0" * 16), list(e), 0, 0, 0) for p, e in enumerate(lists)]
 
 
 class Logs(unittest.TestCase):
     def setUp(self):
         self.folder = tempfile.TemporaryDirectory()
         self.path = os.path.join(self.folder.name, "0.log")
-        self.head = log.Head("linear", 2, ("x", "y"), 0, "00112233445566aa")
+        self.head = log.Head("linear", 2, ("x", "y"), 0, 3, "00112233445566aa")
         self.entries = [
             log.Entry("call", core.SWAP, 1, 2**64 - 1, b"", None), take(1, got(1)), take(1, data(0, 1), core.Reply(7, 3)),
             log.Entry("tick", 0, 0, 0, b"", None), log.Entry("call", core.READ, 0, 0, b"", core.Reply(0, 0)),
@@ -214,7 +219,7 @@ class Roads(unittest.TestCase):
     def test_loopback(self):
         for address in ("tcp://127.0.0.1:1", "tcp://127.9.9.9:1", "tcp://[::1]:1", "ipc://x"):
             self.assertTrue(road.is_loopback(address), address)
-        for address in ("tcp://0.0.0.0:1", "tcp://*:1", "tcp://10.0.0.1:1", "tcp://localhost.example:1", "tcp://[::]:1"):
+        for address in ("udp://0.0.0.0:1", "tcp://0.0.0.0:1", "tcp://*:1", "tcp://10.0.0.1:1", "tcp://localhost.example:1", "tcp://[::]:1"):
             self.assertFalse(road.is_loopback(address), address)
 
     def test_no_keys_no_network(self):
@@ -226,6 +231,40 @@ class Roads(unittest.TestCase):
         for keys in (Keys(secret, (b, a)), Keys(secret, (a, a)), Keys(secret, (a,))):
             with self.assertRaises(road.RoadFault):
                 road.Road(0, free_addresses(2), keys, print)
+
+
+@unittest.skipUnless(importlib.util.find_spec("nacl"), "install python3-nacl")
+class Datagrams(unittest.TestCase):
+    def setUp(self):
+        self.pairs = [road.new_keys() for _ in range(2)]
+        self.known = tuple(key for key, _ in self.pairs)
+        self.addresses, self.said = free_addresses(2, "udp"), []
+
+    def road(self, me, keys):
+        one = DatagramRoad(me, self.addresses, keys, road.Complaints(self.said.append))
+        self.addCleanup(one.close)
+        return one
+
+    def test_a_message_comes_from_the_process_whose_key_opens_it(self):
+        one, other = (self.road(p, Keys(self.pairs[p][1], self.known)) for p in range(2))
+        one.send(1, b"a message")
+        self.assertEqual(other.receive(5), [(0, b"a message")])
+        stranger = socket.socket(type=socket.SOCK_DGRAM)
+        self.addCleanup(stranger.close)
+        place = ("127.0.0.1", int(self.addresses[1].rpartition(":")[2]))
+        key, secret = road.new_keys()
+        box = Box(PrivateKey(road.of_z85(secret)), PublicKey(road.of_z85(self.known[1])))
+        hostile = [b"", b"\0", b"\1", b"\0" + bytes(60), b"\0" + bytes(box.encrypt(b"a message")), b"\x3f" + bytes(60)]
+        for data in hostile:
+            stranger.sendto(data, place)
+        one.send(1, b"another")
+        self.assertEqual(other.receive(5)[-1:] or other.receive(5), [(0, b"another")])
+        self.assertTrue(any("no known key opens" in line for line in self.said))
+
+    def test_keys_are_needed_between_machines(self):
+        self.addresses = ["udp://0.0.0.0:7101", "udp://127.0.0.1:7102"]
+        with self.assertRaises(road.RoadFault):
+            self.road(0, None)
 
 
 class Nodes(unittest.TestCase):
@@ -266,6 +305,17 @@ class Nodes(unittest.TestCase):
             self.nodes.clear()
             for p in range(3):
                 os.unlink(self.path(p))
+
+    def test_three_over_datagrams(self):
+        pairs = [road.new_keys() for _ in range(3)] if importlib.util.find_spec("nacl") else None
+        known = tuple(a for a, _ in pairs) if pairs else ()
+        self.addresses = free_addresses(3, "udp")
+        lossy = lambda r: LossyRoad(r, 5, 0.2, 0.1, 0.2, 0.001)
+        a, b, c = (self.start(p, "linear", Keys(pairs[p][1], known) if pairs else None, lossy=lossy) for p in range(3))
+        a.write("x", 5, 30)
+        self.assertEqual(b.swap("x", 6, 30), 5)
+        self.assertEqual(c.read("x", 30), 6)
+        self.merged(3)
 
     def test_timeouts(self):
         self.addresses = free_addresses(2)
@@ -331,7 +381,7 @@ class Nodes(unittest.TestCase):
         def full(sync):
             raise OSError("no space")
 
-        a._log.write = full
+        a._story.log.write = full
         with self.assertRaises(NodeFailed):
             a.write("x", 6, 5)
         self.assertEqual(self.merged(2).count(" call "), 1)

@@ -18,11 +18,19 @@ LOSSY = "20,10,20,1"
 YES = {"linear": b"serial yes\npoints yes\n", "local-read": b"serial yes\n", "local-write": b"serial yes\n"}
 
 
+def wait_until(holds, seconds=60):
+    """Whether it holds in time."""
+    end = time.monotonic() + seconds
+    while not holds() and time.monotonic() < end:
+        time.sleep(0.05)
+    return holds()
+
+
 class Cluster:
-    def __init__(self, folder, front, seed):
+    def __init__(self, folder, front, seed, more=""):
         self.folder, self.front, self.seed, self.nodes = folder, front, seed, [None] * COUNT
         nodes = "".join(f'[[node]]\naddress = "{address}"\n' for address in free_addresses(COUNT))
-        self.write("cluster.toml", f'front = "{front}"\nregisters = ["x", "y"]\n{nodes}')
+        self.write("cluster.toml", f'front = "{front}"\nregisters = ["x", "y"]\n{more}{nodes}')
         words = random.Random(f"{front} {seed}")
         for me in range(COUNT):
             calls = []
@@ -42,7 +50,7 @@ class Cluster:
         return [sys.executable, "-m", "tellwydar.net", *words]
 
     def start(self, me, *more):
-        given = ["--config", self.path("cluster.toml"), "--log", self.path(f"{me}.log"), "--script", self.path(f"{me}.txt")]
+        given = ["--config", self.path("cluster.toml"), "--log", self.log(me), "--script", self.path(f"{me}.txt")]
         words = self.program("node", "--me", str(me), *given, "--lossy", f"{self.seed},{LOSSY}", *more)
         with open(self.path(f"{me}.out"), "ab") as out:
             self.nodes[me] = subprocess.Popen(words, cwd=HERE, stdout=out, stderr=subprocess.DEVNULL)
@@ -63,18 +71,14 @@ class Cluster:
             node.terminate()
             node.wait()
 
-    def merged(self):
-        return subprocess.run(self.program("merge", *(self.path(f"{me}.log") for me in range(COUNT))), cwd=HERE, capture_output=True)
+    def log(self, me, chapter=0):
+        return self.path(f"{me}.log" + (f".{chapter}" if chapter else ""))
+
+    def merged(self, chapter=0):
+        return subprocess.run(self.program("merge", *(self.log(me, chapter) for me in range(COUNT))), cwd=HERE, capture_output=True)
 
 
 class Programs(unittest.TestCase):
-    def wait_until(self, holds, seconds=60):
-        """Whether it holds in time."""
-        end = time.monotonic() + seconds
-        while not holds() and time.monotonic() < end:
-            time.sleep(0.05)
-        return holds()
-
     def play(self, front, killed):
         with tempfile.TemporaryDirectory() as folder:
             cluster = Cluster(folder, front, int(killed))
@@ -82,10 +86,10 @@ class Programs(unittest.TestCase):
                 cluster.start(me)
             if killed:
                 # (once it has answered there is a log to go on with)
-                self.wait_until(lambda: cluster.answers(1))
+                wait_until(lambda: cluster.answers(1))
                 cluster.kill(1)
                 cluster.start(1, "--resume")
-            ended = self.wait_until(cluster.has_ended)
+            ended = wait_until(cluster.has_ended)
             cluster.close()
             told = cluster.merged()
             self.assertTrue(ended)

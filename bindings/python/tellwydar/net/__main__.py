@@ -1,5 +1,6 @@
 """python3 -m tellwydar.net node --me 0 --config cluster.toml --log FILE [--script FILE] ..
 python3 -m tellwydar.net merge [--cut] LOG.. > report
+python3 -m tellwydar.net story REPORT..
 python3 -m tellwydar.net keys FILE"""
 import argparse
 import os
@@ -10,9 +11,11 @@ import time
 import tomllib
 from typing import Callable, Dict, List, Optional, TextIO
 
+from .. import check
 from . import core, log, merge, road
-from .node import Node, NodeFailed
-from .road import Keys, LossyRoad, Road, RoadFault
+from .chapters import StoryFault, check_story
+from .node import CHAPTER_ENTRIES, CHAPTER_OPERATIONS, AnyRoad, Node, NodeFailed
+from .road import Keys, LossyRoad, RoadFault
 
 
 def say(text: str) -> None:
@@ -32,12 +35,13 @@ def node_of(a: argparse.Namespace) -> Node:
     if a.lossy:
         seed, loss, duplicates, reorder, delay = map(float, a.lossy.split(","))
 
-        def lossy(r: Road) -> LossyRoad:
+        def lossy(r: AnyRoad) -> LossyRoad:
             return LossyRoad(r, int(seed) * 1000 + a.me, loss / 100, duplicates / 100, reorder / 100, delay / 1000)
 
     return Node(
         config["front"], config["registers"], a.me, [n["address"] for n in nodes], keys, a.log,
         sync=a.sync or config.get("sync", False), look=config.get("look_ms", 10) / 1000, resume=a.resume, lossy=lossy, say=say,
+        chapter_operations=config.get("chapter_operations", CHAPTER_OPERATIONS), chapter_entries=config.get("chapter_entries", CHAPTER_ENTRIES),
     )
 
 
@@ -64,6 +68,25 @@ def run_script(node: Node, lines: List[str], out: TextIO) -> None:
     print("end", file=out, flush=True)
 
 
+def tell_story(paths: List[str]) -> int:
+    """Judges each report by `check`, and then whether each goes on where the one before it ended."""
+    reports = []
+    for path in paths:
+        with open(path, "rb") as file:
+            reports.append(file.read())
+        told = check(reports[-1])
+        if told.status != 0:
+            say(f"{path}: {(told.answer + told.line).decode().strip()}")
+            return 1
+    try:
+        check_story(reports)
+    except StoryFault as why:
+        say(str(why))
+        return 1
+    print(f"one story of {len(reports)} chapters")
+    return 0
+
+
 def main(words: List[str]) -> int:
     parser = argparse.ArgumentParser(prog="python3 -m tellwydar.net", description=__doc__, formatter_class=argparse.RawDescriptionHelpFormatter)
     sub = parser.add_subparsers(dest="word", required=True)
@@ -79,6 +102,8 @@ def main(words: List[str]) -> int:
     p = sub.add_parser("merge", help="prints the report of the run that the logs are")
     p.add_argument("--cut", action="store_true", help="where no order has all entries, the report of those that one has")
     p.add_argument("logs", nargs="+")
+    p = sub.add_parser("story", help="checks that the reports of chapters, in their order, are one story")
+    p.add_argument("reports", nargs="+")
     p = sub.add_parser("keys", help="makes a secret key in a new FILE, and prints its public key")
     p.add_argument("file")
     a = parser.parse_args(words)
@@ -98,6 +123,8 @@ def main(words: List[str]) -> int:
         sys.stdout.buffer.write(report)
         sys.stderr.buffer.write(fault)
         return status
+    if a.word == "story":
+        return tell_story(a.reports)
     end = threading.Event()
     for number in (signal.SIGTERM, signal.SIGINT):
         signal.signal(number, lambda *_: end.set())

@@ -131,6 +131,8 @@ def gather(logs: List[log.Log]) -> List[log.Log]:
         head = one.head
         if (head.front, head.processes, head.registers) != (first.front, first.processes, first.registers):
             raise MergeFault(f"{one.path} is of another front end or shape than {logs[0].path}")
+        if head.chapter != first.chapter:
+            raise MergeFault(f"{one.path} is of chapter {head.chapter}, and {logs[0].path} of chapter {first.chapter}")
         if head.me in found:
             raise MergeFault(f"{one.path} and {found[head.me].path} are both of process {head.me}")
         found[head.me] = one

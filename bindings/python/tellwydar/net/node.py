@@ -1,7 +1,8 @@
 """A node: one process, its log, and a road to the others.
 
 Under one lock a step is made, its entry is written, and only then do its frames go out and its answer is told. The caller's thread does so for
-a call; one receiver thread does so for what comes in, some messages at a time with one write for all, and makes the ticks.
+a call; one receiver thread does so for what comes in, some messages at a time with one write for all, and makes the ticks. It also ends a chapter
+and begins the next one (`chapters`): callers wait meanwhile.
 """
 import secrets
 import sys
@@ -12,7 +13,13 @@ from types import TracebackType
 from typing import Callable, Dict, List, Optional, Sequence, Tuple, Type, Union
 
 from . import core, log
-from .road import MOST_BYTES, Complaints, Keys, LossyRoad, Road
+from .chapters import State
+from .datagrams import DatagramRoad
+from .road import Complaints, Keys, LossyRoad, Road
+from .story import NodeFailed, Story
+
+
+AnyRoad = Union[Road, DatagramRoad]
 
 
 def _say(text: str) -> None:
@@ -20,6 +27,10 @@ def _say(text: str) -> None:
 
 
 _DUE = {1, 3, 7, 15, 31, 63, 127, 227}  # as the pacer of a cluster has it: after 1, 2, 4, .. looks, and from 64 on after 100
+_FRAMES, _STATE = b"\0", b"\1"  # what a message brings
+
+CHAPTER_OPERATIONS = 65_000  # of a process, which has at most 65,535
+CHAPTER_ENTRIES = 786_432  # of all processes, which have at most 1,048,576: what is left is room to come to rest
 
 
 class Busy(Exception):
@@ -30,12 +41,12 @@ class TimedOut(Exception):
     """No answer yet. The operation goes on; `wait` gives its answer."""
 
 
+class Paused(Exception):
+    """Nothing was called in time, since a chapter ended meanwhile."""
+
+
 class Closed(Exception):
     """The node was closed."""
-
-
-class NodeFailed(Exception):
-    """The node stopped: its process stopped for good, or its log could not be written."""
 
 
 class Node:
@@ -43,78 +54,95 @@ class Node:
 
     def __init__(self, front: str, registers: Sequence[str], me: int, peers: Sequence[str], keys: Optional[Keys], log_path: str, *,
                  sync: bool = False, look: float = 0.01, resume: bool = False,
-                 lossy: Optional[Callable[[Road], LossyRoad]] = None, say: Callable[[str], None] = _say):
+                 chapter_operations: int = CHAPTER_OPERATIONS, chapter_entries: int = CHAPTER_ENTRIES,
+                 lossy: Optional[Callable[[AnyRoad], LossyRoad]] = None, say: Callable[[str], None] = _say):
         self._names = {name: r for r, name in enumerate(registers)}
         self._me, self._count, self._sync, self._look_every = me, len(peers), sync, look
         self._say, self._complain = say, Complaints(say)
-        self._process = core.Process(core.front_of(front), len(peers), len(registers), me)
-        road = Road(me, peers, keys, self._complain)  # before the log: where it is refused no log is begun
+        if chapter_operations <= len(registers):
+            raise ValueError("a chapter has room for a write of each register, and more")
+        self._answer: Optional[core.Reply] = None
+        kind = DatagramRoad if peers[me].startswith("udp://") else Road
+        road = kind(me, peers, keys, self._complain)  # before the log: where it is refused no log is begun
+        most = chapter_operations, chapter_entries // len(peers)
         try:
-            self._open(log_path, log.Head(front, len(peers), tuple(registers), me, secrets.token_hex(8)), resume)
+            self._story = Story(log.Head(front, len(peers), tuple(registers), me, 0, ""), log_path, most, resume, say)
         except BaseException:
             road.close()
             raise
         self._lock = threading.Lock()
         self._answered = threading.Condition(self._lock)
-        self._failed, self._closed, self._idle = "", False, False
+        self._failed, self._closed, self._idle, self._is_opening = "", False, False, True
         self._steps_due, self._data_due = False, False
         self._out: Dict[int, List[bytes]] = {}
         self._staged_answer: Optional[core.Reply] = None
         self._held_till: Optional[float] = None
-        # What stands before the frames of a message: of which cluster, from which run of which process, to whom.
-        shape = b"TW\1" + bytes([core.FRONTS.index(front), len(peers)]) + len(registers).to_bytes(2, "big")
+        # What stands before the frames of a message: of which cluster, from which run of which process, to whom, of which chapter.
+        shape = b"TW\2" + bytes([core.FRONTS.index(front), len(peers)]) + len(registers).to_bytes(2, "big")
         shape += zlib.crc32(" ".join(registers).encode()).to_bytes(4, "big")
-        begun = bytes.fromhex(self._head.begun)
-        self._shape, self._width = shape, len(shape) + 10
-        self._start = {p: shape + bytes([me, p]) + begun for p in range(len(peers)) if p != me}
-        # the peers that were heard, and the run of each that was heard first
-        self._met_as: Dict[bytes, int] = {}
-        self._begun: Dict[int, bytes] = {}
-        self._beats: Dict[int, Tuple[Optional[int], int]] = {p: (None, 0) for p in self._start}
-        self._road: Union[Road, LossyRoad] = road if lossy is None else lossy(road)
+        self._shape, self._width = shape, len(shape) + 15
+        self._met_peers()
+        self._road: Union[Road, DatagramRoad, LossyRoad] = road if lossy is None else lossy(road)
         self._thread = threading.Thread(target=self._serve, name="tellwydar", daemon=True)
         self._thread.start()
 
-    def _open(self, path: str, head: log.Head, resume: bool) -> None:
-        self._head, self._running, self._called = head, False, 0
-        self._answer: Optional[core.Reply] = None
-        if not resume:
-            try:
-                self._log = log.Writer(path, head)
-            except FileExistsError:
-                raise NodeFailed(f"{path} is there already: resume it, or take a new one for a new cluster") from None
-            return
-        # The process is a function of the steps in its log: make them again, and go on.
-        writer = log.Writer(path)  # from here on it is in no other program's hands
-        old = log.read(path, self._say)
-        if old.head._replace(begun="") != head._replace(begun=""):
-            raise NodeFailed(f"{path} is of another process, front end or shape")
-        for place, e in enumerate(old.entries):
-            try:
-                reply = core.step(self._process, e)
-            except core.Refused as why:
-                raise NodeFailed(f"{path}: line {place + 7}: {why}") from None
-            if reply != e.reply:
-                raise NodeFailed(f"{path}: line {place + 7}: another reply")
-            if e.step == "call":
-                self._running, self._called = True, self._called + 1
-            if e.reply is not None:
-                self._running = False
-        writer.go_on(old)
-        self._head, self._log = old.head, writer
+    # --- chapters
+
+    def _turn(self) -> None:
+        """Where the chapter is over, the next one begins."""
+        if not self._steps_due and self._story.turn():
+            self._met_peers()
+            self._is_opening = True
+
+    def _write_opening(self) -> None:
+        """Process 0 writes what the last chapter ended with, one register after another."""
+        while (due := self._story.next_opening()) is not None and not self._story.running and not self._failed:
+            register, value = due
+            reply = self._story.process.call(core.operation(core.WRITE, register, value))
+            self._story.running, self._story.called = True, self._story.called + 1
+            self._staged(log.call_text(core.WRITE, register, value), reply, True)
+            self._commit()
+        if self._is_opening and not self._story.is_opening():
+            self._is_opening = False
+            self._answered.notify_all()
+
+    def _met_peers(self) -> None:
+        """Nobody was heard yet in this chapter."""
+        begun, chapter = bytes.fromhex(self._story.head.begun), self._story.head.chapter.to_bytes(4, "big")
+        self._start = {p: self._shape + bytes([self._me, p]) + begun + chapter for p in range(self._story.head.processes) if p != self._me}
+        self._met_as: Dict[bytes, int] = {}  # who starts a message so
+        self._begun: Dict[int, bytes] = {}  # the run of each peer that was heard first
+        self._beats: Dict[int, Tuple[Optional[int], int]] = {p: (None, 0) for p in self._start}
+
+    def _tell_states(self) -> None:
+        """Tells all others how far this node has come. Once it said that it calls nothing more in this chapter, it knows so when it is resumed."""
+        state = self._story.state()
+        if self._sync:
+            self._story.log.write(True)
+        if state.quiet:
+            self._story.say_quiet()
+        for to, start in self._start.items():
+            self._road.send(to, start + _STATE + state.data())
+
+    def _tell_last(self, to: int) -> None:
+        """Tells one that is still in the last chapter how far this node came there."""
+        start = self._shape + bytes([self._me, to]) + bytes.fromhex(self._story.last_begun) + (self._story.head.chapter - 1).to_bytes(4, "big")
+        self._road.send(to, start + _STATE + self._story.last_state)
 
     # --- steps, all under the lock
 
     def _staged(self, text: str, reply: Optional[core.Reply], cast: bool) -> None:
         """Of the step that was just made: its entry, its frames, its reply."""
-        self._log.add(text + log.reply_text(reply))
+        self._story.log.add(text + log.reply_text(reply))
         self._steps_due = True
-        for to, frame in self._process.frames():
+        self._story.count()
+        for to, frame in self._story.process.frames():
             self._data_due |= frame[3] == 1
             self._out.setdefault(to, []).append(frame)
         self._data_due |= cast
         if reply is not None:
-            self._running, self._staged_answer = False, reply
+            is_own = self._story.called > self._story.opened()
+            self._story.running, self._staged_answer = False, reply if is_own else None
 
     def _commit(self) -> None:
         """Writes the entries down; then their frames go out, and then their answer is told.
@@ -124,7 +152,7 @@ class Node:
             return
         sync = self._sync and self._data_due
         try:
-            self._log.write(sync)
+            self._story.log.write(sync)
         except OSError as why:
             self._fail(f"the log can't be written: {why}")
             return
@@ -140,15 +168,15 @@ class Node:
 
     def _send(self) -> None:
         for to, frames in self._out.items():
-            message, last = [self._start[to]], None
+            message, last = [self._start[to], _FRAMES], None
             size = self._width
             for frame in frames:
                 if frame[3] == 2:
                     last = frame  # of several counts the last says all
                     continue
-                if size + len(frame) + 12 > MOST_BYTES:
+                if size + len(frame) + 12 > self._road.most_bytes:
                     self._road.send(to, b"".join(message))
-                    message, size = [self._start[to]], self._width
+                    message, size = [self._start[to], _FRAMES], self._width
                 message.append(frame)
                 size += len(frame)
             if last is not None:
@@ -178,27 +206,38 @@ class Node:
             raise ValueError(f"{value!r} is no number of 64 bits")
         with self._lock:
             self._up()
-            if self._running or self._answer is not None:
+            end = self._till_open(timeout)
+            if self._story.running or self._answer is not None:
                 raise Busy()
             try:
-                reply = self._process.call(core.operation(kind, register, value))
+                reply = self._story.process.call(core.operation(kind, register, value))
             except core.Refused as why:  # nothing has changed, but it may have stopped for good
                 if str(why) in core.STOPS:
                     self._fail(str(why))
                 raise
-            self._running, self._called = True, self._called + 1
+            self._story.running, self._story.called = True, self._story.called + 1
             self._staged(log.call_text(kind, register, value), reply, kind != core.READ)
             self._commit()
             if self._idle:
                 self._idle = False
                 self._road.wake()
-            return self._wait(timeout)
+            return self._wait(end)
 
-    def _wait(self, timeout: Optional[float]) -> Optional[int]:
+    def _till_open(self, timeout: Optional[float]) -> Optional[float]:
+        """Waits while a chapter ends and the next one begins. When the time is up that the caller has."""
         end = None if timeout is None else time.monotonic() + timeout
+        while self._story.is_opening() or self._story.ending and not self._story.running and self._answer is None:
+            left = None if end is None else end - time.monotonic()
+            if left is not None and left <= 0:
+                raise Paused()
+            self._answered.wait(left)
+            self._up()
+        return end
+
+    def _wait(self, end: Optional[float]) -> Optional[int]:
         while self._answer is None:
             self._up()
-            if not self._running:
+            if not self._story.running:
                 raise Busy()  # another thread fetched it
             left = None if end is None else end - time.monotonic()
             if left is not None and left <= 0:
@@ -223,20 +262,21 @@ class Node:
     def wait(self, timeout: Optional[float] = None) -> Optional[int]:
         """The answer of the operation that goes on (None: a write is done)."""
         with self._lock:
-            if not self._running and self._answer is None:
+            if not self._story.running and self._answer is None:
                 raise ValueError("no operation goes on")
-            return self._wait(timeout)
+            return self._wait(None if timeout is None else time.monotonic() + timeout)
 
     def so_far(self) -> Tuple[int, bool]:
         """How many operations were called, in earlier runs too, and whether one of them goes on or has an answer to be fetched."""
         with self._lock:
-            return self._called, self._running or self._answer is not None
+            called = self._story.called - self._story.opened()
+            return self._story.called_before + called, self._story.running and called > 0 or self._answer is not None
 
     def pending(self) -> int:
         """How many frames the others haven't acknowledged."""
         with self._lock:
             self._up()
-            return self._process.pending
+            return self._story.process.pending
 
     def close(self) -> None:
         """Ends the node. Others that need its acknowledgements wait from then on: close it when all are done."""
@@ -248,8 +288,7 @@ class Node:
         self._road.wake()
         self._thread.join()
         self._road.close()
-        self._log.close()
-        self._process.close()
+        self._story.close()
 
     def __enter__(self) -> "Node":
         return self
@@ -265,7 +304,7 @@ class Node:
             with self._lock:
                 if self._closed or self._failed:
                     break
-                self._idle = self._process.pending == 0
+                self._idle = self._story.process.pending == 0 and not self._story.ending and not self._story.is_opening()
                 ends = [t for t in (None if self._idle else look_at, due, self._held_till) if t is not None]
             broken = ""
             messages: List[Tuple[Optional[int], bytes]] = []
@@ -290,6 +329,8 @@ class Node:
                     if self._held_till and now >= self._held_till:
                         self._steps_due = self._data_due = True
                     self._commit()
+                    self._turn()
+                    self._write_opening()
                     due = self._road.pump(now)
                 except Exception as why:  # one of core.STOPS, or what nobody thought of: stop, before anything goes out
                     self._fail(str(why) or repr(why))
@@ -298,7 +339,7 @@ class Node:
         """What the pacer does for a cluster: a tick where a link goes without an answer, with growing pauses."""
         tick = False
         for p, (first, silent) in self._beats.items():
-            known = self._process.known(p)
+            known = self._story.process.known(p)
             now = None if known.first == known.next else known.first
             if now is None or now != first:
                 self._beats[p] = (now, 0)
@@ -307,23 +348,32 @@ class Node:
             self._beats[p] = (first, silent)
             tick |= silent in _DUE
         if tick:
-            self._process.tick()
+            self._story.process.tick()
             self._staged("tick", None, False)
+        if self._story.ending:
+            self._tell_states()
 
     def _heard(self, sender: Optional[int], message: bytes) -> None:
-        start, at = message[: self._width], self._width
+        start, kind, at = message[: self._width - 1], message[self._width - 1 : self._width], self._width
         claimed = self._met_as.get(start)
         if claimed is None or sender not in (None, claimed):
             claimed = self._met(sender, start)
             if claimed is None:
                 return
         sender = claimed
+        if kind == _STATE:
+            state = State.of(message[at:], self._story.head.processes)
+            if state is None:
+                self._complain(f"state {sender}", f"process {sender}: no state of a node")
+                return
+            self._story.heard(sender, state)
+            return
         while at < len(message):
             end = at + 2 + int.from_bytes(message[at : at + 2], "big")
             frame = message[at:end]
             at = end
             try:
-                reply = self._process.take(sender, frame)
+                reply = self._story.process.take(sender, frame)
             except core.Refused as why:
                 if str(why) in core.STOPS:
                     raise
@@ -334,7 +384,7 @@ class Node:
     def _met(self, sender: Optional[int], start: bytes) -> Optional[int]:
         """The sender of a message that starts otherwise than those before, or None where it is to be dropped."""
         mine = self._shape
-        claimed = start[len(mine)] if len(start) == self._width else None
+        claimed = start[len(mine)] if len(start) == self._width - 1 else None
         who = "somebody" if sender is None else f"process {sender}"
         if claimed is None or start[:3] != mine[:3]:
             kind, no = "form", "no message of a node"
@@ -348,6 +398,10 @@ class Node:
             kind, no = "receiver", f"a message for process {start[len(mine) + 1]}"
         elif claimed not in self._start or sender not in (None, claimed):
             kind, no = "sender", f"says that it is process {claimed}"
+        elif start[-4:] != self._start[claimed][-4:]:
+            if int.from_bytes(start[-4:], "big") + 1 == self._story.head.chapter:  # it doesn't know yet that its chapter is over
+                self._tell_last(claimed)
+            return None
         elif self._begun.setdefault(claimed, start) != start:
             kind, no = "begun", f"process {claimed} was begun anew, without its log; only the one that was heard first is in this cluster"
         else:

@@ -2,7 +2,7 @@
 
 `Road` is ZeroMQ: a node binds one PULL, in which it hears all others, and connects one PUSH to each of them. With keys (CURVE) both ends are
 known: the listener lets in only keys of its list, and the key says which process a message is from; the sender talks only to the key that it
-was told. Nothing waits on a road: what finds a full queue or no connection is dropped, and is put again by a tick.
+was told. Nothing waits on a road: what finds a full queue or no connection is dropped, and is put again by a tick. `datagrams` has a road of UDP.
 """
 import heapq
 import ipaddress
@@ -21,7 +21,7 @@ BATCH = 64  # messages taken at once
 
 # (type checkers know neither of them whole)
 _os: Any = os
-_of_z85: Callable[[bytes], bytes] = getattr(z85, "decode")
+of_z85: Callable[[bytes], bytes] = getattr(z85, "decode")
 
 
 class RoadFault(Exception):
@@ -54,11 +54,26 @@ def read_secret(path: str) -> bytes:
 def is_loopback(address: str) -> bool:
     if address.startswith("ipc://"):
         return True
-    host = address.removeprefix("tcp://").rpartition(":")[0].strip("[]")
+    host = address.partition("://")[2].rpartition(":")[0].strip("[]")
     try:
         return ipaddress.ip_address(host).is_loopback
     except ValueError:
         return False  # a name, or a star
+
+
+def check_addresses(addresses: Sequence[str], keys: Optional[Keys]) -> None:
+    """Without keys only loopback addresses are taken."""
+    for address in addresses:
+        if keys is None and not is_loopback(address):
+            raise RoadFault(f"{address} is no loopback address: between machines give keys")
+
+
+def check_keys(me: int, count: int, keys: Keys) -> None:
+    """Each process has a key of its own, and this one the secret to its own."""
+    if len(keys.known) != count or len(set(keys.known)) != count:
+        raise RoadFault("each process needs a key of its own")
+    if zmq.curve_public(keys.secret) != keys.known[me]:
+        raise RoadFault(f"the secret key isn't that of process {me}")
 
 
 class Complaints:
@@ -77,19 +92,15 @@ class Complaints:
 class Road:
     """`send` is called under the node's lock, `receive` by its receiver alone: no socket is in two threads at a time."""
 
+    most_bytes = MOST_BYTES
+
     def __init__(self, me: int, addresses: Sequence[str], keys: Optional[Keys], complain: Complaints):
         self.complain = complain
         self.by_key: Optional[Dict[bytes, bytes]] = None
-        if keys is None:
-            for address in addresses:
-                if not is_loopback(address):
-                    raise RoadFault(f"{address} is no loopback address: between machines give keys")
-        else:
-            if len(keys.known) != len(addresses) or len(set(keys.known)) != len(keys.known):
-                raise RoadFault("each process needs a key of its own")
-            if zmq.curve_public(keys.secret) != keys.known[me]:
-                raise RoadFault(f"the secret key isn't that of process {me}")
-            self.by_key = {_of_z85(key): b"%d" % p for p, key in enumerate(keys.known) if p != me}
+        check_addresses(addresses, keys)
+        if keys is not None:
+            check_keys(me, len(addresses), keys)
+            self.by_key = {of_z85(key): b"%d" % p for p, key in enumerate(keys.known) if p != me}
         self.context = zmq.Context()
         try:
             self._open(me, addresses, keys)
@@ -188,7 +199,7 @@ class Road:
 class LossyRoad:
     """A road for tests: each message is lost, sent twice, kept back behind the next one, or late, as the words of a seed say."""
 
-    def __init__(self, road: Road, seed: int, loss: float = 0.0, duplicates: float = 0.0, reorder: float = 0.0, delay: float = 0.0):
+    def __init__(self, road: Any, seed: int, loss: float = 0.0, duplicates: float = 0.0, reorder: float = 0.0, delay: float = 0.0):
         self.road, self.random = road, random.Random(seed)
         self.loss, self.duplicates, self.reorder, self.delay = loss, duplicates, reorder, delay
         self.kept: Dict[int, bytes] = {}

@@ -1,0 +1,114 @@
+"""Chapters: a cluster that doesn't end, told as one run after another.
+
+A process has at most 65,535 operations, and a run at most 1,048,576 events. So where a node has little room left it asks for the end of the
+chapter. All nodes then call nothing more, until everybody has accepted all that anybody has put: their copies are equal then. Each closes its log
+and begins the next one, and process 0 writes the values that the last chapter ended with, before anybody else calls. So each chapter is a run that
+begins with a memory of zeros, and can be judged by itself; `follows` says whether two in a row are one story.
+
+That a chapter is over is seen by what the nodes tell of themselves (`State`), at whatever times they told it. No node is quiet that calls, so a new
+body can come only of a cast that is accepted; but where everybody has accepted as many bodies as their senders had put, none is left that could be
+accepted. So what holds of the states that were told holds from then on.
+"""
+from typing import Dict, List, NamedTuple, Optional, Sequence, Tuple
+
+_QUIET, _AT_REST = 1, 2
+
+
+class State(NamedTuple):
+    """How far a node has come: whether it calls nothing more in this chapter and has no operation that goes on, whether all its frames are
+    acknowledged, how many bodies it has put for each other node, and how many it has accepted of each process."""
+
+    quiet: bool
+    at_rest: bool
+    put: int
+    accepted: Tuple[int, ...]
+
+    def data(self) -> bytes:
+        flags = _QUIET * self.quiet | _AT_REST * self.at_rest
+        return bytes([flags]) + b"".join(it.to_bytes(8, "big") for it in (self.put, *self.accepted))
+
+    @classmethod
+    def of(cls, data: bytes, processes: int) -> Optional["State"]:
+        """The state that these bytes tell, None where they are none."""
+        if len(data) != 1 + 8 * (1 + processes) or data[0] > _QUIET | _AT_REST:
+            return None
+        put, *accepted = (int.from_bytes(data[at : at + 8], "big") for at in range(1, len(data), 8))
+        return cls(bool(data[0] & _QUIET), bool(data[0] & _AT_REST), put, tuple(accepted))
+
+    def later(self, other: Optional["State"]) -> "State":
+        """The later of two states of one node in one chapter, whose numbers never fall."""
+        if other is None or (self.put + sum(self.accepted), self.quiet, self.at_rest) >= (other.put + sum(other.accepted), other.quiet, other.at_rest):
+            return self
+        return other
+
+
+def is_over(states: Dict[int, State], processes: int) -> bool:
+    """Whether the chapter is over, by what each process told."""
+    if len(states) < processes or not all(it.quiet and it.at_rest for it in states.values()):
+        return False
+    return all(states[q].accepted[p] == states[p].put for p in states for q in states if p != q)
+
+
+def opening_of(values: Sequence[int]) -> List[Tuple[int, int]]:
+    """The registers and values that process 0 writes first in a chapter, where the one before it ended with these values."""
+    return [(register, value) for register, value in enumerate(values) if value != 0]
+
+
+class StoryFault(Exception):
+    """Why reports are no story: the first that doesn't follow the one before it."""
+
+
+class Told(NamedTuple):
+    """What a report tells of a run: its head, the operations by their ids, and the order."""
+
+    head: Tuple[str, ...]
+    names: Tuple[str, ...]
+    operations: Dict[str, List[str]]
+    order: List[str]
+
+
+def told_of(report: bytes) -> Told:
+    """What a report in version 2 tells. It is taken to be one that `check` has accepted."""
+    lines = report.decode("ascii").split("\n")
+    if lines[0] != "awreg report 2":
+        raise StoryFault("no report in version 2")
+    names = tuple(lines[4 : 4 + int(lines[3].split()[1])])
+    at = 4 + len(names)
+    entries = lines[at + 1 : at + 1 + int(lines[at].split()[1])]
+    calls = [it.split() for it in entries if it.split()[3] == "call"]
+    at += 1 + len(entries)
+    order = lines[at + 1 : at + 1 + int(lines[at].split()[1])]
+    return Told(tuple(lines[1:4]), names, {f"{it[1]} {it[2]}": it[4:] for it in calls}, order)
+
+
+def values_after(told: Told) -> List[int]:
+    """The values that the registers have after all operations of the order."""
+    values = dict.fromkeys(told.names, 0)
+    for it in told.order:
+        kind, name, *value = told.operations[it]
+        if kind != "read":
+            values[name] = int(value[0])
+    return list(values.values())
+
+
+def follows(before: bytes, after: bytes) -> None:
+    """Whether two reports are of chapters in a row: of one cluster, and what the second writes first is what the first ended with."""
+    earlier, later = told_of(before), told_of(after)
+    if (earlier.head, earlier.names) != (later.head, later.names):
+        raise StoryFault("another front end, another number of processes, or other registers")
+    opening = opening_of(values_after(earlier))
+    for number, (register, value) in enumerate(opening):
+        id, wanted = f"p0 #{number}", ["write", later.names[register], str(value)]
+        if later.operations.get(id) != wanted:
+            raise StoryFault(f"{id} should be {' '.join(wanted)}, with which the chapter before ended")
+        if later.order[number : number + 1] != [id]:
+            raise StoryFault(f"{id} should be number {number} of the order")
+
+
+def check_story(reports: Sequence[bytes]) -> None:
+    """Whether these reports, in this order, are one story. Each is to be accepted by `check` besides."""
+    for number, (before, after) in enumerate(zip(reports, reports[1:]), 1):
+        try:
+            follows(before, after)
+        except StoryFault as why:
+            raise StoryFault(f"report {number}: {why}") from None

@@ -1,0 +1,175 @@
+"""Tests of clusters that go on in chapters: python3 -m unittest, with TELLWYDAR_LIB set."""
+import os
+import tempfile
+import threading
+import unittest
+
+from tellwydar import check
+from tellwydar.net import LossyRoad, Node, core, merge
+from tellwydar.net.chapters import State, StoryFault, check_story, is_over
+from test_net import free_addresses
+from test_node_programs import COUNT, CALLS, YES, Cluster, wait_until
+
+REPORT = """awreg report 2
+front linear
+processes 1
+registers 2
+x
+y
+history {count}
+{history}order {order}
+{ids}points {order}
+{points}end
+"""
+
+
+def report(*operations):
+    """The report of one process that writes these values to registers, one after another."""
+    history = "".join(
+        f"{at:>8}  p0    #{at:<6}  call    write {name} {value}\n{at:>8}  p0    #{at:<6}  answer  done\n"
+        for at, (name, value) in enumerate(operations)
+    )
+    ids = "".join(f"p0 #{at}\n" for at in range(len(operations)))
+    points = "".join(f"p0 #{at} at {at}\n" for at in range(len(operations)))
+    text = REPORT.format(count=2 * len(operations), history=history, order=len(operations), ids=ids, points=points)
+    return text.encode()
+
+
+class States(unittest.TestCase):
+    def test_they_are_read_as_they_were_told(self):
+        for state in (State(True, False, 2**48, (0, 7, 2**40)), State(False, True, 0, (1, 2, 3))):
+            self.assertEqual(State.of(state.data(), 3), state)
+            self.assertIsNone(State.of(state.data(), 2))
+            self.assertIsNone(State.of(state.data()[:-1], 3))
+            self.assertIsNone(State.of(b"\4" + state.data()[1:], 3))
+
+    def test_the_later_one_counts_in_whatever_order_they_come(self):
+        states = [State(False, True, 0, (0, 0)), State(False, False, 1, (0, 0)), State(True, False, 1, (0, 1)), State(True, True, 1, (0, 1))]
+        for earlier, later in zip(states, states[1:]):
+            self.assertEqual(later.later(earlier), later)
+            self.assertEqual(earlier.later(later), later)
+
+    def test_a_chapter_is_over_where_all_is_accepted(self):
+        over = {0: State(True, True, 2, (0, 1)), 1: State(True, True, 1, (2, 0))}
+        self.assertTrue(is_over(over, 2))
+        self.assertFalse(is_over({0: over[0]}, 2))
+        for other in (State(False, True, 1, (2, 0)), State(True, False, 1, (2, 0)), State(True, True, 1, (1, 0)), State(True, True, 2, (2, 0))):
+            self.assertFalse(is_over({0: over[0], 1: other}, 2), other)
+
+
+class Stories(unittest.TestCase):
+    def refused(self, why, *reports):
+        with self.assertRaises(StoryFault) as told:
+            check_story(reports)
+        self.assertIn(why, str(told.exception))
+
+    def test_reports_by_hand_are_accepted_by_check(self):
+        self.assertEqual(check(report(("x", 5), ("y", 6))).answer, b"serial yes\npoints yes\n")
+
+    def test_what_a_chapter_ends_with_is_written_first_in_the_next(self):
+        first = report(("x", 5), ("y", 6), ("x", 7))
+        check_story([first, report(("x", 7), ("y", 6), ("x", 8)), report(("x", 8), ("y", 6))])
+        self.refused("report 1: p0 #0 should be write x 7", first, report(("x", 5), ("y", 6)))
+        self.refused("report 1: p0 #1 should be write y 6", first, report(("x", 7)))
+        self.refused("report 2: p0 #0 should be write x 7", first, report(("x", 7), ("y", 6)), report(("y", 6), ("x", 7)))
+        self.refused("other registers", first, report(("x", 7), ("y", 6)).replace(b"\ny\n", b"\nz\n").replace(b" y ", b" z "))
+
+    def test_a_register_that_is_0_is_not_written(self):
+        check_story([report(("x", 5), ("x", 0), ("y", 6)), report(("y", 6))])
+
+    def test_what_comes_before_the_opening_is_refused(self):
+        text = report(("x", 5), ("y", 6)).replace(b"p0 #0\np0 #1\n", b"p0 #1\np0 #0\n")
+        self.refused("p0 #0 should be number 0 of the order", report(("x", 5)), text)
+
+
+class Clusters(unittest.TestCase):
+    def setUp(self):
+        self.folder, self.said = tempfile.TemporaryDirectory(), []
+
+    def tearDown(self):
+        self.folder.cleanup()
+
+    def path(self, p, chapter):
+        return os.path.join(self.folder.name, f"{p}.log" + (f".{chapter}" if chapter else ""))
+
+    def reports(self, count):
+        """The report of each chapter that all nodes have begun."""
+        found, chapter = [], 0
+        while all(os.path.exists(self.path(p, chapter)) for p in range(count)):
+            status, text, fault = merge.merge([self.path(p, chapter) for p in range(count)], self.said.append)
+            self.assertEqual((status, fault), (0, b""), chapter)
+            found.append(text)
+            chapter += 1
+        return found
+
+    def play(self, front, count, calls, lossy=None):
+        addresses, answers = free_addresses(count), {}
+        nodes = [
+            Node(front, ["x", "y"], p, addresses, None, self.path(p, 0), say=self.said.append, lossy=lossy, chapter_operations=8) for p in range(count)
+        ]
+
+        def perform(p):
+            for k in range(calls):
+                nodes[p].write("xy"[k % 2], p * 1000 + k + 1, 60)
+                answers[p, k] = nodes[p].read("xy"[k % 2], 60)
+
+        threads = [threading.Thread(target=perform, args=(p,)) for p in range(count)]
+        for it in threads:
+            it.start()
+        for it in threads:
+            it.join()
+        for it in nodes:
+            it.close()
+        return answers
+
+    def test_a_cluster_goes_on_in_chapters(self):
+        for front in core.FRONTS:
+            answers = self.play(front, 3, 20)
+            self.assertEqual(len(answers), 60)
+            reports = self.reports(3)
+            # 120 operations, at most 9 of a process in a chapter
+            self.assertGreaterEqual(len(reports), 5)
+            check_story(reports)
+            for text in reports:
+                self.assertEqual(check(text).answer, YES[front])
+            self.tearDown()
+            self.setUp()
+
+    def test_one_node_alone(self):
+        answers = self.play("linear", 1, 20)
+        self.assertEqual([answers[0, k] for k in range(20)], list(range(1, 21)))
+        check_story(self.reports(1))
+
+    def test_over_a_road_that_loses_repeats_and_reorders(self):
+        self.play("local-read", 3, 12, lambda road: LossyRoad(road, 3, 0.2, 0.1, 0.2, 0.001))
+        check_story(self.reports(3))
+
+
+class Programs(unittest.TestCase):
+    def test_a_node_that_was_killed_resumes_in_its_chapter(self):
+        for front in YES:
+            with tempfile.TemporaryDirectory() as folder:
+                cluster = Cluster(folder, front, 2, "chapter_operations = 3\n")
+                for me in range(COUNT):
+                    cluster.start(me)
+                wait_until(lambda: len(cluster.answers(1)) > 2)
+                cluster.kill(1)
+                cluster.start(1, "--resume")
+                ended = wait_until(cluster.has_ended)
+                cluster.close()
+                self.assertTrue(ended)
+                reports = []
+                while os.path.exists(cluster.log(0, len(reports))):
+                    told = cluster.merged(len(reports))
+                    self.assertEqual((told.returncode, told.stderr), (0, b""))
+                    self.assertEqual(check(told.stdout).answer, YES[front])
+                    reports.append(told.stdout)
+                self.assertGreater(len(reports), 1)
+                check_story(reports)
+                openings = sum(len([it for it in (b"x", b"y") if b" call    write " + it in text]) for text in reports[1:])
+                self.assertGreaterEqual(sum(it.count(b" call ") for it in reports), COUNT * CALLS)
+                self.assertLessEqual(sum(it.count(b" call ") for it in reports), COUNT * CALLS + openings)
+
+
+if __name__ == "__main__":
+    unittest.main()
