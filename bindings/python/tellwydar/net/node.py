@@ -50,7 +50,16 @@ class Closed(Exception):
 
 
 class Node:
-    """States: up, with no operation, with one going on, or with an answer to be fetched; closed; failed. None of the last two is left."""
+    """One process of a cluster on a machine of its own.
+
+    `front` and `registers` (names) are the same at all nodes, and so are `peers`: an address for each process, `tcp://HOST:PORT` or
+    `udp://HOST:PORT`, of which `me` is this one's. `keys` are needed for addresses that aren't loopback. `log_path` is a new file, or with
+    `resume` the log of this process, which goes on. With `sync` each entry is on the disk before its frames go out. `look` are the seconds between
+    two looks at the links. A chapter ends where this process has called `chapter_operations`, or all logs together could have
+    `chapter_entries`. `lossy` puts a road for tests around the real one, and `say` is given each line about what is odd.
+
+    States: up, with no operation, with one going on, or with an answer to be fetched; closed; failed. None of the last two is left.
+    """
 
     def __init__(self, front: str, registers: Sequence[str], me: int, peers: Sequence[str], keys: Optional[Keys], log_path: str, *,
                  sync: bool = False, look: float = 0.01, resume: bool = False,
