@@ -1,3 +1,2 @@
-pub mod Playable
 pub mod Sending
 pub mod Shown
