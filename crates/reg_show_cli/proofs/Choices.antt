@@ -22,7 +22,7 @@ use Rattle.reg_show_cli.specs.Words.{awshow, told_of}
 use Rattle.reg_show_cli.specs.Lines.{IsAnswer, IsCommandLine, IsHelpLine, is_fair, line_of, name_of}
 use Rattle.reg_show_cli.proofs.Lines.{awshow_lines, no_name, subs}
 use Rattle.reg_show_cli.specs.declared.words.Asked.{Asked}
-use Rattle.reg_show_cli.specs.declared.words.Asked.TheVariants.{AllOutcomes, Help, Outcomes, Show, Version, Why}
+use Rattle.reg_show_cli.specs.declared.words.Asked.TheVariants.{AllOutcomes, Help, Outcome, Outcomes, Show, Version, Why}
 use Rattle.reg_args.specs.declared.faults.WordsFault.{WordsFault}
 use Rattle.reg_args.specs.declared.faults.WordsFault.TheVariants.{CommandLine, OutOfMemory}
 
@@ -156,6 +156,11 @@ never_all DisplayHelp e = cc
 never_all NoMemory e = cc
 never_all _ e = cc
 
+never_one : (k : ErrorKind) (number : ℕ) → told_of k ≡ Ok (Outcome number) → ⊥
+never_one DisplayHelp number e = cc
+never_one NoMemory number e = cc
+never_one _ number e = cc
+
 only_help : (k : ErrorKind) → told_of k ≡ Ok Help → k ≡ DisplayHelp
 only_help DisplayHelp e = refl
 only_help NoMemory e = cc
@@ -184,6 +189,7 @@ refused words error memory kinds = go (told_of (kind_of error)) refl
     go (Ok (Show showing)) is = absurd (never_shown (kind_of error) showing is)
     go (Ok (Outcomes plays)) is = absurd (never_counted (kind_of error) plays is)
     go (Ok AllOutcomes) is = absurd (never_all (kind_of error) is)
+    go (Ok (Outcome number)) is = absurd (never_one (kind_of error) number is)
     go (Ok Why) is = absurd (never_asked (kind_of error) is)
     go (Ok Version) is = absurd (never_named (kind_of error) is)
     go (Ok Help) is = (shows_nothing (Ok Help) is (λ e. cc), asked is)

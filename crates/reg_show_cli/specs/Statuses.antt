@@ -13,10 +13,13 @@ use Rattle.reg_every.specs.declared.every.AllFault.{AllFault}
 use Rattle.reg_every.specs.declared.every.AllFault.TheVariants.{Command as AllCommand}
 use Rattle.reg_show.specs.declared.faults.ShowFault.{ShowFault}
 use Rattle.reg_show.specs.declared.faults.ShowFault.TheVariants.{Command}
+use Rattle.reg_show.specs.OneOutcome.{BlamesOutcome, WritesOutcome, outcome_line}
 use Rattle.reg_show.specs.Outcomes.{WritesOutcomes}
+use Rattle.reg_show.specs.declared.one_outcome.OutcomeFault.{OutcomeFault}
+use Rattle.reg_show.specs.declared.one_outcome.OutcomeFault.TheVariants.{Command as OutcomeCommand}
 use Rattle.reg_show.specs.Showings.{Blames, Shows, show_line}
 use Rattle.reg_show_cli.specs.declared.words.Asked.{Asked}
-use Rattle.reg_show_cli.specs.declared.words.Asked.TheVariants.{AllOutcomes, Help, Outcomes, Show, Version, Why}
+use Rattle.reg_show_cli.specs.declared.words.Asked.TheVariants.{AllOutcomes, Help, Outcome, Outcomes, Show, Version, Why}
 use Rattle.reg_show.specs.Tellings.{Answers, AnswersAny, Halts}
 
 -- Status 0: what was asked for was shown of the input, the input is accepted and that was written, or the text of the help or of the version was written. `Wrote` says how a text was written.
@@ -24,6 +27,7 @@ abbrev pub Obeys : List ℕ → List ℕ → Asked → Option (List ℕ) → (Li
 Obeys help version (Show showing) input Wrote = IfSome input (λ xs. length xs ≤ LONGEST_INPUT) × IfSome input (Shows showing Wrote)
 Obeys help version (Outcomes plays) input Wrote = IfSome input (λ xs. length xs ≤ LONGEST_INPUT) × IfSome input (WritesOutcomes plays Wrote)
 Obeys help version AllOutcomes input Wrote = IfSome input (λ xs. length xs ≤ LONGEST_INPUT) × IfSome input (WritesAll Wrote)
+Obeys help version (Outcome number) input Wrote = IfSome input (λ xs. length xs ≤ LONGEST_INPUT) × IfSome input (WritesOutcome number Wrote)
 Obeys help version Why input Wrote = IfSome input (λ xs. length xs ≤ LONGEST_INPUT) × IfSome input (Answers true Wrote)
 Obeys help version Help input Wrote = Wrote help
 Obeys help version Version input Wrote = Wrote version
@@ -38,6 +42,8 @@ Stops (Outcomes plays) input unwritten old new was is =
     (f : Fault) × IfSome input (BlamesCommand (Play false) f) × (f ≢ Output → unwritten) × (f ≡ Output → IfSome input (WritesOutcomes plays (AppendsPart old new))) × AppendsPart was is (fault_line f)
 Stops AllOutcomes input unwritten old new was is =
     (f : AllFault) × IfSome input (BlamesAll f) × (f ≢ AllCommand Output → unwritten) × (f ≡ AllCommand Output → IfSome input (WritesAll (AppendsPart old new))) × AppendsPart was is (all_line f)
+Stops (Outcome number) input unwritten old new was is =
+    (f : OutcomeFault) × IfSome input (BlamesOutcome number f) × (f ≢ OutcomeCommand Output → unwritten) × (f ≡ OutcomeCommand Output → IfSome input (WritesOutcome number (AppendsPart old new))) × AppendsPart was is (outcome_line f)
 Stops Why input unwritten old new was is =
     (IfSome input (Answers false (Appends old new)) × (was ≡ is))
     ⊎ ((f : Fault) × IfSome input (Halts f) × (f ≢ Output → unwritten) × (f ≡ Output → IfSome input (AnswersAny (AppendsPart old new))) × AppendsPart was is (fault_line f))
@@ -49,6 +55,7 @@ abbrev pub Tells : Asked → Option (List ℕ) → Option (List ℕ) → Type 0
 Tells (Show showing) was is = (f : ShowFault) × AppendsPart was is (show_line f)
 Tells (Outcomes plays) was is = (f : Fault) × AppendsPart was is (fault_line f)
 Tells AllOutcomes was is = (f : AllFault) × AppendsPart was is (all_line f)
+Tells (Outcome number) was is = (f : OutcomeFault) × AppendsPart was is (outcome_line f)
 Tells Why was is = (was ≡ is) ⊎ ((f : Fault) × AppendsPart was is (fault_line f))
 Tells Help was is = AppendsPart was is (fault_line Output)
 Tells Version was is = AppendsPart was is (fault_line Output)

@@ -21,6 +21,8 @@ pub enum Asked {
     Outcomes { plays: u32 },
     /// To print all outcomes that the scripts of the workload on the input can have.
     AllOutcomes,
+    /// To print the schedule of a run with the outcome of this number among these.
+    Outcome { number: u32 },
     /// To tell what is wrong with the text on the input.
     Why,
     /// How the program is used.
@@ -39,6 +41,7 @@ Shows what processes that share registers do. Each command reads standard input.
 usage: awshow schedule [--fair]      reads a workload, prints the schedule of its play
        awshow outcomes [--plays N]   reads a workload, prints what N plays of it answer, counted
        awshow outcomes --all         reads a workload, prints all that it may answer, and what it never does
+       awshow outcomes --all K       reads a workload, prints the schedule of a run that answers the K-th of these
        awshow trace                  reads a schedule, prints what happens, event by event
        awshow draw                   reads a schedule, prints its space-time diagram as SVG
        awshow data                   reads a schedule, prints its run as JSON

@@ -5,7 +5,7 @@ use std::alloc::Global;
 use std::process::Abort;
 
 /// Each line, and what it asks for.
-const LINES: [(&str, Result<Asked, WordsFault>); 42] = [
+const LINES: [(&str, Result<Asked, WordsFault>); 46] = [
     (
         "schedule",
         Ok(Asked::Show {
@@ -37,7 +37,16 @@ const LINES: [(&str, Result<Asked, WordsFault>); 42] = [
         Ok(Asked::Outcomes { plays: 1_000_000 }),
     ),
     ("outcomes --all", Ok(Asked::AllOutcomes)),
-    ("outcomes --all 3", Err(WordsFault::CommandLine)),
+    ("outcomes --all 1", Ok(Asked::Outcome { number: 1 })),
+    (
+        "outcomes --all 4294967295",
+        Ok(Asked::Outcome {
+            number: 4_294_967_295,
+        }),
+    ),
+    ("outcomes --all 0", Err(WordsFault::CommandLine)),
+    ("outcomes --all 4294967296", Err(WordsFault::CommandLine)),
+    ("outcomes --all 3 3", Err(WordsFault::CommandLine)),
     ("outcomes --plays --all", Err(WordsFault::CommandLine)),
     (
         "data",
@@ -110,6 +119,6 @@ fn is_told(alloc: Global, status: u8, line: &str) -> bool {
 #[test]
 fn a_refused_command_line_is_told_by_a_usage_line(rt: HostRuntime) {
     let usage =
-        "usage: awshow schedule [--fair] | outcomes [--all | --plays N] | trace | draw | data | page | rest | why\n";
+        "usage: awshow schedule [--fair] | outcomes [--all [K] | --plays N] | trace | draw | data | page | rest | why\n";
     assert!(rt; is_told(rt.alloc(), 2, usage));
 }

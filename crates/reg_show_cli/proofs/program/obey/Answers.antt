@@ -24,3 +24,9 @@ returns-in-Why-clause-obeyed g c = search rules
 
 pub returns-in-Why-clause-stopped : goal.returns-in-Why-clause-stopped
 returns-in-Why-clause-stopped g c = search rules
+
+pub returns-in-Outcome-clause-obeyed : goal.returns-in-Outcome-clause-obeyed
+returns-in-Outcome-clause-obeyed g c = search rules
+
+pub returns-in-Outcome-clause-stopped : goal.returns-in-Outcome-clause-stopped
+returns-in-Outcome-clause-stopped g c = search rules
