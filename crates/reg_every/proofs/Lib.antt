@@ -1,3 +1,4 @@
 pub mod Playable
 pub mod Sending
 pub mod Shown
+pub mod Reordering

@@ -14,7 +14,7 @@ use crate::asking::ask;
 use crate::words::{Asked, HELP, VERSION};
 use reg_args::{WordsFault, tell, words_of};
 use reg_commands::{Fault, write_fault};
-use reg_every::show_all_outcomes;
+use reg_every::{find_order, show_all_outcomes};
 use reg_show::{show_outcomes, show_text, why_text};
 use reg_text::write_bytes;
 use std::io::{self, BufWriter, Read, Write};
@@ -58,6 +58,7 @@ fn obey<R: AllocGlobal, I: Read, O: Write, E: Write>(
             show_outcomes(rt.alloc(), rt.alloc(), plays, reader, writer, errors)
         }
         Asked::AllOutcomes => show_all_outcomes(rt.alloc(), rt.alloc(), reader, writer, errors),
+        Asked::Find { kind } => find_order(rt.alloc(), kind, reader, writer, errors),
         Asked::Why => why_text(rt.alloc(), rt.alloc(), reader, writer, errors),
     }
 }
@@ -70,7 +71,7 @@ pub fn refuse<E: Write>(fault: WordsFault, errors: &mut E) -> u8
 {
     tell(
         fault,
-        b"usage: awshow schedule [--fair] | outcomes [--all | --plays N] | trace | draw | data | page | rest | why\n",
+        b"usage: awshow schedule [--fair] | outcomes [--all | --plays N] | find serial | find points | trace | draw | data | page | rest | why\n",
         errors,
     )
 }

@@ -11,6 +11,8 @@ mod lines;
 #[cfg(test)]
 mod litmus;
 #[cfg(test)]
+mod orders_shown;
+#[cfg(test)]
 mod rests_shown;
 #[cfg(test)]
 mod run_data;

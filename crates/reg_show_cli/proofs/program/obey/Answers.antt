@@ -24,3 +24,9 @@ returns-in-Why-clause-obeyed g c = search rules
 
 pub returns-in-Why-clause-stopped : goal.returns-in-Why-clause-stopped
 returns-in-Why-clause-stopped g c = search rules
+
+pub returns-in-Find-clause-obeyed : goal.returns-in-Find-clause-obeyed
+returns-in-Find-clause-obeyed g c = search rules
+
+pub returns-in-Find-clause-stopped : goal.returns-in-Find-clause-stopped
+returns-in-Find-clause-stopped g c = search rules
