@@ -8,8 +8,10 @@ use Rattle.std.proofs.lemmas.Option.{same_Some}
 use Rattle.clap.specs.Words.{Text}
 use Rattle.reg_outcomes.specs.declared.plays.TheConstants.{MOST_PLAYS}
 use Rattle.reg_show_cli.specs.declared.words.Asked.{Asked}
-use Rattle.reg_show_cli.specs.declared.words.Asked.TheVariants.{AllOutcomes, Help, Outcome, Outcomes, Show, Version, Why}
-use Rattle.reg_show_cli.specs.Lines.{IsAllLine, IsAnswer, IsChoice, IsNumberedLine, IsOneOutcomeLine, IsOutcomesLine, IsVersionLine, IsWhyLine, NumbersFit}
+use Rattle.reg_show_cli.specs.declared.words.Asked.TheVariants.{AllOutcomes, Find, Help, Outcome, Outcomes, Show, Version, Why}
+use Rattle.reg_interleavings.specs.declared.kinds.OrderKind.{OrderKind}
+use Rattle.reg_interleavings.specs.declared.kinds.OrderKind.TheVariants.{Serial, Points}
+use Rattle.reg_show_cli.specs.Lines.{IsAllLine, IsAnswer, IsChoice, IsFindLine, IsNumberedLine, IsOneOutcomeLine, IsOutcomesLine, IsVersionLine, IsWhyLine, NumbersFit}
 use Rattle.reg_args.specs.declared.faults.WordsFault.{WordsFault}
 use Rattle.reg_args.specs.declared.faults.WordsFault.TheVariants.{CommandLine, OutOfMemory}
 
@@ -93,16 +95,17 @@ said_plays line None more none = λ plays asked. elim asked [ inl usual ↦ more
 said_plays line (Some plays) more said = inr said
 
 -- what clap reads of other lines is what they ask for
-pub chosen : (line : List Text) (r : Result Asked WordsFault) → ((plays : ℕ) → ¬ IsOutcomesLine line plays) → ¬ IsWhyLine line → ¬ IsVersionLine line → ¬ IsAllLine line → ((number : ℕ) → ¬ IsOneOutcomeLine line number) → IsAnswer line r → IsChoice line r
-chosen line (Ok (Show showing)) other none unnamed part one h = h
-chosen line (Ok (Outcomes plays)) other none unnamed part one h = absurd h
-chosen line (Ok AllOutcomes) other none unnamed part one h = absurd h
-chosen line (Ok (Outcome number)) other none unnamed part one h = absurd h
-chosen line (Ok Why) other none unnamed part one h = absurd h
-chosen line (Ok Version) other none unnamed part one h = absurd h
-chosen line (Ok Help) other none unnamed part one h = (λ asked. elim asked [ inl shown ↦ h.0 shown | inr (inl (plays, counted)) ↦ other plays counted | inr (inr (inl why)) ↦ none why | inr (inr (inr (inl version))) ↦ unnamed version | inr (inr (inr (inr (inl every)))) ↦ part every | inr (inr (inr (inr (inr (number, named))))) ↦ one number named ], h.1)
-chosen line (Err CommandLine) other none unnamed part one h = (λ asked. elim asked [ inl shown ↦ h.0 shown | inr (inl (plays, counted)) ↦ other plays counted | inr (inr (inl why)) ↦ none why | inr (inr (inr (inl version))) ↦ unnamed version | inr (inr (inr (inr (inl every)))) ↦ part every | inr (inr (inr (inr (inr (number, named))))) ↦ one number named ], h.1)
-chosen line (Err OutOfMemory) other none unnamed part one h = tt
+pub chosen : (line : List Text) (r : Result Asked WordsFault) → ((plays : ℕ) → ¬ IsOutcomesLine line plays) → ¬ IsWhyLine line → ¬ IsVersionLine line → ¬ IsAllLine line → ((number : ℕ) → ¬ IsOneOutcomeLine line number) → ((kind : OrderKind) → ¬ IsFindLine line kind) → IsAnswer line r → IsChoice line r
+chosen line (Ok (Show showing)) other none unnamed part one unfound h = h
+chosen line (Ok (Outcomes plays)) other none unnamed part one unfound h = absurd h
+chosen line (Ok AllOutcomes) other none unnamed part one unfound h = absurd h
+chosen line (Ok (Outcome number)) other none unnamed part one unfound h = absurd h
+chosen line (Ok (Find kind)) other none unnamed part one unfound h = absurd h
+chosen line (Ok Why) other none unnamed part one unfound h = absurd h
+chosen line (Ok Version) other none unnamed part one unfound h = absurd h
+chosen line (Ok Help) other none unnamed part one unfound h = (λ asked. elim asked [ inl shown ↦ h.0 shown | inr (inl (plays, counted)) ↦ other plays counted | inr (inr (inl why)) ↦ none why | inr (inr (inr (inl version))) ↦ unnamed version | inr (inr (inr (inr (inl every)))) ↦ part every | inr (inr (inr (inr (inr (inl (number, named)))))) ↦ one number named | inr (inr (inr (inr (inr (inr (kind, found)))))) ↦ unfound kind found ], h.1)
+chosen line (Err CommandLine) other none unnamed part one unfound h = (λ asked. elim asked [ inl shown ↦ h.0 shown | inr (inl (plays, counted)) ↦ other plays counted | inr (inr (inl why)) ↦ none why | inr (inr (inr (inl version))) ↦ unnamed version | inr (inr (inr (inr (inl every)))) ↦ part every | inr (inr (inr (inr (inr (inl (number, named)))))) ↦ one number named | inr (inr (inr (inr (inr (inr (kind, found)))))) ↦ unfound kind found ], h.1)
+chosen line (Err OutOfMemory) other none unnamed part one unfound h = tt
 
 -- a word stands alone just where there are two, and the second one is that
 pub alone_length : (ws : List Text) (word : Text) → drop 1 ws ≡ word ∷ [] → length ws ≡ 2
@@ -111,12 +114,20 @@ alone_length ws word e = let n = long_as ws (word ∷ []) word [] e refl in omeg
 pub alone_named : (ws : List Text) (word : Text) → drop 1 ws ≡ word ∷ [] → slice_get ws 1 ≡ Some word
 alone_named ws word e = word_at ws (word ∷ []) 0 word e refl
 
--- so do the words that ask for all outcomes
-pub all_length : (ws : List Text) → IsAllLine (drop 1 ws) → length ws ≡ 3
-all_length ws e = let n = long_as ws (codes "outcomes" ∷ codes "--all" ∷ []) (codes "outcomes") (codes "--all" ∷ []) e refl in omega (arith, n)
+-- so do two words
+pub two_length : (ws : List Text) (x y : Text) → drop 1 ws ≡ x ∷ y ∷ [] → length ws ≡ 3
+two_length ws x y e = let n = long_as ws (x ∷ y ∷ []) x (y ∷ []) e refl in omega (arith, n)
 
-pub all_word : (ws : List Text) (k : ℕ) (x : Text) → slice_get (codes "outcomes" ∷ codes "--all" ∷ []) k ≡ Some x → IsAllLine (drop 1 ws) → slice_get ws (suc k) ≡ Some x
-all_word ws k x at e = word_at ws (codes "outcomes" ∷ codes "--all" ∷ []) k x e at
+pub first_word : (ws : List Text) (x y : Text) → drop 1 ws ≡ x ∷ y ∷ [] → slice_get ws 1 ≡ Some x
+first_word ws x y e = word_at ws (x ∷ y ∷ []) 0 x e refl
+
+pub second_word : (ws : List Text) (x y : Text) → drop 1 ws ≡ x ∷ y ∷ [] → slice_get ws 2 ≡ Some y
+second_word ws x y e = word_at ws (x ∷ y ∷ []) 1 y e refl
+
+-- no order is asked for where neither is
+pub no_order : (line : List Text) → ¬ IsFindLine line Serial → ¬ IsFindLine line Points → (kind : OrderKind) → ¬ IsFindLine line kind
+no_order line serial points Serial h = serial h
+no_order line serial points Points h = points h
 
 -- the numbers of what is asked for fit
 pub numbers_fit : (line : List Text) (asked : Asked) → IsChoice line (Ok asked) → NumbersFit asked
@@ -125,6 +136,7 @@ numbers_fit line (Outcomes plays) (inl (e, u)) = omega (arith, u)
 numbers_fit line (Outcomes plays) (inr (e, low, high)) = high
 numbers_fit line AllOutcomes h = tt
 numbers_fit line (Outcome number) h = h.1
+numbers_fit line (Find kind) h = tt
 numbers_fit line Why h = tt
 numbers_fit line Help h = tt
 numbers_fit line Version h = tt

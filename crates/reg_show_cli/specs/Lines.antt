@@ -7,9 +7,11 @@ use Rattle.reg_outcomes.specs.declared.plays.TheConstants.{MOST_PLAYS}
 use Rattle.reg_show.specs.declared.Showing.{Showing}
 use Rattle.reg_show.specs.declared.Showing.TheVariants.{Data, Draw, Page, Rest, Schedule, Trace}
 use Rattle.reg_args.specs.Lines.{may_ask_help, named_line}
+use Rattle.reg_interleavings.specs.declared.kinds.OrderKind.{OrderKind}
+use Rattle.reg_interleavings.specs.declared.kinds.OrderKind.TheVariants.{Serial, Points}
 use Rattle.reg_show_cli.specs.declared.asking.TheConstants.{LAST_OUTCOME, USUAL_PLAYS}
 use Rattle.reg_show_cli.specs.declared.words.Asked.{Asked}
-use Rattle.reg_show_cli.specs.declared.words.Asked.TheVariants.{AllOutcomes, Help, Outcome, Outcomes, Show, Version, Why}
+use Rattle.reg_show_cli.specs.declared.words.Asked.TheVariants.{AllOutcomes, Find, Help, Outcome, Outcomes, Show, Version, Why}
 use Rattle.reg_args.specs.declared.faults.WordsFault.{WordsFault}
 use Rattle.reg_args.specs.declared.faults.WordsFault.TheVariants.{CommandLine, OutOfMemory}
 
@@ -60,9 +62,18 @@ IsAllLine line = line ≡ codes "outcomes" ∷ codes "--all" ∷ []
 abbrev pub IsOneOutcomeLine : List Text → ℕ → Type 0
 IsOneOutcomeLine line number = IsNumberedLine (codes "--all") LAST_OUTCOME line number
 
+-- the word for an order
+abbrev pub order_word : OrderKind → Text
+order_word Serial = codes "serial"
+order_word Points = codes "points"
+
+-- the words ask to find an order of this kind
+abbrev pub IsFindLine : List Text → OrderKind → Type 0
+IsFindLine line kind = line ≡ codes "find" ∷ order_word kind ∷ []
+
 -- the words ask for one of these
 abbrev pub IsAskedLine : List Text → Type 0
-IsAskedLine line = IsCommandLine line ⊎ (((plays : ℕ) × IsOutcomesLine line plays) ⊎ (IsWhyLine line ⊎ (IsVersionLine line ⊎ (IsAllLine line ⊎ ((number : ℕ) × IsOneOutcomeLine line number)))))
+IsAskedLine line = IsCommandLine line ⊎ (((plays : ℕ) × IsOutcomesLine line plays) ⊎ (IsWhyLine line ⊎ (IsVersionLine line ⊎ (IsAllLine line ⊎ (((number : ℕ) × IsOneOutcomeLine line number) ⊎ ((kind : OrderKind) × IsFindLine line kind))))))
 
 -- the words ask for help by a flag alone
 abbrev pub IsHelpLine : List Text → Type 0
@@ -75,6 +86,7 @@ IsAnswer line (Ok (Show showing)) = line ≡ line_of showing
 IsAnswer line (Ok (Outcomes plays)) = ⊥
 IsAnswer line (Ok AllOutcomes) = ⊥
 IsAnswer line (Ok (Outcome number)) = ⊥
+IsAnswer line (Ok (Find kind)) = ⊥
 IsAnswer line (Ok Why) = ⊥
 IsAnswer line (Ok Version) = ⊥
 IsAnswer line (Ok Help) = ¬ IsCommandLine line × (list_any may_ask_help line ≡ true)
@@ -88,6 +100,7 @@ IsChoice line (Ok (Show showing)) = line ≡ line_of showing
 IsChoice line (Ok (Outcomes plays)) = IsOutcomesLine line plays
 IsChoice line (Ok AllOutcomes) = IsAllLine line
 IsChoice line (Ok (Outcome number)) = IsOneOutcomeLine line number
+IsChoice line (Ok (Find kind)) = IsFindLine line kind
 IsChoice line (Ok Why) = IsWhyLine line
 IsChoice line (Ok Version) = IsVersionLine line
 IsChoice line (Ok Help) = ¬ IsAskedLine line × (list_any may_ask_help line ≡ true)
@@ -102,4 +115,4 @@ NumbersFit _ = ⊤
 
 -- the line for words that ask for nothing, with its line feed
 abbrev pub refused_line : List ℕ
-refused_line = codes "usage: awshow schedule [--fair] | outcomes [--all [K] | --plays N] | trace | draw | data | page | rest | why" ++ 10 ∷ []
+refused_line = codes "usage: awshow schedule [--fair] | outcomes [--all [K] | --plays N] | find serial | find points | trace | draw | data | page | rest | why" ++ 10 ∷ []

@@ -4,10 +4,12 @@
 ghost use Rattle.std.specs.Prelude.{◌≡◌, ◌≤◌, ◌↔◌, ◌∷◌, [], ℕ, IfSome, MatchOption, Some, codes, length, map, true, slice_get, string_bytes};
 ghost use Rattle.std.specs.Fmt.{decimal};
 ghost use Rattle.reg_args.specs.Lines.{behind_name};
-ghost use Rattle.reg_show_cli.specs.Lines.{IsAllLine, IsChoice, IsNumberedLine, IsOutcomesLine};
+ghost use Rattle.reg_interleavings.specs.declared.kinds.OrderKind.{OrderKind as AnyKind};
+ghost use Rattle.reg_show_cli.specs.Lines.{IsAllLine, IsChoice, IsFindLine, IsNumberedLine, IsOutcomesLine};
 
 use crate::words::{Asked, choose};
 use reg_args::WordsFault;
+use reg_interleavings::OrderKind;
 use reg_show::MOST_PLAYS;
 use reg_text::numeral_within;
 use std::alloc::Global;
@@ -56,17 +58,37 @@ fn number_flagged(words: &[String], flag: &str, most: u32) -> Option<u32>
     number_of(words[3].as_str(), most)
 }
 
-/// Whether the words ask for all outcomes.
-fn asks_all(words: &[String]) -> bool
-    ensures { result ≡ true ↔ IsAllLine (behind_name words.now) }
+/// Whether these two words stand after the program's name.
+fn are_two(words: &[String], first: &str, second: &str) -> bool
+    ensures { result ≡ true ↔ behind_name words.now ≡ first.now ∷ second.now ∷ [] }
 {
     if words.len() != 3 {
         return false;
     }
-    if !is_at(words, 1, "outcomes") {
+    if !is_at(words, 1, first) {
         return false;
     }
-    is_at(words, 2, "--all")
+    is_at(words, 2, second)
+}
+
+/// Whether the words ask for all outcomes.
+fn asks_all(words: &[String]) -> bool
+    ensures { result ≡ true ↔ IsAllLine (behind_name words.now) }
+{
+    are_two(words, "outcomes", "--all")
+}
+
+/// Which order of a history the words ask to find, and None where they ask for none.
+fn order_asked(words: &[String]) -> Option<OrderKind>
+    ensures { MatchOption result ((kind : AnyKind) → ¬ IsFindLine (behind_name words.now) kind) (IsFindLine (behind_name words.now)) }
+{
+    if are_two(words, "find", "serial") {
+        return Some(OrderKind::Serial);
+    }
+    if are_two(words, "find", "points") {
+        return Some(OrderKind::Points);
+    }
+    None
 }
 
 /// Whether this word alone stands after the program's name.
@@ -104,6 +126,9 @@ pub fn ask(alloc: Global, words: &[String]) -> Result<Asked, WordsFault>
     }
     if let Some(number) = number_flagged(words, "--all", LAST_OUTCOME) {
         return Ok(Asked::Outcome { number });
+    }
+    if let Some(kind) = order_asked(words) {
+        return Ok(Asked::Find { kind });
     }
     match plays_asked(words) {
         Some(plays) => Ok(Asked::Outcomes { plays }),

@@ -14,7 +14,7 @@ use crate::asking::ask;
 use crate::words::{Asked, HELP, VERSION};
 use reg_args::{WordsFault, tell, words_of};
 use reg_commands::{Fault, write_fault};
-use reg_every::show_all_outcomes;
+use reg_every::{find_order, show_all_outcomes};
 use reg_show::{show_outcome, show_outcomes, show_text, why_text};
 use reg_text::write_bytes;
 use std::io::{self, BufWriter, Read, Write};
@@ -61,6 +61,7 @@ fn obey<R: AllocGlobal, I: Read, O: Write, E: Write>(
         Asked::Outcome { number } => {
             show_outcome(rt.alloc(), rt.alloc(), number, reader, writer, errors)
         }
+        Asked::Find { kind } => find_order(rt.alloc(), kind, reader, writer, errors),
         Asked::Why => why_text(rt.alloc(), rt.alloc(), reader, writer, errors),
     }
 }
@@ -73,7 +74,7 @@ pub fn refuse<E: Write>(fault: WordsFault, errors: &mut E) -> u8
 {
     tell(
         fault,
-        b"usage: awshow schedule [--fair] | outcomes [--all [K] | --plays N] | trace | draw | data | page | rest | why\n",
+        b"usage: awshow schedule [--fair] | outcomes [--all [K] | --plays N] | find serial | find points | trace | draw | data | page | rest | why\n",
         errors,
     )
 }

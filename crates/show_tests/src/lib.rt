@@ -13,6 +13,8 @@ mod litmus;
 #[cfg(test)]
 mod one_shown;
 #[cfg(test)]
+mod orders_shown;
+#[cfg(test)]
 mod rests_shown;
 #[cfg(test)]
 mod run_data;
