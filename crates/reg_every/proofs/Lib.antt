@@ -1,3 +1,3 @@
-pub mod Playable
 pub mod Sending
 pub mod Shown
+pub mod Reordering

@@ -1,1 +1,2 @@
 pub mod AllOutcomes
+pub mod Finding

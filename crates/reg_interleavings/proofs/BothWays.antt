@@ -1,5 +1,5 @@
 -- The outcomes of runs and those of interleavings are the same.
-use Rattle.std.proofs.Common.{◌≡◌, ℕ, List, length}
+use Rattle.std.proofs.Common.{ℕ, List, length}
 use Rattle.reg_base.specs.declared.memory.Op.{Op}
 use Rattle.reg_front.specs.declared.starts.Start.{Start}
 use Rattle.reg_front.specs.Fronts.{KeepsLaws}

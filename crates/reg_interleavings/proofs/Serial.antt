@@ -1,4 +1,4 @@
--- Operations placed with all finished ones are a serial order, and each serial order can be placed.
+-- Operations placed with all finished ones are an order, and each order can be placed.
 use Rattle.std.proofs.Common.{◌≡◌, ◌≢◌, ◌⊎◌, inl, inr, ℕ, zero, suc, ◌+◌, ◌<◌, ◌≤◌, true, List, [], ◌∷◌, ◌++◌, length, take, replicate, refl, ap, sym, ◌∙◌, subst, arith, get_or-set_same, get_or-set_other, add-one}
 use Rattle.std.specs.Prelude.{slice_index, slice_set}
 use Rattle.std.specs.List.{AllZip}
@@ -27,9 +27,11 @@ use Rattle.reg_outcomes.proofs.InTime.{take_at as first_and_next}
 use Rattle.reg_world.proofs.lists.Bodies.{place_first, place_last}
 use Rattle.reg_world.proofs.lists.Members.{at_in}
 use Rattle.reg_world.proofs.one_memory.Replicas.{memory-append}
-use Rattle.reg_interleavings.specs.Finding.{MayCome, Next, Nothing, Places, placed_after}
+use Rattle.reg_interleavings.specs.declared.kinds.OrderKind.{OrderKind}
+use Rattle.reg_interleavings.specs.declared.kinds.OrderKind.TheVariants.{Serial, Points}
+use Rattle.reg_interleavings.specs.Finding.{MayCome, MayFollow, Next, Nothing, Places, placed_after}
 use Rattle.reg_interleavings.specs.Interleavings.{Stage, first_stage}
-use Rattle.reg_interleavings.specs.Placing.{IsComplete, IsSerialBy, ids_along}
+use Rattle.reg_interleavings.specs.Placing.{IsComplete, IsOrder, IsOrderBy, KeepsRealTime, KeepsTime, ids_along}
 use Rattle.reg_interleavings.proofs.Layering.{no_more}
 use Rattle.reg_interleavings.proofs.Placed.{IsPlacedLayer, along, in_bounds, room}
 
@@ -164,7 +166,7 @@ pub record IsSound (registers : ℕ) (h : List Entry) (ids : List OpId) (s : Sta
   pub right : (k : ℕ) (id : OpId) (op : Op) (at : ℕ) (answer : Answer) → IsAt ids k id → IsAt ops k op → IsAnswered h id at answer → answer ≡ answer_of op (memory registers (take k ops))
   pub stand : (k : ℕ) (id : OpId) → IsAt ids k id → MayStand h id
 
-module _ (n registers : ℕ) (h : List Entry) where
+module _ (kind : OrderKind) (n registers : ℕ) (h : List Entry) where
   sound_more : (ids : List OpId) (s : Stage) (id : OpId) (op : Op) (at : ℕ) → IsCalled h id at op → MayCome h id op (answer_of op s.memory) → IsSound registers h ids s → IsSound registers h (ids ++ id ∷ []) (placed_after id.process op s)
   sound_more ids s id op at called comes old = record {
     ops = old.ops ++ op ∷ [];
@@ -197,26 +199,55 @@ module _ (n registers : ℕ) (h : List Entry) where
         | inr b ↦ subst (MayStand h) (sym b.1) (elim comes.1 [ inl fin ↦ inl fin | inr up ↦ inr (at, op, called, up) ])
       ]
 
-  pub sound_of : (ids : List OpId) (s : Stage) → Places n registers h ids s → IsSound registers h ids s
+  pub sound_of : (ids : List OpId) (s : Stage) → Places kind n registers h ids s → IsSound registers h ids s
   sound_of ids s Nothing = record { ops = []; called = tt; memory_is = refl; right = λ k id op at answer here. absurd (no_place k id here); stand = λ k id here. absurd (no_place k id here) }
     where
       no_place : (j : ℕ) (id : OpId) → IsAt [] j id → ⊥
       no_place j id at = cc
-  sound_of ids s (Next {ids = old} {s = from} id op at places number called comes) = sound_more old from id op at called comes (sound_of old from places)
+  sound_of ids s (Next {ids = old} {s = from} id op at places number called comes follows) = sound_more old from id op at called comes (sound_of old from places)
 
-module _ (n registers : ℕ) (h : List Entry) (good : IsHistory n registers h) where
-  first_of : (ids : List OpId) (s : Stage) → Places n registers h ids s → AreFirst ids s.next
+module _ (kind : OrderKind) (n registers : ℕ) (h : List Entry) (good : IsHistory n registers h) where
+  pub first_of : (ids : List OpId) (s : Stage) → Places kind n registers h ids s → AreFirst ids s.next
   first_of ids s Nothing = first_none n
-  first_of ids s (Next {ids = old} {s = from} id op at places number called comes) =
-      let process = (in_bounds n registers h good id at op called).0 in
-      let size = (room n registers h old from places).next in
+  first_of ids s (Next {ids = old} {s = from} id op at places number called comes follows) =
+      let process = (in_bounds kind n registers h good id at op called).0 in
+      let size = (room kind n registers h old from places).next in
       first_more old from.next id (first_of old from places) number (omega (arith, process, size))
 
+-- What was answered before the call of one of them stands before it, where the kind asks for it.
+module _ (n registers : ℕ) (h : List Entry) (good : IsHistory n registers h) where
+  real_time : (ids : List OpId) (s : Stage) → Places Points n registers h ids s → KeepsRealTime h ids
+  real_time ids s Nothing i id other at answered op answer here call ans lt = absurd (no_place i id here)
+    where
+      no_place : (j : ℕ) (x : OpId) → IsAt [] j x → ⊥
+      no_place j x at = cc
+  real_time ids s (Next {ids = old} {s = from} x op₀ at₀ places number called comes follows) i id other at answered op answer here call ans lt = elim (at_push old i x id here) [
+    | inl before ↦ let there = real_time old from places i id other at answered op answer before call ans lt in (there.0, there.1, place_first old (x ∷ []) there.0 other there.2)
+    | inr new ↦
+        let less : other.number < slice_index from.next other.process = follows at op (subst (λ (y : OpId). IsCalled h y at op) new.1 call) other answered answer ans lt in
+        let there = (first_of Points n registers h good old from places).all other.process other.number less in
+        let inside = within old there.0 other there.1 in
+        let last = new.0 in
+        (there.0, omega (arith, inside, last), place_first old (x ∷ []) there.0 other there.1)
+  ]
+
+  time_of : (kind : OrderKind) (ids : List OpId) (s : Stage) → Places kind n registers h ids s → KeepsTime kind h ids
+  time_of Serial ids s places = tt
+  time_of Points ids s places = real_time ids s places
+
+-- and where it stands before it, it is placed before
+follows_of : (h : List Entry) (kind : OrderKind) (ids : List OpId) (k : ℕ) (next : List ℕ) (id : OpId) → KeepsTime kind h ids → AreFirst (take k ids) next → IsAt ids k id → MayFollow kind h next id
+follows_of h Serial ids k next id time first here = tt
+follows_of h Points ids k next id time first here = λ at op call other answered answer ans lt.
+    let there = time k id other at answered op answer here call ans lt in
+    first.below there.0 other (at_take ids k there.0 there.1 ∙ there.2)
+
+module _ (kind : OrderKind) (n registers : ℕ) (h : List Entry) (good : IsHistory n registers h) where
   -- with all finished operations they are a serial order
-  pub serial_is : (ids : List OpId) (s : Stage) → Places n registers h ids s → IsComplete h s.next → IsSerial registers h ids
+  pub serial_is : (ids : List OpId) (s : Stage) → Places kind n registers h ids s → IsComplete h s.next → IsSerial registers h ids
   serial_is ids s places complete =
-      let sound = sound_of n registers h ids s places in
-      let first = first_of ids s places in
+      let sound = sound_of kind n registers h ids s places in
+      let first = first_of kind n registers h good ids s places in
       record {
         selection = record { distinct = first.distinct; finished = λ id fin. first.all id.process id.number (complete id fin); known = sound.stand };
         legal = record { ops = sound.ops; called = sound.called; right = sound.right };
@@ -226,32 +257,35 @@ module _ (n registers : ℕ) (h : List Entry) (good : IsHistory n registers h) w
   stands_in_bounds : (id : OpId) → MayStand h id → (id.process < n) × (id.number < MOST_OPERATIONS)
   stands_in_bounds id stands =
       let call : WasCalled h id = elim stands [ inl fin ↦ answered_was_called n registers h good id fin.0 fin.1 fin.2 | inr c ↦ (c.0, c.1, c.2) ] in
-      let bounds = in_bounds n registers h good id call.0 call.1 call.2 in
+      let bounds = in_bounds kind n registers h good id call.0 call.1 call.2 in
       (bounds.0, bounds.2)
 
-  -- an entry of a layer with all finished operations gives a serial order
-  pub found_is : (k : ℕ) (layer : List (Stage × List ℕ)) (turns : List ℕ) → IsPlacedLayer n registers h k layer → (f : Stage × List ℕ) → In f layer → f.1 ≡ turns → IsComplete h f.0.next → IsSerialBy n registers h turns
+  -- an entry of a layer with all finished operations gives an order
+  pub found_is : (k : ℕ) (layer : List (Stage × List ℕ)) (turns : List ℕ) → IsPlacedLayer kind n registers h k layer → (f : Stage × List ℕ) → In f layer → f.1 ≡ turns → IsComplete h f.0.next → IsOrderBy kind n registers h turns
   found_is k layer turns is f at same complete =
       let led = is.each f at in
       let ids : List OpId = led.0 in
-      let sound = sound_of n registers h ids f.0 led.1 in
-      let back : ids_along (replicate n 0) turns ≡ ids = ap (ids_along (replicate n 0)) (sym same ∙ led.2) ∙ (along n registers h ids f.0 led.1).1 in
+      let sound = sound_of kind n registers h ids f.0 led.1 in
+      let back : ids_along (replicate n 0) turns ≡ ids = ap (ids_along (replicate n 0)) (sym same ∙ led.2) ∙ (along kind n registers h ids f.0 led.1).1 in
       record {
-        serial = subst (λ (l : List OpId). IsSerial registers h l) (sym back) (serial_is ids f.0 led.1 complete);
+        order = subst (λ (l : List OpId). IsOrder kind registers h l) (sym back) (record { serial = serial_is ids f.0 led.1 complete; time = time_of n registers h good kind ids f.0 led.1 });
         within = λ i id here. stands_in_bounds id (sound.stand i id (subst (λ (l : List OpId). IsAt l i id) back here));
       }
 
-  module _ (ids : List OpId) (serial : IsSerial registers h ids) where
+  module _ (ids : List OpId) (order : IsOrder kind registers h ids) where
+    abbrev serial : IsSerial registers h ids
+    serial = order.serial
+
     abbrev ops : List Op
     ops = serial.legal.ops
 
     -- the next operation of the order is the next one of its process
-    is_next : (k : ℕ) (s : Stage) (id : OpId) (at : ℕ) (op : Op) → Places n registers h (take k ids) s → IsAt ids k id → IsCalled h id at op → id.number ≡ slice_index s.next id.process
+    is_next : (k : ℕ) (s : Stage) (id : OpId) (at : ℕ) (op : Op) → Places kind n registers h (take k ids) s → IsAt ids k id → IsCalled h id at op → id.number ≡ slice_index s.next id.process
     is_next k s id at op places here called = elim (cases_order id.number (slice_index s.next id.process)) [
       | inl e ↦ e
       | inr q ↦ elim q [
         | inl less ↦
-            let there = (first_of (take k ids) s places).all id.process id.number less in
+            let there = (first_of kind n registers h good (take k ids) s places).all id.process id.number less in
             let old = in_take ids k there.0 id there.1 in
             let same : there.0 ≡ k = serial.selection.distinct there.0 k id old.1 here in
             let lt = old.0 in
@@ -263,13 +297,13 @@ module _ (n registers : ℕ) (h : List Entry) (good : IsHistory n registers h) w
             let fin = answered_before_next n registers h good lower id at op (was.0, was.1, (was.2.0, (in_take h called.0 was.2.0 (Called was.0 lower was.1) was.2.1).1)) called refl more in
             let there = serial.selection.finished lower (fin.0, fin.1, fin.2) in
             let before : there.0 < k = serial.own_order there.0 k lower id there.1 here refl more in
-            let bad : slice_index s.next id.process < slice_index s.next id.process = (first_of (take k ids) s places).below there.0 lower (at_take ids k there.0 before ∙ there.1) in
+            let bad : slice_index s.next id.process < slice_index s.next id.process = (first_of kind n registers h good (take k ids) s places).below there.0 lower (at_take ids k there.0 before ∙ there.1) in
             absurd (omega (arith, bad))
       ]
     ]
 
     -- the stage after the first k operations
-    walk : (k : ℕ) → k ≤ length ids → (s : Stage) × Places n registers h (take k ids) s
+    walk : (k : ℕ) → k ≤ length ids → (s : Stage) × Places kind n registers h (take k ids) s
     walk zero le = (first_stage n registers, Nothing)
     walk (suc k) le =
         let before = walk k (omega (arith, le)) in
@@ -278,7 +312,7 @@ module _ (n registers : ℕ) (h : List Entry) (good : IsHistory n registers h) w
         let id : OpId = here.0 in
         let its = zip_right (λ (i : OpId) (o : Op). (at : ℕ) × IsCalled h i at o) ids ops k id serial.legal.called here.1 in
         let op : Op = its.0 in
-        let sound = sound_of n registers h (take k ids) s before.1 in
+        let sound = sound_of kind n registers h (take k ids) s before.1 in
         let same : sound.ops ≡ take k ops = same_ops n registers h good (take k ids) sound.ops (take k ops) sound.called (zip_first (λ (i : OpId) (o : Op). (at : ℕ) × IsCalled h i at o) k ids ops serial.legal.called) in
         let memory_is : s.memory ≡ memory registers (take k ops) = sound.memory_is ∙ ap (memory registers) same in
         let comes : MayCome h id op (answer_of op s.memory) = (
@@ -289,16 +323,16 @@ module _ (n registers : ℕ) (h : List Entry) (good : IsHistory n registers h) w
           ],
         ) in (
           placed_after id.process op s,
-          subst (λ (l : List OpId). Places n registers h l (placed_after id.process op s)) (sym (ap (λ (m : ℕ). take m ids) (sym (add-one k)) ∙ first_and_next ids k id here.1))
-              (Next id op its.2.0 before.1 (is_next k s id its.2.0 op before.1 here.1 its.2.1) its.2.1 comes),
+          subst (λ (l : List OpId). Places kind n registers h l (placed_after id.process op s)) (sym (ap (λ (m : ℕ). take m ids) (sym (add-one k)) ∙ first_and_next ids k id here.1))
+              (Next id op its.2.0 before.1 (is_next k s id its.2.0 op before.1 here.1 its.2.1) its.2.1 comes (follows_of h kind ids k s.next id order.time (first_of kind n registers h good (take k ids) s before.1) here.1)),
         )
 
-    -- a serial order can be placed, and has all finished operations then
-    pub whole_is : (s : Stage) × Places n registers h ids s × IsComplete h s.next
+    -- an order can be placed, and has all finished operations then
+    pub whole_is : (s : Stage) × Places kind n registers h ids s × IsComplete h s.next
     whole_is =
         let end = walk (length ids) (omega arith) in
-        let places = subst (λ (l : List OpId). Places n registers h l end.0) (take_all (length ids) ids (omega arith)) end.1 in
-        let first = first_of ids end.0 places in
+        let places = subst (λ (l : List OpId). Places kind n registers h l end.0) (take_all (length ids) ids (omega arith)) end.1 in
+        let first = first_of kind n registers h good ids end.0 places in
         (end.0, places, λ id fin. let there = serial.selection.finished id fin in first.below there.0 id there.1)
 
     -- and it is no longer than the history
@@ -312,13 +346,13 @@ module _ (n registers : ℕ) (h : List Entry) (good : IsHistory n registers h) w
         from id (inl fin) = entry id (answered_was_called n registers h good id fin.0 fin.1 fin.2)
         from id (inr c) = entry id (c.0, c.1, c.2)
 
-  -- where no stage of a layer has all finished operations, no serial order is so long
-  pub none_so_long : (k : ℕ) (layer : List (Stage × List ℕ)) → IsPlacedLayer n registers h k layer → ((f : Stage × List ℕ) → In f layer → ¬ IsComplete h f.0.next) → ((ids : List OpId) → IsSerial registers h ids → length ids < k → ⊥)
-      → (ids : List OpId) → IsSerial registers h ids → length ids < k + 1 → ⊥
-  none_so_long k layer is none shorter ids serial lt = elim (cases_eq (length ids) k) [
+  -- where no stage of a layer has all finished operations, no order is so long
+  pub none_so_long : (k : ℕ) (layer : List (Stage × List ℕ)) → IsPlacedLayer kind n registers h k layer → ((f : Stage × List ℕ) → In f layer → ¬ IsComplete h f.0.next) → ((ids : List OpId) → IsOrder kind registers h ids → length ids < k → ⊥)
+      → (ids : List OpId) → IsOrder kind registers h ids → length ids < k + 1 → ⊥
+  none_so_long k layer is none shorter ids order lt = elim (cases_eq (length ids) k) [
     | inl e ↦
-        let whole = whole_is ids serial in
+        let whole = whole_is ids order in
         let found = is.all ids whole.0 whole.1 e in
         none found.0 found.1 (subst (λ (s : Stage). IsComplete h s.next) (sym found.2) whole.2)
-    | inr ne ↦ shorter ids serial (omega (arith, lt, ne))
+    | inr ne ↦ shorter ids order (omega (arith, lt, ne))
   ]

@@ -32,10 +32,11 @@ use Rattle.reg_world.proofs.one_memory.Replicas.{memory-append}
 use Rattle.reg_world.proofs.witness.Promised.{in_place, order_right, replies_right}
 use Rattle.reg_runs.specs.Rest.{CanRest}
 use Rattle.reg_runs.proofs.Going.{at_behind}
+use Rattle.reg_interleavings.specs.Turning.{MayTurn}
 use Rattle.reg_interleavings.proofs.TurningMoves.{Follows}
 use Rattle.reg_interleavings.proofs.TurningOrder.{made_as, order_kept, order_more}
 use Rattle.reg_interleavings.proofs.TurningRest.{copy_is, none_unsettled}
-use Rattle.reg_interleavings.proofs.TurningTurn.{MayTurn, TurnTold, called_is, quiet_more, told}
+use Rattle.reg_interleavings.proofs.TurningTurn.{TurnTold, called_is, quiet_more, told}
 
 -- the memory after a run, and the answer of its last operation
 abbrev pub memory_after_run : ℕ → World → Memory

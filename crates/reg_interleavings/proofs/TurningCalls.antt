@@ -16,6 +16,7 @@ use Rattle.reg_outcomes.proofs.Those.{has_at}
 use Rattle.reg_runs.specs.Rest.{IsLater}
 use Rattle.reg_workload.specs.Plays.{call_at, calls_of}
 use Rattle.reg_interleavings.specs.Interleavings.{script_of}
+use Rattle.reg_interleavings.specs.Showing.{caller_in, callers}
 use Rattle.reg_interleavings.proofs.TurningMoves.{IsQuiet}
 
 pub later_quiet : (passed : ℕ → ℕ → ℕ) (e : Event) → IsLater passed e → IsQuiet e
@@ -28,6 +29,21 @@ quiet_calls q [] h = refl
 quiet_calls q (Call p op ∷ more) h = absurd (h (Call p op) (inl refl))
 quiet_calls q (Take from to number ∷ more) h = quiet_calls q more (λ e i. h e (inr i))
 quiet_calls q (Tick p ∷ more) h = quiet_calls q more (λ e i. h e (inr i))
+
+-- so the processes that call are those of before, and this one
+quiet_callers : (more : List Event) → ((e : Event) → In e more → IsQuiet e) → callers more ≡ []
+quiet_callers [] h = refl
+quiet_callers (Call p op ∷ more) h = absurd (h (Call p op) (inl refl))
+quiet_callers (Take from to number ∷ more) h = quiet_callers more (λ e i. h e (inr i))
+quiet_callers (Tick p ∷ more) h = quiet_callers more (λ e i. h e (inr i))
+
+pub turn_callers : (p : ℕ) (op : Op) (events more : List Event) (turns : List ℕ) → ((e : Event) → In e more → IsQuiet e) → callers events ≡ turns → callers ((events ++ Call p op ∷ []) ++ more) ≡ turns ++ p ∷ []
+turn_callers p op events more turns h old =
+    flat_map-append caller_in (events ++ Call p op ∷ []) more
+    ∙ ap (λ l. callers (events ++ Call p op ∷ []) ++ l) (quiet_callers more h)
+    ∙ append-nil (callers (events ++ Call p op ∷ []))
+    ∙ flat_map-append caller_in events (Call p op ∷ [])
+    ∙ ap (λ l. l ++ p ∷ []) old
 
 -- a call, and then none
 turn_calls : (q p : ℕ) (op : Op) (events more : List Event) → ((e : Event) → In e more → IsQuiet e) → calls_of q ((events ++ Call p op ∷ []) ++ more) ≡ calls_of q events ++ cond (p == q) (op ∷ []) []

@@ -1,5 +1,5 @@
 -- A turn from rest to rest: one process calls an operation, which is accepted, and the run comes to rest again.
-use Rattle.std.proofs.Common.{◌≡◌, ◌⊎◌, ℕ, ◌+◌, ◌-◌, ◌*◌, ◌<◌, ◌≤◌, Bool, true, false, List, [], ◌∷◌, ◌++◌, length, Option, Some, None, refl, sym, ap, ◌∙◌, inl, inr, arith, length-append, append_assoc, append-nil}
+use Rattle.std.proofs.Common.{◌≡◌, ◌⊎◌, ℕ, ◌+◌, ◌-◌, ◌*◌, ◌≤◌, Bool, true, false, List, [], ◌∷◌, ◌++◌, length, Option, Some, None, refl, sym, ap, ◌∙◌, inl, inr, arith, length-append, append_assoc, append-nil}
 use Rattle.std.specs.Prelude.{cond, ◌&&◌, not, nat_lt}
 use Rattle.std.specs.Option.{is_some}
 use Rattle.std.proofs.lemmas.Bool.{lt-ltb}
@@ -19,9 +19,10 @@ use Rattle.reg_process.specs.declared.steps.Step.TheVariants.{Call as CallStep}
 use Rattle.reg_process.specs.Process.{State, Outcome, step, unsettled}
 use Rattle.reg_checkers.specs.declared.entries.Entry.{Entry}
 use Rattle.reg_checkers.specs.declared.entries.Entry.TheVariants.{Called, Answered}
-use Rattle.reg_world.specs.Laws.{AllAcknowledged, IsQuiescent}
+use Rattle.reg_world.specs.Laws.{IsQuiescent}
 use Rattle.reg_world.specs.Nodes.{Node, after_step}
-use Rattle.reg_world.specs.World.{World, op_id, answers_in, move_of, moved, whole}
+use Rattle.reg_world.specs.declared.faults.WorldFault.TheVariants.{Failed, TooManyEvents, NoProcess, Busy, NoRegister, TooManyOperations}
+use Rattle.reg_world.specs.World.{World, op_id, answers_in, move_of, moved, whole, world_fault}
 use Rattle.reg_world.proofs.one_order.NodeEvents.{put_same, put_other}
 use Rattle.reg_world.proofs.one_order.NodeLaws.{inv_of}
 use Rattle.reg_world.proofs.run.Along.{one_more}
@@ -29,18 +30,11 @@ use Rattle.reg_world.proofs.witness.Promised.{rests}
 use Rattle.reg_runs.specs.Rest.{CanRest, distance, put_for}
 use Rattle.reg_runs.proofs.Able.{can_rest}
 use Rattle.reg_runs.proofs.AtRest.{rests_at_none}
+use Rattle.reg_interleavings.specs.Turning.{MayTurn}
 use Rattle.reg_interleavings.proofs.TurningCalls.{later_quiet}
 use Rattle.reg_interleavings.proofs.TurningFar.{distance_more}
 use Rattle.reg_interleavings.proofs.TurningMoves.{Follows, IsTold, IsUntold, all_follow}
 use Rattle.reg_interleavings.proofs.TurningSteps.{Begins, called_begins}
-
--- a run at rest, and an operation that a process of it may call
-pub record MayTurn (start : Op → ℕ → Start) (n registers : ℕ) (events : List Event) (p : ℕ) (op : Op) : Type 0 where
-  pub process : p < n
-  pub known : register_of op < registers
-  pub fits : ((whole start n registers events).nodes p).state.calls < MOST_OPERATIONS
-  pub none : AllAcknowledged n (whole start n registers events).nodes
-  pub room : length (whole start n registers events).accepted + (1 + 3 * (n * (n - 1))) ≤ MOST_EVENTS
 
 -- the history grew by the call and the answer of the operation, which is that of the call's own step if that replied
 pub record TurnTold (p : ℕ) (op : Op) (reply : Option Reply) (w v : World) : Type 0 where
@@ -51,6 +45,10 @@ pub record TurnTold (p : ℕ) (op : Op) (reply : Option Reply) (w v : World) : T
 
 call_tests : (few within busy known fits : Bool) (o : Option (ℕ × Step)) → few ≡ true → within ≡ true → busy ≡ false → known ≡ true → fits ≡ true → cond few (cond (within && (not busy && (known && fits))) o None) None ≡ o
 call_tests few within busy known fits o a b c d e = rw (a, b, c, d, e) refl
+
+call_passed : (failed few within busy known fits : Bool) → failed ≡ false → few ≡ true → within ≡ true → busy ≡ false → known ≡ true → fits ≡ true
+    → cond failed (Some Failed) (cond few (cond within (cond busy (Some Busy) (cond known (cond fits None (Some TooManyOperations)) (Some NoRegister))) (Some NoProcess)) (Some TooManyEvents)) ≡ None
+call_passed failed few within busy known fits a b c d e f = rw (a, b, c, d, e, f) refl
 
 module _ (start : Op → ℕ → Start) (n registers : ℕ) (laws : KeepsLaws start) (events : List Event) (p : ℕ) (op : Op) (M : MayTurn start n registers events p op) where
   abbrev w : World
@@ -70,6 +68,12 @@ module _ (start : Op → ℕ → Start) (n registers : ℕ) (laws : KeepsLaws st
 
   move : move_of n registers w (Call p op) ≡ Some (p, CallStep op)
   move = call_tests (nat_lt (length w.accepted) MOST_EVENTS) (nat_lt p n) (is_some S.running) (nat_lt (register_of op) registers) (nat_lt S.calls MOST_OPERATIONS) (Some (p, CallStep op))
+      (lt-ltb (length w.accepted) MOST_EVENTS (let m = M.room in omega (arith, m)))
+      (lt-ltb p n M.process) (ap is_some (Q.idle p M.process)) (lt-ltb (register_of op) registers M.known) (lt-ltb S.calls MOST_OPERATIONS M.fits)
+
+  -- no fault applies to the call
+  pub none_applies : (failed : Bool) → failed ≡ false → cond failed (Some Failed) (world_fault n registers w (Call p op)) ≡ None
+  none_applies failed going = call_passed failed (nat_lt (length w.accepted) MOST_EVENTS) (nat_lt p n) (is_some S.running) (nat_lt (register_of op) registers) (nat_lt S.calls MOST_OPERATIONS) going
       (lt-ltb (length w.accepted) MOST_EVENTS (let m = M.room in omega (arith, m)))
       (lt-ltb p n M.process) (ap is_some (Q.idle p M.process)) (lt-ltb (register_of op) registers M.known) (lt-ltb S.calls MOST_OPERATIONS M.fits)
 
@@ -94,7 +98,8 @@ module _ (start : Op → ℕ → Start) (n registers : ℕ) (laws : KeepsLaws st
   pub other_count : (q : ℕ) → (q ≡ p → ⊥) → (u.nodes q).state.calls ≡ (w.nodes q).state.calls
   other_count q ne = ap (λ (x : Node). x.state.calls) (node_other q ne)
 
-  near : distance n u.nodes ≤ n * (n - 1)
+  -- it is no further from rest than by what a turn makes needed
+  pub near : distance n u.nodes ≤ n * (n - 1)
   near =
       let L = (inv_of start n registers events).local p M.process in
       let same = ap (λ (z : World). distance n z.nodes) called_is in

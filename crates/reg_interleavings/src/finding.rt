@@ -1,64 +1,29 @@
-//! A serial order of a history, found or by proof none: operations are placed one after another (Wing and Gong 1993),
-//! and each stage that they lead to is kept once (Lowe 2017).
-ghost use Rattle.std.specs.Prelude.{◌≡◌, ◌∷◌, [], ℕ, List, ◌<◌, ◌≤◌, ◌⊎◌, ◌↔◌, IsTrue, MatchBool, MatchOption, IfOk, IfErr, OnOk, length, replicate, slice_index};
+//! Orders of a history, found or by proof none: operations are placed one after another (Wing and Gong 1993), and each
+//! stage that they lead to is kept once (Lowe 2017).
+ghost use Rattle.std.specs.Prelude.{◌≡◌, ◌∷◌, [], ℕ, List, ◌<◌, ◌≤◌, ◌⊎◌, ◌↔◌, IsTrue, MatchBool, MatchOption, IfOk, IfErr, IfSome, OnOk, length, replicate, slice_index};
+ghost use Rattle.reg_base.specs.declared.memory.Op.{Op as AnyOp};
 ghost use Rattle.reg_base.specs.declared.memory.OpId.{OpId as AnyId};
-ghost use Rattle.reg_base.specs.declared.memory.Answer.{Answer as AnyAnswer};
 ghost use Rattle.reg_base.specs.Memory.{answer_of, register_of};
 ghost use Rattle.reg_base.specs.Order.{In};
-ghost use Rattle.reg_base.specs.declared.limits.TheConstants.{MOST_OPERATIONS};
-ghost use Rattle.reg_checkers.specs.History.{IsAt, IsAnswered, IsCalled, IsFinished, WasCalled};
-ghost use Rattle.reg_checkers.specs.Log.{IsLog};
-ghost use Rattle.reg_checkers.specs.Orders.{IsSerial};
+ghost use Rattle.reg_base.specs.declared.limits.TheConstants.{LAST_EVENT, MOST_OPERATIONS};
+ghost use Rattle.reg_checkers.specs.declared.entries.Point.{Point as AnyPoint};
+ghost use Rattle.reg_checkers.specs.History.{IsAt, IsCalled, IsHistory, WasCalled};
+ghost use Rattle.reg_checkers.specs.Orders.{IsPointOrder, IsSerial};
 ghost use Rattle.reg_interleavings.specs.Interleavings.{Stage as AnyStage};
-ghost use Rattle.reg_interleavings.specs.Finding.{IsSearchFault, MayCome, placed_after};
+ghost use Rattle.reg_interleavings.specs.Finding.{IsFindFault, IsSearchFault, MayCome, MayFollow, placed_after};
 ghost use Rattle.reg_interleavings.specs.Layers.{Adds, IsAfterSome, IsSomeOf, Refuses, entries_of, stage_of};
-ghost use Rattle.reg_interleavings.specs.Placing.{HasRoomFor, IsComplete, IsPlaced, IsPlacing, IsSearched, IsSerialBy, ids_along};
+ghost use Rattle.reg_interleavings.specs.Placing.{ArePointsOf, HasRoomFor, IsOrder, IsOrderBy, IsPlaced, IsPlacing, IsSearched, ids_along};
 
 use crate::faults::InterleavingFault;
+use crate::finder::Finder;
+use crate::kinds::OrderKind;
 use crate::layers::{Layer, add_stage, first_layer};
 use crate::stages::{Stage, apply};
+use crate::tables::Invocation;
 use reg_base::{Answer, Op, OpId};
-use reg_checkers::{Entry, History};
+use reg_checkers::{History, Point};
 use std::alloc::{AllocError, Allocator, Global};
 use std::collections::BTreeMap;
-
-/// The operation that was called under this id.
-fn op_called(entries: &[Entry], id: OpId) -> Option<Op>
-    ensures { MatchOption result (¬ WasCalled entries.now id) (λ op. (at : ℕ) × IsCalled entries.now id at op) }
-{
-    for i in 0..entries.len() {
-        if let Entry::Called {
-            at: _,
-            id: called,
-            op,
-        } = entries[i]
-        {
-            if called == id {
-                return Some(op);
-            }
-        }
-    }
-    None
-}
-
-/// The answer to the operation of this id, None while it is unfinished.
-fn answer_given(entries: &[Entry], id: OpId) -> Option<Answer>
-    ensures { MatchOption result (¬ IsFinished entries.now id) (λ answer. (at : ℕ) × IsAnswered entries.now id at answer) }
-{
-    for i in 0..entries.len() {
-        if let Entry::Answered {
-            at: _,
-            id: answered,
-            answer,
-        } = entries[i]
-        {
-            if answered == id {
-                return Some(answer);
-            }
-        }
-    }
-    None
-}
 
 /// Whether these answers are one.
 fn is_same(given: Answer, answer: Answer) -> bool
@@ -68,12 +33,34 @@ fn is_same(given: Answer, answer: Answer) -> bool
 }
 
 /// Whether an operation may come where the memory gives it this answer.
-fn may_come<A: Allocator + Copy>(history: &History<A>, id: OpId, op: Op, answer: Answer) -> bool
-    ensures { IsTrue result ↔ MayCome history.now.entries id op answer }
+fn may_come<A: Allocator + Copy>(
+    finder: &Finder<'_, A>,
+    id: OpId,
+    op: Op,
+    answer: Answer,
+) -> bool
+    ensures { IsTrue result ↔ MayCome finder.now.entries id op answer }
 {
-    match answer_given(history.entries(), id) {
-        Some(given) => is_same(given, answer),
+    match finder.response(id) {
+        Some(given) => is_same(given.answer, answer),
         None => op.updates(),
+    }
+}
+
+/// Whether the order may have this operation next, where so many of each process are placed.
+fn may_follow<A: Allocator + Copy>(
+    finder: &Finder<'_, A>,
+    next: &[u32],
+    id: OpId,
+    call: Invocation,
+) -> bool
+    requires history { IsHistory finder.now.shape.processes finder.now.shape.registers finder.now.entries }
+    requires called { IsCalled finder.now.entries id call.at call.op }
+    ensures { IsTrue result ↔ MayFollow finder.now.kind finder.now.entries next.now id }
+{
+    match finder.kind() {
+        OrderKind::Serial => true,
+        OrderKind::Points => finder.are_placed_before(next, call.at),
     }
 }
 
@@ -85,121 +72,111 @@ fn next_number(next: &[u32], process: u8) -> u32
     next[usize::from(process)]
 }
 
-/// The stage after a process did this operation, its next one, and the answer that it got.
+/// The answer that this memory gives.
+fn answer_on(memory: &[u64], op: Op) -> Answer
+    requires { register_of op < length memory.now }
+    ensures { result ≡ answer_of op memory.now }
+{
+    match op {
+        Op::Write {
+            register: _,
+            value: _,
+        } => Answer::Done,
+        Op::Read { register } | Op::Swap { register, value: _ } => {
+            Answer::Value(memory[usize::from(register)])
+        }
+    }
+}
+
+/// The stage after a process did this operation, its next one.
 fn stage_placed<A: Allocator + Copy>(
     alloc: A,
     stage: &Stage<A>,
     process: u8,
     op: Op,
-) -> Result<(Stage<A>, Answer), AllocError>
+) -> Result<Stage<A>, AllocError>
     requires process { process < length stage.now.next.items }
     requires register { register_of op < length stage.now.memory.items }
     requires number { slice_index stage.now.next.items process < u32.MAX }
-    ensures stage { IfOk result (λ r. stage_of r.0 ≡ placed_after process op (stage_of stage.now)) }
-    ensures answer { IfOk result (λ r. r.1 ≡ answer_of op stage.now.memory.items) }
+    ensures { IfOk result (λ s. stage_of s ≡ placed_after process op (stage_of stage.now)) }
 {
     let mut next = Vec::from_slice(alloc, stage.next.as_slice())?;
     let mut memory = Vec::from_slice(alloc, stage.memory.as_slice())?;
     let number = next[usize::from(process)];
     next[usize::from(process)] = number + 1;
-    let answer = apply(&mut memory, op);
+    apply(&mut memory, op);
     let told = Vec::new(alloc);
-    Ok((Stage { next, memory, told }, answer))
+    Ok(Stage { next, memory, told })
 }
 
-/// The stage after the next operation of a process, None where it has none or that may not come.
-fn placed<A: Allocator + Copy>(
-    alloc: A,
-    history: &History<A>,
+/// The call of a process's next operation, None where it has none or that may not come next.
+fn placeable<A: Allocator + Copy>(
+    finder: &Finder<'_, A>,
     stage: &Stage<A>,
     process: u8,
-) -> Result<Option<Stage<A>>, AllocError>
-    requires process { process < history.now.shape.processes }
-    requires room { HasRoomFor history.now.shape.processes history.now.shape.registers (stage_of stage.now) }
-    ensures { IfOk result (λ o. MatchOption o ((to : AnyStage) → ¬ IsPlaced history.now.entries process (stage_of stage.now) to) (λ later. IsPlaced history.now.entries process (stage_of stage.now) (stage_of later))) }
+) -> Option<Op>
+    requires process { process < finder.now.shape.processes }
+    requires room { HasRoomFor finder.now.shape.processes finder.now.shape.registers (stage_of stage.now) }
+    ensures placed { MatchOption result ((to : AnyStage) → ¬ IsPlaced finder.now.kind finder.now.entries process (stage_of stage.now) to) (λ op. IsPlaced finder.now.kind finder.now.entries process (stage_of stage.now) (placed_after process op (stage_of stage.now))) }
+    ensures fits { IfSome result (λ op. (register_of op < length stage.now.memory.items) × (slice_index stage.now.next.items process < MOST_OPERATIONS)) }
 {
     let number = next_number(&stage.next, process);
     let id = OpId { process, number };
-    let Some(op) = op_called(history.entries(), id) else {
-        return Ok(None);
+    let Some(call) = finder.invocation(id) else {
+        return None;
     };
-    let (later, answer) = stage_placed(alloc, stage, process, op)?;
-    if !may_come(history, id, op, answer) {
-        return Ok(None);
+    let answer = answer_on(&stage.memory, call.op);
+    if !may_follow(finder, &stage.next, id, call) {
+        return None;
     }
-    Ok(Some(later))
+    if !may_come(finder, id, call.op, answer) {
+        return None;
+    }
+    Some(call.op)
 }
 
-/// Adds the stage after the next operation of a process, where that may come.
+/// Adds the stage after the next operation of a process, where that may come next.
 fn add_place<A: Allocator + Copy>(
     alloc: A,
-    history: &History<A>,
+    finder: &Finder<'_, A>,
     stage: &Stage<A>,
     turns: &[u8],
     process: u8,
-    limit: u32,
     layer: &mut Layer<A>,
 ) -> Result<(), InterleavingFault>
-    requires process { process < history.now.shape.processes }
-    requires history { IsLog history.now }
-    requires room { HasRoomFor history.now.shape.processes history.now.shape.registers (stage_of stage.now) }
-    ensures adds { OnOk result (Adds (IsPlacing history.now.entries process (stage_of stage.now, turns.now)) (entries_of layer.old) (entries_of layer.new)) }
-    ensures refused { IfErr result (Refuses limit (IsPlacing history.now.entries process (stage_of stage.now, turns.now)) (entries_of layer.old)) }
+    requires process { process < finder.now.shape.processes }
+    requires history { IsHistory finder.now.shape.processes finder.now.shape.registers finder.now.entries }
+    requires room { HasRoomFor finder.now.shape.processes finder.now.shape.registers (stage_of stage.now) }
+    ensures adds { OnOk result (Adds (IsPlacing finder.now.kind finder.now.entries process (stage_of stage.now, turns.now)) (entries_of layer.old) (entries_of layer.new)) }
+    ensures refused { IfErr result (Refuses finder.now.limit (IsPlacing finder.now.kind finder.now.entries process (stage_of stage.now, turns.now)) (entries_of layer.old)) }
 {
-    match placed(alloc, history, stage, process)? {
-        Some(later) => add_stage(alloc, later, turns, process, limit, layer),
+    match placeable(finder, stage, process) {
+        Some(op) => {
+            let later = stage_placed(alloc, stage, process, op)?;
+            add_stage(alloc, later, turns, process, finder.limit(), layer)
+        }
         None => Ok(()),
     }
 }
 
-/// Adds the stage after the next operation of each process, where that may come.
+/// Adds the stage after the next operation of each process, where that may come next.
 fn add_places<A: Allocator + Copy>(
     alloc: A,
-    history: &History<A>,
+    finder: &Finder<'_, A>,
     stage: &Stage<A>,
     turns: &[u8],
-    limit: u32,
     layer: &mut Layer<A>,
 ) -> Result<(), InterleavingFault>
-    requires history { IsLog history.now }
-    requires room { HasRoomFor history.now.shape.processes history.now.shape.registers (stage_of stage.now) }
-    ensures adds { OnOk result (Adds (IsSomeOf (IsPlacing history.now.entries) (stage_of stage.now, turns.now)) (entries_of layer.old) (entries_of layer.new)) }
-    ensures refused { IfErr result (Refuses limit (IsSomeOf (IsPlacing history.now.entries) (stage_of stage.now, turns.now)) (entries_of layer.old)) }
+    requires history { IsHistory finder.now.shape.processes finder.now.shape.registers finder.now.entries }
+    requires room { HasRoomFor finder.now.shape.processes finder.now.shape.registers (stage_of stage.now) }
+    ensures adds { OnOk result (Adds (IsSomeOf (IsPlacing finder.now.kind finder.now.entries) (stage_of stage.now, turns.now)) (entries_of layer.old) (entries_of layer.new)) }
+    ensures refused { IfErr result (Refuses finder.now.limit (IsSomeOf (IsPlacing finder.now.kind finder.now.entries) (stage_of stage.now, turns.now)) (entries_of layer.old)) }
 {
-    let processes = history.shape().processes() as u8;
+    let processes = finder.shape().processes() as u8;
     for process in 0..processes {
-        add_place(alloc, history, stage, turns, process, limit, layer)?;
+        add_place(alloc, finder, stage, turns, process, layer)?;
     }
     Ok(())
-}
-
-/// Whether so many operations of each process have this one among them.
-fn has_placed(next: &[u32], id: OpId) -> bool
-    ensures { IsTrue result ↔ (id.number < slice_index next.now id.process) }
-{
-    match next.get(usize::from(id.process)) {
-        Some(number) => id.number < *number,
-        None => false,
-    }
-}
-
-/// Whether all finished operations are placed where so many of each process are.
-fn is_complete(entries: &[Entry], next: &[u32]) -> bool
-    ensures { MatchBool result (IsComplete entries.now next.now) (¬ IsComplete entries.now next.now) }
-{
-    for i in 0..entries.len() {
-        if let Entry::Answered {
-            at: _,
-            id,
-            answer: _,
-        } = entries[i]
-        {
-            if !has_placed(next, id) {
-                return false;
-            }
-        }
-    }
-    true
 }
 
 /// What a layer gives: turns that place all finished operations, or the next layer.
@@ -212,20 +189,20 @@ pub(crate) enum Search<A: Allocator + Copy = Global> {
 /// Looks for all finished operations in a layer, and goes one turn on where no stage has them.
 fn search_layer<A: Allocator + Copy>(
     alloc: A,
-    history: &History<A>,
-    limit: u32,
+    finder: &Finder<'_, A>,
     layer: Layer<A>,
 ) -> Result<Search<A>, InterleavingFault>
-    requires room { (f : AnyStage × List ℕ) → In f (entries_of layer) → HasRoomFor history.now.shape.processes history.now.shape.registers f.0 }
-    ensures searched { IfOk result (λ search. IsSearched history.now.entries (entries_of layer) search) }
-    ensures refused { IfErr result (Refuses limit (IsAfterSome (IsPlacing history.now.entries) (entries_of layer)) []) }
+    requires history { IsHistory finder.now.shape.processes finder.now.shape.registers finder.now.entries }
+    requires room { (f : AnyStage × List ℕ) → In f (entries_of layer) → HasRoomFor finder.now.shape.processes finder.now.shape.registers f.0 }
+    ensures searched { IfOk result (λ search. IsSearched finder.now.kind finder.now.entries (entries_of layer) search) }
+    ensures refused { IfErr result (Refuses finder.now.limit (IsAfterSome (IsPlacing finder.now.kind finder.now.entries) (entries_of layer)) []) }
 {
     let mut next = BTreeMap::new(alloc);
     for (stage, turns) in layer {
-        if is_complete(history.entries(), &stage.next) {
+        if finder.is_complete(&stage.next) {
             return Ok(Search::Found(turns));
         }
-        add_places(alloc, history, &stage, &turns, limit, &mut next)?;
+        add_places(alloc, finder, &stage, &turns, &mut next)?;
     }
     Ok(Search::Open(next))
 }
@@ -250,20 +227,19 @@ fn ids_of_turns<A: Allocator + Copy>(
     Ok(ids)
 }
 
-/// Turns that place all finished operations of a history, None where no serial order is there.
-fn serial_turns<A: Allocator + Copy>(
+/// Turns that place all finished operations, None where there is no such order.
+fn turns_found<A: Allocator + Copy>(
     alloc: A,
-    history: &History<A>,
-    limit: u32,
+    finder: &Finder<'_, A>,
 ) -> Result<Option<Vec<u8, A>>, InterleavingFault>
-    ensures found { IfOk result (λ o. MatchOption o ((ids : List AnyId) → ¬ IsSerial history.now.shape.registers history.now.entries ids) (λ turns. IsSerialBy history.now.shape.processes history.now.shape.registers history.now.entries turns.items)) }
-    ensures refused { IfErr result (IsSearchFault history.now.shape.processes history.now.shape.registers history.now.entries limit) }
+    ensures found { IfOk result (λ o. MatchOption o ((ids : List AnyId) → ¬ IsOrder finder.now.kind finder.now.shape.registers finder.now.entries ids) (λ turns. IsOrderBy finder.now.kind finder.now.shape.processes finder.now.shape.registers finder.now.entries turns.items)) }
+    ensures refused { IfErr result (IsFindFault finder.now.kind finder.now.shape.processes finder.now.shape.registers finder.now.entries finder.now.limit) }
 {
-    let shape = history.shape();
+    let shape = finder.shape();
     let processes = shape.processes() as usize;
     let mut layer = first_layer(alloc, processes, shape.registers() as u16)?;
-    for _placed in 0..history.entries().len() + 1 {
-        match search_layer(alloc, history, limit, layer)? {
+    for _placed in 0..finder.entries().len() + 1 {
+        match search_layer(alloc, finder, layer)? {
             Search::Found(turns) => return Ok(Some(turns)),
             Search::Open(next) => layer = next,
         }
@@ -271,9 +247,38 @@ fn serial_turns<A: Allocator + Copy>(
     Ok(None)
 }
 
+/// The ids of the operations in such an order, None where there is none.
+fn ids_found<A: Allocator + Copy>(
+    alloc: A,
+    finder: &Finder<'_, A>,
+) -> Result<Option<Vec<OpId, A>>, InterleavingFault>
+    ensures found { IfOk result (λ o. MatchOption o ((ids : List AnyId) → ¬ IsOrder finder.now.kind finder.now.shape.registers finder.now.entries ids) (λ v. IsOrder finder.now.kind finder.now.shape.registers finder.now.entries v.items)) }
+    ensures refused { IfErr result (IsFindFault finder.now.kind finder.now.shape.processes finder.now.shape.registers finder.now.entries finder.now.limit) }
+{
+    let Some(turns) = turns_found(alloc, finder)? else {
+        return Ok(None);
+    };
+    let processes = finder.shape().processes() as usize;
+    Ok(Some(ids_of_turns(alloc, processes, &turns)?))
+}
+
+/// The ids of the operations in an order of this kind, None where there is none.
+fn ids_in_order<A: Allocator + Copy>(
+    alloc: A,
+    history: &History<A>,
+    kind: OrderKind,
+    limit: u32,
+) -> Result<Option<Vec<OpId, A>>, InterleavingFault>
+    ensures found { IfOk result (λ o. MatchOption o ((ids : List AnyId) → ¬ IsOrder kind history.now.shape.registers history.now.entries ids) (λ v. IsOrder kind history.now.shape.registers history.now.entries v.items)) }
+    ensures refused { IfErr result (IsFindFault kind history.now.shape.processes history.now.shape.registers history.now.entries limit) }
+{
+    let finder = Finder::new(alloc, history, kind, limit)?;
+    ids_found(alloc, &finder)
+}
+
 /// A serial order of a history, None where there is none (sequential consistency, Lamport 1979). Operations are placed
 /// one after another, and each stage that they lead to is kept once, so what it needs is the number of stages and not
-/// that of the orders.
+/// that of the orders. A point order is looked for first: it is a serial order too, and fewer stages lead to it.
 ///
 /// # Errors
 ///
@@ -286,9 +291,69 @@ pub fn find_serial<A: Allocator + Copy>(
     ensures found { IfOk result (λ o. MatchOption o ((ids : List AnyId) → ¬ IsSerial history.now.shape.registers history.now.entries ids) (λ v. IsSerial history.now.shape.registers history.now.entries v.items)) }
     ensures refused { IfErr result (IsSearchFault history.now.shape.processes history.now.shape.registers history.now.entries limit) }
 {
-    let Some(turns) = serial_turns(alloc, history, limit)? else {
+    match ids_in_order(alloc, history, OrderKind::Points, limit)? {
+        Some(ids) => Ok(Some(ids)),
+        None => ids_in_order(alloc, history, OrderKind::Serial, limit),
+    }
+}
+
+/// The later of two events.
+fn latest(at: u32, other: u32) -> u32
+    ensures { ((result ≡ at) × (other ≤ at)) ⊎ ((result ≡ other) × (at ≤ other)) }
+{
+    if at < other { other } else { at }
+}
+
+/// The event of a call that the history has.
+fn event_of_call<A: Allocator + Copy>(finder: &Finder<'_, A>, id: OpId) -> u32
+    requires { WasCalled finder.now.entries id }
+    ensures { (op : AnyOp) × IsCalled finder.now.entries id result op }
+{
+    match finder.invocation(id) {
+        Some(call) => call.at,
+        None => unreachable!(),
+    }
+}
+
+/// The points of operations in a point order: each at the latest of the calls so far.
+fn points_of<A: Allocator + Copy>(
+    alloc: A,
+    finder: &Finder<'_, A>,
+    ids: &[OpId],
+) -> Result<Vec<Point, A>, AllocError>
+    requires history { IsHistory finder.now.shape.processes finder.now.shape.registers finder.now.entries }
+    requires called { (k : ℕ) (id : AnyId) → IsAt ids.now k id → WasCalled finder.now.entries id }
+    ensures { IfOk result (λ v. ArePointsOf finder.now.entries ids.now v.items) }
+{
+    let mut points = Vec::with_capacity(alloc, ids.len())?;
+    let mut at = 0;
+    for k in 0..ids.len() {
+        let id = ids[k];
+        at = latest(at, event_of_call(finder, id));
+        points.push(Point { id, at })?;
+    }
+    Ok(points)
+}
+
+/// A point order of a history, None where there is none (linearizability, Herlihy and Wing 1990). Operations are placed one
+/// after another, each only once all that were answered before its call are placed (Wing and Gong 1993), and each stage
+/// that they lead to is kept once (Lowe 2017). Each point is the event of a call.
+///
+/// # Errors
+///
+/// Some number of operations so placed leads to more stages than the limit, or memory was refused.
+pub fn find_points<A: Allocator + Copy>(
+    alloc: A,
+    history: &History<A>,
+    limit: u32,
+) -> Result<Option<Vec<Point, A>>, InterleavingFault>
+    ensures found { IfOk result (λ o. MatchOption o ((points : List AnyPoint) → ¬ IsPointOrder history.now.shape.registers history.now.entries points) (λ v. IsPointOrder history.now.shape.registers history.now.entries v.items)) }
+    ensures events { IfOk result (λ o. IfSome o (λ v. (k : ℕ) (p : AnyPoint) → IsAt v.items k p → p.at ≤ LAST_EVENT)) }
+    ensures refused { IfErr result (IsFindFault OrderKind.Points history.now.shape.processes history.now.shape.registers history.now.entries limit) }
+{
+    let finder = Finder::new(alloc, history, OrderKind::Points, limit)?;
+    let Some(ids) = ids_found(alloc, &finder)? else {
         return Ok(None);
     };
-    let processes = history.shape().processes() as usize;
-    Ok(Some(ids_of_turns(alloc, processes, &turns)?))
+    Ok(Some(points_of(alloc, &finder, &ids)?))
 }

@@ -29,7 +29,7 @@ use Rattle.reg_show.specs.Schedules.{ShowsSchedule}
 use Rattle.reg_show.specs.ToldRuns.{EventHasBits}
 use Rattle.reg_trace.proofs.Moving.{first_moved}
 use Rattle.reg_inputs.proofs.ReadBack.{schedule_spelled}
-use Rattle.reg_world.proofs.run.Along.{move_is}
+use Rattle.reg_world.proofs.run.Along.{few_events, move_is}
 
 call_known : (n registers : ℕ) (w : Nodes) (p : ℕ) (op : Op) (m : ℕ × Step) → step_of n registers w (Call p op) ≡ Some m → register_of op < registers
 call_known n registers w p op m =
@@ -72,13 +72,10 @@ event_fits names registers (Call p op) same known bits = (bits.0, op_fits names 
 event_fits names registers (Take from to i) same known bits = bits
 event_fits names registers (Tick p) same known bits = bits
 
--- what a play accepted is a schedule under the workload's front end and names
-pub play_schedule : (fair : Bool) (start : Op → ℕ → Start) (work : Load) (made : Made) (is_finished : Bool) → IsLoad work → IsPlayBy fair start work made is_finished → (run_in start made).accepted ≡ made.accepted
+-- what a run of a workload's processes accepted is a schedule under its front end and names
+pub made_schedule : (start : Op → ℕ → Start) (work : Load) (made : Made) → IsLoad work → made.processes ≡ length work.scripts → made.registers ≡ length work.names → (run_in start made).accepted ≡ made.accepted
     → ((k : ℕ) (e : Event) → slice_get made.accepted k ≡ Some e → EventHasBits e) → IsScheduleText (plan_of work made)
-play_schedule fair start work made is_finished load played all bits =
-    let play = played.play in
-    let processes : made.processes ≡ length work.scripts = play.processes ∙ load.processes in
-    let registers : made.registers ≡ length work.names = play.registers ∙ load.registers in
+made_schedule start work made load processes registers all bits =
     let known : AllKnown made.registers made.accepted = all_known start made.processes made.registers made.accepted (empty_world made.processes made.registers) all in
     schedule_spelled (plan_of work made) (record {
       names = load.names;
@@ -86,8 +83,15 @@ play_schedule fair start work made is_finished load played all bits =
       processes = (let l = load.few_processes in omega (arith, l, processes));
       registers = registers;
       events = λ k e h. event_fits work.names made.registers e registers (known k e h) (bits k e h);
-      few = (let a = play.few in let b = load.budget in omega (arith, a, b));
+      few = (let a = few_events start made.processes made.registers made.accepted in let b = ap length all in omega (arith, a, b));
     })
+
+-- the plan that was written is that of the run
+pub made_plan : (work : Load) (made : Made) (shape : Extent) (names : List (List ℕ)) (front : Front) (events : List Event) → shape ≡ work.shape → names ≡ work.names → front ≡ work.front → events ≡ made.accepted
+    → made.processes ≡ work.shape.processes → made.registers ≡ work.shape.registers → record { shape = shape; names = names; front = front; events = events } ≡ plan_of work made
+made_plan work made shape names front events same_shape same_names same_front same_events processes registers =
+    let extent : shape ≡ record { processes = made.processes; registers = made.registers } = same_shape ∙ same_extent work.shape (record { processes = made.processes; registers = made.registers }) (sym processes) (sym registers) in
+    λ i. record { shape = extent i; names = same_names i; front = same_front i; events = same_events i }
 
 -- the schedule that was written is that of the play
 pub shows_schedule : (fair : Bool) (start : Op → ℕ → Start) (work : Load) (made : Made) (is_finished : Bool) (Wrote : List ℕ → Type 0) (shape : Extent) (names : List (List ℕ)) (front : Front) (events : List Event)
@@ -96,12 +100,11 @@ pub shows_schedule : (fair : Bool) (start : Op → ℕ → Start) (work : Load) 
     → Wrote (schedule_text (record { shape = shape; names = names; front = front; events = events })) → ShowsSchedule fair start Wrote work
 shows_schedule fair start work made is_finished Wrote shape names front events same_shape same_names same_front same_events load played all bits written =
     let play = played.play in
-    let extent : shape ≡ record { processes = made.processes; registers = made.registers } = same_shape ∙ same_extent work.shape (record { processes = made.processes; registers = made.registers }) (sym play.processes) (sym play.registers) in
-    let same : record { shape = shape; names = names; front = front; events = events } ≡ plan_of work made = λ i. record { shape = extent i; names = same_names i; front = same_front i; events = same_events i } in
+    let same = made_plan work made shape names front events same_shape same_names same_front same_events play.processes play.registers in
     record {
       made = made;
       is_finished = is_finished;
       played = played;
-      schedule = play_schedule fair start work made is_finished load played all (λ k e h. bits k e (ap (λ (l : List Event). slice_get l k) same_events ∙ h));
+      schedule = made_schedule start work made load (play.processes ∙ load.processes) (play.registers ∙ load.registers) all (λ k e h. bits k e (ap (λ (l : List Event). slice_get l k) same_events ∙ h));
       written = (let P : Plan → Type 0 = λ p. Wrote (schedule_text p) in subst P same written);
     }

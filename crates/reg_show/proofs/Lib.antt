@@ -8,3 +8,4 @@ pub mod Written
 pub mod Sending
 pub mod Told
 pub mod Rested
+pub mod Turned

@@ -9,3 +9,4 @@ pub mod Rests
 pub mod Showings
 pub mod ToldRuns
 pub mod Outcomes
+pub mod OneOutcome

@@ -8,6 +8,7 @@ mod counting;
 mod faults;
 mod first_lines;
 mod kinds;
+mod one_outcome;
 mod paging;
 mod refusals;
 mod resting;
@@ -18,6 +19,7 @@ mod telling;
 
 pub use asking::why_text;
 pub use counting::show_outcomes;
+pub use one_outcome::{OutcomeFault, show_outcome};
 pub use reg_outcomes::MOST_PLAYS;
 pub use running::show_text;
 pub use showing::Showing;

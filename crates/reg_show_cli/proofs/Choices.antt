@@ -12,6 +12,7 @@ use Rattle.clap.specs.declared.Error.{Error}
 use Rattle.clap.specs.declared.error.ErrorKind.{ErrorKind}
 use Rattle.clap.specs.declared.error.ErrorKind.TheVariants.{DisplayHelp, InvalidSubcommand, OutOfMemory as NoMemory, UnknownArgument}
 use Rattle.clap.proofs.OnLiterals.{clap_on_literals}
+use Rattle.reg_interleavings.specs.declared.kinds.OrderKind.{OrderKind}
 use Rattle.reg_show.specs.declared.Showing.{Showing}
 use Rattle.reg_args.specs.Lines.{is_flag, may_ask_help}
 use Rattle.reg_args.proofs.Chosen.{takes_line}
@@ -22,7 +23,7 @@ use Rattle.reg_show_cli.specs.Words.{awshow, told_of}
 use Rattle.reg_show_cli.specs.Lines.{IsAnswer, IsCommandLine, IsHelpLine, is_fair, line_of, name_of}
 use Rattle.reg_show_cli.proofs.Lines.{awshow_lines, no_name, subs}
 use Rattle.reg_show_cli.specs.declared.words.Asked.{Asked}
-use Rattle.reg_show_cli.specs.declared.words.Asked.TheVariants.{AllOutcomes, Help, Outcomes, Show, Verify, Version, Why}
+use Rattle.reg_show_cli.specs.declared.words.Asked.TheVariants.{AllOutcomes, Find, Help, Outcome, Outcomes, Show, Verify, Version, Why}
 use Rattle.reg_args.specs.declared.faults.WordsFault.{WordsFault}
 use Rattle.reg_args.specs.declared.faults.WordsFault.TheVariants.{CommandLine, OutOfMemory}
 
@@ -161,6 +162,16 @@ never_all DisplayHelp e = cc
 never_all NoMemory e = cc
 never_all _ e = cc
 
+never_one : (k : ErrorKind) (number : ℕ) → told_of k ≡ Ok (Outcome number) → ⊥
+never_one DisplayHelp number e = cc
+never_one NoMemory number e = cc
+never_one _ number e = cc
+
+never_found : (k : ErrorKind) (kind : OrderKind) → told_of k ≡ Ok (Find kind) → ⊥
+never_found DisplayHelp kind e = cc
+never_found NoMemory kind e = cc
+never_found _ kind e = cc
+
 only_help : (k : ErrorKind) → told_of k ≡ Ok Help → k ≡ DisplayHelp
 only_help DisplayHelp e = refl
 only_help NoMemory e = cc
@@ -189,6 +200,8 @@ refused words error memory kinds = go (told_of (kind_of error)) refl
     go (Ok (Show showing)) is = absurd (never_shown (kind_of error) showing is)
     go (Ok (Outcomes plays)) is = absurd (never_counted (kind_of error) plays is)
     go (Ok AllOutcomes) is = absurd (never_all (kind_of error) is)
+    go (Ok (Outcome number)) is = absurd (never_one (kind_of error) number is)
+    go (Ok (Find kind)) is = absurd (never_found (kind_of error) kind is)
     go (Ok Why) is = absurd (never_asked (kind_of error) is)
     go (Ok Verify) is = absurd (never_judged (kind_of error) is)
     go (Ok Version) is = absurd (never_named (kind_of error) is)

@@ -6,9 +6,12 @@ use Rattle.std.specs.Str.{bytes_eq}
 use Rattle.std.proofs.lemmas.Slice.Eq.{bytes_eq-Decides}
 use Rattle.std.proofs.lemmas.Option.{same_Some}
 use Rattle.clap.specs.Words.{Text}
+use Rattle.reg_outcomes.specs.declared.plays.TheConstants.{MOST_PLAYS}
 use Rattle.reg_show_cli.specs.declared.words.Asked.{Asked}
-use Rattle.reg_show_cli.specs.declared.words.Asked.TheVariants.{AllOutcomes, Help, Outcomes, Show, Verify, Version, Why}
-use Rattle.reg_show_cli.specs.Lines.{IsAllLine, IsAnswer, IsChoice, IsOutcomesLine, IsVerifyLine, IsVersionLine, IsWhyLine, PlaysFit}
+use Rattle.reg_show_cli.specs.declared.words.Asked.TheVariants.{AllOutcomes, Find, Help, Outcome, Outcomes, Show, Verify, Version, Why}
+use Rattle.reg_interleavings.specs.declared.kinds.OrderKind.{OrderKind}
+use Rattle.reg_interleavings.specs.declared.kinds.OrderKind.TheVariants.{Serial, Points}
+use Rattle.reg_show_cli.specs.Lines.{IsAllLine, IsAnswer, IsChoice, IsFindLine, IsNumberedLine, IsOneOutcomeLine, IsOutcomesLine, IsVerifyLine, IsVersionLine, IsWhyLine, NumbersFit}
 use Rattle.reg_args.specs.declared.faults.WordsFault.{WordsFault}
 use Rattle.reg_args.specs.declared.faults.WordsFault.TheVariants.{CommandLine, OutOfMemory}
 
@@ -64,59 +67,46 @@ long_as [] line x rest e f = absurd (none (e ∙ f))
     none g = absurd cc
 long_as (a ∷ ws) line x rest e f = let n = ap length e in omega (arith, n)
 
-module _ (ws : List Text) (plays : ℕ) where
-  -- a line that asks so begins with the name, and has one word or three
-  pub names_it : IsOutcomesLine (drop 1 ws) plays → slice_get ws 1 ≡ Some (codes "outcomes")
-  names_it (inl (e, u)) = word_at ws (codes "outcomes" ∷ []) 0 (codes "outcomes") e refl
-  names_it (inr (e, low, high)) = word_at ws (codes "outcomes" ∷ codes "--plays" ∷ decimal plays ∷ []) 0 (codes "outcomes") e refl
+-- a line with a flag and a number has three words
+module _ (ws : List Text) (flag : Text) (most number : ℕ) (asked : IsNumberedLine flag most (drop 1 ws) number) where
+  abbrev three : List Text
+  three = codes "outcomes" ∷ flag ∷ decimal number ∷ []
 
-  pub has_length : IsOutcomesLine (drop 1 ws) plays → (length ws ≡ 2) ⊎ ((length ws ≡ 4) × (slice_get ws 2 ≡ Some (codes "--plays")) × (slice_get ws 3 ≡ Some (decimal plays)) × (1 ≤ plays) × (plays ≤ 1000000))
-  has_length (inl (e, u)) = let n = long_as ws (codes "outcomes" ∷ []) (codes "outcomes") [] e refl in inl (omega (arith, n))
-  has_length (inr (e, low, high)) =
-      let line = codes "outcomes" ∷ codes "--plays" ∷ decimal plays ∷ [] in
-      let n = long_as ws line (codes "outcomes") (codes "--plays" ∷ decimal plays ∷ []) e refl in
-      inr (omega (arith, n), word_at ws line 1 (codes "--plays") e refl, word_at ws line 2 (decimal plays) e refl, low, high)
+  pub numbered_length : length ws ≡ 4
+  numbered_length = let n = long_as ws three (codes "outcomes") (flag ∷ decimal number ∷ []) asked.0 refl in omega (arith, n)
 
--- what is asked for, by the words at their places
-pub usual_plays : (ws : List Text) → length ws ≡ 2 → slice_get ws 1 ≡ Some (codes "outcomes") → IsOutcomesLine (drop 1 ws) 1000
-usual_plays ws n h = inl (one_word ws (codes "outcomes") n h, refl)
+  pub numbered_word : (k : ℕ) (x : Text) → slice_get three k ≡ Some x → slice_get ws (suc k) ≡ Some x
+  numbered_word k x at = word_at ws three k x asked.0 at
 
-pub these_plays : (ws : List Text) (plays : ℕ) → length ws ≡ 4 → slice_get ws 1 ≡ Some (codes "outcomes") → slice_get ws 2 ≡ Some (codes "--plays") → slice_get ws 3 ≡ Some (decimal plays) → 1 ≤ plays → plays ≤ 1000000 → IsOutcomesLine (drop 1 ws) plays
-these_plays ws plays n h i j low high = inr (three_words ws (codes "outcomes") (codes "--plays") (decimal plays) n h i j, low, high)
-
-pub not_named : (ws : List Text) → (slice_get ws 1 ≡ Some (codes "outcomes") → ⊥) → (plays : ℕ) → ¬ IsOutcomesLine (drop 1 ws) plays
-not_named ws other plays line = other (names_it ws plays line)
-
-pub other_length : (ws : List Text) → (length ws ≡ 2 → ⊥) → (length ws ≡ 4 → ⊥) → (plays : ℕ) → ¬ IsOutcomesLine (drop 1 ws) plays
-other_length ws two four plays line = elim (has_length ws plays line) [ inl n ↦ two n | inr (n, i, j, low, high) ↦ four n ]
-
-pub not_flagged : (ws : List Text) → length ws ≡ 4 → (slice_get ws 2 ≡ Some (codes "--plays") → ⊥) → (plays : ℕ) → ¬ IsOutcomesLine (drop 1 ws) plays
-not_flagged ws n other plays line = elim (has_length ws plays line) [ inl m ↦ omega (arith, m, n) | inr (m, i, j, low, high) ↦ other i ]
-
--- no number of plays, or one
-pub said_plays : (ws : List Text) (word : Text) (r : Option ℕ) → length ws ≡ 4 → slice_get ws 1 ≡ Some (codes "outcomes") → slice_get ws 2 ≡ Some (codes "--plays") → slice_get ws 3 ≡ Some word
-    → IfSome r (λ plays. (word ≡ decimal plays) × (1 ≤ plays) × (plays ≤ 1000000)) → ((plays : ℕ) → 1 ≤ plays → plays ≤ 1000000 → word ≡ decimal plays → r ≡ Some plays)
-    → MatchOption r ((plays : ℕ) → ¬ IsOutcomesLine (drop 1 ws) plays) (IsOutcomesLine (drop 1 ws))
-said_plays ws word None n h i j read whole = λ plays line. elim (has_length ws plays line) [
-  | inl m ↦ omega (arith, m, n)
-  | inr (m, flag, number, low, high) ↦ some (whole plays low high (same_Some word (decimal plays) (sym j ∙ number)))
-]
+-- no number, or one
+pub said_number : (ws : List Text) (flag word : Text) (most : ℕ) (r : Option ℕ) → length ws ≡ 4 → slice_get ws 1 ≡ Some (codes "outcomes") → slice_get ws 2 ≡ Some flag → slice_get ws 3 ≡ Some word
+    → IfSome r (λ number. (word ≡ decimal number) × (1 ≤ number) × (number ≤ most)) → ((number : ℕ) → 1 ≤ number → number ≤ most → word ≡ decimal number → r ≡ Some number)
+    → MatchOption r ((number : ℕ) → ¬ IsNumberedLine flag most (drop 1 ws) number) (IsNumberedLine flag most (drop 1 ws))
+said_number ws flag word most None n h i j read whole = λ number asked. some (whole number asked.1 asked.2 (same_Some word (decimal number) (sym j ∙ numbered_word ws flag most number asked 2 (decimal number) refl)))
   where
     some : {x : ℕ} → None ≡ Some x → ⊥
     some e = absurd cc
-said_plays ws word (Some plays) n h i j read whole = these_plays ws plays n h i (j ∙ ap Some read.0) read.1 read.2
+said_number ws flag word most (Some number) n h i j read whole = (three_words ws (codes "outcomes") flag (decimal number) n h i (j ∙ ap Some read.0), read.1, read.2)
+
+-- the number of plays is said, where it isn't the usual one
+pub said_plays : (line : List Text) (r : Option ℕ) → (line ≡ codes "outcomes" ∷ [] → ⊥) → MatchOption r ((number : ℕ) → ¬ IsNumberedLine (codes "--plays") MOST_PLAYS line number) (IsNumberedLine (codes "--plays") MOST_PLAYS line)
+    → MatchOption r ((plays : ℕ) → ¬ IsOutcomesLine line plays) (IsOutcomesLine line)
+said_plays line None more none = λ plays asked. elim asked [ inl usual ↦ more usual.0 | inr said ↦ none plays said ]
+said_plays line (Some plays) more said = inr said
 
 -- what clap reads of other lines is what they ask for
-pub chosen : (line : List Text) (r : Result Asked WordsFault) → ((plays : ℕ) → ¬ IsOutcomesLine line plays) → ¬ IsWhyLine line → ¬ IsVersionLine line → ¬ IsAllLine line → ¬ IsVerifyLine line → IsAnswer line r → IsChoice line r
-chosen line (Ok (Show showing)) other none unnamed part unjudged h = h
-chosen line (Ok (Outcomes plays)) other none unnamed part unjudged h = absurd h
-chosen line (Ok AllOutcomes) other none unnamed part unjudged h = absurd h
-chosen line (Ok Why) other none unnamed part unjudged h = absurd h
-chosen line (Ok Verify) other none unnamed part unjudged h = absurd h
-chosen line (Ok Version) other none unnamed part unjudged h = absurd h
-chosen line (Ok Help) other none unnamed part unjudged h = (λ asked. elim asked [ inl shown ↦ h.0 shown | inr (inl (plays, counted)) ↦ other plays counted | inr (inr (inl why)) ↦ none why | inr (inr (inr (inl version))) ↦ unnamed version | inr (inr (inr (inr (inl every)))) ↦ part every | inr (inr (inr (inr (inr judged)))) ↦ unjudged judged ], h.1)
-chosen line (Err CommandLine) other none unnamed part unjudged h = (λ asked. elim asked [ inl shown ↦ h.0 shown | inr (inl (plays, counted)) ↦ other plays counted | inr (inr (inl why)) ↦ none why | inr (inr (inr (inl version))) ↦ unnamed version | inr (inr (inr (inr (inl every)))) ↦ part every | inr (inr (inr (inr (inr judged)))) ↦ unjudged judged ], h.1)
-chosen line (Err OutOfMemory) other none unnamed part unjudged h = tt
+pub chosen : (line : List Text) (r : Result Asked WordsFault) → ((plays : ℕ) → ¬ IsOutcomesLine line plays) → ¬ IsWhyLine line → ¬ IsVersionLine line → ¬ IsAllLine line → ((number : ℕ) → ¬ IsOneOutcomeLine line number) → ((kind : OrderKind) → ¬ IsFindLine line kind) → ¬ IsVerifyLine line → IsAnswer line r → IsChoice line r
+chosen line (Ok (Show showing)) other none unnamed part one unfound unjudged h = h
+chosen line (Ok (Outcomes plays)) other none unnamed part one unfound unjudged h = absurd h
+chosen line (Ok AllOutcomes) other none unnamed part one unfound unjudged h = absurd h
+chosen line (Ok (Outcome number)) other none unnamed part one unfound unjudged h = absurd h
+chosen line (Ok (Find kind)) other none unnamed part one unfound unjudged h = absurd h
+chosen line (Ok Why) other none unnamed part one unfound unjudged h = absurd h
+chosen line (Ok Verify) other none unnamed part one unfound unjudged h = absurd h
+chosen line (Ok Version) other none unnamed part one unfound unjudged h = absurd h
+chosen line (Ok Help) other none unnamed part one unfound unjudged h = (λ asked. elim asked [ inl shown ↦ h.0 shown | inr (inl (plays, counted)) ↦ other plays counted | inr (inr (inl why)) ↦ none why | inr (inr (inr (inl version))) ↦ unnamed version | inr (inr (inr (inr (inl every)))) ↦ part every | inr (inr (inr (inr (inr (inl (number, named)))))) ↦ one number named | inr (inr (inr (inr (inr (inr (inl (kind, found))))))) ↦ unfound kind found | inr (inr (inr (inr (inr (inr (inr judged)))))) ↦ unjudged judged ], h.1)
+chosen line (Err CommandLine) other none unnamed part one unfound unjudged h = (λ asked. elim asked [ inl shown ↦ h.0 shown | inr (inl (plays, counted)) ↦ other plays counted | inr (inr (inl why)) ↦ none why | inr (inr (inr (inl version))) ↦ unnamed version | inr (inr (inr (inr (inl every)))) ↦ part every | inr (inr (inr (inr (inr (inl (number, named)))))) ↦ one number named | inr (inr (inr (inr (inr (inr (inl (kind, found))))))) ↦ unfound kind found | inr (inr (inr (inr (inr (inr (inr judged)))))) ↦ unjudged judged ], h.1)
+chosen line (Err OutOfMemory) other none unnamed part one unfound unjudged h = tt
 
 -- a word stands alone just where there are two, and the second one is that
 pub alone_length : (ws : List Text) (word : Text) → drop 1 ws ≡ word ∷ [] → length ws ≡ 2
@@ -125,20 +115,30 @@ alone_length ws word e = let n = long_as ws (word ∷ []) word [] e refl in omeg
 pub alone_named : (ws : List Text) (word : Text) → drop 1 ws ≡ word ∷ [] → slice_get ws 1 ≡ Some word
 alone_named ws word e = word_at ws (word ∷ []) 0 word e refl
 
--- so do the words that ask for all outcomes
-pub all_length : (ws : List Text) → IsAllLine (drop 1 ws) → length ws ≡ 3
-all_length ws e = let n = long_as ws (codes "outcomes" ∷ codes "--all" ∷ []) (codes "outcomes") (codes "--all" ∷ []) e refl in omega (arith, n)
+-- so do two words
+pub two_length : (ws : List Text) (x y : Text) → drop 1 ws ≡ x ∷ y ∷ [] → length ws ≡ 3
+two_length ws x y e = let n = long_as ws (x ∷ y ∷ []) x (y ∷ []) e refl in omega (arith, n)
 
-pub all_word : (ws : List Text) (k : ℕ) (x : Text) → slice_get (codes "outcomes" ∷ codes "--all" ∷ []) k ≡ Some x → IsAllLine (drop 1 ws) → slice_get ws (suc k) ≡ Some x
-all_word ws k x at e = word_at ws (codes "outcomes" ∷ codes "--all" ∷ []) k x e at
+pub first_word : (ws : List Text) (x y : Text) → drop 1 ws ≡ x ∷ y ∷ [] → slice_get ws 1 ≡ Some x
+first_word ws x y e = word_at ws (x ∷ y ∷ []) 0 x e refl
 
--- what is asked for can be counted
-pub plays_fit : (line : List Text) (asked : Asked) → IsChoice line (Ok asked) → PlaysFit asked
-plays_fit line (Show showing) h = tt
-plays_fit line (Outcomes plays) (inl (e, u)) = omega (arith, u)
-plays_fit line (Outcomes plays) (inr (e, low, high)) = high
-plays_fit line AllOutcomes h = tt
-plays_fit line Why h = tt
-plays_fit line Verify h = tt
-plays_fit line Help h = tt
-plays_fit line Version h = tt
+pub second_word : (ws : List Text) (x y : Text) → drop 1 ws ≡ x ∷ y ∷ [] → slice_get ws 2 ≡ Some y
+second_word ws x y e = word_at ws (x ∷ y ∷ []) 1 y e refl
+
+-- no order is asked for where neither is
+pub no_order : (line : List Text) → ¬ IsFindLine line Serial → ¬ IsFindLine line Points → (kind : OrderKind) → ¬ IsFindLine line kind
+no_order line serial points Serial h = serial h
+no_order line serial points Points h = points h
+
+-- the numbers of what is asked for fit
+pub numbers_fit : (line : List Text) (asked : Asked) → IsChoice line (Ok asked) → NumbersFit asked
+numbers_fit line (Show showing) h = tt
+numbers_fit line (Outcomes plays) (inl (e, u)) = omega (arith, u)
+numbers_fit line (Outcomes plays) (inr (e, low, high)) = high
+numbers_fit line AllOutcomes h = tt
+numbers_fit line (Outcome number) h = h.1
+numbers_fit line (Find kind) h = tt
+numbers_fit line Why h = tt
+numbers_fit line Verify h = tt
+numbers_fit line Help h = tt
+numbers_fit line Version h = tt

@@ -2,12 +2,14 @@
 use Rattle.std.proofs.Common.{ℕ, List, Option, inl, inr}
 use Rattle.reg_show_cli.specs.Statuses.{Stops, Tells}
 use Rattle.reg_show_cli.specs.declared.words.Asked.{Asked}
-use Rattle.reg_show_cli.specs.declared.words.Asked.TheVariants.{AllOutcomes, Help, Outcomes, Show, Verify, Version, Why}
+use Rattle.reg_show_cli.specs.declared.words.Asked.TheVariants.{AllOutcomes, Find, Help, Outcome, Outcomes, Show, Verify, Version, Why}
 
 pub tells_of : (asked : Asked) (input : Option (List ℕ)) (unwritten : Type 0) (old new was is : Option (List ℕ)) → Stops asked input unwritten old new was is → Tells asked was is
 tells_of (Show showing) input unwritten old new was is h = (h.0, h.4)
 tells_of (Outcomes plays) input unwritten old new was is h = (h.0, h.4)
 tells_of AllOutcomes input unwritten old new was is h = (h.0, h.4)
+tells_of (Outcome number) input unwritten old new was is h = (h.0, h.4)
+tells_of (Find kind) input unwritten old new was is h = elim h [ inl (none, same) ↦ inl same | inr (f, blamed, silent, part, told) ↦ inr (f, told) ]
 tells_of Why input unwritten old new was is h = elim h [ inl (answered, same) ↦ inl same | inr (f, halted, silent, part, told) ↦ inr (f, told) ]
 tells_of Verify input unwritten old new was is h = (h.0, h.4)
 tells_of Help input unwritten old new was is h = h

@@ -7,9 +7,11 @@ use Rattle.reg_outcomes.specs.declared.plays.TheConstants.{MOST_PLAYS}
 use Rattle.reg_show.specs.declared.Showing.{Showing}
 use Rattle.reg_show.specs.declared.Showing.TheVariants.{Data, Draw, Page, Rest, Schedule, Trace}
 use Rattle.reg_args.specs.Lines.{may_ask_help, named_line}
-use Rattle.reg_show_cli.specs.declared.asking.TheConstants.{USUAL_PLAYS}
+use Rattle.reg_interleavings.specs.declared.kinds.OrderKind.{OrderKind}
+use Rattle.reg_interleavings.specs.declared.kinds.OrderKind.TheVariants.{Serial, Points}
+use Rattle.reg_show_cli.specs.declared.asking.TheConstants.{LAST_OUTCOME, USUAL_PLAYS}
 use Rattle.reg_show_cli.specs.declared.words.Asked.{Asked}
-use Rattle.reg_show_cli.specs.declared.words.Asked.TheVariants.{AllOutcomes, Help, Outcomes, Show, Verify, Version, Why}
+use Rattle.reg_show_cli.specs.declared.words.Asked.TheVariants.{AllOutcomes, Find, Help, Outcome, Outcomes, Show, Verify, Version, Why}
 use Rattle.reg_args.specs.declared.faults.WordsFault.{WordsFault}
 use Rattle.reg_args.specs.declared.faults.WordsFault.TheVariants.{CommandLine, OutOfMemory}
 
@@ -35,10 +37,14 @@ line_of showing = named_line (name_of showing) (is_fair showing)
 abbrev pub IsCommandLine : List Text → Type 0
 IsCommandLine line = (showing : Showing) × (line ≡ line_of showing)
 
+-- the words name outcomes, with this flag and a number behind it, from 1 to the most
+abbrev pub IsNumberedLine : Text → ℕ → List Text → ℕ → Type 0
+IsNumberedLine flag most line number = (line ≡ codes "outcomes" ∷ flag ∷ decimal number ∷ []) × (1 ≤ number) × (number ≤ most)
+
 -- the words ask to count what so many plays tell: as many as is usual, or this number, within its limits
 abbrev pub IsOutcomesLine : List Text → ℕ → Type 0
 IsOutcomesLine line plays =
-    ((line ≡ codes "outcomes" ∷ []) × (plays ≡ USUAL_PLAYS)) ⊎ ((line ≡ codes "outcomes" ∷ codes "--plays" ∷ decimal plays ∷ []) × (1 ≤ plays) × (plays ≤ MOST_PLAYS))
+    ((line ≡ codes "outcomes" ∷ []) × (plays ≡ USUAL_PLAYS)) ⊎ IsNumberedLine (codes "--plays") MOST_PLAYS line plays
 
 -- the words ask what is wrong with a text
 abbrev pub IsWhyLine : List Text → Type 0
@@ -56,9 +62,22 @@ IsVersionLine line = line ≡ codes "--version" ∷ []
 abbrev pub IsAllLine : List Text → Type 0
 IsAllLine line = line ≡ codes "outcomes" ∷ codes "--all" ∷ []
 
+-- the words ask for a run with the outcome of this number
+abbrev pub IsOneOutcomeLine : List Text → ℕ → Type 0
+IsOneOutcomeLine line number = IsNumberedLine (codes "--all") LAST_OUTCOME line number
+
+-- the word for an order
+abbrev pub order_word : OrderKind → Text
+order_word Serial = codes "serial"
+order_word Points = codes "points"
+
+-- the words ask to find an order of this kind
+abbrev pub IsFindLine : List Text → OrderKind → Type 0
+IsFindLine line kind = line ≡ codes "find" ∷ order_word kind ∷ []
+
 -- the words ask for one of these
 abbrev pub IsAskedLine : List Text → Type 0
-IsAskedLine line = IsCommandLine line ⊎ (((plays : ℕ) × IsOutcomesLine line plays) ⊎ (IsWhyLine line ⊎ (IsVersionLine line ⊎ (IsAllLine line ⊎ IsVerifyLine line))))
+IsAskedLine line = IsCommandLine line ⊎ (((plays : ℕ) × IsOutcomesLine line plays) ⊎ (IsWhyLine line ⊎ (IsVersionLine line ⊎ (IsAllLine line ⊎ (((number : ℕ) × IsOneOutcomeLine line number) ⊎ (((kind : OrderKind) × IsFindLine line kind) ⊎ IsVerifyLine line))))))
 
 -- the words ask for help by a flag alone
 abbrev pub IsHelpLine : List Text → Type 0
@@ -70,6 +89,8 @@ abbrev pub IsAnswer : List Text → Result Asked WordsFault → Type 0
 IsAnswer line (Ok (Show showing)) = line ≡ line_of showing
 IsAnswer line (Ok (Outcomes plays)) = ⊥
 IsAnswer line (Ok AllOutcomes) = ⊥
+IsAnswer line (Ok (Outcome number)) = ⊥
+IsAnswer line (Ok (Find kind)) = ⊥
 IsAnswer line (Ok Why) = ⊥
 IsAnswer line (Ok Verify) = ⊥
 IsAnswer line (Ok Version) = ⊥
@@ -83,6 +104,8 @@ abbrev pub IsChoice : List Text → Result Asked WordsFault → Type 0
 IsChoice line (Ok (Show showing)) = line ≡ line_of showing
 IsChoice line (Ok (Outcomes plays)) = IsOutcomesLine line plays
 IsChoice line (Ok AllOutcomes) = IsAllLine line
+IsChoice line (Ok (Outcome number)) = IsOneOutcomeLine line number
+IsChoice line (Ok (Find kind)) = IsFindLine line kind
 IsChoice line (Ok Why) = IsWhyLine line
 IsChoice line (Ok Verify) = IsVerifyLine line
 IsChoice line (Ok Version) = IsVersionLine line
@@ -90,11 +113,12 @@ IsChoice line (Ok Help) = ¬ IsAskedLine line × (list_any may_ask_help line ≡
 IsChoice line (Err CommandLine) = ¬ IsAskedLine line × ¬ IsHelpLine line
 IsChoice line (Err OutOfMemory) = ⊤
 
--- what is asked for has no more plays than can be counted
-abbrev pub PlaysFit : Asked → Type 0
-PlaysFit (Outcomes plays) = plays ≤ MOST_PLAYS
-PlaysFit _ = ⊤
+-- what is asked for has no more plays than can be counted, and the outcome a number from 1 on
+abbrev pub NumbersFit : Asked → Type 0
+NumbersFit (Outcomes plays) = plays ≤ MOST_PLAYS
+NumbersFit (Outcome number) = 1 ≤ number
+NumbersFit _ = ⊤
 
 -- the line for words that ask for nothing, with its line feed
 abbrev pub refused_line : List ℕ
-refused_line = codes "usage: awshow schedule [--fair] | outcomes [--all | --plays N] | trace | draw | data | page | rest | why | verify" ++ 10 ∷ []
+refused_line = codes "usage: awshow schedule [--fair] | outcomes [--all [K] | --plays N] | find serial | find points | trace | draw | data | page | rest | why | verify" ++ 10 ∷ []

@@ -11,15 +11,21 @@ use Rattle.reg_commands.specs.FaultLines.{fault_line}
 use Rattle.reg_every.specs.AllOutcomes.{BlamesAll, WritesAll, all_line}
 use Rattle.reg_every.specs.declared.every.AllFault.{AllFault}
 use Rattle.reg_every.specs.declared.every.AllFault.TheVariants.{Command as AllCommand}
+use Rattle.reg_every.specs.Finding.{BlamesFind, FindsAny, WritesFound, WritesNone, find_line}
+use Rattle.reg_every.specs.declared.finding.FindFault.{FindFault}
+use Rattle.reg_every.specs.declared.finding.FindFault.TheVariants.{Command as FindCommand}
 use Rattle.reg_show.specs.declared.faults.ShowFault.{ShowFault}
 use Rattle.reg_show.specs.declared.faults.ShowFault.TheVariants.{Command}
+use Rattle.reg_show.specs.OneOutcome.{BlamesOutcome, WritesOutcome, outcome_line}
 use Rattle.reg_show.specs.Outcomes.{WritesOutcomes}
+use Rattle.reg_show.specs.declared.one_outcome.OutcomeFault.{OutcomeFault}
+use Rattle.reg_show.specs.declared.one_outcome.OutcomeFault.TheVariants.{Command as OutcomeCommand}
 use Rattle.reg_show.specs.Showings.{Blames, Shows, show_line}
 use Rattle.reg_verify.specs.Verifies.{BlamesAccount, Verifies, verify_line}
 use Rattle.reg_verify.specs.declared.faults.VerifyFault.{VerifyFault}
 use Rattle.reg_verify.specs.declared.faults.VerifyFault.TheVariants.{Command as VerifyCommand}
 use Rattle.reg_show_cli.specs.declared.words.Asked.{Asked}
-use Rattle.reg_show_cli.specs.declared.words.Asked.TheVariants.{AllOutcomes, Help, Outcomes, Show, Verify, Version, Why}
+use Rattle.reg_show_cli.specs.declared.words.Asked.TheVariants.{AllOutcomes, Find, Help, Outcome, Outcomes, Show, Verify, Version, Why}
 use Rattle.reg_show.specs.Tellings.{Answers, AnswersAny, Halts}
 
 -- Status 0: what was asked for was shown of the input, the input is accepted and that was written, or the text of the help or of the version was written. `Wrote` says how a text was written.
@@ -27,6 +33,8 @@ abbrev pub Obeys : List ℕ → List ℕ → Asked → Option (List ℕ) → (Li
 Obeys help version (Show showing) input Wrote = IfSome input (λ xs. length xs ≤ LONGEST_INPUT) × IfSome input (Shows showing Wrote)
 Obeys help version (Outcomes plays) input Wrote = IfSome input (λ xs. length xs ≤ LONGEST_INPUT) × IfSome input (WritesOutcomes plays Wrote)
 Obeys help version AllOutcomes input Wrote = IfSome input (λ xs. length xs ≤ LONGEST_INPUT) × IfSome input (WritesAll Wrote)
+Obeys help version (Outcome number) input Wrote = IfSome input (λ xs. length xs ≤ LONGEST_INPUT) × IfSome input (WritesOutcome number Wrote)
+Obeys help version (Find kind) input Wrote = IfSome input (λ xs. length xs ≤ LONGEST_INPUT) × IfSome input (WritesFound kind Wrote)
 Obeys help version Why input Wrote = IfSome input (λ xs. length xs ≤ LONGEST_INPUT) × IfSome input (Answers true Wrote)
 Obeys help version Verify input Wrote = IfSome input (λ xs. length xs ≤ LONGEST_INPUT) × IfSome input (Verifies Wrote)
 Obeys help version Help input Wrote = Wrote help
@@ -34,7 +42,7 @@ Obeys help version Version input Wrote = Wrote version
 
 -- Status 1: the line of a fault was told, or a first part of it. It holds of the input, and nothing was written unless the writer
 -- failed; then a first part of what is shown was. Where help or the version was asked for, the writer failed. Where the question was why, the text
--- is refused, and its answer was written.
+-- is refused, and its answer was written; where an order was looked for, there is none, and that was written.
 abbrev pub Stops : Asked → Option (List ℕ) → Type 0 → Option (List ℕ) → Option (List ℕ) → Option (List ℕ) → Option (List ℕ) → Type 0
 Stops (Show showing) input unwritten old new was is =
     (f : ShowFault) × IfSome input (Blames showing f) × (f ≢ Command Output → unwritten) × (f ≡ Command Output → IfSome input (Shows showing (AppendsPart old new))) × AppendsPart was is (show_line f)
@@ -42,6 +50,11 @@ Stops (Outcomes plays) input unwritten old new was is =
     (f : Fault) × IfSome input (BlamesCommand (Play false) f) × (f ≢ Output → unwritten) × (f ≡ Output → IfSome input (WritesOutcomes plays (AppendsPart old new))) × AppendsPart was is (fault_line f)
 Stops AllOutcomes input unwritten old new was is =
     (f : AllFault) × IfSome input (BlamesAll f) × (f ≢ AllCommand Output → unwritten) × (f ≡ AllCommand Output → IfSome input (WritesAll (AppendsPart old new))) × AppendsPart was is (all_line f)
+Stops (Outcome number) input unwritten old new was is =
+    (f : OutcomeFault) × IfSome input (BlamesOutcome number f) × (f ≢ OutcomeCommand Output → unwritten) × (f ≡ OutcomeCommand Output → IfSome input (WritesOutcome number (AppendsPart old new))) × AppendsPart was is (outcome_line f)
+Stops (Find kind) input unwritten old new was is =
+    (IfSome input (WritesNone kind (Appends old new)) × (was ≡ is))
+    ⊎ ((f : FindFault) × IfSome input (BlamesFind kind f) × (f ≢ FindCommand Output → unwritten) × (f ≡ FindCommand Output → IfSome input (FindsAny kind (AppendsPart old new))) × AppendsPart was is (find_line f))
 Stops Why input unwritten old new was is =
     (IfSome input (Answers false (Appends old new)) × (was ≡ is))
     ⊎ ((f : Fault) × IfSome input (Halts f) × (f ≢ Output → unwritten) × (f ≡ Output → IfSome input (AnswersAny (AppendsPart old new))) × AppendsPart was is (fault_line f))
@@ -55,6 +68,8 @@ abbrev pub Tells : Asked → Option (List ℕ) → Option (List ℕ) → Type 0
 Tells (Show showing) was is = (f : ShowFault) × AppendsPart was is (show_line f)
 Tells (Outcomes plays) was is = (f : Fault) × AppendsPart was is (fault_line f)
 Tells AllOutcomes was is = (f : AllFault) × AppendsPart was is (all_line f)
+Tells (Outcome number) was is = (f : OutcomeFault) × AppendsPart was is (outcome_line f)
+Tells (Find kind) was is = (was ≡ is) ⊎ ((f : FindFault) × AppendsPart was is (find_line f))
 Tells Why was is = (was ≡ is) ⊎ ((f : Fault) × AppendsPart was is (fault_line f))
 Tells Verify was is = (f : VerifyFault) × AppendsPart was is (verify_line f)
 Tells Help was is = AppendsPart was is (fault_line Output)

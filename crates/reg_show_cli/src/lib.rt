@@ -5,7 +5,7 @@ mod asking;
 mod program;
 mod words;
 
-pub use asking::{USUAL_PLAYS, ask};
+pub use asking::{LAST_OUTCOME, USUAL_PLAYS, ask};
 pub use program::{refuse, run_line, run_program, run_words};
 pub use reg_args::WordsFault;
 pub use reg_show::Showing;

@@ -5,7 +5,7 @@ ghost use Rattle.reg_text.specs.Writing.{AppendsPart};
 ghost use Rattle.reg_commands.specs.FaultLines.{fault_line};
 ghost use Rattle.reg_args.specs.Faults.{status_of};
 ghost use Rattle.reg_args.specs.Lines.{behind_name};
-ghost use Rattle.reg_show_cli.specs.Lines.{IsAskedLine, IsChoice, IsHelpLine, PlaysFit, refused_line};
+ghost use Rattle.reg_show_cli.specs.Lines.{IsAskedLine, IsChoice, IsHelpLine, NumbersFit, refused_line};
 ghost use Rattle.reg_show_cli.specs.Statuses.{Obeys, Stops, Tells, memory_line};
 ghost use Rattle.reg_show_cli.specs.declared.words.Asked.{Asked as AnyAsked};
 ghost use Rattle.reg_show_cli.specs.declared.words.TheConstants.{HELP, VERSION};
@@ -14,8 +14,8 @@ use crate::asking::ask;
 use crate::words::{Asked, HELP, VERSION};
 use reg_args::{WordsFault, tell, words_of};
 use reg_commands::{Fault, write_fault};
-use reg_every::show_all_outcomes;
-use reg_show::{show_outcomes, show_text, why_text};
+use reg_every::{find_order, show_all_outcomes};
+use reg_show::{show_outcome, show_outcomes, show_text, why_text};
 use reg_text::write_bytes;
 use reg_verify::verify_text;
 use std::io::{self, BufWriter, Read, Write};
@@ -43,7 +43,7 @@ fn obey<R: AllocGlobal, I: Read, O: Write, E: Write>(
     writer: &mut O,
     errors: &mut E,
 ) -> u8
-    requires { PlaysFit asked }
+    requires { NumbersFit asked }
     ensures range { result ≤ 1 }
     ensures obeyed { result ≡ 0 → Obeys HELP.now VERSION.now asked (I.remaining reader.old) (Appends (O.contents writer.old) (O.contents writer.new)) }
     ensures stopped { result ≡ 1 → Stops asked (I.remaining reader.old) (writer.new ≡ writer.old) (O.contents writer.old) (O.contents writer.new) (E.contents errors.old) (E.contents errors.new) }
@@ -59,6 +59,10 @@ fn obey<R: AllocGlobal, I: Read, O: Write, E: Write>(
             show_outcomes(rt.alloc(), rt.alloc(), plays, reader, writer, errors)
         }
         Asked::AllOutcomes => show_all_outcomes(rt.alloc(), rt.alloc(), reader, writer, errors),
+        Asked::Outcome { number } => {
+            show_outcome(rt.alloc(), rt.alloc(), number, reader, writer, errors)
+        }
+        Asked::Find { kind } => find_order(rt.alloc(), kind, reader, writer, errors),
         Asked::Why => why_text(rt.alloc(), rt.alloc(), reader, writer, errors),
         Asked::Verify => verify_text(rt.alloc(), reader, writer, errors),
     }
@@ -72,7 +76,7 @@ pub fn refuse<E: Write>(fault: WordsFault, errors: &mut E) -> u8
 {
     tell(
         fault,
-        b"usage: awshow schedule [--fair] | outcomes [--all | --plays N] | trace | draw | data | page | rest | why | verify\n",
+        b"usage: awshow schedule [--fair] | outcomes [--all [K] | --plays N] | find serial | find points | trace | draw | data | page | rest | why | verify\n",
         errors,
     )
 }

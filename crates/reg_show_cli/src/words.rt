@@ -9,6 +9,7 @@ ghost use Rattle.reg_show_cli.specs.Lines.{IsAnswer, is_fair, name_of};
 
 use clap::error::ErrorKind;
 use reg_args::{WordsFault, has_dashes, met, with_fair};
+use reg_interleavings::OrderKind;
 use reg_show::Showing;
 use std::alloc::{AllocError, Global};
 
@@ -21,6 +22,10 @@ pub enum Asked {
     Outcomes { plays: u32 },
     /// To print all outcomes that the scripts of the workload on the input can have.
     AllOutcomes,
+    /// To print the schedule of a run with the outcome of this number among these.
+    Outcome { number: u32 },
+    /// To find an order of the history of the report on the input.
+    Find { kind: OrderKind },
     /// To tell what is wrong with the text on the input.
     Why,
     /// To judge the record on the input.
@@ -41,6 +46,9 @@ Shows what processes that share registers do. Each command reads standard input.
 usage: awshow schedule [--fair]      reads a workload, prints the schedule of its play
        awshow outcomes [--plays N]   reads a workload, prints what N plays of it answer, counted
        awshow outcomes --all         reads a workload, prints all that it may answer, and what it never does
+       awshow outcomes --all K       reads a workload, prints the schedule of a run that answers the K-th of these
+       awshow find serial            reads a report, prints it with a serial order of its history, or that it has none
+       awshow find points            the same with a point order: each operation between its call and its answer
        awshow trace                  reads a schedule, prints what happens, event by event
        awshow draw                   reads a schedule, prints its space-time diagram as SVG
        awshow data                   reads a schedule, prints its run as JSON

@@ -24,6 +24,8 @@ mod mixed_runs;
 #[cfg(test)]
 mod nevers;
 #[cfg(test)]
+mod orders_found;
+#[cfg(test)]
 mod overtaking;
 #[cfg(test)]
 mod play_reports;
@@ -41,8 +43,6 @@ mod resting;
 mod schedules;
 #[cfg(test)]
 mod seeded;
-#[cfg(test)]
-mod serial_orders;
 #[cfg(test)]
 mod sources;
 #[cfg(test)]

@@ -11,6 +11,10 @@ mod lines;
 #[cfg(test)]
 mod litmus;
 #[cfg(test)]
+mod one_shown;
+#[cfg(test)]
+mod orders_shown;
+#[cfg(test)]
 mod records_judged;
 #[cfg(test)]
 mod rests_shown;

@@ -1,11 +1,12 @@
 //! Which command lines of `awshow` are taken, and how a refused one is told.
 use crate::lines::words_of;
+use reg_interleavings::OrderKind;
 use reg_show_cli::{Asked, Showing, WordsFault, ask, refuse};
 use std::alloc::Global;
 use std::process::Abort;
 
 /// Each line, and what it asks for.
-const LINES: [(&str, Result<Asked, WordsFault>); 43] = [
+const LINES: [(&str, Result<Asked, WordsFault>); 52] = [
     (
         "schedule",
         Ok(Asked::Show {
@@ -37,8 +38,32 @@ const LINES: [(&str, Result<Asked, WordsFault>); 43] = [
         Ok(Asked::Outcomes { plays: 1_000_000 }),
     ),
     ("outcomes --all", Ok(Asked::AllOutcomes)),
-    ("outcomes --all 3", Err(WordsFault::CommandLine)),
+    ("outcomes --all 1", Ok(Asked::Outcome { number: 1 })),
+    (
+        "outcomes --all 4294967295",
+        Ok(Asked::Outcome {
+            number: 4_294_967_295,
+        }),
+    ),
+    ("outcomes --all 0", Err(WordsFault::CommandLine)),
+    ("outcomes --all 4294967296", Err(WordsFault::CommandLine)),
+    ("outcomes --all 3 3", Err(WordsFault::CommandLine)),
     ("outcomes --plays --all", Err(WordsFault::CommandLine)),
+    (
+        "find serial",
+        Ok(Asked::Find {
+            kind: OrderKind::Serial,
+        }),
+    ),
+    (
+        "find points",
+        Ok(Asked::Find {
+            kind: OrderKind::Points,
+        }),
+    ),
+    ("find", Err(WordsFault::CommandLine)),
+    ("find order", Err(WordsFault::CommandLine)),
+    ("find serial points", Err(WordsFault::CommandLine)),
     (
         "data",
         Ok(Asked::Show {
@@ -111,6 +136,6 @@ fn is_told(alloc: Global, status: u8, line: &str) -> bool {
 #[test]
 fn a_refused_command_line_is_told_by_a_usage_line(rt: HostRuntime) {
     let usage =
-        "usage: awshow schedule [--fair] | outcomes [--all | --plays N] | trace | draw | data | page | rest | why | verify\n";
+        "usage: awshow schedule [--fair] | outcomes [--all [K] | --plays N] | find serial | find points | trace | draw | data | page | rest | why | verify\n";
     assert!(rt; is_told(rt.alloc(), 2, usage));
 }

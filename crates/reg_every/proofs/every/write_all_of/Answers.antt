@@ -9,7 +9,7 @@ use Rattle.reg_inputs.specs.Loads.{Load}
 use Rattle.reg_interleavings.specs.Interleavings.{ArePlayable}
 use Rattle.reg_interleavings.proofs.Leading.{few_operations}
 use Rattle.reg_every.specs.declared.every.AllFault.TheVariants.{Command}
-use Rattle.reg_every.proofs.Playable.{playable}
+use Rattle.reg_interleavings.proofs.Playable.{playable}
 use Rattle.reg_every.proofs.Shown.{if_in_part, if_sent, shows}
 use Rattle.reg_every.proofs.every.write_all_of.Goals as goal
 

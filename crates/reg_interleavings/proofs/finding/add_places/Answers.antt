@@ -11,17 +11,17 @@ use Rattle.reg_interleavings.proofs.finding.add_places.Goals as goal
 
 pub returns-in_err-add_place-clause-refused : goal.returns-in_err-add_place-clause-refused
 returns-in_err-add_place-clause-refused g c =
-    let Step = IsPlacing c.args.history.now.entries in
+    let Step = IsPlacing c.args.finder.now.kind c.args.finder.now.entries in
     let from : Stage × List ℕ = (stage_of c.args.stage.now, c.args.turns.now) in
     let m = c.loop-process.process in
     let p = err_from_is_err_and c.from_residual.result c.from_residual.ensures.1 in
     rw (p.1, p.2)
-    (refuses_then c.args.limit (IsFirstOf Step m from) (Step m from) (IsSomeOf Step from) (entries_of c.args.layer.now) (entries_of c.loop-process.layer) c.in_err-add_place.field-0.0
+    (refuses_then c.args.finder.now.limit (IsFirstOf Step m from) (Step m from) (IsSomeOf Step from) (entries_of c.args.layer.now) (entries_of c.loop-process.layer) c.in_err-add_place.field-0.0
     (λ f h. some_step Step m from f h) c.loop-process.invariant c.in_err-add_place.ensures.refused)
 
 pub loop-process-preserved : goal.loop-process-preserved
 loop-process-preserved g c =
-    let Step = IsPlacing c.args.history.now.entries in
+    let Step = IsPlacing c.args.finder.now.kind c.args.finder.now.entries in
     let from : Stage × List ℕ = (stage_of c.args.stage.now, c.args.turns.now) in
     let m = c.loop-process.process in
     adds_then (IsFirstOf Step m from) (Step m from) (IsFirstOf Step (m + 1) from) (entries_of c.args.layer.now) (entries_of c.loop-process.layer) (entries_of c.add_place.new.layer)
@@ -29,8 +29,8 @@ loop-process-preserved g c =
 
 pub returns-clause-adds : goal.returns-clause-adds
 returns-clause-adds g c =
-    let h = c.args.history.now in
+    let s = c.args.finder.now in
     let from : Stage × List ℕ = (stage_of c.args.stage.now, c.args.turns.now) in
     let m = c.loop-process.process in
-    adds_as (IsFirstOf (IsPlacing h.entries) m from) (IsSomeOf (IsPlacing h.entries) from) (entries_of c.args.layer.now) (entries_of c.loop-process.layer)
-    (λ f i. (i.0, i.2)) (λ f i. within_places h.shape.processes h.shape.registers h.entries c.requires.history m from f (let e = c.processes-processes.ensures.value in let same : c.shape.result.processes ≡ h.shape.processes = ap (λ (x : Extent). x.processes) c.shape.ensures in let end = c.loop-process-test.false in omega (arith, e, same, end)) i) c.loop-process.invariant
+    adds_as (IsFirstOf (IsPlacing s.kind s.entries) m from) (IsSomeOf (IsPlacing s.kind s.entries) from) (entries_of c.args.layer.now) (entries_of c.loop-process.layer)
+    (λ f i. (i.0, i.2)) (λ f i. within_places s.kind s.shape.processes s.shape.registers s.entries c.requires.history m from f (let e = c.processes-processes.ensures.value in let same : c.shape.result.processes ≡ s.shape.processes = ap (λ (x : Extent). x.processes) c.shape.ensures in let end = c.loop-process-test.false in omega (arith, e, same, end)) i) c.loop-process.invariant

@@ -9,6 +9,6 @@ use Rattle.reg_interleavings.proofs.finding.search_layer.Given as goal
 abbrev pub invariant-loop-stage : goal.invariant-loop-stage
 invariant-loop-stage g l = record {
   split : l.yielded ++ l.stage-iterator ≡ l.fn.layer.entries;
-  none : (f : Stage × List ℕ) → In f (map reached l.yielded) → ¬ IsComplete l.history.entries f.0.next;
-  added : Adds (IsAfterSome (IsPlacing l.history.entries) (map reached l.yielded)) [] (map reached l.next.entries);
+  none : (f : Stage × List ℕ) → In f (map reached l.yielded) → ¬ IsComplete l.finder.entries f.0.next;
+  added : Adds (IsAfterSome (IsPlacing l.finder.kind l.finder.entries) (map reached l.yielded)) [] (map reached l.next.entries);
 }

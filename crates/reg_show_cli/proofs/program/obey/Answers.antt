@@ -30,3 +30,15 @@ returns-in-Verify-clause-obeyed g c = search rules
 
 pub returns-in-Verify-clause-stopped : goal.returns-in-Verify-clause-stopped
 returns-in-Verify-clause-stopped g c = search rules
+
+pub returns-in-Outcome-clause-obeyed : goal.returns-in-Outcome-clause-obeyed
+returns-in-Outcome-clause-obeyed g c = search rules
+
+pub returns-in-Outcome-clause-stopped : goal.returns-in-Outcome-clause-stopped
+returns-in-Outcome-clause-stopped g c = search rules
+
+pub returns-in-Find-clause-obeyed : goal.returns-in-Find-clause-obeyed
+returns-in-Find-clause-obeyed g c = search rules
+
+pub returns-in-Find-clause-stopped : goal.returns-in-Find-clause-stopped
+returns-in-Find-clause-stopped g c = search rules

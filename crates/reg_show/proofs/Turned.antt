@@ -1,0 +1,33 @@
+-- The schedule of a run with an outcome.
+use Rattle.std.proofs.Common.{ℕ, ◌≡◌, List, length, Some, sym, ap, ◌∙◌, subst}
+use Rattle.std.specs.Prelude.{slice_get}
+use Rattle.reg_base.specs.declared.memory.Op.{Op}
+use Rattle.reg_base.specs.Shape.{Extent}
+use Rattle.reg_front.specs.declared.named.Front.{Front}
+use Rattle.reg_front.specs.declared.starts.Start.{Start}
+use Rattle.reg_process.specs.declared.events.Event.{Event}
+use Rattle.reg_world.specs.Worlds.{Made, run_in}
+use Rattle.reg_inputs.specs.Loads.{IsLoad, Load}
+use Rattle.reg_inputs.specs.Schedules.{Plan}
+use Rattle.reg_inputs.specs.ScheduleText.{schedule_text}
+use Rattle.reg_interleavings.specs.Interleavings.{Interleaving}
+use Rattle.reg_interleavings.specs.Showing.{IsRunOf}
+use Rattle.reg_show.specs.OneOutcome.{SendsRun}
+use Rattle.reg_show.specs.ToldRuns.{EventHasBits}
+use Rattle.reg_show.proofs.Accepted.{made_plan, made_schedule}
+
+-- the schedule that was written is that of the run
+pub sends_run : (start : Op → ℕ → Start) (work : Load) (outcome : Interleaving) (made : Made) (Wrote : List ℕ → Type 0) (shape : Extent) (names : List (List ℕ)) (front : Front) (events : List Event)
+    → shape ≡ work.shape → names ≡ work.names → front ≡ work.front → events ≡ made.accepted → IsLoad work → IsRunOf start work.scripts work.shape.registers outcome made → (run_in start made).accepted ≡ made.accepted
+    → ((k : ℕ) (e : Event) → slice_get events k ≡ Some e → EventHasBits e)
+    → Wrote (schedule_text (record { shape = shape; names = names; front = front; events = events })) → SendsRun start Wrote work outcome
+sends_run start work outcome made Wrote shape names front events same_shape same_names same_front same_events load run all bits written =
+    let processes : made.processes ≡ length work.scripts = ap Made.processes run.made in
+    let registers : made.registers ≡ work.shape.registers = ap Made.registers run.made in
+    let same = made_plan work made shape names front events same_shape same_names same_front same_events (processes ∙ sym load.processes) registers in
+    record {
+      made = made;
+      run = run;
+      schedule = made_schedule start work made load processes (registers ∙ load.registers) all (λ k e h. bits k e (ap (λ (l : List Event). slice_get l k) same_events ∙ h));
+      written = (let P : Plan → Type 0 = λ p. Wrote (schedule_text p) in subst P same written);
+    }
