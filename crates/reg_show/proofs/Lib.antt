@@ -5,6 +5,7 @@ pub mod Asked
 pub mod WhySent
 pub mod Accepted
 pub mod Written
+pub mod Ascii
 pub mod Sending
 pub mod Told
 pub mod Rested

@@ -1,5 +1,5 @@
 -- What is shown of a text, and what a fault says of it.
-use Rattle.std.specs.Prelude.{ℕ, List, [], ◌∷◌, ◌++◌, codes, flat_map}
+use Rattle.std.specs.Prelude.{ℕ, ◌≡◌, ◌⊎◌, false, List, [], ◌∷◌, ◌++◌, codes, flat_map}
 use Rattle.reg_commands.specs.declared.command.Command.TheVariants.{Play, Replay}
 use Rattle.reg_commands.specs.Answers.{Blames as BlamesCommand}
 use Rattle.reg_commands.specs.FaultLines.{fault_line}
@@ -15,26 +15,38 @@ use Rattle.reg_show.specs.Schedules.{WritesSchedule}
 use Rattle.reg_show.specs.Rests.{RestsRun, BlamesRest}
 
 -- what was read, and but for a drawing what was written: `Wrote` says how a text was
-abbrev pub Shows : Showing → (List ℕ → Type 0) → List ℕ → Type 0
-Shows (Schedule fair) Wrote text = WritesSchedule fair Wrote text
-Shows Trace Wrote text = TellsRun Wrote text
-Shows Draw Wrote text = DrawsRun text
-Shows Data Wrote text = ShowsData [] (10 ∷ []) Wrote text
-Shows Page Wrote text = ShowsData (flat_map (λ part. part.now) HEAD) (flat_map (λ part. part.now) TAIL) Wrote text
-Shows Rest Wrote text = RestsRun Wrote text
+abbrev pub ShowsText : Showing → (List ℕ → Type 0) → List ℕ → Type 0
+ShowsText (Schedule fair) Wrote text = WritesSchedule fair Wrote text
+ShowsText Trace Wrote text = TellsRun Wrote text
+ShowsText Draw Wrote text = DrawsRun text
+ShowsText Data Wrote text = ShowsData [] (10 ∷ []) Wrote text
+ShowsText Page Wrote text = ShowsData (flat_map (λ part. part.now) HEAD) (flat_map (λ part. part.now) TAIL) Wrote text
+ShowsText Rest Wrote text = RestsRun Wrote text
 
--- what a fault says of the input: what the command that reads the same says by it
+-- what a fault says of it: what the command that reads the same says by it
+abbrev pub BlamesText : Showing → ShowFault → List ℕ → Type 0
+BlamesText (Schedule fair) (Command fault) text = BlamesCommand (Play fair) fault text
+BlamesText (Schedule fair) TooManyToDraw text = ⊥
+BlamesText (Schedule fair) TooManyToRest text = ⊥
+BlamesText Trace (Command fault) text = BlamesCommand Replay fault text
+BlamesText Trace TooManyToDraw text = ⊥
+BlamesText Trace TooManyToRest text = ⊥
+BlamesText Draw fault text = BlamesDrawn fault text
+BlamesText Data fault text = BlamesDrawn fault text
+BlamesText Page fault text = BlamesDrawn fault text
+BlamesText Rest fault text = BlamesRest fault text
+
+-- the text is a document that says a workload, and this is the text of the schedule of its seeded play
+abbrev pub IsPlayed : List ℕ → List ℕ → Type 0
+IsPlayed text played = WritesSchedule false (λ written. written ≡ played) text
+
+-- what is shown of the text itself, or of the schedule of its play where it is such a document
+unfoldable pub Shows : Showing → (List ℕ → Type 0) → List ℕ → Type 0
+Shows showing Wrote text = ShowsText showing Wrote text ⊎ ((played : List ℕ) × IsPlayed text played × ShowsText showing Wrote played)
+
+-- what a fault says of the input
 abbrev pub Blames : Showing → ShowFault → List ℕ → Type 0
-Blames (Schedule fair) (Command fault) text = BlamesCommand (Play fair) fault text
-Blames (Schedule fair) TooManyToDraw text = ⊥
-Blames (Schedule fair) TooManyToRest text = ⊥
-Blames Trace (Command fault) text = BlamesCommand Replay fault text
-Blames Trace TooManyToDraw text = ⊥
-Blames Trace TooManyToRest text = ⊥
-Blames Draw fault text = BlamesDrawn fault text
-Blames Data fault text = BlamesDrawn fault text
-Blames Page fault text = BlamesDrawn fault text
-Blames Rest fault text = BlamesRest fault text
+Blames showing fault text = BlamesText showing fault text ⊎ ((played : List ℕ) × IsPlayed text played × BlamesText showing fault played)
 
 -- the line of a fault on the error stream, with its line feed
 abbrev pub show_line : ShowFault → List ℕ

@@ -4,10 +4,12 @@ ghost use Rattle.std.specs.Io.KnownBytes.{Appends};
 ghost use Rattle.reg_base.specs.declared.limits.TheConstants.{LONGEST_INPUT};
 ghost use Rattle.reg_text.specs.Writing.{AppendsPart};
 ghost use Rattle.reg_show.specs.declared.faults.ShowFault.{ShowFault as AnyFault};
-ghost use Rattle.reg_show.specs.Showings.{Blames, show_line, Shows};
+ghost use Rattle.std.specs.Str.{IsUtf8};
+ghost use Rattle.reg_show.specs.Showings.{Blames, BlamesText, IsPlayed, Shows, ShowsText, show_line};
 
 use crate::commands::{draw, trace};
 use crate::faults::ShowFault;
+use crate::kinds::{Kind, kind_of};
 use crate::paging::write_run;
 use crate::resting::rest;
 use crate::scheduling::schedule;
@@ -16,8 +18,9 @@ use reg_commands::{Fault, read_input, write_fault};
 use reg_page::head::HEAD;
 use reg_page::tail::TAIL;
 use reg_text::{Unwritten, write_bytes};
-use std::alloc::{Allocator, Global};
+use std::alloc::{AllocError, Allocator, Global};
 use std::io::{Read, Write};
+use std::str;
 
 fn show<A: Allocator + Copy, W: Write>(
     alloc: A,
@@ -26,10 +29,10 @@ fn show<A: Allocator + Copy, W: Write>(
     text: &str,
     writer: &mut W,
 ) -> Result<(), ShowFault>
-    ensures ok { IfOk result (λ _. Shows showing (Appends (W.contents writer.old) (W.contents writer.new)) text.now) }
-    ensures why { IfErr result (λ f. Blames showing f text.now) }
+    ensures ok { IfOk result (λ _. ShowsText showing (Appends (W.contents writer.old) (W.contents writer.new)) text.now) }
+    ensures why { IfErr result (λ f. BlamesText showing f text.now) }
     ensures silent { IfErr result (λ f. f ≢ ShowFault.Command Fault.Output → writer.new ≡ writer.old) }
-    ensures part { IsErrOf result (ShowFault.Command Fault.Output) → Shows showing (AppendsPart (W.contents writer.old) (W.contents writer.new)) text.now }
+    ensures part { IsErrOf result (ShowFault.Command Fault.Output) → ShowsText showing (AppendsPart (W.contents writer.old) (W.contents writer.new)) text.now }
 {
     let shown = match showing {
         Showing::Schedule { fair } => schedule(alloc, global, text, fair, writer),
@@ -42,6 +45,65 @@ fn show<A: Allocator + Copy, W: Write>(
     match shown {
         Ok(()) => Ok(()),
         Err(fault) => Err(ShowFault::Command { fault }),
+    }
+}
+
+/// The text of the schedule of a document's play, None where the text is no document that says a workload.
+fn played<A: Allocator + Copy>(
+    alloc: A,
+    global: Global,
+    text: &str,
+) -> Result<Option<Vec<u8, A>>, AllocError>
+    ensures { IfOk result (λ o. IfSome o (λ v. IsPlayed text.now v.items × IsUtf8 v.items)) }
+{
+    let mut made = Vec::new(alloc);
+    match schedule(alloc, global, text, false, &mut made) {
+        Ok(()) => Ok(Some(made)),
+        // (a list takes all that is written but where memory is refused)
+        Err(Fault::OutOfMemory | Fault::Output) => Err(AllocError),
+        Err(_) => Ok(None),
+    }
+}
+
+/// What is shown is that of a schedule's text. Where the text may be a workload's, that of its play.
+fn source<A: Allocator + Copy>(
+    alloc: A,
+    global: Global,
+    showing: Showing,
+    text: &str,
+) -> Result<Option<Vec<u8, A>>, AllocError>
+    ensures { IfOk result (λ o. IfSome o (λ v. IsPlayed text.now v.items × IsUtf8 v.items)) }
+{
+    match (showing, kind_of(text.as_bytes())) {
+        (Showing::Schedule { .. }, _) => Ok(None),
+        (_, Kind::Workload) => played(alloc, global, text),
+        _ => Ok(None),
+    }
+}
+
+/// Shows what a text says: of a workload, what the schedule of its seeded play says.
+#[tactic(auto, unfolding(crate::specs::Showings::Shows))]
+fn show_any<A: Allocator + Copy, W: Write>(
+    alloc: A,
+    global: Global,
+    showing: Showing,
+    text: &str,
+    writer: &mut W,
+) -> Result<(), ShowFault>
+    ensures ok { IfOk result (λ _. Shows showing (Appends (W.contents writer.old) (W.contents writer.new)) text.now) }
+    ensures why { IfErr result (λ f. Blames showing f text.now) }
+    ensures silent { IfErr result (λ f. f ≢ ShowFault.Command Fault.Output → writer.new ≡ writer.old) }
+    ensures part { IsErrOf result (ShowFault.Command Fault.Output) → Shows showing (AppendsPart (W.contents writer.old) (W.contents writer.new)) text.now }
+{
+    match source(alloc, global, showing, text) {
+        Ok(Some(schedule)) => match str::from_utf8(schedule.as_slice()) {
+            Ok(played) => show(alloc, global, showing, played, writer),
+            Err(_) => unreachable!(),
+        },
+        Ok(None) => show(alloc, global, showing, text, writer),
+        Err(_) => Err(ShowFault::Command {
+            fault: Fault::OutOfMemory,
+        }),
     }
 }
 
@@ -59,7 +121,7 @@ fn obey<A: Allocator + Copy, R: Read, W: Write>(
     ensures part { IsErrOf result (ShowFault.Command Fault.Output) → IfSome (R.remaining reader.old) (Shows showing (AppendsPart (W.contents writer.old) (W.contents writer.new))) }
 {
     match read_input(alloc, reader) {
-        Ok(text) => show(alloc, global, showing, text.as_str(), writer),
+        Ok(text) => show_any(alloc, global, showing, text.as_str(), writer),
         Err(fault) => Err(ShowFault::Command { fault }),
     }
 }

@@ -243,3 +243,19 @@ fn the_schedule_of_a_play_replays_to_the_report_of_the_play(rt: HostRuntime) {
         assert!(rt; replays_to_the_play(rt.alloc(), fair), "{fair}");
     }
 }
+
+/// Whether what is shown of a workload is what is shown of the schedule of its play.
+fn is_shown_alike(alloc: Global, showing: Showing) -> bool {
+    let (_, text, _) = shown(alloc, Showing::Schedule { fair: false }, WORK.as_bytes());
+    let (status, of_play, errors) = shown(alloc, showing, text.as_slice());
+    let (same, of_work, more) = shown(alloc, showing, WORK.as_bytes());
+    let ended = status == 0 && same == 0 && errors.is_empty() && more.is_empty();
+    ended && !of_play.is_empty() && of_play.as_slice() == of_work.as_slice()
+}
+
+#[test]
+fn a_workload_is_shown_as_its_play(rt: HostRuntime) {
+    for showing in [Showing::Trace, Showing::Draw, Showing::Data, Showing::Rest] {
+        assert!(rt; is_shown_alike(rt.alloc(), showing), "{showing:?}");
+    }
+}

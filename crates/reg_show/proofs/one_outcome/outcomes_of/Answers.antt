@@ -1,4 +1,4 @@
-use Rattle.std.proofs.Common.{◌≡◌, List, map, sym, subst}
+use Rattle.std.proofs.Common.{List, map, sym, subst}
 use Rattle.std.specs.Prelude.{Vec}
 use Rattle.reg_base.specs.declared.memory.Op.{Op}
 use Rattle.reg_inputs.specs.Loads.{Load}
