@@ -1,5 +1,5 @@
 -- What is shown of a text, and what a fault says of it.
-use Rattle.std.specs.Prelude.{ℕ, ◌≡◌, ◌⊎◌, false, List, [], ◌∷◌, ◌++◌, codes, flat_map}
+use Rattle.std.specs.Prelude.{ℕ, ◌≡◌, ◌⊎◌, ⊤, false, List, [], ◌∷◌, ◌++◌, codes, flat_map}
 use Rattle.reg_commands.specs.declared.command.Command.TheVariants.{Play, Replay}
 use Rattle.reg_commands.specs.Answers.{Blames as BlamesCommand}
 use Rattle.reg_commands.specs.FaultLines.{fault_line}
@@ -40,13 +40,22 @@ BlamesText Rest fault text = BlamesRest fault text
 abbrev pub IsPlayed : List ℕ → List ℕ → Type 0
 IsPlayed text played = WritesSchedule false (λ written. written ≡ played) text
 
+-- what the play of a workload is shown by
+abbrev pub ShowsPlays : Showing → Type 0
+ShowsPlays (Schedule fair) = ⊥
+ShowsPlays Trace = ⊤
+ShowsPlays Draw = ⊤
+ShowsPlays Data = ⊤
+ShowsPlays Page = ⊤
+ShowsPlays Rest = ⊤
+
 -- what is shown of the text itself, or of the schedule of its play where it is such a document
 unfoldable pub Shows : Showing → (List ℕ → Type 0) → List ℕ → Type 0
-Shows showing Wrote text = ShowsText showing Wrote text ⊎ ((played : List ℕ) × IsPlayed text played × ShowsText showing Wrote played)
+Shows showing Wrote text = ShowsText showing Wrote text ⊎ ((played : List ℕ) × ShowsPlays showing × IsPlayed text played × ShowsText showing Wrote played)
 
 -- what a fault says of the input
 abbrev pub Blames : Showing → ShowFault → List ℕ → Type 0
-Blames showing fault text = BlamesText showing fault text ⊎ ((played : List ℕ) × IsPlayed text played × BlamesText showing fault played)
+Blames showing fault text = BlamesText showing fault text ⊎ ((played : List ℕ) × ShowsPlays showing × IsPlayed text played × BlamesText showing fault played)
 
 -- the line of a fault on the error stream, with its line feed
 abbrev pub show_line : ShowFault → List ℕ

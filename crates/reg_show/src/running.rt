@@ -5,7 +5,7 @@ ghost use Rattle.reg_base.specs.declared.limits.TheConstants.{LONGEST_INPUT};
 ghost use Rattle.reg_text.specs.Writing.{AppendsPart};
 ghost use Rattle.reg_show.specs.declared.faults.ShowFault.{ShowFault as AnyFault};
 ghost use Rattle.std.specs.Str.{IsUtf8};
-ghost use Rattle.reg_show.specs.Showings.{Blames, BlamesText, IsPlayed, Shows, ShowsText, show_line};
+ghost use Rattle.reg_show.specs.Showings.{Blames, BlamesText, IsPlayed, Shows, ShowsPlays, ShowsText, show_line};
 
 use crate::commands::{draw, trace};
 use crate::faults::ShowFault;
@@ -65,14 +65,14 @@ fn played<A: Allocator + Copy>(
     }
 }
 
-/// What is shown is that of a schedule's text. Where the text may be a workload's, that of its play.
+/// The text of the schedule of the play, where a workload is shown by one; None of any other text.
 fn source<A: Allocator + Copy>(
     alloc: A,
     global: Global,
     showing: Showing,
     text: &str,
 ) -> Result<Option<Vec<u8, A>>, AllocError>
-    ensures { IfOk result (λ o. IfSome o (λ v. IsPlayed text.now v.items × IsUtf8 v.items)) }
+    ensures { IfOk result (λ o. IfSome o (λ v. ShowsPlays showing × IsPlayed text.now v.items × IsUtf8 v.items)) }
 {
     match (showing, kind_of(text.as_bytes())) {
         (Showing::Schedule { .. }, _) => Ok(None),
