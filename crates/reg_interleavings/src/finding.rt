@@ -33,12 +33,7 @@ fn is_same(given: Answer, answer: Answer) -> bool
 }
 
 /// Whether an operation may come where the memory gives it this answer.
-fn may_come<A: Allocator + Copy>(
-    finder: &Finder<'_, A>,
-    id: OpId,
-    op: Op,
-    answer: Answer,
-) -> bool
+fn may_come<A: Allocator + Copy>(finder: &Finder<'_, A>, id: OpId, op: Op, answer: Answer) -> bool
     ensures { IsTrue result ↔ MayCome finder.now.entries id op answer }
 {
     match finder.response(id) {
