@@ -104,7 +104,7 @@ fn stage_placed<A: Allocator + Copy>(
     Ok(Stage { next, memory, told })
 }
 
-/// The call of a process's next operation, None where it has none or that may not come next.
+/// The next operation of a process, None where it has none or that may not come next.
 fn placeable<A: Allocator + Copy>(
     finder: &Finder<'_, A>,
     stage: &Stage<A>,
