@@ -60,7 +60,7 @@ module _ (n registers : ℕ) (h : List Entry) (good : IsHistory n registers h) w
           let there = order.selection.finished other (answered, answer, ans) in
           let q = at_map (λ (x : Point). x.id) ps there.0 other there.1 in
           let before = stands_before registers h ps order there.0 i q.0 p.0 q.1 p.1 answered at answer op
-              (subst (λ (x : OpId). IsAnswered h x answered answer) (sym q.2) ans) (subst (λ (x : OpId). IsCalled h x at op) (sym p.2) call) lt in
+          (subst (λ (x : OpId). IsAnswered h x answered answer) (sym q.2) ans) (subst (λ (x : OpId). IsCalled h x at op) (sym p.2) call) lt in
           (there.0, before, there.1)
 
   pub points_of_order : (ids : List OpId) (ps : List Point) → IsOrder Points registers h ids → ArePointsOf h ids ps → IsPointOrder registers h ps

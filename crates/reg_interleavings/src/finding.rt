@@ -33,12 +33,7 @@ fn is_same(given: Answer, answer: Answer) -> bool
 }
 
 /// Whether an operation may come where the memory gives it this answer.
-fn may_come<A: Allocator + Copy>(
-    finder: &Finder<'_, A>,
-    id: OpId,
-    op: Op,
-    answer: Answer,
-) -> bool
+fn may_come<A: Allocator + Copy>(finder: &Finder<'_, A>, id: OpId, op: Op, answer: Answer) -> bool
     ensures { IsTrue result ↔ MayCome finder.now.entries id op answer }
 {
     match finder.response(id) {
@@ -109,7 +104,7 @@ fn stage_placed<A: Allocator + Copy>(
     Ok(Stage { next, memory, told })
 }
 
-/// The call of a process's next operation, None where it has none or that may not come next.
+/// The next operation of a process, None where it has none or that may not come next.
 fn placeable<A: Allocator + Copy>(
     finder: &Finder<'_, A>,
     stage: &Stage<A>,

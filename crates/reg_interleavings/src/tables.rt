@@ -131,7 +131,10 @@ impl<A: Allocator + Copy> Table<A> {
             ((p : ℕ) × (r : AnyResponse) × IsAt (list_of (lists_of self.now.responses.items) p) (slice_index next.now p) r × (r.at < at)) }
     {
         for process in 0..self.responses.len() {
-            if is_before(item_at(&self.responses, process, next_of(next, process)), at) {
+            if is_before(
+                item_at(&self.responses, process, next_of(next, process)),
+                at,
+            ) {
                 return false;
             }
         }

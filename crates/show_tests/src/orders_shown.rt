@@ -6,11 +6,7 @@ use std::process::Abort;
 use std::test::Fail;
 
 /// What is written for a text, and what of faults, and the status.
-fn answer(
-    alloc: Global,
-    kind: OrderKind,
-    text: &str,
-) -> Result<(String, String, u8), Fail> {
+fn answer(alloc: Global, kind: OrderKind, text: &str) -> Result<(String, String, u8), Fail> {
     let mut output = Vec::new(alloc);
     let mut errors = Vec::new(alloc);
     let mut input = text.as_bytes();
@@ -69,7 +65,14 @@ p0 #0
 end
 ";
     shows(&rt, rt.alloc(), OrderKind::Serial, STALE, found, 0)?;
-    shows(&rt, rt.alloc(), OrderKind::Points, STALE, "no point order\n", 1)
+    shows(
+        &rt,
+        rt.alloc(),
+        OrderKind::Points,
+        STALE,
+        "no point order\n",
+        1,
+    )
 }
 
 /// Process 0 reads its own two writes, and process 1 the first of them after the second.
@@ -91,7 +94,14 @@ history 8
 order 0
 end
 ";
-    shows(&rt, rt.alloc(), OrderKind::Serial, text, "no serial order\n", 1)
+    shows(
+        &rt,
+        rt.alloc(),
+        OrderKind::Serial,
+        text,
+        "no serial order\n",
+        1,
+    )
 }
 
 /// An unfinished write that a read saw has a point, and an unfinished read has none.
