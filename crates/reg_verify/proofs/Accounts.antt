@@ -12,7 +12,7 @@ use Rattle.reg_text.specs.declared.faults.Why.{Why}
 use Rattle.reg_text.proofs.Numbered.{starts, few_lines, stopped_behind, stopped_numbered}
 use Rattle.reg_verify.specs.declared.recorded.Recorded.{Recorded}
 use Rattle.reg_verify.specs.RecordLines.{Account, IsAccount, RecordedFits, account_lines, head_lines, recorded_text}
-use Rattle.reg_verify.specs.Refusals.{IsBegun, IsStepLine, RefusesAccount}
+use Rattle.reg_verify.specs.Refusals.{IsBegun, RefusesAccount}
 use Rattle.reg_verify.specs.Stops.{IsWrongStep, StopsFirst}
 use Rattle.reg_verify.proofs.Heads.{first_line, front_line, processes_line, registers_line}
 

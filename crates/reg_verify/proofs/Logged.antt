@@ -1,5 +1,5 @@
 -- The logs of a record's steps.
-use Rattle.std.proofs.Common.{ℕ, zero, suc, ◌≡◌, ◌≢◌, ◌+◌, ◌<◌, ◌≤◌, ◌==◌, ◌⊎◌, inl, inr, Bool, true, false, cond, List, [], ◌∷◌, ◌++◌, length, map, take, get_or, set, Vec, None, Some, refl, sym, ap, ◌∙◌, subst, arith, append-nil}
+use Rattle.std.proofs.Common.{ℕ, zero, suc, ◌≡◌, ◌+◌, ◌<◌, ◌≤◌, ◌==◌, ◌⊎◌, inl, inr, Bool, true, false, cond, List, [], ◌∷◌, ◌++◌, length, map, take, get_or, set, Vec, Some, refl, sym, ap, ◌∙◌, subst, arith, append-nil}
 use Rattle.std.specs.Prelude.{slice_get, option_and_then}
 use Rattle.std.specs.List.{filter}
 use Rattle.std.proofs.lemmas.Bool.{cases_eq, cases_order, ne_eqb}
@@ -13,7 +13,7 @@ use Rattle.reg_base.specs.Shape.{Extent}
 use Rattle.reg_front.specs.declared.starts.Start.{Start}
 use Rattle.reg_checkers.proofs.Places.{get_set_same, get_set_other, get_push_same, get_push_other}
 use Rattle.reg_records.specs.declared.entries.LogEntry.{LogEntry}
-use Rattle.reg_records.specs.Records.{FailsAt, NothingLeft, entry_of, mentions}
+use Rattle.reg_records.specs.Records.{FailsAt, NothingLeft, mentions}
 use Rattle.reg_verify.specs.declared.recorded.Recorded.{Recorded}
 use Rattle.reg_verify.specs.Adding.{IsAdded}
 use Rattle.reg_verify.specs.Logs.{AreLogs, log_of, order_of}

@@ -1,5 +1,5 @@
 -- The text of a record is read as that record.
-use Rattle.std.proofs.Common.{ℕ, zero, suc, ◌≡◌, ◌<◌, ◌^◌, List, [], ◌∷◌, ◌++◌, length, map, true, codes, Option, None, Some, refl, sym, ap, ◌∙◌, subst, arith, append-nil}
+use Rattle.std.proofs.Common.{ℕ, suc, ◌≡◌, ◌<◌, ◌^◌, List, [], ◌∷◌, ◌++◌, length, map, true, codes, Option, None, Some, refl, sym, ap, ◌∙◌, arith, append-nil}
 use Rattle.std.specs.Prelude.{slice_get, slice_index_or}
 use Rattle.std.specs.Fmt.{decimal}
 use Rattle.reg_base.specs.Names.{is_name, names_fault}
@@ -9,7 +9,7 @@ use Rattle.reg_front.specs.declared.named.Front.{Front}
 use Rattle.reg_front.specs.declared.named.Front.TheVariants.{Linear, LocalRead, LocalWrite}
 use Rattle.reg_front.specs.Table.{front_name}
 use Rattle.reg_process.specs.declared.steps.Reply.{Reply}
-use Rattle.reg_text.specs.Lines.{lines_of, text_of}
+use Rattle.reg_text.specs.Lines.{lines_of}
 use Rattle.reg_text.specs.Parts.{Lacks}
 use Rattle.reg_text.specs.Words.{names_text}
 use Rattle.reg_text.proofs.Joining.{joined, number}

@@ -19,7 +19,9 @@ use crate::step_lines::{read_recorded, why_further};
 use reg_base::limits::{MOST_EVENTS, MOST_PROCESSES, MOST_REGISTERS};
 use reg_base::{Names, Shape};
 use reg_front::Front;
-use reg_text::{Lines, TextFault, Why, are_front_letters, expect_line, read_count, read_names, skip};
+use reg_text::{
+    Lines, TextFault, Why, are_front_letters, expect_line, read_count, read_names, skip,
+};
 use std::alloc::{Allocator, Global};
 use std::marker::Model;
 use std::str;
@@ -174,10 +176,7 @@ fn read_record<A: Allocator + Copy>(
 ///
 /// `Line` names the first line with which no record goes on, and what is wrong with it; `OutOfMemory` says that what was
 /// read could not be kept.
-pub fn parse_record<A: Allocator + Copy>(
-    alloc: A,
-    text: &str,
-) -> Result<Record<A>, RecordFault>
+pub fn parse_record<A: Allocator + Copy>(alloc: A, text: &str) -> Result<Record<A>, RecordFault>
     ensures read { IfOk result (λ r. SpellsAccount text.now r × IsAccount r) }
     ensures whole { (a : Account) → IsAccount a → SpellsAccount text.now a → MatchResult result (λ r. r ≡ a) (λ f. f ≡ TextFault.OutOfMemory) }
     ensures line { length text.now < 2 ^ 64 - 1 → IfErr result (λ f. (f ≡ TextFault.OutOfMemory) ⊎ ((number : ℕ) × (why : AnyWhy) × (f ≡ TextFault.Line number why) × RefusesAccount number why text.now)) }

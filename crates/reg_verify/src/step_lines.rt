@@ -130,10 +130,7 @@ fn read_entry<A: Allocator + Copy>(text: &[u8], names: &Names<A>) -> Option<LogE
 }
 
 /// The step of a line. None where the line is none of a step's.
-pub(crate) fn read_recorded<A: Allocator + Copy>(
-    line: &[u8],
-    names: &Names<A>,
-) -> Option<Recorded>
+pub(crate) fn read_recorded<A: Allocator + Copy>(line: &[u8], names: &Names<A>) -> Option<Recorded>
     requires { names_fault names.now ≡ None }
     ensures read { IfSome result (λ r. (line.now ≡ recorded_text names.now r) × RecordedFits names.now r) }
     ensures whole { (r : AnyRecorded) → RecordedFits names.now r → line.now ≡ recorded_text names.now r → result ≡ Some r }

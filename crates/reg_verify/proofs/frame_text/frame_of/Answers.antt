@@ -1,4 +1,4 @@
-use Rattle.std.proofs.Common.{◌≡◌, ◌∙◌, List, ℕ, Ok, Err, sym, subst}
+use Rattle.std.proofs.Common.{◌≡◌, ◌∙◌, sym}
 use Rattle.reg_frames.specs.Spelling.{spelling}
 use Rattle.reg_verify.proofs.Hexes.{read_back}
 use Rattle.reg_verify.proofs.frame_text.frame_of.Goals as goal

@@ -1,5 +1,4 @@
-use Rattle.std.proofs.Common.{◌≡◌, ℕ, ◌*◌, length, inl, inr, arith, rules}
-use Rattle.reg_frames.specs.Spelling.{spelling}
+use Rattle.std.proofs.Common.{◌≡◌, length, inl, inr, arith, rules}
 use Rattle.reg_verify.proofs.Hexes.{digits, sizes}
 use Rattle.reg_verify.proofs.frame_text.read_frame.Goals as goal
 

@@ -1,8 +1,8 @@
-use Rattle.std.proofs.Common.{◌≡◌, ◌+◌, ◌≤◌, ◌∙◌, List, map, take, ap, sym, subst, arith, length, Vec, get_or}
+use Rattle.std.proofs.Common.{◌≡◌, ◌+◌, List, map, take, sym, subst, arith, length, Vec}
 use Rattle.std.proofs.lemmas.List.{length-map}
 use Rattle.reg_records.specs.declared.entries.LogEntry.{LogEntry}
 use Rattle.reg_verify.specs.Logs.{AreLogs}
-use Rattle.reg_verify.proofs.Logged.{logs_all, logs_kept, logs_more}
+use Rattle.reg_verify.proofs.Logged.{logs_kept, logs_more}
 use Rattle.reg_verify.proofs.logs.logs_of.Goals as goal
 use Rattle.reg_verify.proofs.logs.logs_of.Goals.{then-from-len+in_ok-add, else-from-len}
 

@@ -1,4 +1,3 @@
-use Rattle.std.proofs.Common.{◌∙◌, sym}
 use Rattle.reg_verify.proofs.Entries.{answered, same_entry}
 use Rattle.reg_verify.proofs.step_lines.read_entry.Goals as goal
 

@@ -1,8 +1,6 @@
-use Rattle.std.proofs.Common.{◌≡◌, ◌∙◌, List, map, ℕ, ap, refl, subst}
-use Rattle.reg_records.specs.declared.entries.LogEntry.{LogEntry}
+use Rattle.std.proofs.Common.{◌∙◌, map, ap, refl, subst}
 use Rattle.reg_records.specs.Records.{FailsAt}
-use Rattle.reg_verify.specs.declared.recorded.Recorded.{Recorded}
-use Rattle.reg_verify.specs.Logs.{AreLogs, order_of}
+use Rattle.reg_verify.specs.Logs.{order_of}
 use Rattle.reg_verify.proofs.Logged.{fails_first}
 use Rattle.reg_verify.proofs.verifying.run_steps.Goals as goal
 
