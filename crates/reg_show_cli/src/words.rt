@@ -37,7 +37,7 @@ pub enum Asked {
 }
 
 /// The program's version, and the kit that it was proved with.
-pub const VERSION: &str = "awshow 0.1.0, proved with rattle-kit-13b\n";
+pub const VERSION: &str = "awshow 0.1.0, proved with rattle-kit-13f\n";
 
 /// How the program is used.
 pub const HELP: &str = "\
@@ -49,11 +49,11 @@ usage: awshow schedule [--fair]      reads a workload, prints the schedule of it
        awshow outcomes --all K       reads a workload, prints the schedule of a run that answers the K-th of these
        awshow find serial            reads a report, prints it with a serial order of its history, or that it has none
        awshow find points            the same with a point order: each operation between its call and its answer
-       awshow trace                  reads a schedule, prints what happens, event by event
-       awshow draw                   reads a schedule, prints its space-time diagram as SVG
-       awshow data                   reads a schedule, prints its run as JSON
-       awshow page                   reads a schedule, prints a page that steps through its run
-       awshow rest                   reads a schedule, prints it with the events that bring its run to rest
+       awshow trace                  reads a schedule or a workload, prints what happens, event by event
+       awshow draw                   reads the same, prints the space-time diagram of the run as SVG
+       awshow data                   reads the same, prints the run as JSON
+       awshow page                   reads the same, prints a page that steps through the run
+       awshow rest                   reads the same, prints the schedule with the events that bring the run to rest
        awshow why                    reads any of the three texts, prints what is wrong with it, and where
        awshow verify                 reads a record of processes that ran apart, prints the report of their run
        awshow help                   prints this
