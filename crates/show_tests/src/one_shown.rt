@@ -36,7 +36,8 @@ fn tells(alloc: Global, number: u32, text: &str, (status, shown, told): (u8, &st
     let mut output = Vec::new(alloc);
     let mut errors = Vec::new(alloc);
     let mut input = text.as_bytes();
-    show_outcome(alloc, alloc, number, &mut input, &mut output, &mut errors) == status
+    number > 0
+        && show_outcome(alloc, alloc, number, &mut input, &mut output, &mut errors) == status
         && output.as_slice() == shown.as_bytes()
         && errors.as_slice() == told.as_bytes()
 }
