@@ -1,5 +1,5 @@
-//! Tests of running clusters over their public calls, of `awreg live`, and of the lines that tell its stops. Each ends by itself,
-//! whatever the schedule.
+//! Tests of running clusters over their public calls, of `awreg live`, and of the lines that tell its stops. Each ends
+//! by itself, whatever the schedule.
 //!
 //! They stand in a crate of their own since a crate with tests is proved twice.
 #![tactic(auto)]

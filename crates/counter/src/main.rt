@@ -1,5 +1,5 @@
-//! Four threads add to a counter that they share, each while it holds a lock that is taken by swaps, over a road that loses and
-//! repeats parcels. It prints the same whatever the schedule.
+//! Four threads add to a counter that they share, each while it holds a lock that is taken by swaps, over a road that
+//! loses and repeats parcels. It prints the same whatever the schedule.
 #![tactic(auto)]
 
 use anyhow::anyhow;

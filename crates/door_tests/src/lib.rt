@@ -1,5 +1,5 @@
-//! A program over the doors alone: each layer is used by the names that the crate it is looked for in passes on, so that no door
-//! closes unseen.
+//! A program over the doors alone: each layer is used by the names that the crate it is looked for in passes on, so
+//! that no door closes unseen.
 #![tactic(auto)]
 
 #[cfg(test)]

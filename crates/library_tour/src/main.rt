@@ -17,8 +17,8 @@ const WRITE: Op = Op::Write {
 
 const READ: Op = Op::Read { register: 0 };
 
-/// After process 0 called a write: it reads, which is refused, since it runs an operation; the frames that matter are taken,
-/// and process 1 reads.
+/// After process 0 called a write: it reads, which is refused, since it runs an operation; the frames that matter are
+/// taken, and process 1 reads.
 const EVENTS: [Event; 6] = [
     Event::Call {
         process: 0,

@@ -39,8 +39,8 @@ fn tries<T: Trial>(trial: &T, ample: Global, whole: &str, before: u64) -> Result
 ///
 /// # Errors
 ///
-/// Some answer is neither want of memory nor the one with ample memory, or it is want of memory where none was refused; or
-/// no allocation was refused.
+/// Some answer is neither want of memory nor the one with ample memory, or it is want of memory where none was refused;
+/// or no allocation was refused.
 pub fn refusals<T: Trial>(trial: &T, ample: Global) -> Result<u64, Fail> {
     let Some(whole) = trial.answer(ample, ample)? else {
         return Err(Wrong::WantsMemory { before: 0 })?;

@@ -1,4 +1,5 @@
-//! Command lines whose subcommands take no word, or the flag `--fair`, how a refused one is told, and how a program ends.
+//! Command lines whose subcommands take no word, or the flag `--fair`, how a refused one is told, and how a program
+//! ends.
 #![tactic(auto)]
 
 ghost use Rattle.std.specs.Prelude.{◌≡◌, Bool, List, ℕ, None, Some, IfOk, false, map, option_map};

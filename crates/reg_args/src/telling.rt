@@ -32,8 +32,8 @@ fn write_line<W: Write>(errors: &mut W, fault: WordsFault, refused: &[u8]) -> Re
     }
 }
 
-/// Tells why the words ask for nothing, and gives the status. A line that is refused is told by `refused`, which has its line
-/// feed. Where `errors` fails, a first part of the line went out, and the status is the same.
+/// Tells why the words ask for nothing, and gives the status. A line that is refused is told by `refused`, which has
+/// its line feed. Where `errors` fails, a first part of the line went out, and the status is the same.
 pub fn tell<W: Write>(fault: WordsFault, refused: &[u8], errors: &mut W) -> u8
     ensures status { result ≡ status_of fault }
     ensures told { AppendsPart (W.contents errors.old) (W.contents errors.new) (words_line refused.now fault) }

@@ -44,8 +44,8 @@ abbrev pub insert : Delivered → List Delivered → List Delivered
 insert c [] = c ∷ []
 insert c (x ∷ xs) = cond (below c.stamp x.stamp) (c ∷ x ∷ xs) (x ∷ insert c xs)
 
--- A stamp is clear for one of n processes when every other one is known to have passed it: the stamp of the last body from
--- it, whose time is `seen` of it, is not below.
+-- A stamp is clear for one of n processes when every other one is known to have passed it: the stamp of the last body
+-- from it, whose time is `seen` of it, is not below.
 abbrev pub IsClear : ℕ → (ℕ → ℕ) → ℕ → Stamp → Type 0
 IsClear me seen n stamp = (r : ℕ) → r < n → (r ≡ me → ⊥) → AtMost stamp (stamp_at (seen r) r)
 

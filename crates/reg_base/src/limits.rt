@@ -8,7 +8,8 @@ pub const MOST_REGISTERS: u32 = 4_096;
 pub const LONGEST_NAME: usize = 16;
 /// The last time that a clock can show. A clock starts at 0, and a cast or an acknowledgement has a time from 1 on.
 pub const LAST_TIME: u64 = 0x1_0000_0000_0000;
-/// How many numbers data frames have: they go from 0 to one below this. It is also the highest count of accepted frames.
+/// How many numbers data frames have: they go from 0 to one below this. It is also the highest count of accepted
+/// frames.
 pub const FRAME_NUMBERS: u64 = 0x1_0000_0000_0000;
 /// The most events of a run, and the most sections of a journal.
 pub const MOST_EVENTS: u32 = 1_048_576;

@@ -61,7 +61,8 @@ refusal_code refusals.Ahead = 24
 refusal_code refusals.Stale = 25
 refusal_code refusals.ClockFull = 26
 
--- what a call tells besides: the numbers said no event, the world was closed, there is no such shape, there is no such front end
+-- what a call tells besides: the numbers said no event, the world was closed, there is no such shape, there is no such
+-- front end
 
 abbrev pub no_event : ℕ
 no_event = 32

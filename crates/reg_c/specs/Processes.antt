@@ -44,7 +44,8 @@ process_at_first front me shape =
     (if front == 1 then Some (LocalRead (first_process me shape)) else
     (if front == 2 then Some (LocalWrite (first_process me shape)) else None)))
 
--- why there is no process of a shape: this number names no front end, or no process of the shape, or there was no memory
+-- why there is no process of a shape: this number names no front end, or no process of the shape, or there was no
+-- memory
 abbrev pub unmade_process : ℕ → ℕ → ℕ → ℕ
 unmade_process front me processes =
     (if nat_lt front 3 then
@@ -68,7 +69,8 @@ Makes start step old new frames reply code =
     ((cast : Option Stamp) × (delivered : List Delivered) × Steps start old step frames cast delivered reply new × (code ≡ reply_code reply))
     ⊎ ((fault : ProcessFault) × Refused start old step fault new × (frames ≡ []) × (reply ≡ None) × (code ≡ refusal_code fault))
 
--- the same of the process that is held, whose list for frames is that of the step before; or nothing where it was closed
+-- the same of the process that is held, whose list for frames is that of the step before; or nothing where it was
+-- closed
 abbrev pub MakesIn : Step → ℕ → KeptProcess → KeptProcess → List Put → Option Reply → ℕ → Type 0
 MakesIn step room (Linear old) new frames reply code = (after : Kept) × (new ≡ Linear after) × Makes linear step (with_room room old) after frames reply code
 MakesIn step room (LocalRead old) new frames reply code = (after : Kept) × (new ≡ LocalRead after) × Makes local_read step (with_room room old) after frames reply code

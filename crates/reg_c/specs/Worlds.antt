@@ -65,7 +65,8 @@ abbrev pub Steps : Option Event → Held → Held → ℕ → Type 0
 Steps None old new code = (code ≡ no_event) × (new ≡ old)
 Steps (Some e) old new code = GoesIn e old.world new.world new.reply code × (new.order ≡ old.order) × (new.points ≡ old.points)
 
--- The ids are a serial order of the world's history, and the points a point order of it under the front end that has one, else none.
+-- The ids are a serial order of the world's history, and the points a point order of it under the front end that has
+-- one, else none.
 abbrev pub HasOrders : Kept → List OpId → List Point → Type 0
 HasOrders (Linear w) ids points = IsSerial w.registers w.history ids × IsPointOrder w.registers w.history points
 HasOrders (LocalRead w) ids points = IsSerial w.registers w.history ids × (points ≡ [])

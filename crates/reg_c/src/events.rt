@@ -22,8 +22,8 @@ pub fn operation(kind: u32, register: u32, value: u64) -> Option<Op>
     }
 }
 
-/// The event that these numbers say: `kind` 0, 1 and 2 call a read, a write and a swap of register `number` at the process, 3 has
-/// it take frame `number` of `from`, and 4 is its tick.
+/// The event that these numbers say: `kind` 0, 1 and 2 call a read, a write and a swap of register `number` at the
+/// process, 3 has it take frame `number` of `from`, and 4 is its tick.
 pub fn event(kind: u32, process: u8, number: u32, from: u8, value: u64) -> Option<Event>
     ensures { result ≡ event_of kind process number from value }
 {

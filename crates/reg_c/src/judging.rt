@@ -7,7 +7,8 @@ use crate::rows::{EntryRow, IdRow, PointRow};
 use crate::verdicts::{code_of_verdict, judge_points, judge_serial};
 use std::alloc::Global;
 
-/// Whether the order is a serial order of the history: 0 where it is, else the number of the first fault, with its place.
+/// Whether the order is a serial order of the history: 0 where it is, else the number of the first fault, with its
+/// place.
 #[unsafe(no_mangle)]
 pub extern "C" fn tellwydar_check_serial(
     alloc: Global,
@@ -24,7 +25,8 @@ pub extern "C" fn tellwydar_check_serial(
     code
 }
 
-/// Whether the points are a point order of the history: 0 where they are, else the number of the first fault, with its place.
+/// Whether the points are a point order of the history: 0 where they are, else the number of the first fault, with its
+/// place.
 #[unsafe(no_mangle)]
 pub extern "C" fn tellwydar_check_points(
     alloc: Global,

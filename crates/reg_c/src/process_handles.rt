@@ -20,7 +20,8 @@ fn put(handle: &mut *mut u8, held: *mut HeldProcess)
     *handle = held as *mut u8;
 }
 
-/// Makes a process that did nothing yet. Where the result is 0 there is one behind the handle, and else the handle is as it was.
+/// Makes a process that did nothing yet. Where the result is 0 there is one behind the handle, and else the handle is
+/// as it was.
 #[unsafe(no_mangle)]
 pub extern "C" fn tellwydar_process_new(
     alloc: Global,
@@ -61,7 +62,8 @@ pub unsafe extern "C" fn tellwydar_process_call(
     call(&mut *(handle as *mut HeldProcess), kind, register, value)
 }
 
-/// Has the process behind the handle take the frame of `from` that the bytes spell. Where they spell none, nothing changes.
+/// Has the process behind the handle take the frame of `from` that the bytes spell. Where they spell none, nothing
+/// changes.
 #[unsafe(no_mangle)]
 pub unsafe extern "C" fn tellwydar_process_take(handle: *mut u8, from: u8, bytes: &[u8]) -> u32
     ghost held: { HeldProcess }
@@ -81,8 +83,8 @@ pub unsafe extern "C" fn tellwydar_process_tick(handle: *mut u8) -> u32
     tick(&mut *(handle as *mut HeldProcess))
 }
 
-/// Puts as many of the bytes of the last step's frames into the room as it takes, and tells how many there are: for each frame a byte
-/// for its receiver, and the bytes that spell it. Where the result isn't 0, nothing has changed.
+/// Puts as many of the bytes of the last step's frames into the room as it takes, and tells how many there are: for
+/// each frame a byte for its receiver, and the bytes that spell it. Where the result isn't 0, nothing has changed.
 #[unsafe(no_mangle)]
 pub unsafe extern "C" fn tellwydar_process_frames(
     handle: *mut u8,

@@ -78,7 +78,8 @@ fn begin(alloc: Global, front: u32, shape: Shape, me: u8) -> Result<KeptProcess,
     }
 }
 
-/// The process `me` of a run of this shape, which did nothing yet: 0, 1 and 2 are the front ends linear, local-read and local-write.
+/// The process `me` of a run of this shape, which did nothing yet: 0, 1 and 2 are the front ends linear, local-read and
+/// local-write.
 pub fn open(
     alloc: Global,
     front: u32,
@@ -209,8 +210,8 @@ fn spell_all(alloc: Global, puts: &[Put]) -> Result<Vec<u8>, u32>
     Ok(bytes)
 }
 
-/// Puts as many of the bytes of the last step's frames into the room as it takes, and tells how many there are. Where it isn't 0,
-/// nothing has changed.
+/// Puts as many of the bytes of the last step's frames into the room as it takes, and tells how many there are. Where
+/// it isn't 0, nothing has changed.
 pub fn frames(held: &mut HeldProcess, room: &mut [u8], length: &mut usize) -> u32
     ensures same { held.new ≡ held.old }
     ensures told { TellsFrames held.old.frames.items result room.old room.new length.old length.new }

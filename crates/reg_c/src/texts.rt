@@ -21,8 +21,8 @@ pub extern "C" fn tellwydar_replay(
     tell(alloc, Command::Replay, text, output, errors, lengths)
 }
 
-/// Judges a report. The answer is the checkers' verdicts, and the status 0 where each says yes; or 1, with the line of a fault
-/// where the text is no report.
+/// Judges a report. The answer is the checkers' verdicts, and the status 0 where each says yes; or 1, with the line of
+/// a fault where the text is no report.
 #[unsafe(no_mangle)]
 pub extern "C" fn tellwydar_check(
     alloc: Global,
@@ -36,8 +36,8 @@ pub extern "C" fn tellwydar_check(
     tell(alloc, Command::Check, text, output, errors, lengths)
 }
 
-/// Plays a workload as the words of its seed say. The answer is the report of the play, and the status 0; or 1 with the line of
-/// a fault.
+/// Plays a workload as the words of its seed say. The answer is the report of the play, and the status 0; or 1 with the
+/// line of a fault.
 #[unsafe(no_mangle)]
 pub extern "C" fn tellwydar_play(
     alloc: Global,
@@ -67,8 +67,8 @@ pub extern "C" fn tellwydar_play_fair(
     tell(alloc, command, text, output, errors, lengths)
 }
 
-/// Judges a record of processes that ran apart. The answer is the report of the run that it is, and the status 0; or 1 with
-/// the line of a fault.
+/// Judges a record of processes that ran apart. The answer is the report of the run that it is, and the status 0; or 1
+/// with the line of a fault.
 #[unsafe(no_mangle)]
 pub extern "C" fn tellwydar_verify(
     alloc: Global,

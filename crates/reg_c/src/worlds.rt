@@ -20,7 +20,8 @@ fn put(handle: &mut *mut u8, held: *mut Held)
     *handle = held as *mut u8;
 }
 
-/// Makes a world in which nothing happened yet. Where the result is 0 there is one behind the handle, and else the handle is as it was.
+/// Makes a world in which nothing happened yet. Where the result is 0 there is one behind the handle, and else the
+/// handle is as it was.
 #[unsafe(no_mangle)]
 pub extern "C" fn tellwydar_world_new(
     alloc: Global,

@@ -37,7 +37,8 @@ WasCalled es id = (at : ℕ) × (op : Op) × IsCalled es id at op
 abbrev pub IsNext : List Entry → OpId → Type 0
 IsNext es id = (n : ℕ) → (n < id.number) ↔ WasCalled es (record { process = id.process; number = n })
 
--- a call in place: at a later event than each entry before it, and each operation that the process has called is finished
+-- a call in place: at a later event than each entry before it, and each operation that the process has called is
+-- finished
 pub record MayCall (n registers : ℕ) (es : List Entry) (at : ℕ) (id : OpId) (op : Op) : Type 0 where
   pub event : at ≤ LAST_EVENT
   pub process : id.process < n
@@ -47,8 +48,8 @@ pub record MayCall (n registers : ℕ) (es : List Entry) (at : ℕ) (id : OpId) 
   pub fits : id.number < MOST_OPERATIONS
   pub idle : (other : OpId) → other.process ≡ id.process → WasCalled es other → IsFinished es other
 
--- an answer in place: of a running operation, that some memory gives it, at a later event than each entry before it, but for
--- the operation's own call, which may be of the same event
+-- an answer in place: of a running operation, that some memory gives it, at a later event than each entry before it,
+-- but for the operation's own call, which may be of the same event
 pub record MayAnswer (es : List Entry) (at : ℕ) (id : OpId) (answer : Answer) : Type 0 where
   pub event : at ≤ LAST_EVENT
   pub called_at : ℕ

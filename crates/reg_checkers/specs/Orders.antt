@@ -38,9 +38,9 @@ pub record IsSerial (registers : ℕ) (h : List Entry) (ids : List OpId) : Type 
   pub legal : IsLegal registers h ids
   pub own_order : KeepsOwnOrder ids
 
--- A point order: each operation takes effect at a moment, its point, that is not before its call and, where it is finished,
--- not after its answer, and no point is before one that stands ahead of it
--- (Herlihy and Wing 1990, section 2.3, linearizability).
+-- A point order: each operation takes effect at a moment, its point, that is not before its call and, where it is
+-- finished, not after its answer, and no point is before one that stands ahead of it (Herlihy and Wing 1990, section
+-- 2.3, linearizability).
 pub record IsPointOrder (registers : ℕ) (h : List Entry) (ps : List Point) : Type 0 where
   pub selection : IsSelection h (map (λ p. p.id) ps)
   pub legal : IsLegal registers h (map (λ p. p.id) ps)

@@ -113,8 +113,8 @@ fn judge_points<A: Allocator + Copy>(
 }
 
 /// Whether the ids are a serial order of the history (sequential consistency, Lamport 1979): every finished operation
-/// once, and besides only called writes and swaps; each process's own order; each answer that of one memory. A fault is the
-/// lowest of its kind that holds, at its first place.
+/// once, and besides only called writes and swaps; each process's own order; each answer that of one memory. A fault is
+/// the lowest of its kind that holds, at its first place.
 pub fn check_serial<A: Allocator + Copy>(
     alloc: A,
     history: &History<A>,

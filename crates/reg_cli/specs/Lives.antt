@@ -17,9 +17,9 @@ use Rattle.reg_commands.specs.Plays.{Holds, plan_of}
 use Rattle.reg_cli.specs.declared.stops.Stop.{Stop}
 use Rattle.reg_cli.specs.declared.stops.Stop.TheVariants.{Command}
 
--- Threads made a run of the workload's shape, of which each process's finished operations are just those that its thread
--- was answered. These are the operations of its script, all of them in order. And this is the run's report: its history and its
--- witness, and points that are so.
+-- Threads made a run of the workload's shape, of which each process's finished operations are just those that its
+-- thread was answered. These are the operations of its script, all of them in order. And this is the run's report: its
+-- history and its witness, and points that are so.
 pub record ShowsLive (start : Op → ℕ → Start) (work : Load) (AreSo : Plan → Option (List Point) → Type 0) (r : Contents) : Type 0 where
   pub made : Made
   pub answered : List (List Receipt)
@@ -32,8 +32,8 @@ pub record ShowsLive (start : Op → ℕ → Start) (work : Load) (AreSo : Plan 
 abbrev pub IsReportOfLive : Load → Contents → Type 0
 IsReportOfLive work r = ShowsLive (start_of work.front) work (PointsOf work.front) r
 
--- The text is a document that says a workload, and the report of what threads made of it was written: `Wrote` says how a text
--- was.
+-- The text is a document that says a workload, and the report of what threads made of it was written: `Wrote` says how
+-- a text was.
 pub record Lives (Wrote : List ℕ → Type 0) (text : List ℕ) : Type 0 where
   pub work : Load
   pub holds : Holds text work
@@ -41,7 +41,8 @@ pub record Lives (Wrote : List ℕ → Type 0) (text : List ℕ) : Type 0 where
   pub shown : IsReportOfLive work report
   pub written : Wrote (report_text report)
 
--- What a stop says of the input: as of a play that isn't made. Of threads it is told only where the text says a workload.
+-- What a stop says of the input: as of a play that isn't made. Of threads it is told only where the text says a
+-- workload.
 abbrev pub BlamesStop : Stop → List ℕ → Type 0
 BlamesStop (Command fault) text = (fair : Bool) → Blames (Play fair) fault text
 BlamesStop stop text = (work : Load) × Holds text work

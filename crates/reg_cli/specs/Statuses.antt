@@ -1,4 +1,5 @@
--- What a status says of the command that was asked for, with what the reader, the writer and the error stream show of themselves.
+-- What a status says of the command that was asked for, with what the reader, the writer and the error stream show of
+-- themselves.
 use Rattle.std.specs.Prelude.{ℕ, ◌≡◌, ◌≢◌, ◌≤◌, ◌⊎◌, true, false, List, [], ◌∷◌, ◌++◌, length, codes, Option, IfSome}
 use Rattle.std.specs.Io.KnownBytes.{Appends}
 use Rattle.reg_base.specs.declared.limits.TheConstants.{LONGEST_INPUT}
@@ -20,8 +21,8 @@ abbrev pub Obeys : Asked → Option (List ℕ) → (List ℕ → Type 0) → Typ
 Obeys (OverText command) input Wrote = IfSome input (λ xs. length xs ≤ LONGEST_INPUT) × IfSome input (Answers command true Wrote)
 Obeys Live input Wrote = IfSome input (Lives Wrote)
 
--- Status 1: a check said no, and nothing was told; or the line of a fault was, or a first part of it. The fault holds of the
--- input, and nothing was written unless the writer failed; then a first part of an answer was.
+-- Status 1: a check said no, and nothing was told; or the line of a fault was, or a first part of it. The fault holds
+-- of the input, and nothing was written unless the writer failed; then a first part of an answer was.
 abbrev pub Stops : Asked → Option (List ℕ) → Type 0 → Option (List ℕ) → Option (List ℕ) → Type 0 → Option (List ℕ) → Option (List ℕ) → Type 0
 Stops (OverText command) input unwritten old new untold was is =
     ((command ≡ Check) × IfSome input (Answers command false (Appends old new)) × untold)

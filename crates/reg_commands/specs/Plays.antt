@@ -31,13 +31,14 @@ pub record Holds (text : List ℕ) (work : Load) : Type 0 where
 abbrev pub RefusesDocument : List ℕ → WorkloadFault → Type 0
 RefusesDocument text fault = ((fault ≡ Toml) × (parse_document text ≡ None)) ⊎ ((table : Members) × (parse_document text ≡ Some table) × IsFault table fault)
 
--- What a player promises besides a play. A fair one takes the frames of each wire in order, each once, and is finished where
--- the budget isn't used up; a seeded one is so without loss.
+-- What a player promises besides a play. A fair one takes the frames of each wire in order, each once, and is finished
+-- where the budget isn't used up; a seeded one is so without loss.
 abbrev pub PlaysAs : Bool → Load → Made → Bool → Type 0
 PlaysAs true work made is_finished = TakesInOrder made.accepted × (length made.accepted < work.budget → is_finished ≡ true)
 PlaysAs false work made is_finished = work.loss ≡ 0 → length made.accepted < work.budget → is_finished ≡ true
 
--- the one play of the workload that its player makes: the fair one, or the seeded one with the words of PCG32 from the workload's seed
+-- the one play of the workload that its player makes: the fair one, or the seeded one with the words of PCG32 from the
+-- workload's seed
 unfoldable pub play_made : Bool → (Op → ℕ → Start) → Load → Made
 play_made true start work = (fair_play start work.shape work.scripts work.budget).made
 play_made false start work = (seeded_play start pcg32 work.shape work.scripts work.loss work.repeat work.budget (pcg32_of_seed (pcg32_seed 16 work.seed))).0.made
@@ -64,7 +65,8 @@ pub record ShowsPlay (fair : Bool) (start : Op → ℕ → Start) (work : Load) 
 abbrev pub IsReportOfPlay : Bool → Load → Contents → Type 0
 IsReportOfPlay fair work r = ShowsPlay fair (start_of work.front) work (PointsOf work.front) r
 
--- The text is a document that says a workload, and the report of the player's play of it was written: `Wrote` says how a text was.
+-- The text is a document that says a workload, and the report of the player's play of it was written: `Wrote` says how
+-- a text was.
 pub record Plays (fair : Bool) (Wrote : List ℕ → Type 0) (text : List ℕ) : Type 0 where
   pub work : Load
   pub holds : Holds text work

@@ -44,15 +44,15 @@ abbrev pub PointsStand : ℕ → List Entry → Option (List Point) → Type 0
 PointsStand registers h None = Unit {0}
 PointsStand registers h (Some ps) = IsPointOrder registers h ps × AreAtEvents ps
 
--- The report's order is a serial order of its history, and its points, where it has any, are a linearization. This takes no
--- definition of a run.
+-- The report's order is a serial order of its history, and its points, where it has any, are a linearization. This
+-- takes no definition of a run.
 pub record IsOrdered (r : Contents) : Type 0 where
   pub serial : IsSerial r.shape.registers r.entries r.order
   pub points : PointsStand r.shape.registers r.entries r.points
 
--- All events of a plan are accepted, and this is the report of the run: its history and its witness, under the plan's front
--- end and names. In that order what may change the memory stands after what was answered before its call, but where the front
--- end may answer that before its delivery.
+-- All events of a plan are accepted, and this is the report of the run: its history and its witness, under the plan's
+-- front end and names. In that order what may change the memory stands after what was answered before its call, but
+-- where the front end may answer that before its delivery.
 pub record Shows (start : Op → ℕ → Start) (p : Plan) (r : Contents) : Type 0 where
   pub accepted : (run_by start p).accepted ≡ p.events
   pub front : r.front ≡ front_name p.front

@@ -24,9 +24,9 @@ use Rattle.reg_data.specs.Parts.{bar_part, look_part, moment_part}
 use Rattle.reg_data.specs.Rows.{arrow_row, first_row, id_row, point_row, read_row}
 use Rattle.reg_data.specs.Strings.{string_text}
 
--- What is told of a run: what the comments of its schedule say; its processes, names and front end; what each event did, and the state of its process after it; each take with
--- the event that put its frame; the operations; the first delivery of each cast; the reads answered from a copy; the
--- witness; and the points, where there are any.
+-- What is told of a run: what the comments of its schedule say; its processes, names and front end; what each event
+-- did, and the state of its process after it; each take with the event that put its frame; the operations; the first
+-- delivery of each cast; the reads answered from a copy; the witness; and the points, where there are any.
 pub record Data : Type 0 where
   pub notes : Notes
   pub processes : ℕ
@@ -62,7 +62,8 @@ abbrev pub data_of : (Op → ℕ → Start) → Plan → Notes → List OpId →
 data_of start p notes witness points =
     data_in p notes (moments_of start p.shape p.events) (looks_of start p.shape p.events) (whole start p.shape.processes p.shape.registers p.events) witness points
 
--- All events of a plan are accepted, and this is all that is told of their run, with these notes, its witness, and these points or none.
+-- All events of a plan are accepted, and this is all that is told of their run, with these notes, its witness, and
+-- these points or none.
 pub record IsDataOf (start : Op → ℕ → Start) (p : Plan) (notes : Notes) (points : Option (List Point)) (d : Data) : Type 0 where
   pub accepted : (whole start p.shape.processes p.shape.registers p.events).accepted ≡ p.events
   pub witness : List OpId

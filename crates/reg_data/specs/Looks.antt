@@ -12,8 +12,9 @@ use Rattle.reg_world.specs.Histories.{process_of}
 use Rattle.reg_world.specs.Worlds.{Made, run_in, with_event, new_world}
 use Rattle.reg_data.specs.declared.looks.Kept.{Kept}
 
--- What is told of a state: what the process knows of each process and keeps for it, with nothing in its own place; the casts that it
--- holds back, in the order of their stamps; the registers of its copy that are not 0; how many casts it delivered; and what runs.
+-- What is told of a state: what the process knows of each process and keeps for it, with nothing in its own place; the
+-- casts that it holds back, in the order of their stamps; the registers of its copy that are not 0; how many casts it
+-- delivered; and what runs.
 pub record Look : Type 0 where
   pub peers : List (Option Known)
   pub held : List Delivered

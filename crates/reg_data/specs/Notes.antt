@@ -23,7 +23,8 @@ abbrev pub above_first : List ℕ → List (List ℕ) → List (List ℕ)
 above_first words [] = []
 above_first words (note ∷ notes) = spaced words note ∷ notes
 
--- For each line that is kept its note: what the comments say that stand directly above it, which is after the kept line before it.
+-- For each line that is kept its note: what the comments say that stand directly above it, which is after the kept line
+-- before it.
 unfoldable pub notes_above : List (List ℕ) → List (List ℕ)
 notes_above [] = []
 notes_above (line ∷ lines) = if is_kept line then [] ∷ notes_above lines else above_first (comment_of line) (notes_above lines)

@@ -20,8 +20,8 @@ use Rattle.reg_data.specs.Noted.{Noted}
 use Rattle.reg_data.specs.Rows.{cast_row}
 use Rattle.reg_data.specs.Strings.{string_text}
 
--- what a process knows of another: the time of the last body accepted from it, the number of the next one, the first number that
--- it has not acknowledged, and that of the next body to it
+-- what a process knows of another: the time of the last body accepted from it, the number of the next one, the first
+-- number that it has not acknowledged, and that of the next body to it
 abbrev pub peer_part : List (List ℕ) → Option Known → List ℕ
 peer_part names None = codes "null"
 peer_part names (Some k) = numbers_text (k.seen ∷ k.expected ∷ k.first ∷ k.next ∷ [])

@@ -9,8 +9,8 @@ use reg_world::{CopyRead, First};
 use std::alloc::{Allocator, Global};
 use std::marker::Model;
 
-/// What is told of a run: of each event, of the frames taken, of the operations, and of the orders of the whole run; and what the
-/// comments of its schedule say.
+/// What is told of a run: of each event, of the frames taken, of the operations, and of the orders of the whole run;
+/// and what the comments of its schedule say.
 #[derive(Drop)]
 pub struct Data<A: Allocator + Copy = Global> {
     /// The title, and the note of each event.

@@ -103,7 +103,8 @@ fn put_between<A: Allocator + Copy, W: Write>(
     put_texts(sink, tail);
 }
 
-/// Writes the data of a run between the texts of its head and those of its tail, all of it or, where the writer fails, a first part.
+/// Writes the data of a run between the texts of its head and those of its tail, all of it or, where the writer fails,
+/// a first part.
 pub fn write_data<A: Allocator + Copy, W: Write>(
     writer: &mut W,
     head: &[&str],

@@ -320,7 +320,8 @@ impl<A: Allocator + Copy> Drawing<'_, A> {
         Ok(())
     }
 
-    /// Shows what happened: operations, deliveries and frames. Texts come first, so that the ground behind them cuts no arrow.
+    /// Shows what happened: operations, deliveries and frames. Texts come first, so that the ground behind them cuts no
+    /// arrow.
     fn show_run<W: fmt::Write>(&self, f: &mut fmt::Formatter<W>) -> fmt::Result {
         self.show_bars(f)?;
         self.show_deliveries(f)?;

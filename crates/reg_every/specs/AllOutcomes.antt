@@ -11,7 +11,8 @@ use Rattle.reg_interleavings.specs.declared.outcomes.TheConstants.{MOST_STAGES}
 use Rattle.reg_every.specs.declared.every.AllFault.{AllFault}
 use Rattle.reg_every.specs.declared.every.AllFault.TheVariants.{Command, TooManyStages}
 
--- The text is a document that says a workload, and the text of all outcomes of its scripts was written. `Wrote` says how a text was.
+-- The text is a document that says a workload, and the text of all outcomes of its scripts was written. `Wrote` says
+-- how a text was.
 pub record WritesAll (Wrote : List ℕ → Type 0) (text : List ℕ) : Type 0 where
   pub work : Load
   pub holds : Holds text work

@@ -141,8 +141,8 @@ fn write_none<W: Write>(writer: &mut W, kind: OrderKind) -> Result<(), Fault>
     Ok(())
 }
 
-/// Reads a report, looks for an order of its history, and writes the report with it, or that there is none. The answer is
-/// whether there is one. The text is let go before the search.
+/// Reads a report, looks for an order of its history, and writes the report with it, or that there is none. The answer
+/// is whether there is one. The text is let go before the search.
 fn find<A: Allocator + Copy, W: Write>(
     alloc: A,
     kind: OrderKind,
@@ -196,11 +196,11 @@ fn write_find_fault<W: Write>(errors: &mut W, fault: FindFault) -> Result<(), Un
     }
 }
 
-/// Finds an order of the history of the report that the text on the reader spells, and writes the report in version 2 with
-/// it in place of its own order and points, or one line that says that there is none. It reads the whole input, and writes
-/// once the search is over. The answer is the status: 0 where there is such an order, and 1 where there is none; or where
-/// something was refused, with the line of the fault on `errors`; or where the writer failed, and then a first part of the
-/// text went out. That `errors` fails changes no status.
+/// Finds an order of the history of the report that the text on the reader spells, and writes the report in version 2
+/// with it in place of its own order and points, or one line that says that there is none. It reads the whole input,
+/// and writes once the search is over. The answer is the status: 0 where there is such an order, and 1 where there is
+/// none; or where something was refused, with the line of the fault on `errors`; or where the writer failed, and then a
+/// first part of the text went out. That `errors` fails changes no status.
 pub fn find_order<A: Allocator + Copy, R: Read, W: Write, E: Write>(
     alloc: A,
     kind: OrderKind,

@@ -1,4 +1,5 @@
-//! The commands that print all outcomes that the scripts of a workload can have, and that find an order of a report's history.
+//! The commands that print all outcomes that the scripts of a workload can have, and that find an order of a report's
+//! history.
 #![tactic(auto)]
 
 mod copying;

@@ -20,7 +20,8 @@ pub trait FrontEnd {
         ensures { result ≡ start op.now unsettled };
 
     /// What changes the memory is cast, and answered at once only where its answer is Done whatever the memory is, so
-    /// that a swap runs until its delivery. What isn't cast looks at once where no own cast is on its way, and else waits.
+    /// that a swap runs until its delivery. What isn't cast looks at once where no own cast is on its way, and else
+    /// waits.
     ghost lawful: { (op : Op) (unsettled : ℕ) → MayStart op unsettled (start op unsettled) };
 }
 

@@ -1,4 +1,5 @@
--- The forms of lines, whatever the limits, and why a line is none of an entry's or of an item's. To be believed: a promise speaks of them.
+-- The forms of lines, whatever the limits, and why a line is none of an entry's or of an item's. To be believed: a
+-- promise speaks of them.
 use Rattle.std.specs.Prelude.{ℕ, ◌≡◌, ◌≢◌, ◌≤◌, ◌⊎◌, true, List, ◌++◌, codes, length, ◌∷◌}
 use Rattle.std.specs.Fmt.{decimal}
 use Rattle.reg_base.specs.Shape.{Extent}
@@ -48,13 +49,14 @@ AreWithin version at process number =
 abbrev pub HasEntryForm : List ℕ → Type 0
 HasEntryForm line = (at process number rest : List ℕ) × HasColumns line at process number rest × HasTailForm rest
 
--- Why what stands after the columns is not read, though it has its form: the value of an answer is beyond its range, or the
--- operation of a call tells.
+-- Why what stands after the columns is not read, though it has its form: the value of an answer is beyond its range, or
+-- the operation of a call tells.
 pub record IsTailWhy (names : List (List ℕ)) (rest : List ℕ) (why : Why) : Type 0 where
   pub answer : (text : List ℕ) → rest ≡ codes "answer  " ++ text → why ≡ Range
   pub call : (text : List ℕ) → rest ≡ codes "call    " ++ text → IsOpWhy names text why
 
--- why a line is no entry's: its form is not kept, or a number of its columns is beyond its limit, or what stands after them tells
+-- why a line is no entry's: its form is not kept, or a number of its columns is beyond its limit, or what stands after
+-- them tells
 pub record IsEntryWhy (version : Version) (names : List (List ℕ)) (line : List ℕ) (why : ReadWhy) : Type 0 where
   pub form : (¬ (HasEntryForm line)) → why ≡ Misspelt
   pub beyond : (at process number rest : List ℕ) → HasColumns line at process number rest → HasTailForm rest → ¬ (AreWithin version at process number) → why ≡ BeyondLimit

@@ -36,7 +36,8 @@ IsNoVersion line why = ((version : Version) → line ≢ version_line version) �
 abbrev pub IsNoFront : List ℕ → ReadWhy → Type 0
 IsNoFront line why = ((word : List ℕ) → line ≡ codes "front " ++ word → is_front word ≡ false) × (why ≡ Form)
 
--- it is the mark with no number from the least to the limit: a number beyond them is Range, and what is no number is Form
+-- it is the mark with no number from the least to the limit: a number beyond them is Range, and what is no number is
+-- Form
 pub record IsNoCount (mark : List ℕ) (least limit : ℕ) (line : List ℕ) (why : ReadWhy) : Type 0 where
   pub none : (n : ℕ) → least ≤ n → n ≤ limit → line ≢ mark ++ decimal n
   pub range : (digits : List ℕ) → is_numeral digits ≡ true → line ≡ mark ++ digits → why ≡ Range
@@ -70,7 +71,8 @@ IsNoTail line why = (line ≢ codes "end") × IsNoCount (codes "points ") 0 MOST
 abbrev pub IsNoEnd : List ℕ → ReadWhy → Type 0
 IsNoEnd line why = (line ≢ codes "end") × (why ≡ Form)
 
--- The lines are of fewer elements than the count says, each fit after those before it, and the next one is none that may follow them.
+-- The lines are of fewer elements than the count says, each fit after those before it, and the next one is none that
+-- may follow them.
 pub record IsWrongItem {X : Type 0} (line_of : X → List ℕ) (Fits : List X → X → Type 0) (IsNone : List X → List ℕ → ReadWhy → Type 0) (count : ℕ) (lines : List (List ℕ)) (next : Option (List ℕ)) (why : ReadWhy) : Type 0 where
   pub items : List X
   pub are : lines ≡ map line_of items
@@ -95,16 +97,16 @@ IsFrontLine line = (word : List ℕ) × (is_front word ≡ true) × (line ≡ co
 abbrev pub IsProcessesLine : Version → List ℕ → Type 0
 IsProcessesLine version line = (n : ℕ) × (1 ≤ n) × (n ≤ most_processes version) × (line ≡ codes "processes " ++ decimal n)
 
--- The lines are the first ones of a report's head, and the next one is none that may follow them: the version, the front end, the
--- processes, and then the names.
+-- The lines are the first ones of a report's head, and the next one is none that may follow them: the version, the
+-- front end, the processes, and then the names.
 abbrev pub IsWrongHead : List (List ℕ) → Option (List ℕ) → ReadWhy → Type 0
 IsWrongHead [] next why = IsWrongNext IsNoVersion next why
 IsWrongHead (a ∷ []) next why = (version : Version) × (a ≡ version_line version) × IsWrongNext IsNoFront next why
 IsWrongHead (a ∷ b ∷ []) next why = (version : Version) × (a ≡ version_line version) × IsFrontLine b × IsWrongNext (IsNoCount (codes "processes ") 1 (most_processes version)) next why
 IsWrongHead (a ∷ b ∷ c ∷ lines) next why = (version : Version) × (a ≡ version_line version) × IsFrontLine b × IsProcessesLine version c × IsWrongNames version lines next why
 
--- The lines after the order: the next is neither `end` nor a count of points; or one of the points is wrong; or their last line is
--- missing; or one more line stands after the last.
+-- The lines after the order: the next is neither `end` nor a count of points; or one of the points is wrong; or their
+-- last line is missing; or one more line stands after the last.
 abbrev pub IsWrongTail : Version → List (List ℕ) → Option (List ℕ) → ReadWhy → Type 0
 IsWrongTail version lines next why =
     ((lines ≡ []) × IsWrongNext IsNoTail next why)
@@ -139,8 +141,8 @@ pub record IsWrongBehind (lines : List (List ℕ)) (next : Option (List ℕ)) (w
   pub are : lines ≡ head_lines version front processes names body
   pub wrong : IsWrongBody version names (record { processes = processes; registers = length names }) body next why
 
--- The lines are the first ones of a report, as far as each can be judged by those before it, and the next one is none that may follow
--- them, for this reason; or the text ends before it.
+-- The lines are the first ones of a report, as far as each can be judged by those before it, and the next one is none
+-- that may follow them, for this reason; or the text ends before it.
 abbrev pub IsFirstWrong : List (List ℕ) → Option (List ℕ) → ReadWhy → Type 0
 IsFirstWrong before next why = IsWrongHead before next why ⊎ IsWrongBehind before next why
 

@@ -75,8 +75,8 @@ pub fn read_entry<A: Allocator + Copy>(
     Some(Entry::Answered { at, id, answer })
 }
 
-/// Whether the bytes have an answer's form, of a line that was not read. It isn't `read_answer`, which takes no numeral that is out
-/// of range: by its form alone a line is refused for its range and not for its form.
+/// Whether the bytes have an answer's form, of a line that was not read. It isn't `read_answer`, which takes no numeral
+/// that is out of range: by its form alone a line is refused for its range and not for its form.
 fn answer_form(text: &[u8]) -> Option<Why>
     ensures read { IfSome result (λ why. HasAnswerForm text.now × (why ≡ Why.Range)) }
     ensures done { text.now ≡ codes "done" → result ≡ Some Why.Range }
@@ -129,8 +129,8 @@ fn entry_form<A: Allocator + Copy>(line: &[u8], names: &Names<A>, version: Versi
     }
 }
 
-/// Why a line is no entry: its form is not kept, or a number of its columns is beyond its limit, or what stands after them
-/// tells.
+/// Why a line is no entry: its form is not kept, or a number of its columns is beyond its limit, or what stands after
+/// them tells.
 pub fn why_entry<A: Allocator + Copy>(line: &[u8], names: &Names<A>, version: Version) -> ReadWhy
     ensures form { (¬ (HasEntryForm line.now)) → result ≡ ReadWhy.Form }
     ensures beyond { (at process number rest : List ℕ) → HasColumns line.now at process number rest → HasTailForm rest → ¬ (AreWithin version at process number) → result ≡ ReadWhy.Range }

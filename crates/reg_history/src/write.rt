@@ -46,7 +46,8 @@ fn put_columns<W: Write>(sink: &mut Sink<'_, W>, at: u32, id: OpId, marked: &[u8
     requires { marked.now ≡ replicate 6 32 ++ drop 6 marked.now }
     ensures { Puts W.contents sink.old sink.new (to_right 8 (decimal at) ++ (codes "  p" ++ (to_left 3 (decimal id.process) ++ (codes "  #" ++ (to_left 6 (decimal id.number) ++ drop 6 marked.now))))) }
 {
-    // (twenty spaces and more are room for the digits, which are written over them: one piece goes to the sink, and no string is made)
+    // (twenty spaces and more are room for the digits, which are written over them: one piece goes to the sink, and no
+    // string is made)
     let mut event = *b"                      p";
     put_right(sink, at as u64, 8, &mut event);
     put_left(sink, id.process as u64, 3, b"     #");

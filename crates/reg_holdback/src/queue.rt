@@ -118,8 +118,8 @@ impl<A: Allocator + Copy> Holdback<A> {
         Ok(())
     }
 
-    /// Takes in the time of a body of another process, and holds its cast, if it carries one. After a refusal nothing has
-    /// changed.
+    /// Takes in the time of a body of another process, and holds its cast, if it carries one. After a refusal nothing
+    /// has changed.
     pub fn receive(&mut self, stamp: Stamp, op: Option<Op>) -> Result<(), HoldFault>
         ensures exact { MatchResult result (λ _. (receive_fault self.old stamp ≡ None) × (self.new ≡ received self.old stamp op)) (λ fault. (receive_fault self.old stamp ≡ refusal_of fault) × (self.new ≡ self.old)) }
 

@@ -1,5 +1,5 @@
--- The forms of the lines of a schedule, whatever their numbers and names, and why such a line is refused. To be believed: a promise speaks
--- of them.
+-- The forms of the lines of a schedule, whatever their numbers and names, and why such a line is refused. To be
+-- believed: a promise speaks of them.
 use Rattle.std.specs.Prelude.{ℕ, ◌≡◌, ◌≤◌, ◌⊎◌, ◌==◌, ◌&&◌, Bool, true, not, List, ◌∷◌, ◌++◌, length, codes}
 use Rattle.std.specs.Fmt.{decimal}
 use Rattle.std.specs.List.{list_all}
@@ -31,8 +31,8 @@ HasEventForm line =
     ((process text : List ℕ) × IsCallForm line process text)
     ⊎ (((from to number : List ℕ) × IsTakeForm line from to number) ⊎ ((process : List ℕ) × IsTickForm line process))
 
--- Why a line that has the form of an event's is none: a process, or the number of a frame, is beyond its range, and of a call within
--- it the operation tells.
+-- Why a line that has the form of an event's is none: a process, or the number of a frame, is beyond its range, and of
+-- a call within it the operation tells.
 pub record IsEventWhy (names : List (List ℕ)) (line : List ℕ) (why : Why) : Type 0 where
   pub formed : HasEventForm line
   pub call : (process : ℕ) (text : List ℕ) → process ≤ 255 → IsCallForm line (decimal process) text → IsOpWhy names text why

@@ -53,7 +53,8 @@ pub record IsFirstWrong (before : List (List ℕ)) (next : Option (List ℕ)) (w
   pub begun : IsBegun before
   pub wrong : IsWrongNext before next why
 
--- Of the lines of a text that are neither empty nor begin with #, the one with this number is the first with which no schedule goes on.
+-- Of the lines of a text that are neither empty nor begin with #, the one with this number is the first with which no
+-- schedule goes on.
 pub record RefusesLine (number : ℕ) (why : Why) (text : List ℕ) : Type 0 where
   pub before : List (List ℕ)
   pub next : Option (List ℕ)

@@ -1,4 +1,5 @@
-//! What players and runs are given: workloads, read from TOML documents, and schedules, read and written as lists of events.
+//! What players and runs are given: workloads, read from TOML documents, and schedules, read and written as lists of
+//! events.
 #![tactic(auto)]
 
 mod event_lines;

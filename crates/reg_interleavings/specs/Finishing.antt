@@ -12,8 +12,8 @@ use Rattle.reg_outcomes.specs.Told.{outcome_of}
 use Rattle.reg_checkers.specs.History.{IsAt}
 use Rattle.reg_interleavings.specs.Interleavings.{Interleaving, script_of}
 
--- Each of these events is accepted, by them each process calls the operations of its script, in order and no other, and in the
--- end nobody is busy. There is a script for each process.
+-- Each of these events is accepted, by them each process calls the operations of its script, in order and no other, and
+-- in the end nobody is busy. There is a script for each process.
 pub record UsesUp (start : Op → ℕ → Start) (scripts : List (List Op)) (registers : ℕ) (events : List Event) : Type 0 where
   pub accepted : (whole start (length scripts) registers events).accepted ≡ events
   pub called : (p : ℕ) → p < length scripts → calls_of p events ≡ script_of scripts p
@@ -32,7 +32,7 @@ pub record HaveAllOutcomes (start : Op → ℕ → Start) (scripts : List (List 
   pub each : (k : ℕ) (i : Interleaving) → IsAt found k i → IsOutcome start scripts registers i.told
   pub all : (told : List ToldValue) → IsOutcome start scripts registers told → (k : ℕ) × (i : Interleaving) × IsAt found k i × (i.told ≡ told)
 
--- A run has room to call the operations one after another, and to come to rest after each: by a call, and by three events for
--- each frame that it makes needed, which is a cast or an acknowledgement from each process to each other.
+-- A run has room to call the operations one after another, and to come to rest after each: by a call, and by three
+-- events for each frame that it makes needed, which is a cast or an acknowledgement from each process to each other.
 abbrev pub HasRoom : List (List Op) → Type 0
 HasRoom scripts = sum_by length scripts * (1 + 3 * (length scripts * (length scripts - 1))) ≤ MOST_EVENTS

@@ -1,4 +1,5 @@
--- The interleavings of scripts on one memory, operation by operation, and what they tell. To be believed: promises speak of it.
+-- The interleavings of scripts on one memory, operation by operation, and what they tell. To be believed: promises
+-- speak of it.
 use Rattle.std.specs.Prelude.{ℕ, ◌≡◌, ◌+◌, ◌<◌, ◌≤◌, nat_lt, cond, All, List, [], ◌∷◌, ◌++◌, length, map, replicate, slice_index, slice_index_or, slice_set}
 use Rattle.std.specs.declared.cmp.Ordering.TheVariants.{Less}
 use Rattle.std.specs.Cmp.Lexicographic.{slice_cmp}
@@ -18,8 +19,8 @@ use Rattle.reg_interleavings.specs.declared.faults.InterleavingFault.TheVariants
 abbrev pub script_of : List (List Op) → ℕ → List Op
 script_of scripts p = slice_index_or scripts p []
 
--- Where scripts stand: how many operations of each are behind, the memory, and the values that those operations answered, in the
--- order of an outcome.
+-- Where scripts stand: how many operations of each are behind, the memory, and the values that those operations
+-- answered, in the order of an outcome.
 pub record Stage : Type 0 where
   pub next : List ℕ
   pub memory : Memory
@@ -47,7 +48,8 @@ stage_after p op s = record {
   told = told_after (record { process = p; number = slice_index s.next p }) (answer_of op s.memory) s.told;
 }
 
--- Turns, the processes one after another, lead to this stage: at its turn a process does the next operation of its script.
+-- Turns, the processes one after another, lead to this stage: at its turn a process does the next operation of its
+-- script.
 pub data Leads (scripts : List (List Op)) (registers : ℕ) : List ℕ → Stage → Type 0 where
   Nothing : Leads scripts registers [] (first_stage (length scripts) registers)
   Turn : {turns : List ℕ} {s : Stage} (p : ℕ) (op : Op) → Leads scripts registers turns s → IsAt (script_of scripts p) (slice_index s.next p) op → Leads scripts registers (turns ++ p ∷ []) (stage_after p op s)
@@ -64,8 +66,8 @@ pub record IsInterleaving (scripts : List (List Op)) (registers : ℕ) (i : Inte
   pub used_up : last.next ≡ map length scripts
   pub tells : last.told ≡ i.told
 
--- These have all outcomes: each is an interleaving, none tells what is not among them, and what they tell rises, so each outcome
--- stands once.
+-- These have all outcomes: each is an interleaving, none tells what is not among them, and what they tell rises, so
+-- each outcome stands once.
 pub record AreAll (scripts : List (List Op)) (registers : ℕ) (found : List Interleaving) : Type 0 where
   pub each : (k : ℕ) (i : Interleaving) → IsAt found k i → IsInterleaving scripts registers i
   pub all : (i : Interleaving) → IsInterleaving scripts registers i → (k : ℕ) × (j : Interleaving) × IsAt found k j × (j.told ≡ i.told)

@@ -1,4 +1,5 @@
--- Layers of stages under way: all stages after so many turns, each with turns that lead to it. They carry a proof: no promise speaks of them.
+-- Layers of stages under way: all stages after so many turns, each with turns that lead to it. They carry a proof: no
+-- promise speaks of them.
 use Rattle.std.specs.Prelude.{ℕ, ◌≡◌, ◌≢◌, ◌<◌, ◌≤◌, ◌⊎◌, List, [], ◌∷◌, ◌++◌, length, map, slice_index, Vec}
 use Rattle.std.specs.List.{AllZip, sum_by}
 use Rattle.std.specs.BTreeMap.{BTreeMap}

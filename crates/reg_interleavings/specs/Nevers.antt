@@ -15,7 +15,8 @@ tells found = map (λ i. i.told) found
 abbrev pub StandsAt : List (List ToldValue) → ℕ → ToldValue → Type 0
 StandsAt outcomes k v = (i : ℕ) × (o : List ToldValue) × IsAt outcomes i o × IsAt o k v
 
--- As many values as an outcome has, each of which stands at its place in some outcome, and which no outcome has together.
+-- As many values as an outcome has, each of which stands at its place in some outcome, and which no outcome has
+-- together.
 pub record IsNever (outcomes : List (List ToldValue)) (told : List ToldValue) : Type 0 where
   pub whole : (first : List ToldValue) × IsAt outcomes 0 first × (length told ≡ length first)
   pub each : (k : ℕ) (v : ToldValue) → IsAt told k v → StandsAt outcomes k v

@@ -1,5 +1,5 @@
--- Turns from rest to rest: one process calls an operation, which is accepted, and the run comes to rest again. They carry
--- a proof: no promise speaks of them.
+-- Turns from rest to rest: one process calls an operation, which is accepted, and the run comes to rest again. They
+-- carry a proof: no promise speaks of them.
 use Rattle.std.specs.Prelude.{ℕ, ◌≡◌, ◌+◌, ◌-◌, ◌*◌, ◌<◌, ◌≤◌, List, [], ◌∷◌, ◌++◌, length, slice_index}
 use Rattle.reg_base.specs.declared.limits.TheConstants.{MOST_EVENTS, MOST_OPERATIONS}
 use Rattle.reg_base.specs.declared.memory.Op.{Op}

@@ -8,7 +8,8 @@ ghost use Rattle.reg_outcomes.specs.declared.outcomes.ToldValue.{ToldValue as An
 ghost use Rattle.reg_interleavings.specs.Finishing.{HasRoom, HaveAllOutcomes, IsOutcome};
 ghost use Rattle.reg_interleavings.specs.Interleavings.{AreAll, ArePlayable, Interleaving, IsInterleaving};
 
-/// No outcome is missing among the interleavings: whatever a run that uses the scripts up tells, some interleaving tells.
+/// No outcome is missing among the interleavings: whatever a run that uses the scripts up tells, some interleaving
+/// tells.
 pub fn none_missing()
     ensures { (start : Op → ℕ → Start) (scripts : List (List Op)) (registers : ℕ) (told : List AnyValue) → KeepsLaws start → IsOutcome start scripts registers told → (turns : List ℕ) × IsInterleaving scripts registers (record { turns = turns; told = told }) }
 {}
@@ -19,8 +20,8 @@ pub fn each_has_a_run()
     ensures { (start : Op → ℕ → Start) (scripts : List (List Op)) (registers : ℕ) (i : Interleaving) → KeepsLaws start → ArePlayable scripts registers → HasRoom scripts → IsInterleaving scripts registers i → IsOutcome start scripts registers i.told }
 {}
 
-/// So the outcomes of the interleavings are those of the runs, whatever is lost, repeated or reordered, and by its outcomes
-/// no lawful front end is told from another.
+/// So the outcomes of the interleavings are those of the runs, whatever is lost, repeated or reordered, and by its
+/// outcomes no lawful front end is told from another.
 pub fn alike()
     ensures all { (start : Op → ℕ → Start) (scripts : List (List Op)) (registers : ℕ) (found : List Interleaving) → KeepsLaws start → ArePlayable scripts registers → HasRoom scripts → AreAll scripts registers found → HaveAllOutcomes start scripts registers found }
     ensures alike { (one other : Op → ℕ → Start) (scripts : List (List Op)) (registers : ℕ) (told : List AnyValue) → KeepsLaws one → KeepsLaws other → ArePlayable scripts registers → HasRoom scripts → IsOutcome one scripts registers told → IsOutcome other scripts registers told }

@@ -127,8 +127,8 @@ fn listed_within<A: Allocator + Copy>(
     Ok(Some(list))
 }
 
-/// The combinations of values that no outcome has, though some outcome has each of the values: each once, rising. The answer is None
-/// where they are more than `MOST_NEVERS`.
+/// The combinations of values that no outcome has, though some outcome has each of the values: each once, rising. The
+/// answer is None where they are more than `MOST_NEVERS`.
 ///
 /// # Errors
 ///

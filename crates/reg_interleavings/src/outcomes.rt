@@ -93,9 +93,9 @@ pub struct AllOutcomes<A: Allocator + Copy = Global> {
     pub stages: u64,
 }
 
-/// All outcomes that interleavings of the scripts, one for each process, have on one memory with so many registers: each once,
-/// rising, and with the turns of an interleaving that has it. It goes turn by turn, and keeps each stage after so many turns once,
-/// so what it needs is the number of stages and not that of the interleavings.
+/// All outcomes that interleavings of the scripts, one for each process, have on one memory with so many registers:
+/// each once, rising, and with the turns of an interleaving that has it. It goes turn by turn, and keeps each stage
+/// after so many turns once, so what it needs is the number of stages and not that of the interleavings.
 ///
 /// # Errors
 ///

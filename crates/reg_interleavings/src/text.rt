@@ -112,7 +112,8 @@ fn put_all<A: Allocator + Copy, W: Write>(
     put_nevers(sink, nevers);
 }
 
-/// Writes the text of all outcomes of so many operations, with what none has, all of it or, where the writer fails, a first part.
+/// Writes the text of all outcomes of so many operations, with what none has, all of it or, where the writer fails, a
+/// first part.
 pub fn write_all<A: Allocator + Copy, W: Write>(
     writer: &mut W,
     operations: u64,

@@ -108,8 +108,8 @@ fn take_turn<F: FrontEnd, A: Allocator + Copy, W: WireStore<A>>(
 }
 
 /// A run that has an outcome of scripts, one for each process: the operations are called in the order of the outcome's
-/// turns, each once the world is at rest, and then `settle` brings it to rest again. So any lawful front end answers them
-/// what the outcome tells.
+/// turns, each once the world is at rest, and then `settle` brings it to rest again. So any lawful front end answers
+/// them what the outcome tells.
 ///
 /// # Errors
 ///

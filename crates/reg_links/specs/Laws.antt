@@ -5,7 +5,8 @@ use Rattle.reg_frames.specs.declared.bodies.Body.{Body}
 use Rattle.reg_base.specs.declared.limits.TheConstants.{FRAME_NUMBERS}
 use Rattle.reg_links.specs.Link.{Unacknowledged, next_of, with_queued, acknowledged}
 
--- What was queued; both ends; what was accepted; the data frames and the counts ever put, as numbers with bodies and as numbers
+-- What was queued; both ends; what was accepted; the data frames and the counts ever put, as numbers with bodies and as
+-- numbers
 pub record Link : Type 0 where
   pub queued : List Body
   pub out : Unacknowledged
@@ -24,7 +25,8 @@ pub record IsLink (l : Link) : Type 0 where
   pub wire : AllByRecursion (λ f. slice_get l.queued f.0 ≡ Some f.1) l.wire
   pub back : AllByRecursion (λ n. n ≤ l.expected) l.back
 
--- a body is queued and put; the i-th pending body is put again; the k-th frame of the wire is taken, and a count put; the k-th count of the wire back is taken
+-- a body is queued and put; the i-th pending body is put again; the k-th frame of the wire is taken, and a count put;
+-- the k-th count of the wire back is taken
 pub data LinkStep : Type 0 where
   Put : Body → LinkStep
   Resend : ℕ → LinkStep

@@ -13,8 +13,8 @@ use std::alloc::{AllocError, Allocator, Global};
 use std::collections::VecDeque;
 use std::marker::Model;
 
-/// The sending ends of all links of one process, which queue the same bodies. Each body is kept once, until every process
-/// has acknowledged it. Each link does as an `Outbox` does.
+/// The sending ends of all links of one process, which queue the same bodies. Each body is kept once, until every
+/// process has acknowledged it. Each link does as an `Outbox` does.
 #[derive(Drop)]
 pub struct Outboxes<A: Allocator + Copy = Global> {
     first: u64,
@@ -48,7 +48,8 @@ fn least(next: u64, counts: &[u64]) -> u64
     least
 }
 
-/// The least of the counts, which are all at least the bound. Where the slowest process still has this bound, nothing is searched.
+/// The least of the counts, which are all at least the bound. Where the slowest process still has this bound, nothing
+/// is searched.
 fn least_again(next: u64, counts: &[u64], bound: u64, slowest: &mut usize) -> u64
     requires { bound ≤ least_from next counts.now }
     ensures { result ≡ least_from next counts.now }
@@ -131,7 +132,8 @@ impl<A: Allocator + Copy> Outboxes<A> {
         Ok(number)
     }
 
-    /// A process has acknowledged so many bodies. A count not above one before changes nothing, nor does one that is ahead.
+    /// A process has acknowledged so many bodies. A count not above one before changes nothing, nor does one that is
+    /// ahead.
     pub fn got(&mut self, from: u8, count: u64) -> Result<(), Ahead>
         requires { from < length self.old.counts }
         ensures answer { OkIff result (count ≤ next_of (link_to self.old from)) tt }
@@ -146,8 +148,8 @@ impl<A: Allocator + Copy> Outboxes<A> {
         Ok(())
     }
 
-    /// Notes how many bodies a process has accepted, where that is not ahead. The counts are searched for the least only where the least one
-    /// rises, and no other has it.
+    /// Notes how many bodies a process has accepted, where that is not ahead. The counts are searched for the least
+    /// only where the least one rises, and no other has it.
     fn count(&mut self, from: u8, count: u64)
         requires within { from < length self.old.counts }
         requires queued { count ≤ next_all self.old }

@@ -82,8 +82,8 @@ impl<A: Allocator + Copy> Outbox<A> {
         }
     }
 
-    /// Drops what lies below a count of accepted frames. A count not above one before changes nothing, nor does one that is
-    /// ahead.
+    /// Drops what lies below a count of accepted frames. A count not above one before changes nothing, nor does one
+    /// that is ahead.
     pub fn got(&mut self, count: u64) -> Result<(), Ahead>
         ensures answer { OkIff result (count ≤ next_of self.old) tt }
         ensures after { self.new ≡ (if is_ok result then acknowledged self.old count else self.old) }

@@ -21,8 +21,8 @@ is_same None now = false
 is_same (Some n) None = false
 is_same (Some n) (Some m) = n == m
 
--- What is known of a link after a look. Where no frame is unacknowledged, or another is the first, it begins anew; mail that
--- waits at one of its ends leaves it as it is.
+-- What is known of a link after a look. Where no frame is unacknowledged, or another is the first, it begins anew; mail
+-- that waits at one of its ends leaves it as it is.
 abbrev pub watched : Beat → Option ℕ → Bool → Beat
 watched b first mail =
     if is_same b.first first then (if mail then b else record { first = first; silent = next_look b.silent }) else record { first = first; silent = 0 }
@@ -37,8 +37,8 @@ pub record IsLooked (first : Option ℕ) (old new : Beat) (due : Bool) : Type 0 
   pub beat : new ≡ watched old first mail
   pub tick : ticks_at old first mail ≡ true → due ≡ true
 
--- A look at every link of a station, by the first frame to each process that isn't acknowledged. A tick is due exactly where one of
--- them makes it.
+-- A look at every link of a station, by the first frame to each process that isn't acknowledged. A tick is due exactly
+-- where one of them makes it.
 pub record AreLooked (firsts : ℕ → Option ℕ) (old new : List Beat) (due : Bool) : Type 0 where
   pub each : (p : ℕ) (before : Beat) → p < MOST_PROCESSES → slice_get old p ≡ Some before
       → (after : Beat) × (slice_get new p ≡ Some after) × IsLooked (firsts p) before after due

@@ -57,9 +57,9 @@ pub record IsKept (start : Op → ℕ → Start) (first : State) (log : List Log
   pub follows : Follows start first log after
   pub last : stopped ≡ false → IsGoing process (last_of first after)
 
--- A station as contracts see it, with the number of entries that its log has room for, the frames that are not handed over, by
--- section, the number of sections whose frames there is room for, how far its links and its last operation have come, and
--- whether callers still wait
+-- A station as contracts see it, with the number of entries that its log has room for, the frames that are not handed
+-- over, by section, the number of sections whose frames there is room for, how far its links and its last operation
+-- have come, and whether callers still wait
 pub record Desk : Type 0 where
   pub me : ℕ
   pub shape : Extent
@@ -97,7 +97,8 @@ told_of_append fault = Failed
 abbrev pub in_phase : Desk → Phase → Desk
 in_phase s phase = record s { stopped = is_stopped phase; phase = phase }
 
--- after a process was asked to make a step, and refused: the station stops exactly where the fault is one that stops its process
+-- after a process was asked to make a step, and refused: the station stops exactly where the fault is one that stops
+-- its process
 abbrev pub phase_after : Phase → ProcessFault → Phase
 phase_after phase fault = if is_stop fault then after_stop phase else phase
 
@@ -127,8 +128,8 @@ phase_settled phase (Answered told) = phase
 abbrev pub first_to : Desk → ℕ → Option ℕ
 first_to s process = if s.stopped || (process == s.me) then None else first_unacknowledged s.links process
 
--- a section of this step may stop its station: the process has nothing against the step, so that memory or a place in the journal was
--- refused, or its clock is full
+-- a section of this step may stop its station: the process has nothing against the step, so that memory or a place in
+-- the journal was refused, or its clock is full
 abbrev pub MayStop : (Op → ℕ → Start) → Kept → Step → Type 0
 MayStop start process e = (process_fault start process e ≡ None) ⊎ (process_fault start process e ≡ Some ClockFull)
 

@@ -5,7 +5,8 @@ use Rattle.reg_live.specs.declared.roughs.Fate.{Fate}
 use Rattle.reg_live.specs.declared.roughs.Fate.TheVariants.{Lost, Kept, Put}
 use Rattle.reg_base.specs.Words.{says}
 
--- what becomes of a parcel that isn't lost: whether it is put twice, whether its last word is even, and whether one is kept back already
+-- what becomes of a parcel that isn't lost: whether it is put twice, whether its last word is even, and whether one is
+-- kept back already
 abbrev pub fate_by : Bool → Bool → Bool → Fate
 fate_by twice even keeps = if even && not keeps then Kept twice else Put twice
 

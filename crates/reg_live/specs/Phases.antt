@@ -1,4 +1,5 @@
--- Whether a station goes on, and whether callers still wait in its cluster. It carries a proof: no promise speaks of it.
+-- Whether a station goes on, and whether callers still wait in its cluster. It carries a proof: no promise speaks of
+-- it.
 use Rattle.std.specs.Prelude.{ℕ, ◌+◌, Bool, true, false, nat_le, if◌then◌else◌}
 use Rattle.reg_base.specs.declared.limits.TheConstants.{MOST_EVENTS}
 use Rattle.reg_live.specs.declared.operations.Operation.{Operation}

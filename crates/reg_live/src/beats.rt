@@ -11,7 +11,8 @@ pub struct Beat {
     silent: u32,
 }
 
-/// Whether a tick is made at this look of those that found a link silent: after 1, 2, 4, .. looks, and from 64 on after 100.
+/// Whether a tick is made at this look of those that found a link silent: after 1, 2, 4, .. looks, and from 64 on after
+/// 100.
 fn is_due(silent: u32) -> bool
     ensures { result ≡ is_due silent }
 {
@@ -36,8 +37,8 @@ impl Beat {
         }
     }
 
-    /// A look at a link on which this frame is the first that isn't acknowledged. `mail` says whether a courier at one of its
-    /// ends has mail that it hasn't taken, so that an answer may be on its way. Whether the station is to tick.
+    /// A look at a link on which this frame is the first that isn't acknowledged. `mail` says whether a courier at one
+    /// of its ends has mail that it hasn't taken, so that an answer may be on its way. Whether the station is to tick.
     pub fn look(&mut self, first: Option<u64>, mail: bool) -> bool
         ensures beat { self.new ≡ watched self.old first mail }
         ensures tick { result ≡ ticks_at self.old first mail }

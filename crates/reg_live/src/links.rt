@@ -7,8 +7,8 @@ use reg_process::{Put, Step};
 use std::alloc::{AllocError, Allocator};
 use std::marker::Model;
 
-/// How many bodies a station has queued on each of its links, and how many of these each process has acknowledged, as the
-/// steps and the frames of its sections tell. The pacer goes by it, and nothing that is proved does.
+/// How many bodies a station has queued on each of its links, and how many of these each process has acknowledged, as
+/// the steps and the frames of its sections tell. The pacer goes by it, and nothing that is proved does.
 #[derive(Drop)]
 pub(crate) struct Links<A: Allocator + Copy> {
     queued: u64,

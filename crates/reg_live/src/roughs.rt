@@ -18,8 +18,8 @@ pub(crate) enum Fate {
     Put { twice: bool },
 }
 
-/// What becomes of a parcel, by the words that are drawn: the first says whether it is lost, and then no other is drawn; the
-/// second whether it is put twice; and the third whether it is kept back, where no other one is.
+/// What becomes of a parcel, by the words that are drawn: the first says whether it is lost, and then no other is
+/// drawn; the second whether it is put twice; and the third whether it is kept back, where no other one is.
 fn fate_of<R: Words>(odds: (u32, u32), words: &mut R, keeps: bool) -> Fate
     ensures fate { result ≡ (fate_of R.next_word odds.0 odds.1 keeps words.old).0 }
     ensures words { words.new ≡ (fate_of R.next_word odds.0 odds.1 keeps words.old).1 }
@@ -120,7 +120,8 @@ fn put_one<W: Wait>(rt: &W, posts: &Posts, parcel: Option<Parcel>) {
 }
 
 impl<R: Words + Drop> Road for Rough<R> {
-    /// The words that are drawn decide (`fate_of`). The lock is held until the parcels are put, so that they are put in this order.
+    /// The words that are drawn decide (`fate_of`). The lock is held until the parcels are put, so that they are put in
+    /// this order.
     fn send<W: Wait>(&self, rt: &W, posts: &Posts, parcel: Parcel) {
         let mut guard = self.ditch.lock(rt);
         let ditch = &mut *guard;

@@ -77,8 +77,8 @@ fn is_answered(made: &Result<Section, LiveFault>) -> bool {
 }
 
 impl<F: FrontEnd, G: Gate> Shared<F, G> {
-    /// One section of a process at the station that is lent, whose lock is then let go. The caller that waits there is woken by
-    /// an answer. Where the station has stopped, or the journal has no place left, all callers that wait are.
+    /// One section of a process at the station that is lent, whose lock is then let go. The caller that waits there is
+    /// woken by an answer. Where the station has stopped, or the journal has no place left, all callers that wait are.
     pub(crate) fn section<R: Wait>(
         &self,
         rt: &R,

@@ -24,8 +24,8 @@ play_from start work seed = (seeded_play start pcg32 work.shape work.scripts wor
 abbrev pub TellsTime : (Op → ℕ → Start) → Made → Bool → Type 0
 TellsTime start made in_time = (order : List OpId) × IsWitness (run_of made.registers (run_in start made)) order × ((in_time ≡ true) ↔ KeepsRealTime made.history order)
 
--- What is known of the play from this seed: whether it is finished, the number of its events, its outcome, and where it is finished
--- whether its witness keeps real time.
+-- What is known of the play from this seed: whether it is finished, the number of its events, its outcome, and where it
+-- is finished whether its witness keeps real time.
 pub record IsSeen (start : Op → ℕ → Start) (work : Load) (seed : ℕ) (s : Seen) : Type 0 where
   pub seeded : s.seed ≡ seed
   pub finished : IsPlay start work.shape work.scripts work.budget (play_from start work seed) s.is_finished

@@ -8,8 +8,8 @@ use Rattle.reg_checkers.specs.History.{IsAt}
 use Rattle.reg_outcomes.specs.declared.outcomes.ToldValue.{ToldValue}
 use Rattle.reg_outcomes.specs.declared.tallies.Tally.{Tally}
 
--- What is known of a play: the seed of its words, whether it is finished, the number of its events, the values that its operations
--- answered, and whether its order keeps real time.
+-- What is known of a play: the seed of its words, whether it is finished, the number of its events, the values that its
+-- operations answered, and whether its order keeps real time.
 pub record Seen : Type 0 where
   pub seed : ℕ
   pub is_finished : Bool
@@ -37,8 +37,8 @@ pub record HasOutcome (outcome : List ToldValue) (s : Seen) : Type 0 where
 abbrev pub IsNoShorter : Tally → Seen → Type 0
 IsNoShorter t s = (t.events < s.events) ⊎ ((t.events ≡ s.events) × (t.seed ≤ s.seed))
 
--- What is told of plays: how many they are, the seed and the events of one of them, none of which is shorter, nor as short with a smaller
--- seed, and whether the order of one of them keeps real time.
+-- What is told of plays: how many they are, the seed and the events of one of them, none of which is shorter, nor as
+-- short with a smaller seed, and whether the order of one of them keeps real time.
 pub record IsTally (plays : List Seen) (t : Tally) : Type 0 where
   pub count : t.count ≡ length plays
   pub shortest : (k : ℕ) × (s : Seen) × IsAt plays k s × (s.events ≡ t.events) × (s.seed ≡ t.seed)
@@ -53,13 +53,13 @@ IsTallyOf plays outcome t = (those : List Seen) × AreThose (HasOutcome outcome)
 abbrev pub told_cmp : ToldValue → ToldValue → Ordering
 told_cmp a b = ordering_then (nat_cmp a.process b.process) (ordering_then (nat_cmp a.number b.number) (nat_cmp a.value b.value))
 
--- a line with a larger count stands before one with a smaller, and of two with the same count the one with the smaller outcome: the
--- first value in which they differ decides
+-- a line with a larger count stands before one with a smaller, and of two with the same count the one with the smaller
+-- outcome: the first value in which they differ decides
 abbrev pub StandsBefore : Line → Line → Type 0
 StandsBefore a b = (b.tally.count < a.tally.count) ⊎ ((a.tally.count ≡ b.tally.count) × (slice_cmp told_cmp a.outcome b.outcome ≡ Less))
 
--- The table of these plays: each line tells of the plays with its outcome, the outcome of each finished play has a line, no two lines
--- have the same outcome, and they stand in their order.
+-- The table of these plays: each line tells of the plays with its outcome, the outcome of each finished play has a
+-- line, no two lines have the same outcome, and they stand in their order.
 pub record IsTable (plays : List Seen) (lines : List Line) : Type 0 where
   pub each : (i : ℕ) (line : Line) → IsAt lines i line → IsTallyOf plays line.outcome line.tally
   pub all : (k : ℕ) (s : Seen) → IsAt plays k s → s.is_finished ≡ true → (i : ℕ) × (line : Line) × IsAt lines i line × (line.outcome ≡ s.outcome)

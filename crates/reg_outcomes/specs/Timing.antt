@@ -1,4 +1,5 @@
--- Places in an order, what was answered so far, and what is known of a finished play. They carry a proof: no promise speaks of them.
+-- Places in an order, what was answered so far, and what is known of a finished play. They carry a proof: no promise
+-- speaks of them.
 use Rattle.std.specs.Prelude.{ℕ, ◌≡◌, ◌+◌, ◌<◌, ◌⊎◌, nat_lt, cond, max, suc, true, length, List, Option, None, Some}
 use Rattle.std.specs.declared.cmp.Ordering.{Ordering}
 use Rattle.std.specs.Ordering.{nat_cmp, ordering_then}
@@ -38,8 +39,8 @@ abbrev pub bound_next : (OpId → Option ℕ) → ℕ → Entry → Option ℕ
 bound_next place bound (Called at id op) = called_bound (place id) bound
 bound_next place bound (Answered at id answer) = Some (answered_bound (place id) bound)
 
--- So far each operation that was called stands after those that were answered before it in the history, and this is the place
--- after all that were answered.
+-- So far each operation that was called stands after those that were answered before it in the history, and this is the
+-- place after all that were answered.
 pub record IsInTime (es : List Entry) (ids : List OpId) (bound : ℕ) : Type 0 where
   pub above : (k i at : ℕ) (a : OpId) (answer : Answer) → IsAt es k (Answered at a answer) → IsAt ids i a → i < bound
   pub tight : (bound ≡ 0) ⊎ ((k : ℕ) × (i : ℕ) × (at : ℕ) × (a : OpId) × (answer : Answer) × IsAt es k (Answered at a answer) × IsAt ids i a × (suc i ≡ bound))

@@ -1,4 +1,5 @@
-//! What a workload may answer, counted: many plays of it, each by the words of a seed of its own, and the table of what they told.
+//! What a workload may answer, counted: many plays of it, each by the words of a seed of its own, and the table of what
+//! they told.
 #![tactic(auto)]
 
 mod outcomes;

@@ -57,8 +57,8 @@ fn tell_process<A: Allocator + Copy>(
     Ok(())
 }
 
-/// The values that the operations of a history answered, by process, and of one process in the order of their answers, which
-/// is that of their numbers.
+/// The values that the operations of a history answered, by process, and of one process in the order of their answers,
+/// which is that of their numbers.
 ///
 /// # Errors
 ///

@@ -71,9 +71,9 @@ fn count_play<F: FrontEnd, A: Allocator + Copy>(
     }
 }
 
-/// Plays a workload so many times, each time by the words of a seed of its own: the first by those of the workload's seed, and
-/// each other by those of the next number, modulo 2^64. The lines tell what the finished plays answered. It keeps what is told
-/// of each outcome, and one play at a time.
+/// Plays a workload so many times, each time by the words of a seed of its own: the first by those of the workload's
+/// seed, and each other by those of the next number, modulo 2^64. The lines tell what the finished plays answered. It
+/// keeps what is told of each outcome, and one play at a time.
 ///
 /// # Errors
 ///

@@ -27,7 +27,8 @@ fn places<A: Allocator + Copy>(
     Ok(places)
 }
 
-/// The place after those of all operations that were answered so far, and None where the entry calls one that stands before it.
+/// The place after those of all operations that were answered so far, and None where the entry calls one that stands
+/// before it.
 fn next_bound<A: Allocator + Copy>(
     places: &BTreeMap<OpId, usize, A>,
     bound: usize,
@@ -49,8 +50,8 @@ fn next_bound<A: Allocator + Copy>(
 }
 
 /// Whether in an order each operation stands after those that were answered before its call. An operation was answered
-/// before another's call just where its answer stands before that call in the history, so one walk tells it: each call has to
-/// stand after all that was answered so far.
+/// before another's call just where its answer stands before that call in the history, so one walk tells it: each call
+/// has to stand after all that was answered so far.
 ///
 /// # Errors
 ///

@@ -14,7 +14,8 @@ use Rattle.reg_process.specs.declared.faults.ProcessFault.TheVariants.{Failed, C
 use Rattle.reg_process.specs.Puts.{puts}
 use Rattle.reg_process.specs.Faults.{step_fault, is_cast, is_numbered}
 
--- whether a process has stopped for good, its state, and how many frames fit into the list that it keeps for a later event
+-- whether a process has stopped for good, its state, and how many frames fit into the list that it keeps for a later
+-- event
 pub record Kept : Type 0 where
   pub failed : Bool
   pub state : State

@@ -69,8 +69,8 @@ abbrev pub body_memory : State → ℕ → ℕ → Body → Bool
 body_memory s room from (Cast t op) = true
 body_memory s room from (Ack t) = (room == 0) || nat_lt 0 (length (clear_casts (accepts from t s)))
 
--- Whether a frame can find no memory: an expected body as above, and a dropped one where there is no room for its answer, but
--- never a count.
+-- Whether a frame can find no memory: an expected body as above, and a dropped one where there is no room for its
+-- answer, but never a count.
 abbrev pub takes_memory : State → ℕ → ℕ → Frame → Bool
 takes_memory s room from (Numbered number body) = if number == (peer_at s from).expected then body_memory s room from body else (room == 0)
 takes_memory s room from (Got count) = false

@@ -23,9 +23,9 @@ use reg_front::FrontEnd;
 use std::alloc::{AllocError, Allocator, Global};
 use std::marker::{Model, PhantomData};
 
-/// One process of a run in which all run the front end F: a clock, a copy of the registers, a hold-back queue, the bodies
-/// that some other process has not acknowledged, and an inbox for each. The clock, and the order of delivery, are those of
-/// Lamport 1978.
+/// One process of a run in which all run the front end F: a clock, a copy of the registers, a hold-back queue, the
+/// bodies that some other process has not acknowledged, and an inbox for each. The clock, and the order of delivery,
+/// are those of Lamport 1978.
 #[derive(Drop)]
 pub struct Process<F: FrontEnd, A: Allocator + Copy = Global> {
     core: Core<A>,
@@ -132,16 +132,16 @@ impl<F: FrontEnd, A: Allocator + Copy> Process<F, A> {
         }
     }
 
-    /// Takes back the list of an event's frames, so that a later event takes no memory for one. Of this list and the one that
-    /// it has, it keeps the one with more room. Nothing else changes.
+    /// Takes back the list of an event's frames, so that a later event takes no memory for one. Of this list and the
+    /// one that it has, it keeps the one with more room. Nothing else changes.
     pub fn reuse(&mut self, frames: Vec<Put, A>)
         ensures { self.new ≡ record self.old { room = max self.old.room (vec_capacity frames) } }
     {
         self.spare.keep(frames);
     }
 
-    /// Puts the first unacknowledged data frames of every link again. The clock stays as it is. It takes no memory where there
-    /// are none.
+    /// Puts the first unacknowledged data frames of every link again. The clock stays as it is. It takes no memory
+    /// where there are none.
     pub fn tick(&mut self) -> Result<Outcome<A>, ProcessFault>
         ensures ticked { MatchResult result (λ o. Steps F.start self.old Tick o.frames.items o.cast o.delivered.items o.reply self.new) (λ fault. Refused F.start self.old Tick fault self.new) }
         ensures memory { IsErrOf result ProcessFault.OutOfMemory → puts (resent self.old.state) (length self.old.state.peers) ≢ [] }
@@ -156,9 +156,10 @@ impl<F: FrontEnd, A: Allocator + Copy> Process<F, A> {
         Ok(self.core.quiet(frames, None))
     }
 
-    /// Takes a frame that another process put for it. A data frame out of turn is dropped and answered by the count of those
-    /// accepted; an expected one is accepted, and what is clear then is delivered. A count takes no memory. Nor does, where the
-    /// kept list has room for the answer, a dropped frame, or an acknowledgement that makes no cast clear.
+    /// Takes a frame that another process put for it. A data frame out of turn is dropped and answered by the count of
+    /// those accepted; an expected one is accepted, and what is clear then is delivered. A count takes no memory. Nor
+    /// does, where the kept list has room for the answer, a dropped frame, or an acknowledgement that makes no cast
+    /// clear.
     // (in line: it runs at each take, and a frame handed on by a call would be copied once more)
     #[inline(always)]
     pub fn take(&mut self, from: u8, frame: &Frame) -> Result<Outcome<A>, ProcessFault>
@@ -180,8 +181,8 @@ impl<F: FrontEnd, A: Allocator + Copy> Process<F, A> {
         }
     }
 
-    /// Calls its next operation, which starts as the front end says, and delivers what is clear. One that isn't cast takes no
-    /// memory.
+    /// Calls its next operation, which starts as the front end says, and delivers what is clear. One that isn't cast
+    /// takes no memory.
     pub fn call(&mut self, op: Op) -> Result<Outcome<A>, ProcessFault>
         ensures called { MatchResult result (λ o. Steps F.start self.old (Call op) o.frames.items o.cast o.delivered.items o.reply self.new) (λ fault. Refused F.start self.old (Call op) fault self.new) }
         ensures memory { IsErrOf result ProcessFault.OutOfMemory → is_cast (F.start op (unsettled self.old.state)) ≡ true }

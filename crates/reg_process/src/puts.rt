@@ -164,7 +164,8 @@ fn resend_one<A: Allocator + Copy>(
     Ok(())
 }
 
-/// Puts the first unacknowledged frames for all other processes again, in an empty list. It takes memory only where a frame is put.
+/// Puts the first unacknowledged frames for all other processes again, in an empty list. It takes memory only where a
+/// frame is put.
 pub fn resend_all<A: Allocator + Copy>(
     frames: &mut Vec<Put, A>,
     outboxes: &Outboxes<A>,

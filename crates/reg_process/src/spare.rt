@@ -6,8 +6,8 @@ use std::alloc::Allocator;
 use std::marker::Model;
 use std::mem;
 
-/// A list that a later event can put its frames in, so that it takes no memory for one. Contracts see how many frames fit.
-/// Ticks leave that list, so for speed they have one of their own, of which contracts say nothing.
+/// A list that a later event can put its frames in, so that it takes no memory for one. Contracts see how many frames
+/// fit. Ticks leave that list, so for speed they have one of their own, of which contracts say nothing.
 #[derive(Drop)]
 pub(crate) struct Spare<A: Allocator + Copy> {
     list: Vec<Put, A>,

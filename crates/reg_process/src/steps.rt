@@ -6,7 +6,8 @@ use reg_frames::Frame;
 #[derive(Clone, Copy, Debug, PartialEq, Eq)]
 pub struct Reply {
     pub answer: Answer,
-    /// How many casts the process had delivered before the one that the answer comes with, or before the look at its copy.
+    /// How many casts the process had delivered before the one that the answer comes with, or before the look at its
+    /// copy.
     pub place: u64,
 }
 

@@ -1,4 +1,5 @@
-//! What stands after the first line of a refused text: where it doesn't fit, and why. It is safe; what it says is shown by tests.
+//! What stands after the first line of a refused text: where it doesn't fit, and why. It is safe; what it says is shown
+//! by tests.
 use crate::documents::explain_workload;
 use crate::entries::explain_entry;
 use crate::events::explain_event;

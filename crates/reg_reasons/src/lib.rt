@@ -1,5 +1,6 @@
-//! Why a text is refused: the place in it that doesn't fit, and what was expected there. It promises nothing but that it is safe,
-//! so it has a crate of its own: what promises the first line of an answer, with its must-fail edits, is proved without it.
+//! Why a text is refused: the place in it that doesn't fit, and what was expected there. It promises nothing but that
+//! it is safe, so it has a crate of its own: what promises the first line of an answer, with its must-fail edits, is
+//! proved without it.
 #![tactic(auto)]
 
 mod documents;

@@ -1,4 +1,5 @@
-//! A line, part by part, up to the first place that doesn't fit. It judges nothing: the readers have refused the line, and it says where.
+//! A line, part by part, up to the first place that doesn't fit. It judges nothing: the readers have refused the line,
+//! and it says where.
 use crate::forms::Form;
 use crate::wanting::{Misfit, Range, Step, Wanted};
 use reg_base::is_name;

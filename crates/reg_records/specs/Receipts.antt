@@ -20,8 +20,8 @@ pub record IsReceipt (h : List Entry) (id : OpId) (r : Receipt) : Type 0 where
   pub call : IsCalled h id r.called r.op
   pub answer_of : IsAnswered h id r.answered r.answer
 
--- The receipts are the finished operations of a process, in order: the k-th is that of its operation k, and it has no other
--- finished one.
+-- The receipts are the finished operations of a process, in order: the k-th is that of its operation k, and it has no
+-- other finished one.
 pub record AreFinished (h : List Entry) (p : ℕ) (receipts : List Receipt) : Type 0 where
   pub each : (k : ℕ) (r : Receipt) → IsAt receipts k r → IsReceipt h (op_id p k) r
   pub all : (k : ℕ) → IsFinished h (op_id p k) → k < length receipts
@@ -37,7 +37,8 @@ pub record IsFirstUntold (h : List Entry) (lists : List (List Receipt)) (p : ℕ
   pub other : AreFinished h p receipts → ⊥
   pub before : (q : ℕ) (those : List Receipt) → q < p → IsAt lists q those → AreFinished h q those
 
--- the order and the logs are a run that ends in this world, and each list is the finished operations of its process in it
+-- the order and the logs are a run that ends in this world, and each list is the finished operations of its process in
+-- it
 pub record IsRecord (start : Op → ℕ → Start) (shape : Extent) (order : List ℕ) (logs : List (List LogEntry)) (lists : List (List Receipt)) (w : Made) : Type 0 where
   pub faithful : IsFaithful start shape order logs w
   pub told : AreTold w.history lists

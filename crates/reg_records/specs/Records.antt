@@ -17,8 +17,8 @@ entry_of logs p k = option_and_then (λ log. slice_get log k) (slice_get logs p)
 abbrev pub mentions : ℕ → List ℕ → ℕ
 mentions p order = count_by (λ q. q == p) order
 
--- One more mention: the k-th mention of a process stands for the k-th entry of its log. An event is accepted in which that
--- process makes the entry's step with the entry's reply: a frame is taken from anywhere on its wire.
+-- One more mention: the k-th mention of a process stands for the k-th entry of its log. An event is accepted in which
+-- that process makes the entry's step with the entry's reply: a frame is taken from anywhere on its wire.
 pub record Turn (start : Op → ℕ → Start) (order : List ℕ) (logs : List (List LogEntry)) (place : ℕ) (now next : Made) : Type 0 where
   pub process : ℕ
   pub entry : LogEntry

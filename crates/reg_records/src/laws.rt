@@ -13,7 +13,8 @@ ghost use Rattle.reg_records.specs.declared.faults.CloseFault.TheVariants.{OutOf
 ghost use Rattle.reg_records.specs.Records.{IsFaithful, AreAlike};
 ghost use Rattle.reg_records.specs.Receipts.{AreFinished, IsRecord, IsRecordFault};
 
-/// All worlds that a faithful record ends in are alike: they differ at most in the places from which equal frames were taken.
+/// All worlds that a faithful record ends in are alike: they differ at most in the places from which equal frames were
+/// taken.
 pub fn one_run()
     ensures { (start : Op → ℕ → Start) (shape : Extent) (order : List ℕ) (logs : List (List LogEntry)) (u v : Made) → IsFaithful start shape order logs u → IsFaithful start shape order logs v → AreAlike start u v }
 {}

@@ -29,8 +29,8 @@ fn is_same(reply: Option<Reply>, other: Option<Reply>) -> bool
     reply == other
 }
 
-/// Makes the step of an entry, and tells whether it is an event that gives the entry's reply. Where it isn't, nothing is
-/// claimed of the world.
+/// Makes the step of an entry, and tells whether it is an event that gives the entry's reply. Where it isn't, nothing
+/// is claimed of the world.
 fn make<F: FrontEnd, A: Allocator + Copy, W: WireStore<A>>(
     world: &mut World<F, A, W>,
     hints: &mut Hints<A>,
@@ -55,8 +55,8 @@ fn make<F: FrontEnd, A: Allocator + Copy, W: WireStore<A>>(
     }
 }
 
-/// Plays one more mention, and tells whether it stands for an entry that comes next in a run. Where it doesn't, nothing is
-/// claimed of the world.
+/// Plays one more mention, and tells whether it stands for an entry that comes next in a run. Where it doesn't, nothing
+/// is claimed of the world.
 fn turn<F: FrontEnd, A: Allocator + Copy, W: WireStore<A>>(
     world: &mut World<F, A, W>,
     hints: &mut Hints<A>,
@@ -91,8 +91,8 @@ fn unfaithful(place: usize) -> CloseFault
     }
 }
 
-/// The run of a record, as `verify` has it, where no caller says what it was told. It is Ok exactly where the steps are a
-/// run that gives the replies written down.
+/// The run of a record, as `verify` has it, where no caller says what it was told. It is Ok exactly where the steps are
+/// a run that gives the replies written down.
 ///
 /// # Errors
 ///

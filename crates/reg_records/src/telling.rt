@@ -17,8 +17,8 @@ pub(crate) struct Pending {
     op: Op,
 }
 
-/// How far one process is, over the first entries of a history: how many of its operations are finished, each of them as its
-/// receipt says, and the call that runs.
+/// How far one process is, over the first entries of a history: how many of its operations are finished, each of them
+/// as its receipt says, and the call that runs.
 #[derive(Clone, Copy)]
 pub(crate) struct Matched {
     done: usize,

@@ -11,9 +11,9 @@ use reg_front::FrontEnd;
 use reg_world::{WireStore, World};
 use std::alloc::Allocator;
 
-/// The run of a record: the order names the processes of its steps, and the k-th mention of a process stands for the k-th
-/// entry of its log. It is Ok exactly where the steps are a run that gives the replies written down, each frame being taken
-/// from its wire, and the receipts are just the finished operations of each process.
+/// The run of a record: the order names the processes of its steps, and the k-th mention of a process stands for the
+/// k-th entry of its log. It is Ok exactly where the steps are a run that gives the replies written down, each frame
+/// being taken from its wire, and the receipts are just the finished operations of each process.
 pub fn verify<F: FrontEnd, A: Allocator + Copy>(
     alloc: A,
     shape: Shape,

@@ -1,5 +1,5 @@
--- When an operation that was called later stands before one that was answered earlier, in whatever order. To be believed:
--- promises speak of it.
+-- When an operation that was called later stands before one that was answered earlier, in whatever order. To be
+-- believed: promises speak of it.
 use Rattle.std.specs.Prelude.{ℕ, ◌≡◌, ◌<◌, List}
 use Rattle.reg_base.specs.declared.memory.Op.{Op}
 use Rattle.reg_base.specs.declared.memory.OpId.{OpId}

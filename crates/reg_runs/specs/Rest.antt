@@ -30,8 +30,8 @@ casts_between w from to = count_by is_cast (drop (peer_at (w to).state from).exp
 abbrev pub casts_to : ℕ → Nodes → ℕ → ℕ
 casts_to n w p = total n (λ q. cond (q == p) 0 (casts_between w q p))
 
--- What a process has to have acknowledged, now or later: its data frames that are not, over all links; and for each cast that
--- it has not accepted an acknowledgement, which it will put for every other process.
+-- What a process has to have acknowledged, now or later: its data frames that are not, over all links; and for each
+-- cast that it has not accepted an acknowledgement, which it will put for every other process.
 abbrev pub left_at : ℕ → Nodes → ℕ → ℕ
 left_at n w p = pending_of (w p).state.peers + casts_to n w p * (n - 1)
 
@@ -81,8 +81,8 @@ pub record Settles (start : Op → ℕ → Start) (old : Made) (count : ℕ) (ne
 abbrev pub LacksMemory : (Op → ℕ → Start) → Made → Made → Type 0
 LacksMemory start last new = ((e : Event) × (refusal start last e ≡ None)) × (new ≡ stopped last)
 
--- Why it was not: the world had stopped before; or after more events it was not at rest, and there were all the events that a
--- world may have, which are fewer than the bound asks for, or memory was wanting.
+-- Why it was not: the world had stopped before; or after more events it was not at rest, and there were all the events
+-- that a world may have, which are fewer than the bound asks for, or memory was wanting.
 abbrev pub Stops : (Op → ℕ → Start) → Made → SettleFault → Made → Type 0
 Stops start old Failed new = (old.failed ≡ true) × (new ≡ old)
 Stops start old TooManyEvents new =
@@ -90,8 +90,8 @@ Stops start old TooManyEvents new =
 Stops start old OutOfMemory new =
     (old.failed ≡ false) × (last : Made) × GoesOn start old last × (0 < distance last.processes (run_in start last).nodes) × LacksMemory start last new
 
--- A run that can come to rest, by so many ticks and takes as the bound says, each accepted, and no take of a frame that was
--- put before.
+-- A run that can come to rest, by so many ticks and takes as the bound says, each accepted, and no take of a frame that
+-- was put before.
 pub record CanRest (start : Op → ℕ → Start) (n registers : ℕ) (events : List Event) : Type 0 where
   pub more : List Event
   pub later : AreLater (whole start n registers events).nodes more

@@ -52,7 +52,8 @@ Misses start old e Failed new = ⊥
 Misses start old e TooManyEvents new = (MOST_EVENTS ≤ length (run_in start old).accepted) × (new ≡ old)
 Misses start old e OutOfMemory new = (refusal start old e ≡ None) × (new ≡ stopped old)
 
--- why events ended early, with the run not at rest, and that they were fewer than the limit where there was no room for more
+-- why events ended early, with the run not at rest, and that they were fewer than the limit where there was no room for
+-- more
 abbrev pub Halts : (Op → ℕ → Start) → (ℕ → ℕ → ℕ) → Made → ℕ → SettleFault → Made → Type 0
 Halts start passed old limit Failed new = ⊥
 Halts start passed old limit TooManyEvents new =

@@ -22,8 +22,8 @@ stale_after_swap = Call 0 (Swap 0 5) ∷ Take 0 1 0 ∷ Take 0 2 0 ∷ Take 1 0 
 abbrev pub stale_after_swap_history : List Entry
 stale_after_swap_history = Called 0 (op_id 0 0) (Swap 0 5) ∷ Answered 4 (op_id 0 0) (Value 0) ∷ Called 5 (op_id 1 0) (Read 0) ∷ Answered 5 (op_id 1 0) (Value 0) ∷ []
 
--- new-then-old: process 1 reads the new value, and then process 2 the old one, while a write is on its way; or after it was
--- answered at once
+-- new-then-old: process 1 reads the new value, and then process 2 the old one, while a write is on its way; or after it
+-- was answered at once
 abbrev pub new_then_old : List Event
 new_then_old = Call 0 (Write 0 5) ∷ Take 0 2 0 ∷ Take 2 1 0 ∷ Take 0 1 0 ∷ Call 1 (Read 0) ∷ Call 2 (Read 0) ∷ []
 

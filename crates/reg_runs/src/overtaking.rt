@@ -1,5 +1,5 @@
-//! Laws of single runs, one for each pair of operations whose real time a front end doesn't keep. Each is a function that
-//! does nothing: its contract is the law. The operations are named by process and number.
+//! Laws of single runs, one for each pair of operations whose real time a front end doesn't keep. Each is a function
+//! that does nothing: its contract is the law. The operations are named by process and number.
 ghost use Rattle.std.specs.Prelude.{ℕ, List};
 ghost use Rattle.reg_base.specs.declared.memory.OpId.{OpId};
 ghost use Rattle.reg_front.specs.Table.{local_read, local_write};
@@ -54,7 +54,8 @@ pub fn local_write_read_then_read()
     ensures overtaken { Overtakes 1 new_then_old_at_once_history (op_id 2 0) (op_id 1 0) }
 {}
 
-/// A history in which an operation overtakes another has no point order: so neither of the two front ends is linearizable.
+/// A history in which an operation overtakes another has no point order: so neither of the two front ends is
+/// linearizable.
 pub fn no_points()
     ensures all { (n registers : ℕ) (h : List Entry) (a b : OpId) → IsHistory n registers h → Overtakes registers h b a → (points : List Point) → ¬ (IsPointOrder registers h points) }
     ensures local_read { (points : List Point) → ¬ (IsPointOrder 1 stale_read_history points) }

@@ -110,7 +110,8 @@ fn take<F: FrontEnd, A: Allocator + Copy, W: WireStore<A>>(
     Ok(answer)
 }
 
-/// A process takes the frames that a tick put again for it, in order, and then the other one the count that answers the last.
+/// A process takes the frames that a tick put again for it, in order, and then the other one the count that answers the
+/// last.
 fn pass_on<F: FrontEnd, A: Allocator + Copy, W: WireStore<A>>(
     world: &mut World<F, A, W>,
     from: u8,
@@ -136,8 +137,8 @@ fn pass_on<F: FrontEnd, A: Allocator + Copy, W: WireStore<A>>(
     Ok(())
 }
 
-/// A process puts its first unacknowledged frames again, and they are passed on to the processes from this one on, before which
-/// none has any.
+/// A process puts its first unacknowledged frames again, and they are passed on to the processes from this one on,
+/// before which none has any.
 fn tick_and_pass<F: FrontEnd, A: Allocator + Copy, W: WireStore<A>>(
     world: &mut World<F, A, W>,
     process: u8,
@@ -175,7 +176,8 @@ fn pending_link<F: FrontEnd, A: Allocator + Copy, W: WireStore<A>>(
     None
 }
 
-/// The first process, from this one on, that has frames which are not acknowledged, with the first process for which it has.
+/// The first process, from this one on, that has frames which are not acknowledged, with the first process for which it
+/// has.
 fn pending_from<F: FrontEnd, A: Allocator + Copy, W: WireStore<A>>(
     world: &World<F, A, W>,
     first: u8,
@@ -192,7 +194,8 @@ fn pending_from<F: FrontEnd, A: Allocator + Copy, W: WireStore<A>>(
     None
 }
 
-/// A link with frames that are not acknowledged: one of the first process from this one on that has any, and else of the first of all.
+/// A link with frames that are not acknowledged: one of the first process from this one on that has any, and else of
+/// the first of all.
 fn next_link<F: FrontEnd, A: Allocator + Copy, W: WireStore<A>>(
     world: &World<F, A, W>,
     first: u8,
@@ -206,16 +209,17 @@ fn next_link<F: FrontEnd, A: Allocator + Copy, W: WireStore<A>>(
     pending_from(world, 0)
 }
 
-/// Brings a world to rest, and tells by how many events: ticks and takes, each an ordinary event of `World::step`, until no
-/// frame is left unacknowledged. Then all copies are equal and no operation waits. A process that has unacknowledged frames
-/// puts the first ones again; these are taken, link by link, and then the count that answers the last of a link. No frame that
-/// was put before is taken: what was lost stays lost. There are at most three events for each frame that has to be
-/// acknowledged, now or later.
+/// Brings a world to rest, and tells by how many events: ticks and takes, each an ordinary event of `World::step`,
+/// until no frame is left unacknowledged. Then all copies are equal and no operation waits. A process that has
+/// unacknowledged frames puts the first ones again; these are taken, link by link, and then the count that answers the
+/// last of a link. No frame that was put before is taken: what was lost stays lost. There are at most three events for
+/// each frame that has to be acknowledged, now or later.
 ///
 /// # Errors
 ///
-/// `TooManyEvents`: the world has all the events that it may have, and is not at rest. `OutOfMemory`: an event took memory that
-/// was refused, and the world has stopped, with what it told before. `Failed`: it had stopped before, and nothing has changed.
+/// `TooManyEvents`: the world has all the events that it may have, and is not at rest. `OutOfMemory`: an event took
+/// memory that was refused, and the world has stopped, with what it told before. `Failed`: it had stopped before, and
+/// nothing has changed.
 pub fn settle<F: FrontEnd, A: Allocator + Copy, W: WireStore<A>>(
     world: &mut World<F, A, W>,
 ) -> Result<u32, SettleFault>

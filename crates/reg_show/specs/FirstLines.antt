@@ -10,8 +10,8 @@ use Rattle.reg_commands.specs.declared.verdicts.Verdicts.{Verdicts}
 abbrev pub counted : ℕ → List ℕ → List ℕ → List ℕ
 counted n one many = decimal n ++ (if n == 1 then one else many)
 
--- What an accepted text is: its kind, the numbers of its processes and registers, its front end, and how many events, operations or
--- entries it has.
+-- What an accepted text is: its kind, the numbers of its processes and registers, its front end, and how many events,
+-- operations or entries it has.
 abbrev pub subject_text : List ℕ → ℕ → ℕ → List ℕ → ℕ → List ℕ → List ℕ → List ℕ
 subject_text name processes registers front count one many =
     ((((name ++ counted processes (codes " process, ") (codes " processes, ")) ++ counted registers (codes " register, ") (codes " registers, ")) ++ front) ++ codes ", ") ++ counted count one many

@@ -19,8 +19,8 @@ use Rattle.reg_show.specs.declared.one_outcome.OutcomeFault.{OutcomeFault}
 use Rattle.reg_show.specs.declared.one_outcome.OutcomeFault.TheVariants.{Command, NoSuchOutcome, TooManyEvents, TooManyStages}
 use Rattle.reg_world.specs.Worlds.{Made}
 
--- The schedule of a run that has this outcome of the workload's scripts was written, under the workload's names and front
--- end. `Wrote` says how a text was.
+-- The schedule of a run that has this outcome of the workload's scripts was written, under the workload's names and
+-- front end. `Wrote` says how a text was.
 pub record SendsRun (start : Op → ℕ → Start) (Wrote : List ℕ → Type 0) (work : Load) (outcome : Interleaving) : Type 0 where
   pub made : Made
   pub run : IsRunOf start work.scripts work.shape.registers outcome made

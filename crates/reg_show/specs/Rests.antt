@@ -19,7 +19,8 @@ pub record IsRested (start : Op → ℕ → Start) (p : Plan) (made : Made) : Ty
   pub count : ℕ
   pub settled : Settles start (after_events start p.shape p.events) count made
 
--- The plan's run was brought to rest, and the schedule of all its events was written, under the plan's front end and names.
+-- The plan's run was brought to rest, and the schedule of all its events was written, under the plan's front end and
+-- names.
 pub record WritesRest (start : Op → ℕ → Start) (Wrote : List ℕ → Type 0) (p : Plan) : Type 0 where
   pub made : Made
   pub rested : IsRested start p made

@@ -10,8 +10,8 @@ use Rattle.reg_show.specs.declared.faults.ShowFault.TheVariants.{Command, TooMan
 use Rattle.reg_trace.specs.Moments.{moments_of}
 use Rattle.reg_trace.specs.Traces.{trace_text}
 
--- The text is that of a plan, all of whose events are accepted, and the trace of its run was written: `Wrote` says how a text
--- was.
+-- The text is that of a plan, all of whose events are accepted, and the trace of its run was written: `Wrote` says how
+-- a text was.
 pub record TellsRun (Wrote : List ℕ → Type 0) (text : List ℕ) : Type 0 where
   pub plan : Plan
   pub good : IsPlan plan

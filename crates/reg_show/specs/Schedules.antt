@@ -8,8 +8,8 @@ use Rattle.reg_inputs.specs.ScheduleText.{IsScheduleText, schedule_text}
 use Rattle.reg_commands.specs.Replays.{start_of}
 use Rattle.reg_commands.specs.Plays.{Holds, IsPlayBy, plan_of}
 
--- The schedule of the player's play of the workload was written: that of the events which it accepted, under the workload's
--- front end and names. `Wrote` says how a text was.
+-- The schedule of the player's play of the workload was written: that of the events which it accepted, under the
+-- workload's front end and names. `Wrote` says how a text was.
 pub record ShowsSchedule (fair : Bool) (start : Op → ℕ → Start) (Wrote : List ℕ → Type 0) (work : Load) : Type 0 where
   pub made : Made
   pub is_finished : Bool

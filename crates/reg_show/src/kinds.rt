@@ -36,7 +36,8 @@ fn kind_of_line(line: &[u8]) -> Kind
     Kind::Workload
 }
 
-/// What a text is meant as, by its first line that is neither empty nor begins with `#`. A byte order mark before it is passed over.
+/// What a text is meant as, by its first line that is neither empty nor begins with `#`. A byte order mark before it is
+/// passed over.
 pub fn kind_of(text: &[u8]) -> Kind
     ensures { result ≡ kind_of_text text.now }
 {

@@ -1,5 +1,5 @@
-//! Runs shown: the schedule of a play, what happened event by event, drawings, data and pages, the table of many plays; and what is
-//! wrong with a text.
+//! Runs shown: the schedule of a play, what happened event by event, drawings, data and pages, the table of many plays;
+//! and what is wrong with a text.
 #![tactic(auto)]
 
 mod asking;

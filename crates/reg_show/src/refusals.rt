@@ -322,8 +322,8 @@ fn tell_report<A: Allocator + Copy>(
 ///
 /// # Errors
 ///
-/// What is none of the text stops before an answer: want of memory, or a text that is longer than an input may be, and neither a reader nor
-/// a writer that failed.
+/// What is none of the text stops before an answer: want of memory, or a text that is longer than an input may be, and
+/// neither a reader nor a writer that failed.
 pub fn tell<A: Allocator + Copy>(
     alloc: A,
     global: Global,

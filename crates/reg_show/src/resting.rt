@@ -75,7 +75,8 @@ fn write_rest<F: FrontEnd, A: Allocator + Copy, W: Write>(
     }
 }
 
-/// Reads a schedule, brings its run to rest, and writes the schedule of all events: the same, with ticks and takes after it.
+/// Reads a schedule, brings its run to rest, and writes the schedule of all events: the same, with ticks and takes
+/// after it.
 pub(crate) fn rest<A: Allocator + Copy, W: Write>(
     alloc: A,
     text: &str,

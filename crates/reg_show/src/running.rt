@@ -137,10 +137,10 @@ fn write_show_fault<W: Write>(errors: &mut W, fault: ShowFault) -> Result<(), Un
     }
 }
 
-/// Shows what the text on the reader says: it reads the whole input, and writes once all of it is accepted. The answer is
-/// the status: 0, or 1 where something was refused, with the line of the fault on `errors`, or where the writer failed, and then a first
-/// part of a schedule or a trace went out. That `errors` fails changes no status. The table of a workload is kept in the
-/// global heap, all else in the other one.
+/// Shows what the text on the reader says: it reads the whole input, and writes once all of it is accepted. The answer
+/// is the status: 0, or 1 where something was refused, with the line of the fault on `errors`, or where the writer
+/// failed, and then a first part of a schedule or a trace went out. That `errors` fails changes no status. The table of
+/// a workload is kept in the global heap, all else in the other one.
 pub fn show_text<A: Allocator + Copy, R: Read, W: Write, E: Write>(
     alloc: A,
     global: Global,

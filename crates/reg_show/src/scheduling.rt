@@ -93,8 +93,8 @@ fn write_workload<A: Allocator + Copy, W: Write>(
     }
 }
 
-/// Reads a workload, plays it, and writes the schedule of the play: `awreg replay` makes of it the report that `awreg play`
-/// makes of the workload.
+/// Reads a workload, plays it, and writes the schedule of the play: `awreg replay` makes of it the report that `awreg
+/// play` makes of the workload.
 pub(crate) fn schedule<A: Allocator + Copy, W: Write>(
     alloc: A,
     global: Global,

@@ -83,8 +83,8 @@ IsAskedLine line = IsCommandLine line ⊎ (((plays : ℕ) × IsOutcomesLine line
 abbrev pub IsHelpLine : List Text → Type 0
 IsHelpLine line = (line ≡ codes "-h" ∷ []) ⊎ (line ≡ codes "--help" ∷ [])
 
--- an answer of the words that ask to show something: just what they ask; else help, only where a word may ask for it, or CommandLine where
--- no flag alone asks for help
+-- an answer of the words that ask to show something: just what they ask; else help, only where a word may ask for it,
+-- or CommandLine where no flag alone asks for help
 abbrev pub IsAnswer : List Text → Result Asked WordsFault → Type 0
 IsAnswer line (Ok (Show showing)) = line ≡ line_of showing
 IsAnswer line (Ok (Outcomes plays)) = ⊥
@@ -98,8 +98,8 @@ IsAnswer line (Ok Help) = ¬ IsCommandLine line × (list_any may_ask_help line �
 IsAnswer line (Err CommandLine) = ¬ IsCommandLine line × ¬ IsHelpLine line
 IsAnswer line (Err OutOfMemory) = ⊤
 
--- an answer of the words: just what they ask to show, to count, to explain, to judge or to name; else help, only where a word may ask for it, or CommandLine
--- where no flag alone asks for help
+-- an answer of the words: just what they ask to show, to count, to explain, to judge or to name; else help, only where
+-- a word may ask for it, or CommandLine where no flag alone asks for help
 abbrev pub IsChoice : List Text → Result Asked WordsFault → Type 0
 IsChoice line (Ok (Show showing)) = line ≡ line_of showing
 IsChoice line (Ok (Outcomes plays)) = IsOutcomesLine line plays

@@ -28,7 +28,8 @@ use Rattle.reg_show_cli.specs.declared.words.Asked.{Asked}
 use Rattle.reg_show_cli.specs.declared.words.Asked.TheVariants.{AllOutcomes, Find, Help, Outcome, Outcomes, Show, Verify, Version, Why}
 use Rattle.reg_show.specs.Tellings.{Answers, AnswersAny, Halts}
 
--- Status 0: what was asked for was shown of the input, the input is accepted and that was written, or the text of the help or of the version was written. `Wrote` says how a text was written.
+-- Status 0: what was asked for was shown of the input, the input is accepted and that was written, or the text of the
+-- help or of the version was written. `Wrote` says how a text was written.
 abbrev pub Obeys : List ℕ → List ℕ → Asked → Option (List ℕ) → (List ℕ → Type 0) → Type 0
 Obeys help version (Show showing) input Wrote = IfSome input (λ xs. length xs ≤ LONGEST_INPUT) × IfSome input (Shows showing Wrote)
 Obeys help version (Outcomes plays) input Wrote = IfSome input (λ xs. length xs ≤ LONGEST_INPUT) × IfSome input (WritesOutcomes plays Wrote)
@@ -40,9 +41,10 @@ Obeys help version Verify input Wrote = IfSome input (λ xs. length xs ≤ LONGE
 Obeys help version Help input Wrote = Wrote help
 Obeys help version Version input Wrote = Wrote version
 
--- Status 1: the line of a fault was told, or a first part of it. It holds of the input, and nothing was written unless the writer
--- failed; then a first part of what is shown was. Where help or the version was asked for, the writer failed. Where the question was why, the text
--- is refused, and its answer was written; where an order was looked for, there is none, and that was written.
+-- Status 1: the line of a fault was told, or a first part of it. It holds of the input, and nothing was written unless
+-- the writer failed; then a first part of what is shown was. Where help or the version was asked for, the writer
+-- failed. Where the question was why, the text is refused, and its answer was written; where an order was looked for,
+-- there is none, and that was written.
 abbrev pub Stops : Asked → Option (List ℕ) → Type 0 → Option (List ℕ) → Option (List ℕ) → Option (List ℕ) → Option (List ℕ) → Type 0
 Stops (Show showing) input unwritten old new was is =
     (f : ShowFault) × IfSome input (Blames showing f) × (f ≢ Command Output → unwritten) × (f ≡ Command Output → IfSome input (Shows showing (AppendsPart old new))) × AppendsPart was is (show_line f)

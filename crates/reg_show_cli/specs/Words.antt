@@ -1,4 +1,5 @@
--- The program as clap reads it, and what each of clap's refusals asks for. They carry a proof: no promise speaks of them.
+-- The program as clap reads it, and what each of clap's refusals asks for. They carry a proof: no promise speaks of
+-- them.
 use Rattle.std.specs.Prelude.{codes, Result, Ok, Err}
 use Rattle.clap.specs.Words.{App, new_app, with_subcommand}
 use Rattle.reg_args.specs.Lines.{fair_app}

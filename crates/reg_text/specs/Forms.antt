@@ -40,8 +40,8 @@ HasOpForm text =
 abbrev pub IsUpdateForm : List ℕ → List ℕ → List ℕ → Type 0
 IsUpdateForm text name digits = IsWriteForm text name digits ⊎ IsSwapForm text name digits
 
--- Why a text that has the form of an operation is none: an update of a register with a name has a value beyond its range; what
--- another operation names is no register's name.
+-- Why a text that has the form of an operation is none: an update of a register with a name has a value beyond its
+-- range; what another operation names is no register's name.
 pub record IsOpWhy (names : List (List ℕ)) (text : List ℕ) (why : Why) : Type 0 where
   pub read : (name : List ℕ) → IsReadForm text name → why ≡ Name
   pub known : (name digits : List ℕ) (i : ℕ) → IsUpdateForm text name digits → slice_get names i ≡ Some name → why ≡ Range

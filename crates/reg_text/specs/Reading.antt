@@ -25,8 +25,8 @@ HasValue (Swap register value) = value < 2 ^ 64
 abbrev pub Starts : ℕ → List ℕ → Type 0
 Starts mark text = (text ≡ []) ⊎ ((rest : List ℕ) × (text ≡ mark ∷ rest))
 
--- the line was found among the lines `old`, after some that are skipped, and then come the lines `new`; `to` is its number, where `from`
--- is that of the line before them
+-- the line was found among the lines `old`, after some that are skipped, and then come the lines `new`; `to` is its
+-- number, where `from` is that of the line before them
 pub record IsFound (line : List ℕ) (old new : List (List ℕ)) (from to : ℕ) : Type 0 where
   pub skipped : List (List ℕ)
   pub lines : old ≡ skipped ++ line ∷ new

@@ -23,8 +23,8 @@ AreWords ws = (0 < length ws) × (list_all is_word ws ≡ true)
 abbrev pub HasWords : List ℕ → Type 0
 HasWords text = (ws : List (List ℕ)) × (AreWords ws × (text ≡ names_text ws))
 
--- Why a line with these words is refused, where at most so many names may stand on it: those that may are names that differ, and
--- there are more; or they are not.
+-- Why a line with these words is refused, where at most so many names may stand on it: those that may are names that
+-- differ, and there are more; or they are not.
 abbrev pub IsNamesWhy : ℕ → List (List ℕ) → Why → Type 0
 IsNamesWhy limit ws Range = (limit < length ws) × (names_fault (take limit ws) ≡ None)
 IsNamesWhy limit ws Name = ¬ (names_fault (take limit ws) ≡ None)

@@ -7,8 +7,8 @@ use Rattle.std.specs.Io.KnownBytes.{Appends, Keeps}
 abbrev pub AppendsPart : Option (List ℕ) → Option (List ℕ) → List ℕ → Type 0
 AppendsPart old new bs = (part rest : List ℕ) × (part ++ rest ≡ bs) × Appends old new part
 
--- What went out to a writer that has failed or not, before and after: all of it, or, where it fails, a first part; nothing
--- after a failure.
+-- What went out to a writer that has failed or not, before and after: all of it, or, where it fails, a first part;
+-- nothing after a failure.
 abbrev pub Sends : Bool → Bool → Option (List ℕ) → Option (List ℕ) → List ℕ → Type 0
 Sends false false old new bs = Appends old new bs
 Sends false true old new bs = AppendsPart old new bs

@@ -11,8 +11,8 @@ use std::io::{ErrorKind, Write};
 #[derive(Clone, Copy, Debug, PartialEq, Eq)]
 pub struct Unwritten;
 
-/// Writes these bytes. Where the writer fails, what went out is a first part of them. A write that was interrupted is made
-/// again.
+/// Writes these bytes. Where the writer fails, what went out is a first part of them. A write that was interrupted is
+/// made again.
 pub fn write_bytes<W: Write>(writer: &mut W, bytes: &[u8]) -> Result<(), Unwritten>
     ensures { MatchResult result (λ _. Appends (W.contents writer.old) (W.contents writer.new) bytes.now) (λ _. AppendsPart (W.contents writer.old) (W.contents writer.new) bytes.now) }
 {

@@ -1,4 +1,5 @@
-//! A cluster whose couriers and pacer run in threads of their own, from its start to its close, and scripts that threads perform.
+//! A cluster whose couriers and pacer run in threads of their own, from its start to its close, and scripts that
+//! threads perform.
 #![tactic(auto)]
 
 mod crews;

@@ -34,8 +34,8 @@ impl From<AllocError> for StartFault {
     }
 }
 
-/// A cluster whose couriers and pacer run. Contracts see it as its shape. One that is dropped without `close` leaves its
-/// threads behind.
+/// A cluster whose couriers and pacer run. Contracts see it as its shape. One that is dropped without `close` leaves
+/// its threads behind.
 #[derive(Drop)]
 pub struct Running<F: FrontEnd, G> {
     cluster: Cluster<F, G>,
@@ -101,7 +101,8 @@ impl<F: FrontEnd, G: Gate + Drop> Running<F, G> {
     }
 }
 
-/// Starts the threads of a cluster, the pacer's first. Where one can't be made, those that were are stopped, and have ended.
+/// Starts the threads of a cluster, the pacer's first. Where one can't be made, those that were are stopped, and have
+/// ended.
 fn run_parts<
     F: FrontEnd + Send + Sync + 'static,
     G: Gate + Drop + Send + Sync + 'static,
@@ -133,8 +134,8 @@ fn run_parts<
     })
 }
 
-/// Sets up a cluster, and starts a thread for each courier, all over one road, and one for the pacer. The passes are one for
-/// each process, in order, and nothing was called yet.
+/// Sets up a cluster, and starts a thread for each courier, all over one road, and one for the pacer. The passes are
+/// one for each process, in order, and nothing was called yet.
 ///
 /// # Errors
 ///

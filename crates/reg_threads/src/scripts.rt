@@ -56,8 +56,8 @@ struct Caller<F: FrontEnd> {
     fault: Option<LiveFault>,
 }
 
-/// What the thread of a script promises: its pass is back, of the same process, and has performed the script up to the first
-/// refusal.
+/// What the thread of a script promises: its pass is back, of the same process, and has performed the script up to the
+/// first refusal.
 #[derive(Drop)]
 struct Performs {
     process: u8,
@@ -144,8 +144,8 @@ fn script_end(process: u8, fault: Option<LiveFault>) -> Result<(), RunStop>
     }
 }
 
-/// Waits until a caller is done, and puts its pass after those of earlier ones. What was told of earlier ones comes first, then
-/// its own refusal.
+/// Waits until a caller is done, and puts its pass after those of earlier ones. What was told of earlier ones comes
+/// first, then its own refusal.
 fn join_caller<F: FrontEnd, R: Threads + Wait>(
     rt: &R,
     passes: &mut Vec<Pass<F, NoGate>>,
@@ -238,13 +238,13 @@ fn end<F: FrontEnd, R: Threads + Wait, W: WireStore<Global>>(
     }
 }
 
-/// Performs each script in a thread of its own, over a cluster with an honest road, and closes the cluster: the k-th script by
-/// the pass of process k, all of it. A script ends at its first refusal, and the others run on.
+/// Performs each script in a thread of its own, over a cluster with an honest road, and closes the cluster: the k-th
+/// script by the pass of process k, all of it. A script ends at its first refusal, and the others run on.
 ///
 /// # Errors
 ///
-/// `Pass` where a pass was refused, `Close` where the record was, and `OutOfMemory` where memory or a thread was. All threads
-/// that were made have ended by then.
+/// `Pass` where a pass was refused, `Close` where the record was, and `OutOfMemory` where memory or a thread was. All
+/// threads that were made have ended by then.
 pub fn run_scripts<
     F: FrontEnd + Send + Sync + 'static,
     R: Threads + Wait + Clock + Copy + Send + Sync + 'static,

@@ -18,9 +18,10 @@ use Rattle.reg_trace.specs.declared.moments.Sent.{Sent}
 use Rattle.reg_trace.specs.declared.waits.Wait.{Wait}
 use Rattle.reg_trace.specs.Waits.{waits_of}
 
--- What an event did: the process that it is of, the frame that a take took, the number that was expected where that is a data
--- frame out of turn, the clock of the process after it, the casts that the process delivered, the reply, the casts that it holds back, each with whom it
--- waits for, and the frames that it put, each with its wire's end and its place there.
+-- What an event did: the process that it is of, the frame that a take took, the number that was expected where that is
+-- a data frame out of turn, the clock of the process after it, the casts that the process delivered, the reply, the
+-- casts that it holds back, each with whom it waits for, and the frames that it put, each with its wire's end and its
+-- place there.
 pub record Fact : Type 0 where
   pub event : Event
   pub process : ℕ
@@ -59,8 +60,8 @@ abbrev pub puts_since : ℕ → (ℕ → ℕ) → (ℕ → List Frame) → ℕ �
 puts_since p lengths wire zero = []
 puts_since p lengths wire (suc to) = puts_since p lengths wire to ++ cond (to == p) [] (placed to (lengths to) (drop (lengths to) (wire to)))
 
--- what an event of process p did, by the worlds before and after it: of the one order of casts, p delivered those after the
--- ones that it had delivered before, up to as many as it has delivered now
+-- what an event of process p did, by the worlds before and after it: of the one order of casts, p delivered those after
+-- the ones that it had delivered before, up to as many as it has delivered now
 abbrev pub moment_between : ℕ → Event → ℕ → Option Reply → World → World → Fact
 moment_between n e p reply before after = record {
   event = e;

@@ -82,8 +82,8 @@ holds_line wait = codes "    holds " ++ (stamp_text wait.stamp ++ (codes ": p" +
 abbrev pub puts_line : List (List ℕ) → ℕ → Sent → List ℕ
 puts_line names from sent = codes "    puts " ++ (frame_text names from sent.frame ++ (codes " (" ++ (event_text names (Take from sent.to sent.place) ++ codes ")")))
 
--- the lines of an event: its number and its words; the frame that it took, and whether it was dropped; its process's clock after it;
--- the casts delivered, each with the copy after it; the reply; the casts held back; and the frames put
+-- the lines of an event: its number and its words; the frame that it took, and whether it was dropped; its process's
+-- clock after it; the casts delivered, each with the copy after it; the reply; the casts held back; and the frames put
 abbrev pub moment_lines : List (List ℕ) → ℕ → Fact → List (List ℕ)
 moment_lines names number f =
     (decimal number ++ (codes " " ++ event_text names f.event))

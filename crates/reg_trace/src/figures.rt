@@ -1,5 +1,5 @@
-//! What a drawing of a run joins: operations from call to answer, and frames from the event that put them to the one that
-//! takes them.
+//! What a drawing of a run joins: operations from call to answer, and frames from the event that put them to the one
+//! that takes them.
 ghost use Rattle.std.specs.Prelude.{◌≡◌, ◌==◌, ◌&&◌, IfOk};
 ghost use Rattle.std.specs.List.{list_any};
 ghost use Rattle.reg_trace.specs.declared.moments.Sent.{Sent as AnySent};
@@ -148,7 +148,8 @@ fn takes<A: Allocator + Copy>(moment: &Moment<A>, from: u8, to: u8, place: usize
     }
 }
 
-/// Whether some event takes the frame at this place of a wire. A drawing shows a frame as never taken exactly where none does.
+/// Whether some event takes the frame at this place of a wire. A drawing shows a frame as never taken exactly where
+/// none does.
 pub fn is_taken<A: Allocator + Copy>(moments: &[Moment<A>], from: u8, to: u8, place: usize) -> bool
     ensures { result ≡ list_any (λ (f : Fact). takes_from from to place f.event) moments.now }
 {

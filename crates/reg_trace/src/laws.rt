@@ -1,5 +1,5 @@
-//! Laws of what is told of runs, for every list of events and every front end. Each is a function that does nothing: its
-//! contract is the law.
+//! Laws of what is told of runs, for every list of events and every front end. Each is a function that does nothing:
+//! its contract is the law.
 ghost use Rattle.std.specs.Prelude.{ℕ, ◌≡◌, List};
 ghost use Rattle.reg_base.specs.Shape.{Extent};
 ghost use Rattle.reg_base.specs.declared.memory.Op.{Op};

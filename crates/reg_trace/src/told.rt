@@ -5,7 +5,8 @@ use reg_checkers::{History, Point};
 use reg_front::Front;
 use std::alloc::Allocator;
 
-/// What is told of a schedule's run: its front end and names, what each event did, the history, and the points where there are any.
+/// What is told of a schedule's run: its front end and names, what each event did, the history, and the points where
+/// there are any.
 #[derive(Drop)]
 pub struct TracedRun<A: Allocator + Copy> {
     pub front: Front,

@@ -26,14 +26,15 @@ use Rattle.reg_verify.specs.Logs.{AreLogs, order_of}
 use Rattle.reg_verify.specs.RecordLines.{Account, IsAccount, SpellsAccount}
 use Rattle.reg_verify.specs.Refusals.{RefusesAccount}
 
--- The steps, in their order, are a run that gives their replies, and it ends in this world: each frame is taken from its wire.
+-- The steps, in their order, are a run that gives their replies, and it ends in this world: each frame is taken from
+-- its wire.
 pub record Runs (start : Op → ℕ → Start) (shape : Extent) (steps : List Recorded) (w : Made) : Type 0 where
   pub logs : List (List LogEntry)
   pub split : AreLogs shape.processes steps logs
   pub faithful : IsFaithful start shape (order_of steps) logs w
 
--- The step at this place is the first with which they are none: after those before it no event is accepted in which its process makes
--- that step and gives that reply.
+-- The step at this place is the first with which they are none: after those before it no event is accepted in which its
+-- process makes that step and gives that reply.
 pub record FailsFirst (start : Op → ℕ → Start) (shape : Extent) (steps : List Recorded) (place : ℕ) : Type 0 where
   pub logs : List (List LogEntry)
   pub split : AreLogs shape.processes steps logs
@@ -44,8 +45,8 @@ pub record FailsFirst (start : Op → ℕ → Start) (shape : Extent) (steps : L
 abbrev pub line_at : ℕ → ℕ
 line_at place = place + 5
 
--- The steps of a record are a run, and this is its report, under the record's front end and names: its history and its witness, and
--- points that are so.
+-- The steps of a record are a run, and this is its report, under the record's front end and names: its history and its
+-- witness, and points that are so.
 pub record ShowsAccount (start : Op → ℕ → Start) (a : Account) (AreSo : Plan → Option (List Point) → Type 0) (r : Contents) : Type 0 where
   pub world : Made
   pub runs : Runs start a.shape a.steps world

@@ -8,8 +8,8 @@ pub enum VerifyFault {
     /// The input is refused, the output failed, or there was no memory.
     #[error("{fault}")]
     Command { fault: Fault },
-    /// The step on this line, counted from 1, is the first that its process does not make in a run of those before it, or
-    /// makes with another reply.
+    /// The step on this line, counted from 1, is the first that its process does not make in a run of those before it,
+    /// or makes with another reply.
     #[error("line {line}: unfaithful")]
     Unfaithful { line: u64 },
 }

@@ -174,8 +174,8 @@ fn read_record<A: Allocator + Copy>(
 ///
 /// # Errors
 ///
-/// `Line` names the first line with which no record goes on, and what is wrong with it; `OutOfMemory` says that what was
-/// read could not be kept.
+/// `Line` names the first line with which no record goes on, and what is wrong with it; `OutOfMemory` says that what
+/// was read could not be kept.
 pub fn parse_record<A: Allocator + Copy>(alloc: A, text: &str) -> Result<Record<A>, RecordFault>
     ensures read { IfOk result (λ r. SpellsAccount text.now r × IsAccount r) }
     ensures whole { (a : Account) → IsAccount a → SpellsAccount text.now a → MatchResult result (λ r. r ≡ a) (λ f. f ≡ TextFault.OutOfMemory) }

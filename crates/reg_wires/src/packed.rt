@@ -123,9 +123,9 @@ impl<A: Allocator + Copy> Tables<A> {
     }
 }
 
-/// All frames that a process ever put for each process, each as one word. The bodies are kept once, by their numbers, and a
-/// frame that is none of the bodies under its number is kept whole. Most frames go to all others, so words that stand on several
-/// wires at the same place are kept once, up to the first that differs.
+/// All frames that a process ever put for each process, each as one word. The bodies are kept once, by their numbers,
+/// and a frame that is none of the bodies under its number is kept whole. Most frames go to all others, so words that
+/// stand on several wires at the same place are kept once, up to the first that differs.
 #[derive(Drop)]
 pub struct PackedWires<A: Allocator + Copy = Global> {
     tables: Tables<A>,

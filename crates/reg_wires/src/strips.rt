@@ -19,8 +19,8 @@ const SHORT: usize = 256;
 /// A longer one grows by at least so many.
 const MANY: usize = 4096;
 
-/// Makes room for an item more. Growing a list can copy its items, while room that isn't used costs next to nothing: so a
-/// list that isn't short gets much at once. Nothing else changes.
+/// Makes room for an item more. Growing a list can copy its items, while room that isn't used costs next to nothing: so
+/// a list that isn't short gets much at once. Nothing else changes.
 // (apart: it runs seldom, and would take room in what runs for each frame)
 #[cold]
 #[inline(never)]
@@ -144,8 +144,8 @@ fn new_lines<T: Item, A: Allocator + Copy>(
     Ok(lines)
 }
 
-/// The items of all wires. Most stand on all of them, so those that stand on several wires at the same place are kept once, up
-/// to the first that differs.
+/// The items of all wires. Most stand on all of them, so those that stand on several wires at the same place are kept
+/// once, up to the first that differs.
 #[derive(Drop)]
 pub(crate) struct Strips<T, A: Allocator + Copy = Global> {
     common: Vec<T, A>,

@@ -5,7 +5,8 @@ use Rattle.reg_process.specs.declared.events.Event.{Event}
 use Rattle.reg_process.specs.declared.events.Event.TheVariants.{Call, Take, Tick}
 use Rattle.std.specs.List.{flat_map, range_with_len, sum_by}
 
--- the numbers of the frames of a wire that are taken, and the processes that tick, in an event and in these events, in order
+-- the numbers of the frames of a wire that are taken, and the processes that tick, in an event and in these events, in
+-- order
 abbrev pub take_at : ℕ → ℕ → Event → List ℕ
 take_at from to (Call p op) = []
 take_at from to (Take a b number) = cond ((a == from) && (b == to)) (number ∷ []) []
@@ -27,8 +28,8 @@ pub record TakesInOrder (events : List Event) : Type 0 where
   pub takes : (from to : ℕ) → takes_of from to events ≡ range_with_len 0 (length (takes_of from to events))
   pub ticks : ticks_of events ≡ []
 
--- How many events a call brings about at most, itself among them: a take of its cast, of the count that answers it, of an
--- acknowledgement for each other process and of the count that answers that, at each other process.
+-- How many events a call brings about at most, itself among them: a take of its cast, of the count that answers it, of
+-- an acknowledgement for each other process and of the count that answers that, at each other process.
 abbrev pub most_for_call : ℕ → ℕ
 most_for_call n = 1 + 2 * n * (n - 1)
 

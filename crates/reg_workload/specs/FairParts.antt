@@ -28,15 +28,15 @@ counted_after c [] = c
 counted_after c (Numbered i body ∷ fs) = counted_after c fs
 counted_after c (Got count ∷ fs) = counted_after (max c count) fs
 
--- Where of each wire so many frames are behind: those that are left bring all that was queued to the receiver, and all that
--- it accepted to the knowledge of the sender.
+-- Where of each wire so many frames are behind: those that are left bring all that was queued to the receiver, and all
+-- that it accepted to the knowledge of the sender.
 pub record InStep (n : ℕ) (w : Nodes) (behind : ℕ → ℕ → ℕ) : Type 0 where
   pub within : (p q : ℕ) → p < n → q < n → p ≢ q → behind p q ≤ length ((w p).wire q)
   pub bodies : (p q : ℕ) → p < n → q < n → p ≢ q → expected_after (peer_at (w q).state p).expected (drop (behind p q) ((w p).wire q)) ≡ length (w p).queued
   pub counts : (p q : ℕ) → p < n → q < n → p ≢ q → counted_after (peer_at (w p).state q).first (drop (behind q p) ((w q).wire p)) ≡ (peer_at (w q).state p).expected
 
--- How many takes a frame asks for, its own among them, if from now on each frame is taken once: a cast is answered by a count, and by an
--- acknowledgement for each other process, and that by a count.
+-- How many takes a frame asks for, its own among them, if from now on each frame is taken once: a cast is answered by a
+-- count, and by an acknowledgement for each other process, and that by a count.
 abbrev pub takes_for : ℕ → Frame → ℕ
 takes_for n (Numbered i (Cast t op)) = 2 * n
 takes_for n (Numbered i (Ack t)) = 2
@@ -79,7 +79,8 @@ pub record GoesFairly (start : Op → ℕ → Start) (budget : ℕ) (old new : P
   pub fair : IsFair start new
   pub more : length old.made.accepted ≤ length new.made.accepted
 
--- A part of a round: it ends early where the budget is used up, and where it made no event nothing changed and this is so.
+-- A part of a round: it ends early where the budget is used up, and where it made no event nothing changed and this is
+-- so.
 pub record RoundPart (start : Op → ℕ → Start) (budget : ℕ) (old new : Playing) (is_full : Bool) (rest : Type 0) : Type 0 where
   pub goes : GoesFairly start budget old new
   pub full : is_full ≡ true → length new.made.accepted ≡ budget

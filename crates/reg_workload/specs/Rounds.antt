@@ -10,7 +10,8 @@ use Rattle.reg_workload.specs.Plays.{Playing, new_play, steps, may_call, next_fr
 unfoldable pub call_in_round : (Op → ℕ → Start) → ℕ → Playing → ℕ → Playing
 call_in_round start budget s p = cond (may_call start s p && nat_lt (length s.made.accepted) budget) (calls_next start s p) s
 
--- the first frame of a wire that is not behind is taken, and is behind then, where there is one and the budget is not used up
+-- the first frame of a wire that is not behind is taken, and is behind then, where there is one and the budget is not
+-- used up
 abbrev pub take_if_room : (Op → ℕ → Start) → ℕ → Playing → ℕ → ℕ → Option ℕ → Playing
 take_if_room start budget s from to None = s
 take_if_room start budget s from to (Some number) = cond (nat_lt (length s.made.accepted) budget) (passes (makes start s (Take from to number)) from to) s
@@ -36,7 +37,7 @@ round start budget s = takes_in_round start budget s.made.processes (calls_in_ro
 abbrev pub rounds : (Op → ℕ → Start) → ℕ → ℕ → Playing → Playing
 rounds start budget n s = steps (λ _ t. round start budget t) n s
 
--- the play of these scripts, one for each process of this shape: each round before the end makes an event, so that it ends
--- within so many rounds as the budget says
+-- the play of these scripts, one for each process of this shape: each round before the end makes an event, so that it
+-- ends within so many rounds as the budget says
 abbrev pub fair_play : (Op → ℕ → Start) → Extent → List (List Op) → ℕ → Playing
 fair_play start shape scripts budget = rounds start budget budget (new_play shape scripts)

@@ -1,5 +1,5 @@
-//! What can happen next in a seeded play. Between turns it is kept for each process, and a turn lists anew only the processes that its
-//! choice touched: so a turn costs as many looks as there are processes, and not their square.
+//! What can happen next in a seeded play. Between turns it is kept for each process, and a turn lists anew only the
+//! processes that its choice touched: so a turn costs as many looks as there are processes, and not their square.
 ghost use Rattle.std.specs.Prelude.{◌≡◌, ◌<◌, ◌≤◌, ◌+◌, ◌++◌, ℕ, [], Some, false, length, cond, IfOk, OnOk, MatchResult, slice_get, slice_index_or};
 ghost use Rattle.reg_base.specs.declared.limits.TheConstants.{MOST_PROCESSES};
 ghost use Rattle.reg_workload.specs.Listed.{no_listing, IsListed, AreListed, Touches, IsWithin};
@@ -234,8 +234,8 @@ fn nth_tick<F: FrontEnd, A: Allocator + Copy, W: WireStore<A>>(
     Err(left)
 }
 
-/// The choice at this place of all that can happen next: the calls by process, the takes by sender and then by receiver, and the
-/// ticks by process.
+/// The choice at this place of all that can happen next: the calls by process, the takes by sender and then by
+/// receiver, and the ticks by process.
 pub(crate) fn nth<F: FrontEnd, A: Allocator + Copy, W: WireStore<A>>(
     player: &Player<'_, F, A, W>,
     chances: &[Chance<A>],

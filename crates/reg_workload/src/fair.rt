@@ -13,7 +13,8 @@ use reg_front::FrontEnd;
 use reg_world::WireStore;
 use std::alloc::{AllocError, Allocator};
 
-/// A process calls its next operation, where it is free and has one left, unless the budget is used up. Tells whether it is.
+/// A process calls its next operation, where it is free and has one left, unless the budget is used up. Tells whether
+/// it is.
 fn call_one<F: FrontEnd, A: Allocator + Copy, W: WireStore<A>>(
     player: &mut Player<'_, F, A, W>,
     process: u8,
@@ -168,10 +169,11 @@ fn play_rounds<F: FrontEnd, A: Allocator + Copy, W: WireStore<A>>(
 }
 
 /// Plays scripts, one for each process of the shape, in rounds: each process that is free calls its next operation, by
-/// rising number, and then the next frame of each wire is taken, by sender and then by receiver. It ends with a round that
-/// makes no event, or once there are so many events as the budget says. So the frames of each wire are taken in order, each
-/// once, and none is put again. A play of fewer events than the budget is finished. Each operation brings about one call and at
-/// most `2 * n * (n - 1)` takes among n processes, so a budget above that many events for all of them is enough.
+/// rising number, and then the next frame of each wire is taken, by sender and then by receiver. It ends with a round
+/// that makes no event, or once there are so many events as the budget says. So the frames of each wire are taken in
+/// order, each once, and none is put again. A play of fewer events than the budget is finished. Each operation brings
+/// about one call and at most `2 * n * (n - 1)` takes among n processes, so a budget above that many events for all of
+/// them is enough.
 ///
 /// # Errors
 ///

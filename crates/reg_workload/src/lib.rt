@@ -1,5 +1,5 @@
-//! Plays of workloads: runs in which each process calls the operations of its script. Workloads and schedules are passed on
-//! from below.
+//! Plays of workloads: runs in which each process calls the operations of its script. Workloads and schedules are
+//! passed on from below.
 #![tactic(auto)]
 
 mod choices;

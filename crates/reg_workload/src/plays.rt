@@ -15,10 +15,10 @@ use reg_world::WireStore;
 use std::alloc::{AllocError, Allocator};
 
 /// Plays a workload in rounds: each process that is free calls its next operation, by rising number, and then the next
-/// frame of each wire is taken, by sender and then by receiver. It ends with a round that makes no event, or once there are
-/// so many events as the budget says. So the frames of each wire are taken in order, each once, and none is put again. A
-/// play of fewer events than the budget is finished. Each operation brings about its call and at most `2 * n * (n - 1)` takes
-/// among n processes, so every budget above that many events for all operations is enough.
+/// frame of each wire is taken, by sender and then by receiver. It ends with a round that makes no event, or once there
+/// are so many events as the budget says. So the frames of each wire are taken in order, each once, and none is put
+/// again. A play of fewer events than the budget is finished. Each operation brings about its call and at most `2 * n *
+/// (n - 1)` takes among n processes, so every budget above that many events for all operations is enough.
 ///
 /// # Errors
 ///
@@ -56,11 +56,12 @@ pub fn play_fair_in<F: FrontEnd, A: Allocator + Copy, W: WireStore<A>>(
     fair::play_fair(alloc, work.shape, &work.scripts, work.budget)
 }
 
-/// Plays a workload for as many turns at most as its budget says. A turn lists what can happen next: a call for each process
-/// that is free and has an operation left, the next frame of each wire, by sender and then by receiver, and a tick for each
-/// process with frames to put again. The next word, modulo their number, says which of them it is. A frame is lost where the
-/// next word, modulo 100, is below `loss`; else it is taken, and can be taken again where the word after that, modulo 100, is
-/// below `repeat`. Where nothing can happen the play ends. Without loss, a play of fewer events than the budget is finished.
+/// Plays a workload for as many turns at most as its budget says. A turn lists what can happen next: a call for each
+/// process that is free and has an operation left, the next frame of each wire, by sender and then by receiver, and a
+/// tick for each process with frames to put again. The next word, modulo their number, says which of them it is. A
+/// frame is lost where the next word, modulo 100, is below `loss`; else it is taken, and can be taken again where the
+/// word after that, modulo 100, is below `repeat`. Where nothing can happen the play ends. Without loss, a play of
+/// fewer events than the budget is finished.
 ///
 /// # Errors
 ///

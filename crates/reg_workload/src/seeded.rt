@@ -128,12 +128,12 @@ fn play_turns<F: FrontEnd, R: Words, A: Allocator + Copy, W: WireStore<A>>(
     Ok(false)
 }
 
-/// Plays scripts, one for each process of the shape, for as many turns at most as the budget says. A turn lists what can
-/// happen next: a call for each process that is free and has an operation left, the next frame of each wire, by sender and
-/// then by receiver, and a tick for each process with frames to put again. The next word, modulo their number, says which of
-/// them it is. A frame is lost where the next word, modulo 100, is below `loss`; else it is taken, and can be taken again
-/// where the word after that, modulo 100, is below `repeat`. Where nothing can happen the play ends. Without loss, a play of
-/// fewer events than the budget is finished.
+/// Plays scripts, one for each process of the shape, for as many turns at most as the budget says. A turn lists what
+/// can happen next: a call for each process that is free and has an operation left, the next frame of each wire, by
+/// sender and then by receiver, and a tick for each process with frames to put again. The next word, modulo their
+/// number, says which of them it is. A frame is lost where the next word, modulo 100, is below `loss`; else it is
+/// taken, and can be taken again where the word after that, modulo 100, is below `repeat`. Where nothing can happen the
+/// play ends. Without loss, a play of fewer events than the budget is finished.
 ///
 /// # Errors
 ///

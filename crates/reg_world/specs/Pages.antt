@@ -1,4 +1,5 @@
--- The pages of a book, which tell of a run, and what an event adds to them. They carry a proof: no promise speaks of them.
+-- The pages of a book, which tell of a run, and what an event adds to them. They carry a proof: no promise speaks of
+-- them.
 use Rattle.std.specs.Prelude.{ℕ, ◌≡◌, ◌<◌, ◌+◌, ◌-◌, Bool, false, not, ◌==◌, cond, List, [], ◌∷◌, ◌++◌, length, map, drop, Option, Some, None, slice_get, slice_set, slice_index_or}
 use Rattle.std.specs.List.{filter}
 use Rattle.reg_base.specs.declared.limits.TheConstants.{MOST_EVENTS, MOST_OPERATIONS}

@@ -16,7 +16,8 @@ use Rattle.reg_world.specs.Runs.{Cast, memory_of}
 use Rattle.reg_world.specs.Laws.{IsMade}
 use Rattle.reg_world.specs.World.{World, Replied, delivered_of, run_of, whole}
 
--- The casts in the order of their first deliveries are the longest list of deliveries: each list of deliveries is a prefix of it, and one is it.
+-- The casts in the order of their first deliveries are the longest list of deliveries: each list of deliveries is a
+-- prefix of it, and one is it.
 pub record OrderIsLongest (n : ℕ) (w : World) : Type 0 where
   pub each : (p : ℕ) → p < n → IsPrefixOf (w.nodes p).deliveries (map delivered_of w.order)
   pub one : 0 < n → (p : ℕ) × (p < n) × ((w.nodes p).deliveries ≡ map delivered_of w.order)
@@ -42,13 +43,14 @@ pub record CastsRight (n : ℕ) (w : World) : Type 0 where
   pub called : (c : Cast) → ((k : ℕ) × IsAt w.casts k c) → (at : ℕ) × IsCalled w.history c.id at c.op
   pub once : (c d : Cast) → ((k : ℕ) × IsAt w.casts k c) → ((k : ℕ) × IsAt w.casts k d) → c.id ≡ d.id → c ≡ d
 
--- the front end answers the operation before its cast is delivered, by how many own casts its process awaits before event at
+-- the front end answers the operation before its cast is delivered, by how many own casts its process awaits before
+-- event at
 abbrev pub IsAnsweredFirst : (Op → ℕ → Start) → ℕ → ℕ → World → OpId → ℕ → Op → Type 0
 IsAnsweredFirst start n registers w id at op = start op (unsettled ((whole start n registers (take at w.accepted)).nodes id.process).state) ≡ CastsAndAnswers
 
 -- The replies are the answers of the history, each that of the memory after the first casts of the order, as many as
--- its place says. Where the operation made a cast, that stands at the place; but for an operation that the front end answers
--- before its delivery, in the call's own event.
+-- its place says. Where the operation made a cast, that stands at the place; but for an operation that the front end
+-- answers before its delivery, in the call's own event.
 pub record RepliesRight (start : Op → ℕ → Start) (n registers : ℕ) (w : World) : Type 0 where
   pub answered : (y : Replied) → ((k : ℕ) × IsAt w.replies k y) → IsAnswered w.history y.id y.at y.reply.answer
   pub all : (id : OpId) (at : ℕ) (x : Answer) → IsAnswered w.history id at x → (y : Replied) × ((k : ℕ) × IsAt w.replies k y) × (y.id ≡ id) × (y.at ≡ at) × (y.reply.answer ≡ x)
@@ -56,7 +58,8 @@ pub record RepliesRight (start : Op → ℕ → Start) (n registers : ℕ) (w : 
   pub right : (y : Replied) (at : ℕ) (op : Op) → ((k : ℕ) × IsAt w.replies k y) → IsCalled w.history y.id at op → y.reply.answer ≡ answer_of op (memory_of (run_of registers w) y.reply.place)
   pub own : (y : Replied) (c : Cast) (at : ℕ) (op : Op) → ((k : ℕ) × IsAt w.replies k y) → ((k : ℕ) × IsAt w.casts k c) → c.id ≡ y.id → IsCalled w.history y.id at op → ((y.at ≡ at) × IsAnsweredFirst start n registers w y.id at op) ⊎ ((f : First) × IsAt w.order y.reply.place f × (f.id ≡ y.id))
 
--- The reads are exactly the finished operations that made no cast, with the places of their replies, in order of their answers.
+-- The reads are exactly the finished operations that made no cast, with the places of their replies, in order of their
+-- answers.
 pub record ReadsRight (w : World) : Type 0 where
   pub some : (q : CopyRead) → ((k : ℕ) × IsAt w.reads k q) → (y : Replied) × ((k : ℕ) × IsAt w.replies k y) × (y.id ≡ q.id) × (y.reply.place ≡ q.place)
   pub no_cast : (q : CopyRead) (c : Cast) → ((k : ℕ) × IsAt w.reads k q) → ((k : ℕ) × IsAt w.casts k c) → c.id ≡ q.id → ⊥

@@ -66,8 +66,8 @@ new_world shape = record { failed = false; processes = shape.processes; register
 abbrev pub after_events : (Op → ℕ → Start) → Extent → List Event → Made
 after_events start shape events = record { failed = false; processes = shape.processes; registers = shape.registers; accepted = events; history = (whole start shape.processes shape.registers events).history }
 
--- Why a run of these events ends at this one: the first fault that applies to it after those before it; or want of memory,
--- where none applies to it, or before the first event, of which it is told then.
+-- Why a run of these events ends at this one: the first fault that applies to it after those before it; or want of
+-- memory, where none applies to it, or before the first event, of which it is told then.
 abbrev pub RunRefuses : (Op → ℕ → Start) → Extent → List Event → ℕ → WorldFault → Type 0
 RunRefuses start shape events at OutOfMemory = (at ≡ 0) ⊎ ((e : Event) × IsAt events at e × (refusal start (after_events start shape (take at events)) e ≡ None))
 RunRefuses start shape events at fault = (e : Event) × IsAt events at e × (refusal start (after_events start shape (take at events)) e ≡ Some fault)

@@ -26,21 +26,22 @@ pub fn witness_is_serial()
 {}
 
 /// In that order an operation that may change the memory stands after each that was answered before its call, but where
-/// the front end may answer that one before its delivery. Where it answers none so, after each; and where every operation
-/// is cast, each operation stands after those that were answered before its call.
+/// the front end may answer that one before its delivery. Where it answers none so, after each; and where every
+/// operation is cast, each operation stands after those that were answered before its call.
 pub fn witness_keeps_updates()
     ensures updates { (start : Op → ℕ → Start) (n registers : ℕ) (events : List Event) (ids : List OpId) → KeepsLaws start → IsWitness (run_of registers (whole start n registers events)) ids → KeepsUpdates start (whole start n registers events).history ids }
     ensures all_updates { (start : Op → ℕ → Start) (n registers : ℕ) (events : List Event) (ids : List OpId) → KeepsLaws start → AnswersNothingFirst start → IsWitness (run_of registers (whole start n registers events)) ids → KeepsAllUpdates (whole start n registers events).history ids }
     ensures real_time { (start : Op → ℕ → Start) (n registers : ℕ) (events : List Event) (ids : List OpId) → CastsAll start → IsWitness (run_of registers (whole start n registers events)) ids → KeepsRealTime (whole start n registers events).history ids }
 {}
 
-/// In a serial order of a history each operation stands after those of its own process that were answered before its call.
+/// In a serial order of a history each operation stands after those of its own process that were answered before its
+/// call.
 pub fn serial_order_keeps_own_time()
     ensures { (n registers : ℕ) (h : List Entry) (ids : List OpId) → IsHistory n registers h → IsSerial registers h ids → KeepsOwnTime h ids }
 {}
 
-/// What a front end never answers before its delivery: whatever the laws hold of it, an operation whose answer tells of the
-/// memory, as a read or a swap; and two of the three named ones nothing at all.
+/// What a front end never answers before its delivery: whatever the laws hold of it, an operation whose answer tells of
+/// the memory, as a read or a swap; and two of the three named ones nothing at all.
 pub fn what_waits()
     ensures tells { (start : Op → ℕ → Start) → KeepsLaws start → (op : Op) → ¬ (IsBlind op) → WaitsForDelivery start op }
     ensures read { (start : Op → ℕ → Start) → KeepsLaws start → (register : ℕ) → WaitsForDelivery start (Read register) }
@@ -54,7 +55,8 @@ pub fn points_are_a_point_order()
     ensures { (start : Op → ℕ → Start) (n registers : ℕ) (events : List Event) (points : List Point) → CastsAll start → ArePoints (run_of registers (whole start n registers events)) points → IsPointOrder registers (whole start n registers events).history points }
 {}
 
-/// Each entry of a run's history is in place. The accepted events are no more than a run may have, and make the same world.
+/// Each entry of a run's history is in place. The accepted events are no more than a run may have, and make the same
+/// world.
 pub fn history_in_place()
     ensures in_place { (start : Op → ℕ → Start) (n registers : ℕ) (events : List Event) → KeepsLaws start → IsHistory n registers (whole start n registers events).history }
     ensures few { (start : Op → ℕ → Start) (n registers : ℕ) (events : List Event) → KeepsLaws start → length (whole start n registers events).accepted ≤ MOST_EVENTS }

@@ -1,4 +1,5 @@
-//! Examples that stand in no other table, with what the tutorial says of them. The texts are those of the folder `examples`.
+//! Examples that stand in no other table, with what the tutorial says of them. The texts are those of the folder
+//! `examples`.
 use crate::checks::demand;
 use reg_commands::Command;
 
@@ -96,8 +97,8 @@ end
     // A fair play of a workload.
     Example {
         command: Command::Play { fair: true },
-        text: "# Writes that are answered at once, and reads that wait for the own ones. One frame of five is lost, and one of five can be
-# taken again: each seed gives another run, and each run is sequentially consistent.
+        text: "# Writes that are answered at once, and reads that wait for the own ones. One frame of five is lost, and one of five
+# can be taken again: each seed gives another run, and each run is sequentially consistent.
 front = \"local-write\"
 registers = [\"x\"]
 scripts = [[\"write x 5\", \"read x\"], [\"read x\"]]

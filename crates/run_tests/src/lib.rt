@@ -1,5 +1,5 @@
-//! Tests of whole runs, by worlds, players and commands, over their public calls: runs worked by hand, refusals, limits, and
-//! want of memory at each growth.
+//! Tests of whole runs, by worlds, players and commands, over their public calls: runs worked by hand, refusals,
+//! limits, and want of memory at each growth.
 #![tactic(auto)]
 
 #[cfg(test)]

@@ -69,8 +69,8 @@ fn a_stale_read_has_no_points(rt: HostRuntime) -> Result<(), Fail> {
     Ok(())
 }
 
-/// The write is called before the read is answered, so the read may come first. Its point is its call, and the write's is
-/// that event too, since no point falls.
+/// The write is called before the read is answered, so the read may come first. Its point is its call, and the write's
+/// is that event too, since no point falls.
 #[test]
 fn an_overlapping_pair(rt: HostRuntime) -> Result<(), Fail> {
     let entries = [

@@ -1,12 +1,12 @@
-//! Runs in which an operation stands before one that was answered before its call: the schedules of `examples`, and what the
-//! checker says of the order that the clock would give.
+//! Runs in which an operation stands before one that was answered before its call: the schedules of `examples`, and
+//! what the checker says of the order that the clock would give.
 use crate::checks::answers_joined;
 use crate::replay_rows::Row;
 use reg_commands::Command;
 use std::alloc::Global;
 
-/// A run with its report, the lines of its order, those of the order in which the operations were called, and what is said
-/// of that one.
+/// A run with its report, the lines of its order, those of the order in which the operations were called, and what is
+/// said of that one.
 struct Overtaking {
     run: Row,
     order: &'static str,

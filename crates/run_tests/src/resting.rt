@@ -29,8 +29,8 @@ const WRITE: Event = Event::Call {
     op: WRITE_FIVE,
 };
 
-/// The events that bring two processes to rest where the first one's cast was lost, as worked by hand: the cast is put again,
-/// accepted and counted, and then its acknowledgement.
+/// The events that bring two processes to rest where the first one's cast was lost, as worked by hand: the cast is put
+/// again, accepted and counted, and then its acknowledgement.
 const TWO: [Event; 6] = [
     tick!(0),
     take!(0, 1, 1),

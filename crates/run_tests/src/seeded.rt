@@ -63,8 +63,8 @@ fn add_times(times: &mut Vec<u64>, frames: &[Frame]) -> Result<(), AllocError> {
     Ok(())
 }
 
-/// The finished updates of one process that were delivered nowhere, each with its time. Updates are the only casts that can
-/// be finished so.
+/// The finished updates of one process that were delivered nowhere, each with its time. Updates are the only casts that
+/// can be finished so.
 fn add_lost<F: FrontEnd>(
     lost: &mut Vec<Lost>,
     world: &World<F>,

@@ -11,8 +11,8 @@ use std::process::Abort;
 /// The most bytes that a read gives.
 const A_READ: usize = 100;
 
-/// Takes at most three bytes a write, and fails so many times after so many writes, or at each flush. It keeps what is left
-/// of the output that it is to be given, and whether it was given another.
+/// Takes at most three bytes a write, and fails so many times after so many writes, or at each flush. It keeps what is
+/// left of the output that it is to be given, and whether it was given another.
 #[derive(Drop)]
 struct FailingWriter<'a> {
     rest: &'a [u8],
@@ -46,7 +46,8 @@ impl Write for FailingWriter<'_> {
     }
 }
 
-/// How a read fails: its error, how many times it comes, and the line that is told. Where none is, the command reads on.
+/// How a read fails: its error, how many times it comes, and the line that is told. Where none is, the command reads
+/// on.
 const READ_FAULTS: [(ErrorKind, u32, &str); 4] = [
     (ErrorKind::Other, u32::MAX, "input: read\n"),
     (ErrorKind::Other, 1, "input: read\n"),
@@ -147,8 +148,8 @@ fn writes_of(alloc: Global, command: Command, input: &str, output: &str) -> Opti
     }
 }
 
-/// Whether a command tells that the write after so many fails, so many times, or each flush. What it wrote is a first part of
-/// its output.
+/// Whether a command tells that the write after so many fails, so many times, or each flush. What it wrote is a first
+/// part of its output.
 fn is_write_told(
     alloc: Global,
     command: Command,
@@ -249,8 +250,8 @@ fn refused_after(
     ending_of(heap.is_waiting(), done, output)
 }
 
-/// How many refusals a command tells where every growth is refused in turn. None where it ends otherwise once, or has no last
-/// growth.
+/// How many refusals a command tells where every growth is refused in turn. None where it ends otherwise once, or has
+/// no last growth.
 fn refusals(alloc: Global, command: Command, input: &str, output: &str) -> Option<u32> {
     let mut count = 0u32;
     for before in 0..1000u64 {

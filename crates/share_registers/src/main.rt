@@ -1,5 +1,6 @@
-//! Two threads share a register over a road that loses and repeats parcels. One writes, and hands on how far the journal has
-//! come; the other reads from there on, so it reads what was written. It prints the same whatever the schedule.
+//! Two threads share a register over a road that loses and repeats parcels. One writes, and hands on how far the
+//! journal has come; the other reads from there on, so it reads what was written. It prints the same whatever the
+//! schedule.
 #![tactic(auto)]
 
 use anyhow::anyhow;

@@ -1,10 +1,11 @@
-//! Litmus tests: what small workloads answer under each front end, against all interleavings of their operations, worked out by hand.
+//! Litmus tests: what small workloads answer under each front end, against all interleavings of their operations,
+//! worked out by hand.
 use reg_show::{MOST_PLAYS, show_outcomes};
 use std::alloc::{AllocError, Global};
 use std::test::Fail;
 
-/// A workload without its front end, how often it is played, and what its reads and swaps may answer, by process and number: one
-/// digit for each value.
+/// A workload without its front end, how often it is played, and what its reads and swaps may answer, by process and
+/// number: one digit for each value.
 struct Litmus {
     work: &'static str,
     plays: u32,
@@ -13,8 +14,8 @@ struct Litmus {
 
 const FRONTS: [&str; 3] = ["linear", "local-read", "local-write"];
 
-/// Store buffering, message passing, coherence of reads, two and two writes, a lock, and independent reads of independent writes.
-/// Sequential consistency allows just these outcomes.
+/// Store buffering, message passing, coherence of reads, two and two writes, a lock, and independent reads of
+/// independent writes. Sequential consistency allows just these outcomes.
 const TESTS: [Litmus; 6] = [
     Litmus {
         work: "registers = [\"x\", \"y\"]
@@ -63,8 +64,8 @@ scripts = [[\"write x 1\"], [\"write y 1\"], [\"read x\", \"read y\"], [\"read y
     },
 ];
 
-/// What the first hundred plays of store buffering answer under each front end, counted play by play from the schedule and the trace
-/// of each.
+/// What the first hundred plays of store buffering answer under each front end, counted play by play from the schedule
+/// and the trace of each.
 const COUNTED: [&str; 3] = [
     "plays 100
 outcomes 2

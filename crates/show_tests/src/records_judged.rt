@@ -4,8 +4,8 @@ use reg_verify::verify_text;
 use std::alloc::{Allocator, Global};
 use std::test::Fail;
 
-/// A write of the first of two processes: the second one takes it, and the first one takes the count and the acknowledgement that come
-/// back.
+/// A write of the first of two processes: the second one takes it, and the first one takes the count and the
+/// acknowledgement that come back.
 const WRITE: &str = "tellwydar record 1
 front linear
 processes 2

@@ -96,7 +96,8 @@ const HELD_DATA: &str = r##"{"version":1,
 "points":null}
 "##;
 
-/// Comments that a page could take for its own, with characters that a string of JSON can't have, and letters beyond ASCII.
+/// Comments that a page could take for its own, with characters that a string of JSON can't have, and letters beyond
+/// ASCII.
 const NOTED: &str = "# </script><script>alert(1)</script>
 #  He said \"no\" & left \\ here.
 

@@ -1,4 +1,5 @@
-//! How it is told what is wrong with a text: all of the answer, a first part where the writer fails, and nothing where there is no memory.
+//! How it is told what is wrong with a text: all of the answer, a first part where the writer fails, and nothing where
+//! there is no memory.
 use crate::{why_reports, why_schedules, why_workloads};
 use refusing::{Trial, refusals};
 use reg_show::why_text;

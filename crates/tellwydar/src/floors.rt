@@ -12,8 +12,8 @@ use reg_front::FrontEnd;
 use reg_live::{Gate, LiveFault, Pass, Receipt};
 use std::sync::Wait;
 
-/// Reads a register at a place of the journal that is not below the floor. With the place after the answer that another thread was
-/// told as the floor, the read is called after that answer.
+/// Reads a register at a place of the journal that is not below the floor. With the place after the answer that another
+/// thread was told as the floor, the read is called after that answer.
 ///
 /// # Errors
 ///

@@ -5,12 +5,13 @@ ghost use Rattle.reg_base.specs.declared.shapes.ShapeFault.TheVariants.{NoRegist
 
 use reg_base::{Names, Shape, ShapeFault};
 
-/// The shape of so many processes that share a register for each name. The number of a name (`Names::number`) is its register
-/// there.
+/// The shape of so many processes that share a register for each name. The number of a name (`Names::number`) is its
+/// register there.
 ///
 /// # Errors
 ///
-/// Those of `Shape::new`. There is a name, and there are no more than registers may be, so only the processes can be refused.
+/// Those of `Shape::new`. There is a name, and there are no more than registers may be, so only the processes can be
+/// refused.
 pub fn shape_for(processes: u32, names: &Names) -> Result<Shape, ShapeFault>
     ensures shape { result ≡ shape_of processes (length names.now) }
     ensures some { result ≢ Err NoRegister }

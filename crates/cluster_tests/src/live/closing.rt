@@ -45,8 +45,8 @@ fn events_of(rt: &impl Wait, alloc: Global, parts: Parts<LocalWrite, Holding>) -
     }
 }
 
-/// The first courier sends the frame of a write, and the second takes it in a section that lasts until the cluster is being
-/// closed: it is in the record, of which a journal that was taken before the logs would know nothing.
+/// The first courier sends the frame of a write, and the second takes it in a section that lasts until the cluster is
+/// being closed: it is in the record, of which a journal that was taken before the logs would know nothing.
 #[test]
 fn a_section_under_way_is_in_the_record(rt: HostRuntime) {
     let alloc = rt.alloc();

@@ -1,5 +1,5 @@
-//! Clusters, and what tests do with their parts. A function that works at passes borrows them, so that a test owns a cluster
-//! over few calls.
+//! Clusters, and what tests do with their parts. A function that works at passes borrows them, so that a test owns a
+//! cluster over few calls.
 use crate::values::{read, write};
 use reg_base::{Answer, Op, Shape};
 use reg_front::FrontEnd;

@@ -49,8 +49,8 @@ impl Flags {
     }
 }
 
-/// Holds the first section of station 0 until the second caller was answered, and until station 2 has made a section where
-/// there is one.
+/// Holds the first section of station 0 until the second caller was answered, and until station 2 has made a section
+/// where there is one.
 #[derive(Drop)]
 struct Holding {
     flags: Arc<Flags>,
@@ -74,8 +74,8 @@ impl Gate for Holding {
     }
 }
 
-/// Performs an operation in a thread of its own, once station 0 is held, and tells that it was answered. The section that is
-/// held isn't in the journal yet, so no place behind it is there to be called at.
+/// Performs an operation in a thread of its own, once station 0 is held, and tells that it was answered. The section
+/// that is held isn't in the journal yet, so no place behind it is there to be called at.
 fn perform_once_held<R: Threads + Wait + Abort + Copy + Send + Sync + 'static>(
     rt: R,
     pass: Pass<LocalWrite, Holding>,
@@ -95,7 +95,8 @@ fn perform_once_held<R: Threads + Wait + Abort + Copy + Send + Sync + 'static>(
     .expect(&rt, "a thread")
 }
 
-/// Of the last two passes the first writes in a thread of its own. Once its station is held, the second performs its operation.
+/// Of the last two passes the first writes in a thread of its own. Once its station is held, the second performs its
+/// operation.
 fn perform_both<R: Threads + Wait + Abort + Copy + Send + Sync + 'static>(
     rt: R,
     passes: &mut Vec<Pass<LocalWrite, Holding>>,

@@ -1,4 +1,5 @@
-//! Which parcels come out of a road: of one that tells of each whether it came, and of a rough one by the words it draws.
+//! Which parcels come out of a road: of one that tells of each whether it came, and of a rough one by the words it
+//! draws.
 use crate::live::crews::{call_all, call_back, parts_of, pass_of, send_off, shut};
 use crate::live::watches::Watch;
 use crate::values::write;
@@ -11,8 +12,8 @@ use std::process::Abort;
 use std::sync::atomic::{AtomicBool, Ordering};
 use std::sync::{Arc, Wait};
 
-/// Puts bytes that are no frame before each parcel, and a parcel for nobody; and notes where one comes or doesn't against
-/// what is told of it.
+/// Puts bytes that are no frame before each parcel, and a parcel for nobody; and notes where one comes or doesn't
+/// against what is told of it.
 #[derive(Drop)]
 struct Littering {
     alloc: Global,
@@ -72,8 +73,9 @@ fn take(counts: &mut Vec<u64>, accepted: &mut u64, number: u64) -> bool {
     counts.push(*accepted).is_ok()
 }
 
-/// The counts that answer the frames which come out of a rough road, by the rule in words: the first word says whether a frame
-/// is lost, and then no other is drawn; the second whether it comes twice, and the third whether it is kept back behind the next one.
+/// The counts that answer the frames which come out of a rough road, by the rule in words: the first word says whether
+/// a frame is lost, and then no other is drawn; the second whether it comes twice, and the third whether it is kept
+/// back behind the next one.
 fn expected(alloc: Global, seed: u64, loss: u32, repeat: u32) -> Vec<u64> {
     let mut words = SeedWords::new(seed);
     let mut counts = Vec::new(alloc);

@@ -28,7 +28,8 @@ impl Road for Losing {
     }
 }
 
-/// The frame of the only operation is lost, so it is answered by a tick, which the pacer alone makes. The run has a world with packed wires.
+/// The frame of the only operation is lost, so it is answered by a tick, which the pacer alone makes. The run has a
+/// world with packed wires.
 #[test]
 fn a_running_cluster_has_a_pacer(rt: HostRuntime) {
     let alloc = rt.alloc();

@@ -28,8 +28,8 @@ pub enum Change {
     Value(u64),
 }
 
-/// Changes one frame, and hands all parcels on, but for those from process 2 to process 1, which are lost: so the first cast that comes
-/// to process 1 is the changed one, also where process 0 has answered another one before.
+/// Changes one frame, and hands all parcels on, but for those from process 2 to process 1, which are lost: so the first
+/// cast that comes to process 1 is the changed one, also where process 0 has answered another one before.
 #[derive(Drop)]
 pub struct Changing {
     alloc: Global,
@@ -158,8 +158,8 @@ fn a_station_stops_alone(rt: HostRuntime) {
     assert!(rt; stopped && has_both_writes(&closed));
 }
 
-/// Closes a cluster in which a value was changed on its way, without its last pass where `less`. No pacer runs, so that each place in
-/// the journal is known.
+/// Closes a cluster in which a value was changed on its way, without its last pass where `less`. No pacer runs, so that
+/// each place in the journal is known.
 fn fault_of_change<R: Threads + Wait + Clock + Abort + Copy + Send + Sync + 'static>(
     rt: R,
     alloc: Global,
@@ -206,7 +206,8 @@ fn both_are_told<R: Threads + Wait + Abort + Copy + Send + Sync + 'static>(
     first == STOPPED && third == STOPPED
 }
 
-/// The caller of the process whose cast stops another, and that of a third process, both wait for what that one never says.
+/// The caller of the process whose cast stops another, and that of a third process, both wait for what that one never
+/// says.
 #[test]
 fn all_callers_are_told_where_a_station_stops(rt: HostRuntime) {
     let alloc = rt.alloc();
