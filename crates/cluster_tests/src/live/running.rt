@@ -9,33 +9,33 @@ use reg_threads::{Running, start};
 use reg_world::PackedWires;
 use std::alloc::Global;
 use std::process::Abort;
-use std::sync::atomic::{AtomicBool, Ordering};
+use std::sync::atomic::{AtomicU64, Ordering};
 use std::sync::{Arc, Wait};
 use std::thread::Threads;
 use std::time::Clock;
 
-/// Loses the first parcel, and hands all others on.
+/// Loses the first two parcels, and hands all others on.
 #[derive(Drop)]
 struct Losing {
-    lost: AtomicBool,
+    came: AtomicU64,
 }
 
 impl Road for Losing {
     fn send<R: Wait>(&self, rt: &R, posts: &Posts, parcel: Parcel) {
-        if self.lost.swap(true, Ordering::SeqCst) {
+        if self.came.fetch_add(1, Ordering::SeqCst) >= 2 {
             let _came = posts.put(rt, parcel);
         }
     }
 }
 
-/// The frame of the only operation is lost, so it is answered by a tick, which the pacer alone makes. The run has a
-/// world with packed wires.
+/// The frame of the only operation is lost two times, so it is answered by a second tick. The pacer alone makes ticks,
+/// so it looks more than once. The run has a world with packed wires.
 #[test]
 fn a_running_cluster_has_a_pacer(rt: HostRuntime) {
     let alloc = rt.alloc();
     let watch = Watch::new(rt, alloc);
-    let lost = AtomicBool::new(false);
-    let road = Arc::new(alloc, Losing { lost }).expect(&rt, "memory");
+    let came = AtomicU64::new(0);
+    let road = Arc::new(alloc, Losing { came }).expect(&rt, "memory");
     let shape = shape_of(&rt, 2, 1);
     let (running, mut passes) = start::<Linear, _, _, _>(rt, alloc, shape, NoGate, road).expect(
         &rt,
