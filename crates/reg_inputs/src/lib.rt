@@ -4,6 +4,7 @@
 
 mod event_lines;
 mod faults;
+mod heads;
 mod keys;
 mod numbers;
 mod schedule_text;
@@ -13,6 +14,7 @@ mod values;
 mod workloads;
 
 pub use faults::WorkloadFault;
+pub use heads::{read_front, read_processes};
 pub use keys::Key;
 pub use schedule_text::{put_event, put_take, write_schedule};
 pub use schedules::{Schedule, ScheduleFault, parse_schedule};

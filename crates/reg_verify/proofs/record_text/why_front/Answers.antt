@@ -1,5 +1,0 @@
-use Rattle.std.proofs.Common.{rules}
-use Rattle.reg_verify.proofs.record_text.why_front.Goals as goal
-
-pub returns-then-are_front_letters : goal.returns-then-are_front_letters
-returns-then-are_front_letters c = search rules
