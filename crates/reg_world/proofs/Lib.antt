@@ -1,3 +1,7 @@
+pub mod Pushed
+pub mod Putting
+pub mod Sharing
+pub mod Packing
 pub mod run
 pub mod one_order
 pub mod one_memory

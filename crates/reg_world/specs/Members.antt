@@ -10,7 +10,7 @@ use Rattle.reg_process.specs.declared.steps.Step.{Step}
 use Rattle.reg_process.specs.Process.{State, step}
 use Rattle.reg_process.specs.Puts.{puts}
 use Rattle.reg_process.specs.Faults.{step_fault}
-use Rattle.reg_wires.specs.Sent.{sent}
+use Rattle.reg_world.specs.Sent.{sent}
 
 -- whether a process has stopped, its state, and all frames that it ever put for each process
 pub record Standing : Type 0 where

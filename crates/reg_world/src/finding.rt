@@ -6,12 +6,12 @@ use crate::books::Book;
 use crate::callers::Caller;
 use crate::faults::WorldFault;
 use crate::members::Member;
+use crate::stores::WireStore;
 use reg_base::Op;
 use reg_base::limits::{MOST_EVENTS, MOST_OPERATIONS};
 use reg_frames::Frame;
 use reg_front::FrontEnd;
 use reg_process::{Event, Step};
-use reg_wires::WireStore;
 use std::alloc::Allocator;
 
 /// Why a call is refused.

@@ -1,4 +1,5 @@
-//! All processes and wires, over a list of events.
+//! All processes and wires, over a list of events. The wires of one process are kept as lists of frames or as lists of
+//! words.
 #![tactic(auto)]
 
 mod accepted;
@@ -9,11 +10,18 @@ mod finding;
 pub mod laws;
 mod members;
 mod order;
+mod packed;
 mod running;
+mod slices;
+mod stores;
+mod strips;
 mod witnesses;
+mod words;
 
 pub use faults::{RunFault, WorldFault};
 pub use order::{CopyRead, First};
+pub use packed::PackedWires;
 pub use reg_process::Event;
-pub use reg_wires::{PackedWires, WireStore, Wires};
 pub use running::World;
+pub use slices::Wires;
+pub use stores::WireStore;

@@ -7,11 +7,12 @@ ghost use Rattle.reg_base.specs.declared.limits.TheConstants.{MOST_PROCESSES};
 ghost use Rattle.reg_world.specs.Members.{MayAct, Acts, listed};
 ghost use Rattle.reg_world.specs.WorldParts.{first_standing};
 
+use crate::slices::Wires;
+use crate::stores::WireStore;
 use reg_base::Shape;
 use reg_frames::Frame;
 use reg_front::FrontEnd;
 use reg_process::{Outcome, Process, ProcessFault, Put, Step};
-use reg_wires::{WireStore, Wires};
 use std::alloc::{AllocError, Allocator};
 use std::marker::Model;
 

@@ -18,6 +18,8 @@ use crate::faults::{RunFault, WorldFault};
 use crate::finding::found;
 use crate::members::{Member, new_members};
 use crate::order::{CopyRead, First};
+use crate::slices::Wires;
+use crate::stores::WireStore;
 use crate::witnesses::{points_of, witness_of};
 use reg_base::limits::MOST_EVENTS;
 use reg_base::{OpId, Shape};
@@ -25,7 +27,6 @@ use reg_checkers::{History, Point};
 use reg_frames::Frame;
 use reg_front::{FrontEnd, RealTime};
 use reg_process::{Event, Process, Reply, Step};
-use reg_wires::{WireStore, Wires};
 use std::alloc::{AllocError, Allocator, Global};
 use std::marker::Model;
 

@@ -21,7 +21,7 @@ use Rattle.reg_process.specs.declared.steps.Reply.{Reply}
 use Rattle.reg_world.specs.World.{op_id, calls_in, answers_in}
 use Rattle.reg_world.specs.Pages.{Pages, calls_after, entries_after, first_in, firsts_in, tally_at, TimesDiffer}
 use Rattle.reg_world.proofs.lists.Bodies.{place_last, place_first, place_within}
-use Rattle.reg_wires.proofs.Putting.{in_drop}
+use Rattle.reg_world.proofs.Putting.{in_drop}
 use Rattle.reg_world.proofs.code.Noted.{at_index}
 
 pub not_refused : (h : Log) (e : Entry) (fault : HistoryFault) → 1 ≤ h.room → IsHistory h.shape.processes h.shape.registers (h.entries ++ e ∷ []) → Refuses h e fault → ⊥

@@ -24,7 +24,7 @@ use Rattle.reg_world.specs.Tallies.{Tally}
 use Rattle.reg_world.specs.Books.{tally_of, AreTallies}
 use Rattle.reg_world.specs.Witnesses.{last_stamp}
 use Rattle.reg_world.specs.Pages.{Pages, tally_after, tally_at, tallies_after, read_in, firsts_in, entries_after, entered, CallFits, MayEnter}
-use Rattle.reg_wires.specs.Sent.{sent}
+use Rattle.reg_world.specs.Sent.{sent}
 use Rattle.reg_world.specs.Members.{Standing, listed, Acts}
 use Rattle.reg_world.specs.WorldParts.{Tells, Stand, IsWorld, standing_of}
 use Rattle.reg_world.proofs.one_order.Allowed.{Allowed, StepAllowed, allowed}

@@ -5,7 +5,7 @@ use Rattle.reg_base.specs.Order.{In}
 use Rattle.reg_frames.specs.declared.bodies.Frame.{Frame}
 use Rattle.reg_frames.specs.declared.puts.Put.{Put}
 use Rattle.reg_process.specs.Puts.{puts, put_to}
-use Rattle.reg_wires.specs.Sent.{sent}
+use Rattle.reg_world.specs.Sent.{sent}
 use Rattle.reg_world.specs.Members.{listed}
 use Rattle.reg_base.proofs.Lists.{in_cases}
 use Rattle.reg_world.proofs.lists.Members.{map_in}

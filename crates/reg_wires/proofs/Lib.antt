@@ -1,4 +1,0 @@
-pub mod Pushed
-pub mod Putting
-pub mod Sharing
-pub mod Packing

@@ -1,5 +1,0 @@
-use Rattle.std.proofs.Common.{rules}
-use Rattle.reg_wires.proofs.packed.Tables.frame.Goals as goal
-
-pub returns-in-Count : goal.returns-in-Count
-returns-in-Count g c = search rules

@@ -1,4 +1,0 @@
-pub mod Sent
-pub mod Sharing
-pub mod Words
-pub mod Packed

@@ -1,0 +1,31 @@
+//! What keeps the wires of one process.
+ghost use Rattle.std.specs.Prelude.{◌≡◌, ◌<◌, List, [], length, replicate, IfOk, OnOk, slice_get, slice_index_or};
+ghost use Rattle.reg_base.specs.Order.{In};
+ghost use Rattle.reg_frames.specs.declared.bodies.Frame.{Frame};
+ghost use Rattle.reg_frames.specs.declared.puts.Put.{Put};
+ghost use Rattle.reg_world.specs.Sent.{sent};
+
+use reg_frames::{Frame, Put};
+use std::alloc::{AllocError, Allocator};
+
+/// All frames that a process ever put for each process.
+pub trait WireStore<A: Allocator + Copy>: Drop {
+    ghost wires: { Self → List (List Frame) };
+
+    /// A wire to each of so many processes, with no frame.
+    fn new(alloc: A, count: u32) -> Result<Self, AllocError>
+        ensures { IfOk result (λ w. wires w ≡ replicate count []) };
+
+    /// How many frames were ever put for a process, 0 where there is no such process.
+    fn count(&self, to: u8) -> usize
+        ensures { result ≡ length (slice_index_or (wires self.now) to []) };
+
+    /// The frame at this place, from 0, of all frames ever put for a process.
+    fn frame_at(&self, to: u8, number: u32) -> Option<Frame>
+        ensures { result ≡ slice_get (slice_index_or (wires self.now) to []) number };
+
+    /// Puts the frames of an event on their wires. Where memory is refused nothing is claimed of the wires.
+    fn put_all(&mut self, puts: &[Put]) -> Result<(), AllocError>
+        requires { (p : Put) → In p puts.now → p.to < length (wires self.old) }
+        ensures { OnOk result (wires self.new ≡ sent puts.now (wires self.old)) };
+}
