@@ -17,3 +17,4 @@ pub use check::{check_points, check_serial};
 pub use entries::{Entry, Point};
 pub use faults::{CheckFault, HistoryFault};
 pub use log::History;
+pub use points::ids_of_points;

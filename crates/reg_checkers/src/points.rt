@@ -8,6 +8,11 @@ use crate::facts::Fact;
 use reg_base::OpId;
 use std::alloc::{AllocError, Allocator};
 
+/// The operations of points, in their order.
+///
+/// # Errors
+///
+/// There was no memory for the list.
 pub fn ids_of_points<A: Allocator + Copy>(
     alloc: A,
     points: &[Point],

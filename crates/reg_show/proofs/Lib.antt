@@ -10,3 +10,5 @@ pub mod Sending
 pub mod Told
 pub mod Rested
 pub mod Turned
+pub mod Shown
+pub mod Reordering

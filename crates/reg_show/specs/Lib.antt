@@ -10,3 +10,6 @@ pub mod Showings
 pub mod ToldRuns
 pub mod Outcomes
 pub mod OneOutcome
+pub mod Searches
+pub mod AllOutcomes
+pub mod Finding

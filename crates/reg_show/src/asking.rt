@@ -14,7 +14,7 @@ use std::alloc::{Allocator, Global};
 use std::io::{Read, Write};
 
 /// Writes an answer, to the last byte.
-fn send<W: Write>(writer: &mut W, answer: &[u8]) -> Result<(), Fault>
+pub(crate) fn send<W: Write>(writer: &mut W, answer: &[u8]) -> Result<(), Fault>
     ensures { MatchResult result (λ _. Appends (W.contents writer.old) (W.contents writer.new) answer.now) (λ f. (f ≡ Fault.Output) × AppendsPart (W.contents writer.old) (W.contents writer.new) answer.now) }
 {
     if write_bytes(writer, answer).is_err() || writer.flush().is_err() {

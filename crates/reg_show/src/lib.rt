@@ -1,11 +1,14 @@
-//! Runs shown: the schedule of a play, what happened event by event, drawings, data and pages, the table of many plays;
-//! and what is wrong with a text.
+//! Runs shown: the schedule of a play, what happened event by event, drawings, data and pages; the table of many plays,
+//! and all outcomes; an order of a report's history; and what is wrong with a text.
 #![tactic(auto)]
 
 mod asking;
 mod commands;
+mod copying;
 mod counting;
+mod every;
 mod faults;
+mod finding;
 mod first_lines;
 mod kinds;
 mod one_outcome;
@@ -14,11 +17,15 @@ mod refusals;
 mod resting;
 mod running;
 mod scheduling;
+mod searching;
 mod showing;
 mod telling;
 
 pub use asking::why_text;
 pub use counting::show_outcomes;
+pub use every::show_all_outcomes;
+pub use faults::SearchFault;
+pub use finding::find_order;
 pub use one_outcome::{OutcomeFault, show_outcome};
 pub use reg_outcomes::MOST_PLAYS;
 pub use running::show_text;

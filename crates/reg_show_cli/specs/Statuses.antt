@@ -8,12 +8,11 @@ use Rattle.reg_commands.specs.declared.command.Command.TheVariants.{Play}
 use Rattle.reg_commands.specs.declared.faults.Fault.{Fault}
 use Rattle.reg_commands.specs.declared.faults.Fault.TheVariants.{Output}
 use Rattle.reg_commands.specs.FaultLines.{fault_line}
-use Rattle.reg_every.specs.AllOutcomes.{BlamesAll, WritesAll, all_line}
-use Rattle.reg_every.specs.declared.every.AllFault.{AllFault}
-use Rattle.reg_every.specs.declared.every.AllFault.TheVariants.{Command as AllCommand}
-use Rattle.reg_every.specs.Finding.{BlamesFind, FindsAny, WritesFound, WritesNone, find_line}
-use Rattle.reg_every.specs.declared.finding.FindFault.{FindFault}
-use Rattle.reg_every.specs.declared.finding.FindFault.TheVariants.{Command as FindCommand}
+use Rattle.reg_show.specs.AllOutcomes.{BlamesAll, WritesAll}
+use Rattle.reg_show.specs.Finding.{BlamesFind, FindsAny, WritesFound, WritesNone}
+use Rattle.reg_show.specs.Searches.{search_line}
+use Rattle.reg_show.specs.declared.faults.SearchFault.{SearchFault}
+use Rattle.reg_show.specs.declared.faults.SearchFault.TheVariants.{Command as SearchCommand}
 use Rattle.reg_show.specs.declared.faults.ShowFault.{ShowFault}
 use Rattle.reg_show.specs.declared.faults.ShowFault.TheVariants.{Command}
 use Rattle.reg_show.specs.OneOutcome.{BlamesOutcome, WritesOutcome, outcome_line}
@@ -51,12 +50,12 @@ Stops (Show showing) input unwritten old new was is =
 Stops (Outcomes plays) input unwritten old new was is =
     (f : Fault) × IfSome input (BlamesCommand (Play false) f) × (f ≢ Output → unwritten) × (f ≡ Output → IfSome input (WritesOutcomes plays (AppendsPart old new))) × AppendsPart was is (fault_line f)
 Stops AllOutcomes input unwritten old new was is =
-    (f : AllFault) × IfSome input (BlamesAll f) × (f ≢ AllCommand Output → unwritten) × (f ≡ AllCommand Output → IfSome input (WritesAll (AppendsPart old new))) × AppendsPart was is (all_line f)
+    (f : SearchFault) × IfSome input (BlamesAll f) × (f ≢ SearchCommand Output → unwritten) × (f ≡ SearchCommand Output → IfSome input (WritesAll (AppendsPart old new))) × AppendsPart was is (search_line f)
 Stops (Outcome number) input unwritten old new was is =
     (f : OutcomeFault) × IfSome input (BlamesOutcome number f) × (f ≢ OutcomeCommand Output → unwritten) × (f ≡ OutcomeCommand Output → IfSome input (WritesOutcome number (AppendsPart old new))) × AppendsPart was is (outcome_line f)
 Stops (Find kind) input unwritten old new was is =
     (IfSome input (WritesNone kind (Appends old new)) × (was ≡ is))
-    ⊎ ((f : FindFault) × IfSome input (BlamesFind kind f) × (f ≢ FindCommand Output → unwritten) × (f ≡ FindCommand Output → IfSome input (FindsAny kind (AppendsPart old new))) × AppendsPart was is (find_line f))
+    ⊎ ((f : SearchFault) × IfSome input (BlamesFind kind f) × (f ≢ SearchCommand Output → unwritten) × (f ≡ SearchCommand Output → IfSome input (FindsAny kind (AppendsPart old new))) × AppendsPart was is (search_line f))
 Stops Why input unwritten old new was is =
     (IfSome input (Answers false (Appends old new)) × (was ≡ is))
     ⊎ ((f : Fault) × IfSome input (Halts f) × (f ≢ Output → unwritten) × (f ≡ Output → IfSome input (AnswersAny (AppendsPart old new))) × AppendsPart was is (fault_line f))
@@ -69,9 +68,9 @@ Stops Version input unwritten old new was is = AppendsPart was is (fault_line Ou
 abbrev pub Tells : Asked → Option (List ℕ) → Option (List ℕ) → Type 0
 Tells (Show showing) was is = (f : ShowFault) × AppendsPart was is (show_line f)
 Tells (Outcomes plays) was is = (f : Fault) × AppendsPart was is (fault_line f)
-Tells AllOutcomes was is = (f : AllFault) × AppendsPart was is (all_line f)
+Tells AllOutcomes was is = (f : SearchFault) × AppendsPart was is (search_line f)
 Tells (Outcome number) was is = (f : OutcomeFault) × AppendsPart was is (outcome_line f)
-Tells (Find kind) was is = (was ≡ is) ⊎ ((f : FindFault) × AppendsPart was is (find_line f))
+Tells (Find kind) was is = (was ≡ is) ⊎ ((f : SearchFault) × AppendsPart was is (search_line f))
 Tells Why was is = (was ≡ is) ⊎ ((f : Fault) × AppendsPart was is (fault_line f))
 Tells Verify was is = (f : VerifyFault) × AppendsPart was is (verify_line f)
 Tells Help was is = AppendsPart was is (fault_line Output)

@@ -1,5 +1,6 @@
 //! Why a record has no report.
 use reg_commands::Fault;
+use std::alloc::AllocError;
 use thiserror::Error;
 
 /// Why a record has no report. As text, the line of it on standard error.
@@ -12,4 +13,29 @@ pub enum VerifyFault {
     /// or makes with another reply.
     #[error("line {line}: unfaithful")]
     Unfaithful { line: u64 },
+}
+
+impl From<Fault> for VerifyFault {
+    ghost use Rattle.std.specs.Prelude.{◌≡◌};
+    ghost use Rattle.reg_verify.specs.declared.faults.VerifyFault.TheVariants.{Command};
+
+    ghost from_gives = { λ fault told. told ≡ Command fault };
+
+    fn from(fault: Fault) -> VerifyFault {
+        Self::Command { fault }
+    }
+}
+
+impl From<AllocError> for VerifyFault {
+    ghost use Rattle.std.specs.Prelude.{◌≡◌};
+    ghost use Rattle.reg_commands.specs.declared.faults.Fault.TheVariants.{OutOfMemory};
+    ghost use Rattle.reg_verify.specs.declared.faults.VerifyFault.TheVariants.{Command};
+
+    ghost from_gives = { λ _ told. told ≡ Command OutOfMemory };
+
+    fn from(_error: AllocError) -> VerifyFault {
+        Self::Command {
+            fault: Fault::OutOfMemory,
+        }
+    }
 }

@@ -54,16 +54,8 @@ fn run_steps<F: FrontEnd, A: Allocator + Copy>(
     ensures ran { IfOk result (λ w. Runs F.start shape steps.items w) }
     ensures why { IfErr result (λ f. BlamesSteps F.start shape steps.items f) }
 {
-    let Ok(order) = order_of(alloc, &steps) else {
-        return Err(VerifyFault::Command {
-            fault: Fault::OutOfMemory,
-        });
-    };
-    let Ok(logs) = logs_of(alloc, shape.processes(), &steps) else {
-        return Err(VerifyFault::Command {
-            fault: Fault::OutOfMemory,
-        });
-    };
+    let order = order_of(alloc, &steps)?;
+    let logs = logs_of(alloc, shape.processes(), &steps)?;
     // The run doesn't need the steps, which take as much memory as the logs.
     drop(steps);
     match play(alloc, shape, &order, &logs) {
@@ -94,10 +86,8 @@ fn report_of<F: FrontEnd, A: Allocator + Copy>(
         steps,
     } = account;
     let world = run_steps::<F, A>(alloc, shape, steps)?;
-    match report_run(alloc, front, names, world) {
-        Ok(report) => Ok(report),
-        Err(fault) => Err(VerifyFault::Command { fault }),
-    }
+    let report = report_run(alloc, front, names, world)?;
+    Ok(report)
 }
 
 /// The report of a record, with its points.
@@ -116,10 +106,8 @@ fn report_with_points<F: RealTime, A: Allocator + Copy>(
         steps,
     } = account;
     let world = run_steps::<F, A>(alloc, shape, steps)?;
-    match report_run_with_points(alloc, front, names, world) {
-        Ok(report) => Ok(report),
-        Err(fault) => Err(VerifyFault::Command { fault }),
-    }
+    let report = report_run_with_points(alloc, front, names, world)?;
+    Ok(report)
 }
 
 /// The report of a record, by its front end.
@@ -144,10 +132,7 @@ fn verified<A: Allocator + Copy>(alloc: A, text: String<A>) -> Result<Report<A>,
     ensures why { IfErr result (λ f. BlamesAccount f (string_bytes text)) }
     ensures kind { IfErr result (λ f. f ≢ VerifyFault.Command Fault.Output) }
 {
-    let account = match read_record_text(alloc, text.as_str()) {
-        Ok(account) => account,
-        Err(fault) => return Err(VerifyFault::Command { fault }),
-    };
+    let account = read_record_text(alloc, text.as_str())?;
     // The run doesn't need the text, which takes more memory than the record.
     drop(text);
     report_by_front(alloc, account)
@@ -165,10 +150,8 @@ fn verify<A: Allocator + Copy, W: Write>(
     ensures part { IsErrOf result (VerifyFault.Command Fault.Output) → Verifies (AppendsPart (W.contents writer.old) (W.contents writer.new)) (string_bytes text) }
 {
     let report = verified(alloc, text)?;
-    match write_out(writer, &report) {
-        Ok(()) => Ok(()),
-        Err(fault) => Err(VerifyFault::Command { fault }),
-    }
+    write_out(writer, &report)?;
+    Ok(())
 }
 
 fn obey<A: Allocator + Copy, R: Read, W: Write>(

@@ -1,5 +1,5 @@
 //! All outcomes of a workload, by the command that prints them: a text worked out by hand, and a refusal.
-use reg_every::show_all_outcomes;
+use reg_show::show_all_outcomes;
 use std::alloc::Global;
 use std::test::Fail;
 

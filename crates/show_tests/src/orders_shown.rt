@@ -1,5 +1,5 @@
 //! Orders of a report's history, by the command that finds them: texts worked out by hand, and refusals.
-use reg_every::find_order;
+use reg_show::find_order;
 use reg_interleavings::OrderKind;
 use std::alloc::Global;
 use std::process::Abort;

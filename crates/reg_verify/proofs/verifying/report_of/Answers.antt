@@ -9,7 +9,7 @@ report_run-requires g c =
     let i = c.account.inside in
     as_many_registers g.F.FrontEnd.start c.args.account i.shape i.names i.steps.items c.in_ok-world.world c.requires (ap (λ (a : Account). a.shape) c.account.view_is) (ap (λ (a : Account). a.names) c.account.view_is) c.in_ok-world.ensures.ran
 
-pub returns-in-Ok-clause-shows : goal.returns-in-Ok-clause-shows
-returns-in-Ok-clause-shows g c =
+pub returns-clause-shows : goal.returns-clause-shows
+returns-clause-shows g c =
     let i = c.account.inside in
-    shown g.F.FrontEnd.start c.args.account i.front i.shape i.names i.steps.items c.in_ok-world.world HasNoPoints c.in-Ok.report c.account.view_is c.in_ok-world.ensures.ran c.in-Ok.ensures.shows c.in-Ok.ensures.points
+    shown g.F.FrontEnd.start c.args.account i.front i.shape i.names i.steps.items c.in_ok-world.world HasNoPoints c.in_ok-report.report c.account.view_is c.in_ok-world.ensures.ran c.in_ok-report.ensures.shows c.in_ok-report.ensures.points

@@ -1,2 +1,0 @@
-pub mod AllOutcomes
-pub mod Finding

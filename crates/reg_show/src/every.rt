@@ -1,0 +1,119 @@
+//! The command that prints all outcomes that a workload's scripts can have.
+ghost use Rattle.std.specs.Prelude.{◌≡◌, ◌≢◌, ◌≤◌, ◌⊎◌, IfOk, IfErr, IfSome, IsErrOf, MatchResult, OnOk, length, map};
+ghost use Rattle.std.specs.Option.{option_map};
+ghost use Rattle.std.specs.Io.KnownBytes.{Appends};
+ghost use Rattle.reg_base.specs.declared.limits.TheConstants.{LONGEST_INPUT};
+ghost use Rattle.reg_text.specs.Writing.{AppendsPart};
+ghost use Rattle.reg_interleavings.specs.AllText.{ShowsAll, all_text};
+ghost use Rattle.reg_interleavings.specs.Interleavings.{IsWider};
+ghost use Rattle.reg_interleavings.specs.declared.outcomes.TheConstants.{MOST_STAGES};
+ghost use Rattle.reg_show.specs.AllOutcomes.{BlamesAll, WritesAll};
+ghost use Rattle.reg_show.specs.Searches.{search_line};
+ghost use Rattle.reg_show.specs.declared.faults.SearchFault.{SearchFault as AnyFault};
+
+use crate::faults::SearchFault;
+use crate::searching::write_search_fault;
+use reg_commands::{Fault, read_input, read_workload};
+use reg_interleavings::{
+    AllOutcomes, MOST_STAGES, all_outcomes, count_operations, nevers_of, write_all,
+};
+use reg_outcomes::ToldValue;
+use reg_workload::Workload;
+use std::alloc::{Allocator, Global};
+use std::io::{Read, Write};
+
+/// Writes the text of all outcomes, to the last byte.
+fn send<A: Allocator + Copy, W: Write>(
+    writer: &mut W,
+    operations: u64,
+    all: &AllOutcomes<A>,
+    nevers: &Option<Vec<Vec<ToldValue, A>, A>>,
+) -> Result<(), SearchFault>
+    ensures { MatchResult result (λ _. Appends (W.contents writer.old) (W.contents writer.new) (all_text operations all.now.stages all.now.list.items (option_map (λ list. map (λ v. v.items) list.items) nevers.now))) (λ f. (f ≡ SearchFault.Command Fault.Output) × AppendsPart (W.contents writer.old) (W.contents writer.new) (all_text operations all.now.stages all.now.list.items (option_map (λ list. map (λ v. v.items) list.items) nevers.now))) }
+{
+    if write_all(writer, operations, all, nevers).is_err() || writer.flush().is_err() {
+        return Err(SearchFault::Command {
+            fault: Fault::Output,
+        });
+    }
+    Ok(())
+}
+
+/// Finds all outcomes of a workload's scripts, and writes their text.
+fn write_all_of<A: Allocator + Copy, W: Write>(
+    alloc: A,
+    work: &Workload<A>,
+    writer: &mut W,
+) -> Result<(), SearchFault>
+    ensures ok { IfOk result (λ _. ShowsAll work.now.scripts work.now.shape.registers (Appends (W.contents writer.old) (W.contents writer.new))) }
+    ensures why { IfErr result (λ f. ((f ≡ SearchFault.Command Fault.Output) ⊎ (f ≡ SearchFault.Command Fault.OutOfMemory)) ⊎ ((f ≡ SearchFault.TooManyStages) × IsWider work.now.scripts work.now.shape.registers MOST_STAGES)) }
+    ensures silent { IfErr result (λ f. f ≢ SearchFault.Command Fault.Output → writer.new ≡ writer.old) }
+    ensures part { IsErrOf result (SearchFault.Command Fault.Output) → ShowsAll work.now.scripts work.now.shape.registers (AppendsPart (W.contents writer.old) (W.contents writer.new)) }
+{
+    let scripts = work.scripts.as_slice();
+    let registers = work.shape.registers() as u16;
+    let all = all_outcomes(alloc, scripts, registers, MOST_STAGES)?;
+    let nevers = nevers_of(alloc, all.list.as_slice())?;
+    send(writer, count_operations(scripts) as u64, &all, &nevers)
+}
+
+/// Reads a workload, and writes all outcomes of its scripts.
+fn outcomes<A: Allocator + Copy, W: Write>(
+    alloc: A,
+    global: Global,
+    text: &str,
+    writer: &mut W,
+) -> Result<(), SearchFault>
+    ensures ok { IfOk result (λ _. WritesAll (Appends (W.contents writer.old) (W.contents writer.new)) text.now) }
+    ensures why { IfErr result (λ f. BlamesAll f text.now) }
+    ensures silent { IfErr result (λ f. f ≢ SearchFault.Command Fault.Output → writer.new ≡ writer.old) }
+    ensures part { IsErrOf result (SearchFault.Command Fault.Output) → WritesAll (AppendsPart (W.contents writer.old) (W.contents writer.new)) text.now }
+{
+    let work = read_workload(alloc, global, text)?;
+    write_all_of(alloc, &work, writer)
+}
+
+fn obey<A: Allocator + Copy, R: Read, W: Write>(
+    alloc: A,
+    global: Global,
+    reader: &mut R,
+    writer: &mut W,
+) -> Result<(), SearchFault>
+    ensures ok { IfOk result (λ _. IfSome (R.remaining reader.old) (WritesAll (Appends (W.contents writer.old) (W.contents writer.new)))) }
+    ensures within { OnOk result (IfSome (R.remaining reader.old) (λ xs. length xs ≤ LONGEST_INPUT)) }
+    ensures why { IfErr result (λ f. IfSome (R.remaining reader.old) (BlamesAll f)) }
+    ensures silent { IfErr result (λ f. f ≢ SearchFault.Command Fault.Output → writer.new ≡ writer.old) }
+    ensures part { IsErrOf result (SearchFault.Command Fault.Output) → IfSome (R.remaining reader.old) (WritesAll (AppendsPart (W.contents writer.old) (W.contents writer.new))) }
+{
+    let text = read_input(alloc, reader)?;
+    outcomes(alloc, global, text.as_str(), writer)
+}
+
+/// Writes all outcomes that the scripts of the workload that the text on the reader says can have, and the combinations
+/// of their values that no outcome has: it reads the whole input, and writes once all are found. The answer is the
+/// status: 0, or 1 where something was refused, with the line of the fault on `errors`, or where the writer failed, and
+/// then a first part of the text went out. That `errors` fails changes no status. The table of a workload is kept in
+/// the global heap, all else in the other one.
+pub fn show_all_outcomes<A: Allocator + Copy, R: Read, W: Write, E: Write>(
+    alloc: A,
+    global: Global,
+    reader: &mut R,
+    writer: &mut W,
+    errors: &mut E,
+) -> u8
+    ensures range { result ≤ 1 }
+    ensures within { result ≡ 0 → IfSome (R.remaining reader.old) (λ xs. length xs ≤ LONGEST_INPUT) }
+    ensures shown { result ≡ 0 → IfSome (R.remaining reader.old) (WritesAll (Appends (W.contents writer.old) (W.contents writer.new))) }
+    ensures refused { result ≡ 1 → (f : AnyFault) × IfSome (R.remaining reader.old) (BlamesAll f) × (f ≢ SearchFault.Command Fault.Output → writer.new ≡ writer.old)
+        × (f ≡ SearchFault.Command Fault.Output → IfSome (R.remaining reader.old) (WritesAll (AppendsPart (W.contents writer.old) (W.contents writer.new))))
+        × AppendsPart (E.contents errors.old) (E.contents errors.new) (search_line f) }
+    ensures quiet { result ≡ 0 → errors.new ≡ errors.old }
+{
+    match obey(alloc, global, reader, writer) {
+        Ok(()) => 0,
+        Err(fault) => {
+            let _ = write_search_fault(errors, fault);
+            1
+        }
+    }
+}
