@@ -1,5 +1,5 @@
 //! Operations, their names and answers, and one memory.
-ghost use Rattle.std.specs.Prelude.{◌≡◌, ◌<◌, ◌↔◌, ℕ, List, IsTrue, IfOk, SomeIff, length, slice_get, slice_set};
+ghost use Rattle.std.specs.Prelude.{◌≡◌, ◌<◌, ◌↔◌, ℕ, List, IsTrue, IfOk, SomeIff, length, slice_get};
 ghost use Rattle.reg_base.specs.Memory.{register_of, updates, answer_of, after, blank};
 
 use std::alloc::{AllocError, Allocator, Global};
@@ -87,6 +87,40 @@ impl Op {
             Op::Swap { register, value: _ } => register,
         }
     }
+
+    /// What it answers on a memory, which has a value for each register. It isn't applied.
+    pub fn answer_on(&self, memory: &[u64]) -> Answer
+        requires { register_of self.now < length memory.now }
+        ensures { result ≡ answer_of self.now memory.now }
+    {
+        match *self {
+            Op::Write {
+                register: _,
+                value: _,
+            } => Answer::Done,
+            Op::Read { register } | Op::Swap { register, value: _ } => {
+                Answer::Value(memory[register as usize])
+            }
+        }
+    }
+
+    /// Applies it to a memory, which has a value for each register, and answers it.
+    pub fn apply_to(&self, memory: &mut [u64]) -> Answer
+        requires { register_of self.now < length memory.old }
+        ensures answer { result ≡ answer_of self.now memory.old }
+        ensures memory { memory.new ≡ after self.now memory.old }
+    {
+        match *self {
+            Op::Read { register } => Answer::Value(memory[register as usize]),
+            Op::Write { register, value } => {
+                memory[register as usize] = value;
+                Answer::Done
+            }
+            Op::Swap { register, value } => {
+                Answer::Value(mem::replace(&mut memory[register as usize], value))
+            }
+        }
+    }
 }
 
 /// A copy of the registers: one memory, with a value for each register.
@@ -131,23 +165,7 @@ impl<A: Allocator + Copy> Registers<A> {
         requires { register_of op.now < length self.now }
         ensures { result ≡ answer_of op.now self.now }
     {
-        match *op {
-            Op::Read { register } => Answer::Value(self.values[register as usize]),
-            Op::Write {
-                register: _,
-                value: _,
-            } => Answer::Done,
-            Op::Swap { register, value: _ } => Answer::Value(self.values[register as usize]),
-        }
-    }
-
-    /// Replaces a register's value, and gives the old one. None past the last.
-    fn replace(&mut self, register: u16, value: u64) -> Option<u64>
-        ensures old { result ≡ slice_get self.old register }
-        ensures memory { self.new ≡ slice_set self.old register value }
-    {
-        let kept = self.values.get_mut(register as usize)?;
-        Some(mem::replace(kept, value))
+        op.answer_on(&self.values)
     }
 
     /// Applies an operation and answers it. None comes only for a register past the last, and nothing has changed then.
@@ -155,13 +173,9 @@ impl<A: Allocator + Copy> Registers<A> {
         ensures answer { SomeIff result (register_of op.now < length self.old) (answer_of op.now self.old) }
         ensures memory { self.new ≡ after op.now self.old }
     {
-        match *op {
-            Op::Read { register } => Some(Answer::Value(self.get(register)?)),
-            Op::Write { register, value } => {
-                self.replace(register, value)?;
-                Some(Answer::Done)
-            }
-            Op::Swap { register, value } => Some(Answer::Value(self.replace(register, value)?)),
+        if op.register() as usize >= self.values.len() {
+            return None;
         }
+        Some(op.apply_to(&mut self.values))
     }
 }

@@ -1,9 +1,9 @@
 //! Orders of a history, found or by proof none: operations are placed one after another (Wing and Gong 1993), and each
 //! stage that they lead to is kept once (Lowe 2017).
-ghost use Rattle.std.specs.Prelude.{◌≡◌, ◌∷◌, [], ℕ, List, ◌<◌, ◌≤◌, ◌⊎◌, ◌↔◌, IsTrue, MatchBool, MatchOption, IfOk, IfErr, IfSome, OnOk, length, replicate, slice_index};
+ghost use Rattle.std.specs.Prelude.{◌≡◌, [], ℕ, List, ◌<◌, ◌≤◌, ◌⊎◌, ◌↔◌, IsTrue, MatchOption, IfOk, IfErr, IfSome, OnOk, length, replicate, slice_index};
 ghost use Rattle.reg_base.specs.declared.memory.Op.{Op as AnyOp};
 ghost use Rattle.reg_base.specs.declared.memory.OpId.{OpId as AnyId};
-ghost use Rattle.reg_base.specs.Memory.{answer_of, register_of};
+ghost use Rattle.reg_base.specs.Memory.{register_of};
 ghost use Rattle.reg_base.specs.Order.{In};
 ghost use Rattle.reg_base.specs.declared.limits.TheConstants.{LAST_EVENT, MOST_OPERATIONS};
 ghost use Rattle.reg_checkers.specs.declared.entries.Point.{Point as AnyPoint};
@@ -18,7 +18,7 @@ use crate::faults::InterleavingFault;
 use crate::finder::Finder;
 use crate::kinds::OrderKind;
 use crate::layers::{Layer, add_stage, first_layer};
-use crate::stages::{Stage, apply};
+use crate::stages::Stage;
 use crate::tables::Invocation;
 use reg_base::{Answer, Op, OpId};
 use reg_checkers::{History, Point};
@@ -67,22 +67,6 @@ fn next_number(next: &[u32], process: u8) -> u32
     next[usize::from(process)]
 }
 
-/// The answer that this memory gives.
-fn answer_on(memory: &[u64], op: Op) -> Answer
-    requires { register_of op < length memory.now }
-    ensures { result ≡ answer_of op memory.now }
-{
-    match op {
-        Op::Write {
-            register: _,
-            value: _,
-        } => Answer::Done,
-        Op::Read { register } | Op::Swap { register, value: _ } => {
-            Answer::Value(memory[usize::from(register)])
-        }
-    }
-}
-
 /// The stage after a process did this operation, its next one.
 fn stage_placed<A: Allocator + Copy>(
     alloc: A,
@@ -99,7 +83,7 @@ fn stage_placed<A: Allocator + Copy>(
     let mut memory = Vec::from_slice(alloc, stage.memory.as_slice())?;
     let number = next[usize::from(process)];
     next[usize::from(process)] = number + 1;
-    apply(&mut memory, op);
+    op.apply_to(&mut memory);
     let told = Vec::new(alloc);
     Ok(Stage { next, memory, told })
 }
@@ -120,7 +104,7 @@ fn placeable<A: Allocator + Copy>(
     let Some(call) = finder.invocation(id) else {
         return None;
     };
-    let answer = answer_on(&stage.memory, call.op);
+    let answer = call.op.answer_on(&stage.memory);
     if !may_follow(finder, &stage.next, id, call) {
         return None;
     }

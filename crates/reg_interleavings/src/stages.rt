@@ -1,6 +1,6 @@
 //! Where interleaved scripts stand.
-ghost use Rattle.std.specs.Prelude.{◌≡◌, ◌<◌, ◌≤◌, ◌-◌, ◌^◌, length, slice_get, slice_index, map, IfOk, OnOk, insert};
-ghost use Rattle.reg_base.specs.Memory.{after, answer_of, register_of};
+ghost use Rattle.std.specs.Prelude.{◌≡◌, ◌<◌, ◌≤◌, ◌-◌, length, slice_get, slice_index, map, IfOk, OnOk, insert};
+ghost use Rattle.reg_base.specs.Memory.{after, register_of};
 ghost use Rattle.reg_outcomes.specs.declared.outcomes.ToldValue.{ToldValue as AnyValue};
 ghost use Rattle.reg_interleavings.specs.Interleavings.{first_stage, script_of, stage_after, told_after, told_behind};
 ghost use Rattle.reg_interleavings.specs.Layers.{stage_of};
@@ -8,7 +8,6 @@ ghost use Rattle.reg_interleavings.specs.Layers.{stage_of};
 use reg_base::{Answer, Op, OpId};
 use reg_outcomes::ToldValue;
 use std::alloc::{AllocError, Allocator, Global};
-use std::mem;
 
 /// Where interleaved scripts stand.
 #[derive(Drop)]
@@ -20,24 +19,6 @@ pub(crate) struct Stage<A: Allocator + Copy = Global> {
     pub(crate) memory: Vec<u64, A>,
     /// What the operations behind told, in the order of an outcome.
     pub(crate) told: Vec<ToldValue, A>,
-}
-
-/// Applies an operation to a memory, and answers it.
-pub(crate) fn apply(memory: &mut [u64], op: Op) -> Answer
-    requires { register_of op < length memory.old }
-    ensures answer { result ≡ answer_of op memory.old }
-    ensures memory { memory.new ≡ after op memory.old }
-{
-    match op {
-        Op::Read { register } => Answer::Value(memory[register as usize]),
-        Op::Write { register, value } => {
-            memory[register as usize] = value;
-            Answer::Done
-        }
-        Op::Swap { register, value } => {
-            Answer::Value(mem::replace(&mut memory[register as usize], value))
-        }
-    }
 }
 
 /// The place behind all that a process and those before it were told.
@@ -112,7 +93,7 @@ impl<A: Allocator + Copy> Stage<A> {
         let mut told = Vec::from_slice(alloc, self.told.as_slice())?;
         let number = next[usize::from(process)];
         next[usize::from(process)] = number + 1;
-        let answer = apply(&mut memory, op);
+        let answer = op.apply_to(&mut memory);
         tell(&mut told, OpId { process, number }, answer)?;
         Ok(Stage { next, memory, told })
     }
