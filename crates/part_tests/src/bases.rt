@@ -4,7 +4,6 @@ use reg_base::{
     Answer, Clock, ClockFull, Names, NamesFault, Op, OutOfMemory, Registers, Shape, ShapeFault,
 };
 use std::alloc::Global;
-use std::process::Abort;
 
 /// How many processes and registers are asked for, and why there is no such shape.
 const SHAPES: [(u32, u32, Option<ShapeFault>); 6] = [

@@ -2,7 +2,7 @@
 //! ends.
 #![tactic(auto)]
 
-ghost use Rattle.std.specs.Prelude.{◌≡◌, Bool, List, ℕ, None, Some, IfOk, false, map, option_map};
+ghost use Rattle.std.specs.Prelude.{◌≡◌, Bool, List, None, Some, IfOk, false};
 ghost use Rattle.std.specs.List.{list_any};
 ghost use Rattle.clap.specs.Words.{Text, app_of, subcommand_rows_of};
 ghost use Rattle.clap.specs.declared.builder.command.Command.TheViews.{out-Command as fields_of};

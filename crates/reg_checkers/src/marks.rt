@@ -1,6 +1,5 @@
 //! The passes that mark the operations of an order in the table.
-ghost use Rattle.std.specs.Prelude.{◌≡◌, ℕ, ◌<◌, ◌+◌, ◌↔◌, List, [], IsSome, IsTrue, IfOk, MatchBool, MatchOption, length, take, vec_len, slice_index, slice_set, ◌≤◌};
-ghost use Rattle.std.specs.List.{AllZip};
+ghost use Rattle.std.specs.Prelude.{◌≡◌, ℕ, ◌<◌, ◌+◌, ◌↔◌, List, [], IsSome, IsTrue, IfOk, MatchBool, MatchOption, vec_len, slice_index, slice_set, ◌≤◌};
 ghost use Rattle.reg_base.specs.declared.memory.OpId.{OpId};
 ghost use Rattle.reg_checkers.specs.History.{IsAt, IsFinished};
 ghost use Rattle.reg_checkers.specs.Orders.{IsDistinct, KeepsOwnOrder};

@@ -1,5 +1,5 @@
 //! Whether an entry is in place, by what is kept of its process.
-ghost use Rattle.std.specs.Prelude.{◌≡◌, ◌<◌, ◌↔◌, Some, IsTrue, length, slice_get, slice_index_or, slice_set};
+ghost use Rattle.std.specs.Prelude.{◌≡◌, ◌<◌, ◌↔◌, Some, IsTrue, length, slice_index_or, slice_set};
 ghost use Rattle.reg_checkers.specs.History.{event_of, IsHistory, MayCall, MayAnswer, IsInPlace};
 ghost use Rattle.reg_checkers.specs.Progress.{last_of, IsBehindLast, IsProgressOf, IsKept, IsNumbered, id_of as id_of_entry, progress_after};
 ghost use Rattle.reg_base.specs.declared.memory.Op.{Op};

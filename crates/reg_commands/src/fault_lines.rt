@@ -1,5 +1,5 @@
 //! The line of each fault on the error stream.
-ghost use Rattle.std.specs.Prelude.{◌≡◌, ◌++◌, codes, MatchResult};
+ghost use Rattle.std.specs.Prelude.{◌++◌, codes, MatchResult};
 ghost use Rattle.std.specs.Fmt.{decimal};
 ghost use Rattle.std.specs.Io.KnownBytes.{Appends};
 ghost use Rattle.reg_text.specs.Writing.{AppendsPart, Puts};

@@ -1,5 +1,4 @@
 //! The events of the data, each with its note.
-ghost use Rattle.std.specs.Prelude.{◌≡◌, ◌++◌};
 ghost use Rattle.reg_text.specs.Writing.{Puts};
 ghost use Rattle.reg_data.specs.Json.{lines_text};
 ghost use Rattle.reg_data.specs.Noted.{noted};

@@ -1,8 +1,7 @@
 //! The parts of a JSON text.
-ghost use Rattle.std.specs.Prelude.{◌≡◌, ◌++◌, ◌∷◌, [], ℕ, List, map, codes};
-ghost use Rattle.std.specs.Fmt.{decimal};
+ghost use Rattle.std.specs.Prelude.{◌++◌, ℕ, List};
 ghost use Rattle.reg_text.specs.Writing.{Puts};
-ghost use Rattle.reg_data.specs.Json.{comma_at, joined, lines_text, list_text, numbers_text, quoted};
+ghost use Rattle.reg_data.specs.Json.{comma_at, lines_text, list_text, numbers_text, quoted};
 
 use reg_base::Names;
 use reg_text::{Sink, put_number};

@@ -1,5 +1,5 @@
 //! The parts of the data: states, frames, events and operations.
-ghost use Rattle.std.specs.Prelude.{◌≡◌, Some, option_map};
+ghost use Rattle.std.specs.Prelude.{Some, option_map};
 ghost use Rattle.reg_text.specs.Writing.{Puts};
 ghost use Rattle.reg_data.specs.Json.{quoted};
 ghost use Rattle.reg_text.specs.Ops.{answer_text, op_text};

@@ -1,5 +1,4 @@
 //! The parts of the data that are numbers alone.
-ghost use Rattle.std.specs.Prelude.{◌≡◌};
 ghost use Rattle.reg_data.specs.Rows.{arrow_row, cast_row, first_row, id_row, point_row, read_row};
 
 use crate::json::{Part, put_numbers};

@@ -1,5 +1,5 @@
 //! Strings of JSON that hold any text.
-ghost use Rattle.std.specs.Prelude.{◌≡◌, ◌<◌, flat_map};
+ghost use Rattle.std.specs.Prelude.{◌≡◌, ◌<◌};
 ghost use Rattle.std.specs.Char.{digit_char};
 ghost use Rattle.std.specs.Char.Escape.{hex_digit_at};
 ghost use Rattle.reg_text.specs.Writing.{Puts};

@@ -1,5 +1,5 @@
 //! What is told of a run.
-ghost use Rattle.std.specs.Prelude.{◌≡◌, IfOk, option_map};
+ghost use Rattle.std.specs.Prelude.{IfOk, option_map};
 ghost use Rattle.reg_inputs.specs.Schedules.{Plan};
 ghost use Rattle.reg_data.specs.Data.{IsDataOf};
 

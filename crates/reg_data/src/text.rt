@@ -1,5 +1,5 @@
 //! The text of the data.
-ghost use Rattle.std.specs.Prelude.{◌≡◌, ◌++◌, MatchResult};
+ghost use Rattle.std.specs.Prelude.{◌++◌, MatchResult};
 ghost use Rattle.std.specs.Io.KnownBytes.{Appends};
 ghost use Rattle.reg_text.specs.Writing.{AppendsPart, Puts};
 ghost use Rattle.reg_data.specs.Data.{data_text, head_text, order_text, points_part, run_text};

@@ -1,5 +1,5 @@
 //! The columns of the line of an entry by their form, whatever the limits.
-ghost use Rattle.std.specs.Prelude.{◌≡◌, ◌≤◌, ◌++◌, ℕ, List, length, true, IfSome, IsSomeAnd};
+ghost use Rattle.std.specs.Prelude.{◌≡◌, ◌++◌, ℕ, List, length, true, IfSome, IsSomeAnd};
 ghost use Rattle.reg_text.specs.Columns.{to_left, to_right};
 ghost use Rattle.reg_text.specs.Forms.{is_numeral as is_numeral_of};
 ghost use Rattle.reg_history.specs.LineForms.{FitsColumn, HasColumns};

@@ -1,5 +1,5 @@
 //! Readers of the registers of a report.
-ghost use Rattle.std.specs.Prelude.{◌≡◌, ◌≢◌, ◌<◌, ◌≤◌, ◌+◌, ◌^◌, ◌⊎◌, ◌++◌, ℕ, List, length, true, None, Some, IfOk, IfErr, OnOk, IfNone, IfSome, MatchResult, MatchOption, string_bytes, codes, if◌then◌else◌};
+ghost use Rattle.std.specs.Prelude.{◌≡◌, ◌≢◌, ◌<◌, ◌≤◌, ◌+◌, ◌^◌, ◌⊎◌, ◌++◌, ℕ, List, length, true, None, Some, IfOk, IfErr, OnOk, IfNone, IfSome, MatchResult, MatchOption, string_bytes, if◌then◌else◌};
 ghost use Rattle.reg_base.specs.Names.{is_name as is_name_of, names_fault, texts};
 ghost use Rattle.reg_text.specs.Reading.{GoesOn, IsBlock};
 ghost use Rattle.reg_text.specs.Forms.{is_word as is_word_of};

@@ -1,5 +1,5 @@
 //! Reports, and their texts.
-ghost use Rattle.std.specs.Prelude.{◌≡◌, ◌↔◌, ◌⊎◌, ◌-◌, ◌^◌, ◌<◌, ◌≤◌, ℕ, length, Some, IfOk, IfErr, OnOk, MatchOption, MatchResult, IsTrue, option_map, slice_get, string_bytes};
+ghost use Rattle.std.specs.Prelude.{◌≡◌, ◌↔◌, ◌⊎◌, ◌-◌, ◌^◌, ◌<◌, ◌≤◌, ℕ, length, Some, IfOk, IfErr, MatchOption, MatchResult, IsTrue, option_map, slice_get, string_bytes};
 ghost use Rattle.std.specs.Io.KnownBytes.{Appends};
 ghost use Rattle.reg_text.specs.Writing.{AppendsPart, Puts};
 ghost use Rattle.reg_checkers.specs.declared.entries.Entry.{Entry};

@@ -1,5 +1,5 @@
 //! The numbers of a workload.
-ghost use Rattle.std.specs.Prelude.{◌≡◌, ◌<◌, ◌≤◌, ℕ, pos, None, Some, IfOk, MatchResult, option_map};
+ghost use Rattle.std.specs.Prelude.{◌≡◌, ◌<◌, ◌≤◌, pos, None, Some, IfOk, MatchResult};
 ghost use Rattle.toml.specs.Data.{get_member, integer};
 ghost use Rattle.toml.specs.View.{table_view, view};
 ghost use Rattle.reg_base.specs.declared.limits.TheConstants.{MOST_EVENTS, MOST_ODDS, LAST_SEED, USUAL_BUDGET};

@@ -1,5 +1,5 @@
 //! The text of a schedule.
-ghost use Rattle.std.specs.Prelude.{◌≡◌, ◌++◌, ◌∷◌, [], MatchResult, codes};
+ghost use Rattle.std.specs.Prelude.{◌++◌, ◌∷◌, [], MatchResult, codes};
 ghost use Rattle.std.specs.Fmt.{decimal};
 ghost use Rattle.std.specs.Io.KnownBytes.{Appends};
 ghost use Rattle.reg_front.specs.Table.{front_name};

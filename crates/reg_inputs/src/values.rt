@@ -1,5 +1,5 @@
 //! The values of a table.
-ghost use Rattle.std.specs.Prelude.{◌≡◌, ◌⊎◌, ◌<◌, ◌≤◌, ℕ, Option, List, None, Some, Ok, true, IsTrue, IfOk, MatchResult, map, length, option_map, nat_lt, nat_le, ◌&&◌};
+ghost use Rattle.std.specs.Prelude.{◌≡◌, ◌⊎◌, ◌<◌, ◌≤◌, Option, List, None, Some, Ok, true, IsTrue, IfOk, MatchResult, map, length, option_map, nat_lt, nat_le, ◌&&◌};
 ghost use Rattle.std.specs.List.{list_all};
 ghost use Rattle.toml.specs.Data.{Data, get_member, string, array};
 ghost use Rattle.toml.specs.View.{table_view, view, items_of};
@@ -12,7 +12,7 @@ ghost use Rattle.reg_inputs.specs.declared.keys.Key.TheVariants as key;
 ghost use Rattle.reg_inputs.specs.declared.faults.WorkloadFault.{WorkloadFault};
 ghost use Rattle.reg_inputs.specs.declared.faults.WorkloadFault.TheVariants.{OutOfMemory};
 ghost use Rattle.reg_inputs.specs.Loads.{texts_data};
-ghost use Rattle.reg_inputs.specs.Judged.{needed, front_fault, array_fault, is_text, text_of, registers_fault, scripts_fault, is_script as is_script_data, is_short as is_short_data, are_few as are_few_data, front_at, registers_at, scripts_at};
+ghost use Rattle.reg_inputs.specs.Judged.{needed, front_fault, array_fault, is_text, text_of, registers_fault, is_script as is_script_data, is_short as is_short_data, are_few as are_few_data, front_at, registers_at, scripts_at};
 
 use crate::faults::WorkloadFault;
 use crate::keys::{Key, is_key};

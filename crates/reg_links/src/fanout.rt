@@ -1,5 +1,5 @@
 //! The sending ends of all links of one process.
-ghost use Rattle.std.specs.Prelude.{◌≡◌, ℕ, ◌+◌, ◌-◌, ◌<◌, ◌≤◌, List, [], length, drop, replicate, None, IfOk, OnOk, OnErr, OkIff, MatchResult, slice_get, option_map};
+ghost use Rattle.std.specs.Prelude.{◌≡◌, ℕ, ◌+◌, ◌-◌, ◌<◌, ◌≤◌, [], length, drop, replicate, None, IfOk, OnOk, OnErr, OkIff, MatchResult, slice_get, option_map};
 ghost use Rattle.reg_links.specs.Link.{next_of, refusal_of};
 ghost use Rattle.reg_links.specs.Sending.{next_all, link_to, full_fault, IsQueued, IsCounted};
 ghost use Rattle.reg_links.specs.Bounds.{least_from};

@@ -1,5 +1,5 @@
 //! The sending end of a link.
-ghost use Rattle.std.specs.Prelude.{◌≡◌, ◌+◌, ◌≤◌, List, [], length, Some, None, Ok, MatchResult, OkIff, SomeIff, slice_get, is_ok, if◌then◌else◌, option_map};
+ghost use Rattle.std.specs.Prelude.{◌≡◌, ◌+◌, ◌≤◌, [], length, Some, None, Ok, MatchResult, OkIff, SomeIff, slice_get, is_ok, if◌then◌else◌, option_map};
 ghost use Rattle.reg_links.specs.Link.{next_of, with_queued, acknowledged, queue_fault, refusal_of};
 ghost use Rattle.reg_frames.specs.declared.bodies.Frame.TheVariants.{Numbered};
 

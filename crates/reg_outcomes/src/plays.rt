@@ -1,5 +1,5 @@
 //! Many plays of a workload, and what they told.
-ghost use Rattle.std.specs.Prelude.{◌≡◌, ◌≤◌, ◌<◌, ◌++◌, ◌∷◌, ◌-◌, ◌^◌, ◌%◌, ◌+◌, List, ℕ, [], true, IfOk, OnOk, length};
+ghost use Rattle.std.specs.Prelude.{◌≤◌, ◌<◌, ◌++◌, ◌∷◌, ◌-◌, ◌^◌, ◌+◌, List, [], IfOk, OnOk};
 ghost use Rattle.reg_outcomes.specs.Tables.{Seen};
 ghost use Rattle.reg_outcomes.specs.Counts.{HasRoom, IsCounted};
 ghost use Rattle.reg_outcomes.specs.Outcomes.{AreOutcomes, IsSeen};

@@ -1,5 +1,5 @@
 //! The event in which a process makes a step.
-ghost use Rattle.std.specs.Prelude.{◌≡◌, ◌<◌, ◌^◌, ◌↔◌, ℕ, length, false, MatchOption, IfOk, IsTrue};
+ghost use Rattle.std.specs.Prelude.{◌≡◌, ◌<◌, ◌↔◌, ℕ, length, false, MatchOption, IfOk, IsTrue};
 ghost use Rattle.reg_checkers.specs.History.{IsAt};
 ghost use Rattle.reg_world.specs.Worlds.{run_in};
 ghost use Rattle.reg_records.specs.Playing.{AreTwo, IsEventOf, NoEvent, frames_on};

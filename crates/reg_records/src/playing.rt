@@ -1,5 +1,5 @@
 //! A record played as a run.
-ghost use Rattle.std.specs.Prelude.{◌≡◌, ◌<◌, ◌≤◌, ◌+◌, ◌^◌, ℕ, length, map, slice_index, false, true, vec_len, MatchResult, IfOk, IsTrue, ◌↔◌};
+ghost use Rattle.std.specs.Prelude.{◌≡◌, ◌<◌, ◌+◌, length, map, false, true, MatchResult, IfOk, IsTrue, ◌↔◌};
 ghost use Rattle.reg_records.specs.Records.{IsFaithful};
 ghost use Rattle.reg_records.specs.Playing.{AreTallied, IsMade, IsTurn};
 ghost use Rattle.reg_records.specs.Receipts.{IsPlayFault};

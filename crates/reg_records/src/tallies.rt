@@ -1,5 +1,5 @@
 //! How often each process was mentioned.
-ghost use Rattle.std.specs.Prelude.{◌≡◌, ◌<◌, ◌≤◌, ◌+◌, ◌^◌, ℕ, length, slice_index, vec_len, IfOk, map, false, ◌↔◌, None};
+ghost use Rattle.std.specs.Prelude.{◌≡◌, ◌<◌, ◌+◌, ◌^◌, ℕ, length, slice_index, vec_len, IfOk, map, false, ◌↔◌};
 ghost use Rattle.reg_records.specs.Records.{NothingLeft, entry_of};
 ghost use Rattle.reg_records.specs.Playing.{AreTallied};
 

@@ -1,5 +1,5 @@
 //! Receipts against a history.
-ghost use Rattle.std.specs.Prelude.{◌≡◌, ◌≤◌, ◌+◌, ℕ, length, map, IsTrue, ◌↔◌, MatchOption, slice_get};
+ghost use Rattle.std.specs.Prelude.{◌≡◌, ◌≤◌, ◌+◌, length, map, IsTrue, ◌↔◌, MatchOption, slice_get};
 ghost use Rattle.reg_base.specs.declared.limits.TheConstants.{MOST_PROCESSES};
 ghost use Rattle.reg_checkers.specs.History.{IsAt, IsHistory};
 ghost use Rattle.reg_records.specs.Receipts.{AreFinished, AreTold, IsFirstUntold};

@@ -1,10 +1,9 @@
 //! Bringing a world to rest.
-ghost use Rattle.std.specs.Prelude.{ℕ, ◌≡◌, ◌≢◌, ◌+◌, ◌*◌, ◌<◌, ◌≤◌, true, None, Some, IfOk, OnOk, IfSome, MatchResult, MatchOption, length, min, slice_get};
+ghost use Rattle.std.specs.Prelude.{ℕ, ◌≡◌, ◌≢◌, ◌+◌, ◌*◌, ◌<◌, None, Some, IfOk, OnOk, IfSome, MatchResult, MatchOption, length, min};
 ghost use Rattle.reg_base.specs.declared.limits.TheConstants.{MOST_EVENTS, MOST_RESENT};
-ghost use Rattle.reg_process.specs.Process.{resent};
 ghost use Rattle.reg_world.specs.Laws.{AllAcknowledged};
 ghost use Rattle.reg_world.specs.World.{event_fault};
-ghost use Rattle.reg_world.specs.Worlds.{Accepts, run_in};
+ghost use Rattle.reg_world.specs.Worlds.{Accepts};
 ghost use Rattle.reg_process.specs.declared.events.Event.TheVariants.{Take, Tick};
 ghost use Rattle.reg_runs.specs.Rest.{Settles, Stops, put_for};
 ghost use Rattle.reg_runs.specs.RestParts.{nodes_in, link_in, pending_in, distance_in, IsGoingOn, Misses, Halts, IsAgain, Passes, Nears, IsPending};

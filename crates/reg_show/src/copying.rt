@@ -1,5 +1,5 @@
 //! A report with another order: its other parts are copied.
-ghost use Rattle.std.specs.Prelude.{◌≡◌, IfOk, option_map, string_bytes};
+ghost use Rattle.std.specs.Prelude.{◌≡◌, IfOk, option_map};
 ghost use Rattle.reg_base.specs.Names.{names_fault, texts};
 ghost use Rattle.reg_checkers.specs.Orders.{IsSerial};
 ghost use Rattle.reg_commands.specs.Replays.{PointsStand};

@@ -1,5 +1,5 @@
 //! The first line of an answer: what an accepted text is, and what is told of a refused one.
-ghost use Rattle.std.specs.Prelude.{◌≡◌, ◌++◌, IfOk, IfErr, false};
+ghost use Rattle.std.specs.Prelude.{◌≡◌, ◌++◌, IfOk};
 ghost use Rattle.reg_text.specs.Writing.{Puts};
 ghost use Rattle.reg_commands.specs.FaultLines.{fault_line};
 ghost use Rattle.reg_commands.specs.Verdicts.{verdicts_text};

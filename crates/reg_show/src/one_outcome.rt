@@ -8,7 +8,7 @@ ghost use Rattle.reg_interleavings.specs.Finishing.{HasRoom};
 ghost use Rattle.reg_interleavings.specs.Interleavings.{AreAll, IsInterleaving, IsWider};
 ghost use Rattle.reg_interleavings.specs.Showing.{IsRunOf};
 ghost use Rattle.reg_interleavings.specs.declared.outcomes.TheConstants.{MOST_STAGES};
-ghost use Rattle.reg_show.specs.OneOutcome.{BlamesOutcome, Lacks, SendsRun, ShowsOutcome, WritesOutcome, outcome_line};
+ghost use Rattle.reg_show.specs.OneOutcome.{BlamesOutcome, Lacks, SendsRun, WritesOutcome, outcome_line};
 ghost use Rattle.reg_show.specs.declared.one_outcome.OutcomeFault.{OutcomeFault as AnyFault};
 
 use crate::scheduling::{events_have_bits, send};

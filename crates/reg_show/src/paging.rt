@@ -1,5 +1,5 @@
 //! The commands that show the run of a schedule as data, and as a page that one steps through.
-ghost use Rattle.std.specs.Prelude.{◌≡◌, ◌≢◌, ◌≤◌, ◌++◌, ℕ, List, None, Option, IfOk, IfErr, IsErrOf, MatchResult, length};
+ghost use Rattle.std.specs.Prelude.{◌≡◌, ◌≢◌, ◌≤◌, ◌++◌, List, None, Option, IfOk, IfErr, IsErrOf, MatchResult, length};
 ghost use Rattle.std.specs.Io.KnownBytes.{Appends};
 ghost use Rattle.reg_text.specs.Writing.{AppendsPart};
 ghost use Rattle.reg_inputs.specs.Schedules.{IsPlan, Spells};

@@ -2,7 +2,6 @@
 ghost use Rattle.std.specs.Prelude.{◌≡◌, ◌≢◌, ◌⊎◌, IfOk, IfErr, IsErrOf};
 ghost use Rattle.std.specs.Io.KnownBytes.{Appends};
 ghost use Rattle.reg_text.specs.Writing.{AppendsPart};
-ghost use Rattle.reg_commands.specs.Replays.{start_of};
 ghost use Rattle.reg_inputs.specs.Schedules.{IsPlan};
 ghost use Rattle.reg_show.specs.Rests.{IsRested, WritesRest, RestsRun, BlamesRested, BlamesRest};
 

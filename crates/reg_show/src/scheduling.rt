@@ -1,15 +1,13 @@
 //! The command that prints the schedule of a play.
-ghost use Rattle.std.specs.Prelude.{◌≡◌, ◌≢◌, ◌⊎◌, ℕ, Bool, IfOk, IfErr, IsErrOf, MatchResult, Some, slice_get};
+ghost use Rattle.std.specs.Prelude.{◌≡◌, ◌≢◌, ◌⊎◌, ℕ, IfOk, IfErr, IsErrOf, MatchResult, Some, slice_get};
 ghost use Rattle.std.specs.Io.KnownBytes.{Appends};
 ghost use Rattle.reg_text.specs.Writing.{AppendsPart};
 ghost use Rattle.reg_process.specs.declared.events.Event.{Event};
-ghost use Rattle.reg_world.specs.Worlds.{Made};
 ghost use Rattle.reg_commands.specs.Answers.{Blames};
-ghost use Rattle.reg_commands.specs.Plays.{IsPlayBy, plan_of};
 ghost use Rattle.reg_commands.specs.Replays.{start_of};
 ghost use Rattle.reg_commands.specs.declared.command.Command.TheVariants.{Play};
 ghost use Rattle.reg_inputs.specs.Schedules.{Plan};
-ghost use Rattle.reg_inputs.specs.ScheduleText.{IsScheduleText, schedule_text};
+ghost use Rattle.reg_inputs.specs.ScheduleText.{schedule_text};
 ghost use Rattle.reg_show.specs.Schedules.{ShowsSchedule, WritesSchedule};
 ghost use Rattle.reg_show.specs.ToldRuns.{EventHasBits};
 

@@ -3,7 +3,7 @@ ghost use Rattle.std.specs.Prelude.{◌≡◌, None, IfOk, IfErr, option_map};
 ghost use Rattle.reg_commands.specs.Replays.{start_of, BlamesRun, PointsOf, ShowsPoints};
 ghost use Rattle.reg_show.specs.ToldRuns.{IsTold};
 
-use reg_commands::{Fault, Ran, read_schedule, run_events};
+use reg_commands::{Fault, Ran, run_events};
 use reg_front::{Front, FrontEnd, Linear, LocalRead, LocalWrite, RealTime};
 use reg_trace::{TracedRun, tell_world};
 use reg_workload::Schedule;

@@ -1,7 +1,7 @@
 //! What the words of a command line ask for: to show something, or to tell of the outcomes of a workload. The words of
 //! the second are read here, since they have a number, and so are those that stand alone: `why`, `verify` and
 //! `--version`. All others are read by `clap`.
-ghost use Rattle.std.specs.Prelude.{◌≡◌, ◌≤◌, ◌↔◌, ◌∷◌, [], ℕ, IfSome, MatchOption, Some, codes, length, map, true, slice_get, string_bytes};
+ghost use Rattle.std.specs.Prelude.{◌≡◌, ◌≤◌, ◌↔◌, ◌∷◌, [], ℕ, IfSome, MatchOption, Some, map, true, slice_get, string_bytes};
 ghost use Rattle.std.specs.Fmt.{decimal};
 ghost use Rattle.reg_args.specs.Lines.{behind_name};
 ghost use Rattle.reg_interleavings.specs.declared.kinds.OrderKind.{OrderKind as AnyKind};

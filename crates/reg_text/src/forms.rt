@@ -1,5 +1,5 @@
 //! What is wrong with a line that no reader took: whether it has its form, whatever the limits and the names.
-ghost use Rattle.std.specs.Prelude.{◌≡◌, ◌↔◌, ◌<◌, ◌≤◌, ◌^◌, ℕ, List, ◌∷◌, ◌++◌, ◌⊎◌, length, codes, IsTrue, IsSome, IfSome, Some, None, true, slice_get, if◌then◌else◌};
+ghost use Rattle.std.specs.Prelude.{◌≡◌, ◌↔◌, ◌<◌, ◌≤◌, ◌^◌, ℕ, List, ◌⊎◌, length, IsTrue, IsSome, IfSome, Some, None, slice_get, if◌then◌else◌};
 ghost use Rattle.std.specs.Fmt.{decimal};
 ghost use Rattle.std.specs.Char.{is_ascii_digit};
 ghost use Rattle.std.specs.List.{list_all};

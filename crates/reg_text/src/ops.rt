@@ -1,5 +1,5 @@
 //! Operations as text. A further kind of operation adds its case to each function here, and to `op_form`.
-ghost use Rattle.std.specs.Prelude.{◌≡◌, ◌<◌, ◌^◌, ℕ, ◌∷◌, ◌++◌, None, Some, IfSome, codes, length};
+ghost use Rattle.std.specs.Prelude.{◌≡◌, ◌<◌, ◌^◌, ℕ, ◌∷◌, ◌++◌, None, Some, IfSome, length};
 ghost use Rattle.std.specs.Fmt.{decimal};
 ghost use Rattle.reg_base.specs.Names.{names_fault};
 ghost use Rattle.reg_base.specs.declared.memory.Op.{Op};

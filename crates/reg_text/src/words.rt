@@ -1,5 +1,5 @@
 //! The names of a line.
-ghost use Rattle.std.specs.Prelude.{◌≡◌, ◌<◌, ◌≤◌, ℕ, List, [], ◌∷◌, ◌⊎◌, ◌++◌, Ok, Err, None, Some, IfOk, IfErr, IfSome, IsSomeAnd, OnOk, MatchResult, codes, length, true};
+ghost use Rattle.std.specs.Prelude.{◌≡◌, ◌<◌, ◌≤◌, ℕ, List, [], ◌∷◌, ◌⊎◌, ◌++◌, Ok, Err, None, Some, IfOk, IfErr, IfSome, IsSomeAnd, MatchResult, codes, length, true};
 ghost use Rattle.reg_base.specs.Names.{names_fault, texts};
 ghost use Rattle.std.specs.List.{list_all};
 ghost use Rattle.reg_text.specs.declared.faults.Why.{Why as AnyWhy};

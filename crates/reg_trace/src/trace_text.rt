@@ -1,11 +1,10 @@
 //! What happens in a run, event by event, as text.
-ghost use Rattle.std.specs.Prelude.{◌≡◌, ◌++◌, ◌∷◌, [], MatchResult, Option, ℕ, cond, codes, flat_map, map, None, Some};
+ghost use Rattle.std.specs.Prelude.{◌≡◌, ◌++◌, ◌∷◌, [], MatchResult, Option, cond, codes, flat_map, None, Some};
 ghost use Rattle.reg_base.specs.Memory.{updates};
 ghost use Rattle.std.specs.Fmt.{decimal};
 ghost use Rattle.std.specs.Io.KnownBytes.{Appends};
 ghost use Rattle.reg_text.specs.Lines.{text_of, lines_by};
 ghost use Rattle.reg_text.specs.Writing.{AppendsPart, Puts};
-ghost use Rattle.reg_text.specs.Ops.{answer_text};
 ghost use Rattle.reg_inputs.specs.Schedules.{event_text};
 ghost use Rattle.reg_trace.specs.Traces.{answers_lines, body_text, cast_text, copy_lines, delivers_line, delivers_lines, drops_lines, holds_line, value_behind, frame_text, moment_lines, puts_line, stamp_text, taken_lines, takes_lines, trace_text};
 

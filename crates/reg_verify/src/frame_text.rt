@@ -1,5 +1,5 @@
 //! Frames as text: their bytes in hexadecimal.
-ghost use Rattle.std.specs.Prelude.{◌≡◌, ◌≤◌, ◌↔◌, ◌*◌, ℕ, Some, IfSome, IsTrue, length};
+ghost use Rattle.std.specs.Prelude.{◌≡◌, ◌≤◌, ◌↔◌, ◌*◌, Some, IfSome, IsTrue, length};
 ghost use Rattle.hex.specs.Hex.{encode_lower};
 ghost use Rattle.reg_frames.specs.declared.bodies.Frame.{Frame as AnyFrame};
 ghost use Rattle.reg_frames.specs.Spelling.{Fits, spelling};

@@ -15,7 +15,7 @@ use crate::faults::VerifyFault;
 use crate::logs::{logs_of, order_of};
 use crate::record_text::{Record, RecordFault, parse_record};
 use crate::recorded::Recorded;
-use reg_base::{Names, Shape};
+use reg_base::Shape;
 use reg_commands::{Fault, read_input, report_run, report_run_with_points, write_fault, write_out};
 use reg_front::{Front, FrontEnd, Linear, LocalRead, LocalWrite, RealTime};
 use reg_history::{ReadWhy, Report};

@@ -1,6 +1,6 @@
 //! What can happen next in a seeded play. Between turns it is kept for each process, and a turn lists anew only the
 //! processes that its choice touched: so a turn costs as many looks as there are processes, and not their square.
-ghost use Rattle.std.specs.Prelude.{◌≡◌, ◌<◌, ◌≤◌, ◌+◌, ◌++◌, ℕ, [], Some, false, length, cond, IfOk, OnOk, MatchResult, slice_get, slice_index_or};
+ghost use Rattle.std.specs.Prelude.{◌≡◌, ◌<◌, ◌≤◌, ◌+◌, ◌++◌, ℕ, Some, false, length, cond, IfOk, OnOk, MatchResult, slice_get, slice_index_or};
 ghost use Rattle.reg_base.specs.declared.limits.TheConstants.{MOST_PROCESSES};
 ghost use Rattle.reg_workload.specs.Listed.{no_listing, IsListed, AreListed, Touches, IsWithin};
 ghost use Rattle.reg_workload.specs.Seeded.{call_choices, take_choices_from, take_choices, tick_choices, choices_of};

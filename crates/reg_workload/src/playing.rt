@@ -1,12 +1,12 @@
 //! A world in which each process calls the operations of its script.
-ghost use Rattle.std.specs.Prelude.{◌≡◌, ◌<◌, ◌≤◌, ◌↔◌, ◌⊎◌, ◌+◌, ℕ, [], length, replicate, map, true, false, Some, None, IfOk, OnOk, IfSome, IsTrue};
+ghost use Rattle.std.specs.Prelude.{◌≡◌, ◌<◌, ◌≤◌, ◌↔◌, ◌⊎◌, ◌+◌, ℕ, [], length, map, true, false, Some, None, IfOk, OnOk, IfSome};
 ghost use Rattle.reg_base.specs.Shape.{Extent};
 ghost use Rattle.reg_process.specs.Process.{pending_of};
 ghost use Rattle.reg_base.specs.declared.limits.TheConstants.{MOST_PROCESSES, MOST_EVENTS};
 ghost use Rattle.reg_world.specs.Worlds.{Accepts, new_world, refusal, run_in};
 ghost use Rattle.reg_process.specs.declared.events.Event.TheVariants.{Call, Take, Tick};
 ghost use Rattle.reg_base.specs.declared.memory.Op.{Op};
-ghost use Rattle.reg_workload.specs.Plays.{script_of, next_at, cursor_at, call_at, IsDone, IsFinished, IsPlay, Playing, new_play, may_call, next_frame, next_op, makes, calls_next, passes};
+ghost use Rattle.reg_workload.specs.Plays.{script_of, next_at, cursor_at, call_at, IsDone, IsFinished, IsPlay, Playing, new_play, may_call, next_frame, makes, calls_next, passes};
 ghost use Rattle.reg_workload.specs.PlayParts.{IsReadyToCall, ArePlayable};
 ghost use Rattle.reg_workload.specs.FairParts.{IsBehind, Leaves, AtRest};
 

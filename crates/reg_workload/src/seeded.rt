@@ -1,10 +1,10 @@
 //! The seeded player.
-ghost use Rattle.std.specs.Prelude.{◌≡◌, ◌≤◌, ◌<◌, ◌+◌, ℕ, [], length, false, true, None, Some, slice_get, OnOk, IfOk, IfSome, map};
+ghost use Rattle.std.specs.Prelude.{◌≡◌, ◌≤◌, ◌<◌, ◌+◌, ℕ, [], length, false, true, Some, OnOk, IfOk, map};
 ghost use Rattle.reg_base.specs.declared.limits.TheConstants.{MOST_EVENTS};
 ghost use Rattle.reg_workload.specs.Plays.{IsPlay, cursor_at, next_frame};
 ghost use Rattle.reg_workload.specs.Listed.{AreListed};
-ghost use Rattle.reg_workload.specs.PlayParts.{GoesOn, Turns, AllStill, IsChoice, AreChoices, ArePlayable};
-ghost use Rattle.reg_workload.specs.Seeded.{picked, takes_or_loses, chooses, choices_of, turn, turns, seeded_play};
+ghost use Rattle.reg_workload.specs.PlayParts.{GoesOn, Turns, AllStill, IsChoice, ArePlayable};
+ghost use Rattle.reg_workload.specs.Seeded.{takes_or_loses, chooses, choices_of, turn, turns, seeded_play};
 ghost use Rattle.reg_base.specs.Words.{says};
 
 use crate::choices::{Chance, Choice, count, list_again, list_all, nth};

@@ -1,6 +1,5 @@
 //! What a world tells of its run.
 ghost use Rattle.std.specs.Prelude.{◌≡◌, ◌<◌, ◌≤◌, ◌+◌, ◌-◌, not, ◌++◌, ◌∷◌, [], if◌then◌else◌, ℕ, length, replicate, IfOk, OnOk, MatchResult, MatchResult, vec_len, vec_capacity, slice_get};
-ghost use Rattle.std.specs.List.{filter};
 ghost use Rattle.reg_base.specs.declared.stamps.Delivered.{Delivered};
 ghost use Rattle.reg_base.specs.Order.{In};
 ghost use Rattle.reg_checkers.specs.History.{IsAt, IsHistory};

@@ -1,6 +1,6 @@
 //! Laws of all runs, for every list of events and every lawful front end. Each is a function that does nothing: its
 //! contract is the law.
-ghost use Rattle.std.specs.Prelude.{ℕ, is_some, not, ◌≡◌, ◌<◌, ◌≤◌, ◌^◌, ◌++◌, List, [], ◌∷◌, length};
+ghost use Rattle.std.specs.Prelude.{ℕ, is_some, not, ◌≡◌, ◌≤◌, ◌++◌, List, [], ◌∷◌, length};
 ghost use Rattle.reg_base.specs.declared.limits.TheConstants.{MOST_EVENTS};
 ghost use Rattle.reg_base.specs.declared.memory.Op.{Op};
 ghost use Rattle.reg_base.specs.declared.memory.Op.TheVariants.{Read, Swap};

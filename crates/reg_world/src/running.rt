@@ -1,5 +1,5 @@
 //! All processes and wires of a run, one event after another.
-ghost use Rattle.std.specs.Prelude.{◌≡◌, ◌<◌, ◌≤◌, ◌⊎◌, ◌++◌, ◌∷◌, List, false, length, take, drop, Option, Some, IfOk, OnOk, [], MatchOption, MatchResult};
+ghost use Rattle.std.specs.Prelude.{◌≡◌, ◌<◌, ◌≤◌, ◌++◌, ◌∷◌, List, false, length, take, drop, Option, Some, IfOk, OnOk, [], MatchOption, MatchResult};
 ghost use Rattle.reg_checkers.specs.History.{IsHistory};
 ghost use Rattle.reg_checkers.specs.Orders.{IsSerial, IsPointOrder};
 ghost use Rattle.reg_process.specs.declared.steps.Reply.{Reply};

@@ -4,7 +4,7 @@ ghost use Rattle.std.specs.List.{filter};
 ghost use Rattle.reg_base.specs.declared.limits.TheConstants.{MOST_PROCESSES};
 ghost use Rattle.reg_world.specs.Witnesses.{is_kept as is_kept_of, point_of, ranked_read, IsSortedFrom, is_after as is_after_of, lost_of, lost_from, last_stamp as last_stamp_of, upto, later, ids_of, merge, IsMerged};
 
-use crate::callers::{Caller, Note, is_done};
+use crate::callers::{Caller, is_done};
 use crate::order::{CopyRead, First};
 use reg_base::{OpId, Stamp};
 use reg_checkers::Point;

@@ -4,7 +4,6 @@ use crate::live::pacing::length_of;
 use crate::values::write;
 use reg_front::LocalWrite;
 use reg_live::{NoGate, Pacer, Parcel, Parts, Pass, Posts, Road};
-use std::alloc::Global;
 use std::process::Abort;
 use std::sync::atomic::{AtomicBool, AtomicU64, Ordering};
 use std::sync::{Arc, Wait};

@@ -1,5 +1,5 @@
 //! Delivery: one clear cast after another.
-ghost use Rattle.std.specs.Prelude.{◌≡◌, ◌≢◌, ◌<◌, ◌+◌, ◌^◌, [], length, MatchOption, IfOk, IfErr, Some, None, if◌then◌else◌};
+ghost use Rattle.std.specs.Prelude.{◌≡◌, ◌≢◌, ◌<◌, ◌+◌, ◌^◌, [], length, MatchOption, IfOk, IfErr, Some, None};
 ghost use Rattle.reg_base.specs.Memory.{after, register_of};
 ghost use Rattle.reg_process.specs.Process.{still, clear_casts};
 ghost use Rattle.reg_process.specs.Delivery.{reply_by};
