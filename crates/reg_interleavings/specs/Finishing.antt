@@ -7,8 +7,8 @@ use Rattle.reg_front.specs.declared.starts.Start.{Start}
 use Rattle.reg_process.specs.declared.events.Event.{Event}
 use Rattle.reg_world.specs.World.{whole}
 use Rattle.reg_workload.specs.Plays.{calls_of}
-use Rattle.reg_outcomes.specs.declared.outcomes.ToldValue.{ToldValue}
-use Rattle.reg_outcomes.specs.Told.{outcome_of}
+use Rattle.reg_interleavings.specs.declared.told.ToldValue.{ToldValue}
+use Rattle.reg_interleavings.specs.Told.{outcome_of}
 use Rattle.reg_checkers.specs.History.{IsAt}
 use Rattle.reg_interleavings.specs.Interleavings.{Interleaving, script_of}
 

@@ -4,7 +4,7 @@ ghost use Rattle.std.specs.Prelude.{ℕ, List};
 ghost use Rattle.reg_base.specs.declared.memory.Op.{Op};
 ghost use Rattle.reg_front.specs.declared.starts.Start.{Start};
 ghost use Rattle.reg_front.specs.Fronts.{KeepsLaws};
-ghost use Rattle.reg_outcomes.specs.declared.outcomes.ToldValue.{ToldValue as AnyValue};
+ghost use Rattle.reg_interleavings.specs.declared.told.ToldValue.{ToldValue as AnyValue};
 ghost use Rattle.reg_interleavings.specs.Finishing.{HasRoom, HaveAllOutcomes, IsOutcome};
 ghost use Rattle.reg_interleavings.specs.Interleavings.{AreAll, ArePlayable, Interleaving, IsInterleaving};
 

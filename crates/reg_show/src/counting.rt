@@ -1,23 +1,35 @@
 //! The command that plays a workload many times and prints the table of what the plays told.
-ghost use Rattle.std.specs.Prelude.{◌≡◌, ◌≢◌, ◌≤◌, ◌⊎◌, IfOk, IfErr, IfSome, IsErrOf, MatchResult, OnOk, false, length};
+ghost use Rattle.std.specs.Prelude.{◌≡◌, ◌≢◌, ◌≤◌, ◌⊎◌, IfOk, IfErr, IfSome, IsErrOf, MatchResult, OnOk, length};
 ghost use Rattle.std.specs.Io.KnownBytes.{Appends};
 ghost use Rattle.reg_base.specs.declared.limits.TheConstants.{LONGEST_INPUT};
 ghost use Rattle.reg_text.specs.Writing.{AppendsPart};
-ghost use Rattle.reg_commands.specs.Answers.{Blames};
 ghost use Rattle.reg_commands.specs.Replays.{start_of};
-ghost use Rattle.reg_commands.specs.declared.command.Command.TheVariants.{Play};
-ghost use Rattle.reg_commands.specs.FaultLines.{fault_line};
-ghost use Rattle.reg_commands.specs.declared.faults.Fault.{Fault as AnyFault};
 ghost use Rattle.reg_outcomes.specs.declared.plays.TheConstants.{MOST_PLAYS};
 ghost use Rattle.reg_outcomes.specs.TableText.{table_text};
-ghost use Rattle.reg_show.specs.Outcomes.{ShowsOutcomes, WritesOutcomes};
+ghost use Rattle.reg_show.specs.Outcomes.{BlamesCount, ShowsOutcomes, StopsPlays, WritesOutcomes, count_line};
+ghost use Rattle.reg_show.specs.declared.counting.CountFault.{CountFault as AnyFault};
 
 use reg_commands::{Fault, read_input, read_workload, write_fault};
 use reg_front::{Front, FrontEnd, Linear, LocalRead, LocalWrite};
+use reg_interleavings::InterleavingFault;
 use reg_outcomes::{Outcomes, play_many, write_table};
+use reg_text::{Unwritten, write_bytes};
 use reg_workload::Workload;
 use std::alloc::{Allocator, Global};
 use std::io::{Read, Write};
+use thiserror::Error;
+
+/// Why no table of plays is written. As text, the line of it on standard error.
+#[derive(Clone, Copy, Debug, PartialEq, Eq, Error)]
+pub enum CountFault {
+    /// The input is refused, the output failed, or there was no memory.
+    #[error("{fault}")]
+    Command { fault: Fault },
+    /// Whether a play is linearizable was not found: some number of its operations, placed in search of a point order,
+    /// leads to more stages than the most.
+    #[error("too many stages")]
+    TooManyStages,
+}
 
 /// Writes the text of a table, to the last byte.
 fn send<A: Allocator + Copy, W: Write>(
@@ -25,10 +37,9 @@ fn send<A: Allocator + Copy, W: Write>(
     plays: u32,
     outcomes: &Outcomes<A>,
 ) -> Result<(), Fault>
-    ensures { MatchResult result (λ _. Appends (W.contents writer.old) (W.contents writer.new) (table_text plays outcomes.now.rows.items outcomes.now.unfinished)) (λ f. (f ≡ Fault.Output) × AppendsPart (W.contents writer.old) (W.contents writer.new) (table_text plays outcomes.now.rows.items outcomes.now.unfinished)) }
+    ensures { MatchResult result (λ _. Appends (W.contents writer.old) (W.contents writer.new) (table_text plays outcomes.now.rows.items outcomes.now.unfinished outcomes.now.undrawn)) (λ f. (f ≡ Fault.Output) × AppendsPart (W.contents writer.old) (W.contents writer.new) (table_text plays outcomes.now.rows.items outcomes.now.unfinished outcomes.now.undrawn)) }
 {
-    let rows = outcomes.rows.as_slice();
-    if write_table(writer, plays, rows, outcomes.unfinished).is_err() || writer.flush().is_err() {
+    if write_table(writer, plays, outcomes).is_err() || writer.flush().is_err() {
         return Err(Fault::Output);
     }
     Ok(())
@@ -40,18 +51,26 @@ fn write_plays<F: FrontEnd, A: Allocator + Copy, W: Write>(
     work: &Workload<A>,
     plays: u32,
     writer: &mut W,
-) -> Result<(), Fault>
+) -> Result<(), CountFault>
     requires { plays ≤ MOST_PLAYS }
     ensures ok { IfOk result (λ _. ShowsOutcomes plays F.start (Appends (W.contents writer.old) (W.contents writer.new)) work.now) }
-    ensures why { IfErr result (λ f. (f ≡ Fault.Output) ⊎ (f ≡ Fault.OutOfMemory)) }
-    ensures silent { IfErr result (λ f. f ≢ Fault.Output → writer.new ≡ writer.old) }
-    ensures part { IsErrOf result Fault.Output → ShowsOutcomes plays F.start (AppendsPart (W.contents writer.old) (W.contents writer.new)) work.now }
+    ensures why { IfErr result (StopsPlays plays F.start work.now) }
+    ensures silent { IfErr result (λ f. f ≢ CountFault.Command Fault.Output → writer.new ≡ writer.old) }
+    ensures part { IsErrOf result (CountFault.Command Fault.Output) → ShowsOutcomes plays F.start (AppendsPart (W.contents writer.old) (W.contents writer.new)) work.now }
 {
-    let Ok(outcomes) = play_many::<F, A>(alloc, work, plays) else {
-        return Err(Fault::OutOfMemory);
+    let outcomes = match play_many::<F, A>(alloc, work, plays) {
+        Ok(outcomes) => outcomes,
+        Err(InterleavingFault::TooManyStages) => return Err(CountFault::TooManyStages),
+        Err(InterleavingFault::OutOfMemory) => {
+            return Err(CountFault::Command {
+                fault: Fault::OutOfMemory,
+            });
+        }
     };
-    send(writer, plays, &outcomes)?;
-    Ok(())
+    match send(writer, plays, &outcomes) {
+        Ok(()) => Ok(()),
+        Err(fault) => Err(CountFault::Command { fault }),
+    }
 }
 
 /// Plays a workload under its front end, and writes the table of its plays.
@@ -60,12 +79,12 @@ fn write_outcomes<A: Allocator + Copy, W: Write>(
     work: &Workload<A>,
     plays: u32,
     writer: &mut W,
-) -> Result<(), Fault>
+) -> Result<(), CountFault>
     requires { plays ≤ MOST_PLAYS }
     ensures ok { IfOk result (λ _. ShowsOutcomes plays (start_of work.now.front) (Appends (W.contents writer.old) (W.contents writer.new)) work.now) }
-    ensures why { IfErr result (λ f. (f ≡ Fault.Output) ⊎ (f ≡ Fault.OutOfMemory)) }
-    ensures silent { IfErr result (λ f. f ≢ Fault.Output → writer.new ≡ writer.old) }
-    ensures part { IsErrOf result Fault.Output → ShowsOutcomes plays (start_of work.now.front) (AppendsPart (W.contents writer.old) (W.contents writer.new)) work.now }
+    ensures why { IfErr result (StopsPlays plays (start_of work.now.front) work.now) }
+    ensures silent { IfErr result (λ f. f ≢ CountFault.Command Fault.Output → writer.new ≡ writer.old) }
+    ensures part { IsErrOf result (CountFault.Command Fault.Output) → ShowsOutcomes plays (start_of work.now.front) (AppendsPart (W.contents writer.old) (W.contents writer.new)) work.now }
 {
     match work.front {
         Front::Linear => write_plays::<Linear, A, W>(alloc, work, plays, writer),
@@ -81,15 +100,17 @@ fn outcomes<A: Allocator + Copy, W: Write>(
     text: &str,
     plays: u32,
     writer: &mut W,
-) -> Result<(), Fault>
+) -> Result<(), CountFault>
     requires { plays ≤ MOST_PLAYS }
     ensures ok { IfOk result (λ _. WritesOutcomes plays (Appends (W.contents writer.old) (W.contents writer.new)) text.now) }
-    ensures why { IfErr result (λ f. Blames (Play false) f text.now) }
-    ensures silent { IfErr result (λ f. f ≢ Fault.Output → writer.new ≡ writer.old) }
-    ensures part { IsErrOf result Fault.Output → WritesOutcomes plays (AppendsPart (W.contents writer.old) (W.contents writer.new)) text.now }
+    ensures why { IfErr result (λ f. BlamesCount plays f text.now) }
+    ensures silent { IfErr result (λ f. f ≢ CountFault.Command Fault.Output → writer.new ≡ writer.old) }
+    ensures part { IsErrOf result (CountFault.Command Fault.Output) → WritesOutcomes plays (AppendsPart (W.contents writer.old) (W.contents writer.new)) text.now }
 {
-    let work = read_workload(alloc, global, text)?;
-    write_outcomes(alloc, &work, plays, writer)
+    match read_workload(alloc, global, text) {
+        Ok(work) => write_outcomes(alloc, &work, plays, writer),
+        Err(fault) => Err(CountFault::Command { fault }),
+    }
 }
 
 fn obey<A: Allocator + Copy, R: Read, W: Write>(
@@ -98,16 +119,28 @@ fn obey<A: Allocator + Copy, R: Read, W: Write>(
     plays: u32,
     reader: &mut R,
     writer: &mut W,
-) -> Result<(), Fault>
+) -> Result<(), CountFault>
     requires { plays ≤ MOST_PLAYS }
     ensures ok { IfOk result (λ _. IfSome (R.remaining reader.old) (WritesOutcomes plays (Appends (W.contents writer.old) (W.contents writer.new)))) }
     ensures within { OnOk result (IfSome (R.remaining reader.old) (λ xs. length xs ≤ LONGEST_INPUT)) }
-    ensures why { IfErr result (λ f. IfSome (R.remaining reader.old) (Blames (Play false) f)) }
-    ensures silent { IfErr result (λ f. f ≢ Fault.Output → writer.new ≡ writer.old) }
-    ensures part { IsErrOf result Fault.Output → IfSome (R.remaining reader.old) (WritesOutcomes plays (AppendsPart (W.contents writer.old) (W.contents writer.new))) }
+    ensures why { IfErr result (λ f. IfSome (R.remaining reader.old) (BlamesCount plays f)) }
+    ensures silent { IfErr result (λ f. f ≢ CountFault.Command Fault.Output → writer.new ≡ writer.old) }
+    ensures part { IsErrOf result (CountFault.Command Fault.Output) → IfSome (R.remaining reader.old) (WritesOutcomes plays (AppendsPart (W.contents writer.old) (W.contents writer.new))) }
 {
-    let text = read_input(alloc, reader)?;
-    outcomes(alloc, global, text.as_str(), plays, writer)
+    match read_input(alloc, reader) {
+        Ok(text) => outcomes(alloc, global, text.as_str(), plays, writer),
+        Err(fault) => Err(CountFault::Command { fault }),
+    }
+}
+
+/// Writes the line of a fault, all of it or, where the writer fails, a first part.
+fn write_count_fault<W: Write>(errors: &mut W, fault: CountFault) -> Result<(), Unwritten>
+    ensures { MatchResult result (λ _. Appends (W.contents errors.old) (W.contents errors.new) (count_line fault)) (λ _. AppendsPart (W.contents errors.old) (W.contents errors.new) (count_line fault)) }
+{
+    match fault {
+        CountFault::Command { fault } => write_fault(errors, fault),
+        CountFault::TooManyStages => write_bytes(errors, b"too many stages\n"),
+    }
 }
 
 /// Plays the workload that the text on the reader says so many times, and writes the table of what the plays told: it
@@ -127,15 +160,15 @@ pub fn show_outcomes<A: Allocator + Copy, R: Read, W: Write, E: Write>(
     ensures range { result ≤ 1 }
     ensures within { result ≡ 0 → IfSome (R.remaining reader.old) (λ xs. length xs ≤ LONGEST_INPUT) }
     ensures shown { result ≡ 0 → IfSome (R.remaining reader.old) (WritesOutcomes plays (Appends (W.contents writer.old) (W.contents writer.new))) }
-    ensures refused { result ≡ 1 → (f : AnyFault) × IfSome (R.remaining reader.old) (Blames (Play false) f) × (f ≢ Fault.Output → writer.new ≡ writer.old)
-        × (f ≡ Fault.Output → IfSome (R.remaining reader.old) (WritesOutcomes plays (AppendsPart (W.contents writer.old) (W.contents writer.new))))
-        × AppendsPart (E.contents errors.old) (E.contents errors.new) (fault_line f) }
+    ensures refused { result ≡ 1 → (f : AnyFault) × IfSome (R.remaining reader.old) (BlamesCount plays f) × (f ≢ CountFault.Command Fault.Output → writer.new ≡ writer.old)
+        × (f ≡ CountFault.Command Fault.Output → IfSome (R.remaining reader.old) (WritesOutcomes plays (AppendsPart (W.contents writer.old) (W.contents writer.new))))
+        × AppendsPart (E.contents errors.old) (E.contents errors.new) (count_line f) }
     ensures quiet { result ≡ 0 → errors.new ≡ errors.old }
 {
     match obey(alloc, global, plays, reader, writer) {
         Ok(()) => 0,
         Err(fault) => {
-            let _ = write_fault(errors, fault);
+            let _ = write_count_fault(errors, fault);
             1
         }
     }

@@ -18,7 +18,7 @@ mod showing;
 mod telling;
 
 pub use asking::why_text;
-pub use counting::show_outcomes;
+pub use counting::{CountFault, show_outcomes};
 pub use one_outcome::{OutcomeFault, show_outcome};
 pub use reg_outcomes::MOST_PLAYS;
 pub use running::show_text;
