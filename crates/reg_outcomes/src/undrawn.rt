@@ -1,5 +1,6 @@
 //! How many outcomes no play had.
-ghost use Rattle.std.specs.Prelude.{◌≡◌, ℕ, List, IfOk, IfErr};
+ghost use Rattle.std.specs.Prelude.{◌≡◌, ◌++◌, ◌∷◌, [], ◌+◌, ◌-◌, ◌^◌, ◌<◌, ◌≤◌, ℕ, List, IfOk, IfErr};
+ghost use Rattle.reg_interleavings.specs.Interleavings.{Interleaving};
 ghost use Rattle.reg_interleavings.specs.declared.faults.InterleavingFault.TheVariants.{OutOfMemory};
 ghost use Rattle.reg_outcomes.specs.Tables.{Seen};
 ghost use Rattle.reg_outcomes.specs.Counts.{IsCounted};
@@ -14,6 +15,23 @@ use std::collections::BTreeMap;
 /// The most stages of a workload's scripts where the outcomes that no play had are counted.
 pub const MOST_COUNTED_STAGES: u32 = 10_000;
 
+/// How many of some outcomes and this one no play had.
+fn undrawn_with<A: Allocator + Copy>(
+    told: &BTreeMap<Vec<ToldValue, A>, Tally, A>,
+    outcome: &Outcome<A>,
+    undrawn: usize,
+) -> usize
+    requires { undrawn < 2 ^ 64 - 1 }
+    ensures counted { (plays : List Seen) (unfinished : ℕ) (others : List Interleaving) → IsCounted (λ v. v.items) plays told.now unfinished → CountsUndrawn plays others undrawn → CountsUndrawn plays (others ++ outcome.now ∷ []) result }
+    ensures one { result ≤ undrawn + 1 }
+{
+    if told.contains_key(&outcome.told) {
+        undrawn
+    } else {
+        undrawn + 1
+    }
+}
+
 /// How many of these outcomes no play had.
 fn undrawn_of<A: Allocator + Copy>(
     told: &BTreeMap<Vec<ToldValue, A>, Tally, A>,
@@ -23,9 +41,7 @@ fn undrawn_of<A: Allocator + Copy>(
 {
     let mut undrawn = 0;
     for outcome in outcomes {
-        if !told.contains_key(&outcome.told) {
-            undrawn += 1;
-        }
+        undrawn = undrawn_with(told, outcome, undrawn);
     }
     undrawn
 }
