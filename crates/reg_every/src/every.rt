@@ -12,10 +12,9 @@ ghost use Rattle.reg_every.specs.declared.every.AllFault.{AllFault as AnyFault};
 
 use reg_commands::{Fault, read_input, read_workload, write_fault};
 use reg_interleavings::{
-    AllOutcomes, InterleavingFault, MOST_STAGES, all_outcomes, count_operations, nevers_of,
-    write_all,
+    AllOutcomes, InterleavingFault, MOST_STAGES, ToldValue, all_outcomes, count_operations,
+    nevers_of, write_all,
 };
-use reg_outcomes::ToldValue;
 use reg_text::{Unwritten, write_bytes};
 use reg_workload::Workload;
 use std::alloc::{Allocator, Global};

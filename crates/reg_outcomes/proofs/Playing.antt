@@ -1,5 +1,5 @@
 -- What is known of the plays so far.
-use Rattle.std.proofs.Common.{◌≡◌, ◌↔◌, inl, inr, ℕ, ◌+◌, ◌<◌, Bool, true, false, List, [], ◌∷◌, ◌++◌, length, Result, Ok, Err, refl, ap, ap₂, sym, ◌∙◌, subst, arith, length-append}
+use Rattle.std.proofs.Common.{◌≡◌, ◌↔◌, inl, inr, ℕ, ◌+◌, ◌<◌, Bool, true, false, List, [], ◌∷◌, ◌++◌, length, None, Result, Ok, Err, refl, ap, ap₂, sym, ◌∙◌, subst, arith, length-append}
 use Rattle.std.specs.Prelude.{OnOk, ◌^◌, ◌-◌}
 use Rattle.std.specs.BTreeMap.{BTreeMap}
 use Rattle.std.proofs.lemmas.Bool.{cases_eq, false≢true}
@@ -9,6 +9,7 @@ use Rattle.rand_pcg.specs.Pcg.{pcg32, pcg32_of_seed}
 use Rattle.reg_base.specs.Shape.{Extent}
 use Rattle.reg_base.specs.declared.memory.Op.{Op}
 use Rattle.reg_front.specs.declared.starts.Start.{Start}
+use Rattle.reg_front.specs.Fronts.{KeepsLaws}
 use Rattle.reg_checkers.specs.declared.entries.Entry.{Entry}
 use Rattle.reg_checkers.specs.History.{IsAt}
 use Rattle.reg_checkers.proofs.Places.{get_push_other, same_at}
@@ -19,13 +20,16 @@ use Rattle.reg_outcomes.specs.Tables.{Seen}
 use Rattle.reg_outcomes.specs.Counts.{IsCounted}
 use Rattle.reg_outcomes.proofs.Those.{at_new, those_few}
 use Rattle.reg_inputs.specs.Loads.{Load}
-use Rattle.reg_workload.specs.Plays.{IsPlay}
+use Rattle.reg_workload.specs.Plays.{IsPlay, calls_of, script_of}
 use Rattle.reg_workload.specs.Seeded.{seeded_play}
-use Rattle.reg_world.specs.Worlds.{Made}
+use Rattle.reg_world.specs.Worlds.{Made, run_in}
+use Rattle.reg_world.specs.World.{whole}
 use Rattle.reg_interleavings.specs.declared.faults.InterleavingFault.{InterleavingFault}
 use Rattle.reg_interleavings.specs.declared.faults.InterleavingFault.TheVariants.{TooManyStages, OutOfMemory}
 use Rattle.reg_interleavings.specs.declared.kinds.OrderKind.TheVariants.{Points}
 use Rattle.reg_interleavings.specs.declared.outcomes.TheConstants.{MOST_STAGES}
+use Rattle.reg_interleavings.specs.Finishing.{AllAnswered}
+use Rattle.reg_interleavings.proofs.Answering.{used_where_answered}
 use Rattle.reg_interleavings.specs.Finding.{IsFindFault, IsWiderSearch}
 use Rattle.reg_outcomes.specs.Outcomes.{AreSeen, IsLinearizable, IsPlayFault, IsPlaysFault, IsSeen, play_from, seed_at}
 use Rattle.reg_outcomes.specs.Timing.{IsSeenIn}
@@ -50,6 +54,26 @@ pub fault_by : (shape : Extent) (made : Made) (entries : List Entry) (fault : In
 fault_by shape made entries fault s h told =
     subst (λ (e : Extent). IsFindFault Points e.processes e.registers made.history MOST_STAGES fault) s (subst (λ (es : List Entry). IsFindFault Points shape.processes shape.registers es MOST_STAGES fault) h told)
 
+-- a play is finished where each operation of its scripts is answered
+module _ (start : Op → ℕ → Start) (laws : KeepsLaws start) (shape : Extent) (scripts : List (List Op)) (budget : ℕ) (made : Made) (done : Bool) (play : IsPlay start shape scripts budget made done) where
+  abbrev IsDoneAmong : ℕ → Type 0
+  IsDoneAmong n = (p : ℕ) → p < length scripts → (calls_of p made.accepted ≡ script_of scripts p) × (((whole start n made.registers made.accepted).nodes p).state.running ≡ None)
+
+  abbrev Agrees : ℕ → Type 0
+  Agrees n = (whole start n made.registers made.accepted).accepted ≡ made.accepted → IsDoneAmong n ↔ AllAnswered scripts (whole start n made.registers made.accepted).history
+
+  agrees : Agrees (length scripts)
+  agrees accepted =
+      let law = used_where_answered start scripts made.registers made.accepted laws accepted play.scripts in
+      (λ all. law.0 (record { accepted = accepted; called = λ p lt. (all p lt).0; idle = λ p lt. (all p lt).1 }), λ answered p lt. let used = law.1 answered in (used.called p lt, used.idle p lt))
+
+  pub finished_where_answered : shape.processes ≡ length scripts → (run_in start made).accepted ≡ made.accepted → made.history ≡ (run_in start made).history → (done ≡ true) ↔ AllAnswered scripts made.history
+  finished_where_answered many accepted history =
+      let both = subst Agrees (sym (play.processes ∙ many)) agrees accepted in (
+        λ e. subst (λ (h : List Entry). AllAnswered scripts h) (sym history) (both.0 (λ p lt. let own = play.finished.0 e p lt in (own.calls, own.idle))),
+        λ answered. play.finished.1 (λ p lt. let own = both.1 (subst (λ (h : List Entry). AllAnswered scripts h) history answered) p lt in record { calls = own.0; idle = own.1 }),
+      )
+
 module _ (start : Op → ℕ → Start) (work : Load) (seed : ℕ) (made : Made) (is : made ≡ play_from start work seed) where
   moved : (P : Made → Type 0) → P made → P (play_from start work seed)
   moved P h = subst P is h
@@ -61,11 +85,19 @@ module _ (start : Op → ℕ → Start) (work : Load) (seed : ℕ) (made : Made)
   time_here s done play told =
       moved (λ m. (s.linearizable ≡ true) ↔ IsLinearizable work.shape.registers m.history) (subst (λ (n : ℕ). (s.linearizable ≡ true) ↔ IsLinearizable n made.history) play.registers told)
 
+  -- it is finished where each operation is answered
+  abbrev IsAnswered : Bool → Type 0
+  IsAnswered done = (done ≡ true) ↔ AllAnswered work.scripts made.history
+
+  answered_here : (done : Bool) → IsAnswered done → (done ≡ true) ↔ AllAnswered work.scripts (play_from start work seed).history
+  answered_here done answered = moved (λ m. (done ≡ true) ↔ AllAnswered work.scripts m.history) answered
+
   -- a finished play
-  pub seen_finished : (s : Seen) (done : Bool) → done ≡ true → IsPlay start work.shape work.scripts work.budget made done → IsSeenIn made seed s → IsSeen start work seed s
-  seen_finished s done all play seen = record {
+  pub seen_finished : (s : Seen) (done : Bool) → done ≡ true → IsPlay start work.shape work.scripts work.budget made done → IsAnswered done → IsSeenIn made seed s → IsSeen start work seed s
+  seen_finished s done all play answered seen = record {
     seeded = seen.seeded;
     finished = moved (λ m. IsPlay start work.shape work.scripts work.budget m s.is_finished) (subst (λ (b : Bool). IsPlay start work.shape work.scripts work.budget made b) (all ∙ sym seen.finished) play);
+    answered = subst (λ (b : Bool). (b ≡ true) ↔ AllAnswered work.scripts (play_from start work seed).history) (all ∙ sym seen.finished) (answered_here done answered);
     events = moved (λ m. s.events ≡ length m.accepted) seen.events;
     outcome = outcome_here s.outcome done play seen.outcome;
     time = λ _. time_here s done play seen.time;
@@ -75,13 +107,14 @@ module _ (start : Op → ℕ → Start) (work : Load) (seed : ℕ) (made : Made)
   unfinished_play : Seen
   unfinished_play = record { seed = seed; is_finished = false; events = length made.accepted; outcome = outcome_of made.processes made.history; linearizable = false }
 
-  pub seen_unfinished : (done : Bool) → done ≡ false → IsPlay start work.shape work.scripts work.budget made done → (s : Seen) × IsSeen start work seed s × (s.is_finished ≡ false)
+  pub seen_unfinished : (done : Bool) → done ≡ false → IsPlay start work.shape work.scripts work.budget made done → IsAnswered done → (s : Seen) × IsSeen start work seed s × (s.is_finished ≡ false)
   unfolding unfinished_play
-  seen_unfinished done open_still play = (
+  seen_unfinished done open_still play answered = (
     unfinished_play,
     record {
       seeded = refl;
       finished = moved (λ m. IsPlay start work.shape work.scripts work.budget m false) (subst (λ (b : Bool). IsPlay start work.shape work.scripts work.budget made b) open_still play);
+      answered = subst (λ (b : Bool). (b ≡ true) ↔ AllAnswered work.scripts (play_from start work seed).history) open_still (answered_here done answered);
       events = moved (λ m. length made.accepted ≡ length m.accepted) refl;
       outcome = outcome_here (outcome_of made.processes made.history) done play refl;
       time = λ e. absurd (false≢true e);

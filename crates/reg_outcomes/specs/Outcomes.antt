@@ -17,6 +17,7 @@ use Rattle.reg_interleavings.specs.declared.faults.InterleavingFault.TheVariants
 use Rattle.reg_interleavings.specs.declared.kinds.OrderKind.TheVariants.{Points}
 use Rattle.reg_interleavings.specs.declared.outcomes.TheConstants.{MOST_STAGES}
 use Rattle.reg_interleavings.specs.Finding.{IsWiderSearch}
+use Rattle.reg_interleavings.specs.Finishing.{AllAnswered}
 use Rattle.reg_interleavings.specs.Interleavings.{AreAll, CountsStages, HasMoreStages, Interleaving}
 use Rattle.reg_interleavings.specs.Told.{outcome_of}
 use Rattle.reg_outcomes.specs.declared.undrawn.TheConstants.{MOST_COUNTED_STAGES}
@@ -30,11 +31,12 @@ play_from start work seed = (seeded_play start pcg32 work.shape work.scripts wor
 abbrev pub IsLinearizable : ℕ → List Entry → Type 0
 IsLinearizable registers h = (points : List Point) × IsPointOrder registers h points
 
--- What is known of the play from this seed: whether it is finished, which it is where each operation of the scripts was
--- called and answered; the number of its events; its outcome; and where it is finished whether it is linearizable.
+-- What is known of the play from this seed: whether it is finished, which it is where each operation of the scripts is
+-- answered; the number of its events; its outcome; and where it is finished whether it is linearizable.
 pub record IsSeen (start : Op → ℕ → Start) (work : Load) (seed : ℕ) (s : Seen) : Type 0 where
   pub seeded : s.seed ≡ seed
   pub finished : IsPlay start work.shape work.scripts work.budget (play_from start work seed) s.is_finished
+  pub answered : (s.is_finished ≡ true) ↔ AllAnswered work.scripts (play_from start work seed).history
   pub events : s.events ≡ length (play_from start work seed).accepted
   pub outcome : s.outcome ≡ outcome_of work.shape.processes (play_from start work seed).history
   pub time : s.is_finished ≡ true → (s.linearizable ≡ true) ↔ IsLinearizable work.shape.registers (play_from start work seed).history

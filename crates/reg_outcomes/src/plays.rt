@@ -63,6 +63,7 @@ fn count_play<F: FrontEnd, A: Allocator + Copy>(
     seed: u64,
     tallies: &mut Tallies<A>,
 ) -> Result<(), InterleavingFault>
+    requires scripts { work.now.shape.processes ≡ length work.now.scripts }
     requires told { HasRoom (λ v. v.items) tallies.old.told }
     requires unfinished { tallies.old.unfinished < u32.MAX }
     ensures counted { OnOk result ((s : Seen) × IsSeen F.start work.now seed s × ((plays : List Seen) → IsCounted (λ v. v.items) plays tallies.old.told tallies.old.unfinished → IsCounted (λ v. v.items) (plays ++ s ∷ []) tallies.new.told tallies.new.unfinished)) }
@@ -70,6 +71,9 @@ fn count_play<F: FrontEnd, A: Allocator + Copy>(
 {
     let words = SeedWords::new(seed);
     let play: Play<F, A, PackedWires<A>> = play_seeded_in(alloc, work, words)?;
+    // (for the proof: by these getters' contracts the world is the run of its events)
+    play.world.accepted();
+    play.world.history();
     if play.finished {
         count_finished(alloc, &play.world, seed, tallies)
     } else {

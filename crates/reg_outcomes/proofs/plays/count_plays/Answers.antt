@@ -1,6 +1,7 @@
 use Rattle.std.proofs.Common.{◌≡◌, ◌++◌, ◌∷◌, [], ◌+◌, ◌<◌, ℕ, length, subst, arith}
 use Rattle.std.specs.Prelude.{◌^◌, ◌-◌, ◌%◌}
 use Rattle.std.proofs.lemmas.Result.{err_from_is_err_and}
+use Rattle.reg_inputs.specs.Loads.{IsLoad}
 use Rattle.reg_outcomes.proofs.Counting.{has_room}
 use Rattle.reg_outcomes.specs.Outcomes.{AreSeen, IsPlayFault, IsSeen, seed_at}
 use Rattle.reg_outcomes.proofs.Playing.{plays_fault, seen_next, unfinished_few}
@@ -17,6 +18,9 @@ count_play-requires-clause-unfinished g c =
     let inv = c.loop-turn.invariant in
     let few : c.loop-turn.turn < 1000000 = let l = c.loop-turn-test.true in let m = c.requires in omega (arith, l, m) in
     unfinished_few (λ v. v.items) inv.0 c.loop-turn.tallies.told c.loop-turn.tallies.unfinished c.loop-turn.turn inv.2 inv.1.count few
+
+pub count_play-requires-clause-scripts : goal.count_play-requires-clause-scripts
+count_play-requires-clause-scripts g c = (subst IsLoad c.work.view_is c.work.invariant).processes
 
 pub loop-turn-preserved : goal.loop-turn-preserved
 loop-turn-preserved g c =
