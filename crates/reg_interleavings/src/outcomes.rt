@@ -10,8 +10,8 @@ ghost use Rattle.reg_interleavings.specs.Layers.{Adds, IsLayer, IsToldIn, entrie
 use crate::faults::InterleavingFault;
 use crate::layers::{LastLayer, Layer, last_layer};
 use crate::stages::Stage;
-use reg_base::Op;
 use crate::told::ToldValue;
+use reg_base::Op;
 use std::alloc::{AllocError, Allocator, Global};
 use std::collections::BTreeMap;
 use std::marker::Model;

@@ -5,8 +5,8 @@ ghost use Rattle.reg_interleavings.specs.declared.told.ToldValue.{ToldValue as A
 ghost use Rattle.reg_interleavings.specs.Interleavings.{first_stage, script_of, stage_after, told_after, told_behind};
 ghost use Rattle.reg_interleavings.specs.Layers.{stage_of};
 
-use reg_base::{Answer, Op, OpId};
 use crate::told::ToldValue;
+use reg_base::{Answer, Op, OpId};
 use std::alloc::{AllocError, Allocator, Global};
 use std::mem;
 

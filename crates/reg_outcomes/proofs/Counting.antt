@@ -19,16 +19,30 @@ first_none kind k s h = absurd cc
 
 module _ (kind : Bool) (plays : List Seen) (s : Seen) where
   pub first_kept : (seed : ℕ) → IsFirst kind plays (Some seed) → IsFirst kind (plays ++ s ∷ []) (Some seed)
-  first_kept seed (k, x, h, is, e, least) = (k, x, at_front plays (s ∷ []) k x h, is, e, λ j other at same. elim (at_push plays j s other at) [
-    | inl old ↦ least j other old same
-    | inr (j_is, is_new) ↦ let inside : k < length plays = slice_get_within plays k x h in omega (arith, inside, j_is)
-  ])
+  first_kept seed (k, x, h, is, e, least) = (
+    k,
+    x,
+    at_front plays (s ∷ []) k x h,
+    is,
+    e,
+    λ j other at same. elim (at_push plays j s other at) [
+      | inl old ↦ least j other old same
+      | inr (j_is, is_new) ↦ let inside : k < length plays = slice_get_within plays k x h in omega (arith, inside, j_is)
+    ],
+  )
 
   pub first_now : s.linearizable ≡ kind → IsFirst kind plays None → IsFirst kind (plays ++ s ∷ []) (Some s.seed)
-  first_now is none = (length plays, s, at_new plays s, is, refl, λ j other at same. elim (at_push plays j s other at) [
-    | inl old ↦ absurd (none j other old same)
-    | inr (j_is, is_new) ↦ omega (arith, j_is)
-  ])
+  first_now is none = (
+    length plays,
+    s,
+    at_new plays s,
+    is,
+    refl,
+    λ j other at same. elim (at_push plays j s other at) [
+      | inl old ↦ absurd (none j other old same)
+      | inr (j_is, is_new) ↦ omega (arith, j_is)
+    ],
+  )
 
   pub first_not : s.linearizable ≢ kind → IsFirst kind plays None → IsFirst kind (plays ++ s ∷ []) None
   first_not other none = λ k x at same. elim (at_push plays k s x at) [

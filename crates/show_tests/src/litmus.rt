@@ -90,7 +90,12 @@ unfinished 0
 ];
 
 /// What so many plays of a test answer under a front end.
-pub(crate) fn table(alloc: Global, plays: u32, front: &str, work: &str) -> Result<String, AllocError> {
+pub(crate) fn table(
+    alloc: Global,
+    plays: u32,
+    front: &str,
+    work: &str,
+) -> Result<String, AllocError> {
     let text = format!(in alloc; "front = \"{front}\"\n{work}")?;
     let mut output = Vec::new(alloc);
     let mut errors = Vec::new(alloc);

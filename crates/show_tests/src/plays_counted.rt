@@ -26,7 +26,10 @@ fn undrawn_outcomes_of_10_000_stages_are_counted(rt: HostRuntime) -> Result<(), 
     let alloc = rt.alloc();
     let work = writes(alloc, 99, 99)?;
     let table = table(alloc, 1, "local-write", work.as_str())?;
-    assert!(rt; table.ends_with("\nunfinished 0\nnever drawn 0\n"), "{table}");
+    assert!(rt;
+        table.ends_with("\nunfinished 0\nnever drawn 0\n"),
+        "{table}"
+    );
     Ok(())
 }
 

@@ -15,8 +15,7 @@ pub returns-clause-counted : goal.returns-clause-counted
 returns-clause-counted g c =
     let h = c.in_ok-history.history.now in
     let w = c.args.world.now in
-    let s = finished_play c.in_ok-outcome.outcome.items (record { seed = c.args.seed; events = c.events-events.result; linearizable = c.in_ok-linearizable.linearizable }) in
-    (
+    let s = finished_play c.in_ok-outcome.outcome.items (record { seed = c.args.seed; events = c.events-events.result; linearizable = c.in_ok-linearizable.linearizable }) in (
       s,
       record {
         seeded = refl;
