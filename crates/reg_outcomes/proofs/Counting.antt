@@ -1,6 +1,6 @@
 -- What is told of one play more.
 use Rattle.std.proofs.Common.{◌≡◌, ◌≢◌, ◌⊎◌, inl, inr, ℕ, zero, suc, ◌+◌, ◌<◌, ◌≤◌, Bool, true, false, cond, List, [], ◌∷◌, ◌++◌, length, Option, Some, None, refl, ap, sym, ◌∙◌, subst, arith, length-append}
-use Rattle.std.specs.Prelude.{IfSome, ◌^◌, ◌-◌}
+use Rattle.std.specs.Prelude.{IfSome, ◌↔◌, ◌^◌, ◌-◌, not}
 use Rattle.std.specs.BTreeMap.{BTreeMap, get, Updates, is_at}
 use Rattle.std.proofs.lemmas.Bool.{cases_Bool, false≢true}
 use Rattle.std.proofs.lemmas.Option.{same_Some, slice_get_within}
@@ -13,12 +13,20 @@ use Rattle.reg_outcomes.specs.Counts.{IsShorter, IsShortest, TellsOf, key_cmp, I
 use Rattle.reg_outcomes.proofs.Those.{at_front, at_new, at_cases, those_more, those_same, no_those, those_few}
 use Rattle.reg_outcomes.proofs.Ordering.{same_keys, tied_keys}
 
+-- whether a play is of a kind
+pub is_true : (b : Bool) → (b ≡ true) ↔ (b ≡ true)
+is_true b = (λ e. e, λ e. e)
+
+pub is_false : (b : Bool) → (not b ≡ true) ↔ (b ≡ false)
+is_false true = (λ e. absurd (false≢true e), λ e. absurd (false≢true (sym e)))
+is_false false = (λ e. refl, λ e. refl)
+
 -- the first of a kind, of no plays and of one play more
 pub first_none : (kind : Bool) → IsFirst kind [] None
 first_none kind k s h = absurd cc
 
 module _ (kind : Bool) (plays : List Seen) (s : Seen) where
-  pub first_kept : (seed : ℕ) → IsFirst kind plays (Some seed) → IsFirst kind (plays ++ s ∷ []) (Some seed)
+  first_kept : (seed : ℕ) → IsFirst kind plays (Some seed) → IsFirst kind (plays ++ s ∷ []) (Some seed)
   first_kept seed (k, x, h, is, e, least) = (
     k,
     x,
@@ -30,6 +38,9 @@ module _ (kind : Bool) (plays : List Seen) (s : Seen) where
       | inr (j_is, is_new) ↦ let inside : k < length plays = slice_get_within plays k x h in omega (arith, inside, j_is)
     ],
   )
+
+  pub first_more : (o : Option ℕ) (seed : ℕ) → o ≡ Some seed → IsFirst kind plays o → IsFirst kind (plays ++ s ∷ []) (Some seed)
+  first_more o seed is first = first_kept seed (subst (λ (x : Option ℕ). IsFirst kind plays x) is first)
 
   pub first_now : s.linearizable ≡ kind → IsFirst kind plays None → IsFirst kind (plays ++ s ∷ []) (Some s.seed)
   first_now is none = (

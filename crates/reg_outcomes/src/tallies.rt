@@ -1,5 +1,5 @@
 //! What is told of the plays of each outcome.
-ghost use Rattle.std.specs.Prelude.{◌≡◌, ◌++◌, ◌<◌, [], ◌∷◌, List, false, OnOk};
+ghost use Rattle.std.specs.Prelude.{◌≡◌, ◌↔◌, ◌++◌, ◌<◌, [], ◌∷◌, List, Bool, true, false, OnOk};
 ghost use Rattle.std.specs.BTreeMap.{get};
 ghost use Rattle.reg_interleavings.specs.declared.told.ToldValue.{ToldValue};
 ghost use Rattle.reg_outcomes.specs.Tables.{IsFirst, IsTally, IsTallyOf, Seen};
@@ -44,19 +44,13 @@ pub struct Tallies<A: Allocator + Copy = Global> {
     pub unfinished: u32,
 }
 
-/// The seed of the first play of a kind, linearizable or not, of some plays and one more.
-fn first_of(seed: Option<u64>, glance: Glance, kind: bool) -> Option<u64>
-    ensures { (plays : List Seen) (outcome : List ToldValue) → IsFirst kind plays seed → IsFirst kind (plays ++ finished_play outcome glance ∷ []) result }
+/// The seed of the first play of a kind, linearizable or not, of some plays and one more, which is of that kind or not.
+fn first_of(seed: Option<u64>, glance: Glance, is_such: bool) -> Option<u64>
+    ensures { (kind : Bool) (plays : List Seen) (outcome : List ToldValue) → (is_such ≡ true) ↔ (glance.linearizable ≡ kind) → IsFirst kind plays seed → IsFirst kind (plays ++ finished_play outcome glance ∷ []) result }
 {
     match seed {
         Some(seed) => Some(seed),
-        None => {
-            if glance.linearizable == kind {
-                Some(glance.seed)
-            } else {
-                None
-            }
-        }
+        None => { if is_such { Some(glance.seed) } else { None } }
     }
 }
 
@@ -68,8 +62,8 @@ fn first(glance: Glance) -> Tally
         count: 1,
         events: glance.events,
         seed: glance.seed,
-        in_time: first_of(None, glance, true),
-        late: first_of(None, glance, false),
+        in_time: first_of(None, glance, glance.linearizable),
+        late: first_of(None, glance, !glance.linearizable),
     }
 }
 
@@ -96,8 +90,8 @@ fn joined(tally: Tally, glance: Glance) -> Tally
         count: tally.count + 1,
         events,
         seed,
-        in_time: first_of(tally.in_time, glance, true),
-        late: first_of(tally.late, glance, false),
+        in_time: first_of(tally.in_time, glance, glance.linearizable),
+        late: first_of(tally.late, glance, !glance.linearizable),
     }
 }
 

@@ -13,6 +13,13 @@ keeps_real_time-requires-clause-history g c =
     let h = c.args.history.now in
     (h.shape.processes, h.shape.registers, subst (λ (es : List Entry). IsHistory h.shape.processes h.shape.registers es) (sym c.entries.ensures.value) c.entries.ensures.in_place)
 
+pub returns-then-branch-clause-found : goal.returns-then-branch-clause-found
+returns-then-branch-clause-found g c =
+    let h = c.args.history.now in
+    let ids = c.args.order.now in
+    let keeps = subst (λ (es : List Entry). KeepsRealTime es ids) c.entries.ensures.value (c.in_ok-keeps_real_time.ensures.0 c.if-branch.true) in
+    (λ _. in_time_is h.shape.processes h.shape.registers h.entries c.entries.ensures.in_place ids c.requires keeps, λ _. refl)
+
 pub returns-clause-found : goal.returns-clause-found
 returns-clause-found g c =
     let h = c.args.history.now in

@@ -2,8 +2,10 @@ use Rattle.std.proofs.Common.{◌≡◌, List, map, ap, sym, ◌∙◌, subst}
 use Rattle.std.specs.Prelude.{Vec}
 use Rattle.reg_base.specs.declared.memory.Op.{Op}
 use Rattle.reg_inputs.specs.Loads.{Load}
-use Rattle.reg_interleavings.specs.Interleavings.{ArePlayable}
+use Rattle.reg_interleavings.specs.declared.faults.InterleavingFault.{InterleavingFault}
+use Rattle.reg_interleavings.specs.Interleavings.{ArePlayable, IsFewFault}
 use Rattle.reg_interleavings.proofs.Playable.{playable}
+use Rattle.reg_outcomes.specs.declared.undrawn.TheConstants.{MOST_COUNTED_STAGES}
 use Rattle.reg_outcomes.proofs.Absent.{tells_few, tells_many}
 use Rattle.reg_outcomes.proofs.undrawn.count_undrawn.Goals as goal
 
@@ -22,9 +24,10 @@ returns-in-Ok-clause-told g c plays unfinished counted =
     tells_few scripts c.args.work.now.scripts c.registers-registers.result c.args.work.now.shape.registers same many plays c.in-Ok.all.stages c.undrawn_of.result c.in-Ok.all.list.items c.as_slice.result.now
     c.in-Ok.ensures.stages c.in-Ok.ensures.few c.in-Ok.ensures.outcomes c.as_slice.ensures.value (c.undrawn_of.ensures plays unfinished counted)
 
-pub returns-in-TooManyStages-clause-told : goal.returns-in-TooManyStages-clause-told
-returns-in-TooManyStages-clause-told g c plays unfinished counted =
+pub returns-in-Err-TooManyStages-clause-told : goal.returns-in-Err-TooManyStages-clause-told
+returns-in-Err-TooManyStages-clause-told g c plays unfinished counted =
     let scripts : List (List Op) = map (λ v. v.items) c.as_slice-scripts.result.now in
     let same : scripts ≡ c.args.work.now.scripts = ap (λ (l : List (Vec Op g.row.A.Denot)). map (λ v. v.items) l) c.as_slice-scripts.ensures.value ∙ ap (λ (w : Load). w.scripts) c.work.view_is in
     let many : c.registers-registers.result ≡ c.args.work.now.shape.registers = c.registers-registers.ensures.value ∙ ap (λ (w : Load). w.shape.registers) c.work.view_is in
-    tells_many scripts c.args.work.now.scripts c.registers-registers.result c.args.work.now.shape.registers same many plays c.in-TooManyStages.ensures
+    tells_many scripts c.args.work.now.scripts c.registers-registers.result c.args.work.now.shape.registers same many plays
+    (subst (λ (f : InterleavingFault). IsFewFault scripts c.registers-registers.result MOST_COUNTED_STAGES f) c.in-Err-TooManyStages.field-0-is c.in-Err-TooManyStages.ensures.refused)
