@@ -4,7 +4,7 @@ use Rattle.reg_base.specs.declared.memory.Op.{Op}
 use Rattle.reg_front.specs.declared.starts.Start.{Start}
 use Rattle.reg_front.specs.Fronts.{KeepsLaws}
 use Rattle.reg_world.specs.World.{whole}
-use Rattle.reg_outcomes.specs.declared.outcomes.ToldValue.{ToldValue}
+use Rattle.reg_interleavings.specs.declared.told.ToldValue.{ToldValue}
 use Rattle.reg_interleavings.specs.Finishing.{HasRoom, HaveAllOutcomes, IsOutcome}
 use Rattle.reg_interleavings.specs.Interleavings.{AreAll, ArePlayable, Interleaving, IsInterleaving}
 use Rattle.reg_interleavings.proofs.MissingCalls.{has_scripts}

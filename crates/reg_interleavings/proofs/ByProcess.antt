@@ -10,8 +10,8 @@ use Rattle.reg_base.specs.declared.memory.Op.{Op}
 use Rattle.reg_base.specs.declared.memory.OpId.{OpId}
 use Rattle.reg_base.specs.Memory.{answer_of}
 use Rattle.reg_base.specs.Order.{In}
-use Rattle.reg_outcomes.specs.declared.outcomes.ToldValue.{ToldValue}
-use Rattle.reg_outcomes.specs.Told.{told_in}
+use Rattle.reg_interleavings.specs.declared.told.ToldValue.{ToldValue}
+use Rattle.reg_interleavings.specs.Told.{told_in}
 use Rattle.reg_interleavings.specs.Interleavings.{Leads, Nothing, Turn, Stage, told_after, told_behind}
 use Rattle.reg_interleavings.proofs.Stepping.{has_script}
 

@@ -10,9 +10,9 @@ use Rattle.reg_base.specs.declared.memory.Op.{Op}
 use Rattle.reg_base.specs.Order.{In}
 use Rattle.reg_checkers.specs.History.{IsAt}
 use Rattle.reg_checkers.proofs.Places.{IsAt-map, at_map}
-use Rattle.reg_outcomes.specs.declared.outcomes.ToldValue.{ToldValue}
-use Rattle.reg_outcomes.specs.Tables.{told_cmp}
-use Rattle.reg_outcomes.proofs.Those.{has_at}
+use Rattle.reg_interleavings.specs.declared.told.ToldValue.{ToldValue}
+use Rattle.reg_interleavings.specs.Told.{told_cmp}
+use Rattle.reg_interleavings.proofs.Elements.{has_at}
 use Rattle.reg_interleavings.specs.Interleavings.{AreAll, Interleaving, IsInterleaving, Leads, Stage}
 use Rattle.reg_interleavings.specs.Layers.{Adds, IsLayer, IsToldIn, operation_count}
 use Rattle.reg_interleavings.proofs.Leading.{turns_of_all, used_up}

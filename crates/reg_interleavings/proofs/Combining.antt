@@ -8,7 +8,7 @@ use Rattle.reg_base.specs.Order.{In}
 use Rattle.reg_base.proofs.Lists.{in_cases, in_left, in_right}
 use Rattle.reg_checkers.specs.History.{IsAt}
 use Rattle.reg_checkers.proofs.Places.{IsAt-map, at_map}
-use Rattle.reg_outcomes.specs.declared.outcomes.ToldValue.{ToldValue}
+use Rattle.reg_interleavings.specs.declared.told.ToldValue.{ToldValue}
 use Rattle.reg_interleavings.specs.Interleavings.{Interleaving}
 use Rattle.reg_interleavings.specs.Nevers.{AreOver, IsNever, StandsAt, tells}
 use Rattle.reg_interleavings.specs.Combining.{AreCombinations, AreOnce, AreValuesAt, IsCombination, IsLonger, IsLongerOf, cut_all}

@@ -7,8 +7,8 @@ use Rattle.std.specs.Cmp.{IsTotalOrder}
 use Rattle.std.specs.Cmp.Lexicographic.{slice_cmp}
 use Rattle.std.proofs.lemmas.Cmp.{nat_list_cmp_total, on_total, then_total}
 use Rattle.std.proofs.lemmas.Map.Lookups.{CmpEqualImpliesEq, exact_bytes}
-use Rattle.reg_outcomes.specs.Tables.{told_cmp}
-use Rattle.reg_outcomes.proofs.Ordering.{outcomes_exact, outcomes_total}
+use Rattle.reg_interleavings.specs.Told.{told_cmp}
+use Rattle.reg_interleavings.proofs.ToldOrder.{outcomes_exact, outcomes_total}
 use Rattle.reg_interleavings.specs.Layers.{stage_cmp}
 
 pub stages_total : IsTotalOrder stage_cmp

@@ -12,9 +12,9 @@ use Rattle.std.proofs.lemmas.Map.Keys.{sorted_head, sorted_tail}
 use Rattle.std.proofs.lemmas.Option.{same_Some}
 use Rattle.reg_base.specs.Order.{In}
 use Rattle.reg_checkers.specs.History.{IsAt}
-use Rattle.reg_outcomes.specs.declared.outcomes.ToldValue.{ToldValue}
-use Rattle.reg_outcomes.specs.Tables.{told_cmp}
-use Rattle.reg_outcomes.proofs.Ordering.{outcomes_exact, outcomes_total}
+use Rattle.reg_interleavings.specs.declared.told.ToldValue.{ToldValue}
+use Rattle.reg_interleavings.specs.Told.{told_cmp}
+use Rattle.reg_interleavings.proofs.ToldOrder.{outcomes_exact, outcomes_total}
 use Rattle.reg_interleavings.specs.Combining.{AreOnce, Grows, cut, cut_all}
 use Rattle.reg_interleavings.proofs.Comparing.{equal_is}
 

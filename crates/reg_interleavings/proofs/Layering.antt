@@ -1,5 +1,5 @@
 -- One layer after another.
-use Rattle.std.proofs.Common.{◌≡◌, inl, inr, ℕ, suc, ◌+◌, List, [], ◌∷◌, ◌++◌, length, refl, ap, sym, ◌∙◌, subst, arith, length-append, ◌⊎◌, ◌<◌, ◌≤◌, Some, ◌*◌}
+use Rattle.std.proofs.Common.{◌≡◌, inl, inr, ℕ, suc, ◌+◌, List, [], ◌∷◌, ◌++◌, length, refl, ap, sym, ◌∙◌, subst, arith, length-append, ◌⊎◌, ◌<◌, ◌≤◌, Some, ◌*◌, ◌-◌}
 use Rattle.std.specs.Prelude.{slice_index, ◌^◌}
 use Rattle.std.proofs.lemmas.Bool.{cases_eq}
 use Rattle.std.proofs.lemmas.List.{length-map}
@@ -7,14 +7,15 @@ use Rattle.std.proofs.Math.Nat.{mul-le-mul}
 use Rattle.reg_base.specs.declared.limits.TheConstants.{MOST_PROCESSES, MOST_OPERATIONS}
 use Rattle.reg_base.specs.declared.memory.Op.{Op}
 use Rattle.reg_base.specs.Order.{In}
+use Rattle.reg_base.proofs.Lists.{in_cases}
 use Rattle.reg_checkers.specs.History.{IsAt}
 use Rattle.reg_checkers.proofs.Places.{element_at}
 use Rattle.reg_interleavings.specs.declared.faults.InterleavingFault.{InterleavingFault}
 use Rattle.reg_interleavings.specs.declared.faults.InterleavingFault.TheVariants.{TooManyStages, OutOfMemory}
-use Rattle.reg_interleavings.specs.Interleavings.{IsFault, Leads, Nothing, Turn, Stage, first_stage, script_of, stage_after, IsWider, ArePlayable}
+use Rattle.reg_interleavings.specs.Interleavings.{IsFault, IsFewFault, Leads, Nothing, Turn, Stage, first_stage, script_of, stage_after, IsWider, ArePlayable}
 use Rattle.reg_interleavings.specs.Layers.{Adds, IsLayer, IsNextOf, Refuses, operation_count, AreCounted}
 use Rattle.reg_interleavings.proofs.Leading.{most_operations, no_more_turns}
-use Rattle.reg_interleavings.proofs.Numbering.{behind, different_of, in_at, once_of, stages_of}
+use Rattle.reg_interleavings.proofs.Numbering.{as_many_turns, behind, different_both, different_of, in_at, once_of, stages_of}
 
 -- a list but for one of its elements
 others : {F : Type 0} (fs : List F) (f : F) → In f fs → (rest : List F) × (length rest + 1 ≡ length fs) × ((g : F) → In g fs → (g ≡ f) ⊎ In g rest)
@@ -107,6 +108,32 @@ module _ (scripts : List (List Op)) (registers k : ℕ) (layer : List (Stage × 
   }
   is_fault limit OutOfMemory h = tt
 
+  -- the stages so far, and more new ones than are left of the most
+  pub few_fault : (most n : ℕ) (fault : InterleavingFault) → n ≤ most → AreCounted scripts registers k n → Refuses (most - n) (IsNextOf scripts layer) [] fault → IsFewFault scripts registers most fault
+  few_fault most n TooManyStages few counted over = record {
+    stages = counted.stages ++ stages_of over.found;
+    more = (let a = length-append counted.stages (stages_of over.found) in let b = length-map over.found (λ f. f.0) in let c = counted.count in let m = over.more in omega (arith, a, b, c, m, few));
+    once = once_of (counted.stages ++ stages_of over.found) (different_both counted.stages (stages_of over.found) counted.different (different_of over.found over.apart) (λ s early late.
+        let before = counted.led s early in
+        let after = new s late in
+        let same = as_many_turns scripts registers before.0 after.0 s before.1 after.1 in
+        let few_turns = before.2 in
+        let many = after.2 in
+        omega (arith, same, few_turns, many)));
+    led = λ i s at. elim (in_cases s counted.stages (stages_of over.found) (in_at (counted.stages ++ stages_of over.found) i s at)) [
+      | inl early ↦ let before = counted.led s early in (before.0, before.1)
+      | inr late ↦ let after = new s late in (after.0, after.1)
+    ];
+  }
+    where
+      new : (s : Stage) → In s (stages_of over.found) → (turns : List ℕ) × Leads scripts registers turns s × (length turns ≡ k + 1)
+      new s h =
+          let there = behind over.found s h in
+          let f : Stage × List ℕ = there.0 in
+          let leads : Leads scripts registers f.1 f.0 × (length f.1 ≡ k + 1) = elim (over.only f there.1) [ inl old ↦ absurd old | inr step ↦ led f step ] in
+          (f.1, subst (λ x. Leads scripts registers f.1 x) there.2 leads.0, leads.1)
+  few_fault most n OutOfMemory few counted h = tt
+
   -- a layer that is no wider than the limit has no more stages
   pub is_narrow : (limit : ℕ) → length layer ≤ limit → (w : IsWider scripts registers limit) → w.turns ≡ k → ⊥
   is_narrow limit few w e =
@@ -147,3 +174,9 @@ few_stages scripts registers limit k n m playable small lt few more =
     let width : limit ≤ 2 ^ 32 = omega (arith, small) in
     let product : (k + 2) * limit ≤ (MOST_PROCESSES * MOST_OPERATIONS + 1) * 2 ^ 32 = mul-le-mul turns width in
     omega (arith, product, few, more)
+
+-- The layer after k turns, and so many stages were in the layers so far, no more than the most.
+pub record IsFewSoFar (scripts : List (List Op)) (registers most k : ℕ) (layer : List (Stage × List ℕ)) (n : ℕ) : Type 0 where
+  pub is : IsLayer scripts registers k layer
+  pub counted : AreCounted scripts registers k n
+  pub few : n ≤ most

@@ -10,7 +10,7 @@ use Rattle.reg_base.specs.declared.memory.Op.{Op}
 use Rattle.reg_base.specs.declared.memory.Op.TheVariants.{Read, Write, Swap}
 use Rattle.reg_base.specs.Memory.{after, register_of}
 use Rattle.reg_checkers.specs.History.{IsAt}
-use Rattle.reg_outcomes.proofs.Those.{has_at}
+use Rattle.reg_interleavings.proofs.Elements.{has_at}
 use Rattle.reg_interleavings.specs.Interleavings.{ArePlayable, IsPlayable, Leads, Nothing, Turn, Stage, script_of, stage_after}
 use Rattle.reg_interleavings.specs.Layers.{IsReady, operation_count}
 use Rattle.reg_interleavings.proofs.Stepping.{AreBehind, as_many, has_script}

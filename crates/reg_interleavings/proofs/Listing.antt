@@ -11,8 +11,8 @@ use Rattle.std.proofs.lemmas.Map.Keys.{Less-from_sorted}
 use Rattle.std.proofs.lemmas.Option.{get_or_from_slice_get, slice_get_within}
 use Rattle.reg_checkers.specs.History.{IsAt}
 use Rattle.reg_checkers.proofs.Places.{at_map}
-use Rattle.reg_outcomes.specs.declared.outcomes.ToldValue.{ToldValue}
-use Rattle.reg_outcomes.specs.Tables.{told_cmp}
+use Rattle.reg_interleavings.specs.declared.told.ToldValue.{ToldValue}
+use Rattle.reg_interleavings.specs.Told.{told_cmp}
 use Rattle.reg_interleavings.specs.Nevers.{AreNevers, TellsNevers}
 use Rattle.reg_interleavings.specs.Combining.{AreCombinations}
 use Rattle.reg_interleavings.proofs.Combining.{left_never, never_left}

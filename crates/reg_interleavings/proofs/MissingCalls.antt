@@ -72,7 +72,7 @@ step_calls n registers w (Tick q) m =
     (λ b e. let same : (q, TickStep) ≡ m = same_Some (q, TickStep) m e in subst (Calls (Tick q)) same (calls_none q))
     (λ b e. absurd (none-some m e))
 
-abbrev ops_called : List PastCall → List Op
+abbrev pub ops_called : List PastCall → List Op
 ops_called calls = map (λ (d : PastCall). d.op) calls
 
 past_calls : (at : ℕ) (st : Step) (cast : Option Stamp) → ops_called (called_in at st cast) ≡ ops_in st
@@ -84,7 +84,7 @@ calls_more : (p : ℕ) (es : List Event) (e : Event) → calls_of p (es ++ e ∷
 calls_more p es e = flat_map-append (call_at p) es (e ∷ []) ∙ ap (λ l. calls_of p es ++ l) (append-nil (call_at p e))
 
 module _ (start : Op → ℕ → Start) (n registers : ℕ) where
-  abbrev IsNoted : List Event → Type 0
+  abbrev pub IsNoted : List Event → Type 0
   IsNoted es = (p : ℕ) → ops_called ((traced start n registers es).pasts p).calls ≡ calls_of p (whole start n registers es).accepted
 
   noted_step : (es : List Event) (e : Event) → IsNoted es → (m : Option (ℕ × Step)) → move_of n registers (whole start n registers es) e ≡ m
@@ -105,7 +105,7 @@ module _ (start : Op → ℕ → Start) (n registers : ℕ) where
       (λ away. h p ∙ sym (more ∙ ap (λ l. calls_of p w.accepted ++ l) (cond-false (m.0 == p) (ops_in m.1) [] (ne_eqb m.0 p (λ z. away (sym z)))) ∙ append-nil (calls_of p w.accepted)))
 
   -- the calls noted of a process are those of the events
-  noted : (events : List Event) → IsNoted events
+  pub noted : (events : List Event) → IsNoted events
   noted = from_end IsNoted (λ p. refl) (λ es e h p.
       ap (λ (t : Trace). ops_called (t.pasts p).calls) (traced_more start n registers es e)
       ∙ noted_step es e h (move_of n registers (whole start n registers es) e) refl p

@@ -16,8 +16,8 @@ use Rattle.reg_checkers.proofs.Histories.{answer_is}
 use Rattle.reg_checkers.proofs.Noting.{history_front}
 use Rattle.reg_checkers.proofs.OneMore.{IsOneMore, pushed}
 use Rattle.reg_checkers.proofs.Places.{in_take, get_push_same}
-use Rattle.reg_outcomes.specs.declared.outcomes.ToldValue.{ToldValue}
-use Rattle.reg_outcomes.specs.Told.{told_in, told_at, told_of}
+use Rattle.reg_interleavings.specs.declared.told.ToldValue.{ToldValue}
+use Rattle.reg_interleavings.specs.Told.{told_in, told_at, told_of}
 use Rattle.reg_workload.proofs.InOrder.{range_more}
 use Rattle.reg_world.proofs.lists.Members.{from_end}
 use Rattle.reg_world.proofs.one_memory.Added.{same_op_id}

@@ -15,9 +15,9 @@ use Rattle.reg_checkers.specs.Progress.{op_of}
 use Rattle.reg_checkers.proofs.Bridges.{zip_right}
 use Rattle.reg_checkers.proofs.Histories.{answered_was_called}
 use Rattle.reg_checkers.proofs.Places.{element_at, same_at, within}
-use Rattle.reg_outcomes.specs.declared.outcomes.ToldValue.{ToldValue}
-use Rattle.reg_outcomes.specs.Told.{told_in, told_of, outcome_of}
-use Rattle.reg_outcomes.proofs.InTime.{take_at}
+use Rattle.reg_interleavings.specs.declared.told.ToldValue.{ToldValue}
+use Rattle.reg_interleavings.specs.Told.{told_in, told_of, outcome_of}
+use Rattle.reg_interleavings.proofs.Elements.{take_at}
 use Rattle.reg_world.proofs.lists.Members.{map_append}
 use Rattle.reg_world.proofs.one_memory.Replicas.{memory-append}
 use Rattle.reg_interleavings.specs.Interleavings.{Leads, Nothing, Turn, Stage, IsInterleaving, first_stage, stage_after, script_of}

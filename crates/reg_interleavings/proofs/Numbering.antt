@@ -29,7 +29,7 @@ pub different_of : (fs : List (Stage × List ℕ)) → AreApart fs → AreDiffer
 different_of [] apart = tt
 different_of (f ∷ fs) apart = (λ t h e. let there = behind fs t h in apart.0 there.0 there.1 (e ∙ sym there.2), different_of fs apart.1)
 
-different_both : (ss ts : List Stage) → AreDifferent ss → AreDifferent ts → ((s : Stage) → In s ss → In s ts → ⊥) → AreDifferent (ss ++ ts)
+pub different_both : (ss ts : List Stage) → AreDifferent ss → AreDifferent ts → ((s : Stage) → In s ss → In s ts → ⊥) → AreDifferent (ss ++ ts)
 different_both [] ts a b none = b
 different_both (s ∷ ss) ts a b none = (
   λ t h e. elim (in_cases t ss ts h) [ inl k ↦ a.0 t k e | inr k ↦ none t (inl (sym e)) k ],
@@ -54,7 +54,7 @@ once_of (t ∷ ss) different (suc i) zero s at here = absurd (different.0 s (in_
 once_of (t ∷ ss) different (suc i) (suc j) s at here = ap suc (once_of ss different.1 i j s at here)
 
 -- so many turns lead to a stage, and no other number
-as_many_turns : (scripts : List (List Op)) (registers : ℕ) (a b : List ℕ) (s : Stage) → Leads scripts registers a s → Leads scripts registers b s → length a ≡ length b
+pub as_many_turns : (scripts : List (List Op)) (registers : ℕ) (a b : List ℕ) (s : Stage) → Leads scripts registers a s → Leads scripts registers b s → length a ≡ length b
 as_many_turns scripts registers a b s first second = sym (keeps scripts registers a s first).count ∙ (keeps scripts registers b s second).count
 
 module _ (scripts : List (List Op)) (registers : ℕ) where

@@ -1,6 +1,6 @@
 -- Points at the latest calls so far: of an order that keeps the real time they are a point order, and each point order
 -- keeps it. So where there is a point order, it is a serial order of fewer stages.
-use Rattle.std.proofs.Common.{◌≡◌, ◌⊎◌, inl, inr, ℕ, ◌+◌, ◌<◌, ◌≤◌, List, [], ◌∷◌, ◌++◌, length, map, take, Option, Some, None, Result, Ok, Err, Vec, MatchOption, IfOk, refl, ap, sym, ◌∙◌, subst, arith, length-append}
+use Rattle.std.proofs.Common.{◌≡◌, ◌⊎◌, inl, inr, ℕ, zero, suc, ◌+◌, ◌<◌, ◌≤◌, List, [], ◌∷◌, ◌++◌, length, map, take, Option, Some, None, Result, Ok, Err, Vec, MatchOption, IfOk, refl, ap, sym, ◌∙◌, subst, arith, length-append}
 use Rattle.std.proofs.lemmas.Bool.{cases_lt}
 use Rattle.std.proofs.lemmas.List.{take_all}
 use Rattle.reg_base.specs.Shape.{Extent}
@@ -14,10 +14,10 @@ use Rattle.reg_checkers.specs.declared.entries.Point.{Point}
 use Rattle.reg_checkers.specs.History.{IsAt, IsAnswered, IsCalled, IsHistory, WasCalled}
 use Rattle.reg_checkers.specs.Orders.{IsLegal, IsPointOrder, IsSelection, IsSerial}
 use Rattle.reg_checkers.proofs.Histories.{answered_was_called, call_is}
-use Rattle.reg_checkers.proofs.Places.{IsAt-map, at_map, within}
+use Rattle.reg_checkers.proofs.Places.{IsAt-map, at_map, element_at, within}
 use Rattle.reg_checkers.proofs.Pushing.{at_push}
 use Rattle.reg_checkers.proofs.RealTime.{point_order_is_serial, stands_before}
-use Rattle.reg_outcomes.proofs.InTime.{take_at as first_and_next}
+use Rattle.reg_interleavings.proofs.Elements.{take_at as first_and_next}
 use Rattle.reg_world.proofs.lists.Members.{map_append}
 use Rattle.reg_interleavings.specs.declared.faults.InterleavingFault.{InterleavingFault}
 use Rattle.reg_interleavings.specs.declared.faults.InterleavingFault.TheVariants.{TooManyStages, OutOfMemory}
@@ -202,3 +202,25 @@ module _ (n registers : ℕ) (h : List Entry) (good : IsHistory n registers h) (
 
 pub pointed : (h : List Entry) (ids : List OpId) (k at : ℕ) (ps : List Point) → length ids ≤ k → IsPointing h ids k at ps → ArePointsOf h ids ps
 pointed h ids k at ps le is = record { same = is.same ∙ take_all k ids le; late = is.late; call = is.call; rising = is.rising }
+
+-- so an order that keeps the real time has points
+module _ (n registers : ℕ) (h : List Entry) (good : IsHistory n registers h) (ids : List OpId) (order : IsOrder Points registers h ids) where
+  later : (at t : ℕ) → (now : ℕ) × (((now ≡ at) × (t ≤ at)) ⊎ ((now ≡ t) × (at ≤ t)))
+  later at t = elim (cases_lt at t) [ inl lt ↦ (t, inr (refl, omega (arith, lt))) | inr le ↦ (at, inl (refl, le)) ]
+
+  first_points : (k : ℕ) → k ≤ length ids → (at : ℕ) × (ps : List Point) × IsPointing h ids k at ps
+  first_points zero le = (0, [], pointing_none h ids [] refl)
+  first_points (suc k) le =
+      let old = first_points k (omega arith) in
+      let here = element_at ids k (omega arith) in
+      let call = stands_called n registers h good ids order.serial k here.0 here.1 in
+      let now = later old.0 call.0 in
+      let new : List Point = old.1 ++ record { id = here.0; at = now.0 } ∷ [] in
+      let is = pointing_more n registers h good ids k old.0 old.1 old.2 here.0 here.1 call.0 call.1 call.2 now.0 now.1 new refl in
+      let e : k + 1 ≡ suc k = omega arith in
+      (now.0, new, subst (λ (m : ℕ). IsPointing h ids m now.0 new) e is)
+
+  pub has_points : (ps : List Point) × IsPointOrder registers h ps
+  has_points =
+      let all = first_points (length ids) (omega arith) in
+      (all.1, points_of_order n registers h good ids all.1 order (pointed h ids (length ids) all.0 all.1 (omega arith) all.2))

@@ -23,7 +23,7 @@ use Rattle.reg_checkers.proofs.NoOrder.{same_ops}
 use Rattle.reg_checkers.proofs.OwnOrder.{zip_push}
 use Rattle.reg_checkers.proofs.Places.{at_take, element_at, in_take, within}
 use Rattle.reg_checkers.proofs.Pushing.{at_push}
-use Rattle.reg_outcomes.proofs.InTime.{take_at as first_and_next}
+use Rattle.reg_interleavings.proofs.Elements.{take_at as first_and_next}
 use Rattle.reg_world.proofs.lists.Bodies.{place_first, place_last}
 use Rattle.reg_world.proofs.lists.Members.{at_in}
 use Rattle.reg_world.proofs.one_memory.Replicas.{memory-append}

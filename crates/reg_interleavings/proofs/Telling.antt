@@ -3,7 +3,7 @@ use Rattle.std.proofs.Common.{◌≡◌, ℕ, ◌+◌, ◌<◌, ◌≤◌, true,
 use Rattle.std.specs.Prelude.{insert, nat_lt}
 use Rattle.std.proofs.lemmas.Bool.Decides.{nat_tests}
 use Rattle.std.proofs.lemmas.List.{drop_all, drop_more, take_more}
-use Rattle.reg_outcomes.specs.declared.outcomes.ToldValue.{ToldValue}
+use Rattle.reg_interleavings.specs.declared.told.ToldValue.{ToldValue}
 use Rattle.reg_interleavings.specs.Interleavings.{told_behind}
 
 is_below : (a b : ℕ) → a < b → nat_lt a b ≡ true

@@ -18,8 +18,8 @@ use Rattle.reg_world.specs.Laws.{AllAcknowledged, IsQuiescent}
 use Rattle.reg_world.specs.World.{World, op_id, whole}
 use Rattle.reg_world.proofs.witness.Promised.{rests}
 use Rattle.reg_workload.specs.Plays.{calls_of}
-use Rattle.reg_outcomes.specs.Told.{outcome_of}
-use Rattle.reg_outcomes.proofs.Telling.{outcome_none}
+use Rattle.reg_interleavings.specs.Told.{outcome_of}
+use Rattle.reg_interleavings.proofs.TellingHistory.{outcome_none}
 use Rattle.reg_runs.specs.Rest.{CanRest}
 use Rattle.reg_interleavings.specs.Finishing.{HasRoom, IsOutcome, UsesUp}
 use Rattle.reg_interleavings.specs.Interleavings.{ArePlayable, Interleaving, IsInterleaving, Leads, Nothing, Turn, Stage, first_stage, script_of, stage_after, told_after}

@@ -11,9 +11,9 @@ use Rattle.reg_base.specs.Order.{In}
 use Rattle.reg_base.proofs.Lists.{in_cases}
 use Rattle.reg_checkers.specs.declared.entries.Entry.{Entry}
 use Rattle.reg_checkers.specs.declared.entries.Entry.TheVariants.{Called, Answered}
-use Rattle.reg_outcomes.specs.declared.outcomes.ToldValue.{ToldValue}
-use Rattle.reg_outcomes.specs.Told.{told_in, told_at, told_of, outcome_of}
-use Rattle.reg_outcomes.proofs.Telling.{outcome_none, outcome_next}
+use Rattle.reg_interleavings.specs.declared.told.ToldValue.{ToldValue}
+use Rattle.reg_interleavings.specs.Told.{told_in, told_at, told_of, outcome_of}
+use Rattle.reg_interleavings.proofs.TellingHistory.{outcome_none, outcome_next}
 use Rattle.reg_interleavings.specs.Interleavings.{told_behind, told_after}
 
 -- a value stands behind all values of its process and of those before it

@@ -1,10 +1,11 @@
 -- What is put in several lines.
-use Rattle.std.proofs.Common.{ℕ, ◌≡◌, ◌≤◌, List, [], ◌∷◌, ◌++◌, length, map, take, Option, codes, refl, sym, ap, ◌∙◌, take_all}
+use Rattle.std.proofs.Common.{ℕ, ◌≡◌, ◌+◌, ◌<◌, ◌≤◌, List, [], ◌∷◌, ◌++◌, length, map, take, get_or, Option, codes, refl, sym, ap, ◌∙◌, take_all, append-nil}
 use Rattle.std.specs.Fmt.{decimal}
 use Rattle.std.specs.List.{flat_map}
 use Rattle.std.proofs.lemmas.Grind.{flat_map-append}
+use Rattle.std.proofs.lemmas.List.{take_more}
 use Rattle.std.proofs.lemmas.List.Folds.{flat_map-map}
-use Rattle.reg_outcomes.specs.declared.outcomes.ToldValue.{ToldValue}
+use Rattle.reg_interleavings.specs.declared.told.ToldValue.{ToldValue}
 use Rattle.reg_text.specs.declared.writing.Sink.{Sink}
 use Rattle.reg_text.specs.Lines.{text_of}
 use Rattle.reg_text.specs.Writing.{Puts}
@@ -36,3 +37,10 @@ puts_all held operations stages found nevers a b c d e f p q r s t =
     puts_as held a f (x ++ (y ++ (z ++ (lines ++ last)))) (all_text operations stages found nevers)
     (ap (λ l. x ++ (y ++ (z ++ l))) (sym (flat_map-append (λ line. line ++ 10 ∷ []) (map outcome_text found) (never_lines nevers))))
     (puts_four held a b c d f x y z (lines ++ last) p q r (puts_two held d e f lines last s t))
+
+-- one more part of a list
+pub puts_next : {S : Type 0} (held : S → Option (List ℕ)) {X : Type 0} (a b c : Sink S) (f : X → List ℕ) (xs : List X) (i : ℕ) (d : X) → i < length xs → Puts held a b (flat_map f (take i xs)) → Puts held b c (f (get_or xs i d)) → Puts held a c (flat_map f (take (i + 1) xs))
+puts_next held a b c f xs i d l p q =
+    puts_as held a c (flat_map f (take i xs) ++ f (get_or xs i d)) (flat_map f (take (i + 1) xs))
+    (sym (ap (flat_map f) (take_more xs i d l) ∙ flat_map-append f (take i xs) (get_or xs i d ∷ []) ∙ ap (λ t. flat_map f (take i xs) ++ t) (append-nil (f (get_or xs i d)))))
+    (puts_two held a b c (flat_map f (take i xs)) (f (get_or xs i d)) p q)

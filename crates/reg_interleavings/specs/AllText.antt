@@ -4,11 +4,18 @@ use Rattle.std.specs.List.{flat_map, sum_by}
 use Rattle.std.specs.Fmt.{decimal}
 use Rattle.reg_base.specs.declared.memory.Op.{Op}
 use Rattle.reg_text.specs.Lines.{text_of}
-use Rattle.reg_outcomes.specs.declared.outcomes.ToldValue.{ToldValue}
-use Rattle.reg_outcomes.specs.TableText.{told_text, value_text}
+use Rattle.reg_interleavings.specs.declared.told.ToldValue.{ToldValue}
 use Rattle.reg_interleavings.specs.declared.nevers.TheConstants.{MOST_NEVERS}
 use Rattle.reg_interleavings.specs.Interleavings.{AreAll, CountsStages, Interleaving}
 use Rattle.reg_interleavings.specs.Nevers.{TellsNevers, tells}
+
+-- an operation and its value
+abbrev pub value_text : ToldValue → List ℕ
+value_text t = codes "p" ++ (decimal t.process ++ (codes " #" ++ (decimal t.number ++ (codes " value " ++ decimal t.value))))
+
+-- and two spaces
+abbrev pub told_text : ToldValue → List ℕ
+told_text t = value_text t ++ codes "  "
 
 -- the processes in the order of their turns
 abbrev pub turns_text : List ℕ → List ℕ

@@ -6,8 +6,8 @@ use Rattle.std.specs.Set.{remove_key}
 use Rattle.std.specs.BTreeSet.{BTreeSet}
 use Rattle.reg_base.specs.Order.{In}
 use Rattle.reg_checkers.specs.History.{IsAt}
-use Rattle.reg_outcomes.specs.declared.outcomes.ToldValue.{ToldValue}
-use Rattle.reg_outcomes.specs.Tables.{told_cmp}
+use Rattle.reg_interleavings.specs.declared.told.ToldValue.{ToldValue}
+use Rattle.reg_interleavings.specs.Told.{told_cmp}
 use Rattle.reg_interleavings.specs.Nevers.{StandsAt}
 
 -- the lists that a set holds

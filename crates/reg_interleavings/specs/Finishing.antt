@@ -7,9 +7,10 @@ use Rattle.reg_front.specs.declared.starts.Start.{Start}
 use Rattle.reg_process.specs.declared.events.Event.{Event}
 use Rattle.reg_world.specs.World.{whole}
 use Rattle.reg_workload.specs.Plays.{calls_of}
-use Rattle.reg_outcomes.specs.declared.outcomes.ToldValue.{ToldValue}
-use Rattle.reg_outcomes.specs.Told.{outcome_of}
-use Rattle.reg_checkers.specs.History.{IsAt}
+use Rattle.reg_interleavings.specs.declared.told.ToldValue.{ToldValue}
+use Rattle.reg_interleavings.specs.Told.{outcome_of}
+use Rattle.reg_checkers.specs.declared.entries.Entry.{Entry}
+use Rattle.reg_checkers.specs.History.{IsAt, IsFinished}
 use Rattle.reg_interleavings.specs.Interleavings.{Interleaving, script_of}
 
 -- Each of these events is accepted, by them each process calls the operations of its script, in order and no other, and
@@ -18,6 +19,10 @@ pub record UsesUp (start : Op → ℕ → Start) (scripts : List (List Op)) (reg
   pub accepted : (whole start (length scripts) registers events).accepted ≡ events
   pub called : (p : ℕ) → p < length scripts → calls_of p events ≡ script_of scripts p
   pub idle : (p : ℕ) → p < length scripts → ((whole start (length scripts) registers events).nodes p).state.running ≡ None
+
+-- each operation of the scripts has its answer
+abbrev pub AllAnswered : List (List Op) → List Entry → Type 0
+AllAnswered scripts h = (p k : ℕ) (op : Op) → IsAt (script_of scripts p) k op → IsFinished h (record { process = p; number = k })
 
 -- the values that the operations of these events answered, by process and then by number
 abbrev pub told_by : (Op → ℕ → Start) → List (List Op) → ℕ → List Event → List ToldValue

@@ -10,8 +10,8 @@ use Rattle.reg_base.specs.declared.memory.Answer.{Answer}
 use Rattle.reg_base.specs.declared.memory.Answer.TheVariants.{Done, Value}
 use Rattle.reg_base.specs.Memory.{Memory, after, answer_of, blank, register_of}
 use Rattle.reg_checkers.specs.History.{IsAt}
-use Rattle.reg_outcomes.specs.declared.outcomes.ToldValue.{ToldValue}
-use Rattle.reg_outcomes.specs.Tables.{told_cmp}
+use Rattle.reg_interleavings.specs.declared.told.ToldValue.{ToldValue}
+use Rattle.reg_interleavings.specs.Told.{told_cmp}
 use Rattle.reg_interleavings.specs.declared.faults.InterleavingFault.{InterleavingFault}
 use Rattle.reg_interleavings.specs.declared.faults.InterleavingFault.TheVariants.{TooManyStages, OutOfMemory}
 
@@ -89,6 +89,13 @@ pub record CountsStages (scripts : List (List Op)) (registers n : ℕ) : Type 0 
   pub led : (k : ℕ) (s : Stage) → IsAt stages k s → (turns : List ℕ) × Leads scripts registers turns s
   pub all : (turns : List ℕ) (s : Stage) → Leads scripts registers turns s → (k : ℕ) × IsAt stages k s
 
+-- there are more stages than so many: this many are led to, each once
+pub record HasMoreStages (scripts : List (List Op)) (registers most : ℕ) : Type 0 where
+  pub stages : List Stage
+  pub more : most < length stages
+  pub once : (i j : ℕ) (s : Stage) → IsAt stages i s → IsAt stages j s → i ≡ j
+  pub led : (k : ℕ) (s : Stage) → IsAt stages k s → (turns : List ℕ) × Leads scripts registers turns s
+
 -- a script that can be run: not too long, and each operation on a register that there is
 pub record IsPlayable (registers : ℕ) (script : List Op) : Type 0 where
   pub few : length script ≤ MOST_OPERATIONS
@@ -103,3 +110,8 @@ pub record ArePlayable (scripts : List (List Op)) (registers : ℕ) : Type 0 whe
 abbrev pub IsFault : List (List Op) → ℕ → ℕ → InterleavingFault → Type 0
 IsFault scripts registers limit TooManyStages = IsWider scripts registers limit
 IsFault scripts registers limit OutOfMemory = Unit {0}
+
+-- why no outcomes of few stages are given
+abbrev pub IsFewFault : List (List Op) → ℕ → ℕ → InterleavingFault → Type 0
+IsFewFault scripts registers most TooManyStages = HasMoreStages scripts registers most
+IsFewFault scripts registers most OutOfMemory = Unit {0}

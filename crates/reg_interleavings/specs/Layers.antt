@@ -11,8 +11,8 @@ use Rattle.reg_base.specs.declared.memory.Op.{Op}
 use Rattle.reg_base.specs.Memory.{register_of}
 use Rattle.reg_base.specs.Order.{In}
 use Rattle.reg_checkers.specs.History.{IsAt}
-use Rattle.reg_outcomes.specs.declared.outcomes.ToldValue.{ToldValue}
-use Rattle.reg_outcomes.specs.Tables.{told_cmp}
+use Rattle.reg_interleavings.specs.declared.told.ToldValue.{ToldValue}
+use Rattle.reg_interleavings.specs.Told.{told_cmp}
 use Rattle.reg_interleavings.specs.declared.faults.InterleavingFault.{InterleavingFault}
 use Rattle.reg_interleavings.specs.declared.faults.InterleavingFault.TheVariants.{TooManyStages, OutOfMemory}
 use Rattle.reg_interleavings.specs.declared.stages.Stage.{Stage as Held}

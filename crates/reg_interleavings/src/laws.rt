@@ -1,12 +1,22 @@
 //! Laws of interleavings and runs, for every lawful front end. Each is a function that does nothing: its contract is
 //! the law.
-ghost use Rattle.std.specs.Prelude.{ℕ, List};
+ghost use Rattle.std.specs.Prelude.{ℕ, ◌≡◌, ◌<◌, ◌↔◌, List, length};
 ghost use Rattle.reg_base.specs.declared.memory.Op.{Op};
 ghost use Rattle.reg_front.specs.declared.starts.Start.{Start};
 ghost use Rattle.reg_front.specs.Fronts.{KeepsLaws};
-ghost use Rattle.reg_outcomes.specs.declared.outcomes.ToldValue.{ToldValue as AnyValue};
-ghost use Rattle.reg_interleavings.specs.Finishing.{HasRoom, HaveAllOutcomes, IsOutcome};
+ghost use Rattle.reg_interleavings.specs.declared.told.ToldValue.{ToldValue as AnyValue};
+ghost use Rattle.reg_process.specs.declared.events.Event.{Event};
+ghost use Rattle.reg_world.specs.World.{whole};
+ghost use Rattle.reg_workload.specs.Plays.{FollowsScript};
+ghost use Rattle.reg_interleavings.specs.Finishing.{AllAnswered, HasRoom, HaveAllOutcomes, IsOutcome, UsesUp};
 ghost use Rattle.reg_interleavings.specs.Interleavings.{AreAll, ArePlayable, Interleaving, IsInterleaving};
+
+/// Where processes call the operations of their scripts in order and no other, they use the scripts up just where each
+/// operation of the scripts is answered.
+pub fn used_up_where_answered()
+    ensures { (start : Op → ℕ → Start) (scripts : List (List Op)) (registers : ℕ) (events : List Event) → KeepsLaws start → (whole start (length scripts) registers events).accepted ≡ events → ((p : ℕ) → p < length scripts → FollowsScript scripts events p)
+        → UsesUp start scripts registers events ↔ AllAnswered scripts (whole start (length scripts) registers events).history }
+{}
 
 /// No outcome is missing among the interleavings: whatever a run that uses the scripts up tells, some interleaving
 /// tells.

@@ -4,13 +4,13 @@ ghost use Rattle.std.specs.Option.{option_map};
 ghost use Rattle.std.specs.BTreeSet.{IsOrdered};
 ghost use Rattle.std.specs.Cmp.Lexicographic.{slice_cmp};
 ghost use Rattle.reg_checkers.specs.History.{IsAt};
-ghost use Rattle.reg_outcomes.specs.declared.outcomes.ToldValue.{ToldValue as AnyValue};
-ghost use Rattle.reg_outcomes.specs.Tables.{told_cmp};
+ghost use Rattle.reg_interleavings.specs.declared.told.ToldValue.{ToldValue as AnyValue};
+ghost use Rattle.reg_interleavings.specs.Told.{told_cmp};
 ghost use Rattle.reg_interleavings.specs.Nevers.{AreOver, TellsNevers, tells};
 ghost use Rattle.reg_interleavings.specs.Combining.{AreCombinations, AreValuesAt, Grows, IsLonger, cut_all, lists_of};
 
 use crate::outcomes::Outcome;
-use reg_outcomes::ToldValue;
+use crate::told::ToldValue;
 use std::alloc::{AllocError, Allocator};
 use std::collections::BTreeSet;
 

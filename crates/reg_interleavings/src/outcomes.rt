@@ -1,16 +1,17 @@
 //! All outcomes of scripts.
-ghost use Rattle.std.specs.Prelude.{◌≡◌, ◌<◌, [], map, IfOk, IfErr, OnOk};
+ghost use Rattle.std.specs.Prelude.{◌≡◌, ◌<◌, [], ℕ, List, map, IfOk, IfErr, OnOk};
 ghost use Rattle.std.specs.BTreeMap.{IsOrdered};
 ghost use Rattle.std.specs.Cmp.Lexicographic.{slice_cmp};
-ghost use Rattle.reg_outcomes.specs.Tables.{told_cmp};
+ghost use Rattle.reg_interleavings.specs.Told.{told_cmp};
+ghost use Rattle.reg_base.specs.declared.memory.Op.{Op as AnyOp};
 ghost use Rattle.reg_interleavings.specs.Interleavings.{AreAll, ArePlayable, CountsStages, IsFault, IsWider};
-ghost use Rattle.reg_interleavings.specs.Layers.{Adds, IsToldIn, entries_of, interleaving_of, told_entries};
+ghost use Rattle.reg_interleavings.specs.Layers.{Adds, IsLayer, IsToldIn, entries_of, interleaving_of, operation_count, told_entries};
 
 use crate::faults::InterleavingFault;
 use crate::layers::{LastLayer, Layer, last_layer};
 use crate::stages::Stage;
+use crate::told::ToldValue;
 use reg_base::Op;
-use reg_outcomes::ToldValue;
 use std::alloc::{AllocError, Allocator, Global};
 use std::collections::BTreeMap;
 use std::marker::Model;
@@ -93,6 +94,20 @@ pub struct AllOutcomes<A: Allocator + Copy = Global> {
     pub stages: u64,
 }
 
+/// What is told at the stages at which scripts are used up.
+pub(crate) fn tell_last<A: Allocator + Copy>(
+    alloc: A,
+    last: LastLayer<A>,
+) -> Result<AllOutcomes<A>, AllocError>
+    ensures outcomes { IfOk result (λ all. (scripts : List (List AnyOp)) (registers : ℕ) → IsLayer scripts registers (operation_count scripts) (entries_of last.layer) → AreAll scripts registers all.list.items) }
+    ensures stages { IfOk result (λ all. all.stages ≡ last.stages) }
+{
+    let LastLayer { layer, stages } = last;
+    let outcomes = tell_layer(alloc, layer)?;
+    let list = listed(alloc, outcomes)?;
+    Ok(AllOutcomes { list, stages })
+}
+
 /// All outcomes that interleavings of the scripts, one for each process, have on one memory with so many registers:
 /// each once, rising, and with the turns of an interleaving that has it. It goes turn by turn, and keeps each stage
 /// after so many turns once, so what it needs is the number of stages and not that of the interleavings.
@@ -113,8 +128,6 @@ pub fn all_outcomes<A: Allocator + Copy>(
     ensures narrow { OnOk result (¬ IsWider (map (λ v. v.items) scripts.now) registers limit) }
     ensures refused { IfErr result (IsFault (map (λ v. v.items) scripts.now) registers limit) }
 {
-    let LastLayer { layer, stages } = last_layer(alloc, scripts, registers, limit)?;
-    let outcomes = tell_layer(alloc, layer)?;
-    let list = listed(alloc, outcomes)?;
-    Ok(AllOutcomes { list, stages })
+    let last = last_layer(alloc, scripts, registers, limit)?;
+    Ok(tell_last(alloc, last)?)
 }

@@ -1,12 +1,12 @@
 //! Where interleaved scripts stand.
 ghost use Rattle.std.specs.Prelude.{◌≡◌, ◌<◌, ◌≤◌, ◌-◌, length, slice_get, slice_index, map, IfOk, OnOk, insert};
 ghost use Rattle.reg_base.specs.Memory.{after, register_of};
-ghost use Rattle.reg_outcomes.specs.declared.outcomes.ToldValue.{ToldValue as AnyValue};
+ghost use Rattle.reg_interleavings.specs.declared.told.ToldValue.{ToldValue as AnyValue};
 ghost use Rattle.reg_interleavings.specs.Interleavings.{first_stage, script_of, stage_after, told_after, told_behind};
 ghost use Rattle.reg_interleavings.specs.Layers.{stage_of};
 
+use crate::told::ToldValue;
 use reg_base::{Answer, Op, OpId};
-use reg_outcomes::ToldValue;
 use std::alloc::{AllocError, Allocator, Global};
 
 /// Where interleaved scripts stand.

@@ -4,12 +4,12 @@ ghost use Rattle.std.specs.Option.{option_map};
 ghost use Rattle.std.specs.Io.KnownBytes.{Appends};
 ghost use Rattle.reg_text.specs.Lines.{text_of};
 ghost use Rattle.reg_text.specs.Writing.{AppendsPart, Puts};
-ghost use Rattle.reg_outcomes.specs.TableText.{value_text};
-ghost use Rattle.reg_interleavings.specs.AllText.{all_text, never_lines, outcome_text, turns_text, values_text};
+ghost use Rattle.reg_interleavings.specs.AllText.{all_text, never_lines, outcome_text, turns_text, value_text, values_text};
 
 use crate::nevers::MOST_NEVERS;
 use crate::outcomes::{AllOutcomes, Outcome};
-use reg_outcomes::{ToldValue, put_count, put_outcome, put_value};
+use crate::told::ToldValue;
+use crate::values::{put_count, put_outcome, put_value};
 use reg_text::{Sink, Unwritten, put_number};
 use std::alloc::Allocator;
 use std::io::Write;

@@ -1,36 +1,78 @@
 -- What is told of one play more.
-use Rattle.std.proofs.Common.{◌≡◌, ◌⊎◌, ◌↔◌, inl, inr, ℕ, zero, suc, ◌+◌, ◌<◌, ◌≤◌, Bool, true, false, cond, List, [], ◌∷◌, ◌++◌, length, Option, Some, None, refl, ap, sym, ◌∙◌, subst, arith, length-append}
-use Rattle.std.specs.Prelude.{IfSome, ◌^◌, ◌-◌}
+use Rattle.std.proofs.Common.{◌≡◌, ◌≢◌, ◌⊎◌, inl, inr, ℕ, zero, suc, ◌+◌, ◌<◌, ◌≤◌, Bool, true, false, cond, List, [], ◌∷◌, ◌++◌, length, Option, Some, None, refl, ap, sym, ◌∙◌, subst, arith, length-append}
+use Rattle.std.specs.Prelude.{IfSome, ◌↔◌, ◌^◌, ◌-◌, not}
 use Rattle.std.specs.BTreeMap.{BTreeMap, get, Updates, is_at}
 use Rattle.std.proofs.lemmas.Bool.{cases_Bool, false≢true}
-use Rattle.std.proofs.lemmas.Option.{same_Some}
+use Rattle.std.proofs.lemmas.Option.{same_Some, slice_get_within}
 use Rattle.reg_checkers.specs.History.{IsAt}
-use Rattle.reg_outcomes.specs.declared.outcomes.ToldValue.{ToldValue}
+use Rattle.reg_checkers.proofs.Pushing.{at_push}
+use Rattle.reg_interleavings.specs.declared.told.ToldValue.{ToldValue}
 use Rattle.reg_outcomes.specs.declared.tallies.Tally.{Tally}
-use Rattle.reg_outcomes.specs.Tables.{Seen, HasOutcome, IsNoShorter, IsTally, IsTallyOf, Nothing}
+use Rattle.reg_outcomes.specs.Tables.{Seen, HasOutcome, IsFirst, IsNoShorter, IsTally, IsTallyOf, Nothing}
 use Rattle.reg_outcomes.specs.Counts.{IsShorter, IsShortest, TellsOf, key_cmp, IsCounted, HasRoom}
 use Rattle.reg_outcomes.proofs.Those.{at_front, at_new, at_cases, those_more, those_same, no_those, those_few}
 use Rattle.reg_outcomes.proofs.Ordering.{same_keys, tied_keys}
 
--- some play of these keeps real time
-abbrev SomeInTime : List Seen → Type 0
-SomeInTime plays = (k : ℕ) × (s : Seen) × IsAt plays k s × (s.in_time ≡ true)
+-- whether a play is of a kind
+pub is_true : (b : Bool) → (b ≡ true) ↔ (b ≡ true)
+is_true b = (λ e. e, λ e. e)
 
-pub first_tally : (s : Seen) → IsTally (s ∷ []) (record { count = 1; events = s.events; seed = s.seed; in_time = s.in_time })
-first_tally s = record {
+pub is_false : (b : Bool) → (not b ≡ true) ↔ (b ≡ false)
+is_false true = (λ e. absurd (false≢true e), λ e. absurd (false≢true (sym e)))
+is_false false = (λ e. refl, λ e. refl)
+
+-- the first of a kind, of no plays and of one play more
+pub first_none : (kind : Bool) → IsFirst kind [] None
+first_none kind k s h = absurd cc
+
+module _ (kind : Bool) (plays : List Seen) (s : Seen) where
+  first_kept : (seed : ℕ) → IsFirst kind plays (Some seed) → IsFirst kind (plays ++ s ∷ []) (Some seed)
+  first_kept seed (k, x, h, is, e, least) = (
+    k,
+    x,
+    at_front plays (s ∷ []) k x h,
+    is,
+    e,
+    λ j other at same. elim (at_push plays j s other at) [
+      | inl old ↦ least j other old same
+      | inr (j_is, is_new) ↦ let inside : k < length plays = slice_get_within plays k x h in omega (arith, inside, j_is)
+    ],
+  )
+
+  pub first_more : (o : Option ℕ) (seed : ℕ) → o ≡ Some seed → IsFirst kind plays o → IsFirst kind (plays ++ s ∷ []) (Some seed)
+  first_more o seed is first = first_kept seed (subst (λ (x : Option ℕ). IsFirst kind plays x) is first)
+
+  pub first_now : s.linearizable ≡ kind → IsFirst kind plays None → IsFirst kind (plays ++ s ∷ []) (Some s.seed)
+  first_now is none = (
+    length plays,
+    s,
+    at_new plays s,
+    is,
+    refl,
+    λ j other at same. elim (at_push plays j s other at) [
+      | inl old ↦ absurd (none j other old same)
+      | inr (j_is, is_new) ↦ omega (arith, j_is)
+    ],
+  )
+
+  pub first_not : s.linearizable ≢ kind → IsFirst kind plays None → IsFirst kind (plays ++ s ∷ []) None
+  first_not other none = λ k x at same. elim (at_push plays k s x at) [
+    | inl old ↦ none k x old same
+    | inr (k_is, is_new) ↦ other (sym (ap (λ (y : Seen). y.linearizable) is_new) ∙ same)
+  ]
+
+pub first_tally : (s : Seen) (in_time late : Option ℕ) → IsFirst true (s ∷ []) in_time → IsFirst false (s ∷ []) late → IsTally (s ∷ []) (record { count = 1; events = s.events; seed = s.seed; in_time = in_time; late = late })
+first_tally s in_time late first other = record {
   count = refl;
   shortest = (0, s, refl, refl, refl);
   least = least;
-  in_time = (λ e. (0, s, refl, e), back);
+  in_time = first;
+  late = other;
 }
   where
-    least : (k : ℕ) (x : Seen) → IsAt (s ∷ []) k x → IsNoShorter (record { count = 1; events = s.events; seed = s.seed; in_time = s.in_time }) x
+    least : (k : ℕ) (x : Seen) → IsAt (s ∷ []) k x → IsNoShorter (record { count = 1; events = s.events; seed = s.seed; in_time = in_time; late = late }) x
     least zero x h = let e : s ≡ x = same_Some s x h in inr (ap (λ (y : Seen). y.events) e, (let q = ap (λ (y : Seen). y.seed) e in omega (arith, q)))
     least (suc k) x h = absurd cc
-
-    back : SomeInTime (s ∷ []) → s.in_time ≡ true
-    back (zero, x, h, e) = ap (λ (y : Seen). y.in_time) (same_Some s x h) ∙ e
-    back (suc k, x, h, e) = absurd cc
 
 below : (s : Seen) (t : Tally) (x : Seen) → IsShorter s t → IsNoShorter t x → (s.events < x.events) ⊎ ((s.events ≡ x.events) × (s.seed ≤ x.seed))
 below s t x (inl a) (inl b) = inl (omega arith)
@@ -42,38 +84,19 @@ module _ (plays : List Seen) (s : Seen) (t : Tally) (told : IsTally plays t) whe
   one_more : length (plays ++ s ∷ []) ≡ length plays + 1
   one_more = length-append plays (s ∷ [])
 
-  in_front : SomeInTime plays → SomeInTime (plays ++ s ∷ [])
-  in_front (k, x, h, e) = (k, x, at_front plays (s ∷ []) k x h, e)
-
-  behind : s.in_time ≡ true → SomeInTime (plays ++ s ∷ [])
-  behind e = (length plays, s, at_new plays s, e)
-
-  either : SomeInTime (plays ++ s ∷ []) → (t.in_time ≡ true) ⊎ (s.in_time ≡ true)
-  either (k, x, h, e) = elim (at_cases plays s k x h) [
-    | inl old ↦ inl (told.in_time.1 (k, x, old, e))
-    | inr new ↦ inr (ap (λ (y : Seen). y.in_time) new ∙ e)
-  ]
-
-  -- real time was kept already
-  pub kept_before : t.in_time ≡ true → (t.in_time ≡ true) ↔ SomeInTime (plays ++ s ∷ [])
-  kept_before e = (λ h. in_front (told.in_time.0 h), λ _. e)
-
-  -- or it is told by the play alone
-  pub kept_now : t.in_time ≡ false → (s.in_time ≡ true) ↔ SomeInTime (plays ++ s ∷ [])
-  kept_now e = (behind, λ h. elim (either h) [ inl old ↦ absurd (false≢true (sym e ∙ old)) | inr new ↦ new ])
-
-  pub joined_tally : (events seed : ℕ) (in_time : Bool) → IsShortest s t events seed → (in_time ≡ true) ↔ SomeInTime (plays ++ s ∷ [])
-      → IsTally (plays ++ s ∷ []) (record { count = t.count + 1; events = events; seed = seed; in_time = in_time })
-  joined_tally events seed in_time (inl (shorter, e, f)) kept = record {
+  pub joined_tally : (events seed : ℕ) (in_time late : Option ℕ) → IsShortest s t events seed → IsFirst true (plays ++ s ∷ []) in_time → IsFirst false (plays ++ s ∷ []) late
+      → IsTally (plays ++ s ∷ []) (record { count = t.count + 1; events = events; seed = seed; in_time = in_time; late = late })
+  joined_tally events seed in_time late (inl (shorter, e, f)) first other = record {
     count = (let a = told.count in omega (arith, a, one_more));
     shortest = (length plays, s, at_new plays s, sym e, sym f);
     least = λ k x h. elim (at_cases plays s k x h) [
       | inl old ↦ elim (below s t x shorter (told.least k x old)) [ inl a ↦ inl (omega (arith, e, a)) | inr b ↦ let p = b.0 in let q = b.1 in inr (e ∙ p, omega (arith, f, q)) ]
       | inr new ↦ inr (e ∙ ap (λ (y : Seen). y.events) new, (let q = ap (λ (y : Seen). y.seed) new in omega (arith, f, q)))
     ];
-    in_time = kept;
+    in_time = first;
+    late = other;
   }
-  joined_tally events seed in_time (inr (longer, e, f)) kept =
+  joined_tally events seed in_time late (inr (longer, e, f)) first other =
       let old = told.shortest in
       record {
         count = (let a = told.count in omega (arith, a, one_more));
@@ -82,7 +105,8 @@ module _ (plays : List Seen) (s : Seen) (t : Tally) (told : IsTally plays t) whe
           | inl old ↦ moved x (told.least k x old)
           | inr new ↦ moved x (subst (λ (y : Seen). IsNoShorter t y) new longer)
         ];
-        in_time = kept;
+        in_time = first;
+        late = other;
       }
     where
       moved : (x : Seen) → IsNoShorter t x → (events < x.events) ⊎ ((events ≡ x.events) × (seed ≤ x.seed))

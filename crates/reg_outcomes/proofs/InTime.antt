@@ -19,6 +19,7 @@ use Rattle.reg_checkers.specs.History.{IsAt, IsHistory}
 use Rattle.reg_checkers.specs.Orders.{IsDistinct}
 use Rattle.reg_checkers.proofs.Histories.{events_rise}
 use Rattle.reg_checkers.proofs.Places.{get_push_other, in_take, same_at}
+use Rattle.reg_interleavings.proofs.Elements.{take_at}
 use Rattle.reg_outcomes.proofs.Those.{at_front, at_new, at_cases}
 use Rattle.reg_world.specs.RealTime.{KeepsRealTime}
 use Rattle.reg_outcomes.specs.Timing.{id_cmp, IsPlaceOf, called_bound, answered_bound, bound_next, IsInTime}
@@ -50,11 +51,6 @@ place_next ids x old new updates places id = elim (cases_Bool (is_at (id_cmp x) 
       subst (λ o. IsPlaceOf (ids ++ x ∷ []) id o) (sym found)
       (place_still ids x id (get id_cmp old id) (λ e. false≢true (sym at ∙ (ap (λ y. is_eq (id_cmp x y)) e ∙ ap is_eq (tied_itself ids_total x)))) (places id))
 ]
-
-pub take_at : {X : Type 0} (xs : List X) (n : ℕ) (x : X) → IsAt xs n x → take (n + 1) xs ≡ take n xs ++ x ∷ []
-take_at [] n x h = absurd cc
-take_at (y ∷ xs) zero x h = ap (λ z. z ∷ []) (same_Some y x h)
-take_at (y ∷ xs) (suc n) x h = (let e : suc n + 1 ≡ suc (n + 1) = omega arith in ap (λ k. take k (y ∷ xs)) e) ∙ ap (λ l. y ∷ l) (take_at xs n x h)
 
 pub place_step : (order : List OpId) (n : ℕ) (x : OpId) (old new : BTreeMap OpId ℕ) → Updates id_cmp old new x (Some n) → IsAt order n x → ((id : OpId) → IsPlaceOf (take n order) id (get id_cmp old id)) → (id : OpId) → IsPlaceOf (take (n + 1) order) id (get id_cmp new id)
 place_step order n x old new updates here places id =

@@ -1,5 +1,5 @@
 -- The order of outcomes and of lines.
-use Rattle.std.proofs.Common.{◌≡◌, inl, inr, ℕ, Bool, true, false, List, [], ◌∷◌, refl, ap, ap₂, sym, ◌∙◌}
+use Rattle.std.proofs.Common.{◌≡◌, inl, inr, Bool, true, false, List, refl, ap, sym, ◌∙◌}
 use Rattle.std.specs.declared.cmp.Ordering.{Ordering}
 use Rattle.std.specs.declared.cmp.Ordering.TheVariants.{Less, Equal, Greater}
 use Rattle.std.specs.Ordering.{nat_cmp, ordering_then, ordering_reverse, is_eq, is_lt}
@@ -11,37 +11,15 @@ use Rattle.std.proofs.lemmas.List.Sorted.{ranks_by}
 use denote.Param.Members.{Mut}
 use denote.Ref.{Bor}
 use Rattle.std.specs.Cmp.Lexicographic.{slice_cmp}
-use Rattle.std.proofs.lemmas.Cmp.{nat_cmp_total, on_total, then_total, lists_total, back_total, tied_itself, ranked}
-use Rattle.std.proofs.lemmas.Map.Lookups.{CmpEqualImpliesEq, exact_unsigned, exact_pairs}
-use Rattle.reg_outcomes.specs.declared.outcomes.ToldValue.{ToldValue}
-use Rattle.reg_outcomes.specs.Tables.{Line, StandsBefore, told_cmp}
+use Rattle.std.proofs.lemmas.Cmp.{nat_cmp_total, on_total, then_total, back_total, tied_itself, ranked}
+use Rattle.reg_interleavings.specs.declared.told.ToldValue.{ToldValue}
+use Rattle.reg_interleavings.specs.Told.{told_cmp}
+use Rattle.reg_interleavings.proofs.ToldOrder.{outcomes_exact, outcomes_total}
+use Rattle.reg_outcomes.specs.Tables.{Line, StandsBefore}
 use Rattle.reg_outcomes.specs.Counts.{line_cmp}
-
-pub told_total : IsTotalOrder told_cmp
-told_total = then_total (on_total (λ t. t.process) nat_cmp_total) (then_total (on_total (λ t. t.number) nat_cmp_total) (on_total (λ t. t.value) nat_cmp_total))
-
-pub outcomes_total : IsTotalOrder (slice_cmp told_cmp)
-outcomes_total = lists_total told_total
 
 pub keys_total : {K : Type 0} (items : K → List ToldValue) → IsTotalOrder (λ a b. slice_cmp told_cmp (items a) (items b))
 keys_total items = on_total items outcomes_total
-
-told_exact : CmpEqualImpliesEq told_cmp
-told_exact a b h = ap (λ (p : ℕ × (ℕ × ℕ)). record { process = p.0; number = p.1.0; value = p.1.1 })
-    (exact_pairs nat_cmp (λ (x y : ℕ × ℕ). ordering_then (nat_cmp x.0 y.0) (nat_cmp x.1 y.1)) exact_unsigned (exact_pairs nat_cmp nat_cmp exact_unsigned exact_unsigned) (a.process, (a.number, a.value)) (b.process, (b.number, b.value)) h)
-
-both_equal : (a b : Ordering) → ordering_then a b ≡ Equal → (a ≡ Equal) × (b ≡ Equal)
-both_equal Less b h = absurd cc
-both_equal Equal b h = (refl, h)
-both_equal Greater b h = absurd cc
-
-pub outcomes_exact : CmpEqualImpliesEq (slice_cmp told_cmp)
-outcomes_exact [] [] h = refl
-outcomes_exact [] (y ∷ ys) h = absurd cc
-outcomes_exact (x ∷ xs) [] h = absurd cc
-outcomes_exact (x ∷ xs) (y ∷ ys) h =
-    let both = both_equal (told_cmp x y) (slice_cmp told_cmp xs ys) h in
-    ap₂ (λ a b. a ∷ b) (told_exact x y both.0) (outcomes_exact xs ys both.1)
 
 equal_is : (o : Ordering) → is_eq o ≡ true → o ≡ Equal
 equal_is Less h = absurd cc

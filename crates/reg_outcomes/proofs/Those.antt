@@ -1,8 +1,9 @@
 -- Lists with one element more, and what holds of some of their elements.
-use Rattle.std.proofs.Common.{◌≡◌, ◌⊎◌, inl, inr, ℕ, zero, suc, ◌<◌, ◌≤◌, List, [], ◌∷◌, ◌++◌, length, Some, get_or, refl, ap, arith}
+use Rattle.std.proofs.Common.{◌≡◌, ◌⊎◌, inl, inr, ℕ, zero, suc, ◌<◌, ◌≤◌, List, [], ◌∷◌, ◌++◌, length, Some, get_or, refl, ap, subst, arith}
 use Rattle.std.specs.List.{Contains}
 use Rattle.std.proofs.lemmas.Option.{slice_get_within, same_Some}
 use Rattle.reg_checkers.specs.History.{IsAt}
+use Rattle.reg_interleavings.proofs.Elements.{has_at}
 use Rattle.reg_outcomes.specs.Tables.{AreThose, Nothing, Takes, Leaves}
 
 pub at_front : {X : Type 0} (xs ys : List X) (k : ℕ) (x : X) → IsAt xs k x → IsAt (xs ++ ys) k x
@@ -19,11 +20,6 @@ at_cases [] x zero y h = inr (same_Some x y h)
 at_cases [] x (suc k) y h = absurd cc
 at_cases (z ∷ xs) x zero y h = inl h
 at_cases (z ∷ xs) x (suc k) y h = at_cases xs x k y h
-
-pub has_at : {X : Type 0} (xs : List X) (k : ℕ) (x d : X) → IsAt xs k x → get_or xs k d ≡ x
-has_at [] k x d h = absurd cc
-has_at (y ∷ xs) zero x d h = same_Some y x h
-has_at (y ∷ xs) (suc k) x d h = has_at xs k x d h
 
 pub contains_at : {X : Type 0} (xs : List X) (k : ℕ) (x : X) → IsAt xs k x → Contains xs x
 contains_at xs k x h = (k, slice_get_within xs k x h, has_at xs k x x h)
@@ -52,3 +48,10 @@ pub those_few : {X : Type 0} {P : X → Type 0} {xs ys : List X} → AreThose P 
 those_few Nothing = omega arith
 those_few (Takes q rest) = let l = those_few rest in omega (arith, l)
 those_few (Leaves q rest) = let l = those_few rest in omega (arith, l)
+
+-- each of those is one of the others, and P holds of it
+pub those_at : {X : Type 0} {P : X → Type 0} {xs ys : List X} → AreThose P xs ys → (k : ℕ) (y : X) → IsAt ys k y → (j : ℕ) × IsAt xs j y × P y
+those_at Nothing k y h = absurd cc
+those_at {P = P} (Takes {x = x} q rest) zero y h = (0, h, subst P (same_Some x y h) q)
+those_at (Takes q rest) (suc k) y h = let there = those_at rest k y h in (suc there.0, there.1, there.2)
+those_at (Leaves q rest) k y h = let there = those_at rest k y h in (suc there.0, there.1, there.2)

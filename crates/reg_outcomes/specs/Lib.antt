@@ -1,4 +1,3 @@
-pub mod Told
 pub mod Tables
 pub mod Counts
 pub mod TableText

@@ -1,37 +1,45 @@
 -- The table of many plays of a workload. To be believed: promises speak of it.
-use Rattle.std.specs.Prelude.{ℕ, ◌≡◌, ◌↔◌, ◌+◌, ◌%◌, ◌^◌, Bool, true, List, length}
+use Rattle.std.specs.Prelude.{ℕ, ◌≡◌, ◌↔◌, ◌+◌, ◌<◌, ◌≤◌, ◌%◌, ◌^◌, true, List, length, Option, Some, None}
 use Rattle.rand_core.specs.Pcg32Seed.{pcg32_seed}
 use Rattle.rand_pcg.specs.Pcg.{pcg32, pcg32_of_seed}
 use Rattle.reg_base.specs.declared.memory.Op.{Op}
-use Rattle.reg_base.specs.declared.memory.OpId.{OpId}
 use Rattle.reg_front.specs.declared.starts.Start.{Start}
+use Rattle.reg_checkers.specs.declared.entries.Entry.{Entry}
+use Rattle.reg_checkers.specs.declared.entries.Point.{Point}
 use Rattle.reg_checkers.specs.History.{IsAt}
-use Rattle.reg_outcomes.specs.Told.{outcome_of}
-use Rattle.reg_outcomes.specs.Tables.{Seen, Line, IsTable, CountsUnfinished}
+use Rattle.reg_checkers.specs.Orders.{IsPointOrder}
 use Rattle.reg_inputs.specs.Loads.{Load}
 use Rattle.reg_workload.specs.Plays.{IsPlay}
 use Rattle.reg_workload.specs.Seeded.{seeded_play}
-use Rattle.reg_world.specs.Keys.{IsWitness}
-use Rattle.reg_world.specs.RealTime.{KeepsRealTime}
-use Rattle.reg_world.specs.World.{run_of}
-use Rattle.reg_world.specs.Worlds.{Made, run_in}
+use Rattle.reg_world.specs.Worlds.{Made}
+use Rattle.reg_interleavings.specs.declared.faults.InterleavingFault.{InterleavingFault}
+use Rattle.reg_interleavings.specs.declared.faults.InterleavingFault.TheVariants.{TooManyStages, OutOfMemory}
+use Rattle.reg_interleavings.specs.declared.kinds.OrderKind.TheVariants.{Points}
+use Rattle.reg_interleavings.specs.declared.outcomes.TheConstants.{MOST_STAGES}
+use Rattle.reg_interleavings.specs.Finding.{IsWiderSearch}
+use Rattle.reg_interleavings.specs.Finishing.{AllAnswered}
+use Rattle.reg_interleavings.specs.Interleavings.{AreAll, CountsStages, HasMoreStages, Interleaving}
+use Rattle.reg_interleavings.specs.Told.{outcome_of}
+use Rattle.reg_outcomes.specs.declared.undrawn.TheConstants.{MOST_COUNTED_STAGES}
+use Rattle.reg_outcomes.specs.Tables.{AreThose, CountsUnfinished, HasOutcome, IsTable, Line, Seen}
 
 -- the play of a workload by the words of PCG32 from this seed
 unfoldable pub play_from : (Op → ℕ → Start) → Load → ℕ → Made
 play_from start work seed = (seeded_play start pcg32 work.shape work.scripts work.loss work.repeat work.budget (pcg32_of_seed (pcg32_seed 16 seed))).0.made
 
--- whether the witness of a run keeps the real time of its history
-abbrev pub TellsTime : (Op → ℕ → Start) → Made → Bool → Type 0
-TellsTime start made in_time = (order : List OpId) × IsWitness (run_of made.registers (run_in start made)) order × ((in_time ≡ true) ↔ KeepsRealTime made.history order)
+-- the history has a point order (linearizability, Herlihy and Wing 1990)
+abbrev pub IsLinearizable : ℕ → List Entry → Type 0
+IsLinearizable registers h = (points : List Point) × IsPointOrder registers h points
 
--- What is known of the play from this seed: whether it is finished, the number of its events, its outcome, and where it
--- is finished whether its witness keeps real time.
+-- What is known of the play from this seed: whether it is finished, which it is where each operation of the scripts is
+-- answered; the number of its events; its outcome; and where it is finished whether it is linearizable.
 pub record IsSeen (start : Op → ℕ → Start) (work : Load) (seed : ℕ) (s : Seen) : Type 0 where
   pub seeded : s.seed ≡ seed
   pub finished : IsPlay start work.shape work.scripts work.budget (play_from start work seed) s.is_finished
+  pub answered : (s.is_finished ≡ true) ↔ AllAnswered work.scripts (play_from start work seed).history
   pub events : s.events ≡ length (play_from start work seed).accepted
   pub outcome : s.outcome ≡ outcome_of work.shape.processes (play_from start work seed).history
-  pub time : s.is_finished ≡ true → TellsTime start (play_from start work seed) s.in_time
+  pub time : s.is_finished ≡ true → (s.linearizable ≡ true) ↔ IsLinearizable work.shape.registers (play_from start work seed).history
 
 -- the seed of the k-th play, from 0: the seeds of a workload's plays follow its own, modulo 2^64
 abbrev pub seed_at : Load → ℕ → ℕ
@@ -42,9 +50,39 @@ pub record AreSeen (start : Op → ℕ → Start) (work : Load) (plays : ℕ) (s
   pub count : length seen ≡ plays
   pub each : (k : ℕ) (s : Seen) → IsAt seen k s → IsSeen start work (seed_at work k) s
 
--- the lines and the number of unfinished plays of the table of so many plays
-pub record AreOutcomes (start : Op → ℕ → Start) (work : Load) (plays : ℕ) (lines : List Line) (unfinished : ℕ) : Type 0 where
+-- some finished play had this outcome
+abbrev pub WasDrawn : List Seen → Interleaving → Type 0
+WasDrawn plays i = (k : ℕ) × (s : Seen) × IsAt plays k s × HasOutcome i.told s
+
+-- so many of these outcomes no finished play had
+abbrev pub CountsUndrawn : List Seen → List Interleaving → ℕ → Type 0
+CountsUndrawn plays found n = (those : List Interleaving) × AreThose (λ i. ¬ WasDrawn plays i) found those × (n ≡ length those)
+
+-- How many of all outcomes of the scripts no finished play had, where their interleavings go through no more stages
+-- than the most that are counted; and None where they go through more.
+abbrev pub TellsUndrawn : List (List Op) → ℕ → List Seen → Option ℕ → Type 0
+TellsUndrawn scripts registers plays None = HasMoreStages scripts registers MOST_COUNTED_STAGES
+TellsUndrawn scripts registers plays (Some n) = (stages : ℕ) × CountsStages scripts registers stages × (stages ≤ MOST_COUNTED_STAGES) × (found : List Interleaving) × AreAll scripts registers found × CountsUndrawn plays found n
+
+-- the lines of the table of so many plays, the number of unfinished plays, and that of the outcomes that no play had
+pub record AreOutcomes (start : Op → ℕ → Start) (work : Load) (plays : ℕ) (lines : List Line) (unfinished : ℕ) (undrawn : Option ℕ) : Type 0 where
   pub seen : List Seen
   pub known : AreSeen start work plays seen
   pub table : IsTable seen lines
   pub rest : CountsUnfinished seen unfinished
+  pub left : TellsUndrawn work.scripts work.shape.registers seen undrawn
+
+-- The play from this seed is finished, and some number of its operations, placed in search of a point order, leads to
+-- more stages than the most.
+pub record IsWiderPlay (start : Op → ℕ → Start) (work : Load) (seed : ℕ) : Type 0 where
+  pub finished : IsPlay start work.shape work.scripts work.budget (play_from start work seed) true
+  pub wider : IsWiderSearch Points work.shape.processes work.shape.registers (play_from start work seed).history MOST_STAGES
+
+-- why the play from this seed is not counted, and why so many are not
+abbrev pub IsPlayFault : (Op → ℕ → Start) → Load → ℕ → InterleavingFault → Type 0
+IsPlayFault start work seed TooManyStages = IsWiderPlay start work seed
+IsPlayFault start work seed OutOfMemory = Unit {0}
+
+abbrev pub IsPlaysFault : (Op → ℕ → Start) → Load → ℕ → InterleavingFault → Type 0
+IsPlaysFault start work plays TooManyStages = (k : ℕ) × (k < plays) × IsWiderPlay start work (seed_at work k)
+IsPlaysFault start work plays OutOfMemory = Unit {0}

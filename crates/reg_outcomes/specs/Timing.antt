@@ -1,6 +1,6 @@
 -- Places in an order, what was answered so far, and what is known of a finished play. They carry a proof: no promise
 -- speaks of them.
-use Rattle.std.specs.Prelude.{ℕ, ◌≡◌, ◌+◌, ◌<◌, ◌⊎◌, nat_lt, cond, max, suc, true, length, List, Option, None, Some}
+use Rattle.std.specs.Prelude.{ℕ, ◌≡◌, ◌↔◌, ◌+◌, ◌<◌, ◌⊎◌, nat_lt, cond, max, suc, true, length, List, Option, None, Some}
 use Rattle.std.specs.declared.cmp.Ordering.{Ordering}
 use Rattle.std.specs.Ordering.{nat_cmp, ordering_then}
 use Rattle.reg_base.specs.declared.memory.OpId.{OpId}
@@ -8,12 +8,11 @@ use Rattle.reg_base.specs.declared.memory.Answer.{Answer}
 use Rattle.reg_base.specs.declared.memory.Op.{Op}
 use Rattle.reg_checkers.specs.declared.entries.Entry.{Entry}
 use Rattle.reg_checkers.specs.declared.entries.Entry.TheVariants.{Called, Answered}
-use Rattle.reg_front.specs.declared.starts.Start.{Start}
 use Rattle.reg_checkers.specs.History.{IsAt}
-use Rattle.reg_outcomes.specs.Told.{outcome_of}
+use Rattle.reg_interleavings.specs.Told.{outcome_of}
 use Rattle.reg_outcomes.specs.Tables.{Seen}
 use Rattle.reg_world.specs.Worlds.{Made}
-use Rattle.reg_outcomes.specs.Outcomes.{TellsTime}
+use Rattle.reg_outcomes.specs.Outcomes.{IsLinearizable}
 
 -- by process, then by number
 abbrev pub id_cmp : OpId → OpId → Ordering
@@ -47,9 +46,9 @@ pub record IsInTime (es : List Entry) (ids : List OpId) (bound : ℕ) : Type 0 w
   pub kept : (k l i j s t : ℕ) (a b : OpId) (answer : Answer) (op : Op) → IsAt es k (Answered s a answer) → IsAt es l (Called t b op) → k < l → IsAt ids i a → IsAt ids j b → i < j
 
 -- what is known of a finished play
-pub record IsSeenIn (start : Op → ℕ → Start) (made : Made) (seed : ℕ) (s : Seen) : Type 0 where
+pub record IsSeenIn (made : Made) (seed : ℕ) (s : Seen) : Type 0 where
   pub seeded : s.seed ≡ seed
   pub finished : s.is_finished ≡ true
   pub events : s.events ≡ length made.accepted
   pub outcome : s.outcome ≡ outcome_of made.processes made.history
-  pub time : TellsTime start made s.in_time
+  pub time : (s.linearizable ≡ true) ↔ IsLinearizable made.registers made.history

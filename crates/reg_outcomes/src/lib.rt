@@ -2,16 +2,15 @@
 //! they told.
 #![tactic(auto)]
 
-mod outcomes;
 mod plays;
 mod rows;
 mod tallies;
 mod text;
 mod timing;
+mod undrawn;
 
-pub use outcomes::ToldValue;
 pub use plays::{MOST_PLAYS, Outcomes, play_many};
 pub use rows::Row;
 pub use tallies::Tally;
-pub use text::{put_count, put_outcome, put_value, write_table};
-pub use timing::keeps_real_time;
+pub use text::write_table;
+pub use undrawn::MOST_COUNTED_STAGES;

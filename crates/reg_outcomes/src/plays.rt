@@ -1,18 +1,22 @@
 //! Many plays of a workload, and what they told.
-ghost use Rattle.std.specs.Prelude.{◌≤◌, ◌<◌, ◌++◌, ◌∷◌, ◌-◌, ◌^◌, ◌+◌, List, [], IfOk, OnOk};
+ghost use Rattle.std.specs.Prelude.{◌≡◌, ◌≤◌, ◌<◌, ◌++◌, ◌∷◌, ◌-◌, ◌^◌, ◌%◌, ◌+◌, List, ℕ, [], true, IfOk, IfErr, OnOk, length};
+ghost use Rattle.reg_interleavings.specs.declared.kinds.OrderKind.TheVariants.{Points};
+ghost use Rattle.reg_interleavings.specs.declared.outcomes.TheConstants.{MOST_STAGES};
+ghost use Rattle.reg_interleavings.specs.Finding.{IsFindFault};
 ghost use Rattle.reg_outcomes.specs.Tables.{Seen};
 ghost use Rattle.reg_outcomes.specs.Counts.{HasRoom, IsCounted};
-ghost use Rattle.reg_outcomes.specs.Outcomes.{AreOutcomes, IsSeen};
+ghost use Rattle.reg_outcomes.specs.Outcomes.{AreOutcomes, AreSeen, IsPlayFault, IsPlaysFault, IsSeen};
 ghost use Rattle.reg_outcomes.specs.Timing.{IsSeenIn};
 
-use crate::outcomes::tell;
 use crate::rows::{Row, table_of};
 use crate::tallies::{Glance, Tallies};
-use crate::timing::keeps_real_time;
+use crate::timing::is_linearizable;
+use crate::undrawn::count_undrawn;
 use reg_front::FrontEnd;
+use reg_interleavings::{InterleavingFault, tell};
 use reg_workload::{Play, SeedWords, Workload, play_seeded_in};
 use reg_world::{PackedWires, World};
-use std::alloc::{AllocError, Allocator, Global};
+use std::alloc::{Allocator, Global};
 
 /// The most plays of a table.
 pub const MOST_PLAYS: u32 = 1_000_000;
@@ -22,8 +26,10 @@ pub const MOST_PLAYS: u32 = 1_000_000;
 pub struct Outcomes<A: Allocator + Copy = Global> {
     /// A line for each outcome, by falling count, and then by outcome.
     pub rows: Vec<Row<A>, A>,
-    /// How many plays ran out of budget.
+    /// In how many plays some operation is not answered.
     pub unfinished: u32,
+    /// How many of all outcomes of the scripts no play had. None where interleavings go through too many stages.
+    pub undrawn: Option<usize>,
 }
 
 /// Counts what a finished play told.
@@ -32,22 +38,22 @@ fn count_finished<F: FrontEnd, A: Allocator + Copy>(
     world: &World<F, A, PackedWires<A>>,
     seed: u64,
     tallies: &mut Tallies<A>,
-) -> Result<(), AllocError>
+) -> Result<(), InterleavingFault>
     requires { HasRoom (λ v. v.items) tallies.old.told }
-    ensures { OnOk result ((s : Seen) × IsSeenIn F.start world.now seed s × ((plays : List Seen) → IsCounted (λ v. v.items) plays tallies.old.told tallies.old.unfinished → IsCounted (λ v. v.items) (plays ++ s ∷ []) tallies.new.told tallies.new.unfinished)) }
+    ensures counted { OnOk result ((s : Seen) × IsSeenIn world.now seed s × ((plays : List Seen) → IsCounted (λ v. v.items) plays tallies.old.told tallies.old.unfinished → IsCounted (λ v. v.items) (plays ++ s ∷ []) tallies.new.told tallies.new.unfinished)) }
+    ensures refused { IfErr result (IsFindFault Points world.now.processes world.now.registers world.now.history MOST_STAGES) }
 {
     let (history, order) = world.serial_order()?;
-    let in_time = keeps_real_time(alloc, history.entries(), order.as_slice())?;
+    let linearizable = is_linearizable(alloc, history, order.as_slice())?;
     let outcome = tell(alloc, history)?;
     let events = world.events();
-    tallies.add(
-        outcome,
-        Glance {
-            seed,
-            events,
-            in_time,
-        },
-    )
+    let glance = Glance {
+        seed,
+        events,
+        linearizable,
+    };
+    tallies.add(outcome, glance)?;
+    Ok(())
 }
 
 /// Counts what the play from this seed told.
@@ -56,13 +62,18 @@ fn count_play<F: FrontEnd, A: Allocator + Copy>(
     work: &Workload<A>,
     seed: u64,
     tallies: &mut Tallies<A>,
-) -> Result<(), AllocError>
+) -> Result<(), InterleavingFault>
+    requires scripts { work.now.shape.processes ≡ length work.now.scripts }
     requires told { HasRoom (λ v. v.items) tallies.old.told }
     requires unfinished { tallies.old.unfinished < u32.MAX }
-    ensures { OnOk result ((s : Seen) × IsSeen F.start work.now seed s × ((plays : List Seen) → IsCounted (λ v. v.items) plays tallies.old.told tallies.old.unfinished → IsCounted (λ v. v.items) (plays ++ s ∷ []) tallies.new.told tallies.new.unfinished)) }
+    ensures counted { OnOk result ((s : Seen) × IsSeen F.start work.now seed s × ((plays : List Seen) → IsCounted (λ v. v.items) plays tallies.old.told tallies.old.unfinished → IsCounted (λ v. v.items) (plays ++ s ∷ []) tallies.new.told tallies.new.unfinished)) }
+    ensures refused { IfErr result (IsPlayFault F.start work.now seed) }
 {
     let words = SeedWords::new(seed);
     let play: Play<F, A, PackedWires<A>> = play_seeded_in(alloc, work, words)?;
+    // (for the proof: by these getters' contracts the world is the run of its events)
+    play.world.accepted();
+    play.world.history();
     if play.finished {
         count_finished(alloc, &play.world, seed, tallies)
     } else {
@@ -71,20 +82,15 @@ fn count_play<F: FrontEnd, A: Allocator + Copy>(
     }
 }
 
-/// Plays a workload so many times, each time by the words of a seed of its own: the first by those of the workload's
-/// seed, and each other by those of the next number, modulo 2^64. The lines tell what the finished plays answered. It
-/// keeps what is told of each outcome, and one play at a time.
-///
-/// # Errors
-///
-/// Memory was refused.
-pub fn play_many<F: FrontEnd, A: Allocator + Copy>(
+/// Counts what so many plays told.
+fn count_plays<F: FrontEnd, A: Allocator + Copy>(
     alloc: A,
     work: &Workload<A>,
     plays: u32,
-) -> Result<Outcomes<A>, AllocError>
+) -> Result<Tallies<A>, InterleavingFault>
     requires { plays ≤ MOST_PLAYS }
-    ensures { IfOk result (λ o. AreOutcomes F.start work.now plays o.rows.items o.unfinished) }
+    ensures counted { IfOk result (λ t. (seen : List Seen) × AreSeen F.start work.now plays seen × IsCounted (λ v. v.items) seen t.told t.unfinished) }
+    ensures refused { IfErr result (IsPlaysFault F.start work.now plays) }
 {
     let mut tallies = Tallies::new(alloc);
     let first = work.seed;
@@ -92,7 +98,34 @@ pub fn play_many<F: FrontEnd, A: Allocator + Copy>(
         let seed = first.wrapping_add(turn as u64);
         count_play::<F, A>(alloc, work, seed, &mut tallies)?;
     }
+    Ok(tallies)
+}
+
+/// Plays a workload so many times, each time by the words of a seed of its own: the first by those of the workload's
+/// seed, and each other by those of the next number, modulo 2^64. The lines tell what the finished plays answered, and
+/// of each outcome whether the history of some play that has it is linearizable. It keeps what is told of each outcome,
+/// and one play at a time.
+///
+/// # Errors
+///
+/// Whether a play is linearizable was not found, since some number of its operations, placed in search of a point
+/// order, leads to more stages than `MOST_STAGES`; or memory was refused.
+pub fn play_many<F: FrontEnd, A: Allocator + Copy>(
+    alloc: A,
+    work: &Workload<A>,
+    plays: u32,
+) -> Result<Outcomes<A>, InterleavingFault>
+    requires { plays ≤ MOST_PLAYS }
+    ensures told { IfOk result (λ o. AreOutcomes F.start work.now plays o.rows.items o.unfinished o.undrawn) }
+    ensures refused { IfErr result (IsPlaysFault F.start work.now plays) }
+{
+    let tallies = count_plays::<F, A>(alloc, work, plays)?;
+    let undrawn = count_undrawn(alloc, work, &tallies.told)?;
     let Tallies { told, unfinished } = tallies;
     let rows = table_of(alloc, told)?;
-    Ok(Outcomes { rows, unfinished })
+    Ok(Outcomes {
+        rows,
+        unfinished,
+        undrawn,
+    })
 }

@@ -5,8 +5,8 @@ ghost use Rattle.std.specs.List.Sorted.{IsPermutation, IsSorted};
 ghost use Rattle.reg_outcomes.specs.Tables.{Seen, IsTable};
 ghost use Rattle.reg_outcomes.specs.Counts.{IsCounted, key_cmp, line_of, line_cmp};
 
-use crate::outcomes::ToldValue;
 use crate::tallies::Tally;
+use reg_interleavings::ToldValue;
 use std::alloc::{AllocError, Allocator, Global};
 use std::cmp::Ordering;
 use std::collections::BTreeMap;

@@ -1,11 +1,11 @@
 //! What is told of the plays of each outcome.
-ghost use Rattle.std.specs.Prelude.{◌≡◌, ◌++◌, ◌<◌, [], ◌∷◌, List, false, OnOk};
+ghost use Rattle.std.specs.Prelude.{◌≡◌, ◌↔◌, ◌++◌, ◌<◌, [], ◌∷◌, List, Bool, true, false, OnOk};
 ghost use Rattle.std.specs.BTreeMap.{get};
-ghost use Rattle.reg_outcomes.specs.declared.outcomes.ToldValue.{ToldValue};
-ghost use Rattle.reg_outcomes.specs.Tables.{Seen, IsTally, IsTallyOf};
+ghost use Rattle.reg_interleavings.specs.declared.told.ToldValue.{ToldValue};
+ghost use Rattle.reg_outcomes.specs.Tables.{IsFirst, IsTally, IsTallyOf, Seen};
 ghost use Rattle.reg_outcomes.specs.Counts.{HasRoom, IsCounted, IsShortest, TellsOf, finished_play, key_cmp};
 
-use crate::outcomes::ToldValue;
+use reg_interleavings::ToldValue;
 use std::alloc::{AllocError, Allocator, Global};
 use std::collections::BTreeMap;
 
@@ -18,8 +18,10 @@ pub struct Tally {
     pub events: u32,
     /// Its seed, the least of those as short.
     pub seed: u64,
-    /// Whether the order of some play of that outcome keeps real time.
-    pub in_time: bool,
+    /// The seed of the first of them whose history is linearizable.
+    pub in_time: Option<u64>,
+    /// The seed of the first of them whose history is not.
+    pub late: Option<u64>,
 }
 
 /// What is told of one finished play.
@@ -29,8 +31,8 @@ pub struct Glance {
     pub seed: u64,
     /// The number of its events.
     pub events: u32,
-    /// Whether its order keeps real time.
-    pub in_time: bool,
+    /// Whether its history is linearizable.
+    pub linearizable: bool,
 }
 
 /// What is told of plays, by their outcomes.
@@ -38,8 +40,18 @@ pub struct Glance {
 pub struct Tallies<A: Allocator + Copy = Global> {
     /// What is told of the plays of each outcome.
     pub told: BTreeMap<Vec<ToldValue, A>, Tally, A>,
-    /// How many plays are not finished.
+    /// In how many plays some operation is not answered.
     pub unfinished: u32,
+}
+
+/// The seed of the first play of a kind, linearizable or not, of some plays and one more, which is of that kind or not.
+fn first_of(seed: Option<u64>, glance: Glance, is_such: bool) -> Option<u64>
+    ensures { (kind : Bool) (plays : List Seen) (outcome : List ToldValue) → (is_such ≡ true) ↔ (glance.linearizable ≡ kind) → IsFirst kind plays seed → IsFirst kind (plays ++ finished_play outcome glance ∷ []) result }
+{
+    match seed {
+        Some(seed) => Some(seed),
+        None => { if is_such { Some(glance.seed) } else { None } }
+    }
 }
 
 /// What is told of one play.
@@ -50,7 +62,8 @@ fn first(glance: Glance) -> Tally
         count: 1,
         events: glance.events,
         seed: glance.seed,
-        in_time: glance.in_time,
+        in_time: first_of(None, glance, glance.linearizable),
+        late: first_of(None, glance, !glance.linearizable),
     }
 }
 
@@ -77,7 +90,8 @@ fn joined(tally: Tally, glance: Glance) -> Tally
         count: tally.count + 1,
         events,
         seed,
-        in_time: tally.in_time || glance.in_time,
+        in_time: first_of(tally.in_time, glance, glance.linearizable),
+        late: first_of(tally.late, glance, !glance.linearizable),
     }
 }
 

@@ -1,28 +1,20 @@
 //! The text of a table.
 ghost use Rattle.std.specs.Prelude.{◌++◌, ◌∷◌, [], MatchResult, map, replicate};
-ghost use Rattle.std.specs.List.{flat_map};
 ghost use Rattle.std.specs.Fmt.{decimal};
 ghost use Rattle.std.specs.Io.KnownBytes.{Appends};
 ghost use Rattle.reg_text.specs.Columns.{to_right};
 ghost use Rattle.reg_text.specs.Lines.{text_of};
 ghost use Rattle.reg_text.specs.Writing.{AppendsPart, Puts};
-ghost use Rattle.reg_outcomes.specs.TableText.{line_text, play_text, table_text, time_text, told_text, value_text};
+ghost use Rattle.reg_outcomes.specs.TableText.{firsts_text, line_text, play_text, seed_text, shortest_text, table_text, time_text, undrawn_lines};
 
-use crate::outcomes::ToldValue;
+use crate::plays::Outcomes;
 use crate::rows::Row;
 use crate::tallies::Tally;
 use itoa::Buffer;
+use reg_interleavings::{put_count, put_outcome};
 use reg_text::{Sink, Unwritten, put_number};
 use std::alloc::Allocator;
 use std::io::Write;
-
-/// Puts a mark, and then a number, and ends the line.
-pub fn put_count<W: Write>(sink: &mut Sink<'_, W>, mark: &str, number: u64)
-    ensures { Puts W.contents sink.old sink.new ((mark.now ++ decimal number) ++ 10 ∷ []) }
-{
-    put_number(sink, mark, number);
-    sink.put(b"\n");
-}
 
 /// Puts spaces.
 fn put_spaces<W: Write>(sink: &mut Sink<'_, W>, count: usize)
@@ -43,51 +35,52 @@ fn put_right<W: Write>(sink: &mut Sink<'_, W>, number: u64, places: usize)
     sink.put(digits);
 }
 
-/// Puts an operation and the value that it answered.
-pub fn put_value<W: Write>(sink: &mut Sink<'_, W>, told: ToldValue)
-    ensures { Puts W.contents sink.old sink.new (value_text told) }
-{
-    put_number(sink, "p", told.process as u64);
-    put_number(sink, " #", told.number as u64);
-    put_number(sink, " value ", told.value);
-}
-
-/// Puts a value that an operation answered, and two spaces.
-fn put_told<W: Write>(sink: &mut Sink<'_, W>, told: ToldValue)
-    ensures { Puts W.contents sink.old sink.new (told_text told) }
-{
-    put_value(sink, told);
-    sink.put(b"  ");
-}
-
-/// Puts an outcome, two spaces after each value.
-pub fn put_outcome<W: Write>(sink: &mut Sink<'_, W>, outcome: &[ToldValue])
-    ensures { Puts W.contents sink.old sink.new (flat_map told_text outcome.now) }
-{
-    for told in outcome {
-        put_told(sink, *told);
-    }
-}
-
-/// Puts whether real time is kept.
-fn put_time<W: Write>(sink: &mut Sink<'_, W>, in_time: bool)
+/// Puts whether some play is linearizable, by the seed of the first that is.
+fn put_time<W: Write>(sink: &mut Sink<'_, W>, in_time: Option<u64>)
     ensures { Puts W.contents sink.old sink.new (time_text in_time) }
 {
-    if in_time {
-        sink.put(b"real time");
-    } else {
-        sink.put(b"late     ");
+    match in_time {
+        Some(_) => sink.put(b"real time"),
+        None => sink.put(b"late     "),
     }
 }
 
-/// Puts whether real time is kept, and the shortest play.
+/// Puts a seed, or that there is none.
+fn put_seed<W: Write>(sink: &mut Sink<'_, W>, seed: Option<u64>)
+    ensures { Puts W.contents sink.old sink.new (seed_text seed) }
+{
+    match seed {
+        Some(seed) => put_number(sink, "", seed),
+        None => sink.put(b"-"),
+    }
+}
+
+/// Puts the shortest play.
+fn put_shortest<W: Write>(sink: &mut Sink<'_, W>, tally: Tally)
+    ensures { Puts W.contents sink.old sink.new (shortest_text tally) }
+{
+    put_right(sink, tally.events as u64, 5);
+    put_number(sink, " events  seed ", tally.seed);
+}
+
+/// Puts the first play that is linearizable, and the first that is not.
+fn put_firsts<W: Write>(sink: &mut Sink<'_, W>, tally: Tally)
+    ensures { Puts W.contents sink.old sink.new (firsts_text tally) }
+{
+    sink.put(b"  linearizable ");
+    put_seed(sink, tally.in_time);
+    sink.put(b"  not linearizable ");
+    put_seed(sink, tally.late);
+}
+
+/// Puts whether some play is linearizable, and which plays to look at.
 fn put_play<W: Write>(sink: &mut Sink<'_, W>, tally: Tally)
     ensures { Puts W.contents sink.old sink.new (play_text tally) }
 {
     put_time(sink, tally.in_time);
     sink.put(b"  ");
-    put_right(sink, tally.events as u64, 5);
-    put_number(sink, " events  seed ", tally.seed);
+    put_shortest(sink, tally);
+    put_firsts(sink, tally);
 }
 
 /// Puts the line of an outcome.
@@ -110,31 +103,41 @@ fn put_rows<A: Allocator + Copy, W: Write>(sink: &mut Sink<'_, W>, rows: &[Row<A
     }
 }
 
+/// Puts the line of how many outcomes no play had, where they were counted.
+fn put_undrawn<W: Write>(sink: &mut Sink<'_, W>, undrawn: Option<usize>)
+    ensures { Puts W.contents sink.old sink.new (text_of (undrawn_lines undrawn)) }
+{
+    match undrawn {
+        Some(count) => put_count(sink, "never drawn ", count as u64),
+        None => (),
+    }
+}
+
 /// Puts the text of a table.
 fn put_table<A: Allocator + Copy, W: Write>(
     sink: &mut Sink<'_, W>,
     plays: u32,
-    rows: &[Row<A>],
-    unfinished: u32,
+    outcomes: &Outcomes<A>,
 )
-    ensures { Puts W.contents sink.old sink.new (table_text plays rows.now unfinished) }
+    ensures { Puts W.contents sink.old sink.new (table_text plays outcomes.now.rows.items outcomes.now.unfinished outcomes.now.undrawn) }
 {
+    let rows = outcomes.rows.as_slice();
     put_count(sink, "plays ", plays as u64);
     put_count(sink, "outcomes ", rows.len() as u64);
     put_rows(sink, rows);
-    put_count(sink, "unfinished ", unfinished as u64);
+    put_count(sink, "unfinished ", outcomes.unfinished as u64);
+    put_undrawn(sink, outcomes.undrawn);
 }
 
-/// Writes the text of a table, all of it or, where the writer fails, a first part.
+/// Writes the text of the table of so many plays, all of it or, where the writer fails, a first part.
 pub fn write_table<A: Allocator + Copy, W: Write>(
     writer: &mut W,
     plays: u32,
-    rows: &[Row<A>],
-    unfinished: u32,
+    outcomes: &Outcomes<A>,
 ) -> Result<(), Unwritten>
-    ensures { MatchResult result (λ _. Appends (W.contents writer.old) (W.contents writer.new) (table_text plays rows.now unfinished)) (λ _. AppendsPart (W.contents writer.old) (W.contents writer.new) (table_text plays rows.now unfinished)) }
+    ensures { MatchResult result (λ _. Appends (W.contents writer.old) (W.contents writer.new) (table_text plays outcomes.now.rows.items outcomes.now.unfinished outcomes.now.undrawn)) (λ _. AppendsPart (W.contents writer.old) (W.contents writer.new) (table_text plays outcomes.now.rows.items outcomes.now.unfinished outcomes.now.undrawn)) }
 {
     let mut sink = Sink::new(writer);
-    put_table(&mut sink, plays, rows, unfinished);
+    put_table(&mut sink, plays, outcomes);
     sink.finish()
 }

@@ -1,14 +1,19 @@
-//! Whether an order keeps the real time of its history.
-ghost use Rattle.std.specs.Prelude.{◌≡◌, ◌<◌, ◌-◌, ◌^◌, ◌↔◌, length, true, IfOk, IfSome, OnOk, ℕ};
+//! Whether an order keeps the real time of its history, and whether a history is linearizable.
+ghost use Rattle.std.specs.Prelude.{◌≡◌, ◌<◌, ◌-◌, ◌^◌, ◌↔◌, length, true, IfOk, IfErr, IfSome, OnOk, List, ℕ};
 ghost use Rattle.std.specs.BTreeMap.{get};
 ghost use Rattle.reg_base.specs.declared.memory.OpId.{OpId as AnyId};
 ghost use Rattle.reg_checkers.specs.History.{IsHistory};
-ghost use Rattle.reg_checkers.specs.Orders.{IsDistinct};
+ghost use Rattle.reg_checkers.specs.Orders.{IsDistinct, IsSerial};
 ghost use Rattle.reg_world.specs.RealTime.{KeepsRealTime};
+ghost use Rattle.reg_interleavings.specs.declared.kinds.OrderKind.TheVariants.{Points};
+ghost use Rattle.reg_interleavings.specs.declared.outcomes.TheConstants.{MOST_STAGES};
+ghost use Rattle.reg_interleavings.specs.Finding.{IsFindFault};
+ghost use Rattle.reg_outcomes.specs.Outcomes.{IsLinearizable};
 ghost use Rattle.reg_outcomes.specs.Timing.{IsPlaceOf, bound_next, id_cmp};
 
 use reg_base::OpId;
-use reg_checkers::Entry;
+use reg_checkers::{Entry, History};
+use reg_interleavings::{InterleavingFault, MOST_STAGES, find_points};
 use std::alloc::{AllocError, Allocator};
 use std::collections::BTreeMap;
 
@@ -56,7 +61,7 @@ fn next_bound<A: Allocator + Copy>(
 /// # Errors
 ///
 /// Memory was refused.
-pub fn keeps_real_time<A: Allocator + Copy>(
+fn keeps_real_time<A: Allocator + Copy>(
     alloc: A,
     entries: &[Entry],
     order: &[OpId],
@@ -74,4 +79,27 @@ pub fn keeps_real_time<A: Allocator + Copy>(
         }
     }
     Ok(true)
+}
+
+/// Whether a history is linearizable (Herlihy and Wing 1990), by a serial order of it. It is where this order keeps the
+/// real time; where it does not, another may, and is looked for.
+///
+/// # Errors
+///
+/// Some number of operations, placed in search of a point order, leads to more stages than `MOST_STAGES`, or memory was
+/// refused.
+pub(crate) fn is_linearizable<A: Allocator + Copy>(
+    alloc: A,
+    history: &History<A>,
+    order: &[OpId],
+) -> Result<bool, InterleavingFault>
+    requires { IsSerial history.now.shape.registers history.now.entries order.now }
+    ensures found { IfOk result (λ is. (is ≡ true) ↔ IsLinearizable history.now.shape.registers history.now.entries) }
+    ensures refused { IfErr result (IsFindFault Points history.now.shape.processes history.now.shape.registers history.now.entries MOST_STAGES) }
+{
+    if keeps_real_time(alloc, history.entries(), order)? {
+        return Ok(true);
+    }
+    let points = find_points(alloc, history, MOST_STAGES)?;
+    Ok(points.is_some())
 }

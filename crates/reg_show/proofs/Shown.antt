@@ -3,7 +3,7 @@ use Rattle.std.proofs.Common.{ℕ, ◌≡◌, List, length, Option, Result, Ok, 
 use Rattle.std.specs.Prelude.{IfOk, IsErrOf, MatchResult}
 use Rattle.std.specs.List.{sum_by}
 use Rattle.reg_base.specs.declared.memory.Op.{Op}
-use Rattle.reg_outcomes.specs.declared.outcomes.ToldValue.{ToldValue}
+use Rattle.reg_interleavings.specs.declared.told.ToldValue.{ToldValue}
 use Rattle.reg_interleavings.specs.declared.nevers.TheConstants.{MOST_NEVERS}
 use Rattle.reg_interleavings.specs.AllText.{ShowsAll, all_text}
 use Rattle.reg_interleavings.specs.Interleavings.{AreAll, CountsStages, Interleaving}

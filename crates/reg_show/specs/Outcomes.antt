@@ -1,23 +1,44 @@
 -- The table of a workload's plays.
-use Rattle.std.specs.Prelude.{ℕ, List}
+use Rattle.std.specs.Prelude.{ℕ, ◌≡◌, ◌⊎◌, ◌<◌, List, false, Option}
 use Rattle.reg_base.specs.declared.memory.Op.{Op}
+use Rattle.reg_commands.specs.Answers.{Blames}
 use Rattle.reg_commands.specs.Plays.{Holds}
 use Rattle.reg_commands.specs.Replays.{start_of}
+use Rattle.reg_commands.specs.declared.command.Command.TheVariants.{Play}
+use Rattle.reg_commands.specs.declared.faults.Fault.TheVariants.{Output, OutOfMemory}
 use Rattle.reg_front.specs.declared.starts.Start.{Start}
-use Rattle.reg_outcomes.specs.Outcomes.{AreOutcomes}
+use Rattle.reg_outcomes.specs.Outcomes.{AreOutcomes, IsWiderPlay, seed_at}
 use Rattle.reg_outcomes.specs.Tables.{Line}
 use Rattle.reg_outcomes.specs.TableText.{table_text}
 use Rattle.reg_inputs.specs.Loads.{Load}
+use Rattle.reg_show.specs.OneOutcome.{SaysSome}
+use Rattle.reg_show.specs.declared.faults.SearchFault.{SearchFault}
+use Rattle.reg_show.specs.declared.faults.SearchFault.TheVariants.{Command, TooManyStages}
 
 -- The text of the table of so many plays of the workload was written. `Wrote` says how a text was.
 pub record ShowsOutcomes (plays : ℕ) (start : Op → ℕ → Start) (Wrote : List ℕ → Type 0) (work : Load) : Type 0 where
   pub lines : List Line
   pub unfinished : ℕ
-  pub told : AreOutcomes start work plays lines unfinished
-  pub written : Wrote (table_text plays lines unfinished)
+  pub undrawn : Option ℕ
+  pub told : AreOutcomes start work plays lines unfinished undrawn
+  pub written : Wrote (table_text plays lines unfinished undrawn)
 
 -- The text is a document that says a workload, and the table of so many plays of it was written.
 pub record WritesOutcomes (plays : ℕ) (Wrote : List ℕ → Type 0) (text : List ℕ) : Type 0 where
   pub work : Load
   pub holds : Holds text work
   pub shown : ShowsOutcomes plays (start_of work.front) Wrote work
+
+-- one of so many plays is finished, and the search for a point order of its history is too wide
+abbrev pub HasWiderPlay : ℕ → (Op → ℕ → Start) → Load → Type 0
+HasWiderPlay plays start work = (k : ℕ) × (k < plays) × IsWiderPlay start work (seed_at work k)
+
+-- why no table of a workload's plays is written
+abbrev pub StopsPlays : ℕ → (Op → ℕ → Start) → Load → SearchFault → Type 0
+StopsPlays plays start work (Command fault) = (fault ≡ Output) ⊎ (fault ≡ OutOfMemory)
+StopsPlays plays start work TooManyStages = HasWiderPlay plays start work
+
+-- what a fault says of the text: of a command, what it says where a workload is played
+abbrev pub BlamesCount : ℕ → SearchFault → List ℕ → Type 0
+BlamesCount plays (Command fault) text = Blames (Play false) fault text
+BlamesCount plays TooManyStages text = SaysSome (λ work. HasWiderPlay plays (start_of work.front) work) text

@@ -1,18 +1,18 @@
 //! The command that plays a workload many times and prints the table of what the plays told.
-ghost use Rattle.std.specs.Prelude.{◌≡◌, ◌≢◌, ◌≤◌, ◌⊎◌, IfOk, IfErr, IfSome, IsErrOf, MatchResult, OnOk, false, length};
+ghost use Rattle.std.specs.Prelude.{◌≡◌, ◌≢◌, ◌≤◌, ◌⊎◌, IfOk, IfErr, IfSome, IsErrOf, MatchResult, OnOk, length};
 ghost use Rattle.std.specs.Io.KnownBytes.{Appends};
 ghost use Rattle.reg_base.specs.declared.limits.TheConstants.{LONGEST_INPUT};
 ghost use Rattle.reg_text.specs.Writing.{AppendsPart};
-ghost use Rattle.reg_commands.specs.Answers.{Blames};
 ghost use Rattle.reg_commands.specs.Replays.{start_of};
-ghost use Rattle.reg_commands.specs.declared.command.Command.TheVariants.{Play};
-ghost use Rattle.reg_commands.specs.FaultLines.{fault_line};
-ghost use Rattle.reg_commands.specs.declared.faults.Fault.{Fault as AnyFault};
 ghost use Rattle.reg_outcomes.specs.declared.plays.TheConstants.{MOST_PLAYS};
 ghost use Rattle.reg_outcomes.specs.TableText.{table_text};
-ghost use Rattle.reg_show.specs.Outcomes.{ShowsOutcomes, WritesOutcomes};
+ghost use Rattle.reg_show.specs.Outcomes.{BlamesCount, ShowsOutcomes, StopsPlays, WritesOutcomes};
+ghost use Rattle.reg_show.specs.Searches.{search_line};
+ghost use Rattle.reg_show.specs.declared.faults.SearchFault.{SearchFault as AnyFault};
 
-use reg_commands::{Fault, read_input, read_workload, write_fault};
+use crate::faults::SearchFault;
+use crate::searching::write_search_fault;
+use reg_commands::{Fault, read_input, read_workload};
 use reg_front::{Front, FrontEnd, Linear, LocalRead, LocalWrite};
 use reg_outcomes::{Outcomes, play_many, write_table};
 use reg_workload::Workload;
@@ -25,10 +25,9 @@ fn send<A: Allocator + Copy, W: Write>(
     plays: u32,
     outcomes: &Outcomes<A>,
 ) -> Result<(), Fault>
-    ensures { MatchResult result (λ _. Appends (W.contents writer.old) (W.contents writer.new) (table_text plays outcomes.now.rows.items outcomes.now.unfinished)) (λ f. (f ≡ Fault.Output) × AppendsPart (W.contents writer.old) (W.contents writer.new) (table_text plays outcomes.now.rows.items outcomes.now.unfinished)) }
+    ensures { MatchResult result (λ _. Appends (W.contents writer.old) (W.contents writer.new) (table_text plays outcomes.now.rows.items outcomes.now.unfinished outcomes.now.undrawn)) (λ f. (f ≡ Fault.Output) × AppendsPart (W.contents writer.old) (W.contents writer.new) (table_text plays outcomes.now.rows.items outcomes.now.unfinished outcomes.now.undrawn)) }
 {
-    let rows = outcomes.rows.as_slice();
-    if write_table(writer, plays, rows, outcomes.unfinished).is_err() || writer.flush().is_err() {
+    if write_table(writer, plays, outcomes).is_err() || writer.flush().is_err() {
         return Err(Fault::Output);
     }
     Ok(())
@@ -40,16 +39,14 @@ fn write_plays<F: FrontEnd, A: Allocator + Copy, W: Write>(
     work: &Workload<A>,
     plays: u32,
     writer: &mut W,
-) -> Result<(), Fault>
+) -> Result<(), SearchFault>
     requires { plays ≤ MOST_PLAYS }
     ensures ok { IfOk result (λ _. ShowsOutcomes plays F.start (Appends (W.contents writer.old) (W.contents writer.new)) work.now) }
-    ensures why { IfErr result (λ f. (f ≡ Fault.Output) ⊎ (f ≡ Fault.OutOfMemory)) }
-    ensures silent { IfErr result (λ f. f ≢ Fault.Output → writer.new ≡ writer.old) }
-    ensures part { IsErrOf result Fault.Output → ShowsOutcomes plays F.start (AppendsPart (W.contents writer.old) (W.contents writer.new)) work.now }
+    ensures why { IfErr result (StopsPlays plays F.start work.now) }
+    ensures silent { IfErr result (λ f. f ≢ SearchFault.Command Fault.Output → writer.new ≡ writer.old) }
+    ensures part { IsErrOf result (SearchFault.Command Fault.Output) → ShowsOutcomes plays F.start (AppendsPart (W.contents writer.old) (W.contents writer.new)) work.now }
 {
-    let Ok(outcomes) = play_many::<F, A>(alloc, work, plays) else {
-        return Err(Fault::OutOfMemory);
-    };
+    let outcomes = play_many::<F, A>(alloc, work, plays)?;
     send(writer, plays, &outcomes)?;
     Ok(())
 }
@@ -60,12 +57,12 @@ fn write_outcomes<A: Allocator + Copy, W: Write>(
     work: &Workload<A>,
     plays: u32,
     writer: &mut W,
-) -> Result<(), Fault>
+) -> Result<(), SearchFault>
     requires { plays ≤ MOST_PLAYS }
     ensures ok { IfOk result (λ _. ShowsOutcomes plays (start_of work.now.front) (Appends (W.contents writer.old) (W.contents writer.new)) work.now) }
-    ensures why { IfErr result (λ f. (f ≡ Fault.Output) ⊎ (f ≡ Fault.OutOfMemory)) }
-    ensures silent { IfErr result (λ f. f ≢ Fault.Output → writer.new ≡ writer.old) }
-    ensures part { IsErrOf result Fault.Output → ShowsOutcomes plays (start_of work.now.front) (AppendsPart (W.contents writer.old) (W.contents writer.new)) work.now }
+    ensures why { IfErr result (StopsPlays plays (start_of work.now.front) work.now) }
+    ensures silent { IfErr result (λ f. f ≢ SearchFault.Command Fault.Output → writer.new ≡ writer.old) }
+    ensures part { IsErrOf result (SearchFault.Command Fault.Output) → ShowsOutcomes plays (start_of work.now.front) (AppendsPart (W.contents writer.old) (W.contents writer.new)) work.now }
 {
     match work.front {
         Front::Linear => write_plays::<Linear, A, W>(alloc, work, plays, writer),
@@ -81,12 +78,12 @@ fn outcomes<A: Allocator + Copy, W: Write>(
     text: &str,
     plays: u32,
     writer: &mut W,
-) -> Result<(), Fault>
+) -> Result<(), SearchFault>
     requires { plays ≤ MOST_PLAYS }
     ensures ok { IfOk result (λ _. WritesOutcomes plays (Appends (W.contents writer.old) (W.contents writer.new)) text.now) }
-    ensures why { IfErr result (λ f. Blames (Play false) f text.now) }
-    ensures silent { IfErr result (λ f. f ≢ Fault.Output → writer.new ≡ writer.old) }
-    ensures part { IsErrOf result Fault.Output → WritesOutcomes plays (AppendsPart (W.contents writer.old) (W.contents writer.new)) text.now }
+    ensures why { IfErr result (λ f. BlamesCount plays f text.now) }
+    ensures silent { IfErr result (λ f. f ≢ SearchFault.Command Fault.Output → writer.new ≡ writer.old) }
+    ensures part { IsErrOf result (SearchFault.Command Fault.Output) → WritesOutcomes plays (AppendsPart (W.contents writer.old) (W.contents writer.new)) text.now }
 {
     let work = read_workload(alloc, global, text)?;
     write_outcomes(alloc, &work, plays, writer)
@@ -98,13 +95,13 @@ fn obey<A: Allocator + Copy, R: Read, W: Write>(
     plays: u32,
     reader: &mut R,
     writer: &mut W,
-) -> Result<(), Fault>
+) -> Result<(), SearchFault>
     requires { plays ≤ MOST_PLAYS }
     ensures ok { IfOk result (λ _. IfSome (R.remaining reader.old) (WritesOutcomes plays (Appends (W.contents writer.old) (W.contents writer.new)))) }
     ensures within { OnOk result (IfSome (R.remaining reader.old) (λ xs. length xs ≤ LONGEST_INPUT)) }
-    ensures why { IfErr result (λ f. IfSome (R.remaining reader.old) (Blames (Play false) f)) }
-    ensures silent { IfErr result (λ f. f ≢ Fault.Output → writer.new ≡ writer.old) }
-    ensures part { IsErrOf result Fault.Output → IfSome (R.remaining reader.old) (WritesOutcomes plays (AppendsPart (W.contents writer.old) (W.contents writer.new))) }
+    ensures why { IfErr result (λ f. IfSome (R.remaining reader.old) (BlamesCount plays f)) }
+    ensures silent { IfErr result (λ f. f ≢ SearchFault.Command Fault.Output → writer.new ≡ writer.old) }
+    ensures part { IsErrOf result (SearchFault.Command Fault.Output) → IfSome (R.remaining reader.old) (WritesOutcomes plays (AppendsPart (W.contents writer.old) (W.contents writer.new))) }
 {
     let text = read_input(alloc, reader)?;
     outcomes(alloc, global, text.as_str(), plays, writer)
@@ -127,15 +124,15 @@ pub fn show_outcomes<A: Allocator + Copy, R: Read, W: Write, E: Write>(
     ensures range { result ≤ 1 }
     ensures within { result ≡ 0 → IfSome (R.remaining reader.old) (λ xs. length xs ≤ LONGEST_INPUT) }
     ensures shown { result ≡ 0 → IfSome (R.remaining reader.old) (WritesOutcomes plays (Appends (W.contents writer.old) (W.contents writer.new))) }
-    ensures refused { result ≡ 1 → (f : AnyFault) × IfSome (R.remaining reader.old) (Blames (Play false) f) × (f ≢ Fault.Output → writer.new ≡ writer.old)
-        × (f ≡ Fault.Output → IfSome (R.remaining reader.old) (WritesOutcomes plays (AppendsPart (W.contents writer.old) (W.contents writer.new))))
-        × AppendsPart (E.contents errors.old) (E.contents errors.new) (fault_line f) }
+    ensures refused { result ≡ 1 → (f : AnyFault) × IfSome (R.remaining reader.old) (BlamesCount plays f) × (f ≢ SearchFault.Command Fault.Output → writer.new ≡ writer.old)
+        × (f ≡ SearchFault.Command Fault.Output → IfSome (R.remaining reader.old) (WritesOutcomes plays (AppendsPart (W.contents writer.old) (W.contents writer.new))))
+        × AppendsPart (E.contents errors.old) (E.contents errors.new) (search_line f) }
     ensures quiet { result ≡ 0 → errors.new ≡ errors.old }
 {
     match obey(alloc, global, plays, reader, writer) {
         Ok(()) => 0,
         Err(fault) => {
-            let _ = write_fault(errors, fault);
+            let _ = write_search_fault(errors, fault);
             1
         }
     }

@@ -15,9 +15,8 @@ use crate::faults::SearchFault;
 use crate::searching::write_search_fault;
 use reg_commands::{Fault, read_input, read_workload};
 use reg_interleavings::{
-    AllOutcomes, MOST_STAGES, all_outcomes, count_operations, nevers_of, write_all,
+    AllOutcomes, MOST_STAGES, ToldValue, all_outcomes, count_operations, nevers_of, write_all,
 };
-use reg_outcomes::ToldValue;
 use reg_workload::Workload;
 use std::alloc::{Allocator, Global};
 use std::io::{Read, Write};

@@ -3,8 +3,6 @@ use Rattle.std.specs.Prelude.{ℕ, false, true, ◌≡◌, ◌≢◌, ◌≤◌,
 use Rattle.reg_base.specs.declared.limits.TheConstants.{LONGEST_INPUT}
 use Rattle.std.specs.Io.KnownBytes.{Appends}
 use Rattle.reg_text.specs.Writing.{AppendsPart}
-use Rattle.reg_commands.specs.Answers.{Blames as BlamesCommand}
-use Rattle.reg_commands.specs.declared.command.Command.TheVariants.{Play}
 use Rattle.reg_commands.specs.declared.faults.Fault.{Fault}
 use Rattle.reg_commands.specs.declared.faults.Fault.TheVariants.{Output}
 use Rattle.reg_commands.specs.FaultLines.{fault_line}
@@ -16,7 +14,7 @@ use Rattle.reg_show.specs.declared.faults.SearchFault.TheVariants.{Command as Se
 use Rattle.reg_show.specs.declared.faults.ShowFault.{ShowFault}
 use Rattle.reg_show.specs.declared.faults.ShowFault.TheVariants.{Command}
 use Rattle.reg_show.specs.OneOutcome.{BlamesOutcome, WritesOutcome, outcome_line}
-use Rattle.reg_show.specs.Outcomes.{WritesOutcomes}
+use Rattle.reg_show.specs.Outcomes.{BlamesCount, WritesOutcomes}
 use Rattle.reg_show.specs.declared.one_outcome.OutcomeFault.{OutcomeFault}
 use Rattle.reg_show.specs.declared.one_outcome.OutcomeFault.TheVariants.{Command as OutcomeCommand}
 use Rattle.reg_show.specs.Showings.{Blames, Shows, show_line}
@@ -48,7 +46,7 @@ abbrev pub Stops : Asked → Option (List ℕ) → Type 0 → Option (List ℕ) 
 Stops (Show showing) input unwritten old new was is =
     (f : ShowFault) × IfSome input (Blames showing f) × (f ≢ Command Output → unwritten) × (f ≡ Command Output → IfSome input (Shows showing (AppendsPart old new))) × AppendsPart was is (show_line f)
 Stops (Outcomes plays) input unwritten old new was is =
-    (f : Fault) × IfSome input (BlamesCommand (Play false) f) × (f ≢ Output → unwritten) × (f ≡ Output → IfSome input (WritesOutcomes plays (AppendsPart old new))) × AppendsPart was is (fault_line f)
+    (f : SearchFault) × IfSome input (BlamesCount plays f) × (f ≢ SearchCommand Output → unwritten) × (f ≡ SearchCommand Output → IfSome input (WritesOutcomes plays (AppendsPart old new))) × AppendsPart was is (search_line f)
 Stops AllOutcomes input unwritten old new was is =
     (f : SearchFault) × IfSome input (BlamesAll f) × (f ≢ SearchCommand Output → unwritten) × (f ≡ SearchCommand Output → IfSome input (WritesAll (AppendsPart old new))) × AppendsPart was is (search_line f)
 Stops (Outcome number) input unwritten old new was is =
@@ -67,7 +65,7 @@ Stops Version input unwritten old new was is = AppendsPart was is (fault_line Ou
 -- what status 1 says of the error stream alone
 abbrev pub Tells : Asked → Option (List ℕ) → Option (List ℕ) → Type 0
 Tells (Show showing) was is = (f : ShowFault) × AppendsPart was is (show_line f)
-Tells (Outcomes plays) was is = (f : Fault) × AppendsPart was is (fault_line f)
+Tells (Outcomes plays) was is = (f : SearchFault) × AppendsPart was is (search_line f)
 Tells AllOutcomes was is = (f : SearchFault) × AppendsPart was is (search_line f)
 Tells (Outcome number) was is = (f : OutcomeFault) × AppendsPart was is (outcome_line f)
 Tells (Find kind) was is = (was ≡ is) ⊎ ((f : SearchFault) × AppendsPart was is (search_line f))

@@ -15,6 +15,8 @@ mod one_shown;
 #[cfg(test)]
 mod orders_shown;
 #[cfg(test)]
+mod plays_counted;
+#[cfg(test)]
 mod records_judged;
 #[cfg(test)]
 mod rests_shown;

@@ -1,5 +1,5 @@
 use Rattle.std.proofs.Common.{◌≡◌, ◌+◌, List, [], ◌∷◌, ◌++◌, take, get_or, ap, ◌∙◌}
-use Rattle.reg_outcomes.specs.declared.outcomes.ToldValue.{ToldValue}
+use Rattle.reg_interleavings.specs.declared.told.ToldValue.{ToldValue}
 use Rattle.reg_interleavings.specs.Combining.{IsLonger, lists_of}
 use Rattle.reg_interleavings.proofs.Combining.{longer_cases, longer_more}
 use Rattle.reg_interleavings.proofs.Growing.{grows_put, grows_then}

@@ -2,7 +2,7 @@ use Rattle.std.proofs.Common.{◌≡◌, List, length, map, ap, sym, subst, arit
 use Rattle.std.specs.Prelude.{MatchOption, Vec}
 use Rattle.reg_checkers.specs.History.{IsAt}
 use Rattle.reg_checkers.proofs.Places.{IsAt-map}
-use Rattle.reg_outcomes.specs.declared.outcomes.ToldValue.{ToldValue}
+use Rattle.reg_interleavings.specs.declared.told.ToldValue.{ToldValue}
 use Rattle.reg_interleavings.specs.declared.nevers.TheConstants.{MOST_NEVERS}
 use Rattle.reg_interleavings.specs.Interleavings.{Interleaving}
 use Rattle.reg_interleavings.specs.Nevers.{AreOver, tells}

@@ -1,7 +1,7 @@
 use Rattle.std.proofs.Common.{◌≡◌, ◌+◌, inl, inr, List, [], ◌∷◌, ◌++◌, map, ap, sym, ◌∙◌, subst, arith, append-nil}
 use Rattle.std.specs.Prelude.{Vec}
 use Rattle.std.proofs.lemmas.List.{length-map}
-use Rattle.reg_outcomes.specs.declared.outcomes.ToldValue.{ToldValue}
+use Rattle.reg_interleavings.specs.declared.told.ToldValue.{ToldValue}
 use Rattle.reg_interleavings.specs.Nevers.{tells}
 use Rattle.reg_interleavings.specs.Combining.{Grows, IsLonger, IsLongerOf, lists_of}
 use Rattle.reg_interleavings.proofs.Combining.{is_longer, longer_of_cases, longer_of_more, next_all, over}

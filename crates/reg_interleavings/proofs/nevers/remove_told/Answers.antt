@@ -1,5 +1,5 @@
 use Rattle.std.proofs.Common.{◌+◌, List, drop, ap, sym, ◌∙◌}
-use Rattle.reg_outcomes.specs.declared.outcomes.ToldValue.{ToldValue}
+use Rattle.reg_interleavings.specs.declared.told.ToldValue.{ToldValue}
 use Rattle.reg_interleavings.specs.Interleavings.{Interleaving}
 use Rattle.reg_interleavings.specs.Nevers.{tells}
 use Rattle.reg_interleavings.specs.Combining.{cut_all}

@@ -6,7 +6,7 @@ use Rattle.std.proofs.lemmas.Bool.{eqb-true, ltb-true, ltb-false}
 use Rattle.std.proofs.lemmas.Option.{same_Some, slice_get_read, slice_get_within}
 use Rattle.reg_base.specs.Order.{In}
 use Rattle.reg_checkers.specs.History.{IsAt}
-use Rattle.reg_outcomes.specs.declared.outcomes.ToldValue.{ToldValue}
+use Rattle.reg_interleavings.specs.declared.told.ToldValue.{ToldValue}
 use Rattle.reg_interleavings.specs.Interleavings.{Interleaving}
 use Rattle.reg_interleavings.specs.Nevers.{tells}
 use Rattle.reg_interleavings.proofs.Combining.{AreFirstValues, at_told, none_new, one_new, values_all}

@@ -1,7 +1,7 @@
 use Rattle.std.proofs.Common.{refl, sym, ◌∙◌}
 use Rattle.std.specs.Cmp.Lexicographic.{slice_cmp}
-use Rattle.reg_outcomes.specs.Tables.{told_cmp}
-use Rattle.reg_outcomes.proofs.Ordering.{outcomes_exact, outcomes_total}
+use Rattle.reg_interleavings.specs.Told.{told_cmp}
+use Rattle.reg_interleavings.proofs.ToldOrder.{outcomes_exact, outcomes_total}
 use Rattle.reg_interleavings.proofs.Entries.{adds_put, adds_there}
 use Rattle.reg_interleavings.proofs.outcomes.add_outcome.Goals as goal
 

@@ -1,6 +1,6 @@
 use Rattle.std.proofs.Common.{◌≡◌, ℕ, List, [], ◌∷◌, ◌++◌, map}
 use Rattle.std.specs.Prelude.{Vec}
-use Rattle.reg_outcomes.specs.declared.outcomes.ToldValue.{ToldValue}
+use Rattle.reg_interleavings.specs.declared.told.ToldValue.{ToldValue}
 use Rattle.reg_interleavings.specs.declared.stages.Stage.{Stage as Held}
 use Rattle.reg_interleavings.specs.Layers.{IsToldIn, reached, told_entries}
 use Rattle.reg_interleavings.proofs.Adding.{adds_then}

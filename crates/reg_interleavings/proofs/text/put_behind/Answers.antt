@@ -1,6 +1,6 @@
 use Rattle.std.proofs.Common.{codes}
 use Rattle.reg_text.proofs.Sent.{puts_two}
-use Rattle.reg_outcomes.specs.TableText.{value_text}
+use Rattle.reg_interleavings.specs.AllText.{value_text}
 use Rattle.reg_interleavings.proofs.text.put_behind.Goals as goal
 
 pub returns : goal.returns

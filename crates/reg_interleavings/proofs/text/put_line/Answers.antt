@@ -1,9 +1,8 @@
 use Rattle.std.proofs.Common.{◌++◌, ◌∷◌, [], ap}
 use Rattle.std.specs.List.{flat_map}
 use Rattle.reg_text.proofs.Sent.{puts_as, puts_two}
-use Rattle.reg_outcomes.specs.TableText.{told_text}
+use Rattle.reg_interleavings.specs.AllText.{outcome_text, told_text, turns_text}
 use Rattle.reg_interleavings.specs.Interleavings.{Interleaving}
-use Rattle.reg_interleavings.specs.AllText.{outcome_text, turns_text}
 use Rattle.reg_interleavings.proofs.text.put_line.Goals as goal
 
 pub returns : goal.returns

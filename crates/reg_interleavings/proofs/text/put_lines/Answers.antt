@@ -1,9 +1,8 @@
 use Rattle.std.proofs.Common.{◌++◌, ◌∷◌, [], get_or, ap}
 use Rattle.reg_text.proofs.Sent.{puts_as}
-use Rattle.reg_outcomes.proofs.Putting.{puts_next}
+use Rattle.reg_interleavings.proofs.Writing.{all_lines, puts_next}
 use Rattle.reg_interleavings.specs.Interleavings.{Interleaving}
 use Rattle.reg_interleavings.specs.AllText.{outcome_text}
-use Rattle.reg_interleavings.proofs.Writing.{all_lines}
 use Rattle.reg_interleavings.proofs.text.put_lines.Goals as goal
 
 pub loop-outcome-preserved : goal.loop-outcome-preserved

@@ -1,10 +1,9 @@
 use Rattle.std.proofs.Common.{List, [], ◌∷◌, ◌++◌, get_or, ap, ◌∙◌}
 use Rattle.std.specs.Prelude.{Vec}
 use Rattle.reg_text.proofs.Sent.{puts_as}
-use Rattle.reg_outcomes.specs.declared.outcomes.ToldValue.{ToldValue}
-use Rattle.reg_outcomes.proofs.Putting.{puts_next}
+use Rattle.reg_interleavings.specs.declared.told.ToldValue.{ToldValue}
+use Rattle.reg_interleavings.proofs.Writing.{all_lists, puts_next}
 use Rattle.reg_interleavings.specs.AllText.{values_text}
-use Rattle.reg_interleavings.proofs.Writing.{all_lists}
 use Rattle.reg_interleavings.proofs.text.put_list.Goals as goal
 
 pub loop-values-preserved : goal.loop-values-preserved

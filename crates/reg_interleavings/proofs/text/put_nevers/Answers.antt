@@ -5,7 +5,7 @@ use Rattle.std.specs.Option.{option_map}
 use Rattle.std.proofs.lemmas.List.{length-map}
 use Rattle.reg_text.proofs.Sent.{puts_as, puts_two}
 use Rattle.reg_text.specs.Lines.{text_of}
-use Rattle.reg_outcomes.specs.declared.outcomes.ToldValue.{ToldValue}
+use Rattle.reg_interleavings.specs.declared.told.ToldValue.{ToldValue}
 use Rattle.reg_interleavings.specs.declared.nevers.TheConstants.{MOST_NEVERS}
 use Rattle.reg_interleavings.specs.AllText.{never_lines, values_text}
 use Rattle.reg_interleavings.proofs.text.put_nevers.Goals as goal

@@ -2,7 +2,7 @@ use Rattle.std.proofs.Common.{ℕ, List, ◌++◌, codes, ap, take_all}
 use Rattle.std.specs.Fmt.{decimal}
 use Rattle.std.specs.List.{flat_map}
 use Rattle.reg_text.proofs.Sent.{puts_as, puts_two}
-use Rattle.reg_outcomes.proofs.Putting.{puts_next}
+use Rattle.reg_interleavings.proofs.Writing.{puts_next}
 use Rattle.reg_interleavings.proofs.text.put_turns.Goals as goal
 
 pub loop-turn-preserved : goal.loop-turn-preserved

@@ -1,10 +1,9 @@
 use Rattle.std.proofs.Common.{ℕ, List, ◌++◌, codes, ap, sym, take_all}
 use Rattle.std.specs.List.{flat_map}
 use Rattle.reg_text.proofs.Sent.{puts_as, puts_two}
-use Rattle.reg_outcomes.specs.declared.outcomes.ToldValue.{ToldValue}
-use Rattle.reg_outcomes.specs.TableText.{value_text}
-use Rattle.reg_outcomes.proofs.Putting.{puts_next}
-use Rattle.reg_interleavings.specs.AllText.{values_text}
+use Rattle.reg_interleavings.specs.declared.told.ToldValue.{ToldValue}
+use Rattle.reg_interleavings.specs.AllText.{value_text, values_text}
+use Rattle.reg_interleavings.proofs.Writing.{puts_next}
 use Rattle.reg_interleavings.proofs.text.put_values.Goals as goal
 
 pub loop-value-preserved : goal.loop-value-preserved

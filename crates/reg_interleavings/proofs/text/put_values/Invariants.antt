@@ -1,7 +1,7 @@
 use Rattle.std.proofs.Common.{◌++◌, codes, take}
 use Rattle.std.specs.List.{flat_map}
 use Rattle.reg_text.specs.Writing.{Puts}
-use Rattle.reg_outcomes.specs.TableText.{value_text}
+use Rattle.reg_interleavings.specs.AllText.{value_text}
 use Rattle.reg_interleavings.proofs.text.put_values.Given as goal
 
 -- the values so far

@@ -1,37 +1,12 @@
-use Rattle.std.proofs.Common.{◌≡◌, ◌++◌, ◌∷◌, [], ◌+◌, ◌<◌, ℕ, length, subst, arith}
-use Rattle.std.specs.Prelude.{◌^◌, ◌-◌, ◌%◌}
-use Rattle.reg_outcomes.proofs.Counting.{has_room}
-use Rattle.reg_outcomes.specs.Outcomes.{AreSeen, IsSeen, seed_at}
-use Rattle.reg_outcomes.proofs.Playing.{seen_next, unfinished_few}
 use Rattle.reg_outcomes.proofs.plays.play_many.Goals as goal
 
-pub count_play-requires-clause-told : goal.count_play-requires-clause-told
-count_play-requires-clause-told g c =
-    let inv = c.loop-turn.invariant in
-    let few : length inv.0 < 2 ^ 32 - 1 = let n = inv.1.count in let l = c.loop-turn-test.true in let m = c.requires in omega (arith, n, l, m) in
-    has_room (λ v. v.items) inv.0 c.loop-turn.tallies.told c.loop-turn.tallies.unfinished few inv.2
-
-pub count_play-requires-clause-unfinished : goal.count_play-requires-clause-unfinished
-count_play-requires-clause-unfinished g c =
-    let inv = c.loop-turn.invariant in
-    let few : c.loop-turn.turn < 1000000 = let l = c.loop-turn-test.true in let m = c.requires in omega (arith, l, m) in
-    unfinished_few (λ v. v.items) inv.0 c.loop-turn.tallies.told c.loop-turn.tallies.unfinished c.loop-turn.turn inv.2 inv.1.count few
-
-pub loop-turn-preserved : goal.loop-turn-preserved
-loop-turn-preserved g c =
-    let inv = c.loop-turn.invariant in
-    let told = c.in_ok-count_play.ensures in
-    let start = g.F.FrontEnd.start in
-    let here : IsSeen start c.args.work.now (seed_at c.args.work.now c.loop-turn.turn) told.0 = subst (λ (x : ℕ). IsSeen start c.args.work.now ((x + c.loop-turn.turn) % 2 ^ 64) told.0) inv.3 told.1 in
-    (inv.0 ++ told.0 ∷ [], seen_next start c.args.work.now c.loop-turn.turn inv.0 told.0 inv.1 here, told.2 inv.0 inv.2, inv.3)
-
-pub returns : goal.returns
-returns g c =
-    let inv = c.loop-turn.invariant in
-    let all : c.loop-turn.turn ≡ c.args.plays = let l = c.loop-turn-test.false in let m = c.loop-turn.auto in omega (arith, l, m) in
+pub returns-clause-told : goal.returns-clause-told
+returns-clause-told g c =
+    let counted = c.in_ok-tallies.ensures.counted in
     record {
-      seen = inv.0;
-      known = subst (λ (n : ℕ). AreSeen g.F.FrontEnd.start c.args.work.now n inv.0) all inv.1;
-      table = c.in_ok-rows.ensures inv.0 c.loop-turn.tallies.unfinished inv.2;
-      rest = inv.2.others;
+      seen = counted.0;
+      known = counted.1;
+      table = c.in_ok-rows.ensures counted.0 c.in_ok-tallies.tallies.unfinished counted.2;
+      rest = counted.2.others;
+      left = c.in_ok-undrawn.ensures.told counted.0 c.in_ok-tallies.tallies.unfinished counted.2;
     }

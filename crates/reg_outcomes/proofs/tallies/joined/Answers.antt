@@ -1,13 +1,10 @@
+use Rattle.std.proofs.Common.{true, false}
 use Rattle.reg_outcomes.specs.Counts.{finished_play}
-use Rattle.reg_outcomes.proofs.Counting.{joined_tally, kept_before, kept_now}
+use Rattle.reg_outcomes.proofs.Counting.{is_false, is_true, joined_tally}
 use Rattle.reg_outcomes.proofs.tallies.joined.Goals as goal
 
-pub returns-then-tally : goal.returns-then-tally
-returns-then-tally c plays outcome told =
-    let s = finished_play outcome c.args.glance in
-    joined_tally plays s c.args.tally told c.shortest-events.result.0 c.shortest-events.result.1 c.args.tally.in_time (c.shortest-events.ensures outcome) (kept_before plays s c.args.tally told c.if-tally.true)
-
-pub returns-else-tally : goal.returns-else-tally
-returns-else-tally c plays outcome told =
-    let s = finished_play outcome c.args.glance in
-    joined_tally plays s c.args.tally told c.shortest-events.result.0 c.shortest-events.result.1 c.args.glance.in_time (c.shortest-events.ensures outcome) (kept_now plays s c.args.tally told c.if-tally.false)
+pub returns : goal.returns
+returns c plays outcome told =
+    let glance = c.args.glance in
+    joined_tally plays (finished_play outcome glance) c.args.tally told c.shortest-events.result.0 c.shortest-events.result.1 c.first_of.result c.first_of-2.result (c.shortest-events.ensures outcome)
+    (c.first_of.ensures true plays outcome (is_true glance.linearizable) told.in_time) (c.first_of-2.ensures false plays outcome (is_false glance.linearizable) told.late)

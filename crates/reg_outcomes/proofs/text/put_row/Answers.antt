@@ -2,7 +2,8 @@ use Rattle.std.proofs.Common.{◌++◌, ◌∷◌, [], ap}
 use Rattle.std.specs.List.{flat_map}
 use Rattle.reg_text.proofs.Sent.{puts_as}
 use Rattle.reg_outcomes.specs.Tables.{Line}
-use Rattle.reg_outcomes.specs.TableText.{line_text, told_text}
+use Rattle.reg_interleavings.specs.AllText.{told_text}
+use Rattle.reg_outcomes.specs.TableText.{line_text}
 use Rattle.reg_outcomes.proofs.Putting.{puts_line}
 use Rattle.reg_outcomes.proofs.text.put_row.Goals as goal
 

@@ -5,7 +5,7 @@ use Rattle.reg_text.proofs.Sent.{puts_as}
 use Rattle.reg_text.specs.Lines.{text_of}
 use Rattle.reg_outcomes.specs.Tables.{Line}
 use Rattle.reg_outcomes.specs.TableText.{line_text}
-use Rattle.reg_outcomes.proofs.Putting.{puts_next}
+use Rattle.reg_interleavings.proofs.Writing.{puts_next}
 use Rattle.reg_outcomes.proofs.text.put_rows.Goals as goal
 
 pub loop-row-preserved : goal.loop-row-preserved
