@@ -9,4 +9,5 @@ pub mod Ascii
 pub mod Sending
 pub mod Told
 pub mod Rested
+pub mod Reseeded
 pub mod Turned

@@ -1,22 +1,53 @@
 //! Which command lines of `awshow` are taken, and how a refused one is told.
 use crate::lines::words_of;
 use reg_interleavings::OrderKind;
-use reg_show_cli::{Asked, Showing, WordsFault, ask, refuse};
+use reg_show_cli::{Asked, Player, Showing, WordsFault, ask, refuse};
 use std::alloc::Global;
 use std::process::Abort;
 
+/// The schedule of the play by this seed, or by the workload's.
+const fn scheduled(seed: Option<u64>) -> Asked {
+    Asked::Schedule {
+        player: Player::Seeded { seed },
+    }
+}
+
+/// The table of so many plays, from this seed on, or from the workload's.
+const fn counted(plays: u32, seed: Option<u64>) -> Asked {
+    Asked::Outcomes { plays, seed }
+}
+
 /// Each line, and what it asks for.
-const LINES: [(&str, Result<Asked, WordsFault>); 52] = [
+const LINES: [(&str, Result<Asked, WordsFault>); 78] = [
+    ("schedule", Ok(scheduled(None))),
+    ("schedule --seed 0", Ok(scheduled(Some(0)))),
+    ("schedule --seed 89", Ok(scheduled(Some(89)))),
     (
-        "schedule",
-        Ok(Asked::Show {
-            showing: Showing::Schedule { fair: false },
-        }),
+        "schedule --seed 9223372036854775807",
+        Ok(scheduled(Some(9_223_372_036_854_775_807))),
     ),
     (
+        "schedule --seed 9223372036854775808",
+        Err(WordsFault::CommandLine),
+    ),
+    (
+        "schedule --seed 18446744073709551616",
+        Err(WordsFault::CommandLine),
+    ),
+    ("schedule --seed 01", Err(WordsFault::CommandLine)),
+    ("schedule --seed -1", Err(WordsFault::CommandLine)),
+    ("schedule --seed", Err(WordsFault::CommandLine)),
+    ("schedule --seed=5", Err(WordsFault::CommandLine)),
+    ("schedule --seed 5 5", Err(WordsFault::CommandLine)),
+    ("schedule --seed 5 --seed 5", Err(WordsFault::CommandLine)),
+    ("schedule --fair --seed 5", Err(WordsFault::CommandLine)),
+    ("schedule --seed 5 --fair", Err(WordsFault::CommandLine)),
+    ("schedule --plays 5", Err(WordsFault::CommandLine)),
+    ("trace --seed 5", Err(WordsFault::CommandLine)),
+    (
         "schedule --fair",
-        Ok(Asked::Show {
-            showing: Showing::Schedule { fair: true },
+        Ok(Asked::Schedule {
+            player: Player::Fair,
         }),
     ),
     (
@@ -31,12 +62,35 @@ const LINES: [(&str, Result<Asked, WordsFault>); 52] = [
             showing: Showing::Draw,
         }),
     ),
-    ("outcomes", Ok(Asked::Outcomes { plays: 1_000 })),
-    ("outcomes --plays 1", Ok(Asked::Outcomes { plays: 1 })),
+    ("outcomes", Ok(counted(1_000, None))),
+    ("outcomes --plays 1", Ok(counted(1, None))),
+    ("outcomes --plays 1000000", Ok(counted(1_000_000, None))),
+    ("outcomes --seed 7", Ok(counted(1_000, Some(7)))),
+    ("outcomes --plays 9 --seed 7", Ok(counted(9, Some(7)))),
+    ("outcomes --seed 7 --plays 9", Ok(counted(9, Some(7)))),
     (
-        "outcomes --plays 1000000",
-        Ok(Asked::Outcomes { plays: 1_000_000 }),
+        "outcomes --seed 9223372036854775808",
+        Err(WordsFault::CommandLine),
     ),
+    (
+        "outcomes --seed 7 --plays 0",
+        Err(WordsFault::CommandLine),
+    ),
+    (
+        "outcomes --plays 0 --seed 7",
+        Err(WordsFault::CommandLine),
+    ),
+    (
+        "outcomes --plays 9 --seed",
+        Err(WordsFault::CommandLine),
+    ),
+    (
+        "outcomes --plays 9 --plays 9",
+        Err(WordsFault::CommandLine),
+    ),
+    ("outcomes --all --seed 7", Err(WordsFault::CommandLine)),
+    ("outcomes --all 3 --seed 7", Err(WordsFault::CommandLine)),
+    ("outcomes --fair", Err(WordsFault::CommandLine)),
     ("outcomes --all", Ok(Asked::AllOutcomes)),
     ("outcomes --all 1", Ok(Asked::Outcome { number: 1 })),
     (
@@ -136,6 +190,6 @@ fn is_told(alloc: Global, status: u8, line: &str) -> bool {
 #[test]
 fn a_refused_command_line_is_told_by_a_usage_line(rt: HostRuntime) {
     let usage =
-        "usage: awshow schedule [--fair] | outcomes [--all [K] | --plays N] | find serial | find points | trace | draw | data | page | rest | why | verify\n";
+        "usage: awshow schedule [--fair | --seed S] | outcomes [--all [K] | [--plays N] [--seed S]] | find serial | find points | trace | draw | data | page | rest | why | verify\n";
     assert!(rt; is_told(rt.alloc(), 2, usage));
 }

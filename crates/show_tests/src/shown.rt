@@ -1,8 +1,10 @@
 //! Schedules, traces and drawings of texts, with what was worked out by hand from the rules.
+ghost use Rattle.reg_show.specs.Seeds.{IsSeed, seed_of};
+
 use crate::run_data::WRITE_DATA;
-use crate::values::shown;
+use crate::values::{scheduled, shown};
 use reg_commands::{Command, run_text};
-use reg_show::{Showing, show_text};
+use reg_show::{Player, Showing, show_text};
 use std::alloc::Global;
 use std::test::Fail;
 
@@ -163,17 +165,17 @@ fn what_is_shown_to_a_writer_that_is_full_goes_out_in_part(rt: HostRuntime) {
 
 #[test]
 fn bad_input_is_told_in_one_line(rt: HostRuntime) {
-    let head = "processes 2\nregisters x\nfront linear\n";
     let early = "processes 2\nregisters x\nfront linear\ntake 0 1 0\n";
     for (showing, text, fault) in [
         (Showing::Trace, "", "line 1: end\n"),
         (Showing::Draw, "processes 0\n", "line 1: range\n"),
         (Showing::Trace, early, "event 0: no frame\n"),
         (Showing::Draw, early, "event 0: no frame\n"),
-        (Showing::Schedule { fair: true }, head, "toml\n"),
     ] {
         assert!(rt; tells(rt.alloc(), showing, text, (1, "", fault)), "{text}");
     }
+    let (status, output, errors) = scheduled(rt.alloc(), Player::Fair, early.as_bytes());
+    assert!(rt; status == 1 && output.is_empty() && errors.as_slice() == b"toml\n");
 }
 
 /// Whether a text is drawn.
@@ -221,8 +223,10 @@ fn run_into(
 }
 
 /// Whether the schedule of a play replays to the report of the play.
-fn replays_to_the_play(alloc: Global, fair: bool) -> bool {
-    let (status, text, mut errors) = shown(alloc, Showing::Schedule { fair }, WORK.as_bytes());
+fn replays_to_the_play(alloc: Global, player: Player) -> bool
+    requires { IsSeed (seed_of player) }
+{
+    let (status, text, mut errors) = scheduled(alloc, player, WORK.as_bytes());
     let (mut replayed, mut played) = (Vec::new(alloc), Vec::new(alloc));
     let replay = run_into(
         alloc,
@@ -231,6 +235,7 @@ fn replays_to_the_play(alloc: Global, fair: bool) -> bool {
         &mut replayed,
         &mut errors,
     );
+    let fair = player == Player::Fair;
     let command = Command::Play { fair };
     let play = run_into(alloc, command, WORK.as_bytes(), &mut played, &mut errors);
     let ended = status == 0 && replay == 0 && play == 0 && errors.is_empty();
@@ -239,14 +244,14 @@ fn replays_to_the_play(alloc: Global, fair: bool) -> bool {
 
 #[test]
 fn the_schedule_of_a_play_replays_to_the_report_of_the_play(rt: HostRuntime) {
-    for fair in [false, true] {
-        assert!(rt; replays_to_the_play(rt.alloc(), fair), "{fair}");
-    }
+    assert!(rt; replays_to_the_play(rt.alloc(), Player::Fair));
+    assert!(rt; replays_to_the_play(rt.alloc(), Player::Seeded { seed: None }));
 }
 
 /// Whether what is shown of a workload is what is shown of the schedule of its play.
 fn is_shown_alike(alloc: Global, showing: Showing) -> bool {
-    let (_, text, _) = shown(alloc, Showing::Schedule { fair: false }, WORK.as_bytes());
+    let player = Player::Seeded { seed: None };
+    let (_, text, _) = scheduled(alloc, player, WORK.as_bytes());
     let (status, of_play, errors) = shown(alloc, showing, text.as_slice());
     let (same, of_work, more) = shown(alloc, showing, WORK.as_bytes());
     let ended = status == 0 && same == 0 && errors.is_empty() && more.is_empty();
