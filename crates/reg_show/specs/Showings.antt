@@ -3,6 +3,8 @@ use Rattle.std.specs.Prelude.{ℕ, ◌≡◌, ◌⊎◌, List, [], ◌∷◌, �
 use Rattle.reg_commands.specs.declared.command.Command.TheVariants.{Replay}
 use Rattle.reg_commands.specs.Answers.{Blames as BlamesCommand}
 use Rattle.reg_commands.specs.FaultLines.{fault_line}
+use Rattle.reg_show.specs.declared.commands.TheConstants.{MOST_DRAWN}
+use Rattle.reg_show.specs.declared.paging.TheConstants.{MOST_TOLD}
 use Rattle.reg_show.specs.declared.faults.ShowFault.{ShowFault}
 use Rattle.reg_show.specs.declared.faults.ShowFault.TheVariants.{Command, TooManyToDraw, TooManyToRest}
 use Rattle.reg_show.specs.declared.showing.Showing.{Showing}
@@ -28,9 +30,9 @@ abbrev pub BlamesText : Showing → ShowFault → List ℕ → Type 0
 BlamesText Trace (Command fault) text = BlamesCommand Replay fault text
 BlamesText Trace TooManyToDraw text = ⊥
 BlamesText Trace TooManyToRest text = ⊥
-BlamesText Draw fault text = BlamesDrawn fault text
-BlamesText Data fault text = BlamesDrawn fault text
-BlamesText Page fault text = BlamesDrawn fault text
+BlamesText Draw fault text = BlamesDrawn MOST_DRAWN fault text
+BlamesText Data fault text = BlamesDrawn MOST_TOLD fault text
+BlamesText Page fault text = BlamesDrawn MOST_TOLD fault text
 BlamesText Rest fault text = BlamesRest fault text
 
 -- the text is a document that says a workload, and this is the text of the schedule of its seeded play

@@ -5,7 +5,7 @@ use crate::run_data::WRITE_DATA;
 use crate::values::{scheduled, shown};
 use reg_commands::{Command, run_text};
 use reg_show::{Player, Showing, show_text};
-use std::alloc::Global;
+use std::alloc::{AllocError, Global};
 use std::test::Fail;
 
 /// A write that is done once the other process has acknowledged its cast.
@@ -184,29 +184,39 @@ fn is_drawn(alloc: Global, text: &str) -> bool {
     status == 0 && errors.is_empty() && output.as_slice().starts_with(b"<svg ")
 }
 
-/// Whether 400 events are drawn, and one more is refused, for data and for a page too. They are put into the text,
-/// which is empty.
-fn draws_so_many(alloc: Global, text: &mut String) -> Result<bool, Fail> {
-    text.push_str("processes 1\nregisters x\nfront linear\n")?;
-    for _ in 0..400 {
+/// A schedule with so many ticks.
+fn ticks(alloc: Global, count: u32) -> Result<String, AllocError> {
+    let mut text = String::from_str(alloc, "processes 1\nregisters x\nfront linear\n")?;
+    for _ in 0..count {
         text.push_str("tick 0\n")?;
     }
-    let drawn = is_drawn(alloc, text.as_str());
-    text.push_str("tick 0\n")?;
-    let told = (1, "", "too many events to draw\n");
-    Ok(
-        drawn
-            && tells(alloc, Showing::Draw, text.as_str(), told)
-            && tells(alloc, Showing::Data, text.as_str(), told)
-            && tells(alloc, Showing::Page, text.as_str(), told),
-    )
+    Ok(text)
 }
+
+/// What a run with too many events is told by.
+const TOO_MANY: (u8, &str, &str) = (1, "", "too many events to draw\n");
 
 #[test]
 fn a_drawing_has_at_most_400_events(rt: HostRuntime) -> Result<(), Fail> {
-    let mut text = String::new(rt.alloc());
-    let drawn = draws_so_many(rt.alloc(), &mut text);
-    assert!(rt; drawn?);
+    let (most, more) = (ticks(rt.alloc(), 400)?, ticks(rt.alloc(), 401)?);
+    assert!(rt; is_drawn(rt.alloc(), most.as_str()));
+    assert!(rt; tells(rt.alloc(), Showing::Draw, more.as_str(), TOO_MANY));
+    Ok(())
+}
+
+/// Whether a run is told whole.
+fn is_told(alloc: Global, showing: Showing, text: &str) -> bool {
+    let (status, output, errors) = shown(alloc, showing, text.as_bytes());
+    status == 0 && errors.is_empty() && !output.is_empty()
+}
+
+#[test]
+fn a_page_has_at_most_2000_events(rt: HostRuntime) -> Result<(), Fail> {
+    let (most, more) = (ticks(rt.alloc(), 2_000)?, ticks(rt.alloc(), 2_001)?);
+    assert!(rt; is_told(rt.alloc(), Showing::Data, most.as_str()));
+    assert!(rt; is_told(rt.alloc(), Showing::Page, most.as_str()));
+    assert!(rt; tells(rt.alloc(), Showing::Data, more.as_str(), TOO_MANY));
+    assert!(rt; tells(rt.alloc(), Showing::Page, more.as_str(), TOO_MANY));
     Ok(())
 }
 
