@@ -1,5 +1,5 @@
 pub mod Lines
 pub mod Choices
 pub mod Counted
-pub mod Flags
+pub mod Flagged
 pub mod Telling

@@ -121,6 +121,26 @@ fn plays_behind_seed(flags: &[String]) -> Option<Plays>
     some_plays(plays, Some(seed))
 }
 
+/// The plays that flags say of which this number of plays is said first, and these words behind it.
+fn plays_before_seed(plays: u64, rest: &[String]) -> Option<Plays>
+    requires { plays ≤ MOST_PLAYS }
+    ensures { MatchOption result ((seed : Option ℕ) → 1 ≤ plays → ¬ SaysSeed (map string_bytes rest.now) seed) (λ p. (1 ≤ plays) × (p.plays ≡ plays) × SaysSeed (map string_bytes rest.now) p.seed) }
+{
+    let seed = seed_said(rest)?;
+    some_plays(plays, seed)
+}
+
+/// The plays that flags say which are more than a seed.
+fn plays_flagged(flags: &[String]) -> Option<Plays>
+    requires { (seed : Option ℕ) → ¬ SaysSeed (map string_bytes flags.now) seed }
+    ensures { MatchOption result ((plays : ℕ) (seed : Option ℕ) → IsSeed seed → ¬ SaysPlays (map string_bytes flags.now) plays seed) (λ p. SaysPlays (map string_bytes flags.now) p.plays p.seed × IsSeed p.seed) }
+{
+    match numbered(flags, "--plays", MOST_PLAYS as u64) {
+        Some((plays, rest)) => plays_before_seed(plays, rest),
+        None => plays_behind_seed(flags),
+    }
+}
+
 /// The plays that flags say.
 pub(crate) fn plays_said(flags: &[String]) -> Option<Plays>
     ensures { MatchOption result ((plays : ℕ) (seed : Option ℕ) → IsSeed seed → ¬ SaysPlays (map string_bytes flags.now) plays seed) (λ p. SaysPlays (map string_bytes flags.now) p.plays p.seed × IsSeed p.seed) }
@@ -131,8 +151,5 @@ pub(crate) fn plays_said(flags: &[String]) -> Option<Plays>
             seed,
         });
     }
-    match numbered(flags, "--plays", MOST_PLAYS as u64) {
-        Some((plays, rest)) => some_plays(plays, seed_said(rest)?),
-        None => plays_behind_seed(flags),
-    }
+    plays_flagged(flags)
 }

@@ -22,7 +22,7 @@ returns-in-Some c =
     let matches = c.in-Ok.matches in
     let found = rows_found name_of (λ _. false) awshow awshow_lines command words matches c.in_ok-command_line.ensures c.in-Ok.ensures.matches in
     let name = c.in-Some.name.now in
-    let fair = c.in-Some.fair in
+    let fair = c.in-Some.field-0-1 in
     let showing = one_met name_of (λ _. false) awshow awshow_lines words (subcommand_rows_of matches) found (Some (name, fair)) c.in-Some.ensures.some name fair
     (no_fault name_of (λ _. false) awshow awshow_lines command words c.in_ok-command_line.ensures c.in-Ok.ensures.kinds) (sym c.if-has_dashes.ensures)
     (λ h. ap seen (c.in-Some.ensures.none h)) refl in
