@@ -39,7 +39,15 @@ fn table(alloc: Global, plays: u32, seed: Option<u32>, text: &str) -> Option<Vec
         Some(seed) => Some(seed as u64),
         None => None,
     };
-    let status = show_outcomes(alloc, alloc, plays, seed, &mut input, &mut output, &mut errors);
+    let status = show_outcomes(
+        alloc,
+        alloc,
+        plays,
+        seed,
+        &mut input,
+        &mut output,
+        &mut errors,
+    );
     if status == 0 { Some(output) } else { None }
 }
 

@@ -72,22 +72,10 @@ const LINES: [(&str, Result<Asked, WordsFault>); 78] = [
         "outcomes --seed 9223372036854775808",
         Err(WordsFault::CommandLine),
     ),
-    (
-        "outcomes --seed 7 --plays 0",
-        Err(WordsFault::CommandLine),
-    ),
-    (
-        "outcomes --plays 0 --seed 7",
-        Err(WordsFault::CommandLine),
-    ),
-    (
-        "outcomes --plays 9 --seed",
-        Err(WordsFault::CommandLine),
-    ),
-    (
-        "outcomes --plays 9 --plays 9",
-        Err(WordsFault::CommandLine),
-    ),
+    ("outcomes --seed 7 --plays 0", Err(WordsFault::CommandLine)),
+    ("outcomes --plays 0 --seed 7", Err(WordsFault::CommandLine)),
+    ("outcomes --plays 9 --seed", Err(WordsFault::CommandLine)),
+    ("outcomes --plays 9 --plays 9", Err(WordsFault::CommandLine)),
     ("outcomes --all --seed 7", Err(WordsFault::CommandLine)),
     ("outcomes --all 3 --seed 7", Err(WordsFault::CommandLine)),
     ("outcomes --fair", Err(WordsFault::CommandLine)),
