@@ -5,26 +5,33 @@ use reg_show_cli::{Asked, Player, Showing, WordsFault, ask, refuse};
 use std::alloc::Global;
 use std::process::Abort;
 
-/// The schedule of the play by this seed, or by the workload's.
-const fn scheduled(seed: Option<u64>) -> Asked {
-    Asked::Schedule {
-        player: Player::Seeded { seed },
-    }
-}
-
-/// The table of so many plays, from this seed on, or from the workload's.
-const fn counted(plays: u32, seed: Option<u64>) -> Asked {
-    Asked::Outcomes { plays, seed }
-}
-
 /// Each line, and what it asks for.
 const LINES: [(&str, Result<Asked, WordsFault>); 78] = [
-    ("schedule", Ok(scheduled(None))),
-    ("schedule --seed 0", Ok(scheduled(Some(0)))),
-    ("schedule --seed 89", Ok(scheduled(Some(89)))),
+    (
+        "schedule",
+        Ok(Asked::Schedule {
+            player: Player::Seeded { seed: None },
+        }),
+    ),
+    (
+        "schedule --seed 0",
+        Ok(Asked::Schedule {
+            player: Player::Seeded { seed: Some(0) },
+        }),
+    ),
+    (
+        "schedule --seed 89",
+        Ok(Asked::Schedule {
+            player: Player::Seeded { seed: Some(89) },
+        }),
+    ),
     (
         "schedule --seed 9223372036854775807",
-        Ok(scheduled(Some(9_223_372_036_854_775_807))),
+        Ok(Asked::Schedule {
+            player: Player::Seeded {
+                seed: Some(9_223_372_036_854_775_807),
+            },
+        }),
     ),
     (
         "schedule --seed 9223372036854775808",
@@ -62,12 +69,48 @@ const LINES: [(&str, Result<Asked, WordsFault>); 78] = [
             showing: Showing::Draw,
         }),
     ),
-    ("outcomes", Ok(counted(1_000, None))),
-    ("outcomes --plays 1", Ok(counted(1, None))),
-    ("outcomes --plays 1000000", Ok(counted(1_000_000, None))),
-    ("outcomes --seed 7", Ok(counted(1_000, Some(7)))),
-    ("outcomes --plays 9 --seed 7", Ok(counted(9, Some(7)))),
-    ("outcomes --seed 7 --plays 9", Ok(counted(9, Some(7)))),
+    (
+        "outcomes",
+        Ok(Asked::Outcomes {
+            plays: 1_000,
+            seed: None,
+        }),
+    ),
+    (
+        "outcomes --plays 1",
+        Ok(Asked::Outcomes {
+            plays: 1,
+            seed: None,
+        }),
+    ),
+    (
+        "outcomes --plays 1000000",
+        Ok(Asked::Outcomes {
+            plays: 1_000_000,
+            seed: None,
+        }),
+    ),
+    (
+        "outcomes --seed 7",
+        Ok(Asked::Outcomes {
+            plays: 1_000,
+            seed: Some(7),
+        }),
+    ),
+    (
+        "outcomes --plays 9 --seed 7",
+        Ok(Asked::Outcomes {
+            plays: 9,
+            seed: Some(7),
+        }),
+    ),
+    (
+        "outcomes --seed 7 --plays 9",
+        Ok(Asked::Outcomes {
+            plays: 9,
+            seed: Some(7),
+        }),
+    ),
     (
         "outcomes --seed 9223372036854775808",
         Err(WordsFault::CommandLine),

@@ -175,7 +175,7 @@ fn bad_input_is_told_in_one_line(rt: HostRuntime) {
         assert!(rt; tells(rt.alloc(), showing, text, (1, "", fault)), "{text}");
     }
     let (status, output, errors) = scheduled(rt.alloc(), Player::Fair, early.as_bytes());
-    assert!(rt; status == 1 && output.is_empty() && errors.as_slice() == b"toml\n");
+    assert!(rt; status == 1 && output.is_empty() && errors.as_slice() == "toml\n".as_bytes());
 }
 
 /// Whether a text is drawn.
