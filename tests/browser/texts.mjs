@@ -40,14 +40,14 @@ function triesOfRefusals({ session }) {
       assert.equal(await browser.value(MARKED), "88px");
     },
 
-    async "a run of more than 400 events is told so, and the last good one stays"() {
-      const whole = schedule(1, "linear", ...Array(400).fill("tick 0"));
+    async "a run of more than 2,000 events is told so, and the last good one stays"() {
+      const whole = schedule(1, "linear", ...Array(2000).fill("tick 0"));
       await session.open(fragment(whole));
       await session.click("#last");
-      assert.equal(await session.inside("#where"), "event 399 / 399");
+      assert.equal(await session.inside("#where"), "event 1999 / 1999");
       await session.click("#offers [data-line='tick 0']");
-      assert.match(await session.inside("#verdict"), /401 events[^]*too many events to draw/);
-      assert.equal(await session.inside("#where"), "event 399 / 399");
+      assert.match(await session.inside("#verdict"), /2001 events[^]*too many events to draw/);
+      assert.equal(await session.inside("#where"), "event 1999 / 1999");
       await session.click("#undo");
       await session.click("#offers [data-call='0 read']");
       await session.open(fragment(whole + "tick 0\n"));

@@ -4,7 +4,7 @@
 
 mod event_lines;
 mod faults;
-mod heads;
+mod head_lines;
 mod keys;
 mod numbers;
 mod schedule_text;
@@ -14,7 +14,7 @@ mod values;
 mod workloads;
 
 pub use faults::WorkloadFault;
-pub use heads::{read_front, read_processes};
+pub use head_lines::{read_front, read_processes};
 pub use keys::Key;
 pub use schedule_text::{put_event, put_take, write_schedule};
 pub use schedules::{Schedule, ScheduleFault, parse_schedule};

@@ -11,7 +11,7 @@ ghost use Rattle.reg_inputs.specs.Refusals.{RefusesLine};
 ghost use Rattle.reg_inputs.specs.Stops.{StopsFirst, IsWrongEvent};
 
 use crate::event_lines::{read_event, why_event, why_further};
-use crate::heads::{read_front, read_processes};
+use crate::head_lines::{read_front, read_processes};
 use reg_base::limits::{MOST_EVENTS, MOST_PROCESSES, MOST_REGISTERS};
 use reg_base::{Names, Shape};
 use reg_front::Front;

@@ -26,6 +26,7 @@ use Rattle.reg_inputs.specs.Schedules.{EventFits, IsPlan, Plan, event_text}
 use Rattle.reg_inputs.specs.ScheduleText.{schedule_text}
 use Rattle.std.specs.Io.KnownBytes.{Appends}
 use Rattle.reg_commands.specs.Plays.{plan_of}
+use Rattle.reg_show.specs.declared.players.Player.TheVariants.{Seeded}
 use Rattle.reg_show.specs.Schedules.{WritesSchedule}
 use Rattle.reg_show.specs.Showings.{IsPlayed}
 
@@ -122,7 +123,7 @@ schedule_utf8 p good =
     IsUtf8-from_ascii (schedule_text p) (processes ⊳ (registers ⊳ (front ⊳ lines))).1
 
 -- what is written of a play is the text of its schedule
-pub as_text : (text items : List ℕ) → WritesSchedule false (Appends (Some []) (Some items)) text → IsPlayed text items × IsUtf8 items
+pub as_text : (text items : List ℕ) → WritesSchedule (Seeded None) (Appends (Some []) (Some items)) text → IsPlayed text items × IsUtf8 items
 as_text text items w =
     let same : items ≡ schedule_text (plan_of w.work w.shown.made) = w.shown.written in (
       record { work = w.work; holds = w.holds; shown = record { made = w.shown.made; is_finished = w.shown.is_finished; played = w.shown.played; schedule = w.shown.schedule; written = sym same } },

@@ -2,6 +2,7 @@ pub mod Kinds
 pub mod FirstLines
 pub mod Tellings
 pub mod TextFaults
+pub mod Seeds
 pub mod Schedules
 pub mod Runs
 pub mod Pages

@@ -27,15 +27,15 @@ pub record DrawsRun (text : List ℕ) : Type 0 where
   pub accepted : (run_by (start_of plan.front) plan).accepted ≡ plan.events
   pub few : length plan.events ≤ MOST_DRAWN
 
--- The text is that of a plan with more events than can be drawn.
-pub record IsTooLong (text : List ℕ) : Type 0 where
+-- The text is that of a plan with more events than so many.
+pub record IsTooLong (most : ℕ) (text : List ℕ) : Type 0 where
   pub plan : Plan
   pub good : IsPlan plan
   pub read : Spells text plan
-  pub many : MOST_DRAWN < length plan.events
+  pub many : most < length plan.events
 
--- what a fault says of the schedule that is to be drawn
-abbrev pub BlamesDrawn : ShowFault → List ℕ → Type 0
-BlamesDrawn (Command fault) text = Blames Replay fault text
-BlamesDrawn TooManyToDraw text = IsTooLong text
-BlamesDrawn TooManyToRest text = ⊥
+-- what a fault says of the schedule that is to be drawn, or to be told whole, where it has at most so many events
+abbrev pub BlamesDrawn : ℕ → ShowFault → List ℕ → Type 0
+BlamesDrawn most (Command fault) text = Blames Replay fault text
+BlamesDrawn most TooManyToDraw text = IsTooLong most text
+BlamesDrawn most TooManyToRest text = ⊥

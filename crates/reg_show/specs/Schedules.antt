@@ -6,7 +6,9 @@ use Rattle.reg_inputs.specs.Loads.{Load}
 use Rattle.reg_world.specs.Worlds.{Made}
 use Rattle.reg_inputs.specs.ScheduleText.{IsScheduleText, schedule_text}
 use Rattle.reg_commands.specs.Replays.{start_of}
-use Rattle.reg_commands.specs.Plays.{Holds, IsPlayBy, plan_of}
+use Rattle.reg_commands.specs.Plays.{IsPlayBy, plan_of}
+use Rattle.reg_show.specs.declared.players.Player.{Player}
+use Rattle.reg_show.specs.Seeds.{HoldsSeeded, is_fair, seed_of}
 
 -- The schedule of the player's play of the workload was written: that of the events which it accepted, under the
 -- workload's front end and names. `Wrote` says how a text was.
@@ -17,8 +19,9 @@ pub record ShowsSchedule (fair : Bool) (start : Op → ℕ → Start) (Wrote : L
   pub schedule : IsScheduleText (plan_of work made)
   pub written : Wrote (schedule_text (plan_of work made))
 
--- The text is a document that says a workload, and the schedule of the player's play of it was written.
-pub record WritesSchedule (fair : Bool) (Wrote : List ℕ → Type 0) (text : List ℕ) : Type 0 where
+-- The text is a document that says a workload, and the schedule of the player's play of it was written: of the one with
+-- the player's seed in place of its own, where the player has one.
+pub record WritesSchedule (player : Player) (Wrote : List ℕ → Type 0) (text : List ℕ) : Type 0 where
   pub work : Load
-  pub holds : Holds text work
-  pub shown : ShowsSchedule fair (start_of work.front) Wrote work
+  pub holds : HoldsSeeded (seed_of player) text work
+  pub shown : ShowsSchedule (is_fair player) (start_of work.front) Wrote work

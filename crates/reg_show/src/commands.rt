@@ -65,7 +65,7 @@ pub(crate) fn trace<A: Allocator + Copy, W: Write>(
 /// What is told of the schedule that a text spells, where it is drawn.
 fn told_to_draw<A: Allocator + Copy>(alloc: A, text: &str) -> Result<TracedRun<A>, ShowFault>
     ensures ok { IfOk result (λ _. DrawsRun text.now) }
-    ensures why { IfErr result (λ f. BlamesDrawn f text.now) }
+    ensures why { IfErr result (λ f. BlamesDrawn MOST_DRAWN f text.now) }
     ensures kind { IfErr result (λ f. f ≢ ShowFault.Command Fault.Output) }
 {
     let schedule = match read_schedule(alloc, text) {
@@ -93,7 +93,7 @@ pub(crate) fn draw<A: Allocator + Copy, W: Write>(
     writer: &mut W,
 ) -> Result<(), ShowFault>
     ensures ok { IfOk result (λ _. DrawsRun text.now) }
-    ensures why { IfErr result (λ f. BlamesDrawn f text.now) }
+    ensures why { IfErr result (λ f. BlamesDrawn MOST_DRAWN f text.now) }
     ensures silent { IfErr result (λ f. f ≢ ShowFault.Command Fault.Output → writer.new ≡ writer.old) }
     ensures part { IsErrOf result (ShowFault.Command Fault.Output) → DrawsRun text.now }
 {

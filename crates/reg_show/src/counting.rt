@@ -8,11 +8,13 @@ ghost use Rattle.reg_outcomes.specs.declared.plays.TheConstants.{MOST_PLAYS};
 ghost use Rattle.reg_outcomes.specs.TableText.{table_text};
 ghost use Rattle.reg_show.specs.Outcomes.{BlamesCount, ShowsOutcomes, StopsPlays, WritesOutcomes};
 ghost use Rattle.reg_show.specs.Searches.{search_line};
+ghost use Rattle.reg_show.specs.Seeds.{IsSeed};
 ghost use Rattle.reg_show.specs.declared.faults.SearchFault.{SearchFault as AnyFault};
 
 use crate::faults::SearchFault;
 use crate::searching::write_search_fault;
-use reg_commands::{Fault, read_input, read_workload};
+use crate::seeding::read_seeded;
+use reg_commands::{Fault, read_input};
 use reg_front::{Front, FrontEnd, Linear, LocalRead, LocalWrite};
 use reg_outcomes::{Outcomes, play_many, write_table};
 use reg_workload::Workload;
@@ -71,21 +73,23 @@ fn write_outcomes<A: Allocator + Copy, W: Write>(
     }
 }
 
-/// Reads a workload, plays it so many times, and writes the table.
+/// Reads a workload, plays it so many times from this seed on, or else from its own, and writes the table.
 fn outcomes<A: Allocator + Copy, W: Write>(
     alloc: A,
     global: Global,
     text: &str,
     plays: u32,
+    seed: Option<u64>,
     writer: &mut W,
 ) -> Result<(), SearchFault>
-    requires { plays ≤ MOST_PLAYS }
-    ensures ok { IfOk result (λ _. WritesOutcomes plays (Appends (W.contents writer.old) (W.contents writer.new)) text.now) }
-    ensures why { IfErr result (λ f. BlamesCount plays f text.now) }
+    requires plays { plays ≤ MOST_PLAYS }
+    requires seed { IsSeed seed }
+    ensures ok { IfOk result (λ _. WritesOutcomes plays seed (Appends (W.contents writer.old) (W.contents writer.new)) text.now) }
+    ensures why { IfErr result (λ f. BlamesCount plays seed f text.now) }
     ensures silent { IfErr result (λ f. f ≢ SearchFault.Command Fault.Output → writer.new ≡ writer.old) }
-    ensures part { IsErrOf result (SearchFault.Command Fault.Output) → WritesOutcomes plays (AppendsPart (W.contents writer.old) (W.contents writer.new)) text.now }
+    ensures part { IsErrOf result (SearchFault.Command Fault.Output) → WritesOutcomes plays seed (AppendsPart (W.contents writer.old) (W.contents writer.new)) text.now }
 {
-    let work = read_workload(alloc, global, text)?;
+    let work = read_seeded(alloc, global, text, seed)?;
     write_outcomes(alloc, &work, plays, writer)
 }
 
@@ -93,43 +97,47 @@ fn obey<A: Allocator + Copy, R: Read, W: Write>(
     alloc: A,
     global: Global,
     plays: u32,
+    seed: Option<u64>,
     reader: &mut R,
     writer: &mut W,
 ) -> Result<(), SearchFault>
-    requires { plays ≤ MOST_PLAYS }
-    ensures ok { IfOk result (λ _. IfSome (R.remaining reader.old) (WritesOutcomes plays (Appends (W.contents writer.old) (W.contents writer.new)))) }
+    requires plays { plays ≤ MOST_PLAYS }
+    requires seed { IsSeed seed }
+    ensures ok { IfOk result (λ _. IfSome (R.remaining reader.old) (WritesOutcomes plays seed (Appends (W.contents writer.old) (W.contents writer.new)))) }
     ensures within { OnOk result (IfSome (R.remaining reader.old) (λ xs. length xs ≤ LONGEST_INPUT)) }
-    ensures why { IfErr result (λ f. IfSome (R.remaining reader.old) (BlamesCount plays f)) }
+    ensures why { IfErr result (λ f. IfSome (R.remaining reader.old) (BlamesCount plays seed f)) }
     ensures silent { IfErr result (λ f. f ≢ SearchFault.Command Fault.Output → writer.new ≡ writer.old) }
-    ensures part { IsErrOf result (SearchFault.Command Fault.Output) → IfSome (R.remaining reader.old) (WritesOutcomes plays (AppendsPart (W.contents writer.old) (W.contents writer.new))) }
+    ensures part { IsErrOf result (SearchFault.Command Fault.Output) → IfSome (R.remaining reader.old) (WritesOutcomes plays seed (AppendsPart (W.contents writer.old) (W.contents writer.new))) }
 {
     let text = read_input(alloc, reader)?;
-    outcomes(alloc, global, text.as_str(), plays, writer)
+    outcomes(alloc, global, text.as_str(), plays, seed, writer)
 }
 
-/// Plays the workload that the text on the reader says so many times, and writes the table of what the plays told: it
-/// reads the whole input, and writes once all plays are counted. The answer is the status: 0, or 1 where something was
-/// refused, with the line of the fault on `errors`, or where the writer failed, and then a first part of the table went
-/// out. That `errors` fails changes no status. The table of a workload is kept in the global heap, all else in the
-/// other one.
+/// Plays the workload that the text on the reader says so many times, from this seed on or else from its own, and writes
+/// the table of what the plays told: it reads the whole input, and writes once all plays are counted. The answer is the
+/// status: 0, or 1 where something was refused, with the line of the fault on `errors`, or where the writer failed, and
+/// then a first part of the table went out. That `errors` fails changes no status. The table of a workload is kept in
+/// the global heap, all else in the other one.
 pub fn show_outcomes<A: Allocator + Copy, R: Read, W: Write, E: Write>(
     alloc: A,
     global: Global,
     plays: u32,
+    seed: Option<u64>,
     reader: &mut R,
     writer: &mut W,
     errors: &mut E,
 ) -> u8
-    requires { plays ≤ MOST_PLAYS }
+    requires plays { plays ≤ MOST_PLAYS }
+    requires seed { IsSeed seed }
     ensures range { result ≤ 1 }
     ensures within { result ≡ 0 → IfSome (R.remaining reader.old) (λ xs. length xs ≤ LONGEST_INPUT) }
-    ensures shown { result ≡ 0 → IfSome (R.remaining reader.old) (WritesOutcomes plays (Appends (W.contents writer.old) (W.contents writer.new))) }
-    ensures refused { result ≡ 1 → (f : AnyFault) × IfSome (R.remaining reader.old) (BlamesCount plays f) × (f ≢ SearchFault.Command Fault.Output → writer.new ≡ writer.old)
-        × (f ≡ SearchFault.Command Fault.Output → IfSome (R.remaining reader.old) (WritesOutcomes plays (AppendsPart (W.contents writer.old) (W.contents writer.new))))
+    ensures shown { result ≡ 0 → IfSome (R.remaining reader.old) (WritesOutcomes plays seed (Appends (W.contents writer.old) (W.contents writer.new))) }
+    ensures refused { result ≡ 1 → (f : AnyFault) × IfSome (R.remaining reader.old) (BlamesCount plays seed f) × (f ≢ SearchFault.Command Fault.Output → writer.new ≡ writer.old)
+        × (f ≡ SearchFault.Command Fault.Output → IfSome (R.remaining reader.old) (WritesOutcomes plays seed (AppendsPart (W.contents writer.old) (W.contents writer.new))))
         × AppendsPart (E.contents errors.old) (E.contents errors.new) (search_line f) }
     ensures quiet { result ≡ 0 → errors.new ≡ errors.old }
 {
-    match obey(alloc, global, plays, reader, writer) {
+    match obey(alloc, global, plays, seed, reader, writer) {
         Ok(()) => 0,
         Err(fault) => {
             let _ = write_search_fault(errors, fault);

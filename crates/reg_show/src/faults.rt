@@ -10,7 +10,7 @@ pub enum ShowFault {
     /// The input is refused, the output failed, or there was no memory.
     #[error("{fault}")]
     Command { fault: Fault },
-    /// The run has more events than a drawing shows.
+    /// The run has more events than a drawing shows, or than data and a page tell.
     #[error("too many events to draw")]
     TooManyToDraw,
     /// A run has no room for as many more events as rest may take.

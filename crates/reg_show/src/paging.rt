@@ -11,7 +11,6 @@ ghost use Rattle.reg_data.specs.Notes.{notes_of};
 ghost use Rattle.reg_show.specs.Pages.{HasData, ShowsData};
 ghost use Rattle.reg_show.specs.Runs.{BlamesDrawn};
 
-use crate::commands::MOST_DRAWN;
 use crate::faults::ShowFault;
 use reg_commands::{Fault, Ran, read_schedule, run_events};
 use reg_data::{Data, Notes, read_notes, tell_data, write_data};
@@ -21,17 +20,20 @@ use reg_world::Wires;
 use std::alloc::Allocator;
 use std::io::Write;
 
-/// The schedule that a text spells, where its run is shown whole.
+/// The most events of a run that is told as data, also to a page.
+pub const MOST_TOLD: usize = 2_000;
+
+/// The schedule that a text spells, where its run is told whole.
 fn schedule_to_show<A: Allocator + Copy>(alloc: A, text: &str) -> Result<Schedule<A>, ShowFault>
-    ensures ok { IfOk result (λ s. IsPlan s × Spells text.now s × (length s.events ≤ MOST_DRAWN)) }
-    ensures why { IfErr result (λ f. BlamesDrawn f text.now) }
+    ensures ok { IfOk result (λ s. IsPlan s × Spells text.now s × (length s.events ≤ MOST_TOLD)) }
+    ensures why { IfErr result (λ f. BlamesDrawn MOST_TOLD f text.now) }
     ensures kind { IfErr result (λ f. f ≢ ShowFault.Command Fault.Output) }
 {
     let schedule = match read_schedule(alloc, text) {
         Ok(schedule) => schedule,
         Err(fault) => return Err(ShowFault::Command { fault }),
     };
-    if schedule.events.len() > MOST_DRAWN {
+    if schedule.events.len() > MOST_TOLD {
         return Err(ShowFault::TooManyToDraw);
     }
     Ok(schedule)
@@ -135,7 +137,7 @@ pub(crate) fn write_run<A: Allocator + Copy, W: Write>(
     writer: &mut W,
 ) -> Result<(), ShowFault>
     ensures ok { IfOk result (λ _. ShowsData (one_text head.now) (one_text tail.now) (Appends (W.contents writer.old) (W.contents writer.new)) text.now) }
-    ensures why { IfErr result (λ f. BlamesDrawn f text.now) }
+    ensures why { IfErr result (λ f. BlamesDrawn MOST_TOLD f text.now) }
     ensures silent { IfErr result (λ f. f ≢ ShowFault.Command Fault.Output → writer.new ≡ writer.old) }
     ensures part { IsErrOf result (ShowFault.Command Fault.Output) → ShowsData (one_text head.now) (one_text tail.now) (AppendsPart (W.contents writer.old) (W.contents writer.new)) text.now }
 {

@@ -5,12 +5,13 @@ ghost use Rattle.reg_base.specs.declared.limits.TheConstants.{LONGEST_INPUT};
 ghost use Rattle.reg_text.specs.Writing.{AppendsPart};
 ghost use Rattle.reg_show.specs.declared.faults.ShowFault.{ShowFault as AnyFault};
 ghost use Rattle.std.specs.Str.{IsUtf8};
-ghost use Rattle.reg_show.specs.Showings.{Blames, BlamesText, IsPlayed, Shows, ShowsPlays, ShowsText, show_line};
+ghost use Rattle.reg_show.specs.Showings.{Blames, BlamesText, IsPlayed, Shows, ShowsText, show_line};
 
 use crate::commands::{draw, trace};
 use crate::faults::ShowFault;
 use crate::kinds::{Kind, kind_of};
 use crate::paging::write_run;
+use crate::players::Player;
 use crate::resting::rest;
 use crate::scheduling::schedule;
 use crate::showing::Showing;
@@ -24,7 +25,6 @@ use std::str;
 
 fn show<A: Allocator + Copy, W: Write>(
     alloc: A,
-    global: Global,
     showing: Showing,
     text: &str,
     writer: &mut W,
@@ -34,17 +34,15 @@ fn show<A: Allocator + Copy, W: Write>(
     ensures silent { IfErr result (λ f. f ≢ ShowFault.Command Fault.Output → writer.new ≡ writer.old) }
     ensures part { IsErrOf result (ShowFault.Command Fault.Output) → ShowsText showing (AppendsPart (W.contents writer.old) (W.contents writer.new)) text.now }
 {
-    let shown = match showing {
-        Showing::Schedule { fair } => schedule(alloc, global, text, fair, writer),
-        Showing::Trace => trace(alloc, text, writer),
-        Showing::Draw => return draw(alloc, text, writer),
-        Showing::Data => return write_run(alloc, text, &[], &["\n"], writer),
-        Showing::Page => return write_run(alloc, text, &HEAD, &TAIL, writer),
-        Showing::Rest => return rest(alloc, text, writer),
-    };
-    match shown {
-        Ok(()) => Ok(()),
-        Err(fault) => Err(ShowFault::Command { fault }),
+    match showing {
+        Showing::Trace => match trace(alloc, text, writer) {
+            Ok(()) => Ok(()),
+            Err(fault) => Err(ShowFault::Command { fault }),
+        },
+        Showing::Draw => draw(alloc, text, writer),
+        Showing::Data => write_run(alloc, text, &[], &["\n"], writer),
+        Showing::Page => write_run(alloc, text, &HEAD, &TAIL, writer),
+        Showing::Rest => rest(alloc, text, writer),
     }
 }
 
@@ -57,7 +55,8 @@ fn played<A: Allocator + Copy>(
     ensures { IfOk result (λ o. IfSome o (λ v. IsPlayed text.now v.items × IsUtf8 v.items)) }
 {
     let mut made = Vec::new(alloc);
-    match schedule(alloc, global, text, false, &mut made) {
+    let player = Player::Seeded { seed: None };
+    match schedule(alloc, global, text, player, &mut made) {
         Ok(()) => Ok(Some(made)),
         // (a list takes all that is written but where memory is refused)
         Err(Fault::OutOfMemory | Fault::Output) => Err(AllocError),
@@ -65,18 +64,16 @@ fn played<A: Allocator + Copy>(
     }
 }
 
-/// The text of the schedule of the play, where a workload is shown by one; None of any other text.
+/// The text of the schedule of the play of a workload, None of any other text.
 fn source<A: Allocator + Copy>(
     alloc: A,
     global: Global,
-    showing: Showing,
     text: &str,
 ) -> Result<Option<Vec<u8, A>>, AllocError>
-    ensures { IfOk result (λ o. IfSome o (λ v. ShowsPlays showing × IsPlayed text.now v.items × IsUtf8 v.items)) }
+    ensures { IfOk result (λ o. IfSome o (λ v. IsPlayed text.now v.items × IsUtf8 v.items)) }
 {
-    match (showing, kind_of(text.as_bytes())) {
-        (Showing::Schedule { .. }, _) => Ok(None),
-        (_, Kind::Workload) => played(alloc, global, text),
+    match kind_of(text.as_bytes()) {
+        Kind::Workload => played(alloc, global, text),
         _ => Ok(None),
     }
 }
@@ -95,12 +92,12 @@ fn show_any<A: Allocator + Copy, W: Write>(
     ensures silent { IfErr result (λ f. f ≢ ShowFault.Command Fault.Output → writer.new ≡ writer.old) }
     ensures part { IsErrOf result (ShowFault.Command Fault.Output) → Shows showing (AppendsPart (W.contents writer.old) (W.contents writer.new)) text.now }
 {
-    match source(alloc, global, showing, text) {
+    match source(alloc, global, text) {
         Ok(Some(schedule)) => match str::from_utf8(schedule.as_slice()) {
-            Ok(played) => show(alloc, global, showing, played, writer),
+            Ok(played) => show(alloc, showing, played, writer),
             Err(_) => unreachable!(),
         },
-        Ok(None) => show(alloc, global, showing, text, writer),
+        Ok(None) => show(alloc, showing, text, writer),
         Err(_) => Err(ShowFault::Command {
             fault: Fault::OutOfMemory,
         }),
@@ -139,7 +136,7 @@ fn write_show_fault<W: Write>(errors: &mut W, fault: ShowFault) -> Result<(), Un
 
 /// Shows what the text on the reader says: it reads the whole input, and writes once all of it is accepted. The answer
 /// is the status: 0, or 1 where something was refused, with the line of the fault on `errors`, or where the writer
-/// failed, and then a first part of a schedule or a trace went out. That `errors` fails changes no status. The table of
+/// failed, and then a first part of it went out. That `errors` fails changes no status. The table of
 /// a workload is kept in the global heap, all else in the other one.
 pub fn show_text<A: Allocator + Copy, R: Read, W: Write, E: Write>(
     alloc: A,

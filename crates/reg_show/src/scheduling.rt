@@ -1,24 +1,30 @@
 //! The command that prints the schedule of a play.
-ghost use Rattle.std.specs.Prelude.{◌≡◌, ◌≢◌, ◌⊎◌, ℕ, IfOk, IfErr, IsErrOf, MatchResult, Some, slice_get};
+ghost use Rattle.std.specs.Prelude.{◌≡◌, ◌≢◌, ◌≤◌, ◌⊎◌, ℕ, IfOk, IfErr, IfSome, IsErrOf, MatchResult, OnOk, Some, false, length, slice_get};
 ghost use Rattle.std.specs.Io.KnownBytes.{Appends};
+ghost use Rattle.reg_base.specs.declared.limits.TheConstants.{LONGEST_INPUT};
 ghost use Rattle.reg_text.specs.Writing.{AppendsPart};
 ghost use Rattle.reg_process.specs.declared.events.Event.{Event};
 ghost use Rattle.reg_commands.specs.Answers.{Blames};
 ghost use Rattle.reg_commands.specs.Replays.{start_of};
 ghost use Rattle.reg_commands.specs.declared.command.Command.TheVariants.{Play};
+ghost use Rattle.reg_commands.specs.FaultLines.{fault_line};
+ghost use Rattle.reg_commands.specs.declared.faults.Fault.{Fault as AnyFault};
 ghost use Rattle.reg_inputs.specs.Schedules.{Plan};
 ghost use Rattle.reg_inputs.specs.ScheduleText.{schedule_text};
 ghost use Rattle.reg_show.specs.Schedules.{ShowsSchedule, WritesSchedule};
+ghost use Rattle.reg_show.specs.Seeds.{IsSeed, seed_of};
 ghost use Rattle.reg_show.specs.ToldRuns.{EventHasBits};
 
+use crate::players::Player;
+use crate::seeding::read_seeded;
 use reg_base::{Names, Shape};
-use reg_commands::{Fault, play_by, read_workload};
+use reg_commands::{Fault, play_by, read_input, write_fault};
 use reg_front::{Front, FrontEnd, Linear, LocalRead, LocalWrite};
 use reg_inputs::write_schedule;
 use reg_workload::Workload;
 use reg_world::{Event as AnyEvent, PackedWires};
 use std::alloc::{Allocator, Global};
-use std::io::Write;
+use std::io::{Read, Write};
 
 // The numbers of an event are within their types. It does nothing: its contract says so.
 fn event_has_bits(event: AnyEvent)
@@ -91,20 +97,69 @@ fn write_workload<A: Allocator + Copy, W: Write>(
     }
 }
 
-/// Reads a workload, plays it, and writes the schedule of the play: `awreg replay` makes of it the report that `awreg
-/// play` makes of the workload.
+/// Reads a workload, plays it, and writes the schedule of the play.
 pub(crate) fn schedule<A: Allocator + Copy, W: Write>(
     alloc: A,
     global: Global,
     text: &str,
-    fair: bool,
+    player: Player,
     writer: &mut W,
 ) -> Result<(), Fault>
-    ensures ok { IfOk result (λ _. WritesSchedule fair (Appends (W.contents writer.old) (W.contents writer.new)) text.now) }
-    ensures why { IfErr result (λ f. Blames (Play fair) f text.now) }
+    requires { IsSeed (seed_of player) }
+    ensures ok { IfOk result (λ _. WritesSchedule player (Appends (W.contents writer.old) (W.contents writer.new)) text.now) }
+    ensures why { IfErr result (λ f. Blames (Play false) f text.now) }
     ensures silent { IfErr result (λ f. f ≢ Fault.Output → writer.new ≡ writer.old) }
-    ensures part { IsErrOf result Fault.Output → WritesSchedule fair (AppendsPart (W.contents writer.old) (W.contents writer.new)) text.now }
+    ensures part { IsErrOf result Fault.Output → WritesSchedule player (AppendsPart (W.contents writer.old) (W.contents writer.new)) text.now }
 {
-    let work = read_workload(alloc, global, text)?;
-    write_workload(alloc, &work, fair, writer)
+    let work = read_seeded(alloc, global, text, player.seed())?;
+    write_workload(alloc, &work, player.is_fair(), writer)
+}
+
+fn obey<A: Allocator + Copy, R: Read, W: Write>(
+    alloc: A,
+    global: Global,
+    player: Player,
+    reader: &mut R,
+    writer: &mut W,
+) -> Result<(), Fault>
+    requires { IsSeed (seed_of player) }
+    ensures ok { IfOk result (λ _. IfSome (R.remaining reader.old) (WritesSchedule player (Appends (W.contents writer.old) (W.contents writer.new)))) }
+    ensures within { OnOk result (IfSome (R.remaining reader.old) (λ xs. length xs ≤ LONGEST_INPUT)) }
+    ensures why { IfErr result (λ f. IfSome (R.remaining reader.old) (Blames (Play false) f)) }
+    ensures silent { IfErr result (λ f. f ≢ Fault.Output → writer.new ≡ writer.old) }
+    ensures part { IsErrOf result Fault.Output → IfSome (R.remaining reader.old) (WritesSchedule player (AppendsPart (W.contents writer.old) (W.contents writer.new))) }
+{
+    let text = read_input(alloc, reader)?;
+    schedule(alloc, global, text.as_str(), player, writer)
+}
+
+/// Writes the schedule of the player's play of the workload that the text on the reader says: it reads the whole input,
+/// and writes once the play is made. Of the one by the workload's own seed, and of the fair one, `awreg replay` makes
+/// the report that `awreg play` makes of the workload. The answer is the status: 0, or 1 where something was refused,
+/// with the line of the fault on `errors`, or where the writer failed, and then a first part of the schedule went out.
+/// That `errors` fails changes no status. The table of a workload is kept in the global heap, all else in the other one.
+pub fn show_schedule<A: Allocator + Copy, R: Read, W: Write, E: Write>(
+    alloc: A,
+    global: Global,
+    player: Player,
+    reader: &mut R,
+    writer: &mut W,
+    errors: &mut E,
+) -> u8
+    requires { IsSeed (seed_of player) }
+    ensures range { result ≤ 1 }
+    ensures within { result ≡ 0 → IfSome (R.remaining reader.old) (λ xs. length xs ≤ LONGEST_INPUT) }
+    ensures shown { result ≡ 0 → IfSome (R.remaining reader.old) (WritesSchedule player (Appends (W.contents writer.old) (W.contents writer.new))) }
+    ensures refused { result ≡ 1 → (f : AnyFault) × IfSome (R.remaining reader.old) (Blames (Play false) f) × (f ≢ Fault.Output → writer.new ≡ writer.old)
+        × (f ≡ Fault.Output → IfSome (R.remaining reader.old) (WritesSchedule player (AppendsPart (W.contents writer.old) (W.contents writer.new))))
+        × AppendsPart (E.contents errors.old) (E.contents errors.new) (fault_line f) }
+    ensures quiet { result ≡ 0 → errors.new ≡ errors.old }
+{
+    match obey(alloc, global, player, reader, writer) {
+        Ok(()) => 0,
+        Err(fault) => {
+            let _ = write_fault(errors, fault);
+            1
+        }
+    }
 }

@@ -3,11 +3,6 @@
 /// What the program is asked to show of the text on its input.
 #[derive(Clone, Copy, Debug, PartialEq, Eq)]
 pub enum Showing {
-    /// The schedule of a play of a workload.
-    Schedule {
-        /// Whether the play is the fair one. Else the words of the workload's seed make its choices.
-        fair: bool,
-    },
     /// What happens in the run of a schedule, event by event.
     Trace,
     /// The space-time diagram of the run of a schedule.

@@ -13,17 +13,18 @@ use Rattle.clap.specs.declared.error.ErrorKind.{ErrorKind}
 use Rattle.clap.specs.declared.error.ErrorKind.TheVariants.{DisplayHelp, InvalidSubcommand, OutOfMemory as NoMemory, UnknownArgument}
 use Rattle.clap.proofs.OnLiterals.{clap_on_literals}
 use Rattle.reg_interleavings.specs.declared.kinds.OrderKind.{OrderKind}
+use Rattle.reg_show.specs.declared.Player.{Player}
 use Rattle.reg_show.specs.declared.Showing.{Showing}
 use Rattle.reg_args.specs.Lines.{is_flag, may_ask_help}
 use Rattle.reg_args.proofs.Chosen.{takes_line}
-use Rattle.reg_args.proofs.Leaves.{fair_stray, plain_stray}
+use Rattle.reg_args.proofs.Leaves.{plain_stray}
 use Rattle.reg_args.proofs.Programs.{fails_below, stray_first}
 use Rattle.reg_args.proofs.Strays.{some_kind}
 use Rattle.reg_show_cli.specs.Words.{awshow, told_of}
-use Rattle.reg_show_cli.specs.Lines.{IsAnswer, IsCommandLine, IsHelpLine, is_fair, line_of, name_of}
+use Rattle.reg_show_cli.specs.Lines.{IsAnswer, IsCommandLine, IsHelpLine, line_of, name_of}
 use Rattle.reg_show_cli.proofs.Lines.{awshow_lines, no_name, subs}
 use Rattle.reg_show_cli.specs.declared.words.Asked.{Asked}
-use Rattle.reg_show_cli.specs.declared.words.Asked.TheVariants.{AllOutcomes, Find, Help, Outcome, Outcomes, Show, Verify, Version, Why}
+use Rattle.reg_show_cli.specs.declared.words.Asked.TheVariants.{AllOutcomes, Find, Help, Outcome, Outcomes, Schedule, Show, Verify, Version, Why}
 use Rattle.reg_args.specs.declared.faults.WordsFault.{WordsFault}
 use Rattle.reg_args.specs.declared.faults.WordsFault.TheVariants.{CommandLine, OutOfMemory}
 
@@ -91,12 +92,6 @@ rest_words [] e = λ h. h
 rest_words (word ∷ rest) e = subst HasNoHelp (sym (fails_below (codes "awshow") subs (codes "rest") (word ∷ rest) UnknownArgument [] refl refl
     (plain_stray (codes "rest") word rest (no_flag word rest e)))) unknown_word
 
-schedule_words : (rest : List Text) → list_any may_ask_help rest ≡ false → HasNoHelp (fault_at (codes "schedule" ∷ rest))
-unfolding clap_on_literals
-schedule_words [] e = λ h. h
-schedule_words (word ∷ rest) e = subst HasNoHelp (sym (fails_below (codes "awshow") subs (codes "schedule") (word ∷ rest) UnknownArgument [] refl refl
-    (fair_stray (codes "schedule") word rest (no_flag word rest e)))) unknown_word
-
 module _ (word : Text) (rest : List Text) (e : list_any may_ask_help (word ∷ rest) ≡ false) where
   at_name : (name : Text) → bytes_eq name word ≡ true → HasNoHelp (fault_at (name ∷ rest)) → HasNoHelp (fault_at (word ∷ rest))
   at_name name is h = subst (λ w. HasNoHelp (fault_at (w ∷ rest))) ((bytes_eq-Decides name word).0 is) h
@@ -115,10 +110,7 @@ module _ (word : Text) (rest : List Text) (e : list_any may_ask_help (word ∷ r
               | inl is ↦ at_name (codes "page") is (page_words rest parts.1)
               | inr page ↦ elim (cases_Bool (bytes_eq (codes "rest") word)) [
                 | inl is ↦ at_name (codes "rest") is (rest_words rest parts.1)
-                | inr still ↦ elim (cases_Bool (bytes_eq (codes "schedule") word)) [
-                  | inl is ↦ at_name (codes "schedule") is (schedule_words rest parts.1)
-                  | inr schedule ↦ subst HasNoHelp (sym (stray_first (codes "awshow") subs word rest (no_name word trace draw data_no page still schedule help.0) help.1)) unknown_name
-                ]
+                | inr still ↦ subst HasNoHelp (sym (stray_first (codes "awshow") subs word rest (no_name word trace draw data_no page still help.0) help.1)) unknown_name
               ]
             ]
           ]
@@ -137,10 +129,15 @@ never_shown DisplayHelp showing e = cc
 never_shown NoMemory showing e = cc
 never_shown _ showing e = cc
 
-never_counted : (k : ErrorKind) (plays : ℕ) → told_of k ≡ Ok (Outcomes plays) → ⊥
-never_counted DisplayHelp plays e = cc
-never_counted NoMemory plays e = cc
-never_counted _ plays e = cc
+never_scheduled : (k : ErrorKind) (player : Player) → told_of k ≡ Ok (Schedule player) → ⊥
+never_scheduled DisplayHelp player e = cc
+never_scheduled NoMemory player e = cc
+never_scheduled _ player e = cc
+
+never_counted : (k : ErrorKind) (plays : ℕ) (seed : Option ℕ) → told_of k ≡ Ok (Outcomes plays seed) → ⊥
+never_counted DisplayHelp plays seed e = cc
+never_counted NoMemory plays seed e = cc
+never_counted _ plays seed e = cc
 
 never_asked : (k : ErrorKind) → told_of k ≡ Ok Why → ⊥
 never_asked DisplayHelp e = cc
@@ -183,7 +180,7 @@ pub refused : (words : List Text) (error : Error) → (takes awshow words ≡ tr
 refused words error memory kinds = go (told_of (kind_of error)) refl
   where
     shows_nothing : (r : Result Asked WordsFault) → told_of (kind_of error) ≡ r → (r ≡ Err OutOfMemory → ⊥) → IsCommandLine (drop 1 words) → ⊥
-    shows_nothing r is differs line = differs (sym is ∙ ap told_of (memory (takes_line name_of is_fair awshow awshow_lines words line.0 line.1)))
+    shows_nothing r is differs line = differs (sym is ∙ ap told_of (memory (takes_line name_of (λ _. false) awshow awshow_lines words line.0 line.1)))
 
     asked : told_of (kind_of error) ≡ Ok Help → list_any may_ask_help (drop 1 words) ≡ true
     asked is = true_from_ne_false (list_any may_ask_help (drop 1 words)) (λ none.
@@ -198,7 +195,8 @@ refused words error memory kinds = go (told_of (kind_of error)) refl
 
     go : (r : Result Asked WordsFault) → told_of (kind_of error) ≡ r → IsAnswer (drop 1 words) r
     go (Ok (Show showing)) is = absurd (never_shown (kind_of error) showing is)
-    go (Ok (Outcomes plays)) is = absurd (never_counted (kind_of error) plays is)
+    go (Ok (Schedule player)) is = absurd (never_scheduled (kind_of error) player is)
+    go (Ok (Outcomes plays seed)) is = absurd (never_counted (kind_of error) plays seed is)
     go (Ok AllOutcomes) is = absurd (never_all (kind_of error) is)
     go (Ok (Outcome number)) is = absurd (never_one (kind_of error) number is)
     go (Ok (Find kind)) is = absurd (never_found (kind_of error) kind is)
@@ -210,6 +208,6 @@ refused words error memory kinds = go (told_of (kind_of error)) refl
     go (Err CommandLine) is = (shows_nothing (Err CommandLine) is (λ e. cc), helped is)
 
 -- what a name asks for is what the line asks for
-pub picked : (line : List Text) (name : Text) (fair : Bool) (found : Option Asked) → (x : Showing) × (line ≡ line_of x) × (name_of x ≡ name) × (is_fair x ≡ fair)
-    → ((showing : Showing) → name_of showing ≡ name → is_fair showing ≡ fair → found ≡ Some (Show showing)) → IsAnswer line (ok_or found CommandLine)
-picked line name fair found x picks = subst (λ o. IsAnswer line (ok_or o CommandLine)) (sym (picks x.0 x.2 x.3)) x.1
+pub picked : (line : List Text) (name : Text) (fair : Bool) (found : Option Asked) → (x : Showing) × (line ≡ line_of x) × (name_of x ≡ name) × (false ≡ fair)
+    → ((showing : Showing) → name_of showing ≡ name → found ≡ Some (Show showing)) → IsAnswer line (ok_or found CommandLine)
+picked line name fair found x picks = subst (λ o. IsAnswer line (ok_or o CommandLine)) (sym (picks x.0 x.2)) x.1

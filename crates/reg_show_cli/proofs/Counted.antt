@@ -1,17 +1,17 @@
--- Which words ask to count what the plays of a workload tell.
+-- Words by their places, and what the words ask for that clap reads.
 use Rattle.std.proofs.Common.{◌≡◌, ◌⊎◌, inl, inr, ℕ, zero, suc, ◌+◌, ◌<◌, ◌≤◌, get_or, Bool, true, List, [], ◌∷◌, length, drop, map, Option, Some, None, Result, Ok, Err, String, string_bytes, codes, refl, ap, sym, ◌∙◌, arith}
-use Rattle.std.specs.Prelude.{slice_get, IfSome, MatchOption}
-use Rattle.std.specs.Fmt.{decimal}
+use Rattle.std.specs.Prelude.{slice_get}
 use Rattle.std.specs.Str.{bytes_eq}
 use Rattle.std.proofs.lemmas.Slice.Eq.{bytes_eq-Decides}
 use Rattle.std.proofs.lemmas.Option.{same_Some}
 use Rattle.clap.specs.Words.{Text}
 use Rattle.reg_outcomes.specs.declared.plays.TheConstants.{MOST_PLAYS}
 use Rattle.reg_show_cli.specs.declared.words.Asked.{Asked}
-use Rattle.reg_show_cli.specs.declared.words.Asked.TheVariants.{AllOutcomes, Find, Help, Outcome, Outcomes, Show, Verify, Version, Why}
+use Rattle.reg_show_cli.specs.declared.words.Asked.TheVariants.{AllOutcomes, Find, Help, Outcome, Outcomes, Schedule, Show, Verify, Version, Why}
 use Rattle.reg_interleavings.specs.declared.kinds.OrderKind.{OrderKind}
 use Rattle.reg_interleavings.specs.declared.kinds.OrderKind.TheVariants.{Serial, Points}
-use Rattle.reg_show_cli.specs.Lines.{IsAllLine, IsAnswer, IsChoice, IsFindLine, IsNumberedLine, IsOneOutcomeLine, IsOutcomesLine, IsVerifyLine, IsVersionLine, IsWhyLine, NumbersFit}
+use Rattle.reg_show.specs.declared.Player.{Player}
+use Rattle.reg_show_cli.specs.Lines.{IsAllLine, IsAnswer, IsAskedLine, IsChoice, IsCommandLine, IsFindLine, IsOneOutcomeLine, IsOutcomesLine, IsScheduleLine, IsVerifyLine, IsVersionLine, IsWhyLine, NumbersFit, SaysPlays}
 use Rattle.reg_args.specs.declared.faults.WordsFault.{WordsFault}
 use Rattle.reg_args.specs.declared.faults.WordsFault.TheVariants.{CommandLine, OutOfMemory}
 
@@ -39,14 +39,6 @@ one_word (a ∷ []) x n h = absurd cc
 one_word (a ∷ b ∷ []) x n h = ap (λ y. y ∷ []) (same_Some b x h)
 one_word (a ∷ b ∷ c ∷ ws) x n h = absurd (omega arith)
 
-pub three_words : (ws : List Text) (x y z : Text) → length ws ≡ 4 → slice_get ws 1 ≡ Some x → slice_get ws 2 ≡ Some y → slice_get ws 3 ≡ Some z → drop 1 ws ≡ x ∷ y ∷ z ∷ []
-three_words [] x y z n h i j = absurd cc
-three_words (a ∷ []) x y z n h i j = absurd cc
-three_words (a ∷ b ∷ []) x y z n h i j = absurd cc
-three_words (a ∷ b ∷ c ∷ []) x y z n h i j = absurd cc
-three_words (a ∷ b ∷ c ∷ d ∷ []) x y z n h i j = ap (λ t. t ∷ c ∷ d ∷ []) (same_Some b x h) ∙ (ap (λ t. x ∷ t ∷ d ∷ []) (same_Some c y i) ∙ ap (λ t. x ∷ y ∷ t ∷ []) (same_Some d z j))
-three_words (a ∷ b ∷ c ∷ d ∷ e ∷ ws) x y z n h i j = absurd (omega arith)
-
 pub two_words : (ws : List Text) (x y : Text) → length ws ≡ 3 → slice_get ws 1 ≡ Some x → slice_get ws 2 ≡ Some y → drop 1 ws ≡ x ∷ y ∷ []
 two_words [] x y n h i = absurd cc
 two_words (a ∷ []) x y n h i = absurd cc
@@ -67,46 +59,42 @@ long_as [] line x rest e f = absurd (none (e ∙ f))
     none g = absurd cc
 long_as (a ∷ ws) line x rest e f = let n = ap length e in omega (arith, n)
 
--- a line with a flag and a number has three words
-module _ (ws : List Text) (flag : Text) (most number : ℕ) (asked : IsNumberedLine flag most (drop 1 ws) number) where
-  abbrev three : List Text
-  three = codes "outcomes" ∷ flag ∷ decimal number ∷ []
-
-  pub numbered_length : length ws ≡ 4
-  numbered_length = let n = long_as ws three (codes "outcomes") (flag ∷ decimal number ∷ []) asked.0 refl in omega (arith, n)
-
-  pub numbered_word : (k : ℕ) (x : Text) → slice_get three k ≡ Some x → slice_get ws (suc k) ≡ Some x
-  numbered_word k x at = word_at ws three k x asked.0 at
-
--- no number, or one
-pub said_number : (ws : List Text) (flag word : Text) (most : ℕ) (r : Option ℕ) → length ws ≡ 4 → slice_get ws 1 ≡ Some (codes "outcomes") → slice_get ws 2 ≡ Some flag → slice_get ws 3 ≡ Some word
-    → IfSome r (λ number. (word ≡ decimal number) × (1 ≤ number) × (number ≤ most)) → ((number : ℕ) → 1 ≤ number → number ≤ most → word ≡ decimal number → r ≡ Some number)
-    → MatchOption r ((number : ℕ) → ¬ IsNumberedLine flag most (drop 1 ws) number) (IsNumberedLine flag most (drop 1 ws))
-said_number ws flag word most None n h i j read whole = λ number asked. some (whole number asked.1 asked.2 (same_Some word (decimal number) (sym j ∙ numbered_word ws flag most number asked 2 (decimal number) refl)))
-  where
-    some : {x : ℕ} → None ≡ Some x → ⊥
-    some e = absurd cc
-said_number ws flag word most (Some number) n h i j read whole = (three_words ws (codes "outcomes") flag (decimal number) n h i (j ∙ ap Some read.0), read.1, read.2)
-
--- the number of plays is said, where it isn't the usual one
-pub said_plays : (line : List Text) (r : Option ℕ) → (line ≡ codes "outcomes" ∷ [] → ⊥) → MatchOption r ((number : ℕ) → ¬ IsNumberedLine (codes "--plays") MOST_PLAYS line number) (IsNumberedLine (codes "--plays") MOST_PLAYS line)
-    → MatchOption r ((plays : ℕ) → ¬ IsOutcomesLine line plays) (IsOutcomesLine line)
-said_plays line None more none = λ plays asked. elim asked [ inl usual ↦ more usual.0 | inr said ↦ none plays said ]
-said_plays line (Some plays) more said = inr said
-
 -- what clap reads of other lines is what they ask for
-pub chosen : (line : List Text) (r : Result Asked WordsFault) → ((plays : ℕ) → ¬ IsOutcomesLine line plays) → ¬ IsWhyLine line → ¬ IsVersionLine line → ¬ IsAllLine line → ((number : ℕ) → ¬ IsOneOutcomeLine line number) → ((kind : OrderKind) → ¬ IsFindLine line kind) → ¬ IsVerifyLine line → IsAnswer line r → IsChoice line r
-chosen line (Ok (Show showing)) other none unnamed part one unfound unjudged h = h
-chosen line (Ok (Outcomes plays)) other none unnamed part one unfound unjudged h = absurd h
-chosen line (Ok AllOutcomes) other none unnamed part one unfound unjudged h = absurd h
-chosen line (Ok (Outcome number)) other none unnamed part one unfound unjudged h = absurd h
-chosen line (Ok (Find kind)) other none unnamed part one unfound unjudged h = absurd h
-chosen line (Ok Why) other none unnamed part one unfound unjudged h = absurd h
-chosen line (Ok Verify) other none unnamed part one unfound unjudged h = absurd h
-chosen line (Ok Version) other none unnamed part one unfound unjudged h = absurd h
-chosen line (Ok Help) other none unnamed part one unfound unjudged h = (λ asked. elim asked [ inl shown ↦ h.0 shown | inr (inl (plays, counted)) ↦ other plays counted | inr (inr (inl why)) ↦ none why | inr (inr (inr (inl version))) ↦ unnamed version | inr (inr (inr (inr (inl every)))) ↦ part every | inr (inr (inr (inr (inr (inl (number, named)))))) ↦ one number named | inr (inr (inr (inr (inr (inr (inl (kind, found))))))) ↦ unfound kind found | inr (inr (inr (inr (inr (inr (inr judged)))))) ↦ unjudged judged ], h.1)
-chosen line (Err CommandLine) other none unnamed part one unfound unjudged h = (λ asked. elim asked [ inl shown ↦ h.0 shown | inr (inl (plays, counted)) ↦ other plays counted | inr (inr (inl why)) ↦ none why | inr (inr (inr (inl version))) ↦ unnamed version | inr (inr (inr (inr (inl every)))) ↦ part every | inr (inr (inr (inr (inr (inl (number, named)))))) ↦ one number named | inr (inr (inr (inr (inr (inr (inl (kind, found))))))) ↦ unfound kind found | inr (inr (inr (inr (inr (inr (inr judged)))))) ↦ unjudged judged ], h.1)
-chosen line (Err OutOfMemory) other none unnamed part one unfound unjudged h = tt
+module _ (line : List Text)
+    (counted : (plays : ℕ) (seed : Option ℕ) → ¬ IsOutcomesLine line plays seed)
+    (why : ¬ IsWhyLine line)
+    (version : ¬ IsVersionLine line)
+    (every : ¬ IsAllLine line)
+    (one : (number : ℕ) → ¬ IsOneOutcomeLine line number)
+    (found : (kind : OrderKind) → ¬ IsFindLine line kind)
+    (judged : ¬ IsVerifyLine line)
+    (scheduled : (player : Player) → ¬ IsScheduleLine line player) where
+  unasked : ¬ IsCommandLine line → ¬ IsAskedLine line
+  unasked shown asked = elim asked [
+    | inl h ↦ shown h
+    | inr (inl (plays, seed, h)) ↦ counted plays seed h
+    | inr (inr (inl h)) ↦ why h
+    | inr (inr (inr (inl h))) ↦ version h
+    | inr (inr (inr (inr (inl h)))) ↦ every h
+    | inr (inr (inr (inr (inr (inl (number, h)))))) ↦ one number h
+    | inr (inr (inr (inr (inr (inr (inl (kind, h))))))) ↦ found kind h
+    | inr (inr (inr (inr (inr (inr (inr (inl h))))))) ↦ judged h
+    | inr (inr (inr (inr (inr (inr (inr (inr (player, h)))))))) ↦ scheduled player h
+  ]
+
+  pub chosen : (r : Result Asked WordsFault) → IsAnswer line r → IsChoice line r
+  chosen (Ok (Show showing)) h = h
+  chosen (Ok (Schedule player)) h = absurd h
+  chosen (Ok (Outcomes plays seed)) h = absurd h
+  chosen (Ok AllOutcomes) h = absurd h
+  chosen (Ok (Outcome number)) h = absurd h
+  chosen (Ok (Find kind)) h = absurd h
+  chosen (Ok Why) h = absurd h
+  chosen (Ok Verify) h = absurd h
+  chosen (Ok Version) h = absurd h
+  chosen (Ok Help) h = (unasked h.0, h.1)
+  chosen (Err CommandLine) h = (unasked h.0, h.1)
+  chosen (Err OutOfMemory) h = tt
 
 -- a word stands alone just where there are two, and the second one is that
 pub alone_length : (ws : List Text) (word : Text) → drop 1 ws ≡ word ∷ [] → length ws ≡ 2
@@ -130,11 +118,15 @@ pub no_order : (line : List Text) → ¬ IsFindLine line Serial → ¬ IsFindLin
 no_order line serial points Serial h = serial h
 no_order line serial points Points h = points h
 
+few_plays : (flags : List Text) (plays : ℕ) (seed : Option ℕ) → SaysPlays flags plays seed → plays ≤ MOST_PLAYS
+few_plays flags plays seed (inl (usual, e)) = omega (arith, usual)
+few_plays flags plays seed (inr (some, few, e)) = few
+
 -- the numbers of what is asked for fit
 pub numbers_fit : (line : List Text) (asked : Asked) → IsChoice line (Ok asked) → NumbersFit asked
 numbers_fit line (Show showing) h = tt
-numbers_fit line (Outcomes plays) (inl (e, u)) = omega (arith, u)
-numbers_fit line (Outcomes plays) (inr (e, low, high)) = high
+numbers_fit line (Schedule player) h = h.1
+numbers_fit line (Outcomes plays seed) h = (few_plays h.0 plays seed h.2, h.3)
 numbers_fit line AllOutcomes h = tt
 numbers_fit line (Outcome number) h = h.1
 numbers_fit line (Find kind) h = tt

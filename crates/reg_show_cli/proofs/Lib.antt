@@ -1,4 +1,5 @@
 pub mod Lines
 pub mod Choices
 pub mod Counted
+pub mod Flagged
 pub mod Telling

@@ -10,29 +10,25 @@ use Rattle.clap.specs.Walk.{idle, nothing_held, subcommand_met, walked}
 use Rattle.clap.specs.Faults.{built_fault, entered_fault}
 use Rattle.clap.proofs.OnLiterals.{clap_on_literals}
 use Rattle.reg_show.specs.declared.Showing.{Showing}
-use Rattle.reg_show.specs.declared.Showing.TheVariants.{Data, Draw, Page, Rest, Schedule, Trace}
+use Rattle.reg_show.specs.declared.Showing.TheVariants.{Data, Draw, Page, Rest, Trace}
 use Rattle.reg_args.specs.Lines.{is_dashes}
 use Rattle.reg_args.proofs.Chosen.{TakesLines, met_at}
 use Rattle.reg_args.proofs.Strays.{some_kind}
-use Rattle.reg_args.proofs.Leaves.{fair_words, has_none, plain_words}
+use Rattle.reg_args.proofs.Leaves.{has_none, plain_words}
 use Rattle.reg_args.proofs.Programs.{at_name, below, first_turn, no_subcommand, start}
-use Rattle.reg_show_cli.specs.Lines.{IsCommandLine, is_fair, line_of, name_of}
+use Rattle.reg_show_cli.specs.Lines.{IsCommandLine, line_of, name_of}
 use Rattle.reg_show_cli.specs.Words.{awshow}
 
 taken : (showing : Showing) → built_takes (built awshow) nothing_held (line_of showing) ≡ true
 unfolding clap_on_literals
-taken (Schedule true) = refl
-taken (Schedule false) = refl
 taken Trace = refl
 taken Draw = refl
 taken Data = refl
 taken Page = refl
 taken Rest = refl
 
-met : (showing : Showing) → met_at awshow (line_of showing) ≡ Some (name_of showing, Some (is_fair showing))
+met : (showing : Showing) → met_at awshow (line_of showing) ≡ Some (name_of showing, Some false)
 unfolding clap_on_literals
-met (Schedule true) = refl
-met (Schedule false) = refl
 met Trace = refl
 met Draw = refl
 met Data = refl
@@ -71,18 +67,11 @@ rest_line : (rest : List Text) → has_none rest → passes (codes "rest" ∷ re
 unfolding walked
 rest_line rest none e = (Rest, ap (λ ws. codes "rest" ∷ ws) (plain_words (codes "rest") rest (rest_of (codes "rest") rest refl e) none))
 
-schedule_line : (rest : List Text) → has_none rest → passes (codes "schedule" ∷ rest) → IsCommandLine (codes "schedule" ∷ rest)
-unfolding walked
-schedule_line rest none e = elim (fair_words (codes "schedule") rest (rest_of (codes "schedule") rest refl e) none) [
-  | inl is ↦ (Schedule false, ap (λ ws. codes "schedule" ∷ ws) is)
-  | inr is ↦ (Schedule true, ap (λ ws. codes "schedule" ∷ ws) is)
-]
-
 help_line : (rest : List Text) → passes (codes "help" ∷ rest) → ⊥
 help_line rest e = some_kind _ _ (first_turn (codes "awshow") subs (codes "help") rest e)
 
-pub no_name : (word : Text) → bytes_eq (codes "trace") word ≡ false → bytes_eq (codes "draw") word ≡ false → bytes_eq (codes "data") word ≡ false → bytes_eq (codes "page") word ≡ false → bytes_eq (codes "rest") word ≡ false → bytes_eq (codes "schedule") word ≡ false → bytes_eq (codes "help") word ≡ false → subcommand_met (names_of (built awshow)) idle word ≡ None
-no_name word trace draw data_no page still schedule help = rw (trace, draw, data_no, page, still, schedule, help) refl
+pub no_name : (word : Text) → bytes_eq (codes "trace") word ≡ false → bytes_eq (codes "draw") word ≡ false → bytes_eq (codes "data") word ≡ false → bytes_eq (codes "page") word ≡ false → bytes_eq (codes "rest") word ≡ false → bytes_eq (codes "help") word ≡ false → subcommand_met (names_of (built awshow)) idle word ≡ None
+no_name word trace draw data_no page still help = rw (trace, draw, data_no, page, still, help) refl
 
 module _ (word : Text) (rest : List Text) (e : passes (word ∷ rest)) (dashes : has_none (word ∷ rest)) where
   none : (is_dashes word ≡ false) × has_none rest
@@ -102,12 +91,9 @@ module _ (word : Text) (rest : List Text) (e : passes (word ∷ rest)) (dashes :
           | inl is ↦ at (codes "page") is (page_line rest none.1)
           | inr page ↦ elim (cases_Bool (bytes_eq (codes "rest") word)) [
             | inl is ↦ at (codes "rest") is (rest_line rest none.1)
-            | inr still ↦ elim (cases_Bool (bytes_eq (codes "schedule") word)) [
-              | inl is ↦ at (codes "schedule") is (schedule_line rest none.1)
-              | inr schedule ↦ elim (cases_Bool (bytes_eq (codes "help") word)) [
-                | inl is ↦ at (codes "help") is (λ h. absurd (help_line rest h))
-                | inr help ↦ absurd (no_subcommand (codes "awshow") subs word rest (no_name word trace draw data_no page still schedule help) none.0 e)
-              ]
+            | inr still ↦ elim (cases_Bool (bytes_eq (codes "help") word)) [
+              | inl is ↦ at (codes "help") is (λ h. absurd (help_line rest h))
+              | inr help ↦ absurd (no_subcommand (codes "awshow") subs word rest (no_name word trace draw data_no page still help) none.0 e)
             ]
           ]
         ]
@@ -120,7 +106,7 @@ passed_line [] e dashes = inl refl
 passed_line (word ∷ rest) e dashes = inr (named_line word rest e dashes)
 
 -- the program takes just the lines of what can be shown
-pub awshow_lines : TakesLines name_of is_fair awshow
+pub awshow_lines : TakesLines name_of (λ _. false) awshow
 awshow_lines = record {
   simple = refl;
   named = λ words. refl;

@@ -1,50 +1,75 @@
 -- Which words ask for what.
-use Rattle.std.specs.Prelude.{ℕ, ◌≡◌, ◌≤◌, ◌⊎◌, ⊤, Bool, true, false, List, [], ◌∷◌, ◌++◌, codes, Result, Ok, Err}
+use Rattle.std.specs.Prelude.{ℕ, ◌≡◌, ◌≤◌, ◌⊎◌, ⊤, Bool, true, false, List, [], ◌∷◌, ◌++◌, codes, Option, Some, None, Result, Ok, Err}
 use Rattle.std.specs.List.{list_any}
 use Rattle.std.specs.Fmt.{decimal}
 use Rattle.clap.specs.Words.{Text}
 use Rattle.reg_outcomes.specs.declared.plays.TheConstants.{MOST_PLAYS}
 use Rattle.reg_show.specs.declared.Showing.{Showing}
-use Rattle.reg_show.specs.declared.Showing.TheVariants.{Data, Draw, Page, Rest, Schedule, Trace}
-use Rattle.reg_args.specs.Lines.{may_ask_help, named_line}
+use Rattle.reg_show.specs.declared.Showing.TheVariants.{Data, Draw, Page, Rest, Trace}
+use Rattle.reg_show.specs.Seeds.{IsSeed, seed_of}
+use Rattle.reg_show.specs.declared.Player.{Player}
+use Rattle.reg_show.specs.declared.Player.TheVariants.{Fair, Seeded}
+use Rattle.reg_args.specs.Lines.{may_ask_help}
 use Rattle.reg_interleavings.specs.declared.kinds.OrderKind.{OrderKind}
 use Rattle.reg_interleavings.specs.declared.kinds.OrderKind.TheVariants.{Serial, Points}
-use Rattle.reg_show_cli.specs.declared.asking.TheConstants.{LAST_OUTCOME, USUAL_PLAYS}
+use Rattle.reg_show_cli.specs.declared.asking.TheConstants.{LAST_OUTCOME}
+use Rattle.reg_show_cli.specs.declared.flags.TheConstants.{USUAL_PLAYS}
 use Rattle.reg_show_cli.specs.declared.words.Asked.{Asked}
-use Rattle.reg_show_cli.specs.declared.words.Asked.TheVariants.{AllOutcomes, Find, Help, Outcome, Outcomes, Show, Verify, Version, Why}
+use Rattle.reg_show_cli.specs.declared.words.Asked.TheVariants.{AllOutcomes, Find, Help, Outcome, Outcomes, Schedule, Show, Verify, Version, Why}
 use Rattle.reg_args.specs.declared.faults.WordsFault.{WordsFault}
 use Rattle.reg_args.specs.declared.faults.WordsFault.TheVariants.{CommandLine, OutOfMemory}
 
 -- the name of what is shown
 abbrev pub name_of : Showing → Text
-name_of (Schedule fair) = codes "schedule"
 name_of Trace = codes "trace"
 name_of Draw = codes "draw"
 name_of Data = codes "data"
 name_of Page = codes "page"
 name_of Rest = codes "rest"
 
--- whether it is the schedule of a fair play
-abbrev pub is_fair : Showing → Bool
-is_fair (Schedule fair) = fair
-is_fair _ = false
-
--- the words after the program's name that ask for it
+-- the words after the program's name that ask for it: no flag
 abbrev pub line_of : Showing → List Text
-line_of showing = named_line (name_of showing) (is_fair showing)
+line_of showing = name_of showing ∷ []
 
 -- the words ask to show something
 abbrev pub IsCommandLine : List Text → Type 0
 IsCommandLine line = (showing : Showing) × (line ≡ line_of showing)
 
--- the words name outcomes, with this flag and a number behind it, from 1 to the most
-abbrev pub IsNumberedLine : Text → ℕ → List Text → ℕ → Type 0
-IsNumberedLine flag most line number = (line ≡ codes "outcomes" ∷ flag ∷ decimal number ∷ []) × (1 ≤ number) × (number ≤ most)
+-- the words for a seed, where there is one
+abbrev pub seed_words : Option ℕ → List Text
+seed_words None = []
+seed_words (Some seed) = codes "--seed" ∷ decimal seed ∷ []
 
--- the words ask to count what so many plays tell: as many as is usual, or this number, within its limits
-abbrev pub IsOutcomesLine : List Text → ℕ → Type 0
-IsOutcomesLine line plays =
-    ((line ≡ codes "outcomes" ∷ []) × (plays ≡ USUAL_PLAYS)) ⊎ IsNumberedLine (codes "--plays") MOST_PLAYS line plays
+-- these words are those for a seed that a workload can have, or for none
+abbrev pub SaysSeed : List Text → Option ℕ → Type 0
+SaysSeed flags seed = (flags ≡ seed_words seed) × IsSeed seed
+
+-- the words for a player
+abbrev pub player_words : Player → List Text
+player_words Fair = codes "--fair" ∷ []
+player_words (Seeded seed) = seed_words seed
+
+-- these words are those for a player, whose seed a workload can have
+abbrev pub SaysPlayer : List Text → Player → Type 0
+SaysPlayer flags player = (flags ≡ player_words player) × IsSeed (seed_of player)
+
+-- the words ask for the schedule of this player's play
+abbrev pub IsScheduleLine : List Text → Player → Type 0
+IsScheduleLine line player = (line ≡ codes "schedule" ∷ player_words player) × IsSeed (seed_of player)
+
+-- these words are those for so many plays
+abbrev pub plays_words : ℕ → List Text
+plays_words plays = codes "--plays" ∷ decimal plays ∷ []
+
+-- these words are those for so many plays, within the limits, and for a seed: the one and then the other, in either
+-- order; or for a seed alone, and then the plays are as many as is usual
+abbrev pub SaysPlays : List Text → ℕ → Option ℕ → Type 0
+SaysPlays flags plays seed =
+    ((plays ≡ USUAL_PLAYS) × (flags ≡ seed_words seed)) ⊎ ((1 ≤ plays) × (plays ≤ MOST_PLAYS) × ((flags ≡ plays_words plays ++ seed_words seed) ⊎ (flags ≡ seed_words seed ++ plays_words plays)))
+
+-- the words ask to count what so many plays tell, from this seed on where there is one
+abbrev pub IsOutcomesLine : List Text → ℕ → Option ℕ → Type 0
+IsOutcomesLine line plays seed = (flags : List Text) × (line ≡ codes "outcomes" ∷ flags) × SaysPlays flags plays seed × IsSeed seed
 
 -- the words ask what is wrong with a text
 abbrev pub IsWhyLine : List Text → Type 0
@@ -62,9 +87,9 @@ IsVersionLine line = line ≡ codes "--version" ∷ []
 abbrev pub IsAllLine : List Text → Type 0
 IsAllLine line = line ≡ codes "outcomes" ∷ codes "--all" ∷ []
 
--- the words ask for a run with the outcome of this number
+-- the words ask for a run with the outcome of this number, from 1 on
 abbrev pub IsOneOutcomeLine : List Text → ℕ → Type 0
-IsOneOutcomeLine line number = IsNumberedLine (codes "--all") LAST_OUTCOME line number
+IsOneOutcomeLine line number = (line ≡ codes "outcomes" ∷ codes "--all" ∷ decimal number ∷ []) × (1 ≤ number) × (number ≤ LAST_OUTCOME)
 
 -- the word for an order
 abbrev pub order_word : OrderKind → Text
@@ -77,7 +102,7 @@ IsFindLine line kind = line ≡ codes "find" ∷ order_word kind ∷ []
 
 -- the words ask for one of these
 abbrev pub IsAskedLine : List Text → Type 0
-IsAskedLine line = IsCommandLine line ⊎ (((plays : ℕ) × IsOutcomesLine line plays) ⊎ (IsWhyLine line ⊎ (IsVersionLine line ⊎ (IsAllLine line ⊎ (((number : ℕ) × IsOneOutcomeLine line number) ⊎ (((kind : OrderKind) × IsFindLine line kind) ⊎ IsVerifyLine line))))))
+IsAskedLine line = IsCommandLine line ⊎ (((plays : ℕ) × (seed : Option ℕ) × IsOutcomesLine line plays seed) ⊎ (IsWhyLine line ⊎ (IsVersionLine line ⊎ (IsAllLine line ⊎ (((number : ℕ) × IsOneOutcomeLine line number) ⊎ (((kind : OrderKind) × IsFindLine line kind) ⊎ (IsVerifyLine line ⊎ ((player : Player) × IsScheduleLine line player))))))))
 
 -- the words ask for help by a flag alone
 abbrev pub IsHelpLine : List Text → Type 0
@@ -87,7 +112,8 @@ IsHelpLine line = (line ≡ codes "-h" ∷ []) ⊎ (line ≡ codes "--help" ∷ 
 -- or CommandLine where no flag alone asks for help
 abbrev pub IsAnswer : List Text → Result Asked WordsFault → Type 0
 IsAnswer line (Ok (Show showing)) = line ≡ line_of showing
-IsAnswer line (Ok (Outcomes plays)) = ⊥
+IsAnswer line (Ok (Schedule player)) = ⊥
+IsAnswer line (Ok (Outcomes plays seed)) = ⊥
 IsAnswer line (Ok AllOutcomes) = ⊥
 IsAnswer line (Ok (Outcome number)) = ⊥
 IsAnswer line (Ok (Find kind)) = ⊥
@@ -102,7 +128,8 @@ IsAnswer line (Err OutOfMemory) = ⊤
 -- a word may ask for it, or CommandLine where no flag alone asks for help
 abbrev pub IsChoice : List Text → Result Asked WordsFault → Type 0
 IsChoice line (Ok (Show showing)) = line ≡ line_of showing
-IsChoice line (Ok (Outcomes plays)) = IsOutcomesLine line plays
+IsChoice line (Ok (Schedule player)) = IsScheduleLine line player
+IsChoice line (Ok (Outcomes plays seed)) = IsOutcomesLine line plays seed
 IsChoice line (Ok AllOutcomes) = IsAllLine line
 IsChoice line (Ok (Outcome number)) = IsOneOutcomeLine line number
 IsChoice line (Ok (Find kind)) = IsFindLine line kind
@@ -113,12 +140,14 @@ IsChoice line (Ok Help) = ¬ IsAskedLine line × (list_any may_ask_help line ≡
 IsChoice line (Err CommandLine) = ¬ IsAskedLine line × ¬ IsHelpLine line
 IsChoice line (Err OutOfMemory) = ⊤
 
--- what is asked for has no more plays than can be counted, and the outcome a number from 1 on
+-- what is asked for has no more plays than can be counted, a seed that a workload can have, and the outcome a number
+-- from 1 on
 abbrev pub NumbersFit : Asked → Type 0
-NumbersFit (Outcomes plays) = plays ≤ MOST_PLAYS
+NumbersFit (Schedule player) = IsSeed (seed_of player)
+NumbersFit (Outcomes plays seed) = (plays ≤ MOST_PLAYS) × IsSeed seed
 NumbersFit (Outcome number) = 1 ≤ number
 NumbersFit _ = ⊤
 
 -- the line for words that ask for nothing, with its line feed
 abbrev pub refused_line : List ℕ
-refused_line = codes "usage: awshow schedule [--fair] | outcomes [--all [K] | --plays N] | find serial | find points | trace | draw | data | page | rest | why | verify" ++ 10 ∷ []
+refused_line = codes "usage: awshow schedule [--fair | --seed S] | outcomes [--all [K] | [--plays N] [--seed S]] | find serial | find points | trace | draw | data | page | rest | why | verify" ++ 10 ∷ []

@@ -3,6 +3,8 @@ use Rattle.std.specs.Prelude.{ℕ, false, true, ◌≡◌, ◌≢◌, ◌≤◌,
 use Rattle.reg_base.specs.declared.limits.TheConstants.{LONGEST_INPUT}
 use Rattle.std.specs.Io.KnownBytes.{Appends}
 use Rattle.reg_text.specs.Writing.{AppendsPart}
+use Rattle.reg_commands.specs.Answers.{Blames as BlamesCommand}
+use Rattle.reg_commands.specs.declared.command.Command.TheVariants.{Play}
 use Rattle.reg_commands.specs.declared.faults.Fault.{Fault}
 use Rattle.reg_commands.specs.declared.faults.Fault.TheVariants.{Output}
 use Rattle.reg_commands.specs.FaultLines.{fault_line}
@@ -17,19 +19,21 @@ use Rattle.reg_show.specs.OneOutcome.{BlamesOutcome, WritesOutcome, outcome_line
 use Rattle.reg_show.specs.Outcomes.{BlamesCount, WritesOutcomes}
 use Rattle.reg_show.specs.declared.one_outcome.OutcomeFault.{OutcomeFault}
 use Rattle.reg_show.specs.declared.one_outcome.OutcomeFault.TheVariants.{Command as OutcomeCommand}
+use Rattle.reg_show.specs.Schedules.{WritesSchedule}
 use Rattle.reg_show.specs.Showings.{Blames, Shows, show_line}
 use Rattle.reg_verify.specs.Verifies.{BlamesAccount, Verifies, verify_line}
 use Rattle.reg_verify.specs.declared.faults.VerifyFault.{VerifyFault}
 use Rattle.reg_verify.specs.declared.faults.VerifyFault.TheVariants.{Command as VerifyCommand}
 use Rattle.reg_show_cli.specs.declared.words.Asked.{Asked}
-use Rattle.reg_show_cli.specs.declared.words.Asked.TheVariants.{AllOutcomes, Find, Help, Outcome, Outcomes, Show, Verify, Version, Why}
+use Rattle.reg_show_cli.specs.declared.words.Asked.TheVariants.{AllOutcomes, Find, Help, Outcome, Outcomes, Schedule, Show, Verify, Version, Why}
 use Rattle.reg_show.specs.Tellings.{Answers, AnswersAny, Halts}
 
 -- Status 0: what was asked for was shown of the input, the input is accepted and that was written, or the text of the
 -- help or of the version was written. `Wrote` says how a text was written.
 abbrev pub Obeys : List ℕ → List ℕ → Asked → Option (List ℕ) → (List ℕ → Type 0) → Type 0
 Obeys help version (Show showing) input Wrote = IfSome input (λ xs. length xs ≤ LONGEST_INPUT) × IfSome input (Shows showing Wrote)
-Obeys help version (Outcomes plays) input Wrote = IfSome input (λ xs. length xs ≤ LONGEST_INPUT) × IfSome input (WritesOutcomes plays Wrote)
+Obeys help version (Schedule player) input Wrote = IfSome input (λ xs. length xs ≤ LONGEST_INPUT) × IfSome input (WritesSchedule player Wrote)
+Obeys help version (Outcomes plays seed) input Wrote = IfSome input (λ xs. length xs ≤ LONGEST_INPUT) × IfSome input (WritesOutcomes plays seed Wrote)
 Obeys help version AllOutcomes input Wrote = IfSome input (λ xs. length xs ≤ LONGEST_INPUT) × IfSome input (WritesAll Wrote)
 Obeys help version (Outcome number) input Wrote = IfSome input (λ xs. length xs ≤ LONGEST_INPUT) × IfSome input (WritesOutcome number Wrote)
 Obeys help version (Find kind) input Wrote = IfSome input (λ xs. length xs ≤ LONGEST_INPUT) × IfSome input (WritesFound kind Wrote)
@@ -45,8 +49,10 @@ Obeys help version Version input Wrote = Wrote version
 abbrev pub Stops : Asked → Option (List ℕ) → Type 0 → Option (List ℕ) → Option (List ℕ) → Option (List ℕ) → Option (List ℕ) → Type 0
 Stops (Show showing) input unwritten old new was is =
     (f : ShowFault) × IfSome input (Blames showing f) × (f ≢ Command Output → unwritten) × (f ≡ Command Output → IfSome input (Shows showing (AppendsPart old new))) × AppendsPart was is (show_line f)
-Stops (Outcomes plays) input unwritten old new was is =
-    (f : SearchFault) × IfSome input (BlamesCount plays f) × (f ≢ SearchCommand Output → unwritten) × (f ≡ SearchCommand Output → IfSome input (WritesOutcomes plays (AppendsPart old new))) × AppendsPart was is (search_line f)
+Stops (Schedule player) input unwritten old new was is =
+    (f : Fault) × IfSome input (BlamesCommand (Play false) f) × (f ≢ Output → unwritten) × (f ≡ Output → IfSome input (WritesSchedule player (AppendsPart old new))) × AppendsPart was is (fault_line f)
+Stops (Outcomes plays seed) input unwritten old new was is =
+    (f : SearchFault) × IfSome input (BlamesCount plays seed f) × (f ≢ SearchCommand Output → unwritten) × (f ≡ SearchCommand Output → IfSome input (WritesOutcomes plays seed (AppendsPart old new))) × AppendsPart was is (search_line f)
 Stops AllOutcomes input unwritten old new was is =
     (f : SearchFault) × IfSome input (BlamesAll f) × (f ≢ SearchCommand Output → unwritten) × (f ≡ SearchCommand Output → IfSome input (WritesAll (AppendsPart old new))) × AppendsPart was is (search_line f)
 Stops (Outcome number) input unwritten old new was is =
@@ -65,7 +71,8 @@ Stops Version input unwritten old new was is = AppendsPart was is (fault_line Ou
 -- what status 1 says of the error stream alone
 abbrev pub Tells : Asked → Option (List ℕ) → Option (List ℕ) → Type 0
 Tells (Show showing) was is = (f : ShowFault) × AppendsPart was is (show_line f)
-Tells (Outcomes plays) was is = (f : SearchFault) × AppendsPart was is (search_line f)
+Tells (Schedule player) was is = (f : Fault) × AppendsPart was is (fault_line f)
+Tells (Outcomes plays seed) was is = (f : SearchFault) × AppendsPart was is (search_line f)
 Tells AllOutcomes was is = (f : SearchFault) × AppendsPart was is (search_line f)
 Tells (Outcome number) was is = (f : OutcomeFault) × AppendsPart was is (outcome_line f)
 Tells (Find kind) was is = (was ≡ is) ⊎ ((f : SearchFault) × AppendsPart was is (search_line f))

@@ -2,7 +2,6 @@
 -- them.
 use Rattle.std.specs.Prelude.{codes, Result, Ok, Err}
 use Rattle.clap.specs.Words.{App, new_app, with_subcommand}
-use Rattle.reg_args.specs.Lines.{fair_app}
 use Rattle.clap.specs.declared.error.ErrorKind.{ErrorKind}
 use Rattle.clap.specs.declared.error.ErrorKind.TheVariants.{DisplayHelp, OutOfMemory as NoMemory}
 use Rattle.reg_show_cli.specs.declared.words.Asked.{Asked}
@@ -12,8 +11,7 @@ use Rattle.reg_args.specs.declared.faults.WordsFault.TheVariants.{CommandLine, O
 
 -- the program with its first subcommands, as clap's parse reads it
 abbrev pub awshow_first : App
-awshow_first = with_subcommand (with_subcommand (with_subcommand (new_app (codes "awshow")) (fair_app (codes "schedule")).top)
-    (new_app (codes "trace")).top) (new_app (codes "draw")).top
+awshow_first = with_subcommand (with_subcommand (new_app (codes "awshow")) (new_app (codes "trace")).top) (new_app (codes "draw")).top
 
 -- the program with all of them
 abbrev pub awshow : App

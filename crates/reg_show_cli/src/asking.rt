@@ -1,21 +1,18 @@
-//! What the words of a command line ask for: to show something, or to tell of the outcomes of a workload. The words of
-//! the second are read here, since they have a number, and so are those that stand alone: `why`, `verify` and
-//! `--version`. All others are read by `clap`.
-ghost use Rattle.std.specs.Prelude.{◌≡◌, ◌≤◌, ◌↔◌, ◌∷◌, [], ℕ, IfSome, MatchOption, Some, map, true, slice_get, string_bytes};
-ghost use Rattle.std.specs.Fmt.{decimal};
+//! What the words of a command line ask for: to show something, the schedule of a play, or to tell of the outcomes of a
+//! workload. The words of the last two are read here, since they may have numbers, and so are those that stand alone:
+//! `why`, `verify` and `--version`. All others are read by `clap`.
+ghost use Rattle.std.specs.Prelude.{◌≡◌, ◌↔◌, ◌∷◌, [], ℕ, MatchOption, Option, Some, map, true, slice_get, string_bytes};
 ghost use Rattle.reg_args.specs.Lines.{behind_name};
 ghost use Rattle.reg_interleavings.specs.declared.kinds.OrderKind.{OrderKind as AnyKind};
-ghost use Rattle.reg_show_cli.specs.Lines.{IsAllLine, IsChoice, IsFindLine, IsNumberedLine, IsOutcomesLine};
+ghost use Rattle.reg_show.specs.declared.Player.{Player as AnyPlayer};
+ghost use Rattle.reg_show_cli.specs.Lines.{IsAllLine, IsChoice, IsFindLine, IsOneOutcomeLine, IsOutcomesLine, IsScheduleLine};
 
+use crate::flags::{Plays, behind, line_of, number_alone, player_said, plays_said};
 use crate::words::{Asked, choose};
 use reg_args::WordsFault;
 use reg_interleavings::OrderKind;
-use reg_show::MOST_PLAYS;
-use reg_text::numeral_within;
+use reg_show::Player;
 use std::alloc::Global;
-
-/// How many plays are counted where the words don't say.
-pub const USUAL_PLAYS: u32 = 1_000;
 
 /// The last number of an outcome that the words can say. There may be fewer outcomes.
 pub const LAST_OUTCOME: u32 = u32::MAX;
@@ -28,34 +25,6 @@ fn is_at(words: &[String], place: usize, word: &str) -> bool
         return false;
     }
     words[place].as_str() == word
-}
-
-/// The number that a word says, from 1 to the most, and None where it says none.
-fn number_of(word: &str, most: u32) -> Option<u32>
-    ensures read { IfSome result (λ number. (word.now ≡ decimal number) × (1 ≤ number) × (number ≤ most)) }
-    ensures whole { (number : ℕ) → 1 ≤ number → number ≤ most → word.now ≡ decimal number → result ≡ Some number }
-{
-    let number = numeral_within(word.as_bytes(), most as u64)?;
-    if number == 0 {
-        return None;
-    }
-    Some(number as u32)
-}
-
-/// The number that stands after the flag in words that ask for outcomes, and None where they don't ask so.
-fn number_flagged(words: &[String], flag: &str, most: u32) -> Option<u32>
-    ensures { MatchOption result ((number : ℕ) → ¬ IsNumberedLine flag.now most (behind_name words.now) number) (IsNumberedLine flag.now most (behind_name words.now)) }
-{
-    if words.len() != 4 {
-        return None;
-    }
-    if !is_at(words, 1, "outcomes") {
-        return None;
-    }
-    if !is_at(words, 2, flag) {
-        return None;
-    }
-    number_of(words[3].as_str(), most)
 }
 
 /// Whether these two words stand after the program's name.
@@ -101,14 +70,32 @@ fn is_alone(words: &[String], word: &str) -> bool
     is_at(words, 1, word)
 }
 
-/// How many plays the words ask to count, and None where they ask for none.
-fn plays_asked(words: &[String]) -> Option<u32>
-    ensures { MatchOption result ((plays : ℕ) → ¬ IsOutcomesLine (behind_name words.now) plays) (IsOutcomesLine (behind_name words.now)) }
+/// The number of the outcome that the words ask for, and None where they ask for none.
+fn outcome_asked(words: &[String]) -> Option<u32>
+    ensures { MatchOption result ((number : ℕ) → ¬ IsOneOutcomeLine (behind_name words.now) number) (IsOneOutcomeLine (behind_name words.now)) }
 {
-    if is_alone(words, "outcomes") {
-        return Some(USUAL_PLAYS);
+    let flags = behind(line_of(words), "outcomes")?;
+    let number = number_alone(flags, "--all", LAST_OUTCOME as u64)?;
+    if number == 0 {
+        return None;
     }
-    number_flagged(words, "--plays", MOST_PLAYS)
+    Some(number as u32)
+}
+
+/// The player whose play the words ask for, and None where they ask for no schedule.
+fn player_asked(words: &[String]) -> Option<Player>
+    ensures { MatchOption result ((player : AnyPlayer) → ¬ IsScheduleLine (behind_name words.now) player) (IsScheduleLine (behind_name words.now)) }
+{
+    let flags = behind(line_of(words), "schedule")?;
+    player_said(flags)
+}
+
+/// The plays that the words ask to count, and None where they ask for none.
+fn plays_asked(words: &[String]) -> Option<Plays>
+    ensures { MatchOption result ((plays : ℕ) (seed : Option ℕ) → ¬ IsOutcomesLine (behind_name words.now) plays seed) (λ p. IsOutcomesLine (behind_name words.now) p.plays p.seed) }
+{
+    let flags = behind(line_of(words), "outcomes")?;
+    plays_said(flags)
 }
 
 /// What the words ask for. The first word is the program's name. A word `--` is refused.
@@ -127,14 +114,17 @@ pub fn ask(alloc: Global, words: &[String]) -> Result<Asked, WordsFault>
     if asks_all(words) {
         return Ok(Asked::AllOutcomes);
     }
-    if let Some(number) = number_flagged(words, "--all", LAST_OUTCOME) {
+    if let Some(number) = outcome_asked(words) {
         return Ok(Asked::Outcome { number });
     }
     if let Some(kind) = order_asked(words) {
         return Ok(Asked::Find { kind });
     }
+    if let Some(player) = player_asked(words) {
+        return Ok(Asked::Schedule { player });
+    }
     match plays_asked(words) {
-        Some(plays) => Ok(Asked::Outcomes { plays }),
+        Some(Plays { plays, seed }) => Ok(Asked::Outcomes { plays, seed }),
         None => choose(alloc, words),
     }
 }

@@ -2,11 +2,13 @@
 #![tactic(auto)]
 
 mod asking;
+mod flags;
 mod program;
 mod words;
 
-pub use asking::{LAST_OUTCOME, USUAL_PLAYS, ask};
+pub use asking::{LAST_OUTCOME, ask};
+pub use flags::USUAL_PLAYS;
 pub use program::{refuse, run_line, run_program, run_words};
 pub use reg_args::WordsFault;
-pub use reg_show::Showing;
+pub use reg_show::{Player, Showing};
 pub use words::{Asked, choose};

@@ -14,7 +14,9 @@ use crate::asking::ask;
 use crate::words::{Asked, HELP, VERSION};
 use reg_args::{WordsFault, tell, words_of};
 use reg_commands::{Fault, write_fault};
-use reg_show::{find_order, show_all_outcomes, show_outcome, show_outcomes, show_text, why_text};
+use reg_show::{
+    find_order, show_all_outcomes, show_outcome, show_outcomes, show_schedule, show_text, why_text,
+};
 use reg_text::write_bytes;
 use reg_verify::verify_text;
 use std::io::{self, BufWriter, Read, Write};
@@ -54,8 +56,11 @@ fn obey<R: AllocGlobal, I: Read, O: Write, E: Write>(
         Asked::Show { showing } => {
             show_text(rt.alloc(), rt.alloc(), showing, reader, writer, errors)
         }
-        Asked::Outcomes { plays } => {
-            show_outcomes(rt.alloc(), rt.alloc(), plays, reader, writer, errors)
+        Asked::Schedule { player } => {
+            show_schedule(rt.alloc(), rt.alloc(), player, reader, writer, errors)
+        }
+        Asked::Outcomes { plays, seed } => {
+            show_outcomes(rt.alloc(), rt.alloc(), plays, seed, reader, writer, errors)
         }
         Asked::AllOutcomes => show_all_outcomes(rt.alloc(), rt.alloc(), reader, writer, errors),
         Asked::Outcome { number } => {
@@ -75,7 +80,7 @@ pub fn refuse<E: Write>(fault: WordsFault, errors: &mut E) -> u8
 {
     tell(
         fault,
-        b"usage: awshow schedule [--fair] | outcomes [--all [K] | --plays N] | find serial | find points | trace | draw | data | page | rest | why | verify\n",
+        b"usage: awshow schedule [--fair | --seed S] | outcomes [--all [K] | [--plays N] [--seed S]] | find serial | find points | trace | draw | data | page | rest | why | verify\n",
         errors,
     )
 }

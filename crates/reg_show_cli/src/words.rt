@@ -5,12 +5,12 @@ ghost use Rattle.reg_show.specs.declared.Showing.{Showing};
 ghost use Rattle.reg_args.specs.Lines.{behind_name};
 ghost use Rattle.reg_show_cli.specs.declared.words.Asked.TheVariants.{Show};
 ghost use Rattle.reg_show_cli.specs.Words.{awshow, awshow_first, told_of};
-ghost use Rattle.reg_show_cli.specs.Lines.{IsAnswer, is_fair, name_of};
+ghost use Rattle.reg_show_cli.specs.Lines.{IsAnswer, name_of};
 
 use clap::error::ErrorKind;
-use reg_args::{WordsFault, has_dashes, met, with_fair};
+use reg_args::{WordsFault, has_dashes, met};
 use reg_interleavings::OrderKind;
-use reg_show::Showing;
+use reg_show::{Player, Showing};
 use std::alloc::{AllocError, Global};
 
 /// What the words ask for.
@@ -18,8 +18,10 @@ use std::alloc::{AllocError, Global};
 pub enum Asked {
     /// To show something of the text on the input.
     Show { showing: Showing },
-    /// To count what so many plays of the workload on the input tell.
-    Outcomes { plays: u32 },
+    /// To print the schedule of this player's play of the workload on the input.
+    Schedule { player: Player },
+    /// To count what so many plays of the workload on the input tell, from this seed on, or else from its own.
+    Outcomes { plays: u32, seed: Option<u64> },
     /// To print all outcomes that the scripts of the workload on the input can have.
     AllOutcomes,
     /// To print the schedule of a run with the outcome of this number among these.
@@ -43,8 +45,11 @@ pub const VERSION: &str = "awshow 0.1.0, proved with rattle-kit-13f\n";
 pub const HELP: &str = "\
 Shows what processes that share registers do. Each command reads standard input.
 
-usage: awshow schedule [--fair]      reads a workload, prints the schedule of its play
+usage: awshow schedule               reads a workload, prints the schedule of its play
+       awshow schedule --seed S      the same of its play by the seed S
+       awshow schedule --fair        the same of its fair play
        awshow outcomes [--plays N]   reads a workload, prints what N plays of it answer, counted
+                       [--seed S]    the same from the seed S on
        awshow outcomes --all         reads a workload, prints all that it may answer, and what it never does
        awshow outcomes --all K       reads a workload, prints the schedule of a run that answers the K-th of these
        awshow find serial            reads a report, prints it with a serial order of its history, or that it has none
@@ -65,7 +70,6 @@ fn first_commands<'a>(alloc: Global) -> Result<clap::Command<'a>, AllocError>
     ensures { IfOk result (λ c. app_of c ≡ awshow_first) }
 {
     clap::Command::new(alloc, "awshow")
-        .subcommand(with_fair(alloc, "schedule")?)?
         .subcommand(clap::Command::new(alloc, "trace"))?
         .subcommand(clap::Command::new(alloc, "draw"))
 }
@@ -92,11 +96,10 @@ fn told(error: clap::Error) -> Result<Asked, WordsFault>
 }
 
 /// What the subcommand of this name asks for.
-fn named(name: &str, fair: bool) -> Option<Asked>
-    ensures { (showing : Showing) → name_of showing ≡ name.now → is_fair showing ≡ fair → result ≡ Some (Show showing) }
+fn named(name: &str) -> Option<Asked>
+    ensures { (showing : Showing) → name_of showing ≡ name.now → result ≡ Some (Show showing) }
 {
     let showing = match name {
-        "schedule" => Showing::Schedule { fair },
         "trace" => Showing::Trace,
         "draw" => Showing::Draw,
         "data" => Showing::Data,
@@ -119,7 +122,7 @@ pub fn choose<'a>(alloc: Global, words: &'a [String]) -> Result<Asked, WordsFaul
         Err(error) => return told(error),
     };
     match met(&matches) {
-        Some((name, fair)) => named(name, fair).ok_or(WordsFault::CommandLine),
+        Some((name, _)) => named(name).ok_or(WordsFault::CommandLine),
         None => Err(WordsFault::CommandLine),
     }
 }

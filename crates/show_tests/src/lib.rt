@@ -23,6 +23,8 @@ mod rests_shown;
 #[cfg(test)]
 mod run_data;
 #[cfg(test)]
+mod seeds_shown;
+#[cfg(test)]
 mod show_words;
 #[cfg(test)]
 mod shown;

@@ -101,7 +101,15 @@ pub(crate) fn table(
     let mut errors = Vec::new(alloc);
     let mut input = text.as_bytes();
     let plays = plays.min(MOST_PLAYS);
-    let status = show_outcomes(alloc, alloc, plays, &mut input, &mut output, &mut errors);
+    let status = show_outcomes(
+        alloc,
+        alloc,
+        plays,
+        None,
+        &mut input,
+        &mut output,
+        &mut errors,
+    );
     if status != 0 {
         return String::from_str(alloc, "refused");
     }

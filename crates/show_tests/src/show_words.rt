@@ -1,22 +1,60 @@
 //! Which command lines of `awshow` are taken, and how a refused one is told.
 use crate::lines::words_of;
 use reg_interleavings::OrderKind;
-use reg_show_cli::{Asked, Showing, WordsFault, ask, refuse};
+use reg_show_cli::{Asked, Player, Showing, WordsFault, ask, refuse};
 use std::alloc::Global;
 use std::process::Abort;
 
 /// Each line, and what it asks for.
-const LINES: [(&str, Result<Asked, WordsFault>); 52] = [
+const LINES: [(&str, Result<Asked, WordsFault>); 78] = [
     (
         "schedule",
-        Ok(Asked::Show {
-            showing: Showing::Schedule { fair: false },
+        Ok(Asked::Schedule {
+            player: Player::Seeded { seed: None },
         }),
     ),
     (
+        "schedule --seed 0",
+        Ok(Asked::Schedule {
+            player: Player::Seeded { seed: Some(0) },
+        }),
+    ),
+    (
+        "schedule --seed 89",
+        Ok(Asked::Schedule {
+            player: Player::Seeded { seed: Some(89) },
+        }),
+    ),
+    (
+        "schedule --seed 9223372036854775807",
+        Ok(Asked::Schedule {
+            player: Player::Seeded {
+                seed: Some(9_223_372_036_854_775_807),
+            },
+        }),
+    ),
+    (
+        "schedule --seed 9223372036854775808",
+        Err(WordsFault::CommandLine),
+    ),
+    (
+        "schedule --seed 18446744073709551616",
+        Err(WordsFault::CommandLine),
+    ),
+    ("schedule --seed 01", Err(WordsFault::CommandLine)),
+    ("schedule --seed -1", Err(WordsFault::CommandLine)),
+    ("schedule --seed", Err(WordsFault::CommandLine)),
+    ("schedule --seed=5", Err(WordsFault::CommandLine)),
+    ("schedule --seed 5 5", Err(WordsFault::CommandLine)),
+    ("schedule --seed 5 --seed 5", Err(WordsFault::CommandLine)),
+    ("schedule --fair --seed 5", Err(WordsFault::CommandLine)),
+    ("schedule --seed 5 --fair", Err(WordsFault::CommandLine)),
+    ("schedule --plays 5", Err(WordsFault::CommandLine)),
+    ("trace --seed 5", Err(WordsFault::CommandLine)),
+    (
         "schedule --fair",
-        Ok(Asked::Show {
-            showing: Showing::Schedule { fair: true },
+        Ok(Asked::Schedule {
+            player: Player::Fair,
         }),
     ),
     (
@@ -31,12 +69,59 @@ const LINES: [(&str, Result<Asked, WordsFault>); 52] = [
             showing: Showing::Draw,
         }),
     ),
-    ("outcomes", Ok(Asked::Outcomes { plays: 1_000 })),
-    ("outcomes --plays 1", Ok(Asked::Outcomes { plays: 1 })),
+    (
+        "outcomes",
+        Ok(Asked::Outcomes {
+            plays: 1_000,
+            seed: None,
+        }),
+    ),
+    (
+        "outcomes --plays 1",
+        Ok(Asked::Outcomes {
+            plays: 1,
+            seed: None,
+        }),
+    ),
     (
         "outcomes --plays 1000000",
-        Ok(Asked::Outcomes { plays: 1_000_000 }),
+        Ok(Asked::Outcomes {
+            plays: 1_000_000,
+            seed: None,
+        }),
     ),
+    (
+        "outcomes --seed 7",
+        Ok(Asked::Outcomes {
+            plays: 1_000,
+            seed: Some(7),
+        }),
+    ),
+    (
+        "outcomes --plays 9 --seed 7",
+        Ok(Asked::Outcomes {
+            plays: 9,
+            seed: Some(7),
+        }),
+    ),
+    (
+        "outcomes --seed 7 --plays 9",
+        Ok(Asked::Outcomes {
+            plays: 9,
+            seed: Some(7),
+        }),
+    ),
+    (
+        "outcomes --seed 9223372036854775808",
+        Err(WordsFault::CommandLine),
+    ),
+    ("outcomes --seed 7 --plays 0", Err(WordsFault::CommandLine)),
+    ("outcomes --plays 0 --seed 7", Err(WordsFault::CommandLine)),
+    ("outcomes --plays 9 --seed", Err(WordsFault::CommandLine)),
+    ("outcomes --plays 9 --plays 9", Err(WordsFault::CommandLine)),
+    ("outcomes --all --seed 7", Err(WordsFault::CommandLine)),
+    ("outcomes --all 3 --seed 7", Err(WordsFault::CommandLine)),
+    ("outcomes --fair", Err(WordsFault::CommandLine)),
     ("outcomes --all", Ok(Asked::AllOutcomes)),
     ("outcomes --all 1", Ok(Asked::Outcome { number: 1 })),
     (
@@ -136,6 +221,6 @@ fn is_told(alloc: Global, status: u8, line: &str) -> bool {
 #[test]
 fn a_refused_command_line_is_told_by_a_usage_line(rt: HostRuntime) {
     let usage =
-        "usage: awshow schedule [--fair] | outcomes [--all [K] | --plays N] | find serial | find points | trace | draw | data | page | rest | why | verify\n";
+        "usage: awshow schedule [--fair | --seed S] | outcomes [--all [K] | [--plays N] [--seed S]] | find serial | find points | trace | draw | data | page | rest | why | verify\n";
     assert!(rt; is_told(rt.alloc(), 2, usage));
 }

@@ -1,9 +1,11 @@
 //! Schedules, traces and drawings of texts, with what was worked out by hand from the rules.
+ghost use Rattle.reg_show.specs.Seeds.{IsSeed, seed_of};
+
 use crate::run_data::WRITE_DATA;
-use crate::values::shown;
+use crate::values::{scheduled, shown};
 use reg_commands::{Command, run_text};
-use reg_show::{Showing, show_text};
-use std::alloc::Global;
+use reg_show::{Player, Showing, show_text};
+use std::alloc::{AllocError, Global};
 use std::test::Fail;
 
 /// A write that is done once the other process has acknowledged its cast.
@@ -163,17 +165,17 @@ fn what_is_shown_to_a_writer_that_is_full_goes_out_in_part(rt: HostRuntime) {
 
 #[test]
 fn bad_input_is_told_in_one_line(rt: HostRuntime) {
-    let head = "processes 2\nregisters x\nfront linear\n";
     let early = "processes 2\nregisters x\nfront linear\ntake 0 1 0\n";
     for (showing, text, fault) in [
         (Showing::Trace, "", "line 1: end\n"),
         (Showing::Draw, "processes 0\n", "line 1: range\n"),
         (Showing::Trace, early, "event 0: no frame\n"),
         (Showing::Draw, early, "event 0: no frame\n"),
-        (Showing::Schedule { fair: true }, head, "toml\n"),
     ] {
         assert!(rt; tells(rt.alloc(), showing, text, (1, "", fault)), "{text}");
     }
+    let (status, output, errors) = scheduled(rt.alloc(), Player::Fair, early.as_bytes());
+    assert!(rt; status == 1 && output.is_empty() && errors.as_slice() == "toml\n".as_bytes());
 }
 
 /// Whether a text is drawn.
@@ -182,29 +184,39 @@ fn is_drawn(alloc: Global, text: &str) -> bool {
     status == 0 && errors.is_empty() && output.as_slice().starts_with(b"<svg ")
 }
 
-/// Whether 400 events are drawn, and one more is refused, for data and for a page too. They are put into the text,
-/// which is empty.
-fn draws_so_many(alloc: Global, text: &mut String) -> Result<bool, Fail> {
-    text.push_str("processes 1\nregisters x\nfront linear\n")?;
-    for _ in 0..400 {
+/// A schedule with so many ticks.
+fn ticks(alloc: Global, count: u32) -> Result<String, AllocError> {
+    let mut text = String::from_str(alloc, "processes 1\nregisters x\nfront linear\n")?;
+    for _ in 0..count {
         text.push_str("tick 0\n")?;
     }
-    let drawn = is_drawn(alloc, text.as_str());
-    text.push_str("tick 0\n")?;
-    let told = (1, "", "too many events to draw\n");
-    Ok(
-        drawn
-            && tells(alloc, Showing::Draw, text.as_str(), told)
-            && tells(alloc, Showing::Data, text.as_str(), told)
-            && tells(alloc, Showing::Page, text.as_str(), told),
-    )
+    Ok(text)
 }
+
+/// What a run with too many events is told by.
+const TOO_MANY: (u8, &str, &str) = (1, "", "too many events to draw\n");
 
 #[test]
 fn a_drawing_has_at_most_400_events(rt: HostRuntime) -> Result<(), Fail> {
-    let mut text = String::new(rt.alloc());
-    let drawn = draws_so_many(rt.alloc(), &mut text);
-    assert!(rt; drawn?);
+    let (most, more) = (ticks(rt.alloc(), 400)?, ticks(rt.alloc(), 401)?);
+    assert!(rt; is_drawn(rt.alloc(), most.as_str()));
+    assert!(rt; tells(rt.alloc(), Showing::Draw, more.as_str(), TOO_MANY));
+    Ok(())
+}
+
+/// Whether a run is told whole.
+fn is_told(alloc: Global, showing: Showing, text: &str) -> bool {
+    let (status, output, errors) = shown(alloc, showing, text.as_bytes());
+    status == 0 && errors.is_empty() && !output.is_empty()
+}
+
+#[test]
+fn a_page_has_at_most_2000_events(rt: HostRuntime) -> Result<(), Fail> {
+    let (most, more) = (ticks(rt.alloc(), 2_000)?, ticks(rt.alloc(), 2_001)?);
+    assert!(rt; is_told(rt.alloc(), Showing::Data, most.as_str()));
+    assert!(rt; is_told(rt.alloc(), Showing::Page, most.as_str()));
+    assert!(rt; tells(rt.alloc(), Showing::Data, more.as_str(), TOO_MANY));
+    assert!(rt; tells(rt.alloc(), Showing::Page, more.as_str(), TOO_MANY));
     Ok(())
 }
 
@@ -221,8 +233,10 @@ fn run_into(
 }
 
 /// Whether the schedule of a play replays to the report of the play.
-fn replays_to_the_play(alloc: Global, fair: bool) -> bool {
-    let (status, text, mut errors) = shown(alloc, Showing::Schedule { fair }, WORK.as_bytes());
+fn replays_to_the_play(alloc: Global, player: Player) -> bool
+    requires { IsSeed (seed_of player) }
+{
+    let (status, text, mut errors) = scheduled(alloc, player, WORK.as_bytes());
     let (mut replayed, mut played) = (Vec::new(alloc), Vec::new(alloc));
     let replay = run_into(
         alloc,
@@ -231,6 +245,7 @@ fn replays_to_the_play(alloc: Global, fair: bool) -> bool {
         &mut replayed,
         &mut errors,
     );
+    let fair = player == Player::Fair;
     let command = Command::Play { fair };
     let play = run_into(alloc, command, WORK.as_bytes(), &mut played, &mut errors);
     let ended = status == 0 && replay == 0 && play == 0 && errors.is_empty();
@@ -239,14 +254,14 @@ fn replays_to_the_play(alloc: Global, fair: bool) -> bool {
 
 #[test]
 fn the_schedule_of_a_play_replays_to_the_report_of_the_play(rt: HostRuntime) {
-    for fair in [false, true] {
-        assert!(rt; replays_to_the_play(rt.alloc(), fair), "{fair}");
-    }
+    assert!(rt; replays_to_the_play(rt.alloc(), Player::Fair));
+    assert!(rt; replays_to_the_play(rt.alloc(), Player::Seeded { seed: None }));
 }
 
 /// Whether what is shown of a workload is what is shown of the schedule of its play.
 fn is_shown_alike(alloc: Global, showing: Showing) -> bool {
-    let (_, text, _) = shown(alloc, Showing::Schedule { fair: false }, WORK.as_bytes());
+    let player = Player::Seeded { seed: None };
+    let (_, text, _) = scheduled(alloc, player, WORK.as_bytes());
     let (status, of_play, errors) = shown(alloc, showing, text.as_slice());
     let (same, of_work, more) = shown(alloc, showing, WORK.as_bytes());
     let ended = status == 0 && same == 0 && errors.is_empty() && more.is_empty();

@@ -2,10 +2,12 @@
 ghost use Rattle.std.specs.Prelude.{◌≡◌, ◌≤◌, [], Some};
 ghost use Rattle.std.specs.Io.KnownBytes.{Appends};
 ghost use Rattle.reg_cli.specs.declared.words.Asked.{Asked};
+ghost use Rattle.reg_show.specs.Schedules.{WritesSchedule};
+ghost use Rattle.reg_show.specs.Seeds.{IsSeed, seed_of};
 ghost use Rattle.reg_show.specs.Showings.{Shows};
 
 use reg_cli::{Asked, Command};
-use reg_show::{Showing, show_text};
+use reg_show::{Player, Showing, show_schedule, show_text};
 use std::alloc::Global;
 
 /// What the words of a command over the text on the input ask for.
@@ -24,5 +26,18 @@ pub fn shown(alloc: Global, showing: Showing, text: &[u8]) -> (u8, Vec<u8>, Vec<
     let mut reader = text;
     let (mut output, mut errors) = (Vec::new(alloc), Vec::new(alloc));
     let status = show_text(alloc, alloc, showing, &mut reader, &mut output, &mut errors);
+    (status, output, errors)
+}
+
+/// What is written of a player's play of the workload that a text says: the status, the output and the faults.
+pub fn scheduled(alloc: Global, player: Player, text: &[u8]) -> (u8, Vec<u8>, Vec<u8>)
+    requires { IsSeed (seed_of player) }
+    ensures range { result.0 ≤ 1 }
+    ensures shown { result.0 ≡ 0 → WritesSchedule player (Appends (Some []) (Some result.1.items)) text.now }
+    ensures quiet { result.0 ≡ 0 → result.2.items ≡ [] }
+{
+    let mut reader = text;
+    let (mut output, mut errors) = (Vec::new(alloc), Vec::new(alloc));
+    let status = show_schedule(alloc, alloc, player, &mut reader, &mut output, &mut errors);
     (status, output, errors)
 }

@@ -1,13 +1,13 @@
 use Rattle.std.proofs.Common.{inr, subst, sym, ◌∙◌, IfSome, ℕ}
 use Rattle.std.specs.Str.{IsUtf8}
-use Rattle.reg_show.specs.Showings.{IsPlayed, Shows, ShowsPlays}
+use Rattle.reg_show.specs.Showings.{IsPlayed, Shows}
 use Rattle.reg_show.proofs.running.show_any.Goals as goal
 
 pub returns-in-Ok-clause-part : goal.returns-in-Ok-clause-part
 unfolding Shows
 returns-in-Ok-clause-part g c = λ failed.
-    let found : IfSome c.in-Ok-Some.field-0 (λ v. ShowsPlays c.args.showing × IsPlayed c.args.text.now v.items × IsUtf8 v.items) = c.in-Ok-Some.ensures in
-    let made = subst (λ o. IfSome o (λ v. ShowsPlays c.args.showing × IsPlayed c.args.text.now v.items × IsUtf8 v.items)) c.in-Ok-Some.field-0-is found in
+    let found : IfSome c.in-Ok-Some.field-0 (λ v. IsPlayed c.args.text.now v.items × IsUtf8 v.items) = c.in-Ok-Some.ensures in
+    let made = subst (λ o. IfSome o (λ v. IsPlayed c.args.text.now v.items × IsUtf8 v.items)) c.in-Ok-Some.field-0-is found in
     let same = c.in-Ok.ensures.cases.0 ∙ c.as_slice.ensures.value in
-    let played = subst (IsPlayed c.args.text.now) (sym same) made.1 in
-    inr (c.in-Ok.played.now, made.0, played, c.show.ensures.part failed)
+    let played = subst (IsPlayed c.args.text.now) (sym same) made.0 in
+    inr (c.in-Ok.played.now, played, c.show.ensures.part failed)

@@ -13,6 +13,12 @@ returns-in-Outcomes-clause-obeyed g c = search rules
 pub returns-in-Outcomes-clause-stopped : goal.returns-in-Outcomes-clause-stopped
 returns-in-Outcomes-clause-stopped g c = search rules
 
+pub returns-in-Schedule-clause-obeyed : goal.returns-in-Schedule-clause-obeyed
+returns-in-Schedule-clause-obeyed g c = search rules
+
+pub returns-in-Schedule-clause-stopped : goal.returns-in-Schedule-clause-stopped
+returns-in-Schedule-clause-stopped g c = search rules
+
 pub returns-in-Show-clause-obeyed : goal.returns-in-Show-clause-obeyed
 returns-in-Show-clause-obeyed g c = search rules
 

@@ -4,9 +4,6 @@ use Rattle.reg_show_cli.proofs.words.named.Goals as goal
 pub returns-in-draw : goal.returns-in-draw
 returns-in-draw c = search rules
 
-pub returns-in-schedule : goal.returns-in-schedule
-returns-in-schedule c = search rules
-
 pub returns-in-data : goal.returns-in-data
 returns-in-data c = search rules
 

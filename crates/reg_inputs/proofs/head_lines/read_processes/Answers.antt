@@ -1,5 +1,5 @@
 use Rattle.std.proofs.Common.{arith}
-use Rattle.reg_inputs.proofs.heads.read_processes.Goals as goal
+use Rattle.reg_inputs.proofs.head_lines.read_processes.Goals as goal
 
 pub returns-then-processes-eq0-clause-whole : goal.returns-then-processes-eq0-clause-whole
 returns-then-processes-eq0-clause-whole c = λ n rest some few e.

@@ -8,7 +8,7 @@ use Rattle.reg_text.specs.Words.{is_front_letter}
 use Rattle.reg_text.proofs.NamesLack.{both_true}
 use Rattle.reg_text.proofs.Texts.{letters_text}
 use Rattle.reg_inputs.specs.LineForms.{is_front_form}
-use Rattle.reg_inputs.proofs.heads.read_front.Goals as goal
+use Rattle.reg_inputs.proofs.head_lines.read_front.Goals as goal
 
 name_is_text : (f : Front) → IsUtf8 (front_name f)
 name_is_text Linear = letters_text (codes "linear") refl

@@ -1,0 +1,155 @@
+//! The words of a command line, one after another: a word, or a flag with a number.
+ghost use Rattle.std.specs.Prelude.{◌≡◌, ◌≤◌, ◌↔◌, ◌∷◌, ◌++◌, [], ℕ, List, Option, Some, IfSome, IsSomeAnd, MatchOption, map, string_bytes, true};
+ghost use Rattle.std.specs.Fmt.{decimal};
+ghost use Rattle.clap.specs.Words.{Text};
+ghost use Rattle.reg_args.specs.Lines.{behind_name};
+ghost use Rattle.reg_show.specs.Seeds.{IsSeed};
+ghost use Rattle.reg_show.specs.declared.Player.{Player as AnyPlayer};
+ghost use Rattle.reg_show_cli.specs.Lines.{SaysPlayer, SaysPlays, SaysSeed, plays_words, seed_words};
+
+use reg_base::limits::LAST_SEED;
+use reg_show::{MOST_PLAYS, Player};
+use reg_text::numeral_within;
+
+/// How many plays are counted where the words don't say.
+pub const USUAL_PLAYS: u32 = 1_000;
+
+/// How many plays, and from which seed on, where one is said.
+#[derive(Clone, Copy)]
+pub(crate) struct Plays {
+    pub(crate) plays: u32,
+    pub(crate) seed: Option<u64>,
+}
+
+/// The words after the program's name.
+pub(crate) fn line_of(words: &[String]) -> &[String]
+    ensures { map string_bytes result.now ≡ behind_name words.now }
+{
+    match words.split_first() {
+        Some((_, line)) => line,
+        None => words,
+    }
+}
+
+/// The words behind this one, where the words begin with it.
+pub(crate) fn behind<'a>(words: &'a [String], word: &str) -> Option<&'a [String]>
+    ensures read { IfSome result (λ rest. map string_bytes words.now ≡ word.now ∷ map string_bytes rest.now) }
+    ensures whole { (rest : List Text) → map string_bytes words.now ≡ word.now ∷ rest → IsSomeAnd result (λ r. map string_bytes r.now ≡ rest) }
+{
+    let (first, rest) = words.split_first()?;
+    if first.as_str() == word {
+        Some(rest)
+    } else {
+        None
+    }
+}
+
+/// The number behind this flag, up to the most, and the words behind it, where the words begin with both.
+fn numbered<'a>(words: &'a [String], flag: &str, most: u64) -> Option<(u64, &'a [String])>
+    ensures read { IfSome result (λ p. (map string_bytes words.now ≡ flag.now ∷ decimal p.0 ∷ map string_bytes p.1.now) × (p.0 ≤ most)) }
+    ensures whole { (number : ℕ) (rest : List Text) → number ≤ most → map string_bytes words.now ≡ flag.now ∷ decimal number ∷ rest → IsSomeAnd result (λ p. (p.0 ≡ number) × (map string_bytes p.1.now ≡ rest)) }
+{
+    let (word, rest) = behind(words, flag)?.split_first()?;
+    let number = numeral_within(word.as_bytes(), most)?;
+    Some((number, rest))
+}
+
+/// The number behind this flag, where these are all the words.
+pub(crate) fn number_alone(words: &[String], flag: &str, most: u64) -> Option<u64>
+    ensures { MatchOption result ((number : ℕ) → number ≤ most → ¬ (map string_bytes words.now ≡ flag.now ∷ decimal number ∷ [])) (λ number. (number ≤ most) × (map string_bytes words.now ≡ flag.now ∷ decimal number ∷ [])) }
+{
+    let (number, rest) = numbered(words, flag, most)?;
+    if rest.is_empty() { Some(number) } else { None }
+}
+
+/// Whether this is the only word.
+fn is_word(words: &[String], word: &str) -> bool
+    ensures { result ≡ true ↔ map string_bytes words.now ≡ word.now ∷ [] }
+{
+    match behind(words, word) {
+        Some(rest) => rest.is_empty(),
+        None => false,
+    }
+}
+
+/// The seed that flags say, where they say no more; none where there are none.
+fn seed_said(flags: &[String]) -> Option<Option<u64>>
+    ensures { MatchOption result ((seed : Option ℕ) → ¬ SaysSeed (map string_bytes flags.now) seed) (SaysSeed (map string_bytes flags.now)) }
+{
+    if flags.is_empty() {
+        return Some(None);
+    }
+    match number_alone(flags, "--seed", LAST_SEED) {
+        Some(seed) => Some(Some(seed)),
+        None => None,
+    }
+}
+
+/// The player that flags say.
+pub(crate) fn player_said(flags: &[String]) -> Option<Player>
+    ensures { MatchOption result ((player : AnyPlayer) → ¬ SaysPlayer (map string_bytes flags.now) player) (SaysPlayer (map string_bytes flags.now)) }
+{
+    if is_word(flags, "--fair") {
+        return Some(Player::Fair);
+    }
+    match seed_said(flags) {
+        Some(seed) => Some(Player::Seeded { seed }),
+        None => None,
+    }
+}
+
+/// So many plays, where that many can be counted.
+fn some_plays(plays: u64, seed: Option<u64>) -> Option<Plays>
+    requires { plays ≤ MOST_PLAYS }
+    ensures { MatchOption result (plays ≡ 0) (λ p. (1 ≤ plays) × (p.plays ≡ plays) × (p.seed ≡ seed)) }
+{
+    if plays == 0 {
+        return None;
+    }
+    Some(Plays {
+        plays: plays as u32,
+        seed,
+    })
+}
+
+/// The plays that flags say whose first is that of a seed.
+fn plays_behind_seed(flags: &[String]) -> Option<Plays>
+    ensures { MatchOption result ((plays : ℕ) (seed : ℕ) → 1 ≤ plays → plays ≤ MOST_PLAYS → seed ≤ LAST_SEED → ¬ (map string_bytes flags.now ≡ seed_words (Some seed) ++ plays_words plays)) (λ p. SaysPlays (map string_bytes flags.now) p.plays p.seed × IsSeed p.seed) }
+{
+    let (seed, rest) = numbered(flags, "--seed", LAST_SEED)?;
+    let plays = number_alone(rest, "--plays", MOST_PLAYS as u64)?;
+    some_plays(plays, Some(seed))
+}
+
+/// The plays that flags say of which this number of plays is said first, and these words behind it.
+fn plays_before_seed(plays: u64, rest: &[String]) -> Option<Plays>
+    requires { plays ≤ MOST_PLAYS }
+    ensures { MatchOption result ((seed : Option ℕ) → 1 ≤ plays → ¬ SaysSeed (map string_bytes rest.now) seed) (λ p. (1 ≤ plays) × (p.plays ≡ plays) × SaysSeed (map string_bytes rest.now) p.seed) }
+{
+    let seed = seed_said(rest)?;
+    some_plays(plays, seed)
+}
+
+/// The plays that flags say which are more than a seed.
+fn plays_flagged(flags: &[String]) -> Option<Plays>
+    requires { (seed : Option ℕ) → ¬ SaysSeed (map string_bytes flags.now) seed }
+    ensures { MatchOption result ((plays : ℕ) (seed : Option ℕ) → IsSeed seed → ¬ SaysPlays (map string_bytes flags.now) plays seed) (λ p. SaysPlays (map string_bytes flags.now) p.plays p.seed × IsSeed p.seed) }
+{
+    match numbered(flags, "--plays", MOST_PLAYS as u64) {
+        Some((plays, rest)) => plays_before_seed(plays, rest),
+        None => plays_behind_seed(flags),
+    }
+}
+
+/// The plays that flags say.
+pub(crate) fn plays_said(flags: &[String]) -> Option<Plays>
+    ensures { MatchOption result ((plays : ℕ) (seed : Option ℕ) → IsSeed seed → ¬ SaysPlays (map string_bytes flags.now) plays seed) (λ p. SaysPlays (map string_bytes flags.now) p.plays p.seed × IsSeed p.seed) }
+{
+    if let Some(seed) = seed_said(flags) {
+        return Some(Plays {
+            plays: USUAL_PLAYS,
+            seed,
+        });
+    }
+    plays_flagged(flags)
+}
