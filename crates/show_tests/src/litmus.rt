@@ -65,27 +65,30 @@ scripts = [[\"write x 1\"], [\"write y 1\"], [\"read x\", \"read y\"], [\"read y
 ];
 
 /// What the first hundred plays of store buffering answer under each front end, counted play by play from the schedule
-/// and the trace of each.
+/// and the report of each. Whether a play is linearizable was found by trying all orders of its operations.
 const COUNTED: [&str; 3] = [
     "plays 100
 outcomes 2
-      99  p0 #1 value 1  p1 #1 value 1  real time    124 events  seed 86
-       1  p0 #1 value 1  p1 #1 value 0  real time     47 events  seed 89
+      99  p0 #1 value 1  p1 #1 value 1  real time    124 events  seed 86  linearizable 0  not linearizable -
+       1  p0 #1 value 1  p1 #1 value 0  real time     47 events  seed 89  linearizable 89  not linearizable -
 unfinished 0
+never drawn 1
 ",
     "plays 100
 outcomes 3
-      59  p0 #1 value 1  p1 #1 value 1  real time     26 events  seed 76
-      27  p0 #1 value 1  p1 #1 value 0  real time     32 events  seed 51
-      14  p0 #1 value 0  p1 #1 value 1  real time     36 events  seed 62
+      59  p0 #1 value 1  p1 #1 value 1  real time     26 events  seed 76  linearizable 0  not linearizable -
+      27  p0 #1 value 1  p1 #1 value 0  real time     32 events  seed 51  linearizable 7  not linearizable -
+      14  p0 #1 value 0  p1 #1 value 1  real time     36 events  seed 62  linearizable 11  not linearizable -
 unfinished 0
+never drawn 0
 ",
     "plays 100
 outcomes 3
-      46  p0 #1 value 0  p1 #1 value 1  real time     24 events  seed 42
-      32  p0 #1 value 1  p1 #1 value 0  real time     24 events  seed 84
-      22  p0 #1 value 1  p1 #1 value 1  real time     41 events  seed 30
+      46  p0 #1 value 0  p1 #1 value 1  real time     24 events  seed 42  linearizable 1  not linearizable 4
+      32  p0 #1 value 1  p1 #1 value 0  real time     24 events  seed 84  linearizable 10  not linearizable 7
+      22  p0 #1 value 1  p1 #1 value 1  real time     41 events  seed 30  linearizable 0  not linearizable -
 unfinished 0
+never drawn 0
 ",
 ];
 

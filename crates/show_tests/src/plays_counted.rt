@@ -41,3 +41,42 @@ fn undrawn_outcomes_of_10_100_stages_are_not(rt: HostRuntime) -> Result<(), Fail
     assert!(rt; table.ends_with("\nunfinished 0\n"), "{table}");
     Ok(())
 }
+
+/// Store buffering, and the play of this seed alone.
+const STORE_BUFFERING: &str = "registers = [\"x\", \"y\"]
+scripts = [[\"write x 1\", \"read y\"], [\"write y 1\", \"read x\"]]
+seed = 4
+";
+
+// Its own order has process 0's read, called at event 29, before process 1's, which was answered at event 16. With both
+// turned round it is a point order: the second one reads what process 0 writes from event 6 to event 27.
+#[test]
+fn a_play_is_linearizable_in_another_order_than_its_own(rt: HostRuntime) -> Result<(), Fail> {
+    let table = table(rt.alloc(), 1, "local-read", STORE_BUFFERING)?;
+    assert_eq!(rt;
+        table.as_str(),
+        "plays 1
+outcomes 1
+       1  p0 #1 value 1  p1 #1 value 1  real time     50 events  seed 4  linearizable 4  not linearizable -
+unfinished 0
+never drawn 2
+"
+    );
+    Ok(())
+}
+
+// Process 1's write is answered at event 0, and process 0's read, called at event 4, misses it.
+#[test]
+fn an_outcome_is_late_where_no_play_is_linearizable(rt: HostRuntime) -> Result<(), Fail> {
+    let table = table(rt.alloc(), 1, "local-write", STORE_BUFFERING)?;
+    assert_eq!(rt;
+        table.as_str(),
+        "plays 1
+outcomes 1
+       1  p0 #1 value 0  p1 #1 value 1  late          95 events  seed 4  linearizable -  not linearizable 4
+unfinished 0
+never drawn 2
+"
+    );
+    Ok(())
+}
