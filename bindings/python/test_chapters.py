@@ -8,7 +8,7 @@ from tellwydar import check
 from tellwydar.net import LossyRoad, Node, core, merge
 from tellwydar.net.chapters import State, StoryFault, check_story, is_over
 from test_net import free_addresses
-from test_node_programs import COUNT, CALLS, YES, Cluster, wait_until
+from test_node_programs import COUNT, CALLS, RUST, YES, Cluster, wait_until
 
 REPORT = """awreg report 2
 front linear
@@ -147,9 +147,17 @@ class Clusters(unittest.TestCase):
 
 class Programs(unittest.TestCase):
     def test_a_node_that_was_killed_resumes_in_its_chapter(self):
+        self.play(())
+
+    @unittest.skipUnless(RUST, "TELLWYDAR_NODE names no program")
+    def test_nodes_of_both_languages_go_on_in_chapters(self):
+        self.play({1})
+        self.play({0, 2})
+
+    def play(self, rust):
         for front in YES:
             with tempfile.TemporaryDirectory() as folder:
-                cluster = Cluster(folder, front, 2, "chapter_operations = 3\n")
+                cluster = Cluster(folder, front, 2, "chapter_operations = 3\n", rust)
                 for me in range(COUNT):
                     cluster.start(me)
                 wait_until(lambda: len(cluster.answers(1)) > 2)
