@@ -70,9 +70,19 @@ class Stories(unittest.TestCase):
         first = report(("x", 5), ("y", 6), ("x", 7))
         check_story([first, report(("x", 7), ("y", 6), ("x", 8)), report(("x", 8), ("y", 6))])
         self.refused("report 1: p0 #0 should be write x 7", first, report(("x", 5), ("y", 6)))
-        self.refused("report 1: p0 #1 should be write y 6", first, report(("x", 7)))
+        self.refused("report 1: p0 #1 should be write y 6", first, report(("x", 7), ("x", 6)))
         self.refused("report 2: p0 #0 should be write x 7", first, report(("x", 7), ("y", 6)), report(("y", 6), ("x", 7)))
         self.refused("other registers", first, report(("x", 7), ("y", 6)).replace(b"\ny\n", b"\nz\n").replace(b" y ", b" z "))
+
+    def test_a_chapter_that_ended_while_it_was_opened_has_nothing_else(self):
+        first = report(("x", 5), ("y", 6))
+        check_story([first, report(("x", 5))])
+        check_story([first, report()])
+        called = report(("x", 5)).replace(b"history 2", b"history 1").replace(b"       0  p0    #0       answer  done\n", b"")
+        called = called.replace(b"order 1\np0 #0\npoints 1\np0 #0 at 0\n", b"order 0\npoints 0\n")
+        self.assertEqual(check(called).answer, b"serial yes\npoints yes\n")
+        check_story([first, called])
+        self.refused("report 1: p0 #0 should be write x 5", first, report(("y", 6)))
 
     def test_a_register_that_is_0_is_not_written(self):
         check_story([report(("x", 5), ("x", 0), ("y", 6)), report(("y", 6))])
@@ -167,7 +177,8 @@ class Programs(unittest.TestCase):
                 cluster.close()
                 self.assertTrue(ended)
                 reports = []
-                while os.path.exists(cluster.log(0, len(reports))):
+                # (who was closed may not have begun the last chapter)
+                while all(os.path.exists(cluster.log(me, len(reports))) for me in range(COUNT)):
                     told = cluster.merged(len(reports))
                     self.assertEqual((told.returncode, told.stderr), (0, b""))
                     self.assertEqual(check(told.stdout).answer, YES[front])

@@ -22,7 +22,7 @@ mod turns;
 
 /// How long counts wait for the disk, where each entry is on it before its frames go out.
 const HOLD: Duration = Duration::from_millis(2);
-/// After so many calls that were answered at once, others are heard.
+/// After so many calls that were answered at once, others are heard, and what was gathered is written.
 const MOST_UNSERVED: u32 = 64;
 /// How many looks a link was silent where a tick is due: after 1, 2, 4, .. looks, and from 64 on after 100.
 const DUE: [u32; 8] = [1, 3, 7, 15, 31, 63, 127, 227];
@@ -206,18 +206,32 @@ impl<F: Front> Node<F> {
         Ok(())
     }
 
+    /// Writes down the reads that were gathered: what was told so far is kept, also where this program is killed.
+    ///
+    /// A read that is answered at once and puts no frame is written with the next step that isn't one, or before the node waits, or
+    /// behind 63 others. So a program that is killed may lose the entries of so many reads.
+    pub fn keep(&mut self) -> Result<(), Fault> {
+        let kept = self.is_up().and_then(|()| self.commit());
+        self.kept(kept)
+    }
+
     /// Makes a call, and all that it brings about at once.
     fn call(&mut self, op: Op) -> Result<(), Fault> {
         let reply = self.story.process().call(op)?;
         let is_cast = !matches!(op, Op::Read { .. });
         self.stage(&Entry { step: Step::Call(op), reply }, is_cast)?;
-        self.commit()?;
+        if self.staged_answer.is_some() && !self.data_due && self.parcels.is_empty() {
+            self.answer = self.staged_answer.take();
+        } else {
+            self.commit()?;
+        }
         self.tell_end()
     }
 
     fn served(&mut self, until: Option<Instant>) -> Result<bool, Fault> {
         self.is_up()?;
         self.unserved = 0;
+        self.commit()?;
         let wait = self.next_due(until).map(|it| it.saturating_duration_since(Instant::now()));
         let mut arrived = std::mem::take(&mut self.arrived);
         let rang = self.road.receive(wait, &mut arrived)?;
@@ -350,5 +364,12 @@ impl<F: Front> Node<F> {
     fn complain_of_frame(&mut self, from: u8, why: Refused) {
         self.complaints
             .say(&Complaint { kind: Kind::Frame(from), text: format!("process {from}: a frame is refused: {why}") });
+    }
+}
+
+impl<F: Front> Drop for Node<F> {
+    /// Writes down the reads that were gathered. (There is nobody whom one could tell that they can't be written.)
+    fn drop(&mut self) {
+        let _ = self.keep();
     }
 }

@@ -60,14 +60,14 @@ impl Script {
         let (mut called, goes_on) = node.so_far();
         if goes_on {
             let answer = node.wait(None)?;
-            tell(out, answer)?;
+            tell(node, out, answer)?;
         }
         for &line in &self.0 {
             match line {
                 Line::Call(_) if called > 0 => called -= 1,
                 Line::Call(op) => {
                     let answer = node.perform(op, None)?;
-                    tell(out, answer)?;
+                    tell(node, out, answer)?;
                 }
                 Line::Sleep(time) if called == 0 => sleep(node, time)?,
                 Line::Sleep(_) => {}
@@ -78,7 +78,9 @@ impl Script {
     }
 }
 
-fn tell(out: &mut impl Write, answer: Answer) -> Result<(), Fault> {
+/// What is told is in the log before.
+fn tell<F: Front>(node: &mut Node<F>, out: &mut impl Write, answer: Answer) -> Result<(), Fault> {
+    node.keep()?;
     match answer {
         Answer::Done => writeln!(out, "done")?,
         Answer::Value(value) => writeln!(out, "value {value}")?,
