@@ -71,7 +71,7 @@ class Node:
         if chapter_operations <= len(registers):
             raise ValueError("a chapter has room for a write of each register, and more")
         self._answer: Optional[core.Reply] = None
-        kind = DatagramRoad if peers[me].startswith("udp://") else Road
+        kind: Union[Type[Road], Type[DatagramRoad]] = DatagramRoad if peers[me].startswith("udp://") else Road
         road = kind(me, peers, keys, self._complain)  # before the log: where it is refused no log is begun
         most = chapter_operations, chapter_entries // len(peers)
         try:

@@ -13,7 +13,8 @@
 //! ```
 //!
 //! The last word of a line is the CRC-32 of all before it in the log, the bytes between lines too, so that a changed,
-//! missing or moved line is told at its place. A last line without its end is what a crash leaves: it is dropped.
+//! missing or moved line is told at its place. A last line without its end is what a crash leaves: it is dropped. Zeros
+//! behind the last line are room that was made.
 use crate::config::is_name;
 use crate::front::FrontEnd;
 use std::borrow::Cow;
@@ -256,6 +257,7 @@ impl Log {
 
     fn of(path: &Path, data: &[u8]) -> Result<Self, LogFault> {
         let wrong = |line, why| LogFault { path: path.to_path_buf(), line, why };
+        let data = &data[..data.iter().rposition(|&it| it != 0).map_or(0, |at| at + 1)];
         let end = data.iter().rposition(|&it| it == b'\n').map_or(0, |at| at + 1);
         let mut lines = data[..end].split_inclusive(|&it| it == b'\n');
         let heading: Vec<&str> = lines
