@@ -28,7 +28,7 @@ pub struct State {
 impl State {
     /// The state as a message brings it.
     pub fn bytes(&self) -> Vec<u8> {
-        let flags = QUIET * u8::from(self.is_quiet) | AT_REST * u8::from(self.is_at_rest);
+        let flags = (QUIET * u8::from(self.is_quiet)) | (AT_REST * u8::from(self.is_at_rest));
         let numbers = std::iter::once(&self.put).chain(&self.accepted);
         std::iter::once(flags).chain(numbers.flat_map(|it| it.to_be_bytes())).collect()
     }

@@ -183,10 +183,10 @@ fn reply(text: &str) -> Option<Reply> {
 
 fn frame(word: &str) -> Option<Vec<u8>> {
     let digit = |it: u8| (it as char).to_digit(16).map(|it| it as u8);
-    if !word.is_ascii() || word.len() % 2 != 0 || !(24..=64).contains(&word.len()) {
+    if !word.is_ascii() || !word.len().is_multiple_of(2) || !(24..=64).contains(&word.len()) {
         return None;
     }
-    word.as_bytes().chunks_exact(2).map(|it| Some(digit(it[0])? << 4 | digit(it[1])?)).collect()
+    word.as_bytes().chunks_exact(2).map(|it| Some((digit(it[0])? << 4) | digit(it[1])?)).collect()
 }
 
 impl Entry<'static> {

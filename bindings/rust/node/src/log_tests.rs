@@ -139,7 +139,7 @@ fn other_spellings_are_refused() {
     ];
     for text in texts {
         let mut data = head.clone().into_bytes();
-        write!(data, "{text} {:08x}\n", continued(crc32fast::hash(head.as_bytes()), text.as_bytes())).expect("room");
+        writeln!(data, "{text} {:08x}", continued(crc32fast::hash(head.as_bytes()), text.as_bytes())).expect("room");
         assert_eq!(Log::of(&room.log(), &data).expect_err(text).line, 7);
     }
 }
