@@ -208,8 +208,8 @@ impl<F: Front> Node<F> {
 
     /// Writes down the reads that were gathered: what was told so far is kept, also where this program is killed.
     ///
-    /// A read that is answered at once and puts no frame is written with the next step that isn't one, or before the node waits, or
-    /// behind 63 others. So a program that is killed may lose the entries of so many reads.
+    /// A read that is answered at once and puts no frame is written with the next step that isn't one, or before the
+    /// node waits, or where 64 were gathered. So a program that is killed may lose the entries of up to 64 reads.
     pub fn keep(&mut self) -> Result<(), Fault> {
         let kept = self.is_up().and_then(|()| self.commit());
         self.kept(kept)
