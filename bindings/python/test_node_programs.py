@@ -151,8 +151,8 @@ class Changed(unittest.TestCase):
         entries = self.old.entries
         place = next(k for k, it in enumerate(entries) if it.step == "call")
         told = self.changed(entries[:place] + entries[place + 1 :])
-        # (at the first step that is another one without it, or that takes a frame which it put)
-        self.assertRegex(told, r"line \d+: (not what process \d does there|take 1 \w+: was not put before by process 1)")
+        # (at a step that is another one without it, or at a frame that is never put then)
+        self.assertRegex(told, r"line \d+: (not what process \d does there|take \d \w+: was not put before by process \d)")
 
 
 class Programs(unittest.TestCase):
