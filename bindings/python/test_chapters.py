@@ -8,7 +8,7 @@ from tellwydar import check
 from tellwydar.net import LossyRoad, Node, core, merge
 from tellwydar.net.chapters import State, StoryFault, check_story, is_over
 from test_net import free_addresses
-from test_node_programs import COUNT, CALLS, YES, Cluster, wait_until
+from test_node_programs import COUNT, CALLS, RUST, YES, Cluster, wait_until
 
 REPORT = """awreg report 2
 front linear
@@ -70,9 +70,19 @@ class Stories(unittest.TestCase):
         first = report(("x", 5), ("y", 6), ("x", 7))
         check_story([first, report(("x", 7), ("y", 6), ("x", 8)), report(("x", 8), ("y", 6))])
         self.refused("report 1: p0 #0 should be write x 7", first, report(("x", 5), ("y", 6)))
-        self.refused("report 1: p0 #1 should be write y 6", first, report(("x", 7)))
+        self.refused("report 1: p0 #1 should be write y 6", first, report(("x", 7), ("x", 6)))
         self.refused("report 2: p0 #0 should be write x 7", first, report(("x", 7), ("y", 6)), report(("y", 6), ("x", 7)))
         self.refused("other registers", first, report(("x", 7), ("y", 6)).replace(b"\ny\n", b"\nz\n").replace(b" y ", b" z "))
+
+    def test_a_chapter_that_ended_while_it_was_opened_has_nothing_else(self):
+        first = report(("x", 5), ("y", 6))
+        check_story([first, report(("x", 5))])
+        check_story([first, report()])
+        called = report(("x", 5)).replace(b"history 2", b"history 1").replace(b"       0  p0    #0       answer  done\n", b"")
+        called = called.replace(b"order 1\np0 #0\npoints 1\np0 #0 at 0\n", b"order 0\npoints 0\n")
+        self.assertEqual(check(called).answer, b"serial yes\npoints yes\n")
+        check_story([first, called])
+        self.refused("report 1: p0 #0 should be write x 5", first, report(("y", 6)))
 
     def test_a_register_that_is_0_is_not_written(self):
         check_story([report(("x", 5), ("x", 0), ("y", 6)), report(("y", 6))])
@@ -147,9 +157,17 @@ class Clusters(unittest.TestCase):
 
 class Programs(unittest.TestCase):
     def test_a_node_that_was_killed_resumes_in_its_chapter(self):
+        self.play(())
+
+    @unittest.skipUnless(RUST, "TELLWYDAR_NODE names no program")
+    def test_nodes_of_both_languages_go_on_in_chapters(self):
+        self.play({1})
+        self.play({0, 2})
+
+    def play(self, rust):
         for front in YES:
             with tempfile.TemporaryDirectory() as folder:
-                cluster = Cluster(folder, front, 2, "chapter_operations = 3\n")
+                cluster = Cluster(folder, front, 2, "chapter_operations = 3\n", rust)
                 for me in range(COUNT):
                     cluster.start(me)
                 wait_until(lambda: len(cluster.answers(1)) > 2)
@@ -159,7 +177,8 @@ class Programs(unittest.TestCase):
                 cluster.close()
                 self.assertTrue(ended)
                 reports = []
-                while os.path.exists(cluster.log(0, len(reports))):
+                # (who was closed may not have begun the last chapter)
+                while all(os.path.exists(cluster.log(me, len(reports))) for me in range(COUNT)):
                     told = cluster.merged(len(reports))
                     self.assertEqual((told.returncode, told.stderr), (0, b""))
                     self.assertEqual(check(told.stdout).answer, YES[front])

@@ -6,7 +6,10 @@ use std::marker::PhantomData;
 use std::ptr::NonNull;
 
 /// How operations start: one of the three front ends.
-pub trait Front: sealed::Numbered {}
+pub trait Front: sealed::Numbered {
+    /// Its name in texts.
+    const NAME: &'static str;
+}
 
 /// A front end whose runs have points: they are linearizable.
 pub trait RealTime: Front {}
@@ -36,9 +39,15 @@ impl sealed::Numbered for LocalRead {
 impl sealed::Numbered for LocalWrite {
     const NUMBER: u32 = 2;
 }
-impl Front for Linear {}
-impl Front for LocalRead {}
-impl Front for LocalWrite {}
+impl Front for Linear {
+    const NAME: &'static str = "linear";
+}
+impl Front for LocalRead {
+    const NAME: &'static str = "local-read";
+}
+impl Front for LocalWrite {
+    const NAME: &'static str = "local-write";
+}
 impl RealTime for Linear {}
 
 /// What happens at one process.

@@ -14,8 +14,9 @@ from typing import Callable, Dict, List, Optional, TextIO
 from .. import check
 from . import core, log, merge, road
 from .chapters import StoryFault, check_story
-from .node import CHAPTER_ENTRIES, CHAPTER_OPERATIONS, AnyRoad, Node, NodeFailed
+from .node import CHAPTER_ENTRIES, CHAPTER_OPERATIONS, AnyRoad, Node
 from .road import Keys, LossyRoad, RoadFault
+from .story import NodeFailed
 
 
 def say(text: str) -> None:

@@ -92,16 +92,18 @@ def values_after(told: Told) -> List[int]:
 
 
 def follows(before: bytes, after: bytes) -> None:
-    """Whether two reports are of chapters in a row: of one cluster, and what the second writes first is what the first ended with."""
+    """Whether two reports are of chapters in a row: of one cluster, and what the second writes first is what the first ended with. A chapter
+    that ended while it was opened has a part of that, and nothing else."""
     earlier, later = told_of(before), told_of(after)
     if (earlier.head, earlier.names) != (later.head, later.names):
         raise StoryFault("another front end, another number of processes, or other registers")
     opening = opening_of(values_after(earlier))
-    for number, (register, value) in enumerate(opening):
+    ordered = len(opening) if len(later.operations) > len(opening) else len(later.order)
+    for number, (register, value) in enumerate(opening[: len(later.operations)]):
         id, wanted = f"p0 #{number}", ["write", later.names[register], str(value)]
         if later.operations.get(id) != wanted:
             raise StoryFault(f"{id} should be {' '.join(wanted)}, with which the chapter before ended")
-        if later.order[number : number + 1] != [id]:
+        if number < ordered and later.order[number : number + 1] != [id]:
             raise StoryFault(f"{id} should be number {number} of the order")
 
 

@@ -71,7 +71,7 @@ class Node:
         if chapter_operations <= len(registers):
             raise ValueError("a chapter has room for a write of each register, and more")
         self._answer: Optional[core.Reply] = None
-        kind = DatagramRoad if peers[me].startswith("udp://") else Road
+        kind: Union[Type[Road], Type[DatagramRoad]] = DatagramRoad if peers[me].startswith("udp://") else Road
         road = kind(me, peers, keys, self._complain)  # before the log: where it is refused no log is begun
         most = chapter_operations, chapter_entries // len(peers)
         try:
@@ -101,6 +101,8 @@ class Node:
         """Where the chapter is over, the next one begins."""
         if not self._steps_due and self._story.turn():
             self._met_peers()
+            self._out.clear()  # a count that was held is of the last chapter
+            self._held_till = None
             self._is_opening = True
 
     def _write_opening(self) -> None:
@@ -124,10 +126,10 @@ class Node:
         self._beats: Dict[int, Tuple[Optional[int], int]] = {p: (None, 0) for p in self._start}
 
     def _tell_states(self) -> None:
-        """Tells all others how far this node has come. Once it said that it calls nothing more in this chapter, it knows so when it is resumed."""
+        """Tells all others how far this node has come. Once it said that it calls nothing more in this chapter, it knows so when it is
+        resumed."""
         state = self._story.state()
-        if self._sync:
-            self._story.log.write(True)
+        self._story.log.write(self._sync)  # what it tells, it knows too when it is resumed
         if state.quiet:
             self._story.say_quiet()
         for to, start in self._start.items():

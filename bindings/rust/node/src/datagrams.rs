@@ -1,0 +1,187 @@
+//! The road of UDP datagrams. A process wants no order and no repetition from a network, so where many packets are lost
+//! nothing waits behind a lost one, as it does with TCP.
+//!
+//! With keys each datagram is a NaCl box, made with the same keys as ZeroMQ's CURVE: so it is read by its receiver
+//! alone, and comes from the process whose key opens it. A datagram that is recorded and sent again is a repeated
+//! message, which changes nothing.
+use crate::complaints::{Complaint, Kind};
+use crate::keys::{Key, Keys};
+use crate::road::{Arrived, BATCH, Bell, Road, RoadFault, check_addresses, milliseconds};
+use libsodium_sys as sodium;
+use std::io;
+use std::net::{SocketAddr, ToSocketAddrs, UdpSocket};
+use std::os::fd::AsRawFd;
+use std::time::Duration;
+use zmq::{POLLIN, PollItem};
+
+/// Of a message, so that a datagram fits into one packet of most networks.
+const MOST_BYTES: usize = 1200;
+const MOST_READ: usize = 2048;
+const NONCE: usize = sodium::crypto_box_NONCEBYTES as usize;
+const SEAL: usize = sodium::crypto_box_MACBYTES as usize;
+
+/// What two processes share who know each other's public key.
+struct Shared([u8; sodium::crypto_box_BEFORENMBYTES as usize]);
+
+impl Shared {
+    fn of(secret: &Key, other: &Key) -> Result<Self, RoadFault> {
+        let mut shared = Self([0; _]);
+        // SAFETY: the three arrays have the lengths that the library names: 32 bytes each.
+        let code = unsafe { sodium::crypto_box_beforenm(shared.0.as_mut_ptr(), other.0.as_ptr(), secret.0.as_ptr()) };
+        if code == 0 { Ok(shared) } else { Err(RoadFault::new("a key that is no point of the curve")) }
+    }
+
+    /// A nonce and the box of a message.
+    fn sealed(&self, message: &[u8]) -> Vec<u8> {
+        let mut sealed = vec![0; NONCE + SEAL + message.len()];
+        let (nonce, sealing) = sealed.split_at_mut(NONCE);
+        // SAFETY: the nonce has its length, and the box that of its message and of the seal.
+        unsafe {
+            sodium::randombytes_buf(nonce.as_mut_ptr().cast(), NONCE);
+            sodium::crypto_box_easy_afternm(
+                sealing.as_mut_ptr(),
+                message.as_ptr(),
+                message.len() as u64,
+                nonce.as_ptr(),
+                self.0.as_ptr(),
+            );
+        }
+        sealed
+    }
+
+    /// The message in a box behind its nonce, or none where it was made with another key.
+    fn opened(&self, sealed: &[u8]) -> Option<Vec<u8>> {
+        let (nonce, sealing) = sealed.split_at_checked(NONCE)?;
+        let mut message = vec![0; sealing.len().checked_sub(SEAL)?];
+        // SAFETY: the nonce has its length, and the message that of the box without the seal.
+        let code = unsafe {
+            sodium::crypto_box_open_easy_afternm(
+                message.as_mut_ptr(),
+                sealing.as_ptr(),
+                sealing.len() as u64,
+                nonce.as_ptr(),
+                self.0.as_ptr(),
+            )
+        };
+        (code == 0).then_some(message)
+    }
+}
+
+/// A road over UDP.
+pub struct Datagrams {
+    me: u8,
+    socket: UdpSocket,
+    to: Vec<SocketAddr>,
+    /// For each process; without keys for none.
+    shared: Option<Vec<Shared>>,
+    bell: Bell,
+}
+
+fn place_of(address: &str) -> Result<SocketAddr, RoadFault> {
+    let place = address.strip_prefix("udp://").unwrap_or(address);
+    let found = place.to_socket_addrs().map_err(|why| RoadFault::new(format!("{address}: {why}")))?.next();
+    found.ok_or_else(|| RoadFault::new(format!("{address}: no such place")))
+}
+
+impl Datagrams {
+    /// The road of the process `me`.
+    ///
+    /// # Errors
+    ///
+    /// Without keys where an address isn't of loopback; and where the own one can't be listened to.
+    pub fn open(me: u8, addresses: &[String], keys: Option<Keys>, bell: Bell) -> Result<Self, RoadFault> {
+        check_addresses(addresses, keys.as_ref())?;
+        // SAFETY: it may be called at any time, from any thread, as often as one likes.
+        if unsafe { sodium::sodium_init() } < 0 {
+            return Err(RoadFault::new("libsodium has no random bytes"));
+        }
+        let shared = |keys: Keys| keys.known.iter().map(|it| Shared::of(&keys.secret, it)).collect();
+        let shared = keys.map(shared).transpose()?;
+        let to: Vec<SocketAddr> = addresses.iter().map(|it| place_of(it)).collect::<Result<_, _>>()?;
+        let own = usize::from(me);
+        let failed = |why: io::Error| RoadFault::new(format!("{}: {why}", addresses[own]));
+        let socket = UdpSocket::bind(to[own]).map_err(failed)?;
+        socket.set_nonblocking(true).map_err(failed)?;
+        Ok(Self { me, socket, to, shared, bell })
+    }
+
+    /// The message of a datagram, with the process whose key opens it.
+    fn opened(&self, datagram: &[u8]) -> Option<Arrived> {
+        let Some(shared) = &self.shared else {
+            return Some(Arrived::Message { key: None, bytes: datagram.to_vec() });
+        };
+        let (&from, sealed) = datagram.split_first()?;
+        let bytes = shared.get(usize::from(from)).filter(|_| from != self.me)?.opened(sealed)?;
+        Some(Arrived::Message { key: Some(from), bytes })
+    }
+
+    fn take(&self, into: &mut Vec<Arrived>) {
+        let mut room = [0; MOST_READ];
+        for _ in 0..BATCH {
+            match self.socket.recv_from(&mut room) {
+                Ok((length, place)) => into.push(self.opened(&room[..length]).unwrap_or_else(|| {
+                    let text = format!("{}: a datagram that no known key opens; dropped", place.ip());
+                    Arrived::Odd(Complaint { kind: Kind::Key, text })
+                })),
+                Err(why) if why.kind() == io::ErrorKind::WouldBlock => break,
+                // (what a datagram of this node met at a port where nobody is)
+                Err(_) => {}
+            }
+        }
+    }
+}
+
+impl Road for Datagrams {
+    fn most_bytes(&self) -> usize {
+        MOST_BYTES
+    }
+
+    fn send(&mut self, to: u8, message: &[u8]) {
+        let to = usize::from(to);
+        let Some(place) = self.to.get(to) else { return };
+        let sealed = self.shared.as_ref().map(|it| [&[self.me], &it[to].sealed(message)[..]].concat());
+        // (where there is no room, or nobody there, a tick puts it again)
+        let _ = self.socket.send_to(sealed.as_deref().unwrap_or(message), place);
+    }
+
+    fn receive(&mut self, wait: Option<Duration>, into: &mut Vec<Arrived>) -> Result<bool, RoadFault> {
+        let mut items =
+            [PollItem::from_fd(self.socket.as_raw_fd(), POLLIN), PollItem::from_fd(self.bell.descriptor(), POLLIN)];
+        match zmq::poll(&mut items, milliseconds(wait)) {
+            Ok(_) | Err(zmq::Error::EINTR) => {}
+            Err(why) => return Err(why.into()),
+        }
+        let [socket, bell] = items.map(|it| it.is_readable());
+        if socket {
+            self.take(into);
+        }
+        Ok(bell && self.bell.rang())
+    }
+}
+
+#[cfg(test)]
+mod tests {
+    use super::*;
+
+    fn pair() -> (Key, Key) {
+        let pair = zmq::CurveKeyPair::new().expect("a pair of keys");
+        (Key(pair.public_key), Key(pair.secret_key))
+    }
+
+    #[test]
+    fn a_box_is_opened_by_its_two_processes_alone() {
+        let ((a, secret_a), (b, secret_b), (_, stranger)) = (pair(), pair(), pair());
+        let (from, to) = (Shared::of(&secret_a, &b).expect("keys"), Shared::of(&secret_b, &a).expect("keys"));
+        let sealed = from.sealed(b"a message");
+        assert_eq!(to.opened(&sealed).as_deref(), Some(b"a message".as_slice()));
+        assert_eq!(Shared::of(&stranger, &a).expect("keys").opened(&sealed), None);
+        for at in [0, NONCE, sealed.len() - 1] {
+            let mut changed = sealed.clone();
+            changed[at] ^= 1;
+            assert_eq!(to.opened(&changed), None);
+        }
+        for length in [0, 1, NONCE, NONCE + SEAL - 1] {
+            assert_eq!(to.opened(&sealed[..length]), None);
+        }
+    }
+}

@@ -1,0 +1,98 @@
+//! Why a node refuses a call, doesn't start, or stopped.
+use crate::config::ConfigFault;
+use crate::log::LogFault;
+use crate::road::RoadFault;
+use std::fmt;
+use std::io;
+use tellwydar::Refused;
+
+/// Why a call isn't answered, or why there is no node. Only behind `Stopped` and what comes after it in this list the
+/// node has stopped.
+#[derive(Debug)]
+pub enum Fault {
+    /// An operation goes on, or its answer wasn't fetched.
+    Busy,
+    /// No answer yet. The operation goes on, and [`crate::Node::wait`] gives its answer.
+    TimedOut,
+    /// Nothing was called in time, since a chapter ended meanwhile.
+    Paused,
+    /// The bell rang first. As after `TimedOut` and `Paused`, what was called goes on.
+    Rung,
+    /// The process refuses the call, and nothing has changed.
+    Refused(Refused),
+    /// No operation goes on for which one could wait.
+    Nothing,
+    /// The node has stopped before.
+    Stopped,
+    /// The process stopped for good.
+    Failed(Refused),
+    /// A log is there where none may be, or it isn't one of this process.
+    OtherLog(String),
+    Config(ConfigFault),
+    Log(LogFault),
+    Road(RoadFault),
+    Io(io::Error),
+}
+
+impl Fault {
+    /// Whether the node goes on behind this fault.
+    pub(crate) fn is_of_a_call(&self) -> bool {
+        matches!(self, Self::Busy | Self::TimedOut | Self::Paused | Self::Rung | Self::Refused(_) | Self::Nothing)
+    }
+}
+
+impl fmt::Display for Fault {
+    fn fmt(&self, f: &mut fmt::Formatter<'_>) -> fmt::Result {
+        match self {
+            Self::Busy => f.write_str("an operation goes on"),
+            Self::TimedOut => f.write_str("no answer in time"),
+            Self::Paused => f.write_str("a chapter ended meanwhile, and nothing was called in time"),
+            Self::Rung => f.write_str("the bell rang"),
+            Self::Refused(why) => write!(f, "refused: {why}"),
+            Self::Nothing => f.write_str("no operation goes on"),
+            Self::Stopped => f.write_str("the node has stopped"),
+            Self::Failed(why) => write!(f, "the process stopped: {why}"),
+            Self::OtherLog(why) => f.write_str(why),
+            Self::Config(why) => why.fmt(f),
+            Self::Log(why) => why.fmt(f),
+            Self::Road(why) => why.fmt(f),
+            Self::Io(why) => why.fmt(f),
+        }
+    }
+}
+
+impl std::error::Error for Fault {}
+
+impl From<Refused> for Fault {
+    /// Behind some refusals the process has stopped for good.
+    fn from(why: Refused) -> Self {
+        match why {
+            Refused::Failed | Refused::OutOfMemory | Refused::ClockFull => Self::Failed(why),
+            _ => Self::Refused(why),
+        }
+    }
+}
+
+impl From<ConfigFault> for Fault {
+    fn from(why: ConfigFault) -> Self {
+        Self::Config(why)
+    }
+}
+
+impl From<LogFault> for Fault {
+    fn from(why: LogFault) -> Self {
+        Self::Log(why)
+    }
+}
+
+impl From<RoadFault> for Fault {
+    fn from(why: RoadFault) -> Self {
+        Self::Road(why)
+    }
+}
+
+impl From<io::Error> for Fault {
+    fn from(why: io::Error) -> Self {
+        Self::Io(why)
+    }
+}

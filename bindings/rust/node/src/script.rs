@@ -1,0 +1,130 @@
+//! Scripts: a call a line, or a pause.
+use crate::fault::Fault;
+use crate::node::Node;
+use std::fmt;
+use std::io::Write;
+use std::time::{Duration, Instant};
+use tellwydar::{Answer, Front, Op};
+
+/// A line of a script: `write x 5`, `swap x 6`, `read x`, or `sleep SECONDS`.
+#[derive(Clone, Copy, Debug, PartialEq, Eq)]
+enum Line {
+    Call(Op),
+    Sleep(Duration),
+}
+
+/// What a node calls, one operation after another.
+#[derive(Clone, Debug, PartialEq, Eq)]
+pub struct Script(Vec<Line>);
+
+/// The first line that says no call.
+#[derive(Clone, Debug, PartialEq, Eq)]
+pub struct ScriptFault {
+    /// From 1.
+    pub line: usize,
+}
+
+impl fmt::Display for ScriptFault {
+    fn fmt(&self, f: &mut fmt::Formatter<'_>) -> fmt::Result {
+        write!(f, "line {}: no call of a register of this cluster", self.line)
+    }
+}
+
+impl std::error::Error for ScriptFault {}
+
+fn line(text: &str, registers: &[String]) -> Option<Line> {
+    let register = |name: &str| registers.iter().position(|it| it == name).map(|it| it as u16);
+    let words: Vec<&str> = text.split_whitespace().collect();
+    Some(match *words {
+        ["read", name] => Line::Call(Op::Read { register: register(name)? }),
+        ["write", name, value] => Line::Call(Op::Write { register: register(name)?, value: value.parse().ok()? }),
+        ["swap", name, value] => Line::Call(Op::Swap { register: register(name)?, value: value.parse().ok()? }),
+        ["sleep", seconds] => Line::Sleep(Duration::try_from_secs_f64(seconds.parse().ok()?).ok()?),
+        _ => return None,
+    })
+}
+
+impl Script {
+    /// The script of this text, over registers of these names. Empty lines, and those that begin with `#`, say nothing.
+    pub fn parse(text: &str, registers: &[String]) -> Result<Self, ScriptFault> {
+        let is_said = |it: &str| !it.trim().is_empty() && !it.trim_start().starts_with('#');
+        let lines = text.lines().zip(1..).filter(|(text, _)| is_said(text));
+        lines
+            .map(|(text, number)| line(text, registers).ok_or(ScriptFault { line: number }))
+            .collect::<Result<_, _>>()
+            .map(Self)
+    }
+
+    /// Makes the calls, and writes each answer as a line. A node that was resumed goes on where its log ends.
+    pub fn run<F: Front>(&self, node: &mut Node<F>, out: &mut impl Write) -> Result<(), Fault> {
+        let (mut called, goes_on) = node.so_far();
+        if goes_on {
+            let answer = node.wait(None)?;
+            tell(node, out, answer)?;
+        }
+        for &line in &self.0 {
+            match line {
+                Line::Call(_) if called > 0 => called -= 1,
+                Line::Call(op) => {
+                    let answer = node.perform(op, None)?;
+                    tell(node, out, answer)?;
+                }
+                Line::Sleep(time) if called == 0 => sleep(node, time)?,
+                Line::Sleep(_) => {}
+            }
+        }
+        writeln!(out, "end")?;
+        Ok(out.flush()?)
+    }
+}
+
+/// What is told is in the log before.
+fn tell<F: Front>(node: &mut Node<F>, out: &mut impl Write, answer: Answer) -> Result<(), Fault> {
+    node.keep()?;
+    match answer {
+        Answer::Done => writeln!(out, "done")?,
+        Answer::Value(value) => writeln!(out, "value {value}")?,
+    }
+    Ok(out.flush()?)
+}
+
+/// Calls nothing for so long.
+fn sleep<F: Front>(node: &mut Node<F>, time: Duration) -> Result<(), Fault> {
+    let end = Instant::now() + time;
+    while Instant::now() < end {
+        if node.serve(Some(end))? {
+            return Err(Fault::Rung);
+        }
+    }
+    Ok(())
+}
+
+#[cfg(test)]
+mod tests {
+    use super::*;
+
+    #[test]
+    fn lines_are_calls_and_pauses() {
+        let names = ["x".to_string(), "y".to_string()];
+        let script = Script::parse("write x 5\n# no call\n\n read y\nsleep 0.5\nswap y 18446744073709551615\n", &names);
+        let calls = vec![
+            Line::Call(Op::Write { register: 0, value: 5 }),
+            Line::Call(Op::Read { register: 1 }),
+            Line::Sleep(Duration::from_millis(500)),
+            Line::Call(Op::Swap { register: 1, value: u64::MAX }),
+        ];
+        assert_eq!(script, Ok(Script(calls)));
+        for text in [
+            "read z",
+            "write x",
+            "write x 18446744073709551616",
+            "write x -1",
+            "sleep -1",
+            "sleep x",
+            "add x 1",
+            "read x 1",
+        ] {
+            assert_eq!(Script::parse(&format!("read x\n{text}\n"), &names), Err(ScriptFault { line: 2 }), "{text}");
+        }
+    }
+}
