@@ -15,8 +15,8 @@ pub record HasData (start : Op → ℕ → Start) (p : Plan) (notes : Notes) (Ar
   pub pointed : ArePoints points
   pub told : IsDataOf start p notes points d
 
--- The text is that of a plan with no more events than data can have, all of them accepted, and the data of its run, with
--- the notes of the text, was written between these two texts: `Wrote` says how a text was.
+-- The text is that of a plan with no more events than data can have, all of them accepted, and the data of its run,
+-- with the notes of the text, was written between these two texts: `Wrote` says how a text was.
 pub record ShowsData (head tail : List ℕ) (Wrote : List ℕ → Type 0) (text : List ℕ) : Type 0 where
   pub plan : Plan
   pub good : IsPlan plan
