@@ -9,7 +9,7 @@ use Rattle.reg_inputs.specs.Loads.{Load}
 use Rattle.reg_inputs.specs.Schedules.{Plan}
 use Rattle.reg_records.specs.declared.entries.Receipt.{Receipt}
 use Rattle.reg_live.specs.Passes.{IsLived}
-use Rattle.reg_threads.specs.Scripts.{ops_of}
+use Rattle.reg_live.specs.Scripts.{ops_of}
 use Rattle.reg_commands.specs.Replays.{start_of, Shows, PointsOf}
 use Rattle.reg_commands.specs.declared.command.Command.TheVariants.{Play}
 use Rattle.reg_commands.specs.Answers.{Blames}

@@ -4,8 +4,8 @@ use Rattle.reg_live.specs.declared.faults.LiveFault.{LiveFault}
 use Rattle.reg_live.specs.declared.faults.LiveFault.TheVariants as live
 use Rattle.reg_records.specs.declared.faults.CloseFault.{CloseFault}
 use Rattle.reg_records.specs.declared.faults.CloseFault.TheVariants as close
-use Rattle.reg_threads.specs.declared.scripts.RunStop.{RunStop}
-use Rattle.reg_threads.specs.declared.scripts.RunStop.TheVariants as run
+use Rattle.reg_live.specs.declared.scripts.RunStop.{RunStop}
+use Rattle.reg_live.specs.declared.scripts.RunStop.TheVariants as run
 use Rattle.reg_commands.specs.declared.faults.Fault.TheVariants as fault
 use Rattle.reg_cli.specs.declared.stops.Stop.{Stop}
 use Rattle.reg_cli.specs.declared.stops.Stop.TheVariants.{Command, Failed, NoRegister, Behind, Full, Unfaithful, Mismatch}

@@ -20,7 +20,7 @@ use reg_commands::{
 };
 use reg_front::{Front, FrontEnd, Linear, LocalRead, LocalWrite, RealTime};
 use reg_history::Report;
-use reg_threads::run_scripts_in;
+use reg_live::run_scripts_in;
 use reg_workload::Workload;
 use reg_world::PackedWires;
 use std::alloc::Global;

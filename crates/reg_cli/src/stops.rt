@@ -4,8 +4,7 @@ ghost use Rattle.reg_cli.specs.ThreadStops.{IsOfThreads};
 ghost use Rattle.reg_cli.specs.Told.{stop_of_pass, stop_of_close, stop_of_run};
 
 use reg_commands::Fault;
-use reg_live::{CloseFault, LiveFault};
-use reg_threads::RunStop;
+use reg_live::{CloseFault, LiveFault, RunStop};
 use std::fmt;
 use thiserror::Error;
 

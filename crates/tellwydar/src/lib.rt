@@ -21,11 +21,11 @@ pub use reg_history::{
 };
 pub use reg_live::{
     CloseFault, Closed, Cluster, Courier, Gate, Honest, LiveFault, LogEntry, NoGate, Pacer, Parcel,
-    Parts, Pass, Posts, Receipt, Road, Rough, close, close_in, set_up, verify, verify_in,
+    Parts, Pass, Posts, Receipt, Road, Rough, RunStop, Running, StartFault, close, close_in,
+    run_scripts, run_scripts_in, set_up, start, verify, verify_in,
 };
 pub use reg_process::{Reply, Step};
 pub use reg_runs::{SettleFault, settle};
-pub use reg_threads::{RunStop, Running, StartFault, run_scripts, run_scripts_in, start};
 pub use reg_workload::{
     Key, Play, Schedule, ScheduleFault, SeedWords, Words, Workload, WorkloadFault, parse_schedule,
     play_fair, play_fair_in, play_seeded, play_seeded_in,

@@ -1,7 +1,7 @@
 use Rattle.std.proofs.Common.{◌≡◌, map, rules}
-use Rattle.reg_threads.specs.Scripts.{AreStarted, ops_of}
-use Rattle.reg_threads.proofs.Performing.{where_all}
-use Rattle.reg_threads.proofs.scripts.run_scripts_in.Goals as goal
+use Rattle.reg_live.specs.Scripts.{AreStarted, ops_of}
+use Rattle.reg_live.proofs.Performing.{where_all}
+use Rattle.reg_live.proofs.scripts.run_scripts_in.Goals as goal
 
 pub returns-clause-lived : goal.returns-clause-lived
 returns-clause-lived g c = search rules

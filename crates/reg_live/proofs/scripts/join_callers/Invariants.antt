@@ -1,7 +1,7 @@
 use Rattle.std.proofs.Common.{◌≡◌, ◌+◌, drop, map, vec_len, OnOk}
 use Rattle.std.specs.Vec.Iter.{into_iter_items, into_iter_len}
-use Rattle.reg_threads.proofs.Performing.{AreBack}
-use Rattle.reg_threads.proofs.scripts.join_callers.Given as goal
+use Rattle.reg_live.proofs.Performing.{AreBack}
+use Rattle.reg_live.proofs.scripts.join_callers.Given as goal
 
 abbrev pub invariant-loop-caller : goal.invariant-loop-caller
 invariant-loop-caller g l =

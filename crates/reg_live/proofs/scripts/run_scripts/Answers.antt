@@ -1,5 +1,5 @@
 use Rattle.std.proofs.Common.{rules}
-use Rattle.reg_threads.proofs.scripts.run_scripts.Goals as goal
+use Rattle.reg_live.proofs.scripts.run_scripts.Goals as goal
 
 pub returns-clause-lived : goal.returns-clause-lived
 returns-clause-lived g c = search rules

@@ -8,7 +8,7 @@ use Rattle.reg_checkers.proofs.Places.{at_map}
 use Rattle.reg_checkers.proofs.Pushing.{at_push}
 use Rattle.reg_records.specs.declared.entries.Receipt.{Receipt}
 use Rattle.reg_live.specs.Passes.{Held, AreOwn, IsListOf}
-use Rattle.reg_threads.specs.Scripts.{ops_of, IsBack, AreStarted, ArePerformed}
+use Rattle.reg_live.specs.Scripts.{ops_of, IsBack, AreStarted, ArePerformed}
 
 -- what stands first after n elements
 pub drop_at : {X : Type 0} (xs : List X) (n : ℕ) (x : X) (rest : List X) → drop n xs ≡ x ∷ rest → IsAt xs n x × (rest ≡ drop (n + 1) xs)

@@ -1,7 +1,7 @@
 use Rattle.std.proofs.Common.{◌≡◌, List, ◌∙◌, length, map, sym}
 use Rattle.reg_records.specs.declared.entries.Receipt.{Receipt}
-use Rattle.reg_threads.proofs.Performing.{receipts_are}
-use Rattle.reg_threads.proofs.scripts.close_ended.Goals as goal
+use Rattle.reg_live.proofs.Performing.{receipts_are}
+use Rattle.reg_live.proofs.scripts.close_ended.Goals as goal
 
 pub returns-in-Ok-clause-performed : goal.returns-in-Ok-clause-performed
 returns-in-Ok-clause-performed g c = λ scripts are.

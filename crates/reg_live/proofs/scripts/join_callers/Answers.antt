@@ -1,9 +1,9 @@
 use Rattle.std.proofs.Common.{◌≡◌, ℕ, ◌∙◌, ◌+◌, length, drop, map, vec_len, sym, ap, arith, rules}
 use Rattle.std.proofs.lemmas.List.{length-map, length_push}
 use Rattle.std.specs.Vec.Iter.{into_iter_items, into_iter_len}
-use Rattle.reg_threads.proofs.Performing.{drop_at, back_push, performed_back, told_step, told_so}
+use Rattle.reg_live.proofs.Performing.{drop_at, back_push, performed_back, told_step, told_so}
 use Rattle.reg_checkers.proofs.Places.{IsAt-map}
-use Rattle.reg_threads.proofs.scripts.join_callers.Goals as goal
+use Rattle.reg_live.proofs.scripts.join_callers.Goals as goal
 
 pub loop-caller-preserved : goal.loop-caller-preserved
 loop-caller-preserved g c =

@@ -1,6 +1,10 @@
 //! The threads of a cluster.
+use crate::clusters::Cluster;
+use crate::couriers::Courier;
+use crate::gates::Gate;
+use crate::pacers::Pacer;
+use crate::roads::Road;
 use reg_front::FrontEnd;
-use reg_live::{Cluster, Courier, Gate, Pacer, Road};
 use std::alloc::AllocError;
 use std::sync::{Arc, Wait};
 use std::thread;

@@ -4,9 +4,9 @@ use Rattle.std.specs.Vec.Iter.{into_iter_items, into_iter_len}
 use Rattle.reg_base.specs.declared.memory.Op.{Op}
 use Rattle.reg_checkers.specs.History.{IsAt}
 use Rattle.reg_live.specs.Passes.{Held}
-use Rattle.reg_threads.proofs.Performing.{drop_at, started_push}
+use Rattle.reg_live.proofs.Performing.{drop_at, started_push}
 use Rattle.reg_checkers.proofs.Places.{IsAt-map}
-use Rattle.reg_threads.proofs.scripts.start_callers.Goals as goal
+use Rattle.reg_live.proofs.scripts.start_callers.Goals as goal
 
 pub call-requires-after_bounds : goal.call-requires-after_bounds
 call-requires-after_bounds g c κs within =

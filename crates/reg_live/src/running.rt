@@ -2,12 +2,17 @@
 ghost use Rattle.std.specs.Prelude.{◌≡◌, IfOk, map};
 ghost use Rattle.reg_live.specs.Passes.{IsLived, AreOneEach, AreOwn, AreNew, RespectTime, RespectUpdates};
 
+use crate::closing::{Closed, close_in};
+use crate::clusters::{Cluster, Parts, set_up};
+use crate::couriers::Courier;
 use crate::crews::{Worker, carry_all, halt, pace};
+use crate::gates::Gate;
+use crate::pacers::Pacer;
+use crate::passes::Pass;
+use crate::roads::Road;
 use reg_base::Shape;
 use reg_front::FrontEnd;
-use reg_live::{
-    CloseFault, Closed, Cluster, Courier, Gate, Pacer, Parts, Pass, Road, close_in, set_up,
-};
+use reg_records::CloseFault;
 use reg_world::WireStore;
 use std::alloc::{AllocError, Global};
 use std::marker::Model;
@@ -25,7 +30,7 @@ pub enum StartFault {
 }
 
 impl From<AllocError> for StartFault {
-    ghost use Rattle.reg_threads.specs.declared.running.StartFault.TheVariants.{OutOfMemory};
+    ghost use Rattle.reg_live.specs.declared.running.StartFault.TheVariants.{OutOfMemory};
 
     ghost from_gives = { λ _ fault. fault ≡ OutOfMemory };
 

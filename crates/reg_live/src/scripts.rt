@@ -2,12 +2,17 @@
 ghost use Rattle.std.specs.Prelude.{◌≡◌, List, [], None, Ok, true, IfOk, OnOk, map, vec_len};
 ghost use Rattle.reg_base.specs.declared.memory.Op.{Op};
 ghost use Rattle.reg_live.specs.Passes.{IsLived, RespectTime, AreNew};
-ghost use Rattle.reg_threads.specs.Scripts.{IsPerformed, IsBack, AreStarted, ArePerformed, ops_of};
+ghost use Rattle.reg_live.specs.Scripts.{IsPerformed, IsBack, AreStarted, ArePerformed, ops_of};
 
+use crate::closing::Closed;
+use crate::faults::LiveFault;
+use crate::gates::NoGate;
+use crate::passes::Pass;
+use crate::roads::Honest;
 use crate::running::{Running, StartFault, start};
 use reg_base::{Op, Shape};
 use reg_front::FrontEnd;
-use reg_live::{CloseFault, Closed, Honest, LiveFault, NoGate, Pass};
+use reg_records::CloseFault;
 use reg_world::{WireStore, Wires};
 use std::alloc::{AllocError, Global};
 use std::snapshot::Snapshot;
@@ -28,7 +33,7 @@ pub enum RunStop {
 }
 
 impl From<AllocError> for RunStop {
-    ghost use Rattle.reg_threads.specs.declared.scripts.RunStop.TheVariants.{OutOfMemory};
+    ghost use Rattle.reg_live.specs.declared.scripts.RunStop.TheVariants.{OutOfMemory};
 
     ghost from_gives = { λ _ stop. stop ≡ OutOfMemory };
 
@@ -38,7 +43,7 @@ impl From<AllocError> for RunStop {
 }
 
 impl From<StartFault> for RunStop {
-    ghost use Rattle.reg_threads.specs.declared.scripts.RunStop.TheVariants.{OutOfMemory};
+    ghost use Rattle.reg_live.specs.declared.scripts.RunStop.TheVariants.{OutOfMemory};
 
     ghost from_gives = { λ _ stop. stop ≡ OutOfMemory };
 

@@ -2,7 +2,7 @@ use Rattle.std.proofs.Common.{◌≡◌, ℕ, ◌+◌, List, drop, map, vec_len}
 use Rattle.std.specs.Vec.Iter.{into_iter_items, into_iter_len}
 use Rattle.reg_base.specs.declared.memory.Op.{Op}
 use Rattle.reg_checkers.specs.History.{IsAt}
-use Rattle.reg_threads.proofs.scripts.start_callers.Given as goal
+use Rattle.reg_live.proofs.scripts.start_callers.Given as goal
 
 abbrev pub invariant-loop-script : goal.invariant-loop-script
 invariant-loop-script g l =
