@@ -4,10 +4,10 @@ use Rattle.std.specs.Option.{is_some}
 use Rattle.std.specs.BTreeMap.{BTreeMap, get}
 use Rattle.reg_base.specs.declared.memory.Op.{Op}
 use Rattle.reg_checkers.specs.History.{IsAt}
-use Rattle.reg_interleavings.specs.declared.told.ToldValue.{ToldValue}
-use Rattle.reg_interleavings.specs.Interleavings.{AreAll, CountsStages, HasMoreStages, Interleaving}
+use Rattle.reg_outcomes.specs.declared.told.ToldValue.{ToldValue}
+use Rattle.reg_outcomes.specs.Interleavings.{AreAll, CountsStages, HasMoreStages, Interleaving}
 use Rattle.reg_outcomes.specs.declared.tallies.Tally.{Tally}
-use Rattle.reg_outcomes.specs.Tables.{HasOutcome, Nothing, Seen}
+use Rattle.reg_outcomes.specs.PlayTables.{HasOutcome, Nothing, Seen}
 use Rattle.reg_outcomes.specs.Counts.{IsCounted, TellsOf, key_cmp}
 use Rattle.reg_outcomes.specs.Outcomes.{CountsUndrawn, TellsUndrawn, WasDrawn}
 use Rattle.reg_outcomes.specs.declared.undrawn.TheConstants.{MOST_COUNTED_STAGES}

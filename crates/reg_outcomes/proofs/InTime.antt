@@ -19,7 +19,7 @@ use Rattle.reg_checkers.specs.History.{IsAt, IsHistory}
 use Rattle.reg_checkers.specs.Orders.{IsDistinct}
 use Rattle.reg_checkers.proofs.Histories.{events_rise}
 use Rattle.reg_checkers.proofs.Places.{get_push_other, in_take, same_at}
-use Rattle.reg_interleavings.proofs.Elements.{take_at}
+use Rattle.reg_outcomes.proofs.Elements.{take_at}
 use Rattle.reg_outcomes.proofs.Those.{at_front, at_new, at_cases}
 use Rattle.reg_world.specs.RealTime.{KeepsRealTime}
 use Rattle.reg_outcomes.specs.Timing.{id_cmp, IsPlaceOf, called_bound, answered_bound, bound_next, IsInTime}

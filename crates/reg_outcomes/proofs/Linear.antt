@@ -9,8 +9,8 @@ use Rattle.reg_checkers.specs.declared.entries.Entry.{Entry}
 use Rattle.reg_checkers.specs.declared.entries.Point.{Point}
 use Rattle.reg_checkers.specs.History.{IsAnswered, IsAt, IsCalled, IsHistory}
 use Rattle.reg_checkers.specs.Orders.{IsPointOrder, IsSerial}
-use Rattle.reg_interleavings.specs.Placing.{KeepsRealTime as StandsInTime}
-use Rattle.reg_interleavings.proofs.Pointing.{has_points}
+use Rattle.reg_outcomes.specs.Placing.{KeepsRealTime as StandsInTime}
+use Rattle.reg_outcomes.proofs.Pointing.{has_points}
 use Rattle.reg_world.specs.RealTime.{KeepsRealTime}
 use Rattle.reg_outcomes.specs.Outcomes.{IsLinearizable}
 

@@ -12,11 +12,11 @@ use Rattle.std.proofs.lemmas.Map.Entries.{place_from_lookup, btree_map_get_place
 use Rattle.std.proofs.lemmas.Map.Keys.{IsDistinct-from_sorted, IsDistinct-IsPermutation, apart_from_distinct}
 use Rattle.reg_checkers.specs.History.{IsAt}
 use Rattle.reg_checkers.proofs.Places.{IsAt-map, at_map}
-use Rattle.reg_interleavings.specs.declared.told.ToldValue.{ToldValue}
+use Rattle.reg_outcomes.specs.declared.told.ToldValue.{ToldValue}
 use Rattle.reg_outcomes.specs.declared.tallies.Tally.{Tally}
-use Rattle.reg_outcomes.specs.Tables.{Seen, Line, IsTallyOf, IsTable, StandsBefore}
+use Rattle.reg_outcomes.specs.PlayTables.{Seen, Line, IsTallyOf, IsTable, StandsBefore}
 use Rattle.reg_outcomes.specs.Counts.{TellsOf, IsCounted, key_cmp, line_cmp, line_of}
-use Rattle.reg_interleavings.proofs.Elements.{has_at}
+use Rattle.reg_outcomes.proofs.Elements.{has_at}
 use Rattle.reg_outcomes.proofs.Those.{contains_at, at_of}
 use Rattle.reg_outcomes.proofs.Ordering.{keys_total, lines_total, outcome_flips, same_keys, same_outcome, stands_before, tied_keys}
 

@@ -12,10 +12,10 @@ use denote.Param.Members.{Mut}
 use denote.Ref.{Bor}
 use Rattle.std.specs.Cmp.Lexicographic.{slice_cmp}
 use Rattle.std.proofs.lemmas.Cmp.{nat_cmp_total, on_total, then_total, back_total, tied_itself, ranked}
-use Rattle.reg_interleavings.specs.declared.told.ToldValue.{ToldValue}
-use Rattle.reg_interleavings.specs.Told.{told_cmp}
-use Rattle.reg_interleavings.proofs.ToldOrder.{outcomes_exact, outcomes_total}
-use Rattle.reg_outcomes.specs.Tables.{Line, StandsBefore}
+use Rattle.reg_outcomes.specs.declared.told.ToldValue.{ToldValue}
+use Rattle.reg_outcomes.specs.Told.{told_cmp}
+use Rattle.reg_outcomes.proofs.ToldOrder.{outcomes_exact, outcomes_total}
+use Rattle.reg_outcomes.specs.PlayTables.{Line, StandsBefore}
 use Rattle.reg_outcomes.specs.Counts.{line_cmp}
 
 pub keys_total : {K : Type 0} (items : K → List ToldValue) → IsTotalOrder (λ a b. slice_cmp told_cmp (items a) (items b))

@@ -10,8 +10,8 @@ use Rattle.reg_text.specs.Columns.{to_right}
 use Rattle.reg_text.specs.Lines.{text_of}
 use Rattle.reg_text.specs.Writing.{AppendsPart, Puts, Sends}
 use Rattle.reg_text.proofs.Sent.{puts_two, puts_as, puts_four}
-use Rattle.reg_outcomes.specs.Tables.{Line}
-use Rattle.reg_interleavings.specs.AllText.{told_text}
+use Rattle.reg_outcomes.specs.PlayTables.{Line}
+use Rattle.reg_outcomes.specs.AllText.{told_text}
 use Rattle.reg_outcomes.specs.TableText.{line_text, play_text, table_text, undrawn_lines}
 
 module _ {S : Type 0} (held : S → Option (List ℕ)) where

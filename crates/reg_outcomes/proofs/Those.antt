@@ -3,8 +3,8 @@ use Rattle.std.proofs.Common.{◌≡◌, ◌⊎◌, inl, inr, ℕ, zero, suc, �
 use Rattle.std.specs.List.{Contains}
 use Rattle.std.proofs.lemmas.Option.{slice_get_within, same_Some}
 use Rattle.reg_checkers.specs.History.{IsAt}
-use Rattle.reg_interleavings.proofs.Elements.{has_at}
-use Rattle.reg_outcomes.specs.Tables.{AreThose, Nothing, Takes, Leaves}
+use Rattle.reg_outcomes.proofs.Elements.{has_at}
+use Rattle.reg_outcomes.specs.PlayTables.{AreThose, Nothing, Takes, Leaves}
 
 pub at_front : {X : Type 0} (xs ys : List X) (k : ℕ) (x : X) → IsAt xs k x → IsAt (xs ++ ys) k x
 at_front [] ys k x h = absurd cc

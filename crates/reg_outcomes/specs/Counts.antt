@@ -5,11 +5,11 @@ use Rattle.std.specs.Ordering.{nat_cmp, ordering_then}
 use Rattle.std.specs.Cmp.Lexicographic.{slice_cmp}
 use Rattle.std.specs.BTreeMap.{BTreeMap, get}
 use Rattle.reg_checkers.specs.History.{IsAt}
-use Rattle.reg_interleavings.specs.declared.told.ToldValue.{ToldValue}
+use Rattle.reg_outcomes.specs.declared.told.ToldValue.{ToldValue}
 use Rattle.reg_outcomes.specs.declared.tallies.Glance.{Glance}
 use Rattle.reg_outcomes.specs.declared.tallies.Tally.{Tally}
-use Rattle.reg_interleavings.specs.Told.{told_cmp}
-use Rattle.reg_outcomes.specs.Tables.{Seen, Line, IsNoShorter, IsTallyOf, CountsUnfinished}
+use Rattle.reg_outcomes.specs.Told.{told_cmp}
+use Rattle.reg_outcomes.specs.PlayTables.{Seen, Line, IsNoShorter, IsTallyOf, CountsUnfinished}
 
 -- a finished play with this outcome
 abbrev pub finished_play : List ToldValue → Glance → Seen

@@ -1,4 +1,16 @@
+pub mod Told
+pub mod Interleavings
+pub mod Finishing
+pub mod Showing
+pub mod Turning
+pub mod Layers
+pub mod Finding
+pub mod Placing
+pub mod Nevers
+pub mod Combining
+pub mod AllText
 pub mod Tables
+pub mod PlayTables
 pub mod Counts
 pub mod TableText
 pub mod Outcomes

@@ -12,16 +12,16 @@ use Rattle.reg_inputs.specs.Loads.{Load}
 use Rattle.reg_workload.specs.Plays.{IsPlay}
 use Rattle.reg_workload.specs.Seeded.{seeded_play}
 use Rattle.reg_world.specs.Worlds.{Made}
-use Rattle.reg_interleavings.specs.declared.faults.InterleavingFault.{InterleavingFault}
-use Rattle.reg_interleavings.specs.declared.faults.InterleavingFault.TheVariants.{TooManyStages, OutOfMemory}
-use Rattle.reg_interleavings.specs.declared.kinds.OrderKind.TheVariants.{Points}
-use Rattle.reg_interleavings.specs.declared.outcomes.TheConstants.{MOST_STAGES}
-use Rattle.reg_interleavings.specs.Finding.{IsWiderSearch}
-use Rattle.reg_interleavings.specs.Finishing.{AllAnswered}
-use Rattle.reg_interleavings.specs.Interleavings.{AreAll, CountsStages, HasMoreStages, Interleaving}
-use Rattle.reg_interleavings.specs.Told.{outcome_of}
+use Rattle.reg_outcomes.specs.declared.faults.InterleavingFault.{InterleavingFault}
+use Rattle.reg_outcomes.specs.declared.faults.InterleavingFault.TheVariants.{TooManyStages, OutOfMemory}
+use Rattle.reg_outcomes.specs.declared.kinds.OrderKind.TheVariants.{Points}
+use Rattle.reg_outcomes.specs.declared.outcomes.TheConstants.{MOST_STAGES}
+use Rattle.reg_outcomes.specs.Finding.{IsWiderSearch}
+use Rattle.reg_outcomes.specs.Finishing.{AllAnswered}
+use Rattle.reg_outcomes.specs.Interleavings.{AreAll, CountsStages, HasMoreStages, Interleaving}
+use Rattle.reg_outcomes.specs.Told.{outcome_of}
 use Rattle.reg_outcomes.specs.declared.undrawn.TheConstants.{MOST_COUNTED_STAGES}
-use Rattle.reg_outcomes.specs.Tables.{AreThose, CountsUnfinished, HasOutcome, IsTable, Line, Seen}
+use Rattle.reg_outcomes.specs.PlayTables.{AreThose, CountsUnfinished, HasOutcome, IsTable, Line, Seen}
 
 -- the play of a workload by the words of PCG32 from this seed
 unfoldable pub play_from : (Op → ℕ → Start) → Load → ℕ → Made

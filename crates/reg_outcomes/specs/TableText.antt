@@ -4,9 +4,9 @@ use Rattle.std.specs.List.{flat_map}
 use Rattle.std.specs.Fmt.{decimal}
 use Rattle.reg_text.specs.Columns.{to_right}
 use Rattle.reg_text.specs.Lines.{text_of}
-use Rattle.reg_interleavings.specs.AllText.{told_text}
+use Rattle.reg_outcomes.specs.AllText.{told_text}
 use Rattle.reg_outcomes.specs.declared.tallies.Tally.{Tally}
-use Rattle.reg_outcomes.specs.Tables.{Line}
+use Rattle.reg_outcomes.specs.PlayTables.{Line}
 
 -- `late` where no play is linearizable
 abbrev pub time_text : Option ℕ → List ℕ

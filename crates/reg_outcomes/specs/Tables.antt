@@ -1,72 +1,34 @@
--- The table of a list of plays. To be believed: promises speak of it.
-use Rattle.std.specs.Prelude.{ℕ, ◌≡◌, ◌≢◌, ◌<◌, ◌≤◌, ◌⊎◌, Bool, true, false, List, [], ◌∷◌, length, Option, Some, None}
-use Rattle.std.specs.declared.cmp.Ordering.TheVariants.{Less}
-use Rattle.std.specs.Cmp.Lexicographic.{slice_cmp}
-use Rattle.reg_checkers.specs.History.{IsAt}
-use Rattle.reg_interleavings.specs.declared.told.ToldValue.{ToldValue}
-use Rattle.reg_interleavings.specs.Told.{told_cmp}
-use Rattle.reg_outcomes.specs.declared.tallies.Tally.{Tally}
+-- The operations of a history by process: what each called and was answered, by number. They carry a proof: no promise
+-- speaks of them.
+use Rattle.std.specs.Prelude.{ℕ, ◌≡◌, ◌<◌, List, [], length, map, slice_index_or, Vec}
+use Rattle.reg_base.specs.Shape.{Extent}
+use Rattle.reg_base.specs.declared.memory.OpId.{OpId}
+use Rattle.reg_checkers.specs.declared.entries.Entry.{Entry}
+use Rattle.reg_checkers.specs.History.{IsAt, IsAnswered, IsCalled, IsFinished, WasCalled}
+use Rattle.reg_outcomes.specs.declared.kinds.OrderKind.{OrderKind}
+use Rattle.reg_outcomes.specs.declared.tables.Invocation.{Invocation}
+use Rattle.reg_outcomes.specs.declared.tables.Response.{Response}
 
--- What is known of a play: the seed of its words, whether it is finished, the number of its events, the values that its
--- operations answered, and whether its history is linearizable.
-pub record Seen : Type 0 where
-  pub seed : ℕ
-  pub is_finished : Bool
-  pub events : ℕ
-  pub outcome : List ToldValue
-  pub linearizable : Bool
+-- the lists that the code holds so
+abbrev pub lists_of : {A X : Type 0} → List (Vec X A) → List (List X)
+lists_of lists = map (λ v. v.items) lists
 
--- a line of a table: an outcome, and what is told of it
-pub record Line : Type 0 where
-  pub outcome : List ToldValue
-  pub tally : Tally
+-- the list of a process
+abbrev pub list_of : {X : Type 0} → List (List X) → ℕ → List X
+list_of lists p = slice_index_or lists p []
 
--- ys are the xs of which P holds, in their order
-pub data AreThose {X : Type 0} (P : X → Type 0) : List X → List X → Type 0 where
-  Nothing : AreThose P [] []
-  Takes : {x : X} {xs ys : List X} → P x → AreThose P xs ys → AreThose P (x ∷ xs) (x ∷ ys)
-  Leaves : {x : X} {xs ys : List X} → ¬ P x → AreThose P xs ys → AreThose P (x ∷ xs) ys
+-- The lists of n processes: under each id stand the call and the answer that the history has of it, and no others.
+pub record IsTable (n : ℕ) (h : List Entry) (calls : List (List Invocation)) (answers : List (List Response)) : Type 0 where
+  pub count : length calls ≡ n
+  pub as_many : length answers ≡ n
+  pub called : (id : OpId) (c : Invocation) → IsAt (list_of calls id.process) id.number c → IsCalled h id c.at c.op
+  pub all_called : (id : OpId) → WasCalled h id → id.number < length (list_of calls id.process)
+  pub answered : (id : OpId) (r : Response) → IsAt (list_of answers id.process) id.number r → IsAnswered h id r.at r.answer
+  pub all_answered : (id : OpId) → IsFinished h id → id.number < length (list_of answers id.process)
 
--- the play is finished, with this outcome
-pub record HasOutcome (outcome : List ToldValue) (s : Seen) : Type 0 where
-  pub finished : s.is_finished ≡ true
-  pub same : s.outcome ≡ outcome
-
--- the play has more events, or as many and no smaller seed
-abbrev pub IsNoShorter : Tally → Seen → Type 0
-IsNoShorter t s = (t.events < s.events) ⊎ ((t.events ≡ s.events) × (t.seed ≤ s.seed))
-
--- The seed of the first of these plays that is linearizable, or of the first that is not, and None where there is none.
-abbrev pub IsFirst : Bool → List Seen → Option ℕ → Type 0
-IsFirst kind plays None = (k : ℕ) (s : Seen) → IsAt plays k s → s.linearizable ≢ kind
-IsFirst kind plays (Some seed) = (k : ℕ) × (s : Seen) × IsAt plays k s × (s.linearizable ≡ kind) × (s.seed ≡ seed) × ((j : ℕ) (other : Seen) → IsAt plays j other → other.linearizable ≡ kind → k ≤ j)
-
--- What is told of plays: how many they are; the seed and the events of one of them, none of which is shorter, nor as
--- short with a smaller seed; and the seeds of the first that is linearizable, and of the first that is not.
-pub record IsTally (plays : List Seen) (t : Tally) : Type 0 where
-  pub count : t.count ≡ length plays
-  pub shortest : (k : ℕ) × (s : Seen) × IsAt plays k s × (s.events ≡ t.events) × (s.seed ≡ t.seed)
-  pub least : (k : ℕ) (s : Seen) → IsAt plays k s → IsNoShorter t s
-  pub in_time : IsFirst true plays t.in_time
-  pub late : IsFirst false plays t.late
-
--- what is told of the plays with this outcome
-abbrev pub IsTallyOf : List Seen → List ToldValue → Tally → Type 0
-IsTallyOf plays outcome t = (those : List Seen) × AreThose (HasOutcome outcome) plays those × IsTally those t
-
--- a line with a larger count stands before one with a smaller, and of two with the same count the one with the smaller
--- outcome: the first value in which they differ decides
-abbrev pub StandsBefore : Line → Line → Type 0
-StandsBefore a b = (b.tally.count < a.tally.count) ⊎ ((a.tally.count ≡ b.tally.count) × (slice_cmp told_cmp a.outcome b.outcome ≡ Less))
-
--- The table of these plays: each line tells of the plays with its outcome, the outcome of each finished play has a
--- line, no two lines have the same outcome, and they stand in their order.
-pub record IsTable (plays : List Seen) (lines : List Line) : Type 0 where
-  pub each : (i : ℕ) (line : Line) → IsAt lines i line → IsTallyOf plays line.outcome line.tally
-  pub all : (k : ℕ) (s : Seen) → IsAt plays k s → s.is_finished ≡ true → (i : ℕ) × (line : Line) × IsAt lines i line × (line.outcome ≡ s.outcome)
-  pub once : (i j : ℕ) (a b : Line) → IsAt lines i a → IsAt lines j b → a.outcome ≡ b.outcome → i ≡ j
-  pub ordered : (i j : ℕ) (a b : Line) → IsAt lines i a → IsAt lines j b → i < j → StandsBefore a b
-
--- so many of the plays are not finished: some operation of theirs is not answered
-abbrev pub CountsUnfinished : List Seen → ℕ → Type 0
-CountsUnfinished plays n = (those : List Seen) × AreThose (λ s. s.is_finished ≡ false) plays those × (n ≡ length those)
+-- what is looked for: an order of this kind, of this history, with no more stages of as many operations than the limit
+pub record Sought : Type 0 where
+  pub shape : Extent
+  pub entries : List Entry
+  pub kind : OrderKind
+  pub limit : ℕ

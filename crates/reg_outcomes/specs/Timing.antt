@@ -9,8 +9,8 @@ use Rattle.reg_base.specs.declared.memory.Op.{Op}
 use Rattle.reg_checkers.specs.declared.entries.Entry.{Entry}
 use Rattle.reg_checkers.specs.declared.entries.Entry.TheVariants.{Called, Answered}
 use Rattle.reg_checkers.specs.History.{IsAt}
-use Rattle.reg_interleavings.specs.Told.{outcome_of}
-use Rattle.reg_outcomes.specs.Tables.{Seen}
+use Rattle.reg_outcomes.specs.Told.{outcome_of}
+use Rattle.reg_outcomes.specs.PlayTables.{Seen}
 use Rattle.reg_world.specs.Worlds.{Made}
 use Rattle.reg_outcomes.specs.Outcomes.{IsLinearizable}
 

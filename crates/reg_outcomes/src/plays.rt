@@ -1,19 +1,20 @@
 //! Many plays of a workload, and what they told.
-ghost use Rattle.std.specs.Prelude.{◌≡◌, ◌≤◌, ◌<◌, ◌++◌, ◌∷◌, ◌-◌, ◌^◌, ◌%◌, ◌+◌, List, ℕ, [], true, IfOk, IfErr, OnOk, length};
-ghost use Rattle.reg_interleavings.specs.declared.kinds.OrderKind.TheVariants.{Points};
-ghost use Rattle.reg_interleavings.specs.declared.outcomes.TheConstants.{MOST_STAGES};
-ghost use Rattle.reg_interleavings.specs.Finding.{IsFindFault};
-ghost use Rattle.reg_outcomes.specs.Tables.{Seen};
+ghost use Rattle.std.specs.Prelude.{◌≡◌, ◌≤◌, ◌<◌, ◌++◌, ◌∷◌, ◌-◌, ◌^◌, ◌+◌, List, [], IfOk, IfErr, OnOk, length};
+ghost use Rattle.reg_outcomes.specs.declared.kinds.OrderKind.TheVariants.{Points};
+ghost use Rattle.reg_outcomes.specs.declared.outcomes.TheConstants.{MOST_STAGES};
+ghost use Rattle.reg_outcomes.specs.Finding.{IsFindFault};
+ghost use Rattle.reg_outcomes.specs.PlayTables.{Seen};
 ghost use Rattle.reg_outcomes.specs.Counts.{HasRoom, IsCounted};
 ghost use Rattle.reg_outcomes.specs.Outcomes.{AreOutcomes, AreSeen, IsPlayFault, IsPlaysFault, IsSeen};
 ghost use Rattle.reg_outcomes.specs.Timing.{IsSeenIn};
 
+use crate::faults::InterleavingFault;
 use crate::rows::{Row, table_of};
 use crate::tallies::{Glance, Tallies};
 use crate::timing::is_linearizable;
+use crate::told::tell;
 use crate::undrawn::count_undrawn;
 use reg_front::FrontEnd;
-use reg_interleavings::{InterleavingFault, tell};
 use reg_workload::{Play, SeedWords, Workload, play_seeded_in};
 use reg_world::{PackedWires, World};
 use std::alloc::{Allocator, Global};

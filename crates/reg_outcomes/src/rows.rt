@@ -2,11 +2,11 @@
 ghost use Rattle.std.specs.Prelude.{◌≡◌, List, ℕ, IfOk, OnOk, map};
 ghost use Rattle.std.specs.BTreeMap.{IsOrdered};
 ghost use Rattle.std.specs.List.Sorted.{IsPermutation, IsSorted};
-ghost use Rattle.reg_outcomes.specs.Tables.{Seen, IsTable};
+ghost use Rattle.reg_outcomes.specs.PlayTables.{Seen, IsTable};
 ghost use Rattle.reg_outcomes.specs.Counts.{IsCounted, key_cmp, line_of, line_cmp};
 
 use crate::tallies::Tally;
-use reg_interleavings::ToldValue;
+use crate::told::ToldValue;
 use std::alloc::{AllocError, Allocator, Global};
 use std::cmp::Ordering;
 use std::collections::BTreeMap;
@@ -20,7 +20,7 @@ pub struct Row<A: Allocator + Copy = Global> {
 }
 
 impl<A: Allocator + Copy> Model for Row<A> {
-    ghost use Rattle.reg_outcomes.specs.Tables.{Line};
+    ghost use Rattle.reg_outcomes.specs.PlayTables.{Line};
 
     ghost Value = { Line };
 

@@ -1,11 +1,11 @@
 //! What is told of the plays of each outcome.
 ghost use Rattle.std.specs.Prelude.{◌≡◌, ◌↔◌, ◌++◌, ◌<◌, [], ◌∷◌, List, Bool, true, false, OnOk};
 ghost use Rattle.std.specs.BTreeMap.{get};
-ghost use Rattle.reg_interleavings.specs.declared.told.ToldValue.{ToldValue};
-ghost use Rattle.reg_outcomes.specs.Tables.{IsFirst, IsTally, IsTallyOf, Seen};
+ghost use Rattle.reg_outcomes.specs.declared.told.ToldValue.{ToldValue};
+ghost use Rattle.reg_outcomes.specs.PlayTables.{IsFirst, IsTally, IsTallyOf, Seen};
 ghost use Rattle.reg_outcomes.specs.Counts.{HasRoom, IsCounted, IsShortest, TellsOf, finished_play, key_cmp};
 
-use reg_interleavings::ToldValue;
+use crate::told::ToldValue;
 use std::alloc::{AllocError, Allocator, Global};
 use std::collections::BTreeMap;
 

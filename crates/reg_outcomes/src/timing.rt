@@ -1,19 +1,21 @@
 //! Whether an order keeps the real time of its history, and whether a history is linearizable.
-ghost use Rattle.std.specs.Prelude.{◌≡◌, ◌<◌, ◌-◌, ◌^◌, ◌↔◌, length, true, IfOk, IfErr, IfSome, OnOk, List, ℕ};
+ghost use Rattle.std.specs.Prelude.{◌≡◌, ◌<◌, ◌-◌, ◌^◌, ◌↔◌, length, true, IfOk, IfErr, IfSome, OnOk, ℕ};
 ghost use Rattle.std.specs.BTreeMap.{get};
 ghost use Rattle.reg_base.specs.declared.memory.OpId.{OpId as AnyId};
 ghost use Rattle.reg_checkers.specs.History.{IsHistory};
 ghost use Rattle.reg_checkers.specs.Orders.{IsDistinct, IsSerial};
 ghost use Rattle.reg_world.specs.RealTime.{KeepsRealTime};
-ghost use Rattle.reg_interleavings.specs.declared.kinds.OrderKind.TheVariants.{Points};
-ghost use Rattle.reg_interleavings.specs.declared.outcomes.TheConstants.{MOST_STAGES};
-ghost use Rattle.reg_interleavings.specs.Finding.{IsFindFault};
+ghost use Rattle.reg_outcomes.specs.declared.kinds.OrderKind.TheVariants.{Points};
+ghost use Rattle.reg_outcomes.specs.declared.outcomes.TheConstants.{MOST_STAGES};
+ghost use Rattle.reg_outcomes.specs.Finding.{IsFindFault};
 ghost use Rattle.reg_outcomes.specs.Outcomes.{IsLinearizable};
 ghost use Rattle.reg_outcomes.specs.Timing.{IsPlaceOf, bound_next, id_cmp};
 
+use crate::faults::InterleavingFault;
+use crate::finding::find_points;
+use crate::outcomes::MOST_STAGES;
 use reg_base::OpId;
 use reg_checkers::{Entry, History};
-use reg_interleavings::{InterleavingFault, MOST_STAGES, find_points};
 use std::alloc::{AllocError, Allocator};
 use std::collections::BTreeMap;
 

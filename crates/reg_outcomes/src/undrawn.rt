@@ -1,15 +1,17 @@
 //! How many outcomes no play had.
-ghost use Rattle.std.specs.Prelude.{◌≡◌, ◌++◌, ◌∷◌, [], ◌+◌, ◌-◌, ◌^◌, ◌<◌, ◌≤◌, ℕ, List, IfOk, IfErr};
-ghost use Rattle.reg_interleavings.specs.Interleavings.{Interleaving};
-ghost use Rattle.reg_interleavings.specs.declared.faults.InterleavingFault.TheVariants.{OutOfMemory};
-ghost use Rattle.reg_outcomes.specs.Tables.{Seen};
+ghost use Rattle.std.specs.Prelude.{◌≡◌, ◌++◌, ◌∷◌, [], ◌+◌, ◌-◌, ◌^◌, ◌<◌, ◌≤◌, ℕ, List, IfOk};
+ghost use Rattle.reg_outcomes.specs.Interleavings.{Interleaving};
+ghost use Rattle.reg_outcomes.specs.PlayTables.{Seen};
 ghost use Rattle.reg_outcomes.specs.Counts.{IsCounted};
 ghost use Rattle.reg_outcomes.specs.Outcomes.{CountsUndrawn, TellsUndrawn};
 
+use crate::faults::InterleavingFault;
+use crate::few::few_outcomes;
+use crate::outcomes::Outcome;
 use crate::tallies::Tally;
-use reg_interleavings::{InterleavingFault, Outcome, ToldValue, few_outcomes};
+use crate::told::ToldValue;
 use reg_workload::Workload;
-use std::alloc::Allocator;
+use std::alloc::{AllocError, Allocator};
 use std::collections::BTreeMap;
 
 /// The most stages of a workload's scripts where the outcomes that no play had are counted.
@@ -56,15 +58,14 @@ pub(crate) fn count_undrawn<A: Allocator + Copy>(
     alloc: A,
     work: &Workload<A>,
     told: &BTreeMap<Vec<ToldValue, A>, Tally, A>,
-) -> Result<Option<usize>, InterleavingFault>
-    ensures told { IfOk result (λ o. (plays : List Seen) (unfinished : ℕ) → IsCounted (λ v. v.items) plays told.now unfinished → TellsUndrawn work.now.scripts work.now.shape.registers plays o) }
-    ensures why { IfErr result (λ f. f ≡ OutOfMemory) }
+) -> Result<Option<usize>, AllocError>
+    ensures { IfOk result (λ o. (plays : List Seen) (unfinished : ℕ) → IsCounted (λ v. v.items) plays told.now unfinished → TellsUndrawn work.now.scripts work.now.shape.registers plays o) }
 {
     let scripts = work.scripts.as_slice();
     let registers = work.shape.registers() as u16;
     match few_outcomes(alloc, scripts, registers, MOST_COUNTED_STAGES) {
         Ok(all) => Ok(Some(undrawn_of(told, all.list.as_slice()))),
         Err(InterleavingFault::TooManyStages) => Ok(None),
-        Err(InterleavingFault::OutOfMemory) => Err(InterleavingFault::OutOfMemory),
+        Err(InterleavingFault::OutOfMemory) => Err(AllocError),
     }
 }

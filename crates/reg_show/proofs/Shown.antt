@@ -3,11 +3,11 @@ use Rattle.std.proofs.Common.{ℕ, ◌≡◌, List, length, Option, Result, Ok, 
 use Rattle.std.specs.Prelude.{IfOk, IsErrOf, MatchResult}
 use Rattle.std.specs.List.{sum_by}
 use Rattle.reg_base.specs.declared.memory.Op.{Op}
-use Rattle.reg_interleavings.specs.declared.told.ToldValue.{ToldValue}
-use Rattle.reg_interleavings.specs.declared.nevers.TheConstants.{MOST_NEVERS}
-use Rattle.reg_interleavings.specs.AllText.{ShowsAll, all_text}
-use Rattle.reg_interleavings.specs.Interleavings.{AreAll, CountsStages, Interleaving}
-use Rattle.reg_interleavings.specs.Nevers.{TellsNevers, tells}
+use Rattle.reg_outcomes.specs.declared.told.ToldValue.{ToldValue}
+use Rattle.reg_outcomes.specs.declared.nevers.TheConstants.{MOST_NEVERS}
+use Rattle.reg_outcomes.specs.AllText.{ShowsAll, all_text}
+use Rattle.reg_outcomes.specs.Interleavings.{AreAll, CountsStages, Interleaving}
+use Rattle.reg_outcomes.specs.Nevers.{TellsNevers, tells}
 
 pub if_sent : {X E R : Type 0} (P : Type 0) (Q : E → Type 0) (r : Result X E) → (P → R) → MatchResult r (λ _. P) Q → IfOk r (λ _. R)
 if_sent P Q (Ok x) to h = to h

@@ -10,8 +10,8 @@ use Rattle.reg_world.specs.Worlds.{Made, run_in}
 use Rattle.reg_inputs.specs.Loads.{IsLoad, Load}
 use Rattle.reg_inputs.specs.Schedules.{Plan}
 use Rattle.reg_inputs.specs.ScheduleText.{schedule_text}
-use Rattle.reg_interleavings.specs.Interleavings.{Interleaving}
-use Rattle.reg_interleavings.specs.Showing.{IsRunOf}
+use Rattle.reg_outcomes.specs.Interleavings.{Interleaving}
+use Rattle.reg_outcomes.specs.Showing.{IsRunOf}
 use Rattle.reg_show.specs.OneOutcome.{SendsRun}
 use Rattle.reg_show.specs.ToldRuns.{EventHasBits}
 use Rattle.reg_show.proofs.Accepted.{made_plan, made_schedule}

@@ -4,7 +4,7 @@ use Rattle.reg_commands.specs.Answers.{Blames}
 use Rattle.reg_commands.specs.Plays.{Holds}
 use Rattle.reg_commands.specs.declared.command.Command.TheVariants.{Play}
 use Rattle.reg_inputs.specs.Loads.{Load}
-use Rattle.reg_interleavings.specs.AllText.{ShowsAll}
+use Rattle.reg_outcomes.specs.AllText.{ShowsAll}
 use Rattle.reg_show.specs.OneOutcome.{IsTooWide, SaysSome}
 use Rattle.reg_show.specs.declared.faults.SearchFault.{SearchFault}
 use Rattle.reg_show.specs.declared.faults.SearchFault.TheVariants.{Command, TooManyStages}

@@ -11,10 +11,10 @@ use Rattle.reg_commands.specs.declared.command.Command.TheVariants.{Play}
 use Rattle.reg_commands.specs.declared.faults.Fault.TheVariants.{OutOfMemory}
 use Rattle.reg_inputs.specs.Loads.{Load}
 use Rattle.reg_inputs.specs.ScheduleText.{IsScheduleText, schedule_text}
-use Rattle.reg_interleavings.specs.Finishing.{HasRoom}
-use Rattle.reg_interleavings.specs.Interleavings.{AreAll, Interleaving, IsWider}
-use Rattle.reg_interleavings.specs.Showing.{IsRunOf}
-use Rattle.reg_interleavings.specs.declared.outcomes.TheConstants.{MOST_STAGES}
+use Rattle.reg_outcomes.specs.Finishing.{HasRoom}
+use Rattle.reg_outcomes.specs.Interleavings.{AreAll, Interleaving, IsWider}
+use Rattle.reg_outcomes.specs.Showing.{IsRunOf}
+use Rattle.reg_outcomes.specs.declared.outcomes.TheConstants.{MOST_STAGES}
 use Rattle.reg_show.specs.declared.one_outcome.OutcomeFault.{OutcomeFault}
 use Rattle.reg_show.specs.declared.one_outcome.OutcomeFault.TheVariants.{Command, NoSuchOutcome, TooManyEvents, TooManyStages}
 use Rattle.reg_world.specs.Worlds.{Made}

@@ -7,7 +7,7 @@ use Rattle.reg_commands.specs.declared.command.Command.TheVariants.{Play}
 use Rattle.reg_commands.specs.declared.faults.Fault.TheVariants.{Output, OutOfMemory}
 use Rattle.reg_front.specs.declared.starts.Start.{Start}
 use Rattle.reg_outcomes.specs.Outcomes.{AreOutcomes, IsWiderPlay, seed_at}
-use Rattle.reg_outcomes.specs.Tables.{Line}
+use Rattle.reg_outcomes.specs.PlayTables.{Line}
 use Rattle.reg_outcomes.specs.TableText.{table_text}
 use Rattle.reg_inputs.specs.Loads.{Load}
 use Rattle.reg_show.specs.OneOutcome.{SaysSome}

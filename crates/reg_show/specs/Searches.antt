@@ -2,8 +2,8 @@
 use Rattle.std.specs.Prelude.{ℕ, List, [], ◌∷◌, ◌++◌, codes}
 use Rattle.reg_commands.specs.FaultLines.{fault_line}
 use Rattle.reg_commands.specs.declared.faults.Fault.TheVariants.{OutOfMemory}
-use Rattle.reg_interleavings.specs.declared.faults.InterleavingFault.{InterleavingFault}
-use Rattle.reg_interleavings.specs.declared.faults.InterleavingFault.TheVariants.{TooManyStages as StagesFault, OutOfMemory as MemoryFault}
+use Rattle.reg_outcomes.specs.declared.faults.InterleavingFault.{InterleavingFault}
+use Rattle.reg_outcomes.specs.declared.faults.InterleavingFault.TheVariants.{TooManyStages as StagesFault, OutOfMemory as MemoryFault}
 use Rattle.reg_show.specs.declared.faults.SearchFault.{SearchFault}
 use Rattle.reg_show.specs.declared.faults.SearchFault.TheVariants.{Command, TooManyStages}
 

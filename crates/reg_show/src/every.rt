@@ -4,9 +4,9 @@ ghost use Rattle.std.specs.Option.{option_map};
 ghost use Rattle.std.specs.Io.KnownBytes.{Appends};
 ghost use Rattle.reg_base.specs.declared.limits.TheConstants.{LONGEST_INPUT};
 ghost use Rattle.reg_text.specs.Writing.{AppendsPart};
-ghost use Rattle.reg_interleavings.specs.AllText.{ShowsAll, all_text};
-ghost use Rattle.reg_interleavings.specs.Interleavings.{IsWider};
-ghost use Rattle.reg_interleavings.specs.declared.outcomes.TheConstants.{MOST_STAGES};
+ghost use Rattle.reg_outcomes.specs.AllText.{ShowsAll, all_text};
+ghost use Rattle.reg_outcomes.specs.Interleavings.{IsWider};
+ghost use Rattle.reg_outcomes.specs.declared.outcomes.TheConstants.{MOST_STAGES};
 ghost use Rattle.reg_show.specs.AllOutcomes.{BlamesAll, WritesAll};
 ghost use Rattle.reg_show.specs.Searches.{search_line};
 ghost use Rattle.reg_show.specs.declared.faults.SearchFault.{SearchFault as AnyFault};
@@ -14,7 +14,7 @@ ghost use Rattle.reg_show.specs.declared.faults.SearchFault.{SearchFault as AnyF
 use crate::faults::SearchFault;
 use crate::searching::write_search_fault;
 use reg_commands::{Fault, read_input, read_workload};
-use reg_interleavings::{
+use reg_outcomes::{
     AllOutcomes, MOST_STAGES, ToldValue, all_outcomes, count_operations, nevers_of, write_all,
 };
 use reg_workload::Workload;

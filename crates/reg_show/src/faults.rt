@@ -1,6 +1,6 @@
 //! Why nothing is shown.
 use reg_commands::Fault;
-use reg_interleavings::InterleavingFault;
+use reg_outcomes::InterleavingFault;
 use std::alloc::AllocError;
 use thiserror::Error;
 

@@ -14,7 +14,7 @@ use crate::searching::write_search_fault;
 use reg_checkers::ids_of_points;
 use reg_commands::{Fault, read_input, read_report_text, write_out};
 use reg_history::Report;
-use reg_interleavings::{MOST_STAGES, OrderKind, find_points, find_serial};
+use reg_outcomes::{MOST_STAGES, OrderKind, find_points, find_serial};
 use std::alloc::Allocator;
 use std::io::{Read, Write};
 

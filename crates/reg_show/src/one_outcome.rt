@@ -4,17 +4,17 @@ ghost use Rattle.std.specs.Io.KnownBytes.{Appends};
 ghost use Rattle.reg_base.specs.declared.limits.TheConstants.{LONGEST_INPUT};
 ghost use Rattle.reg_text.specs.Writing.{AppendsPart};
 ghost use Rattle.reg_commands.specs.Replays.{start_of};
-ghost use Rattle.reg_interleavings.specs.Finishing.{HasRoom};
-ghost use Rattle.reg_interleavings.specs.Interleavings.{AreAll, IsInterleaving, IsWider};
-ghost use Rattle.reg_interleavings.specs.Showing.{IsRunOf};
-ghost use Rattle.reg_interleavings.specs.declared.outcomes.TheConstants.{MOST_STAGES};
+ghost use Rattle.reg_outcomes.specs.Finishing.{HasRoom};
+ghost use Rattle.reg_outcomes.specs.Interleavings.{AreAll, IsInterleaving, IsWider};
+ghost use Rattle.reg_outcomes.specs.Showing.{IsRunOf};
+ghost use Rattle.reg_outcomes.specs.declared.outcomes.TheConstants.{MOST_STAGES};
 ghost use Rattle.reg_show.specs.OneOutcome.{BlamesOutcome, Lacks, SendsRun, WritesOutcome, outcome_line};
 ghost use Rattle.reg_show.specs.declared.one_outcome.OutcomeFault.{OutcomeFault as AnyFault};
 
 use crate::scheduling::{events_have_bits, send};
 use reg_commands::{Fault, read_input, read_workload, write_fault};
 use reg_front::{Front, FrontEnd, Linear, LocalRead, LocalWrite};
-use reg_interleavings::{
+use reg_outcomes::{
     AllOutcomes, InterleavingFault, MOST_STAGES, Outcome, TurnsFault, all_outcomes, run_outcome,
 };
 use reg_text::{Unwritten, write_bytes};

@@ -12,7 +12,7 @@ use Rattle.clap.specs.declared.Error.{Error}
 use Rattle.clap.specs.declared.error.ErrorKind.{ErrorKind}
 use Rattle.clap.specs.declared.error.ErrorKind.TheVariants.{DisplayHelp, InvalidSubcommand, OutOfMemory as NoMemory, UnknownArgument}
 use Rattle.clap.proofs.OnLiterals.{clap_on_literals}
-use Rattle.reg_interleavings.specs.declared.kinds.OrderKind.{OrderKind}
+use Rattle.reg_outcomes.specs.declared.kinds.OrderKind.{OrderKind}
 use Rattle.reg_show.specs.declared.Player.{Player}
 use Rattle.reg_show.specs.declared.Showing.{Showing}
 use Rattle.reg_args.specs.Lines.{is_flag, may_ask_help}

@@ -8,8 +8,8 @@ use Rattle.clap.specs.Words.{Text}
 use Rattle.reg_outcomes.specs.declared.plays.TheConstants.{MOST_PLAYS}
 use Rattle.reg_show_cli.specs.declared.words.Asked.{Asked}
 use Rattle.reg_show_cli.specs.declared.words.Asked.TheVariants.{AllOutcomes, Find, Help, Outcome, Outcomes, Schedule, Show, Verify, Version, Why}
-use Rattle.reg_interleavings.specs.declared.kinds.OrderKind.{OrderKind}
-use Rattle.reg_interleavings.specs.declared.kinds.OrderKind.TheVariants.{Serial, Points}
+use Rattle.reg_outcomes.specs.declared.kinds.OrderKind.{OrderKind}
+use Rattle.reg_outcomes.specs.declared.kinds.OrderKind.TheVariants.{Serial, Points}
 use Rattle.reg_show.specs.declared.Player.{Player}
 use Rattle.reg_show_cli.specs.Lines.{IsAllLine, IsAnswer, IsAskedLine, IsChoice, IsCommandLine, IsFindLine, IsOneOutcomeLine, IsOutcomesLine, IsScheduleLine, IsVerifyLine, IsVersionLine, IsWhyLine, NumbersFit, SaysPlays}
 use Rattle.reg_args.specs.declared.faults.WordsFault.{WordsFault}

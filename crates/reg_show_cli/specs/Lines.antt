@@ -10,8 +10,8 @@ use Rattle.reg_show.specs.Seeds.{IsSeed, seed_of}
 use Rattle.reg_show.specs.declared.Player.{Player}
 use Rattle.reg_show.specs.declared.Player.TheVariants.{Fair, Seeded}
 use Rattle.reg_args.specs.Lines.{may_ask_help}
-use Rattle.reg_interleavings.specs.declared.kinds.OrderKind.{OrderKind}
-use Rattle.reg_interleavings.specs.declared.kinds.OrderKind.TheVariants.{Serial, Points}
+use Rattle.reg_outcomes.specs.declared.kinds.OrderKind.{OrderKind}
+use Rattle.reg_outcomes.specs.declared.kinds.OrderKind.TheVariants.{Serial, Points}
 use Rattle.reg_show_cli.specs.declared.asking.TheConstants.{LAST_OUTCOME}
 use Rattle.reg_show_cli.specs.declared.flags.TheConstants.{USUAL_PLAYS}
 use Rattle.reg_show_cli.specs.declared.words.Asked.{Asked}

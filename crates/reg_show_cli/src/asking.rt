@@ -3,14 +3,14 @@
 //! `why`, `verify` and `--version`. All others are read by `clap`.
 ghost use Rattle.std.specs.Prelude.{◌≡◌, ◌↔◌, ◌∷◌, [], ℕ, MatchOption, Option, Some, map, true, slice_get, string_bytes};
 ghost use Rattle.reg_args.specs.Lines.{behind_name};
-ghost use Rattle.reg_interleavings.specs.declared.kinds.OrderKind.{OrderKind as AnyKind};
+ghost use Rattle.reg_outcomes.specs.declared.kinds.OrderKind.{OrderKind as AnyKind};
 ghost use Rattle.reg_show.specs.declared.Player.{Player as AnyPlayer};
 ghost use Rattle.reg_show_cli.specs.Lines.{IsAllLine, IsChoice, IsFindLine, IsOneOutcomeLine, IsOutcomesLine, IsScheduleLine};
 
 use crate::flags::{Plays, behind, line_of, number_alone, player_said, plays_said};
 use crate::words::{Asked, choose};
 use reg_args::WordsFault;
-use reg_interleavings::OrderKind;
+use reg_outcomes::OrderKind;
 use reg_show::Player;
 use std::alloc::Global;
 

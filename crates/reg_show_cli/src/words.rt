@@ -9,7 +9,7 @@ ghost use Rattle.reg_show_cli.specs.Lines.{IsAnswer, name_of};
 
 use clap::error::ErrorKind;
 use reg_args::{WordsFault, has_dashes, met};
-use reg_interleavings::OrderKind;
+use reg_outcomes::OrderKind;
 use reg_show::{Player, Showing};
 use std::alloc::{AllocError, Global};
 

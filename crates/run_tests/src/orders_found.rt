@@ -3,7 +3,7 @@ use part_tests::values::{READ, WRITE_FIVE, answered, called, id};
 use refusing::{Trial, refusals};
 use reg_base::{Answer, Op, OpId, Shape};
 use reg_history::{Entry, History, Point, check_points, check_serial};
-use reg_interleavings::{InterleavingFault, find_points, find_serial};
+use reg_outcomes::{InterleavingFault, find_points, find_serial};
 use std::alloc::{Allocator, Global};
 use std::process::Abort;
 use std::test::Fail;

@@ -1,5 +1,5 @@
 //! Orders of a report's history, by the command that finds them: texts worked out by hand, and refusals.
-use reg_interleavings::OrderKind;
+use reg_outcomes::OrderKind;
 use reg_show::find_order;
 use std::alloc::Global;
 use std::process::Abort;

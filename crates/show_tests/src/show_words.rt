@@ -1,6 +1,6 @@
 //! Which command lines of `awshow` are taken, and how a refused one is told.
 use crate::lines::words_of;
-use reg_interleavings::OrderKind;
+use reg_outcomes::OrderKind;
 use reg_show_cli::{Asked, Player, Showing, WordsFault, ask, refuse};
 use std::alloc::Global;
 use std::process::Abort;

@@ -3,7 +3,7 @@ use Rattle.reg_base.specs.declared.memory.OpId.{OpId}
 use Rattle.reg_base.specs.Shape.{Extent}
 use Rattle.reg_checkers.specs.Orders.{IsSerial}
 use Rattle.reg_outcomes.specs.Counts.{finished_play}
-use Rattle.reg_outcomes.proofs.Playing.{linear_by, told_by}
+use Rattle.reg_outcomes.proofs.PlaysSeen.{linear_by, told_by}
 use Rattle.reg_outcomes.proofs.plays.count_finished.Goals as goal
 
 pub is_linearizable-requires : goal.is_linearizable-requires

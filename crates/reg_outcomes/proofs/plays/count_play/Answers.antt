@@ -1,9 +1,9 @@
 use Rattle.std.proofs.Common.{sym, ◌∙◌}
-use Rattle.reg_outcomes.proofs.Playing.{finished_where_answered, is_play_from, on_ok, play_fault, seen_finished, seen_unfinished}
+use Rattle.reg_outcomes.proofs.PlaysSeen.{finished_where_answered, is_play_from, on_ok, play_fault, seen_finished, seen_unfinished}
 use Rattle.std.proofs.lemmas.Result.{IfErr-weaker}
-use Rattle.reg_interleavings.specs.declared.kinds.OrderKind.TheVariants.{Points}
-use Rattle.reg_interleavings.specs.declared.outcomes.TheConstants.{MOST_STAGES}
-use Rattle.reg_interleavings.specs.Finding.{IsFindFault}
+use Rattle.reg_outcomes.specs.declared.kinds.OrderKind.TheVariants.{Points}
+use Rattle.reg_outcomes.specs.declared.outcomes.TheConstants.{MOST_STAGES}
+use Rattle.reg_outcomes.specs.Finding.{IsFindFault}
 use Rattle.reg_outcomes.specs.Outcomes.{IsPlayFault}
 use Rattle.reg_outcomes.proofs.plays.count_play.Goals as goal
 

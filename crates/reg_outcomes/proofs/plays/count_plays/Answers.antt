@@ -4,7 +4,7 @@ use Rattle.std.proofs.lemmas.Result.{err_from_is_err_and}
 use Rattle.reg_inputs.specs.Loads.{IsLoad}
 use Rattle.reg_outcomes.proofs.Counting.{has_room}
 use Rattle.reg_outcomes.specs.Outcomes.{AreSeen, IsPlayFault, IsSeen, seed_at}
-use Rattle.reg_outcomes.proofs.Playing.{plays_fault, seen_next, unfinished_few}
+use Rattle.reg_outcomes.proofs.PlaysSeen.{plays_fault, seen_next, unfinished_few}
 use Rattle.reg_outcomes.proofs.plays.count_plays.Goals as goal
 
 pub count_play-requires-clause-told : goal.count_play-requires-clause-told

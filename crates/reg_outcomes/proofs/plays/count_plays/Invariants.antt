@@ -1,5 +1,5 @@
 use Rattle.std.proofs.Common.{◌≡◌, List}
-use Rattle.reg_outcomes.specs.Tables.{Seen}
+use Rattle.reg_outcomes.specs.PlayTables.{Seen}
 use Rattle.reg_outcomes.specs.Counts.{IsCounted}
 use Rattle.reg_outcomes.specs.Outcomes.{AreSeen}
 use Rattle.reg_outcomes.proofs.plays.count_plays.Given as goal

@@ -8,5 +8,5 @@ returns-clause-told g c =
       known = counted.1;
       table = c.in_ok-rows.ensures counted.0 c.in_ok-tallies.tallies.unfinished counted.2;
       rest = counted.2.others;
-      left = c.in_ok-undrawn.ensures.told counted.0 c.in_ok-tallies.tallies.unfinished counted.2;
+      left = c.in_ok-undrawn.ensures counted.0 c.in_ok-tallies.tallies.unfinished counted.2;
     }

@@ -1,6 +1,6 @@
 use Rattle.std.proofs.Common.{List, subst}
 use Rattle.std.specs.List.Sorted.{IsPermutation}
-use Rattle.reg_outcomes.specs.Tables.{Line}
+use Rattle.reg_outcomes.specs.PlayTables.{Line}
 use Rattle.reg_outcomes.proofs.Lining.{is_table}
 use Rattle.reg_outcomes.proofs.rows.table_of.Goals as goal
 

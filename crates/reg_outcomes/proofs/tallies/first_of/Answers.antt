@@ -1,7 +1,7 @@
 use Rattle.std.proofs.Common.{Option, None, ℕ, sym, ◌∙◌, subst}
 use Rattle.std.proofs.lemmas.Bool.{false≢true}
 use Rattle.reg_outcomes.specs.Counts.{finished_play}
-use Rattle.reg_outcomes.specs.Tables.{IsFirst}
+use Rattle.reg_outcomes.specs.PlayTables.{IsFirst}
 use Rattle.reg_outcomes.proofs.Counting.{first_more, first_not, first_now}
 use Rattle.reg_outcomes.proofs.tallies.first_of.Goals as goal
 

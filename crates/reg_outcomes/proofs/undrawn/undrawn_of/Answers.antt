@@ -1,8 +1,8 @@
 use Rattle.std.proofs.Common.{List, length, take, refl, sym, subst, arith, take_all}
 use Rattle.std.proofs.lemmas.Option.{slice_get_read}
 use Rattle.reg_checkers.specs.History.{IsAt}
-use Rattle.reg_interleavings.specs.Interleavings.{Interleaving}
-use Rattle.reg_interleavings.proofs.Elements.{take_at}
+use Rattle.reg_outcomes.specs.Interleavings.{Interleaving}
+use Rattle.reg_outcomes.proofs.Elements.{take_at}
 use Rattle.reg_outcomes.specs.Outcomes.{CountsUndrawn}
 use Rattle.reg_outcomes.proofs.Absent.{absent_none}
 use Rattle.reg_outcomes.proofs.undrawn.undrawn_of.Goals as goal

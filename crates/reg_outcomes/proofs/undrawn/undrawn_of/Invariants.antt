@@ -1,5 +1,5 @@
 use Rattle.std.proofs.Common.{ℕ, ◌≤◌, List, take}
-use Rattle.reg_outcomes.specs.Tables.{Seen}
+use Rattle.reg_outcomes.specs.PlayTables.{Seen}
 use Rattle.reg_outcomes.specs.Counts.{IsCounted}
 use Rattle.reg_outcomes.specs.Outcomes.{CountsUndrawn}
 use Rattle.reg_outcomes.proofs.undrawn.undrawn_of.Given as goal

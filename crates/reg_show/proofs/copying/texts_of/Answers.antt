@@ -1,7 +1,7 @@
 use Rattle.std.proofs.Common.{ℕ, List, [], ◌∷◌, ◌++◌, string_bytes, ap, ap₂, sym, ◌∙◌, arith}
 use Rattle.std.proofs.lemmas.List.{map-append, take_all}
 use Rattle.reg_base.specs.Names.{names_fault, texts}
-use Rattle.reg_interleavings.proofs.Elements.{take_at as first_and_next}
+use Rattle.reg_outcomes.proofs.Elements.{take_at as first_and_next}
 use Rattle.reg_show.proofs.copying.texts_of.Goals as goal
 
 pub loop-register-preserved : goal.loop-register-preserved

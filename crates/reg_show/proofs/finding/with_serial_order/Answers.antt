@@ -1,7 +1,7 @@
 use Rattle.std.proofs.Common.{List}
 use Rattle.reg_base.specs.declared.memory.OpId.{OpId}
 use Rattle.reg_checkers.specs.Orders.{IsSerial}
-use Rattle.reg_interleavings.proofs.Pointing.{if_none}
+use Rattle.reg_outcomes.proofs.Pointing.{if_none}
 use Rattle.reg_show.proofs.Reordering.{serial_here}
 use Rattle.reg_show.proofs.finding.with_serial_order.Goals as goal
 

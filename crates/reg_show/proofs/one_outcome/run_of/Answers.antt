@@ -2,8 +2,8 @@ use Rattle.std.proofs.Common.{List, map, sym, subst}
 use Rattle.std.specs.Prelude.{Vec}
 use Rattle.reg_base.specs.declared.memory.Op.{Op}
 use Rattle.reg_inputs.specs.Loads.{Load}
-use Rattle.reg_interleavings.specs.Interleavings.{ArePlayable}
-use Rattle.reg_interleavings.proofs.Playable.{playable}
+use Rattle.reg_outcomes.specs.Interleavings.{ArePlayable}
+use Rattle.reg_outcomes.proofs.Playable.{playable}
 use Rattle.reg_show.proofs.one_outcome.run_of.Goals as goal
 
 pub run_outcome-requires-clause-playable : goal.run_outcome-requires-clause-playable

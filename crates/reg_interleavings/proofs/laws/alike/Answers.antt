@@ -1,8 +1,0 @@
-use Rattle.reg_interleavings.proofs.BothWays.{alike, have_all}
-use Rattle.reg_interleavings.proofs.laws.alike.Goals as goal
-
-pub returns-clause-all : goal.returns-clause-all
-returns-clause-all c = have_all
-
-pub returns-clause-alike : goal.returns-clause-alike
-returns-clause-alike c = alike

@@ -1,7 +1,0 @@
-use Rattle.std.proofs.Common.{take}
-use Rattle.reg_interleavings.specs.Tables.{IsTable, lists_of}
-use Rattle.reg_interleavings.proofs.tables.table_of.Given as goal
-
--- the table of the entries so far
-abbrev pub invariant-loop-i : goal.invariant-loop-i
-invariant-loop-i g l = IsTable l.shape.processes (take l.i l.entries) (lists_of l.table.invocations.items) (lists_of l.table.responses.items)

@@ -1,7 +1,0 @@
-use Rattle.std.proofs.Common.{◌≡◌, ◌++◌, take}
-use Rattle.reg_interleavings.specs.Told.{told_of}
-use Rattle.reg_interleavings.proofs.told.tell_process.Given as goal
-
--- what the entries so far told
-abbrev pub invariant-loop-entry : goal.invariant-loop-entry
-invariant-loop-entry g l = l.outcome.items ≡ l.initial.outcome.items ++ told_of l.process (take l.entry-index l.entries)

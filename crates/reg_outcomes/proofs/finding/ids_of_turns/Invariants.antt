@@ -1,0 +1,10 @@
+use Rattle.std.proofs.Common.{◌≡◌, ◌++◌, drop, length, replicate}
+use Rattle.reg_outcomes.specs.Placing.{ids_along}
+use Rattle.reg_outcomes.proofs.finding.ids_of_turns.Given as goal
+
+-- the ids so far, and those of the turns that are left
+abbrev pub invariant-loop-k : goal.invariant-loop-k
+invariant-loop-k g l = record {
+  ids : l.ids.items ++ ids_along l.next.items (drop l.k l.turns) ≡ ids_along (replicate l.processes 0) l.turns;
+  size : length l.next.items ≡ l.processes;
+}

@@ -1,0 +1,17 @@
+use Rattle.std.proofs.lemmas.Option.{slice_get-get_or}
+use Rattle.reg_base.specs.declared.memory.OpId.{OpId}
+use Rattle.reg_outcomes.proofs.Pointing.{pointing_more}
+use Rattle.reg_outcomes.proofs.finding.points_of.Goals as goal
+
+-- what a read past the end would give
+abbrev blank : OpId
+blank = record { process = 0; number = 0 }
+
+pub event_of_call-requires : goal.event_of_call-requires
+event_of_call-requires g c = c.requires.called c.loop-k.k _ (slice_get-get_or c.args.ids.now c.loop-k.k blank c.loop-k-test.true)
+
+pub loop-k-preserved : goal.loop-k-preserved
+loop-k-preserved g c =
+    let s = c.args.finder.now in
+    let call = c.event_of_call.ensures in
+    pointing_more s.shape.processes s.shape.registers s.entries c.requires.history c.args.ids.now c.loop-k.k c.loop-k.at c.loop-k.points.items c.loop-k.invariant _ (slice_get-get_or c.args.ids.now c.loop-k.k blank c.loop-k-test.true) c.event_of_call.result call.0 call.1 c.latest-at.result c.latest-at.ensures c.push.new.self.items c.in_ok-push.ensures.items

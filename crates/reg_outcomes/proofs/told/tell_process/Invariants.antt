@@ -1,0 +1,7 @@
+use Rattle.std.proofs.Common.{◌≡◌, ◌++◌, take}
+use Rattle.reg_outcomes.specs.Told.{told_of}
+use Rattle.reg_outcomes.proofs.told.tell_process.Given as goal
+
+-- what the entries so far told
+abbrev pub invariant-loop-entry : goal.invariant-loop-entry
+invariant-loop-entry g l = l.outcome.items ≡ l.initial.outcome.items ++ told_of l.process (take l.entry-index l.entries)

@@ -1,0 +1,100 @@
+//! Where interleaved scripts stand.
+ghost use Rattle.std.specs.Prelude.{◌≡◌, ◌<◌, ◌≤◌, ◌-◌, length, slice_get, slice_index, map, IfOk, OnOk, insert};
+ghost use Rattle.reg_base.specs.Memory.{after, register_of};
+ghost use Rattle.reg_outcomes.specs.declared.told.ToldValue.{ToldValue as AnyValue};
+ghost use Rattle.reg_outcomes.specs.Interleavings.{first_stage, script_of, stage_after, told_after, told_behind};
+ghost use Rattle.reg_outcomes.specs.Layers.{stage_of};
+
+use crate::told::ToldValue;
+use reg_base::{Answer, Op, OpId};
+use std::alloc::{AllocError, Allocator, Global};
+
+/// Where interleaved scripts stand.
+#[derive(Drop)]
+#[derive_where(PartialEq, Eq, PartialOrd, Ord)]
+pub(crate) struct Stage<A: Allocator + Copy = Global> {
+    /// How many operations of each script are behind.
+    pub(crate) next: Vec<u32, A>,
+    /// The value of each register.
+    pub(crate) memory: Vec<u64, A>,
+    /// What the operations behind told, in the order of an outcome.
+    pub(crate) told: Vec<ToldValue, A>,
+}
+
+/// The place behind all that a process and those before it were told.
+fn place_behind(told: &[ToldValue], process: u8) -> usize
+    ensures within { result ≤ length told.now }
+    ensures place { (t : AnyValue) → t.process ≡ process → insert told.now result t ≡ told_behind t told.now }
+{
+    for (place, value) in told.iter().enumerate() {
+        if process < value.process {
+            return place;
+        }
+    }
+    told.len()
+}
+
+/// Tells the value of an answer, if it has one.
+fn tell<A: Allocator + Copy>(
+    told: &mut Vec<ToldValue, A>,
+    id: OpId,
+    answer: Answer,
+) -> Result<(), AllocError>
+    ensures { OnOk result (told.new.items ≡ told_after id answer told.old.items) }
+{
+    match answer {
+        Answer::Done => Ok(()),
+        Answer::Value(value) => {
+            let OpId { process, number } = id;
+            let place = place_behind(told, process);
+            told.insert(
+                place,
+                ToldValue {
+                    process,
+                    number,
+                    value,
+                },
+            )?;
+            Ok(())
+        }
+    }
+}
+
+impl<A: Allocator + Copy> Stage<A> {
+    /// No operation is behind.
+    pub(crate) fn first(alloc: A, processes: usize, registers: u16) -> Result<Stage<A>, AllocError>
+        ensures { IfOk result (λ s. stage_of s ≡ first_stage processes registers) }
+    {
+        let next = vec![in alloc; 0; processes]?;
+        let memory = vec![in alloc; 0; usize::from(registers)]?;
+        let told = Vec::new(alloc);
+        Ok(Stage { next, memory, told })
+    }
+
+    /// The next operation of a process, None where its script is used up.
+    pub(crate) fn next_op(&self, scripts: &[Vec<Op, A>], process: u8) -> Option<Op>
+        requires script { process < length scripts.now }
+        requires process { process < length self.now.next.items }
+        ensures { result ≡ slice_get (script_of (map (λ v. v.items) scripts.now) process) (slice_index self.now.next.items process) }
+    {
+        let number = self.next[usize::from(process)];
+        scripts[usize::from(process)].get(number as usize).copied()
+    }
+
+    /// The stage after a process did this operation, its next one.
+    pub(crate) fn after(&self, alloc: A, process: u8, op: Op) -> Result<Stage<A>, AllocError>
+        requires process { process < length self.now.next.items }
+        requires register { register_of op < length self.now.memory.items }
+        requires number { slice_index self.now.next.items process < u32.MAX }
+        ensures { IfOk result (λ s. stage_of s ≡ stage_after process op (stage_of self.now)) }
+    {
+        let mut next = Vec::from_slice(alloc, self.next.as_slice())?;
+        let mut memory = Vec::from_slice(alloc, self.memory.as_slice())?;
+        let mut told = Vec::from_slice(alloc, self.told.as_slice())?;
+        let number = next[usize::from(process)];
+        next[usize::from(process)] = number + 1;
+        let answer = op.apply_to(&mut memory);
+        tell(&mut told, OpId { process, number }, answer)?;
+        Ok(Stage { next, memory, told })
+    }
+}
