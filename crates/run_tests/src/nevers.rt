@@ -1,8 +1,6 @@
 //! What no outcome tells though each of its values stands in some outcome, and the text of all outcomes: by hand.
 use reg_base::Op;
-use reg_outcomes::{
-    AllOutcomes, MOST_STAGES, all_outcomes, are_playable, nevers_of, write_all,
-};
+use reg_outcomes::{AllOutcomes, MOST_STAGES, all_outcomes, are_playable, nevers_of, write_all};
 use std::alloc::Global;
 use std::process::Abort;
 use std::test::Fail;
