@@ -1,11 +1,10 @@
--- What a turn leaves as it was: what is listed for the processes that its choice doesn't touch.
-use Rattle.std.proofs.Common.{◌≡◌, ℕ, suc, zero, ◌+◌, ◌<◌, Bool, not, List, [], Option, Some, None, refl, sym, ap, ◌∙◌, subst, inl, inr}
-use Rattle.std.specs.Prelude.{◌⊎◌, cond, ◌==◌, ◌&&◌, nat_lt, length, slice_get, slice_set, slice_index_or}
-use Rattle.std.specs.List.{flat_map, range_with_len}
+-- What a turn leaves as it was: what is listed for the processes and wires that its choice doesn't touch.
+use Rattle.std.proofs.Common.{◌≡◌, ℕ, suc, zero, ◌+◌, ◌^◌, ◌<◌, ◌≤◌, not, List, [], ◌∷◌, Option, Some, None, refl, sym, ap, ◌∙◌, subst, inl, inr}
+use Rattle.std.specs.Prelude.{cond, ◌==◌, ◌&&◌, nat_lt, length, slice_get, slice_set, slice_index_or}
 use Rattle.std.specs.Option.{is_some}
-use Rattle.std.proofs.lemmas.Bool.{cond_both}
+use Rattle.std.proofs.lemmas.Bool.{cond_both, cases_eq}
 use Rattle.std.proofs.lemmas.List.{get_or-set_other}
-use Rattle.reg_base.specs.declared.limits.TheConstants.{MOST_EVENTS, MOST_OPERATIONS}
+use Rattle.reg_base.specs.declared.limits.TheConstants.{MOST_EVENTS, MOST_OPERATIONS, MOST_PROCESSES}
 use Rattle.reg_base.specs.declared.memory.Op.{Op}
 use Rattle.reg_base.specs.Memory.{register_of}
 use Rattle.reg_frames.specs.declared.bodies.Frame.{Frame}
@@ -20,12 +19,13 @@ use Rattle.reg_world.specs.World.{World, move_of, moved}
 use Rattle.reg_world.specs.Worlds.{Made, run_in, with_event}
 use Rattle.reg_world.proofs.one_order.Acts.{put_cases}
 use Rattle.reg_world.proofs.run.Along.{one_more}
+use Rattle.reg_workload.specs.declared.choices.Chances.{Chances}
 use Rattle.reg_workload.specs.declared.choices.Choice.{Choice}
 use Rattle.reg_workload.specs.declared.choices.Choice.TheVariants.{Call as CallNext, Take as TakeNext, Tick as PutAgain}
-use Rattle.reg_workload.specs.Plays.{Playing, script_of, next_at, cursor_at, may_call, next_frame, next_op, pending_at, makes, calls_next, passes}
-use Rattle.reg_workload.specs.Seeded.{take_of, take_choice, take_choices_from, takes_next, takes_or_loses, chooses}
+use Rattle.reg_workload.specs.Plays.{Playing, script_of, next_at, cursor_at, may_call, next_frame, next_op, makes, calls_next, passes}
+use Rattle.reg_workload.specs.Seeded.{takes_next, chooses}
 use Rattle.reg_base.specs.Words.{says}
-use Rattle.reg_workload.specs.Listed.{Listing, no_listing, IsListed, AreListed, Touches}
+use Rattle.reg_workload.specs.Listed.{bit_of, may_take, may_tick, takes_at, AreListed, AreOthersListed, Acts, Passes}
 
 -- the process that an event changes
 abbrev actor : Event → ℕ
@@ -67,85 +67,110 @@ event_leaves start n registers w (Tick q) p ne =
 node_same : (start : Op → ℕ → Start) (m : Made) (e : Event) (p : ℕ) → (actor e ≡ p → ⊥) → (run_in start (with_event start m e)).nodes p ≡ (run_in start m).nodes p
 node_same start m e p ne = ap (λ (w : World). w.nodes p) (one_more start m.processes m.registers m.accepted e) ∙ event_leaves start m.processes m.registers (run_in start m) e p ne
 
--- all that is listed for a process is the same
+-- what a process can do is the same
 record Same (start : Op → ℕ → Start) (old new : Playing) (p : ℕ) : Type 0 where
   node : (run_in start new.made).nodes p ≡ (run_in start old.made).nodes p
   scripts : new.scripts ≡ old.scripts
   next : next_at new p ≡ next_at old p
-  row : slice_index_or new.cursors p [] ≡ slice_index_or old.cursors p []
-  processes : new.made.processes ≡ old.made.processes
 
-frame_in : Node → List ℕ → ℕ → ℕ → Option ℕ
-frame_in x row from to = cond (not (from == to) && nat_lt (slice_index_or row to 0) (length (x.wire to))) (Some (slice_index_or row to 0)) None
+frame_in : Node → ℕ → ℕ → ℕ → Option ℕ
+frame_in x cursor from to = cond (not (from == to) && nat_lt cursor (length (x.wire to))) (Some cursor) None
 
-takes_in : Node → List ℕ → ℕ → ℕ → List Choice
-takes_in x row from n = flat_map (λ to. take_of from to (frame_in x row from to)) (range_with_len 0 n)
+frame_is : (start : Op → ℕ → Start) (s : Playing) (p q : ℕ) → next_frame start s p q ≡ frame_in ((run_in start s.made).nodes p) (cursor_at s p q) p q
+unfolding frame_in
+frame_is start s p q = refl
 
-takes_are : (start : Op → ℕ → Start) (s : Playing) (p n : ℕ) → take_choices_from start s p n ≡ takes_in ((run_in start s.made).nodes p) (slice_index_or s.cursors p []) p n
-unfolding take_choices_from takes_in frame_in
-takes_are start s p n = refl
+-- and so is a wire
+abbrev SameCursor : Playing → Playing → ℕ → ℕ → Type 0
+SameCursor old new a b = cursor_at new a b ≡ cursor_at old a b
 
 module _ (start : Op → ℕ → Start) where
-  listed_again : (s t : Playing) (p : ℕ) (l : Listing) → Same start s t p → IsListed start s p l → IsListed start t p l
-  listed_again s t p l S L = record {
-    call = L.call ∙ sym (ap (λ k. nat_lt k (length (script_of t.scripts p)) && not (is_some ((run_in start t.made).nodes p).state.running)) S.next
-        ∙ (ap (λ (scripts : List (List Op)). nat_lt (next_at s p) (length (script_of scripts p)) && not (is_some ((run_in start t.made).nodes p).state.running)) S.scripts
-        ∙ ap (λ (x : Node). nat_lt (next_at s p) (length (script_of s.scripts p)) && not (is_some x.state.running)) S.node));
-    take = L.take ∙ sym (ap (take_choices_from start t p) S.processes ∙ (takes_are start t p s.made.processes
-        ∙ (ap (λ (x : Node). takes_in x (slice_index_or t.cursors p []) p s.made.processes) S.node
-        ∙ (ap (λ row. takes_in ((run_in start s.made).nodes p) row p s.made.processes) S.row ∙ sym (takes_are start s p s.made.processes)))));
-    tick = L.tick ∙ sym (ap (λ (x : Node). nat_lt 0 (pending_of x.state.peers)) S.node);
-  }
+  call_same : (s t : Playing) (p : ℕ) → Same start s t p → may_call start s p ≡ may_call start t p
+  call_same s t p S = sym (ap (λ k. nat_lt k (length (script_of t.scripts p)) && not (is_some ((run_in start t.made).nodes p).state.running)) S.next
+      ∙ (ap (λ (scripts : List (List Op)). nat_lt (next_at s p) (length (script_of scripts p)) && not (is_some ((run_in start t.made).nodes p).state.running)) S.scripts
+      ∙ ap (λ (x : Node). nat_lt (next_at s p) (length (script_of s.scripts p)) && not (is_some x.state.running)) S.node))
 
-  same_both : (s t u : Playing) (p : ℕ) → Same start s t p → Same start t u p → Same start s u p
-  same_both s t u p S T = record {
-    node = T.node ∙ S.node;
-    scripts = T.scripts ∙ S.scripts;
-    next = T.next ∙ S.next;
-    row = T.row ∙ S.row;
-    processes = T.processes ∙ S.processes;
-  }
+  tick_same : (s t : Playing) (p : ℕ) → Same start s t p → may_tick start s p ≡ may_tick start t p
+  tick_same s t p S = sym (ap (λ (x : Node). nat_lt 0 (pending_of x.state.peers)) S.node)
+
+  take_same : (s t : Playing) (p q : ℕ) → Same start s t p → cursor_at t p q ≡ cursor_at s p q → may_take start s p q ≡ may_take start t p q
+  take_same s t p q S e = ap is_some (frame_is start s p q
+      ∙ (sym (ap (λ (x : Node). frame_in x (cursor_at s p q) p q) S.node) ∙ (sym (ap (λ (k : ℕ). frame_in ((run_in start t.made).nodes p) k p q) e) ∙ sym (frame_is start t p q))))
 
   makes_same : (s : Playing) (e : Event) (p : ℕ) → (actor e ≡ p → ⊥) → Same start s (makes start s e) p
-  makes_same s e p ne = record { node = node_same start s.made e p ne; scripts = refl; next = refl; row = refl; processes = refl }
+  makes_same s e p ne = record { node = node_same start s.made e p ne; scripts = refl; next = refl }
 
   calls_same : (s : Playing) (q p : ℕ) → (q ≡ p → ⊥) → Same start s (calls_next start s q) p
   calls_same s q p ne = record {
     node = node_same start s.made (Call q (next_op s q)) p ne;
     scripts = refl;
     next = get_or-set_other s.next q p (next_at s q + 1) 0 (λ e. ne (sym e));
-    row = refl;
-    processes = refl;
   }
 
-  passes_same : (s : Playing) (from to p : ℕ) → (from ≡ p → ⊥) → Same start s (passes s from to) p
-  passes_same s from to p ne = record {
-    node = refl;
-    scripts = refl;
-    next = refl;
-    row = get_or-set_other s.cursors from p (slice_set (slice_index_or s.cursors from []) to (cursor_at s from to + 1)) [] (λ e. ne (sym e));
-    processes = refl;
-  }
+  passes_same : (s : Playing) (from to p : ℕ) → Same start s (passes s from to) p
+  passes_same s from to p = record { node = refl; scripts = refl; next = refl }
+
+  passes_cursor : (s : Playing) (from to a b : ℕ) → ((from ≡ a) × (to ≡ b) → ⊥) → cursor_at (passes s from to) a b ≡ cursor_at s a b
+  passes_cursor s from to a b ne = elim (cases_eq a from) [
+    | inl e ↦
+        let row = slice_index_or s.cursors from [] in
+        let here : cursor_at (passes s from to) from b ≡ cursor_at s from b =
+        set_cases (λ (xs : List ℕ). slice_index_or xs b 0 ≡ slice_index_or row b 0) s.cursors from (slice_set row to (cursor_at s from to + 1)) []
+        (get_or-set_other row to b (cursor_at s from to + 1) 0 (λ f. ne (sym e, sym f))) refl in
+        subst (λ (k : ℕ). cursor_at (passes s from to) k b ≡ cursor_at s k b) (sym e) here
+    | inr away ↦ ap (λ (xs : List ℕ). slice_index_or xs b 0) (get_or-set_other s.cursors from a (slice_set (slice_index_or s.cursors from []) to (cursor_at s from to + 1)) [] away)
+  ]
+    where
+      set_cases : {X : Type 0} (P : X → Type 0) (xs : List X) (i : ℕ) (v d : X) → P v → P (slice_index_or xs i d) → P (slice_index_or (slice_set xs i v) i d)
+      set_cases P [] i v d h p = p
+      set_cases P (x ∷ xs) zero v d h p = h
+      set_cases P (x ∷ xs) (suc i) v d h p = set_cases P xs i v d h p
 
   module _ {W : Type 0} (next_word : W → ℕ × W) (loss repeat : ℕ) where
-    takes_same : (s : Playing) (from to number : ℕ) (w : W) (p : ℕ) → (from ≡ p → ⊥) → (to ≡ p → ⊥) → Same start s (takes_next start next_word repeat s from to number w).0 p
-    takes_same s from to number w p nf nt =
+    takes_same : (s : Playing) (from to number : ℕ) (w : W) (p : ℕ) → (to ≡ p → ⊥) → Same start s (takes_next start next_word repeat s from to number w).0 p
+    takes_same s from to number w p ne =
         let t = makes start s (Take from to number) in
-        let made : Same start s t p = makes_same s (Take from to number) p nt in
-        cond_both (says repeat (next_word w).0) t (passes t from to) (λ u. Same start s u p) (λ _. made) (λ _. same_both s t (passes t from to) p made (passes_same t from to p nf))
+        let made : Same start s t p = makes_same s (Take from to number) p ne in
+        cond_both (says repeat (next_word w).0) t (passes t from to) (λ u. Same start s u p) (λ _. made) (λ _. record { node = made.node; scripts = made.scripts; next = made.next })
 
-    chooses_same : (s : Playing) (c : Choice) (w : W) (p : ℕ) → (Touches c p → ⊥) → Same start s (chooses start next_word loss repeat s c w).0 p
+    takes_cursor : (s : Playing) (from to number : ℕ) (w : W) (a b : ℕ) → ((from ≡ a) × (to ≡ b) → ⊥) → SameCursor s (takes_next start next_word repeat s from to number w).0 a b
+    takes_cursor s from to number w a b ne =
+        let t = makes start s (Take from to number) in
+        cond_both (says repeat (next_word w).0) t (passes t from to) (λ (u : Playing). cursor_at u a b ≡ cursor_at s a b) (λ _. refl) (λ _. passes_cursor t from to a b ne)
+
+    chooses_same : (s : Playing) (c : Choice) (w : W) (p : ℕ) → (Acts c p → ⊥) → Same start s (chooses start next_word loss repeat s c w).0 p
     unfolding chooses
     chooses_same s (CallNext q) w p ne = calls_same s q p ne
     chooses_same s (TakeNext from to number) w p ne = cond_both (says loss (next_word w).0) (passes s from to, (next_word w).1) (takes_next start next_word repeat s from to number (next_word w).1) (λ (x : Playing × W). Same start s x.0 p)
-        (λ _. passes_same s from to p (λ e. ne (inl e)))
-        (λ _. takes_same s from to number (next_word w).1 p (λ e. ne (inl e)) (λ e. ne (inr e)))
+        (λ _. passes_same s from to p)
+        (λ _. takes_same s from to number (next_word w).1 p ne)
     chooses_same s (PutAgain q) w p ne = makes_same s (Tick q) p ne
 
+    chooses_cursor : (s : Playing) (c : Choice) (w : W) (a b : ℕ) → (Passes c a b → ⊥) → SameCursor s (chooses start next_word loss repeat s c w).0 a b
+    unfolding chooses
+    chooses_cursor s (CallNext q) w a b ne = refl
+    chooses_cursor s (TakeNext from to number) w a b ne = cond_both (says loss (next_word w).0) (passes s from to, (next_word w).1) (takes_next start next_word repeat s from to number (next_word w).1) (λ (x : Playing × W). cursor_at x.0 a b ≡ cursor_at s a b)
+        (λ _. passes_cursor s from to a b ne)
+        (λ _. takes_cursor s from to number (next_word w).1 a b ne)
+    chooses_cursor s (PutAgain q) w a b ne = refl
+
     -- a choice that was made leaves what it doesn't touch
-    pub others_listed : (s t : Playing) (c : Choice) (w v : W) (ls : List Listing) → (t, v) ≡ chooses start next_word loss repeat s c w → AreListed start s ls → t.made.processes ≡ s.made.processes
-        → (p : ℕ) → p < t.made.processes → (Touches c p → ⊥) → IsListed start t p (slice_index_or ls p no_listing)
-    others_listed s t c w v ls is L n p l ne =
-        listed_again s t p (slice_index_or ls p no_listing)
-        (subst (λ (x : Playing × W). Same start s x.0 p) (sym is) (chooses_same s c w p ne))
-        (L.each p (subst (λ k. p < k) n l))
+    pub others_listed : (s t : Playing) (x : Choice) (w v : W) (c : Chances) → (t, v) ≡ chooses start next_word loss repeat s x w → AreListed start s c → t.made.processes ≡ s.made.processes → AreOthersListed start t x c
+    others_listed s t x w v c is L n = record {
+      processes = subst (λ (k : ℕ). k ≤ MOST_PROCESSES) (sym n) L.processes;
+      few_calls = subst (λ (k : ℕ). c.calls < 2 ^ k) (sym n) L.few_calls;
+      few_ticks = subst (λ (k : ℕ). c.ticks < 2 ^ k) (sym n) L.few_ticks;
+      few_takes = λ p l free. subst (λ (k : ℕ). takes_at c p < 2 ^ k) (sym n) (L.few_takes p (in_old p l) (λ a. a));
+      call = λ p l free. L.call p (in_old p l) (λ a. a) ∙ ap bit_of (call_same s t p (same p free));
+      tick = λ p l free. L.tick p (in_old p l) (λ a. a) ∙ ap bit_of (tick_same s t p (same p free));
+      take = λ p q lp lq free apart. L.take p q (in_old p lp) (in_old q lq) (λ a. a) (λ a. a) ∙ ap bit_of (take_same s t p q (same p free) (cursor p q apart));
+    }
+      where
+        in_old : (p : ℕ) → p < t.made.processes → p < s.made.processes
+        in_old p l = subst (λ (k : ℕ). p < k) n l
+
+        same : (p : ℕ) → (Acts x p → ⊥) → Same start s t p
+        same p free = subst (λ (y : Playing × W). Same start s y.0 p) (sym is) (chooses_same s x w p free)
+
+        cursor : (a b : ℕ) → (Passes x a b → ⊥) → cursor_at t a b ≡ cursor_at s a b
+        cursor a b apart = subst (λ (y : Playing × W). cursor_at y.0 a b ≡ cursor_at s a b) (sym is) (chooses_cursor s x w a b apart)

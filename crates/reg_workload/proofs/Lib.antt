@@ -5,6 +5,7 @@ pub mod InOrder
 pub mod Listing
 pub mod Turning
 pub mod Keeping
+pub mod Bits
 pub mod Placing
 pub mod Wires
 pub mod Moving

@@ -1,9 +1,9 @@
 -- The choices, process by process.
-use Rattle.std.proofs.Common.{◌≡◌, ℕ, zero, suc, ◌+◌, ◌<◌, ◌≤◌, Bool, true, false, List, [], ◌∷◌, ◌++◌, Option, Some, None, refl, sym, ap, ◌∙◌, subst, inl, inr, arith, length, not, append_assoc, length-append, add-one}
-use Rattle.std.specs.Prelude.{cond, nat_lt, slice_get, slice_index_or, ◌%◌}
+use Rattle.std.proofs.Common.{◌≡◌, ℕ, zero, suc, ◌+◌, ◌<◌, ◌≤◌, Bool, true, false, List, [], ◌∷◌, ◌++◌, Option, Some, None, refl, sym, ap, ◌∙◌, subst, inl, inr, arith, length, not, length-append, add-one}
+use Rattle.std.specs.Prelude.{cond, nat_lt, slice_get, ◌%◌}
 use Rattle.std.specs.List.{flat_map, range_with_len}
 use Rattle.std.specs.Option.{is_some}
-use Rattle.std.proofs.lemmas.Bool.{cond-true, cond_both, cases_lt, lt-ltb, ltb-true, and_parts, and_from, false≢true}
+use Rattle.std.proofs.lemmas.Bool.{cond_both, cases_lt, lt-ltb, ltb-true, and_parts, and_from, false≢true}
 use Rattle.std.proofs.lemmas.List.{append-nil}
 use Rattle.std.proofs.lemmas.Option.{get_or_from_slice_get}
 use Rattle.std.proofs.lemmas.Grind.{flat_map-append}
@@ -15,7 +15,6 @@ use Rattle.reg_front.specs.declared.starts.Start.{Start}
 use Rattle.reg_workload.specs.declared.choices.Choice.{Choice}
 use Rattle.reg_workload.specs.Plays.{Playing, may_call, next_frame, next_at, script_of, pending_at}
 use Rattle.reg_workload.specs.PlayParts.{IsReadyToCall, IsChoice, AreChoices, AllStill}
-use Rattle.reg_world.specs.Worlds.{run_in}
 
 -- what stands in a part, and after it
 pub part_at : {X : Type 0} (xs ys : List X) (k : ℕ) (c : X) → slice_get xs k ≡ Some c → slice_get (xs ++ ys) k ≡ Some c
@@ -31,7 +30,7 @@ behind_at (x ∷ xs) ys k = let e : length (x ∷ xs) + k ≡ suc (length xs + k
 flat_more : {X : Type 0} (f : ℕ → List X) (n : ℕ) → flat_map f (range_with_len 0 (n + 1)) ≡ flat_map f (range_with_len 0 n) ++ f n
 flat_more f n = ap (flat_map f) (range_more 0 n n (omega arith)) ∙ (flat_map-append f (range_with_len 0 n) (n ∷ []) ∙ ap (λ l. flat_map f (range_with_len 0 n) ++ l) (append-nil (f n)))
 
-flat_suc : {X : Type 0} (f : ℕ → List X) (n : ℕ) → flat_map f (range_with_len 0 (suc n)) ≡ flat_map f (range_with_len 0 n) ++ f n
+pub flat_suc : {X : Type 0} (f : ℕ → List X) (n : ℕ) → flat_map f (range_with_len 0 (suc n)) ≡ flat_map f (range_with_len 0 n) ++ f n
 flat_suc f n = ap (λ k. flat_map f (range_with_len 0 k)) (sym (add-one n)) ∙ flat_more f n
 
 first_at : {X : Type 0} (f : ℕ → List X) (m n k : ℕ) (c : X) → m ≤ n → slice_get (flat_map f (range_with_len 0 m)) k ≡ Some c → slice_get (flat_map f (range_with_len 0 n)) k ≡ Some c
@@ -42,81 +41,22 @@ first_at f m (suc n) k c l e = elim (cases_lt n m) [
 ]
 
 -- a choice of one process stands after those of the processes before it
-found_at : {X : Type 0} (f : ℕ → List X) (p n j k : ℕ) (c : X) → p < n → k ≡ length (flat_map f (range_with_len 0 p)) + j → slice_get (f p) j ≡ Some c → slice_get (flat_map f (range_with_len 0 n)) k ≡ Some c
+pub found_at : {X : Type 0} (f : ℕ → List X) (p n j k : ℕ) (c : X) → p < n → k ≡ length (flat_map f (range_with_len 0 p)) + j → slice_get (f p) j ≡ Some c → slice_get (flat_map f (range_with_len 0 n)) k ≡ Some c
 found_at f p n j k c l e at = first_at f (p + 1) n k c (omega (arith, l))
     (ap (λ xs. slice_get xs k) (flat_more f p) ∙ (ap (slice_get (flat_map f (range_with_len 0 p) ++ f p)) e ∙ (behind_at (flat_map f (range_with_len 0 p)) (f p) j ∙ at)))
 
-few_flat : {X : Type 0} (f : ℕ → List X) (n : ℕ) → ((i : ℕ) → length (f i) ≤ 1) → length (flat_map f (range_with_len 0 n)) ≤ n
-few_flat f zero h = omega arith
-few_flat f (suc n) h =
-    let a = few_flat f n h in let b = h n in let e = ap length (flat_suc f n) ∙ length-append (flat_map f (range_with_len 0 n)) (f n) in
-    omega (arith, a, b, e)
-
-one_if : {X : Type 0} (b : Bool) (c : X) → length (cond b (c ∷ []) []) ≡ cond b 1 0
-one_if true c = refl
-one_if false c = refl
-
-one_at : {X : Type 0} (b : Bool) (c : X) → b ≡ true → slice_get (cond b (c ∷ []) []) 0 ≡ Some c
-one_at b c e = ap (λ xs. slice_get xs 0) (cond-true b (c ∷ []) [] e)
-
-joined : {X : Type 0} (start xs ys zs items : List X) → items ≡ start ++ xs → zs ≡ xs ++ ys → items ++ ys ≡ start ++ zs
-joined start xs ys zs items e f = ap (λ l. l ++ ys) e ∙ (append_assoc start xs ys ∙ ap (λ l. start ++ l) (sym f))
-
 module _ (start : Op → ℕ → Start) (s : Playing) where
-  take_from_more : (from n : ℕ) → take_choices_from start s from (n + 1) ≡ take_choices_from start s from n ++ take_choice start s from n
-  unfolding take_choices_from
-  take_from_more from n = flat_more (take_choice start s from) n
-
-  -- so many choices more, of one process more
-  pub calls_more : (n : ℕ) → length (call_choices start s (n + 1)) ≡ length (call_choices start s n) + cond (may_call start s n) 1 0
-  unfolding call_choices
-  calls_more n = ap length (flat_more (call_choice start s) n) ∙ (length-append (call_choices start s n) (call_choice start s n) ∙ ap (λ k. length (call_choices start s n) + k) (one_if (may_call start s n) (CallNext n)))
-
   pub takes_more : (n : ℕ) → length (take_choices start s (n + 1)) ≡ length (take_choices start s n) + length (take_choices_from start s n s.made.processes)
   unfolding take_choices
   takes_more n = ap length (flat_more (λ from. take_choices_from start s from s.made.processes) n) ∙ length-append (take_choices start s n) (take_choices_from start s n s.made.processes)
 
-  pub ticks_more : (n : ℕ) → length (tick_choices start s (n + 1)) ≡ length (tick_choices start s n) + cond (nat_lt 0 (pending_at start s n)) 1 0
-  unfolding tick_choices
-  ticks_more n = ap length (flat_more (tick_choice start s) n) ∙ (length-append (tick_choices start s n) (tick_choice start s n) ∙ ap (λ k. length (tick_choices start s n) + k) (one_if (nat_lt 0 (pending_at start s n)) (PutAgain n)))
-
-  pub none_yet : (length (call_choices start s 0) ≡ 0) × (length (take_choices start s 0) ≡ 0) × (length (tick_choices start s 0) ≡ 0)
-  unfolding call_choices take_choices tick_choices
-  none_yet = (refl, refl, refl)
-
-  -- the choice at a place
-  pub call_found : (p n k : ℕ) → p < n → k ≡ length (call_choices start s p) → may_call start s p ≡ true → slice_get (call_choices start s n) k ≡ Some (CallNext p)
-  unfolding call_choices
-  call_found p n k l e may = found_at (call_choice start s) p n 0 k (CallNext p) l (omega (arith, e)) (one_at (may_call start s p) (CallNext p) may)
+  pub none_yet : length (take_choices start s 0) ≡ 0
+  unfolding take_choices
+  none_yet = refl
 
   pub take_found : (p n j k : ℕ) (c : Choice) → p < n → k ≡ length (take_choices start s p) + j → slice_get (take_choices_from start s p s.made.processes) j ≡ Some c → slice_get (take_choices start s n) k ≡ Some c
   unfolding take_choices
   take_found p n j k c l e at = found_at (λ from. take_choices_from start s from s.made.processes) p n j k c l e at
-
-  pub tick_found : (p n k : ℕ) → p < n → k ≡ length (tick_choices start s p) → nat_lt 0 (pending_at start s p) ≡ true → slice_get (tick_choices start s n) k ≡ Some (PutAgain p)
-  unfolding tick_choices
-  tick_found p n k l e may = found_at (tick_choice start s) p n 0 k (PutAgain p) l (omega (arith, e)) (one_at (nat_lt 0 (pending_at start s p)) (PutAgain p) may)
-
-  pub few_takes : (from n : ℕ) → length (take_choices_from start s from n) ≤ n
-  unfolding take_choices_from
-  few_takes from n = few_flat (take_choice start s from) n (λ to. one_most to (next_frame start s from to))
-    where
-      one_most : (to : ℕ) (o : Option ℕ) → length (take_of from to o) ≤ 1
-      one_most to None = omega arith
-      one_most to (Some number) = omega arith
-
-  -- a wire has a frame that is not behind, or not
-  pub take_added : (from n number : ℕ) (old items new : List Choice) → items ≡ old ++ take_choices_from start s from n → next_frame start s from n ≡ Some number → new ≡ items ++ TakeNext from n number ∷ [] → new ≡ old ++ take_choices_from start s from (n + 1)
-  take_added from n number old items new e next is = is ∙ joined old (take_choices_from start s from n) (TakeNext from n number ∷ []) (take_choices_from start s from (n + 1)) items e
-      (take_from_more from n ∙ ap (λ o. take_choices_from start s from n ++ take_of from n o) next)
-
-  pub take_passed_by : (from n : ℕ) (old items : List Choice) → items ≡ old ++ take_choices_from start s from n → next_frame start s from n ≡ None → items ≡ old ++ take_choices_from start s from (n + 1)
-  take_passed_by from n old items e next = sym (append-nil items) ∙ joined old (take_choices_from start s from n) [] (take_choices_from start s from (n + 1)) items e
-      (take_from_more from n ∙ ap (λ o. take_choices_from start s from n ++ take_of from n o) next)
-
-  pub none_taken_from : (from : ℕ) (items : List Choice) → items ≡ items ++ take_choices_from start s from 0
-  unfolding take_choices_from
-  none_taken_from from items = sym (append-nil items)
 
   -- calls come first, then takes, then ticks
   pub at_call : (k : ℕ) (c : Choice) → slice_get (call_choices start s s.made.processes) k ≡ Some c → slice_get (choices_of start s) k ≡ Some c

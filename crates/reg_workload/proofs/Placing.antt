@@ -1,73 +1,166 @@
--- What is listed for the process that a loop has come to.
-use Rattle.std.proofs.Common.{◌≡◌, ℕ, ◌+◌, ◌<◌, ◌≤◌, Bool, true, false, List, [], ◌∷◌, ◌++◌, length, Result, Ok, Err, refl, sym, ap, ◌∙◌, subst, inl, inr, arith}
-use Rattle.std.specs.Prelude.{cond, get_or, OnOk}
-use Rattle.std.proofs.Math.Seq.{get_or-append_seam}
-use Rattle.std.proofs.lemmas.Bool.{cases_lt, cases_eq}
-use Rattle.std.proofs.lemmas.List.{get_or_default, get_or_append_left}
+-- What is kept of the choices of a seeded play: it is so again once what a choice touched is listed anew, and the choices
+-- stand where its bits say.
+use Rattle.std.proofs.Common.{◌≡◌, ℕ, ◌+◌, ◌%◌, ◌^◌, ◌<◌, ◌≤◌, ◌≢◌, Bool, true, false, List, [], ◌∷◌, length, count_ones, Option, Some, None, refl, sym, ap, ◌∙◌, subst, inl, inr, arith}
+use Rattle.std.specs.Prelude.{cond, slice_get}
+use Rattle.std.specs.Int.{bit_at}
+use Rattle.std.specs.Option.{is_some}
+use Rattle.std.proofs.lemmas.Bool.{cond-true, cases_eq, cases_lt}
+use Rattle.std.proofs.lemmas.Nat.{pow_pos, ones-le}
+use Rattle.reg_base.specs.declared.limits.TheConstants.{MOST_PROCESSES}
 use Rattle.reg_base.specs.declared.memory.Op.{Op}
 use Rattle.reg_front.specs.declared.starts.Start.{Start}
+use Rattle.reg_workload.specs.declared.choices.Chances.{Chances}
 use Rattle.reg_workload.specs.declared.choices.Choice.{Choice}
 use Rattle.reg_workload.specs.declared.choices.Choice.TheVariants.{Call as CallNext, Take as TakeNext, Tick as PutAgain}
-use Rattle.reg_workload.specs.Plays.{Playing}
+use Rattle.reg_workload.specs.Plays.{Playing, may_call, next_frame}
 use Rattle.reg_workload.specs.PlayParts.{IsChoice}
-use Rattle.reg_workload.specs.Listed.{Listing, no_listing, IsListed, FirstListed, AreListed, Touches, IsWithin}
+use Rattle.reg_workload.specs.Seeded.{take_of, call_choice, take_choice, tick_choice, call_choices, take_choices_from, tick_choices}
+use Rattle.reg_workload.specs.Listed.{bit_of, may_take, may_tick, takes_at, AreBits, AreListedBut, AreListed, Lists, ListsWire, IsWithin}
+use Rattle.reg_workload.proofs.Bits.{bit_true, place_below, all_are, stands_at}
 
-pub most_one : (b : Bool) → cond b 1 0 ≤ 1
-most_one true = omega arith
-most_one false = omega arith
+one_if : {X : Type 0} (b : Bool) (x : X) → length (cond b (x ∷ []) []) ≡ bit_of b
+one_if true x = refl
+one_if false x = refl
 
--- a choice counts for one
-pub same_one : (b c : Bool) → b ≡ c → let one : ℕ = 1 in let none : ℕ = 0 in cond b one none ≡ cond c one none
-same_one b c e = let one : ℕ = 1 in let none : ℕ = 0 in ap (λ x. cond x one none) e
+one_at : {X : Type 0} (b : Bool) (x : X) → b ≡ true → slice_get (cond b (x ∷ []) []) 0 ≡ Some x
+one_at b x e = ap (λ xs. slice_get xs 0) (cond-true b (x ∷ []) [] e)
 
-pub is_one : (b : Bool) → b ≡ true → let one : ℕ = 1 in let none : ℕ = 0 in cond b one none ≡ one
-is_one b e = same_one b true e
-
-pub is_none : (b : Bool) → b ≡ false → let one : ℕ = 1 in let none : ℕ = 0 in cond b one none ≡ none
-is_none b e = same_one b false e
-
-pub starts_at : (k place : ℕ) → k ≡ 0 → place ≡ k + place
-starts_at k place z = omega (arith, z)
-
-pub on_ok3 : {A E : Type 0} (r : Result A E) (P Q R S : Type 0) → OnOk r P → OnOk r Q → OnOk r R → (P → Q → R → S) → OnOk r S
-on_ok3 (Ok x) P Q R S p q t f = f p q t
-on_ok3 (Err e) P Q R S p q t f = tt
+one_take : (from to : ℕ) (o : Option ℕ) → length (take_of from to o) ≡ bit_of (is_some o)
+one_take from to None = refl
+one_take from to (Some number) = refl
 
 module _ (start : Op → ℕ → Start) (s : Playing) where
-  pub listed_at : (ls : List Listing) (n i end : ℕ) (l : Listing) → AreListed start s ls → i ≡ n → n < end → end ≡ s.made.processes → l ≡ get_or ls i l → IsListed start s n l
-  listed_at ls n i end l L e lt same is =
-      let within : n < s.made.processes = omega (arith, lt, same) in
-      let there : n < length ls = let c = L.count in omega (arith, c, within) in
-      subst (IsListed start s n) (get_or_default ls n no_listing l there ∙ (ap (λ k. get_or ls k l) (sym e) ∙ sym is)) (L.each n within)
-
-  -- one more process is listed
-  pub first_more : (n : ℕ) (ls ms : List Listing) (l : Listing) → length ls ≡ n → ms ≡ ls ++ l ∷ [] → FirstListed start s n ls → IsListed start s n l → FirstListed start s (n + 1) ms
-  first_more n ls ms l count is h here p lt = elim (cases_lt p n) [
-    | inl less ↦ subst (IsListed start s p) (sym (ap (λ xs. get_or xs p no_listing) is ∙ get_or_append_left ls (l ∷ []) no_listing p (omega (arith, less, count)))) (h p less)
-    | inr other ↦
-        let same : p ≡ length ls = omega (arith, lt, other, count) in
-        let there : get_or ms p no_listing ≡ l = ap (λ xs. get_or xs p no_listing) is ∙ (ap (λ k. get_or (ls ++ l ∷ []) k no_listing) same ∙ get_or-append_seam ls l [] no_listing) in
-        subst (λ k. IsListed start s k (get_or ms p no_listing)) (sym (same ∙ count)) (subst (IsListed start s n) (sym there) here)
-  ]
-
-  -- two processes are listed anew
-  pub twice_listed : (from to number : ℕ) (ls ms ns : List Listing) → length ls ≡ s.made.processes
-      → ((p : ℕ) → p < s.made.processes → (Touches (TakeNext from to number) p → ⊥) → IsListed start s p (get_or ls p no_listing))
-      → length ms ≡ length ls → IsListed start s from (get_or ms from no_listing) → ((p : ℕ) → (p ≡ from → ⊥) → get_or ms p no_listing ≡ get_or ls p no_listing)
-      → length ns ≡ length ms → IsListed start s to (get_or ns to no_listing) → ((p : ℕ) → (p ≡ to → ⊥) → get_or ns p no_listing ≡ get_or ms p no_listing)
-      → AreListed start s ns
-  twice_listed from to number ls ms ns count others a1 here1 others1 a2 here2 others2 = record {
-    count = a2 ∙ (a1 ∙ count);
-    each = λ p l. elim (cases_eq p to) [
-      | inl e ↦ subst (λ k. IsListed start s k (get_or ns k no_listing)) (sym e) here2
-      | inr away ↦ subst (IsListed start s p) (sym (others2 p away)) (elim (cases_eq p from) [
-        | inl e ↦ subst (λ k. IsListed start s k (get_or ms k no_listing)) (sym e) here1
-        | inr apart ↦ subst (IsListed start s p) (sym (others1 p apart)) (others p l (λ t. elim t [ inl e ↦ apart (sym e) | inr e ↦ away (sym e) ]))
-      ])
+  -- a process is listed anew
+  pub relisted : (acts later : ℕ → Type 0) (passes : ℕ → ℕ → Type 0) (p : ℕ) (old new : Chances) → AreListedBut start s acts passes old → Lists start s p old new → ((q : ℕ) → q ≢ p → acts q → later q) → AreListedBut start s later passes new
+  relisted acts later passes p old new L R more = record {
+    processes = L.processes;
+    few_calls = R.few_calls L.few_calls;
+    few_ticks = R.few_ticks L.few_ticks;
+    few_takes = λ q lq free. elim (cases_eq q p) [
+      | inl e ↦ subst (λ (k : ℕ). takes_at new k < 2 ^ s.made.processes) (sym e) R.take.few
+      | inr ne ↦ subst (λ (k : ℕ). k < 2 ^ s.made.processes) (sym (R.takes q ne)) (L.few_takes q lq (λ a. free (more q ne a)))
     ];
+    call = λ q lq free. elim (cases_eq q p) [
+      | inl e ↦ subst (λ (k : ℕ). bit_at new.calls k ≡ bit_of (may_call start s k)) (sym e) R.call
+      | inr ne ↦ R.calls q (wide q lq) ne ∙ L.call q lq (λ a. free (more q ne a))
+    ];
+    tick = λ q lq free. elim (cases_eq q p) [
+      | inl e ↦ subst (λ (k : ℕ). bit_at new.ticks k ≡ bit_of (may_tick start s k)) (sym e) R.tick
+      | inr ne ↦ R.ticks q (wide q lq) ne ∙ L.tick q lq (λ a. free (more q ne a))
+    ];
+    take = λ q r lq lr free apart. elim (cases_eq q p) [
+      | inl e ↦ subst (λ (k : ℕ). bit_at (takes_at new k) r ≡ bit_of (may_take start s k r)) (sym e) (R.take.each r lr)
+      | inr ne ↦ ap (λ (k : ℕ). bit_at k r) (R.takes q ne) ∙ L.take q r lq lr (λ a. free (more q ne a)) apart
+    ];
+  }
+    where
+      wide : (q : ℕ) → q < s.made.processes → q < MOST_PROCESSES
+      wide q l = let few = L.processes in omega (arith, l, few)
+
+  -- and a wire
+  pub wire_relisted : (acts : ℕ → Type 0) (passes : ℕ → ℕ → Type 0) (from to : ℕ) (old new : Chances) → AreListedBut start s acts passes old → ListsWire start s from to old new → ((p q : ℕ) → passes p q → (from ≡ p) × (to ≡ q)) → AreListedBut start s acts (λ _ _. ⊥) new
+  wire_relisted acts passes from to old new L R only = record {
+    processes = L.processes;
+    few_calls = subst (λ (k : ℕ). k < 2 ^ s.made.processes) (sym R.calls) L.few_calls;
+    few_ticks = subst (λ (k : ℕ). k < 2 ^ s.made.processes) (sym R.ticks) L.few_ticks;
+    few_takes = λ p lp free. elim (cases_eq p from) [
+      | inl e ↦ subst (λ (k : ℕ). takes_at new k < 2 ^ s.made.processes) (sym e) (R.few (subst (λ (k : ℕ). takes_at old k < 2 ^ s.made.processes) e (L.few_takes p lp free)))
+      | inr ne ↦ subst (λ (k : ℕ). k < 2 ^ s.made.processes) (sym (R.takes p ne)) (L.few_takes p lp free)
+    ];
+    call = λ p lp free. ap (λ (k : ℕ). bit_at k p) R.calls ∙ L.call p lp free;
+    tick = λ p lp free. ap (λ (k : ℕ). bit_at k p) R.ticks ∙ L.tick p lp free;
+    take = λ p q lp lq free _. elim (cases_eq p from) [
+      | inl e ↦ elim (cases_eq q to) [
+        | inl f ↦ subst (λ (k : ℕ). bit_at (takes_at new k) q ≡ bit_of (may_take start s k q)) (sym e) (subst (λ (k : ℕ). bit_at (takes_at new from) k ≡ bit_of (may_take start s from k)) (sym f) R.here)
+        | inr nf ↦ subst (λ (k : ℕ). bit_at (takes_at new k) q ≡ bit_at (takes_at old k) q) (sym e) (R.others q (wide q lq) nf) ∙ L.take p q lp lq free (λ h. nf (sym (only p q h).1))
+      ]
+      | inr ne ↦ ap (λ (k : ℕ). bit_at k q) (R.takes p ne) ∙ L.take p q lp lq free (λ h. ne (sym (only p q h).0))
+    ];
+  }
+    where
+      wide : (q : ℕ) → q < s.made.processes → q < MOST_PROCESSES
+      wide q l = let few = L.processes in omega (arith, l, few)
+
+  -- process by process
+  pub none_listed : (takes : List ℕ) → s.made.processes ≤ MOST_PROCESSES → AreListedBut start s (λ p. 0 ≤ p) (λ _ _. ⊥) (record { calls = 0; takes = takes; ticks = 0 })
+  none_listed takes few = record {
+    processes = few;
+    few_calls = pow_pos s.made.processes;
+    few_ticks = pow_pos s.made.processes;
+    few_takes = λ p l free. absurd (free (omega arith));
+    call = λ p l free. absurd (free (omega arith));
+    tick = λ p l free. absurd (free (omega arith));
+    take = λ p q lp lq free apart. absurd (free (omega arith));
+  }
+
+  pub one_more_listed : (n : ℕ) (old new : Chances) → AreListedBut start s (λ p. n ≤ p) (λ _ _. ⊥) old → Lists start s n old new → AreListedBut start s (λ p. n + 1 ≤ p) (λ _ _. ⊥) new
+  one_more_listed n old new L R = relisted (λ p. n ≤ p) (λ p. n + 1 ≤ p) (λ _ _. ⊥) n old new L R (λ p ne l. elim (cases_lt n p) [
+    | inl less ↦ omega (arith, less)
+    | inr not_less ↦ absurd (ne (omega (arith, not_less, l)))
+  ])
+
+  pub all_listed : (n : ℕ) (c : Chances) → n ≡ s.made.processes → AreListedBut start s (λ p. n ≤ p) (λ _ _. ⊥) c → AreListed start s c
+  all_listed n c e L = record {
+    processes = L.processes;
+    few_calls = L.few_calls;
+    few_ticks = L.few_ticks;
+    few_takes = λ p l _. L.few_takes p l (λ a. omega (arith, e, l, a));
+    call = λ p l _. L.call p l (λ a. omega (arith, e, l, a));
+    tick = λ p l _. L.tick p l (λ a. omega (arith, e, l, a));
+    take = λ p q l m _ apart. L.take p q l m (λ a. omega (arith, e, l, a)) apart;
   }
 
   pub within_play : (c : Choice) → IsChoice start s c → IsWithin s.made.processes c
   within_play (CallNext p) h = h.0
   within_play (TakeNext from to number) h = (h.0, h.1)
   within_play (PutAgain p) h = h
+
+  -- where all of it is so, the choices are as many as there are ones, and stand where the bits say
+  module _ (c : Chances) (L : AreListed start s c) where
+    call_bits : AreBits s.made.processes (may_call start s) c.calls
+    call_bits = record { few = L.few_calls; each = λ p l. L.call p l (λ a. a) }
+
+    tick_bits : AreBits s.made.processes (may_tick start s) c.ticks
+    tick_bits = record { few = L.few_ticks; each = λ p l. L.tick p l (λ a. a) }
+
+    take_bits : (from : ℕ) → from < s.made.processes → AreBits s.made.processes (may_take start s from) (takes_at c from)
+    take_bits from l = record { few = L.few_takes from l (λ a. a); each = λ to m. L.take from to l m (λ a. a) (λ a. a) }
+
+    pub calls_are : length (call_choices start s s.made.processes) ≡ count_ones c.calls
+    unfolding call_choices
+    calls_are = all_are s.made.processes c.calls (may_call start s) (call_choice start s) call_bits (λ p. one_if (may_call start s p) (CallNext p))
+
+    pub ticks_are : length (tick_choices start s s.made.processes) ≡ count_ones c.ticks
+    unfolding tick_choices
+    ticks_are = all_are s.made.processes c.ticks (may_tick start s) (tick_choice start s) tick_bits (λ p. one_if (may_tick start s p) (PutAgain p))
+
+    pub takes_are : (from m : ℕ) → from < s.made.processes → m ≡ takes_at c from → length (take_choices_from start s from s.made.processes) ≡ count_ones m
+    unfolding take_choices_from
+    takes_are from m l e = all_are s.made.processes (takes_at c from) (may_take start s from) (take_choice start s from) (take_bits from l) (λ to. one_take from to (next_frame start s from to)) ∙ ap count_ones (sym e)
+
+    pub few_ones : (m : ℕ) → m < 2 ^ s.made.processes → count_ones m ≤ MOST_PROCESSES
+    few_ones m l = let most = ones-le s.made.processes m l in let few = L.processes in omega (arith, most, few)
+
+    pub few_taken : (from m : ℕ) → from < s.made.processes → m ≡ takes_at c from → count_ones m ≤ MOST_PROCESSES
+    few_taken from m l e = few_ones m (subst (λ (k : ℕ). k < 2 ^ s.made.processes) (sym e) (L.few_takes from l (λ a. a)))
+
+    pub call_stands : (p place : ℕ) → bit_at c.calls p ≡ 1 → place ≡ count_ones (c.calls % 2 ^ p) → slice_get (call_choices start s s.made.processes) place ≡ Some (CallNext p)
+    unfolding call_choices
+    call_stands p place set is = stands_at s.made.processes c.calls (may_call start s) (call_choice start s) call_bits (λ q. one_if (may_call start s q) (CallNext q)) p place (CallNext p) set is (one_at (may_call start s p) (CallNext p))
+
+    pub tick_stands : (p place : ℕ) → bit_at c.ticks p ≡ 1 → place ≡ count_ones (c.ticks % 2 ^ p) → slice_get (tick_choices start s s.made.processes) place ≡ Some (PutAgain p)
+    unfolding tick_choices
+    tick_stands p place set is = stands_at s.made.processes c.ticks (may_tick start s) (tick_choice start s) tick_bits (λ q. one_if (may_tick start s q) (PutAgain q)) p place (PutAgain p) set is (one_at (may_tick start s p) (PutAgain p))
+
+    pub take_stands : (from to place m : ℕ) (x : Choice) → from < s.made.processes → m ≡ takes_at c from → bit_at m to ≡ 1 → place ≡ count_ones (m % 2 ^ to) → take_choice start s from to ≡ x ∷ [] → slice_get (take_choices_from start s from s.made.processes) place ≡ Some x
+    unfolding take_choices_from
+    take_stands from to place m x l e set is only =
+        stands_at s.made.processes (takes_at c from) (may_take start s from) (take_choice start s from) (take_bits from l) (λ q. one_take from q (next_frame start s from q)) to place x
+        (ap (λ (k : ℕ). bit_at k to) (sym e) ∙ set) (is ∙ ap (λ (k : ℕ). count_ones (k % 2 ^ to)) e) (λ _. ap (λ xs. slice_get xs 0) only)
+
+    pub may_be_taken : (from to m : ℕ) → from < s.made.processes → m ≡ takes_at c from → bit_at m to ≡ 1 → (to < s.made.processes) × (may_take start s from to ≡ true)
+    may_be_taken from to m l e set =
+        let B = take_bits from l in
+        let here : bit_at (takes_at c from) to ≡ 1 = ap (λ (k : ℕ). bit_at k to) (sym e) ∙ set in
+        let within = place_below s.made.processes (takes_at c from) to B.few here in
+        (within, bit_true (may_take start s from to) (sym (B.each to within) ∙ here))

@@ -1,15 +1,16 @@
-//! What can happen next in a seeded play. Between turns it is kept for each process, and a turn lists anew only the
-//! processes that its choice touched: so a turn costs as many looks as there are processes, and not their square.
-ghost use Rattle.std.specs.Prelude.{◌≡◌, ◌<◌, ◌≤◌, ◌+◌, ◌++◌, ℕ, Some, false, length, cond, IfOk, OnOk, MatchResult, slice_get, slice_index_or};
+//! What can happen next in a seeded play. Between turns it is kept as bits, and a turn looks again only at what its
+//! choice touched: a wire that is taken from, and what the process of the event can do. So it costs as many looks as
+//! there are processes, and not their square.
+ghost use Rattle.std.specs.Prelude.{◌≡◌, ◌<◌, ◌≤◌, ◌≢◌, ◌+◌, ◌%◌, ◌^◌, ◌∷◌, ℕ, [], Some, true, false, length, count_ones, IfOk, MatchResult, slice_get};
+ghost use Rattle.std.specs.Int.{bit_at};
 ghost use Rattle.reg_base.specs.declared.limits.TheConstants.{MOST_PROCESSES};
-ghost use Rattle.reg_workload.specs.Listed.{no_listing, IsListed, AreListed, Touches, IsWithin};
-ghost use Rattle.reg_workload.specs.Seeded.{call_choices, take_choices_from, take_choices, tick_choices, choices_of};
+ghost use Rattle.reg_workload.specs.Listed.{bit_of, may_take, AreBits, Lists, ListsWire, AreListed, AreOthersListed, IsWithin};
+ghost use Rattle.reg_workload.specs.Seeded.{take_choice, take_choices, choices_of};
 
-use crate::playing::Player;
+use crate::playing::{Player, WIDTH};
 use reg_front::FrontEnd;
 use reg_world::WireStore;
-use std::alloc::{AllocError, Allocator};
-use std::marker::Model;
+use std::alloc::Allocator;
 
 /// What can happen next.
 #[derive(Clone, Copy)]
@@ -22,238 +23,217 @@ pub(crate) enum Choice {
     Tick { process: u8 },
 }
 
-/// What one process can do next, and which of its frames can be taken next.
+/// What can happen next, with a bit for each process.
 #[derive(Drop)]
-pub(crate) struct Chance<A: Allocator + Copy> {
-    calls: bool,
-    takes: Vec<Choice, A>,
-    ticks: bool,
+pub(crate) struct Chances {
+    /// The processes that can call.
+    calls: u64,
+    /// By sender, the receivers of frames that can be taken.
+    takes: [u64; WIDTH],
+    /// The processes that can put frames again.
+    ticks: u64,
 }
 
-impl<A: Allocator + Copy> Model for Chance<A> {
-    ghost use Rattle.reg_workload.specs.Listed.{Listing};
-
-    ghost Value = { Listing };
-
-    ghost view = { λ c. record { calls = c.calls; takes = c.takes.items; ticks = c.ticks } };
+/// These bits with one that is set or not.
+fn with_bit(bits: u64, place: u8, is_set: bool) -> u64
+    requires { place < MOST_PROCESSES }
+    ensures few { (n : ℕ) → place < n → bits < 2 ^ n → result < 2 ^ n }
+    ensures here { bit_at result place ≡ bit_of is_set }
+    ensures others { (i : ℕ) → i < MOST_PROCESSES → i ≢ place → bit_at result i ≡ bit_at bits i }
+{
+    let bit = 1u64 << u32::from(place);
+    if is_set { bits | bit } else { bits & !bit }
 }
 
-/// Adds a take for each wire from this process with a frame that is not behind.
-fn list_takes_from<F: FrontEnd, A: Allocator + Copy, W: WireStore<A>>(
+/// The place of the bit that so many are before, of all that are set, or how many more than these that is.
+fn nth_bit(bits: u64, count: u32) -> Result<u8, u32>
+    ensures set { IfOk result (λ place. bit_at bits place ≡ 1) }
+    ensures count { MatchResult result (λ place. count ≡ count_ones (bits % 2 ^ place)) (λ left. count ≡ count_ones bits + left) }
+{
+    let all = bits.count_ones();
+    if all <= count {
+        return Err(count - all);
+    }
+    let mut left = count;
+    for place in 0..64u32 {
+        let here = (bits >> place & 1) as u32;
+        if left < here {
+            return Ok(place as u8);
+        }
+        left -= here;
+    }
+    unreachable!()
+}
+
+/// The receivers of frames that can be taken from a process.
+fn takes_from<F: FrontEnd, A: Allocator + Copy, W: WireStore<A>>(
     player: &Player<'_, F, A, W>,
     from: u8,
-    choices: &mut Vec<Choice, A>,
-) -> Result<(), AllocError>
+) -> u64
     requires going { player.now.made.failed ≡ false }
     requires from { from < player.now.made.processes }
-    ensures { OnOk result (choices.new.items ≡ choices.old.items ++ take_choices_from F.start player.now from player.now.made.processes) }
+    ensures { AreBits player.now.made.processes (may_take F.start player.now from) result }
 {
+    let mut takes = 0;
     for to in 0..player.processes() {
-        if let Some(number) = player.frame(from, to) {
-            choices.push(Choice::Take { from, to, number })?;
-        }
+        takes = with_bit(takes, to, player.frame(from, to).is_some());
     }
-    Ok(())
+    takes
 }
 
-impl<A: Allocator + Copy> Chance<A> {
-    /// Nothing was listed.
-    fn new(alloc: A) -> Chance<A>
-        ensures { result ≡ no_listing }
+/// The take of the next frame of a wire.
+fn next_take<F: FrontEnd, A: Allocator + Copy, W: WireStore<A>>(
+    player: &Player<'_, F, A, W>,
+    from: u8,
+    to: u8,
+) -> Choice
+    requires going { player.now.made.failed ≡ false }
+    requires from { from < player.now.made.processes }
+    requires to { to < player.now.made.processes }
+    requires some { may_take F.start player.now from to ≡ true }
+    ensures { take_choice F.start player.now from to ≡ result ∷ [] }
+{
+    let Some(number) = player.frame(from, to) else {
+        unreachable!()
+    };
+    Choice::Take { from, to, number }
+}
+
+impl Chances {
+    /// What can happen next.
+    pub(crate) fn new<F: FrontEnd, A: Allocator + Copy, W: WireStore<A>>(
+        player: &Player<'_, F, A, W>,
+    ) -> Chances
+        requires { player.now.made.failed ≡ false }
+        ensures { AreListed F.start player.now result }
     {
-        Chance {
-            calls: false,
-            takes: Vec::new(alloc),
-            ticks: false,
+        let mut chances = Chances {
+            calls: 0,
+            takes: [0; WIDTH],
+            ticks: 0,
+        };
+        for process in 0..player.processes() {
+            chances.list(player, process);
         }
+        chances
     }
 
-    /// Lists what a process can do next, and which of its frames can be taken.
-    fn list<F: FrontEnd, W: WireStore<A>>(
+    /// Lists anew what a process can do, and which of its frames can be taken.
+    fn list<F: FrontEnd, A: Allocator + Copy, W: WireStore<A>>(
         &mut self,
         player: &Player<'_, F, A, W>,
         process: u8,
-    ) -> Result<(), AllocError>
+    )
         requires going { player.now.made.failed ≡ false }
         requires process { process < player.now.made.processes }
-        ensures { OnOk result (IsListed F.start player.now process self.new) }
+        requires few { player.now.made.processes ≤ MOST_PROCESSES }
+        ensures { Lists F.start player.now process self.old self.new }
     {
-        self.calls = player.may_call(process);
-        self.ticks = player.pending(process) > 0;
-        self.takes.clear();
-        list_takes_from(player, process, &mut self.takes)
+        self.calls = with_bit(self.calls, process, player.may_call(process));
+        self.ticks = with_bit(self.ticks, process, player.pending(process) > 0);
+        self.takes[usize::from(process)] = takes_from(player, process);
+    }
+
+    /// Lists anew whether a frame of this wire can be taken.
+    fn list_wire<F: FrontEnd, A: Allocator + Copy, W: WireStore<A>>(
+        &mut self,
+        player: &Player<'_, F, A, W>,
+        from: u8,
+        to: u8,
+    )
+        requires going { player.now.made.failed ≡ false }
+        requires from { from < player.now.made.processes }
+        requires to { to < player.now.made.processes }
+        requires few { player.now.made.processes ≤ MOST_PROCESSES }
+        ensures { ListsWire F.start player.now from to self.old self.new }
+    {
+        let place = usize::from(from);
+        let is_some = player.frame(from, to).is_some();
+        self.takes[place] = with_bit(self.takes[place], to, is_some);
+    }
+
+    /// Lists anew what a choice that was made has touched.
+    pub(crate) fn list_again<F: FrontEnd, A: Allocator + Copy, W: WireStore<A>>(
+        &mut self,
+        player: &Player<'_, F, A, W>,
+        choice: Choice,
+    )
+        requires going { player.now.made.failed ≡ false }
+        requires within { IsWithin player.now.made.processes choice }
+        requires others { AreOthersListed F.start player.now choice self.old }
+        ensures { AreListed F.start player.now self.new }
+    {
+        match choice {
+            Choice::Call { process } => self.list(player, process),
+            Choice::Take {
+                from,
+                to,
+                number: _,
+            } => {
+                self.list_wire(player, from, to);
+                self.list(player, to);
+            }
+            Choice::Tick { process } => self.list(player, process),
+        }
     }
 
     /// How many choices there are.
-    fn count(&self) -> usize
-        requires { length self.now.takes ≤ MOST_PROCESSES }
-        ensures { result ≡ cond self.now.calls 1 0 + length self.now.takes + cond self.now.ticks 1 0 }
+    pub(crate) fn count<F: FrontEnd, A: Allocator + Copy, W: WireStore<A>>(
+        &self,
+        player: &Player<'_, F, A, W>,
+    ) -> u32
+        requires { AreListed F.start player.now self.now }
+        ensures { result ≡ length (choices_of F.start player.now) }
     {
-        usize::from(self.calls) + self.takes.len() + usize::from(self.ticks)
-    }
-}
-
-/// Lists a process anew.
-fn list_one<F: FrontEnd, A: Allocator + Copy, W: WireStore<A>>(
-    player: &Player<'_, F, A, W>,
-    process: u8,
-    chances: &mut Vec<Chance<A>, A>,
-) -> Result<(), AllocError>
-    requires going { player.now.made.failed ≡ false }
-    requires process { process < player.now.made.processes }
-    requires count { length chances.old.items ≡ player.now.made.processes }
-    ensures count { OnOk result (length chances.new.items ≡ length chances.old.items) }
-    ensures here { OnOk result (IsListed F.start player.now process (slice_index_or chances.new.items process no_listing)) }
-    ensures others { OnOk result ((p : ℕ) → (p ≡ process → ⊥) → slice_index_or chances.new.items p no_listing ≡ slice_index_or chances.old.items p no_listing) }
-{
-    let chance = &mut chances[usize::from(process)];
-    chance.list(player, process)
-}
-
-/// Lists all processes.
-pub(crate) fn list_all<F: FrontEnd, A: Allocator + Copy, W: WireStore<A>>(
-    alloc: A,
-    player: &Player<'_, F, A, W>,
-) -> Result<Vec<Chance<A>, A>, AllocError>
-    requires { player.now.made.failed ≡ false }
-    ensures { IfOk result (λ v. AreListed F.start player.now v.items) }
-{
-    let mut chances = Vec::new(alloc);
-    for process in 0..player.processes() {
-        let mut chance = Chance::new(alloc);
-        chance.list(player, process)?;
-        chances.push(chance)?;
-    }
-    Ok(chances)
-}
-
-/// Lists anew what a choice that was made has touched.
-pub(crate) fn list_again<F: FrontEnd, A: Allocator + Copy, W: WireStore<A>>(
-    player: &Player<'_, F, A, W>,
-    choice: Choice,
-    chances: &mut Vec<Chance<A>, A>,
-) -> Result<(), AllocError>
-    requires going { player.now.made.failed ≡ false }
-    requires within { IsWithin player.now.made.processes choice }
-    requires count { length chances.old.items ≡ player.now.made.processes }
-    requires others { (p : ℕ) → p < player.now.made.processes → (Touches choice p → ⊥) → IsListed F.start player.now p (slice_index_or chances.old.items p no_listing) }
-    ensures { OnOk result (AreListed F.start player.now chances.new.items) }
-{
-    match choice {
-        Choice::Call { process } => list_one(player, process, chances),
-        Choice::Take {
-            from,
-            to,
-            number: _,
-        } => {
-            list_one(player, from, chances)?;
-            list_one(player, to, chances)
+        let mut total = self.calls.count_ones() + self.ticks.count_ones();
+        for from in 0..player.processes() {
+            total += self.takes[usize::from(from)].count_ones();
         }
-        Choice::Tick { process } => list_one(player, process, chances),
+        total
     }
-}
 
-/// How many choices there are.
-pub(crate) fn count<F: FrontEnd, A: Allocator + Copy, W: WireStore<A>>(
-    player: &Player<'_, F, A, W>,
-    chances: &[Chance<A>],
-) -> usize
-    requires { AreListed F.start player.now chances.now }
-    ensures { result ≡ length (choices_of F.start player.now) }
-{
-    let mut total = 0;
-    for process in 0..player.processes() {
-        let chance = &chances[usize::from(process)];
-        total += chance.count();
-    }
-    total
-}
-
-/// The call at this place of all calls, or how far after them it is.
-fn nth_call<F: FrontEnd, A: Allocator + Copy, W: WireStore<A>>(
-    player: &Player<'_, F, A, W>,
-    chances: &[Chance<A>],
-    place: usize,
-) -> Result<Choice, usize>
-    requires { AreListed F.start player.now chances.now }
-    ensures { MatchResult result (λ c. slice_get (call_choices F.start player.now player.now.made.processes) place ≡ Some c) (λ left. place ≡ length (call_choices F.start player.now player.now.made.processes) + left) }
-{
-    let mut left = place;
-    for process in 0..player.processes() {
-        let chance = &chances[usize::from(process)];
-        if chance.calls {
-            if left == 0 {
-                return Ok(Choice::Call { process });
+    /// The take at this place of all takes, or how far after them it is.
+    fn nth_take<F: FrontEnd, A: Allocator + Copy, W: WireStore<A>>(
+        &self,
+        player: &Player<'_, F, A, W>,
+        place: u32,
+    ) -> Result<Choice, u32>
+        requires going { player.now.made.failed ≡ false }
+        requires listed { AreListed F.start player.now self.now }
+        ensures { MatchResult result (λ c. slice_get (take_choices F.start player.now player.now.made.processes) place ≡ Some c) (λ left. place ≡ length (take_choices F.start player.now player.now.made.processes) + left) }
+    {
+        let mut left = place;
+        for from in 0..player.processes() {
+            match nth_bit(self.takes[usize::from(from)], left) {
+                Ok(to) => return Ok(next_take(player, from, to)),
+                Err(rest) => left = rest,
             }
-            left -= 1;
         }
+        Err(left)
     }
-    Err(left)
-}
 
-/// The take at this place of all takes, or how far after them it is.
-fn nth_take<F: FrontEnd, A: Allocator + Copy, W: WireStore<A>>(
-    player: &Player<'_, F, A, W>,
-    chances: &[Chance<A>],
-    place: usize,
-) -> Result<Choice, usize>
-    requires { AreListed F.start player.now chances.now }
-    ensures { MatchResult result (λ c. slice_get (take_choices F.start player.now player.now.made.processes) place ≡ Some c) (λ left. place ≡ length (take_choices F.start player.now player.now.made.processes) + left) }
-{
-    let mut left = place;
-    for process in 0..player.processes() {
-        let chance = &chances[usize::from(process)];
-        let count = chance.takes.len();
-        if left < count {
-            return Ok(chance.takes[left]);
+    /// The choice at this place of all that can happen next: the calls by process, the takes by sender and then by
+    /// receiver, and the ticks by process.
+    pub(crate) fn nth<F: FrontEnd, A: Allocator + Copy, W: WireStore<A>>(
+        &self,
+        player: &Player<'_, F, A, W>,
+        place: u32,
+    ) -> Option<Choice>
+        requires going { player.now.made.failed ≡ false }
+        requires listed { AreListed F.start player.now self.now }
+        ensures { result ≡ slice_get (choices_of F.start player.now) place }
+    {
+        let after_calls = match nth_bit(self.calls, place) {
+            Ok(process) => return Some(Choice::Call { process }),
+            Err(left) => left,
+        };
+        let after_takes = match self.nth_take(player, after_calls) {
+            Ok(choice) => return Some(choice),
+            Err(left) => left,
+        };
+        match nth_bit(self.ticks, after_takes) {
+            Ok(process) => Some(Choice::Tick { process }),
+            Err(_) => None,
         }
-        left -= count;
-    }
-    Err(left)
-}
-
-/// The tick at this place of all ticks, or how far after them it is.
-fn nth_tick<F: FrontEnd, A: Allocator + Copy, W: WireStore<A>>(
-    player: &Player<'_, F, A, W>,
-    chances: &[Chance<A>],
-    place: usize,
-) -> Result<Choice, usize>
-    requires { AreListed F.start player.now chances.now }
-    ensures { MatchResult result (λ c. slice_get (tick_choices F.start player.now player.now.made.processes) place ≡ Some c) (λ left. place ≡ length (tick_choices F.start player.now player.now.made.processes) + left) }
-{
-    let mut left = place;
-    for process in 0..player.processes() {
-        let chance = &chances[usize::from(process)];
-        if chance.ticks {
-            if left == 0 {
-                return Ok(Choice::Tick { process });
-            }
-            left -= 1;
-        }
-    }
-    Err(left)
-}
-
-/// The choice at this place of all that can happen next: the calls by process, the takes by sender and then by
-/// receiver, and the ticks by process.
-pub(crate) fn nth<F: FrontEnd, A: Allocator + Copy, W: WireStore<A>>(
-    player: &Player<'_, F, A, W>,
-    chances: &[Chance<A>],
-    place: usize,
-) -> Option<Choice>
-    requires { AreListed F.start player.now chances.now }
-    ensures { result ≡ slice_get (choices_of F.start player.now) place }
-{
-    let behind_calls = match nth_call(player, chances, place) {
-        Ok(choice) => return Some(choice),
-        Err(left) => left,
-    };
-    let behind_takes = match nth_take(player, chances, behind_calls) {
-        Ok(choice) => return Some(choice),
-        Err(left) => left,
-    };
-    match nth_tick(player, chances, behind_takes) {
-        Ok(choice) => Some(choice),
-        Err(_) => None,
     }
 }

@@ -17,7 +17,8 @@ use reg_world::{Event, WireStore, Wires, World, WorldFault};
 use std::alloc::{AllocError, Allocator, Global};
 use std::marker::Model;
 
-const WIDTH: usize = MOST_PROCESSES as usize;
+/// The most processes, as a length.
+pub(crate) const WIDTH: usize = MOST_PROCESSES as usize;
 
 /// What happened in a play, and whether every script was used up and no operation runs.
 #[derive(Drop)]

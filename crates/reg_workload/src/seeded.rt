@@ -7,7 +7,7 @@ ghost use Rattle.reg_workload.specs.PlayParts.{GoesOn, Turns, AllStill, IsChoice
 ghost use Rattle.reg_workload.specs.Seeded.{takes_or_loses, chooses, choices_of, turn, turns, seeded_play};
 ghost use Rattle.reg_base.specs.Words.{says};
 
-use crate::choices::{Chance, Choice, count, list_again, list_all, nth};
+use crate::choices::{Chances, Choice};
 use crate::playing::{Play, Player};
 use reg_base::{Op, Shape, Words, happens};
 use reg_front::FrontEnd;
@@ -77,35 +77,34 @@ fn choose<F: FrontEnd, R: Words, A: Allocator + Copy, W: WireStore<A>>(
 /// A turn. Tells whether nothing can happen.
 fn play_turn<F: FrontEnd, R: Words, A: Allocator + Copy, W: WireStore<A>>(
     player: &mut Player<'_, F, A, W>,
-    chances: &mut Vec<Chance<A>, A>,
+    chances: &mut Chances,
     words: &mut R,
     odds: Odds,
 ) -> Result<bool, AllocError>
     requires going { player.old.made.failed ≡ false }
-    requires listed { AreListed F.start player.old chances.old.items }
+    requires listed { AreListed F.start player.old chances.old }
     requires room { length player.old.made.accepted < MOST_EVENTS }
     requires behind { (from to : ℕ) → cursor_at player.old from to < MOST_EVENTS }
     ensures value { OnOk result ((player.new, words.new) ≡ turn F.start R.next_word odds.loss odds.repeat (player.old, words.old)) }
-    ensures listed { OnOk result (AreListed F.start player.new chances.new.items) }
+    ensures listed { OnOk result (AreListed F.start player.new chances.new) }
     ensures ended { IfOk result (λ ended. ended ≡ true → (choices_of F.start player.old ≡ []) × AllStill F.start player.old × (player.new ≡ player.old)) }
     ensures turns { IfOk result (λ ended. ended ≡ false → Turns odds.loss player.old player.new) }
 {
-    let all = count(player, chances);
+    let all = chances.count(player);
     if all == 0 {
         return Ok(true);
     }
     let word = words.word();
-    let Some(choice) = nth(player, chances, word as usize % all) else {
+    let Some(choice) = chances.nth(player, word % all) else {
         unreachable!()
     };
     choose(player, choice, words, odds)?;
-    list_again(player, choice, chances)?;
+    chances.list_again(player, choice);
     Ok(false)
 }
 
 /// Turns, until nothing can happen or there were so many. Tells whether nothing can happen.
 fn play_turns<F: FrontEnd, R: Words, A: Allocator + Copy, W: WireStore<A>>(
-    alloc: A,
     player: &mut Player<'_, F, A, W>,
     words: &mut R,
     odds: Odds,
@@ -119,7 +118,7 @@ fn play_turns<F: FrontEnd, R: Words, A: Allocator + Copy, W: WireStore<A>>(
     ensures on { OnOk result (GoesOn budget player.old player.new) }
     ensures ended { IfOk result (λ ended. (ended ≡ true → AllStill F.start player.new) × (ended ≡ false → odds.loss ≡ 0 → length player.new.made.accepted ≡ budget)) }
 {
-    let mut chances = list_all(alloc, player)?;
+    let mut chances = Chances::new(player);
     for _turn in 0..budget {
         if play_turn(player, &mut chances, words, odds)? {
             return Ok(true);
@@ -155,6 +154,6 @@ pub(crate) fn play_seeded<F: FrontEnd, R: Words, A: Allocator + Copy, W: WireSto
     ensures finished { IfOk result (λ p. odds.loss ≡ 0 → length p.world.accepted < budget → p.finished ≡ true) }
 {
     let mut player = Player::new(alloc, shape, scripts)?;
-    let _ended = play_turns(alloc, &mut player, words, odds, budget)?;
+    let _ended = play_turns(&mut player, words, odds, budget)?;
     Ok(player.end())
 }

@@ -5,7 +5,7 @@ use Rattle.std.proofs.lemmas.Option.{slice_get-get_or}
 use Rattle.reg_workload.specs.declared.choices.Choice.TheVariants.{Tick as PutAgain}
 use Rattle.reg_workload.specs.Listed.{IsWithin}
 use Rattle.reg_workload.specs.PlayParts.{IsChoice}
-use Rattle.reg_workload.specs.Seeded.{choices_of, picked}
+use Rattle.reg_workload.specs.Seeded.{choices_of}
 use Rattle.reg_workload.proofs.Keeping.{others_listed}
 use Rattle.reg_workload.proofs.Listing.{all_still, choices_are, picked_at}
 use Rattle.reg_workload.proofs.Placing.{within_play}
@@ -40,7 +40,7 @@ list_again-requires-clause-within g c =
     subst (λ (n : ℕ). IsWithin n c.in-Some.choice) (sym c.in_ok-choose.ensures.turns.processes) (within_play g.F.FrontEnd.start c.args.player.now c.in-Some.choice here)
 
 pub list_again-requires-clause-others : goal.list_again-requires-clause-others
-list_again-requires-clause-others g c = others_listed g.F.FrontEnd.start g.R.Words.next_word c.args.odds.loss c.args.odds.repeat c.args.player.now c.choose.new.player c.in-Some.choice c.word-word.new.self c.choose.new.words c.args.chances.now.items c.in_ok-choose.ensures.value c.requires.listed c.in_ok-choose.ensures.turns.processes
+list_again-requires-clause-others g c = others_listed g.F.FrontEnd.start g.R.Words.next_word c.args.odds.loss c.args.odds.repeat c.args.player.now c.choose.new.player c.in-Some.choice c.word-word.new.self c.choose.new.words c.args.chances.now c.in_ok-choose.ensures.value c.requires.listed c.in_ok-choose.ensures.turns.processes
 
 pub returns-clause-value : goal.returns-clause-value
 returns-clause-value g c =

@@ -15,7 +15,7 @@ play_turn-requires-clause-behind g c = λ from to.
 pub loop-turn-init : goal.loop-turn-init
 loop-turn-init g c = record {
   value = refl;
-  listed = c.in_ok-chances.ensures;
+  listed = c.new-chances.ensures;
   on = record { same = refl; processes = refl; registers = refl; going = c.requires.going; few = let z = c.requires.none in omega (arith, z) };
   all = λ _. c.requires.none;
   behind = λ from to. let z = c.requires.first from to in omega (arith, z);
