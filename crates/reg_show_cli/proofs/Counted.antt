@@ -7,11 +7,11 @@ use Rattle.std.proofs.lemmas.Option.{same_Some}
 use Rattle.clap.specs.Words.{Text}
 use Rattle.reg_outcomes.specs.declared.plays.TheConstants.{MOST_PLAYS}
 use Rattle.reg_show_cli.specs.declared.words.Asked.{Asked}
-use Rattle.reg_show_cli.specs.declared.words.Asked.TheVariants.{AllOutcomes, Find, Help, Outcome, Outcomes, Schedule, Show, Verify, Version, Why}
+use Rattle.reg_show_cli.specs.declared.words.Asked.TheVariants.{AllOutcomes, Find, Help, Outcome, Outcomes, Schedule, ShortSchedule, Show, Verify, Version, Why}
 use Rattle.reg_interleavings.specs.declared.kinds.OrderKind.{OrderKind}
 use Rattle.reg_interleavings.specs.declared.kinds.OrderKind.TheVariants.{Serial, Points}
 use Rattle.reg_show.specs.declared.Player.{Player}
-use Rattle.reg_show_cli.specs.Lines.{IsAllLine, IsAnswer, IsAskedLine, IsChoice, IsCommandLine, IsFindLine, IsOneOutcomeLine, IsOutcomesLine, IsScheduleLine, IsVerifyLine, IsVersionLine, IsWhyLine, NumbersFit, SaysPlays}
+use Rattle.reg_show_cli.specs.Lines.{IsAllLine, IsAnswer, IsAskedLine, IsChoice, IsCommandLine, IsFindLine, IsOneOutcomeLine, IsOutcomesLine, IsScheduleLine, IsShortLine, IsVerifyLine, IsVersionLine, IsWhyLine, NumbersFit, SaysPlays}
 use Rattle.reg_args.specs.declared.faults.WordsFault.{WordsFault}
 use Rattle.reg_args.specs.declared.faults.WordsFault.TheVariants.{CommandLine, OutOfMemory}
 
@@ -68,7 +68,8 @@ module _ (line : List Text)
     (one : (number : ℕ) → ¬ IsOneOutcomeLine line number)
     (found : (kind : OrderKind) → ¬ IsFindLine line kind)
     (judged : ¬ IsVerifyLine line)
-    (scheduled : (player : Player) → ¬ IsScheduleLine line player) where
+    (scheduled : (player : Player) → ¬ IsScheduleLine line player)
+    (shortened : (player : Player) → ¬ IsShortLine line player) where
   unasked : ¬ IsCommandLine line → ¬ IsAskedLine line
   unasked shown asked = elim asked [
     | inl h ↦ shown h
@@ -79,12 +80,14 @@ module _ (line : List Text)
     | inr (inr (inr (inr (inr (inl (number, h)))))) ↦ one number h
     | inr (inr (inr (inr (inr (inr (inl (kind, h))))))) ↦ found kind h
     | inr (inr (inr (inr (inr (inr (inr (inl h))))))) ↦ judged h
-    | inr (inr (inr (inr (inr (inr (inr (inr (player, h)))))))) ↦ scheduled player h
+    | inr (inr (inr (inr (inr (inr (inr (inr (inl (player, h))))))))) ↦ scheduled player h
+    | inr (inr (inr (inr (inr (inr (inr (inr (inr (player, h))))))))) ↦ shortened player h
   ]
 
   pub chosen : (r : Result Asked WordsFault) → IsAnswer line r → IsChoice line r
   chosen (Ok (Show showing)) h = h
   chosen (Ok (Schedule player)) h = absurd h
+  chosen (Ok (ShortSchedule player)) h = absurd h
   chosen (Ok (Outcomes plays seed)) h = absurd h
   chosen (Ok AllOutcomes) h = absurd h
   chosen (Ok (Outcome number)) h = absurd h
@@ -126,6 +129,7 @@ few_plays flags plays seed (inr (some, few, e)) = few
 pub numbers_fit : (line : List Text) (asked : Asked) → IsChoice line (Ok asked) → NumbersFit asked
 numbers_fit line (Show showing) h = tt
 numbers_fit line (Schedule player) h = h.1
+numbers_fit line (ShortSchedule player) h = h.2.1
 numbers_fit line (Outcomes plays seed) h = (few_plays h.0 plays seed h.2, h.3)
 numbers_fit line AllOutcomes h = tt
 numbers_fit line (Outcome number) h = h.1

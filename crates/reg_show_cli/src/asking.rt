@@ -5,9 +5,9 @@ ghost use Rattle.std.specs.Prelude.{◌≡◌, ◌↔◌, ◌∷◌, [], ℕ, Ma
 ghost use Rattle.reg_args.specs.Lines.{behind_name};
 ghost use Rattle.reg_interleavings.specs.declared.kinds.OrderKind.{OrderKind as AnyKind};
 ghost use Rattle.reg_show.specs.declared.Player.{Player as AnyPlayer};
-ghost use Rattle.reg_show_cli.specs.Lines.{IsAllLine, IsChoice, IsFindLine, IsOneOutcomeLine, IsOutcomesLine, IsScheduleLine};
+ghost use Rattle.reg_show_cli.specs.Lines.{IsAllLine, IsChoice, IsFindLine, IsOneOutcomeLine, IsOutcomesLine, IsScheduleLine, IsShortLine};
 
-use crate::flags::{Plays, behind, line_of, number_alone, player_said, plays_said};
+use crate::flags::{Plays, behind, line_of, number_alone, player_said, plays_said, short_said};
 use crate::words::{Asked, choose};
 use reg_args::WordsFault;
 use reg_interleavings::OrderKind;
@@ -90,6 +90,14 @@ fn player_asked(words: &[String]) -> Option<Player>
     player_said(flags)
 }
 
+/// The player whose play the words ask for in short, and None where they ask for no short schedule.
+fn short_asked(words: &[String]) -> Option<Player>
+    ensures { MatchOption result ((player : AnyPlayer) → ¬ IsShortLine (behind_name words.now) player) (IsShortLine (behind_name words.now)) }
+{
+    let flags = behind(line_of(words), "schedule")?;
+    short_said(flags)
+}
+
 /// The plays that the words ask to count, and None where they ask for none.
 fn plays_asked(words: &[String]) -> Option<Plays>
     ensures { MatchOption result ((plays : ℕ) (seed : Option ℕ) → ¬ IsOutcomesLine (behind_name words.now) plays seed) (λ p. IsOutcomesLine (behind_name words.now) p.plays p.seed) }
@@ -122,6 +130,9 @@ pub fn ask(alloc: Global, words: &[String]) -> Result<Asked, WordsFault>
     }
     if let Some(player) = player_asked(words) {
         return Ok(Asked::Schedule { player });
+    }
+    if let Some(player) = short_asked(words) {
+        return Ok(Asked::ShortSchedule { player });
     }
     match plays_asked(words) {
         Some(Plays { plays, seed }) => Ok(Asked::Outcomes { plays, seed }),

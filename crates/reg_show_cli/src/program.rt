@@ -15,7 +15,8 @@ use crate::words::{Asked, HELP, VERSION};
 use reg_args::{WordsFault, tell, words_of};
 use reg_commands::{Fault, write_fault};
 use reg_show::{
-    find_order, show_all_outcomes, show_outcome, show_outcomes, show_schedule, show_text, why_text,
+    find_order, show_all_outcomes, show_outcome, show_outcomes, show_schedule, show_short_schedule,
+    show_text, why_text,
 };
 use reg_text::write_bytes;
 use reg_verify::verify_text;
@@ -59,6 +60,9 @@ fn obey<R: AllocGlobal, I: Read, O: Write, E: Write>(
         Asked::Schedule { player } => {
             show_schedule(rt.alloc(), rt.alloc(), player, reader, writer, errors)
         }
+        Asked::ShortSchedule { player } => {
+            show_short_schedule(rt.alloc(), rt.alloc(), player, reader, writer, errors)
+        }
         Asked::Outcomes { plays, seed } => {
             show_outcomes(rt.alloc(), rt.alloc(), plays, seed, reader, writer, errors)
         }
@@ -80,7 +84,7 @@ pub fn refuse<E: Write>(fault: WordsFault, errors: &mut E) -> u8
 {
     tell(
         fault,
-        b"usage: awshow schedule [--fair | --seed S] | outcomes [--all [K] | [--plays N] [--seed S]] | find serial | find points | trace | draw | data | page | rest | why | verify\n",
+        b"usage: awshow schedule [--fair | --seed S] [--short] | outcomes [--all [K] | [--plays N] [--seed S]] | find serial | find points | trace | draw | data | page | rest | why | verify\n",
         errors,
     )
 }
