@@ -121,6 +121,14 @@ IsAskedLine line = IsCommandLine line ⊎ (((plays : ℕ) × (seed : Option ℕ)
 abbrev pub IsHelpLine : List Text → Type 0
 IsHelpLine line = (line ≡ codes "-h" ∷ []) ⊎ (line ≡ codes "--help" ∷ [])
 
+-- the words ask for help with the command of this name
+abbrev pub IsHelpWith : List Text → Text → Type 0
+IsHelpWith line name = (line ≡ name ∷ codes "--help" ∷ []) ⊎ (line ≡ name ∷ codes "-h" ∷ [])
+
+-- the words ask for help with a command that may have flags, or a word of its own
+abbrev pub IsCommandHelpLine : List Text → Type 0
+IsCommandHelpLine line = IsHelpWith line (codes "schedule") ⊎ (IsHelpWith line (codes "outcomes") ⊎ (IsHelpWith line (codes "find") ⊎ (IsHelpWith line (codes "why") ⊎ IsHelpWith line (codes "verify"))))
+
 -- an answer of the words that ask to show something: just what they ask; else help, only where a word may ask for it,
 -- or CommandLine where no flag alone asks for help
 abbrev pub IsAnswer : List Text → Result Asked WordsFault → Type 0
@@ -139,7 +147,7 @@ IsAnswer line (Err CommandLine) = ¬ IsCommandLine line × ¬ IsHelpLine line
 IsAnswer line (Err OutOfMemory) = ⊤
 
 -- an answer of the words: just what they ask to show, to count, to explain, to judge or to name; else help, only where
--- a word may ask for it, or CommandLine where no flag alone asks for help
+-- a word may ask for it, or CommandLine where no flag asks for help, alone or with such a command
 abbrev pub IsChoice : List Text → Result Asked WordsFault → Type 0
 IsChoice line (Ok (Show showing)) = line ≡ line_of showing
 IsChoice line (Ok (Schedule player)) = IsScheduleLine line player
@@ -152,7 +160,7 @@ IsChoice line (Ok Why) = IsWhyLine line
 IsChoice line (Ok Verify) = IsVerifyLine line
 IsChoice line (Ok Version) = IsVersionLine line
 IsChoice line (Ok Help) = ¬ IsAskedLine line × (list_any may_ask_help line ≡ true)
-IsChoice line (Err CommandLine) = ¬ IsAskedLine line × ¬ IsHelpLine line
+IsChoice line (Err CommandLine) = ¬ IsAskedLine line × ¬ IsHelpLine line × ¬ IsCommandHelpLine line
 IsChoice line (Err OutOfMemory) = ⊤
 
 -- what is asked for has no more plays than can be counted, a seed that a workload can have, and the outcome a number

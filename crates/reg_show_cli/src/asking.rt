@@ -1,11 +1,12 @@
 //! What the words of a command line ask for: to show something, the schedule of a play, or to tell of the outcomes of a
 //! workload. The words of the last two are read here, since they may have numbers, and so are those that stand alone:
 //! `why`, `verify` and `--version`. All others are read by `clap`.
-ghost use Rattle.std.specs.Prelude.{◌≡◌, ◌↔◌, ◌∷◌, [], ℕ, MatchOption, Option, Some, map, true, slice_get, string_bytes};
+ghost use Rattle.std.specs.Prelude.{◌≡◌, ◌↔◌, ◌∷◌, [], ℕ, MatchOption, Ok, Option, Some, map, true, slice_get, string_bytes};
 ghost use Rattle.reg_args.specs.Lines.{behind_name};
 ghost use Rattle.reg_interleavings.specs.declared.kinds.OrderKind.{OrderKind as AnyKind};
 ghost use Rattle.reg_show.specs.declared.Player.{Player as AnyPlayer};
-ghost use Rattle.reg_show_cli.specs.Lines.{IsAllLine, IsChoice, IsFindLine, IsOneOutcomeLine, IsOutcomesLine, IsScheduleLine, IsShortLine};
+ghost use Rattle.reg_show_cli.specs.declared.words.Asked.TheVariants.{Help};
+ghost use Rattle.reg_show_cli.specs.Lines.{IsAllLine, IsAnswer, IsChoice, IsCommandHelpLine, IsFindLine, IsHelpWith, IsOneOutcomeLine, IsOutcomesLine, IsScheduleLine, IsShortLine};
 
 use crate::flags::{Plays, behind, line_of, number_alone, player_said, plays_said, short_said};
 use crate::words::{Asked, choose};
@@ -106,6 +107,35 @@ fn plays_asked(words: &[String]) -> Option<Plays>
     plays_said(flags)
 }
 
+/// Whether the words ask for help with the command of this name.
+fn asks_help_with(words: &[String], name: &str) -> bool
+    ensures { result ≡ true ↔ IsHelpWith (behind_name words.now) name.now }
+{
+    are_two(words, name, "--help") || are_two(words, name, "-h")
+}
+
+/// Whether the words ask for help with a command that is read here.
+fn asks_help(words: &[String]) -> bool
+    ensures { result ≡ true ↔ IsCommandHelpLine (behind_name words.now) }
+{
+    asks_help_with(words, "schedule")
+        || asks_help_with(words, "outcomes")
+        || asks_help_with(words, "find")
+        || asks_help_with(words, "why")
+        || asks_help_with(words, "verify")
+}
+
+/// Help where the words ask for it with a command that is read here, and else what `clap` reads.
+fn help_or_choose(alloc: Global, words: &[String]) -> Result<Asked, WordsFault>
+    ensures answer { IsAnswer (behind_name words.now) result }
+    ensures help { IsCommandHelpLine (behind_name words.now) → result ≡ Ok Help }
+{
+    if asks_help(words) {
+        return Ok(Asked::Help);
+    }
+    choose(alloc, words)
+}
+
 /// What the words ask for. The first word is the program's name. A word `--` is refused.
 pub fn ask(alloc: Global, words: &[String]) -> Result<Asked, WordsFault>
     ensures { IsChoice (behind_name words.now) result }
@@ -136,6 +166,6 @@ pub fn ask(alloc: Global, words: &[String]) -> Result<Asked, WordsFault>
     }
     match plays_asked(words) {
         Some(Plays { plays, seed }) => Ok(Asked::Outcomes { plays, seed }),
-        None => choose(alloc, words),
+        None => help_or_choose(alloc, words),
     }
 }

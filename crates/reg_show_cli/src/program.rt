@@ -5,7 +5,7 @@ ghost use Rattle.reg_text.specs.Writing.{AppendsPart};
 ghost use Rattle.reg_commands.specs.FaultLines.{fault_line};
 ghost use Rattle.reg_args.specs.Faults.{status_of};
 ghost use Rattle.reg_args.specs.Lines.{behind_name};
-ghost use Rattle.reg_show_cli.specs.Lines.{IsAskedLine, IsChoice, IsHelpLine, NumbersFit, refused_line};
+ghost use Rattle.reg_show_cli.specs.Lines.{IsAskedLine, IsChoice, IsCommandHelpLine, IsHelpLine, NumbersFit, refused_line};
 ghost use Rattle.reg_show_cli.specs.Statuses.{Obeys, Stops, Tells, memory_line};
 ghost use Rattle.reg_show_cli.specs.declared.words.Asked.{Asked as AnyAsked};
 ghost use Rattle.reg_show_cli.specs.declared.words.TheConstants.{HELP, VERSION};
@@ -103,6 +103,7 @@ pub fn run_line<R: AllocGlobal, I: Read, O: Write, E: Write>(
     ensures stopped { result ≡ 1 → ((asked : AnyAsked) × IsChoice (behind_name words.now) (Ok asked) × Stops asked (I.remaining reader.old) (writer.new ≡ writer.old) (O.contents writer.old) (O.contents writer.new) (E.contents errors.old) (E.contents errors.new))
         ⊎ ((writer.new ≡ writer.old) × AppendsPart (E.contents errors.old) (E.contents errors.new) memory_line) }
     ensures refused { result ≡ 2 → (¬ IsAskedLine (behind_name words.now)) × (¬ IsHelpLine (behind_name words.now)) × (writer.new ≡ writer.old) }
+    ensures helped { result ≡ 2 → ¬ IsCommandHelpLine (behind_name words.now) }
     ensures told { result ≡ 2 → AppendsPart (E.contents errors.old) (E.contents errors.new) refused_line }
     ensures quiet { result ≡ 0 → errors.new ≡ errors.old }
 {
@@ -123,6 +124,7 @@ where
         ⊎ AppendsPart (E.contents errors.old) (E.contents errors.new) memory_line }
     ensures refused { result ≡ 2 → ¬ IsAskedLine (behind_name words.now) }
     ensures helped { result ≡ 2 → ¬ IsHelpLine (behind_name words.now) }
+    ensures helped_with { result ≡ 2 → ¬ IsCommandHelpLine (behind_name words.now) }
     ensures told { result ≡ 2 → AppendsPart (E.contents errors.old) (E.contents errors.new) refused_line }
     ensures quiet { result ≡ 0 → errors.new ≡ errors.old }
 {

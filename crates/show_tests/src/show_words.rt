@@ -6,7 +6,7 @@ use std::alloc::Global;
 use std::process::Abort;
 
 /// Each line, and what it asks for.
-const LINES: [(&str, Result<Asked, WordsFault>); 88] = [
+const LINES: [(&str, Result<Asked, WordsFault>); 94] = [
     (
         "schedule",
         Ok(Asked::Schedule {
@@ -215,6 +215,12 @@ const LINES: [(&str, Result<Asked, WordsFault>); 88] = [
     ("-h", Ok(Asked::Help)),
     ("--help", Ok(Asked::Help)),
     ("draw --help", Ok(Asked::Help)),
+    ("schedule --help", Ok(Asked::Help)),
+    ("outcomes -h", Ok(Asked::Help)),
+    ("find --help", Ok(Asked::Help)),
+    ("why --help", Ok(Asked::Help)),
+    ("verify -h", Ok(Asked::Help)),
+    ("schedule --help --fair", Err(WordsFault::CommandLine)),
     ("help trace", Ok(Asked::Help)),
     ("", Err(WordsFault::CommandLine)),
     ("trace --", Err(WordsFault::CommandLine)),
