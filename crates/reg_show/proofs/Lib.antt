@@ -13,3 +13,6 @@ pub mod Reseeded
 pub mod Turned
 pub mod Shown
 pub mod Reordering
+pub mod Beginnings
+pub mod Shortened
+pub mod ShortPlays

@@ -4,6 +4,7 @@ pub mod Tellings
 pub mod TextFaults
 pub mod Seeds
 pub mod Schedules
+pub mod Shorts
 pub mod Runs
 pub mod Pages
 pub mod Rests

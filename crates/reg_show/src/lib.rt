@@ -20,6 +20,8 @@ mod running;
 mod scheduling;
 mod searching;
 mod seeding;
+mod short_schedules;
+mod shortening;
 mod showing;
 mod telling;
 
@@ -33,4 +35,5 @@ pub use players::Player;
 pub use reg_outcomes::MOST_PLAYS;
 pub use running::show_text;
 pub use scheduling::show_schedule;
+pub use short_schedules::{MOST_SHORTENED, ShortFault, show_short_schedule};
 pub use showing::Showing;

@@ -24,7 +24,7 @@ use Rattle.reg_show_cli.specs.Words.{awshow, told_of}
 use Rattle.reg_show_cli.specs.Lines.{IsAnswer, IsCommandLine, IsHelpLine, line_of, name_of}
 use Rattle.reg_show_cli.proofs.Lines.{awshow_lines, no_name, subs}
 use Rattle.reg_show_cli.specs.declared.words.Asked.{Asked}
-use Rattle.reg_show_cli.specs.declared.words.Asked.TheVariants.{AllOutcomes, Find, Help, Outcome, Outcomes, Schedule, Show, Verify, Version, Why}
+use Rattle.reg_show_cli.specs.declared.words.Asked.TheVariants.{AllOutcomes, Find, Help, Outcome, Outcomes, Schedule, ShortSchedule, Show, Verify, Version, Why}
 use Rattle.reg_args.specs.declared.faults.WordsFault.{WordsFault}
 use Rattle.reg_args.specs.declared.faults.WordsFault.TheVariants.{CommandLine, OutOfMemory}
 
@@ -134,6 +134,11 @@ never_scheduled DisplayHelp player e = cc
 never_scheduled NoMemory player e = cc
 never_scheduled _ player e = cc
 
+never_short : (k : ErrorKind) (player : Player) → told_of k ≡ Ok (ShortSchedule player) → ⊥
+never_short DisplayHelp player e = cc
+never_short NoMemory player e = cc
+never_short _ player e = cc
+
 never_counted : (k : ErrorKind) (plays : ℕ) (seed : Option ℕ) → told_of k ≡ Ok (Outcomes plays seed) → ⊥
 never_counted DisplayHelp plays seed e = cc
 never_counted NoMemory plays seed e = cc
@@ -196,6 +201,7 @@ refused words error memory kinds = go (told_of (kind_of error)) refl
     go : (r : Result Asked WordsFault) → told_of (kind_of error) ≡ r → IsAnswer (drop 1 words) r
     go (Ok (Show showing)) is = absurd (never_shown (kind_of error) showing is)
     go (Ok (Schedule player)) is = absurd (never_scheduled (kind_of error) player is)
+    go (Ok (ShortSchedule player)) is = absurd (never_short (kind_of error) player is)
     go (Ok (Outcomes plays seed)) is = absurd (never_counted (kind_of error) plays seed is)
     go (Ok AllOutcomes) is = absurd (never_all (kind_of error) is)
     go (Ok (Outcome number)) is = absurd (never_one (kind_of error) number is)

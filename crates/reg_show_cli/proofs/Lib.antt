@@ -3,3 +3,4 @@ pub mod Choices
 pub mod Counted
 pub mod Flagged
 pub mod Telling
+pub mod Shortly

@@ -2,11 +2,12 @@
 use Rattle.std.proofs.Common.{ℕ, List, Option, inl, inr}
 use Rattle.reg_show_cli.specs.Statuses.{Stops, Tells}
 use Rattle.reg_show_cli.specs.declared.words.Asked.{Asked}
-use Rattle.reg_show_cli.specs.declared.words.Asked.TheVariants.{AllOutcomes, Find, Help, Outcome, Outcomes, Schedule, Show, Verify, Version, Why}
+use Rattle.reg_show_cli.specs.declared.words.Asked.TheVariants.{AllOutcomes, Find, Help, Outcome, Outcomes, Schedule, ShortSchedule, Show, Verify, Version, Why}
 
 pub tells_of : (asked : Asked) (input : Option (List ℕ)) (unwritten : Type 0) (old new was is : Option (List ℕ)) → Stops asked input unwritten old new was is → Tells asked was is
 tells_of (Show showing) input unwritten old new was is h = (h.0, h.4)
 tells_of (Schedule player) input unwritten old new was is h = (h.0, h.4)
+tells_of (ShortSchedule player) input unwritten old new was is h = (h.0, h.4)
 tells_of (Outcomes plays seed) input unwritten old new was is h = (h.0, h.4)
 tells_of AllOutcomes input unwritten old new was is h = (h.0, h.4)
 tells_of (Outcome number) input unwritten old new was is h = (h.0, h.4)

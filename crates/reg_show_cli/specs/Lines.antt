@@ -15,7 +15,7 @@ use Rattle.reg_outcomes.specs.declared.kinds.OrderKind.TheVariants.{Serial, Poin
 use Rattle.reg_show_cli.specs.declared.asking.TheConstants.{LAST_OUTCOME}
 use Rattle.reg_show_cli.specs.declared.flags.TheConstants.{USUAL_PLAYS}
 use Rattle.reg_show_cli.specs.declared.words.Asked.{Asked}
-use Rattle.reg_show_cli.specs.declared.words.Asked.TheVariants.{AllOutcomes, Find, Help, Outcome, Outcomes, Schedule, Show, Verify, Version, Why}
+use Rattle.reg_show_cli.specs.declared.words.Asked.TheVariants.{AllOutcomes, Find, Help, Outcome, Outcomes, Schedule, ShortSchedule, Show, Verify, Version, Why}
 use Rattle.reg_args.specs.declared.faults.WordsFault.{WordsFault}
 use Rattle.reg_args.specs.declared.faults.WordsFault.TheVariants.{CommandLine, OutOfMemory}
 
@@ -56,6 +56,19 @@ SaysPlayer flags player = (flags ≡ player_words player) × IsSeed (seed_of pla
 -- the words ask for the schedule of this player's play
 abbrev pub IsScheduleLine : List Text → Player → Type 0
 IsScheduleLine line player = (line ≡ codes "schedule" ∷ player_words player) × IsSeed (seed_of player)
+
+-- the words for a short form
+abbrev pub short_words : List Text
+short_words = codes "--short" ∷ []
+
+-- these words are those for a short form and those for a player, whose seed a workload can have: the one and then the
+-- other, in either order
+abbrev pub SaysShort : List Text → Player → Type 0
+SaysShort flags player = ((flags ≡ short_words ++ player_words player) ⊎ (flags ≡ player_words player ++ short_words)) × IsSeed (seed_of player)
+
+-- the words ask for the schedule of the short form of this player's play
+abbrev pub IsShortLine : List Text → Player → Type 0
+IsShortLine line player = (flags : List Text) × (line ≡ codes "schedule" ∷ flags) × SaysShort flags player
 
 -- these words are those for so many plays
 abbrev pub plays_words : ℕ → List Text
@@ -102,17 +115,26 @@ IsFindLine line kind = line ≡ codes "find" ∷ order_word kind ∷ []
 
 -- the words ask for one of these
 abbrev pub IsAskedLine : List Text → Type 0
-IsAskedLine line = IsCommandLine line ⊎ (((plays : ℕ) × (seed : Option ℕ) × IsOutcomesLine line plays seed) ⊎ (IsWhyLine line ⊎ (IsVersionLine line ⊎ (IsAllLine line ⊎ (((number : ℕ) × IsOneOutcomeLine line number) ⊎ (((kind : OrderKind) × IsFindLine line kind) ⊎ (IsVerifyLine line ⊎ ((player : Player) × IsScheduleLine line player))))))))
+IsAskedLine line = IsCommandLine line ⊎ (((plays : ℕ) × (seed : Option ℕ) × IsOutcomesLine line plays seed) ⊎ (IsWhyLine line ⊎ (IsVersionLine line ⊎ (IsAllLine line ⊎ (((number : ℕ) × IsOneOutcomeLine line number) ⊎ (((kind : OrderKind) × IsFindLine line kind) ⊎ (IsVerifyLine line ⊎ (((player : Player) × IsScheduleLine line player) ⊎ ((player : Player) × IsShortLine line player)))))))))
 
 -- the words ask for help by a flag alone
 abbrev pub IsHelpLine : List Text → Type 0
 IsHelpLine line = (line ≡ codes "-h" ∷ []) ⊎ (line ≡ codes "--help" ∷ [])
+
+-- the words ask for help with the command of this name
+abbrev pub IsHelpWith : List Text → Text → Type 0
+IsHelpWith line name = (line ≡ name ∷ codes "--help" ∷ []) ⊎ (line ≡ name ∷ codes "-h" ∷ [])
+
+-- the words ask for help with a command that may have flags, or a word of its own
+abbrev pub IsCommandHelpLine : List Text → Type 0
+IsCommandHelpLine line = IsHelpWith line (codes "schedule") ⊎ (IsHelpWith line (codes "outcomes") ⊎ (IsHelpWith line (codes "find") ⊎ (IsHelpWith line (codes "why") ⊎ IsHelpWith line (codes "verify"))))
 
 -- an answer of the words that ask to show something: just what they ask; else help, only where a word may ask for it,
 -- or CommandLine where no flag alone asks for help
 abbrev pub IsAnswer : List Text → Result Asked WordsFault → Type 0
 IsAnswer line (Ok (Show showing)) = line ≡ line_of showing
 IsAnswer line (Ok (Schedule player)) = ⊥
+IsAnswer line (Ok (ShortSchedule player)) = ⊥
 IsAnswer line (Ok (Outcomes plays seed)) = ⊥
 IsAnswer line (Ok AllOutcomes) = ⊥
 IsAnswer line (Ok (Outcome number)) = ⊥
@@ -125,10 +147,11 @@ IsAnswer line (Err CommandLine) = ¬ IsCommandLine line × ¬ IsHelpLine line
 IsAnswer line (Err OutOfMemory) = ⊤
 
 -- an answer of the words: just what they ask to show, to count, to explain, to judge or to name; else help, only where
--- a word may ask for it, or CommandLine where no flag alone asks for help
+-- a word may ask for it, or CommandLine where no flag asks for help, alone or with such a command
 abbrev pub IsChoice : List Text → Result Asked WordsFault → Type 0
 IsChoice line (Ok (Show showing)) = line ≡ line_of showing
 IsChoice line (Ok (Schedule player)) = IsScheduleLine line player
+IsChoice line (Ok (ShortSchedule player)) = IsShortLine line player
 IsChoice line (Ok (Outcomes plays seed)) = IsOutcomesLine line plays seed
 IsChoice line (Ok AllOutcomes) = IsAllLine line
 IsChoice line (Ok (Outcome number)) = IsOneOutcomeLine line number
@@ -137,17 +160,18 @@ IsChoice line (Ok Why) = IsWhyLine line
 IsChoice line (Ok Verify) = IsVerifyLine line
 IsChoice line (Ok Version) = IsVersionLine line
 IsChoice line (Ok Help) = ¬ IsAskedLine line × (list_any may_ask_help line ≡ true)
-IsChoice line (Err CommandLine) = ¬ IsAskedLine line × ¬ IsHelpLine line
+IsChoice line (Err CommandLine) = ¬ IsAskedLine line × ¬ IsHelpLine line × ¬ IsCommandHelpLine line
 IsChoice line (Err OutOfMemory) = ⊤
 
 -- what is asked for has no more plays than can be counted, a seed that a workload can have, and the outcome a number
 -- from 1 on
 abbrev pub NumbersFit : Asked → Type 0
 NumbersFit (Schedule player) = IsSeed (seed_of player)
+NumbersFit (ShortSchedule player) = IsSeed (seed_of player)
 NumbersFit (Outcomes plays seed) = (plays ≤ MOST_PLAYS) × IsSeed seed
 NumbersFit (Outcome number) = 1 ≤ number
 NumbersFit _ = ⊤
 
 -- the line for words that ask for nothing, with its line feed
 abbrev pub refused_line : List ℕ
-refused_line = codes "usage: awshow schedule [--fair | --seed S] | outcomes [--all [K] | [--plays N] [--seed S]] | find serial | find points | trace | draw | data | page | rest | why | verify" ++ 10 ∷ []
+refused_line = codes "usage: awshow schedule [--fair | --seed S] [--short] | outcomes [--all [K] | [--plays N] [--seed S]] | find serial | find points | trace | draw | data | page | rest | why | verify" ++ 10 ∷ []

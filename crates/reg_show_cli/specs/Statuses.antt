@@ -20,12 +20,15 @@ use Rattle.reg_show.specs.Outcomes.{BlamesCount, WritesOutcomes}
 use Rattle.reg_show.specs.declared.one_outcome.OutcomeFault.{OutcomeFault}
 use Rattle.reg_show.specs.declared.one_outcome.OutcomeFault.TheVariants.{Command as OutcomeCommand}
 use Rattle.reg_show.specs.Schedules.{WritesSchedule}
+use Rattle.reg_show.specs.Shorts.{BlamesShort, WritesShort, short_line}
+use Rattle.reg_show.specs.declared.short_schedules.ShortFault.{ShortFault}
+use Rattle.reg_show.specs.declared.short_schedules.ShortFault.TheVariants.{Command as ShortCommand}
 use Rattle.reg_show.specs.Showings.{Blames, Shows, show_line}
 use Rattle.reg_verify.specs.Verifies.{BlamesAccount, Verifies, verify_line}
 use Rattle.reg_verify.specs.declared.faults.VerifyFault.{VerifyFault}
 use Rattle.reg_verify.specs.declared.faults.VerifyFault.TheVariants.{Command as VerifyCommand}
 use Rattle.reg_show_cli.specs.declared.words.Asked.{Asked}
-use Rattle.reg_show_cli.specs.declared.words.Asked.TheVariants.{AllOutcomes, Find, Help, Outcome, Outcomes, Schedule, Show, Verify, Version, Why}
+use Rattle.reg_show_cli.specs.declared.words.Asked.TheVariants.{AllOutcomes, Find, Help, Outcome, Outcomes, Schedule, ShortSchedule, Show, Verify, Version, Why}
 use Rattle.reg_show.specs.Tellings.{Answers, AnswersAny, Halts}
 
 -- Status 0: what was asked for was shown of the input, the input is accepted and that was written, or the text of the
@@ -33,6 +36,7 @@ use Rattle.reg_show.specs.Tellings.{Answers, AnswersAny, Halts}
 abbrev pub Obeys : List ℕ → List ℕ → Asked → Option (List ℕ) → (List ℕ → Type 0) → Type 0
 Obeys help version (Show showing) input Wrote = IfSome input (λ xs. length xs ≤ LONGEST_INPUT) × IfSome input (Shows showing Wrote)
 Obeys help version (Schedule player) input Wrote = IfSome input (λ xs. length xs ≤ LONGEST_INPUT) × IfSome input (WritesSchedule player Wrote)
+Obeys help version (ShortSchedule player) input Wrote = IfSome input (λ xs. length xs ≤ LONGEST_INPUT) × IfSome input (WritesShort player Wrote)
 Obeys help version (Outcomes plays seed) input Wrote = IfSome input (λ xs. length xs ≤ LONGEST_INPUT) × IfSome input (WritesOutcomes plays seed Wrote)
 Obeys help version AllOutcomes input Wrote = IfSome input (λ xs. length xs ≤ LONGEST_INPUT) × IfSome input (WritesAll Wrote)
 Obeys help version (Outcome number) input Wrote = IfSome input (λ xs. length xs ≤ LONGEST_INPUT) × IfSome input (WritesOutcome number Wrote)
@@ -51,6 +55,8 @@ Stops (Show showing) input unwritten old new was is =
     (f : ShowFault) × IfSome input (Blames showing f) × (f ≢ Command Output → unwritten) × (f ≡ Command Output → IfSome input (Shows showing (AppendsPart old new))) × AppendsPart was is (show_line f)
 Stops (Schedule player) input unwritten old new was is =
     (f : Fault) × IfSome input (BlamesCommand (Play false) f) × (f ≢ Output → unwritten) × (f ≡ Output → IfSome input (WritesSchedule player (AppendsPart old new))) × AppendsPart was is (fault_line f)
+Stops (ShortSchedule player) input unwritten old new was is =
+    (f : ShortFault) × IfSome input (BlamesShort player f) × (f ≢ ShortCommand Output → unwritten) × (f ≡ ShortCommand Output → IfSome input (WritesShort player (AppendsPart old new))) × AppendsPart was is (short_line f)
 Stops (Outcomes plays seed) input unwritten old new was is =
     (f : SearchFault) × IfSome input (BlamesCount plays seed f) × (f ≢ SearchCommand Output → unwritten) × (f ≡ SearchCommand Output → IfSome input (WritesOutcomes plays seed (AppendsPart old new))) × AppendsPart was is (search_line f)
 Stops AllOutcomes input unwritten old new was is =
@@ -72,6 +78,7 @@ Stops Version input unwritten old new was is = AppendsPart was is (fault_line Ou
 abbrev pub Tells : Asked → Option (List ℕ) → Option (List ℕ) → Type 0
 Tells (Show showing) was is = (f : ShowFault) × AppendsPart was is (show_line f)
 Tells (Schedule player) was is = (f : Fault) × AppendsPart was is (fault_line f)
+Tells (ShortSchedule player) was is = (f : ShortFault) × AppendsPart was is (short_line f)
 Tells (Outcomes plays seed) was is = (f : SearchFault) × AppendsPart was is (search_line f)
 Tells AllOutcomes was is = (f : SearchFault) × AppendsPart was is (search_line f)
 Tells (Outcome number) was is = (f : OutcomeFault) × AppendsPart was is (outcome_line f)

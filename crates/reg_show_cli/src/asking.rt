@@ -1,13 +1,14 @@
 //! What the words of a command line ask for: to show something, the schedule of a play, or to tell of the outcomes of a
 //! workload. The words of the last two are read here, since they may have numbers, and so are those that stand alone:
 //! `why`, `verify` and `--version`. All others are read by `clap`.
-ghost use Rattle.std.specs.Prelude.{◌≡◌, ◌↔◌, ◌∷◌, [], ℕ, MatchOption, Option, Some, map, true, slice_get, string_bytes};
+ghost use Rattle.std.specs.Prelude.{◌≡◌, ◌↔◌, ◌∷◌, [], ℕ, MatchOption, Ok, Option, Some, map, true, slice_get, string_bytes};
 ghost use Rattle.reg_args.specs.Lines.{behind_name};
 ghost use Rattle.reg_outcomes.specs.declared.kinds.OrderKind.{OrderKind as AnyKind};
 ghost use Rattle.reg_show.specs.declared.Player.{Player as AnyPlayer};
-ghost use Rattle.reg_show_cli.specs.Lines.{IsAllLine, IsChoice, IsFindLine, IsOneOutcomeLine, IsOutcomesLine, IsScheduleLine};
+ghost use Rattle.reg_show_cli.specs.declared.words.Asked.TheVariants.{Help};
+ghost use Rattle.reg_show_cli.specs.Lines.{IsAllLine, IsAnswer, IsChoice, IsCommandHelpLine, IsFindLine, IsHelpWith, IsOneOutcomeLine, IsOutcomesLine, IsScheduleLine, IsShortLine};
 
-use crate::flags::{Plays, behind, line_of, number_alone, player_said, plays_said};
+use crate::flags::{Plays, behind, line_of, number_alone, player_said, plays_said, short_said};
 use crate::words::{Asked, choose};
 use reg_args::WordsFault;
 use reg_outcomes::OrderKind;
@@ -90,12 +91,49 @@ fn player_asked(words: &[String]) -> Option<Player>
     player_said(flags)
 }
 
+/// The player whose play the words ask for in short, and None where they ask for no short schedule.
+fn short_asked(words: &[String]) -> Option<Player>
+    ensures { MatchOption result ((player : AnyPlayer) → ¬ IsShortLine (behind_name words.now) player) (IsShortLine (behind_name words.now)) }
+{
+    let flags = behind(line_of(words), "schedule")?;
+    short_said(flags)
+}
+
 /// The plays that the words ask to count, and None where they ask for none.
 fn plays_asked(words: &[String]) -> Option<Plays>
     ensures { MatchOption result ((plays : ℕ) (seed : Option ℕ) → ¬ IsOutcomesLine (behind_name words.now) plays seed) (λ p. IsOutcomesLine (behind_name words.now) p.plays p.seed) }
 {
     let flags = behind(line_of(words), "outcomes")?;
     plays_said(flags)
+}
+
+/// Whether the words ask for help with the command of this name.
+fn asks_help_with(words: &[String], name: &str) -> bool
+    ensures { result ≡ true ↔ IsHelpWith (behind_name words.now) name.now }
+{
+    are_two(words, name, "--help") || are_two(words, name, "-h")
+}
+
+/// Whether the words ask for help with a command that is read here.
+fn asks_help(words: &[String]) -> bool
+    ensures { result ≡ true ↔ IsCommandHelpLine (behind_name words.now) }
+{
+    asks_help_with(words, "schedule")
+        || asks_help_with(words, "outcomes")
+        || asks_help_with(words, "find")
+        || asks_help_with(words, "why")
+        || asks_help_with(words, "verify")
+}
+
+/// Help where the words ask for it with a command that is read here, and else what `clap` reads.
+fn help_or_choose(alloc: Global, words: &[String]) -> Result<Asked, WordsFault>
+    ensures answer { IsAnswer (behind_name words.now) result }
+    ensures help { IsCommandHelpLine (behind_name words.now) → result ≡ Ok Help }
+{
+    if asks_help(words) {
+        return Ok(Asked::Help);
+    }
+    choose(alloc, words)
 }
 
 /// What the words ask for. The first word is the program's name. A word `--` is refused.
@@ -123,8 +161,11 @@ pub fn ask(alloc: Global, words: &[String]) -> Result<Asked, WordsFault>
     if let Some(player) = player_asked(words) {
         return Ok(Asked::Schedule { player });
     }
+    if let Some(player) = short_asked(words) {
+        return Ok(Asked::ShortSchedule { player });
+    }
     match plays_asked(words) {
         Some(Plays { plays, seed }) => Ok(Asked::Outcomes { plays, seed }),
-        None => choose(alloc, words),
+        None => help_or_choose(alloc, words),
     }
 }

@@ -5,7 +5,8 @@ ghost use Rattle.clap.specs.Words.{Text};
 ghost use Rattle.reg_args.specs.Lines.{behind_name};
 ghost use Rattle.reg_show.specs.Seeds.{IsSeed};
 ghost use Rattle.reg_show.specs.declared.Player.{Player as AnyPlayer};
-ghost use Rattle.reg_show_cli.specs.Lines.{SaysPlayer, SaysPlays, SaysSeed, plays_words, seed_words};
+ghost use Rattle.reg_show.specs.declared.Player.TheVariants.{Fair};
+ghost use Rattle.reg_show_cli.specs.Lines.{SaysPlayer, SaysPlays, SaysSeed, SaysShort, player_words, plays_words, seed_words, short_words};
 
 use reg_base::limits::LAST_SEED;
 use reg_show::{MOST_PLAYS, Player};
@@ -95,6 +96,45 @@ pub(crate) fn player_said(flags: &[String]) -> Option<Player>
     match seed_said(flags) {
         Some(seed) => Some(Player::Seeded { seed }),
         None => None,
+    }
+}
+
+/// Whether flags are that of the fair player and then `--short`.
+fn is_fair_and_short(flags: &[String]) -> bool
+    ensures { result ≡ true ↔ map string_bytes flags.now ≡ player_words Fair ++ short_words }
+{
+    match behind(flags, "--fair") {
+        Some(rest) => is_word(rest, "--short"),
+        None => false,
+    }
+}
+
+/// The seed that flags say before `--short`.
+fn seed_before_short(flags: &[String]) -> Option<u64>
+    ensures { MatchOption result ((seed : ℕ) → seed ≤ LAST_SEED → ¬ (map string_bytes flags.now ≡ seed_words (Some seed) ++ short_words)) (λ seed. (seed ≤ LAST_SEED) × (map string_bytes flags.now ≡ seed_words (Some seed) ++ short_words)) }
+{
+    let (seed, rest) = numbered(flags, "--seed", LAST_SEED)?;
+    if is_word(rest, "--short") {
+        Some(seed)
+    } else {
+        None
+    }
+}
+
+/// The player that flags say beside `--short`, which stands before the player's flags or after them.
+pub(crate) fn short_said(flags: &[String]) -> Option<Player>
+    ensures { MatchOption result ((player : AnyPlayer) → ¬ SaysShort (map string_bytes flags.now) player) (SaysShort (map string_bytes flags.now)) }
+{
+    if let Some(rest) = behind(flags, "--short") {
+        return player_said(rest);
+    }
+    if is_fair_and_short(flags) {
+        Some(Player::Fair)
+    } else {
+        match seed_before_short(flags) {
+            Some(seed) => Some(Player::Seeded { seed: Some(seed) }),
+            None => None,
+        }
     }
 }
 

@@ -5,7 +5,7 @@ ghost use Rattle.reg_text.specs.Writing.{AppendsPart};
 ghost use Rattle.reg_commands.specs.FaultLines.{fault_line};
 ghost use Rattle.reg_args.specs.Faults.{status_of};
 ghost use Rattle.reg_args.specs.Lines.{behind_name};
-ghost use Rattle.reg_show_cli.specs.Lines.{IsAskedLine, IsChoice, IsHelpLine, NumbersFit, refused_line};
+ghost use Rattle.reg_show_cli.specs.Lines.{IsAskedLine, IsChoice, IsCommandHelpLine, IsHelpLine, NumbersFit, refused_line};
 ghost use Rattle.reg_show_cli.specs.Statuses.{Obeys, Stops, Tells, memory_line};
 ghost use Rattle.reg_show_cli.specs.declared.words.Asked.{Asked as AnyAsked};
 ghost use Rattle.reg_show_cli.specs.declared.words.TheConstants.{HELP, VERSION};
@@ -15,7 +15,8 @@ use crate::words::{Asked, HELP, VERSION};
 use reg_args::{WordsFault, tell, words_of};
 use reg_commands::{Fault, write_fault};
 use reg_show::{
-    find_order, show_all_outcomes, show_outcome, show_outcomes, show_schedule, show_text, why_text,
+    find_order, show_all_outcomes, show_outcome, show_outcomes, show_schedule, show_short_schedule,
+    show_text, why_text,
 };
 use reg_text::write_bytes;
 use reg_verify::verify_text;
@@ -59,6 +60,9 @@ fn obey<R: AllocGlobal, I: Read, O: Write, E: Write>(
         Asked::Schedule { player } => {
             show_schedule(rt.alloc(), rt.alloc(), player, reader, writer, errors)
         }
+        Asked::ShortSchedule { player } => {
+            show_short_schedule(rt.alloc(), rt.alloc(), player, reader, writer, errors)
+        }
         Asked::Outcomes { plays, seed } => {
             show_outcomes(rt.alloc(), rt.alloc(), plays, seed, reader, writer, errors)
         }
@@ -80,7 +84,7 @@ pub fn refuse<E: Write>(fault: WordsFault, errors: &mut E) -> u8
 {
     tell(
         fault,
-        b"usage: awshow schedule [--fair | --seed S] | outcomes [--all [K] | [--plays N] [--seed S]] | find serial | find points | trace | draw | data | page | rest | why | verify\n",
+        b"usage: awshow schedule [--fair | --seed S] [--short] | outcomes [--all [K] | [--plays N] [--seed S]] | find serial | find points | trace | draw | data | page | rest | why | verify\n",
         errors,
     )
 }
@@ -99,6 +103,7 @@ pub fn run_line<R: AllocGlobal, I: Read, O: Write, E: Write>(
     ensures stopped { result ≡ 1 → ((asked : AnyAsked) × IsChoice (behind_name words.now) (Ok asked) × Stops asked (I.remaining reader.old) (writer.new ≡ writer.old) (O.contents writer.old) (O.contents writer.new) (E.contents errors.old) (E.contents errors.new))
         ⊎ ((writer.new ≡ writer.old) × AppendsPart (E.contents errors.old) (E.contents errors.new) memory_line) }
     ensures refused { result ≡ 2 → (¬ IsAskedLine (behind_name words.now)) × (¬ IsHelpLine (behind_name words.now)) × (writer.new ≡ writer.old) }
+    ensures helped { result ≡ 2 → ¬ IsCommandHelpLine (behind_name words.now) }
     ensures told { result ≡ 2 → AppendsPart (E.contents errors.old) (E.contents errors.new) refused_line }
     ensures quiet { result ≡ 0 → errors.new ≡ errors.old }
 {
@@ -119,6 +124,7 @@ where
         ⊎ AppendsPart (E.contents errors.old) (E.contents errors.new) memory_line }
     ensures refused { result ≡ 2 → ¬ IsAskedLine (behind_name words.now) }
     ensures helped { result ≡ 2 → ¬ IsHelpLine (behind_name words.now) }
+    ensures helped_with { result ≡ 2 → ¬ IsCommandHelpLine (behind_name words.now) }
     ensures told { result ≡ 2 → AppendsPart (E.contents errors.old) (E.contents errors.new) refused_line }
     ensures quiet { result ≡ 0 → errors.new ≡ errors.old }
 {

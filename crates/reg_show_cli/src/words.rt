@@ -20,6 +20,8 @@ pub enum Asked {
     Show { showing: Showing },
     /// To print the schedule of this player's play of the workload on the input.
     Schedule { player: Player },
+    /// To print the schedule of the short form of this player's play of the workload on the input.
+    ShortSchedule { player: Player },
     /// To count what so many plays of the workload on the input tell, from this seed on, or else from its own.
     Outcomes { plays: u32, seed: Option<u64> },
     /// To print all outcomes that the scripts of the workload on the input can have.
@@ -48,6 +50,7 @@ Shows what processes that share registers do. Each command reads standard input.
 usage: awshow schedule               reads a workload, prints the schedule of its play
        awshow schedule --seed S      the same of its play by the seed S
        awshow schedule --fair        the same of its fair play
+       awshow schedule --short       any of the three up to the last answer, without what no answer needs
        awshow outcomes [--plays N]   reads a workload, prints what N plays of it answer, counted
                        [--seed S]    the same from the seed S on
        awshow outcomes --all         reads a workload, prints all that it may answer, and what it never does

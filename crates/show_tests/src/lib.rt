@@ -25,6 +25,8 @@ mod run_data;
 #[cfg(test)]
 mod seeds_shown;
 #[cfg(test)]
+mod short_shown;
+#[cfg(test)]
 mod show_words;
 #[cfg(test)]
 mod shown;

@@ -6,7 +6,7 @@ use std::alloc::Global;
 use std::process::Abort;
 
 /// Each line, and what it asks for.
-const LINES: [(&str, Result<Asked, WordsFault>); 78] = [
+const LINES: [(&str, Result<Asked, WordsFault>); 94] = [
     (
         "schedule",
         Ok(Asked::Schedule {
@@ -57,6 +57,47 @@ const LINES: [(&str, Result<Asked, WordsFault>); 78] = [
             player: Player::Fair,
         }),
     ),
+    (
+        "schedule --short",
+        Ok(Asked::ShortSchedule {
+            player: Player::Seeded { seed: None },
+        }),
+    ),
+    (
+        "schedule --fair --short",
+        Ok(Asked::ShortSchedule {
+            player: Player::Fair,
+        }),
+    ),
+    (
+        "schedule --short --fair",
+        Ok(Asked::ShortSchedule {
+            player: Player::Fair,
+        }),
+    ),
+    (
+        "schedule --seed 89 --short",
+        Ok(Asked::ShortSchedule {
+            player: Player::Seeded { seed: Some(89) },
+        }),
+    ),
+    (
+        "schedule --short --seed 89",
+        Ok(Asked::ShortSchedule {
+            player: Player::Seeded { seed: Some(89) },
+        }),
+    ),
+    ("schedule --short --short", Err(WordsFault::CommandLine)),
+    ("schedule --seed --short", Err(WordsFault::CommandLine)),
+    (
+        "schedule --short --seed 9223372036854775808",
+        Err(WordsFault::CommandLine),
+    ),
+    (
+        "schedule --fair --short --seed 5",
+        Err(WordsFault::CommandLine),
+    ),
+    ("trace --short", Err(WordsFault::CommandLine)),
     (
         "trace",
         Ok(Asked::Show {
@@ -174,6 +215,12 @@ const LINES: [(&str, Result<Asked, WordsFault>); 78] = [
     ("-h", Ok(Asked::Help)),
     ("--help", Ok(Asked::Help)),
     ("draw --help", Ok(Asked::Help)),
+    ("schedule --help", Ok(Asked::Help)),
+    ("outcomes -h", Ok(Asked::Help)),
+    ("find --help", Ok(Asked::Help)),
+    ("why --help", Ok(Asked::Help)),
+    ("verify -h", Ok(Asked::Help)),
+    ("schedule --help --fair", Err(WordsFault::CommandLine)),
     ("help trace", Ok(Asked::Help)),
     ("", Err(WordsFault::CommandLine)),
     ("trace --", Err(WordsFault::CommandLine)),
@@ -221,6 +268,6 @@ fn is_told(alloc: Global, status: u8, line: &str) -> bool {
 #[test]
 fn a_refused_command_line_is_told_by_a_usage_line(rt: HostRuntime) {
     let usage =
-        "usage: awshow schedule [--fair | --seed S] | outcomes [--all [K] | [--plays N] [--seed S]] | find serial | find points | trace | draw | data | page | rest | why | verify\n";
+        "usage: awshow schedule [--fair | --seed S] [--short] | outcomes [--all [K] | [--plays N] [--seed S]] | find serial | find points | trace | draw | data | page | rest | why | verify\n";
     assert!(rt; is_told(rt.alloc(), 2, usage));
 }

@@ -19,6 +19,12 @@ returns-in-Schedule-clause-obeyed g c = search rules
 pub returns-in-Schedule-clause-stopped : goal.returns-in-Schedule-clause-stopped
 returns-in-Schedule-clause-stopped g c = search rules
 
+pub returns-in-ShortSchedule-clause-obeyed : goal.returns-in-ShortSchedule-clause-obeyed
+returns-in-ShortSchedule-clause-obeyed g c = search rules
+
+pub returns-in-ShortSchedule-clause-stopped : goal.returns-in-ShortSchedule-clause-stopped
+returns-in-ShortSchedule-clause-stopped g c = search rules
+
 pub returns-in-Show-clause-obeyed : goal.returns-in-Show-clause-obeyed
 returns-in-Show-clause-obeyed g c = search rules
 
