@@ -1,5 +1,5 @@
-//! What scripts may answer: all outcomes of their interleavings on one memory, what none of them has, and a run of each;
-//! the table of what many plays told; and orders of a history, found by a search.
+//! What scripts may answer: all outcomes of their interleavings on one memory, what none of them has, and a run of
+//! each; the table of what many plays told; and orders of a history, found by a search.
 #![tactic(auto)]
 
 mod all_text;
