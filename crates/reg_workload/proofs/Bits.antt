@@ -1,5 +1,5 @@
 -- Bits that tell of each number whether a test holds, beside the lists of those for which it does.
-use Rattle.std.proofs.Common.{◌≡◌, ℕ, zero, suc, ◌+◌, ◌-◌, ◌*◌, ◌%◌, ◌^◌, ◌<◌, ◌≤◌, Bool, true, false, List, length, count_ones, Some, refl, sym, ap, ◌∙◌, subst, inl, inr, arith, add-one, mod-lt, mod-eq_of_lt, length-append}
+use Rattle.std.proofs.Common.{◌≡◌, ℕ, zero, suc, ◌+◌, ◌-◌, ◌*◌, ◌%◌, ◌^◌, ◌<◌, ◌≤◌, ◌≢◌, Bool, true, false, List, length, count_ones, Some, refl, sym, ap, ◌∙◌, subst, inl, inr, arith, add-one, mod-lt, mod-eq_of_lt, length-append}
 use lib.Count.{ones, ones_in}
 use Rattle.std.specs.Prelude.{slice_get}
 use Rattle.std.specs.Int.{bit_at}
@@ -39,18 +39,27 @@ place_below n m i l e = elim (cases_lt i n) [
   | inr past ↦ let z : zero ≡ 1 = sym (bit_at_above m n i l past) ∙ e in absurd (omega (arith, z))
 ]
 
-pub no_bits : (holds : ℕ → Bool) → AreBits 0 holds 0
-no_bits holds = record { few = omega arith; each = λ i l. absurd (omega (arith, l)) }
+-- the bits below a place are right, and the others as they were
+pub record IsFilled (n to : ℕ) (holds : ℕ → Bool) (known bits : ℕ) : Type 0 where
+  pub few : bits < 2 ^ n
+  pub right : (i : ℕ) → i < to → bit_at bits i ≡ bit_of (holds i)
+  pub rest : (i : ℕ) → to ≤ i → i < n → bit_at bits i ≡ bit_at known i
 
--- one more number is told of
-pub bits_more : (n m m1 : ℕ) (holds : ℕ → Bool) → AreBits n holds m → m1 < 2 ^ (n + 1) → bit_at m1 n ≡ bit_of (holds n) → ((i : ℕ) → i < n → bit_at m1 i ≡ bit_at m i) → AreBits (n + 1) holds m1
-bits_more n m m1 holds B few here others = record {
+pub filled_none : (n : ℕ) (holds : ℕ → Bool) (known : ℕ) → known < 2 ^ n → IsFilled n 0 holds known known
+filled_none n holds known few = record { few = few; right = λ i l. absurd (omega (arith, l)); rest = λ i _ _. refl }
+
+pub filled_more : (n to : ℕ) (holds : ℕ → Bool) (known old new : ℕ) → to < n → IsFilled n to holds known old → new < 2 ^ n → bit_at new to ≡ bit_of (holds to) → ((i : ℕ) → i < n → i ≢ to → bit_at new i ≡ bit_at old i) → IsFilled n (to + 1) holds known new
+filled_more n to holds known old new lt F few here same = record {
   few = few;
-  each = λ i l. elim (cases_lt i n) [
-    | inl less ↦ others i less ∙ B.each i less
-    | inr past ↦ let e : n ≡ i = omega (arith, l, past) in subst (λ k. bit_at m1 k ≡ bit_of (holds k)) e here
+  right = λ i l. elim (cases_lt i to) [
+    | inl less ↦ same i (omega (arith, less, lt)) (λ e. omega (arith, e, less)) ∙ F.right i less
+    | inr past ↦ let e : to ≡ i = omega (arith, l, past) in subst (λ k. bit_at new k ≡ bit_of (holds k)) e here
   ];
+  rest = λ i l m. same i m (λ e. omega (arith, e, l)) ∙ F.rest i (omega (arith, l)) m;
 }
+
+pub filled_all : (n to : ℕ) (holds : ℕ → Bool) (known bits : ℕ) → to ≡ n → IsFilled n to holds known bits → AreBits n holds bits
+filled_all n to holds known bits e F = record { few = F.few; each = λ i l. F.right i (omega (arith, e, l)) }
 
 -- so many places are left, and whether this bit is the one
 pub counted_down : (count below above left here bit : ℕ) → count ≡ below + left → above ≡ bit + below → here ≡ bit → here ≤ left → count ≡ above + (left - here)

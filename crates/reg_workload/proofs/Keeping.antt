@@ -1,8 +1,8 @@
 -- What a turn leaves as it was: what is listed for the processes and wires that its choice doesn't touch.
-use Rattle.std.proofs.Common.{◌≡◌, ℕ, suc, zero, ◌+◌, ◌^◌, ◌<◌, ◌≤◌, not, List, [], ◌∷◌, Option, Some, None, refl, sym, ap, ◌∙◌, subst, inl, inr}
+use Rattle.std.proofs.Common.{◌≡◌, ℕ, suc, zero, ◌+◌, ◌^◌, ◌<◌, ◌≤◌, Bool, true, false, not, List, [], ◌∷◌, ◌++◌, Option, Some, None, refl, sym, ap, ◌∙◌, subst, inl, inr, arith, length-append}
 use Rattle.std.specs.Prelude.{cond, ◌==◌, ◌&&◌, nat_lt, length, slice_get, slice_set, slice_index_or}
 use Rattle.std.specs.Option.{is_some}
-use Rattle.std.proofs.lemmas.Bool.{cond_both, cases_eq}
+use Rattle.std.proofs.lemmas.Bool.{cond_both, cases_eq, and_parts, and_from, ltb-true, lt-ltb}
 use Rattle.std.proofs.lemmas.List.{get_or-set_other}
 use Rattle.reg_base.specs.declared.limits.TheConstants.{MOST_EVENTS, MOST_OPERATIONS, MOST_PROCESSES}
 use Rattle.reg_base.specs.declared.memory.Op.{Op}
@@ -67,6 +67,16 @@ event_leaves start n registers w (Tick q) p ne =
 node_same : (start : Op → ℕ → Start) (m : Made) (e : Event) (p : ℕ) → (actor e ≡ p → ⊥) → (run_in start (with_event start m e)).nodes p ≡ (run_in start m).nodes p
 node_same start m e p ne = ap (λ (w : World). w.nodes p) (one_more start m.processes m.registers m.accepted e) ∙ event_leaves start m.processes m.registers (run_in start m) e p ne
 
+-- and a wire only grows
+grown : {X : Type 0} (xs ys : List X) → length xs ≤ length (xs ++ ys)
+grown xs ys = let e = length-append xs ys in omega (arith, e)
+
+moves_grow : (start : Op → ℕ → Start) (w : World) (e : Event) (m : Option (ℕ × Step)) (p b : ℕ) → length ((w.nodes p).wire b) ≤ length (((moved start w e m).nodes p).wire b)
+moves_grow start w e None p b = omega arith
+moves_grow start w e (Some m) p b = put_cases (λ (z : Node). length ((w.nodes p).wire b) ≤ length (z.wire b)) w.nodes m.0 (after_step start (w.nodes m.0) m.1) p
+    (λ at. subst (λ (k : ℕ). length ((w.nodes k).wire b) ≤ length ((after_step start (w.nodes m.0) m.1).wire b)) (sym at) (grown ((w.nodes m.0).wire b) _))
+    (λ _. omega arith)
+
 -- what a process can do is the same
 record Same (start : Op → ℕ → Start) (old new : Playing) (p : ℕ) : Type 0 where
   node : (run_in start new.made).nodes p ≡ (run_in start old.made).nodes p
@@ -84,6 +94,9 @@ frame_is start s p q = refl
 abbrev SameCursor : Playing → Playing → ℕ → ℕ → Type 0
 SameCursor old new a b = cursor_at new a b ≡ cursor_at old a b
 
+abbrev Longer : (Op → ℕ → Start) → Playing → Playing → ℕ → ℕ → Type 0
+Longer start old new a b = length (((run_in start old.made).nodes a).wire b) ≤ length (((run_in start new.made).nodes a).wire b)
+
 module _ (start : Op → ℕ → Start) where
   call_same : (s t : Playing) (p : ℕ) → Same start s t p → may_call start s p ≡ may_call start t p
   call_same s t p S = sym (ap (λ k. nat_lt k (length (script_of t.scripts p)) && not (is_some ((run_in start t.made).nodes p).state.running)) S.next
@@ -96,6 +109,24 @@ module _ (start : Op → ℕ → Start) where
   take_same : (s t : Playing) (p q : ℕ) → Same start s t p → cursor_at t p q ≡ cursor_at s p q → may_take start s p q ≡ may_take start t p q
   take_same s t p q S e = ap is_some (frame_is start s p q
       ∙ (sym (ap (λ (x : Node). frame_in x (cursor_at s p q) p q) S.node) ∙ (sym (ap (λ (k : ℕ). frame_in ((run_in start t.made).nodes p) k p q) e) ∙ sym (frame_is start t p q))))
+
+  take_stays : (s t : Playing) (p q : ℕ) → Longer start s t p q → cursor_at t p q ≡ cursor_at s p q → may_take start s p q ≡ true → may_take start t p q ≡ true
+  take_stays s t p q more same may =
+      let parts = and_parts (not (p == q)) _ (test_of _ (cursor_at s p q) may) in
+      let less = ltb-true (cursor_at s p q) (length (((run_in start s.made).nodes p).wire q)) parts.1 in
+      some_if _ (cursor_at t p q) (and_from _ _ parts.0 (lt-ltb (cursor_at t p q) (length (((run_in start t.made).nodes p).wire q)) (omega (arith, less, more, same))))
+    where
+      test_of : (b : Bool) (k : ℕ) → is_some (cond b (Some k) None) ≡ true → b ≡ true
+      test_of true k e = refl
+      test_of false k e = e
+
+      some_if : (b : Bool) (k : ℕ) → b ≡ true → is_some (cond b (Some k) None) ≡ true
+      some_if true k e = refl
+      some_if false k e = e
+
+  makes_longer : (s : Playing) (e : Event) (a b : ℕ) → Longer start s (makes start s e) a b
+  makes_longer s e a b = subst (λ (w : World). length (((run_in start s.made).nodes a).wire b) ≤ length ((w.nodes a).wire b)) (sym (one_more start s.made.processes s.made.registers s.made.accepted e))
+      (moves_grow start (run_in start s.made) e (move_of s.made.processes s.made.registers (run_in start s.made) e) a b)
 
   makes_same : (s : Playing) (e : Event) (p : ℕ) → (actor e ≡ p → ⊥) → Same start s (makes start s e) p
   makes_same s e p ne = record { node = node_same start s.made e p ne; scripts = refl; next = refl }
@@ -154,13 +185,24 @@ module _ (start : Op → ℕ → Start) where
         (λ _. takes_cursor s from to number (next_word w).1 a b ne)
     chooses_cursor s (PutAgain q) w a b ne = refl
 
+    chooses_longer : (s : Playing) (c : Choice) (w : W) (a b : ℕ) → Longer start s (chooses start next_word loss repeat s c w).0 a b
+    unfolding chooses
+    chooses_longer s (CallNext q) w a b = makes_longer s (Call q (next_op s q)) a b
+    chooses_longer s (TakeNext from to number) w a b = cond_both (says loss (next_word w).0) (passes s from to, (next_word w).1) (takes_next start next_word repeat s from to number (next_word w).1) (λ (x : Playing × W). Longer start s x.0 a b)
+        (λ _. omega arith)
+        (λ _. cond_both (says repeat (next_word (next_word w).1).0) (makes start s (Take from to number)) (passes (makes start s (Take from to number)) from to) (λ (u : Playing). Longer start s u a b)
+        (λ _. makes_longer s (Take from to number) a b)
+        (λ _. makes_longer s (Take from to number) a b))
+    chooses_longer s (PutAgain q) w a b = makes_longer s (Tick q) a b
+
     -- a choice that was made leaves what it doesn't touch
     pub others_listed : (s t : Playing) (x : Choice) (w v : W) (c : Chances) → (t, v) ≡ chooses start next_word loss repeat s x w → AreListed start s c → t.made.processes ≡ s.made.processes → AreOthersListed start t x c
     others_listed s t x w v c is L n = record {
       processes = subst (λ (k : ℕ). k ≤ MOST_PROCESSES) (sym n) L.processes;
       few_calls = subst (λ (k : ℕ). c.calls < 2 ^ k) (sym n) L.few_calls;
       few_ticks = subst (λ (k : ℕ). c.ticks < 2 ^ k) (sym n) L.few_ticks;
-      few_takes = λ p l free. subst (λ (k : ℕ). takes_at c p < 2 ^ k) (sym n) (L.few_takes p (in_old p l) (λ a. a));
+      few_takes = λ p l. subst (λ (k : ℕ). takes_at c p < 2 ^ k) (sym n) (L.few_takes p (in_old p l));
+      known = λ p q lp lq apart set. take_stays s t p q (more p q) (cursor p q apart) (L.known p q (in_old p lp) (in_old q lq) (λ a. a) set);
       call = λ p l free. L.call p (in_old p l) (λ a. a) ∙ ap bit_of (call_same s t p (same p free));
       tick = λ p l free. L.tick p (in_old p l) (λ a. a) ∙ ap bit_of (tick_same s t p (same p free));
       take = λ p q lp lq free apart. L.take p q (in_old p lp) (in_old q lq) (λ a. a) (λ a. a) ∙ ap bit_of (take_same s t p q (same p free) (cursor p q apart));
@@ -171,6 +213,9 @@ module _ (start : Op → ℕ → Start) where
 
         same : (p : ℕ) → (Acts x p → ⊥) → Same start s t p
         same p free = subst (λ (y : Playing × W). Same start s y.0 p) (sym is) (chooses_same s x w p free)
+
+        more : (a b : ℕ) → Longer start s t a b
+        more a b = subst (λ (y : Playing × W). Longer start s y.0 a b) (sym is) (chooses_longer s x w a b)
 
         cursor : (a b : ℕ) → (Passes x a b → ⊥) → cursor_at t a b ≡ cursor_at s a b
         cursor a b apart = subst (λ (y : Playing × W). cursor_at y.0 a b ≡ cursor_at s a b) (sym is) (chooses_cursor s x w a b apart)

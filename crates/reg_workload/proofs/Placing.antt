@@ -1,18 +1,20 @@
 -- What is kept of the choices of a seeded play: it is so again once what a choice touched is listed anew, and the choices
 -- stand where its bits say.
-use Rattle.std.proofs.Common.{◌≡◌, ℕ, ◌+◌, ◌%◌, ◌^◌, ◌<◌, ◌≤◌, ◌≢◌, Bool, true, false, List, [], ◌∷◌, length, count_ones, Option, Some, None, refl, sym, ap, ◌∙◌, subst, inl, inr, arith}
-use Rattle.std.specs.Prelude.{cond, slice_get}
+use Rattle.std.proofs.Common.{◌≡◌, ℕ, zero, ◌+◌, ◌%◌, ◌^◌, ◌<◌, ◌≤◌, ◌≢◌, Bool, true, false, List, [], ◌∷◌, length, count_ones, Option, Some, None, refl, sym, ap, ◌∙◌, subst, inl, inr, arith}
+use Rattle.std.specs.Prelude.{cond, not, ◌&&◌, ◌==◌, nat_lt, slice_get, slice_index_or}
 use Rattle.std.specs.Int.{bit_at}
 use Rattle.std.specs.Option.{is_some}
-use Rattle.std.proofs.lemmas.Bool.{cond-true, cases_eq, cases_lt}
+use Rattle.std.proofs.lemmas.Bool.{cond-true, cond-false, and_left, eq-eqb, cases_eq, cases_lt}
 use Rattle.std.proofs.lemmas.Nat.{pow_pos, ones-le}
+use Rattle.std.proofs.lemmas.Nat.Bits.{bit_at-lt, bit_at-zero}
 use Rattle.reg_base.specs.declared.limits.TheConstants.{MOST_PROCESSES}
 use Rattle.reg_base.specs.declared.memory.Op.{Op}
 use Rattle.reg_front.specs.declared.starts.Start.{Start}
+use Rattle.reg_world.specs.Worlds.{run_in}
 use Rattle.reg_workload.specs.declared.choices.Chances.{Chances}
 use Rattle.reg_workload.specs.declared.choices.Choice.{Choice}
 use Rattle.reg_workload.specs.declared.choices.Choice.TheVariants.{Call as CallNext, Take as TakeNext, Tick as PutAgain}
-use Rattle.reg_workload.specs.Plays.{Playing, may_call, next_frame}
+use Rattle.reg_workload.specs.Plays.{Playing, cursor_at, may_call, next_frame}
 use Rattle.reg_workload.specs.PlayParts.{IsChoice}
 use Rattle.reg_workload.specs.Seeded.{take_of, call_choice, take_choice, tick_choice, call_choices, take_choices_from, tick_choices}
 use Rattle.reg_workload.specs.Listed.{bit_of, may_take, may_tick, takes_at, AreBits, AreListedBut, AreListed, Lists, ListsWire, IsWithin}
@@ -30,15 +32,38 @@ one_take from to None = refl
 one_take from to (Some number) = refl
 
 module _ (start : Op → ℕ → Start) (s : Playing) where
+  own_take : (p : ℕ) → may_take start s p p ≡ false
+  own_take p =
+      let k = cursor_at s p p in
+      let left = nat_lt k (length (((run_in start s.made).nodes p).wire p)) in
+      ap is_some (cond-false (not (p == p) && left) (Some k) None (and_left (not (p == p)) left (ap not (eq-eqb p p refl))))
+
+  -- a bit that isn't looked at is right: it is known, or it is of no wire
+  pub passed_over : (from to known seen : ℕ) → (bit_at known to ≡ 1 → may_take start s from to ≡ true) → (to ≢ from → bit_at seen to ≡ bit_at known to) → (bit_at seen to ≡ 0 → ⊥) → bit_at known to ≡ bit_of (may_take start s from to)
+  passed_over from to known seen so same some = elim (cases_eq (bit_at known to) 1) [
+    | inl one ↦ one ∙ sym (ap bit_of (so one))
+    | inr not_one ↦
+        let less = bit_at-lt known to in
+        let none : bit_at known to ≡ 0 = omega (arith, less, not_one) in
+        elim (cases_eq to from) [
+          | inl e ↦ none ∙ sym (ap bit_of (ap (λ (k : ℕ). may_take start s from k) e ∙ own_take from))
+          | inr ne ↦ absurd (some (same ne ∙ none))
+        ]
+  ]
+
   -- a process is listed anew
   pub relisted : (acts later : ℕ → Type 0) (passes : ℕ → ℕ → Type 0) (p : ℕ) (old new : Chances) → AreListedBut start s acts passes old → Lists start s p old new → ((q : ℕ) → q ≢ p → acts q → later q) → AreListedBut start s later passes new
   relisted acts later passes p old new L R more = record {
     processes = L.processes;
     few_calls = R.few_calls L.few_calls;
     few_ticks = R.few_ticks L.few_ticks;
-    few_takes = λ q lq free. elim (cases_eq q p) [
+    few_takes = λ q lq. elim (cases_eq q p) [
       | inl e ↦ subst (λ (k : ℕ). takes_at new k < 2 ^ s.made.processes) (sym e) R.take.few
-      | inr ne ↦ subst (λ (k : ℕ). k < 2 ^ s.made.processes) (sym (R.takes q ne)) (L.few_takes q lq (λ a. free (more q ne a)))
+      | inr ne ↦ subst (λ (k : ℕ). k < 2 ^ s.made.processes) (sym (R.takes q ne)) (L.few_takes q lq)
+    ];
+    known = λ q r lq lr apart set. elim (cases_eq q p) [
+      | inl e ↦ subst (λ (k : ℕ). may_take start s k r ≡ true) (sym e) (bit_true (may_take start s p r) (sym (R.take.each r lr) ∙ subst (λ (k : ℕ). bit_at (takes_at new k) r ≡ 1) e set))
+      | inr ne ↦ L.known q r lq lr apart (ap (λ (k : ℕ). bit_at k r) (sym (R.takes q ne)) ∙ set)
     ];
     call = λ q lq free. elim (cases_eq q p) [
       | inl e ↦ subst (λ (k : ℕ). bit_at new.calls k ≡ bit_of (may_call start s k)) (sym e) R.call
@@ -63,9 +88,18 @@ module _ (start : Op → ℕ → Start) (s : Playing) where
     processes = L.processes;
     few_calls = subst (λ (k : ℕ). k < 2 ^ s.made.processes) (sym R.calls) L.few_calls;
     few_ticks = subst (λ (k : ℕ). k < 2 ^ s.made.processes) (sym R.ticks) L.few_ticks;
-    few_takes = λ p lp free. elim (cases_eq p from) [
-      | inl e ↦ subst (λ (k : ℕ). takes_at new k < 2 ^ s.made.processes) (sym e) (R.few (subst (λ (k : ℕ). takes_at old k < 2 ^ s.made.processes) e (L.few_takes p lp free)))
-      | inr ne ↦ subst (λ (k : ℕ). k < 2 ^ s.made.processes) (sym (R.takes p ne)) (L.few_takes p lp free)
+    few_takes = λ p lp. elim (cases_eq p from) [
+      | inl e ↦ subst (λ (k : ℕ). takes_at new k < 2 ^ s.made.processes) (sym e) (R.few (subst (λ (k : ℕ). takes_at old k < 2 ^ s.made.processes) e (L.few_takes p lp)))
+      | inr ne ↦ subst (λ (k : ℕ). k < 2 ^ s.made.processes) (sym (R.takes p ne)) (L.few_takes p lp)
+    ];
+    known = λ p q lp lq _ set. elim (cases_eq p from) [
+      | inl e ↦ elim (cases_eq q to) [
+        | inl f ↦
+            let here : bit_at (takes_at new from) to ≡ 1 = subst (λ (k : ℕ). bit_at (takes_at new from) k ≡ 1) f (subst (λ (k : ℕ). bit_at (takes_at new k) q ≡ 1) e set) in
+            subst (λ (k : ℕ). may_take start s k q ≡ true) (sym e) (subst (λ (k : ℕ). may_take start s from k ≡ true) (sym f) (bit_true (may_take start s from to) (sym R.here ∙ here)))
+        | inr nf ↦ L.known p q lp lq (λ h. nf (sym (only p q h).1)) (sym (subst (λ (k : ℕ). bit_at (takes_at new k) q ≡ bit_at (takes_at old k) q) (sym e) (R.others q (wide q lq) nf)) ∙ set)
+      ]
+      | inr ne ↦ L.known p q lp lq (λ h. ne (sym (only p q h).0)) (ap (λ (k : ℕ). bit_at k q) (sym (R.takes p ne)) ∙ set)
     ];
     call = λ p lp free. ap (λ (k : ℕ). bit_at k p) R.calls ∙ L.call p lp free;
     tick = λ p lp free. ap (λ (k : ℕ). bit_at k p) R.ticks ∙ L.tick p lp free;
@@ -82,12 +116,13 @@ module _ (start : Op → ℕ → Start) (s : Playing) where
       wide q l = let few = L.processes in omega (arith, l, few)
 
   -- process by process
-  pub none_listed : (takes : List ℕ) → s.made.processes ≤ MOST_PROCESSES → AreListedBut start s (λ p. 0 ≤ p) (λ _ _. ⊥) (record { calls = 0; takes = takes; ticks = 0 })
-  none_listed takes few = record {
+  pub none_listed : (takes : List ℕ) → ((p : ℕ) → slice_index_or takes p 0 ≡ 0) → s.made.processes ≤ MOST_PROCESSES → AreListedBut start s (λ p. 0 ≤ p) (λ _ _. ⊥) (record { calls = 0; takes = takes; ticks = 0 })
+  none_listed takes none few = record {
     processes = few;
     few_calls = pow_pos s.made.processes;
     few_ticks = pow_pos s.made.processes;
-    few_takes = λ p l free. absurd (free (omega arith));
+    few_takes = λ p l. subst (λ (k : ℕ). k < 2 ^ s.made.processes) (sym (none p)) (pow_pos s.made.processes);
+    known = λ p q lp lq _ set. let z : zero ≡ 1 = sym (bit_at-zero q) ∙ (ap (λ (k : ℕ). bit_at k q) (sym (none p)) ∙ set) in absurd (omega (arith, z));
     call = λ p l free. absurd (free (omega arith));
     tick = λ p l free. absurd (free (omega arith));
     take = λ p q lp lq free apart. absurd (free (omega arith));
@@ -104,7 +139,8 @@ module _ (start : Op → ℕ → Start) (s : Playing) where
     processes = L.processes;
     few_calls = L.few_calls;
     few_ticks = L.few_ticks;
-    few_takes = λ p l _. L.few_takes p l (λ a. omega (arith, e, l, a));
+    few_takes = L.few_takes;
+    known = L.known;
     call = λ p l _. L.call p l (λ a. omega (arith, e, l, a));
     tick = λ p l _. L.tick p l (λ a. omega (arith, e, l, a));
     take = λ p q l m _ apart. L.take p q l m (λ a. omega (arith, e, l, a)) apart;
@@ -124,7 +160,7 @@ module _ (start : Op → ℕ → Start) (s : Playing) where
     tick_bits = record { few = L.few_ticks; each = λ p l. L.tick p l (λ a. a) }
 
     take_bits : (from : ℕ) → from < s.made.processes → AreBits s.made.processes (may_take start s from) (takes_at c from)
-    take_bits from l = record { few = L.few_takes from l (λ a. a); each = λ to m. L.take from to l m (λ a. a) (λ a. a) }
+    take_bits from l = record { few = L.few_takes from l; each = λ to m. L.take from to l m (λ a. a) (λ a. a) }
 
     pub calls_are : length (call_choices start s s.made.processes) ≡ count_ones c.calls
     unfolding call_choices
@@ -142,7 +178,7 @@ module _ (start : Op → ℕ → Start) (s : Playing) where
     few_ones m l = let most = ones-le s.made.processes m l in let few = L.processes in omega (arith, most, few)
 
     pub few_taken : (from m : ℕ) → from < s.made.processes → m ≡ takes_at c from → count_ones m ≤ MOST_PROCESSES
-    few_taken from m l e = few_ones m (subst (λ (k : ℕ). k < 2 ^ s.made.processes) (sym e) (L.few_takes from l (λ a. a)))
+    few_taken from m l e = few_ones m (subst (λ (k : ℕ). k < 2 ^ s.made.processes) (sym e) (L.few_takes from l))
 
     pub call_stands : (p place : ℕ) → bit_at c.calls p ≡ 1 → place ≡ count_ones (c.calls % 2 ^ p) → slice_get (call_choices start s s.made.processes) place ≡ Some (CallNext p)
     unfolding call_choices

@@ -4,7 +4,7 @@
 ghost use Rattle.std.specs.Prelude.{◌≡◌, ◌<◌, ◌≤◌, ◌≢◌, ◌+◌, ◌%◌, ◌^◌, ◌∷◌, ℕ, [], Some, true, false, length, count_ones, IfOk, MatchResult, slice_get};
 ghost use Rattle.std.specs.Int.{bit_at};
 ghost use Rattle.reg_base.specs.declared.limits.TheConstants.{MOST_PROCESSES};
-ghost use Rattle.reg_workload.specs.Listed.{bit_of, may_take, AreBits, Lists, ListsWire, AreListed, AreOthersListed, IsWithin};
+ghost use Rattle.reg_workload.specs.Listed.{bit_of, may_take, takes_at, AreBits, Lists, ListsWire, AreListed, AreOthersListed, IsWithin};
 ghost use Rattle.reg_workload.specs.Seeded.{take_choice, take_choices, choices_of};
 
 use crate::playing::{Player, WIDTH};
@@ -65,18 +65,26 @@ fn nth_bit(bits: u64, count: u32) -> Result<u8, u32>
     unreachable!()
 }
 
-/// The receivers of frames that can be taken from a process.
+/// The receivers of frames that can be taken from a process. Those that are known are not looked at again.
 fn takes_from<F: FrontEnd, A: Allocator + Copy, W: WireStore<A>>(
     player: &Player<'_, F, A, W>,
     from: u8,
+    known: u64,
 ) -> u64
     requires going { player.now.made.failed ≡ false }
     requires from { from < player.now.made.processes }
+    requires few { player.now.made.processes ≤ MOST_PROCESSES }
+    requires few_known { known < 2 ^ player.now.made.processes }
+    requires known { (to : ℕ) → to < player.now.made.processes → bit_at known to ≡ 1 → may_take F.start player.now from to ≡ true }
     ensures { AreBits player.now.made.processes (may_take F.start player.now from) result }
 {
-    let mut takes = 0;
+    let mut takes = known;
+    let seen = with_bit(known, from, true);
     for to in 0..player.processes() {
-        takes = with_bit(takes, to, player.frame(from, to).is_some());
+        let bit = seen >> u32::from(to) & 1;
+        if bit == 0 {
+            takes = with_bit(takes, to, player.frame(from, to).is_some());
+        }
     }
     takes
 }
@@ -118,7 +126,7 @@ impl Chances {
         chances
     }
 
-    /// Lists anew what a process can do, and which of its frames can be taken.
+    /// Lists anew what a process can do, and which of its frames can be taken. Those that could be still can.
     fn list<F: FrontEnd, A: Allocator + Copy, W: WireStore<A>>(
         &mut self,
         player: &Player<'_, F, A, W>,
@@ -127,11 +135,14 @@ impl Chances {
         requires going { player.now.made.failed ≡ false }
         requires process { process < player.now.made.processes }
         requires few { player.now.made.processes ≤ MOST_PROCESSES }
+        requires few_takes { takes_at self.old process < 2 ^ player.now.made.processes }
+        requires known { (to : ℕ) → to < player.now.made.processes → bit_at (takes_at self.old process) to ≡ 1 → may_take F.start player.now process to ≡ true }
         ensures { Lists F.start player.now process self.old self.new }
     {
         self.calls = with_bit(self.calls, process, player.may_call(process));
         self.ticks = with_bit(self.ticks, process, player.pending(process) > 0);
-        self.takes[usize::from(process)] = takes_from(player, process);
+        let place = usize::from(process);
+        self.takes[place] = takes_from(player, process, self.takes[place]);
     }
 
     /// Lists anew whether a frame of this wire can be taken.

@@ -1,9 +1,10 @@
 use Rattle.std.proofs.Common.{◌≡◌, arith}
+use Rattle.reg_process.proofs.Again.{replicate_at}
 use Rattle.reg_workload.proofs.Placing.{none_listed, one_more_listed, all_listed}
 use Rattle.reg_workload.proofs.choices.Chances.new.Goals as goal
 
 pub loop-process-init : goal.loop-process-init
-loop-process-init g c = none_listed g.F.FrontEnd.start c.args.player.now _ (let v = c.processes-process-end.ensures.value in let m = c.processes-process-end.ensures.few in omega (arith, v, m))
+loop-process-init g c = none_listed g.F.FrontEnd.start c.args.player.now _ (λ p. replicate_at 64 p 0) (let v = c.processes-process-end.ensures.value in let m = c.processes-process-end.ensures.few in omega (arith, v, m))
 
 pub loop-process-preserved : goal.loop-process-preserved
 loop-process-preserved g c = one_more_listed g.F.FrontEnd.start c.args.player.now c.loop-process.process c.loop-process.chances c.list.new.self c.loop-process.invariant c.list.ensures
