@@ -30,8 +30,8 @@ may_tick start s p = nat_lt 0 (pending_at start s p)
 abbrev pub takes_at : Chances → ℕ → ℕ
 takes_at c from = slice_index_or c.takes from 0
 
--- What is kept is so, but for what these processes can do, and for these wires. What is kept as a frame that can be taken
--- of such a process can be.
+-- What is kept is so, but for what these processes can do, and for these wires. Of such a process, what is kept as a
+-- frame that can be taken can be.
 pub record AreListedBut (start : Op → ℕ → Start) (s : Playing) (acts : ℕ → Type 0) (passes : ℕ → ℕ → Type 0) (c : Chances) : Type 0 where
   pub processes : s.made.processes ≤ MOST_PROCESSES
   pub few_calls : c.calls < 2 ^ s.made.processes
