@@ -2,9 +2,7 @@
 use reg_cli::{Stop, run_live, write_stop};
 use reg_commands::Fault;
 use std::alloc::Global;
-use std::fmt::Write;
 use std::sync::Wait;
-use std::test::Fail;
 use std::thread::Threads;
 use std::time::Clock;
 
@@ -37,28 +35,25 @@ const LINES: [(Stop, &str); 7] = [
 ];
 
 /// Whether a stop is told by its line, and is shown so. Both texts are empty.
-fn tells(errors: &mut Vec<u8>, text: &mut String, stop: Stop, line: &str) -> Result<bool, Fail> {
-    write!(text, "{stop}\n")?;
-    Ok(
-        write_stop(errors, stop).is_ok()
-            && errors.as_slice() == line.as_bytes()
-            && text.as_str() == line,
-    )
+fn tells(errors: &mut Vec<u8>, text: &mut String, stop: Stop, line: &str) -> bool {
+    write!(text, "{stop}\n").is_ok()
+        && write_stop(errors, stop).is_ok()
+        && errors.as_slice() == line.as_bytes()
+        && text.as_str() == line
 }
 
 /// Whether this is the line of a stop, and what the stop shows.
-fn has_line(alloc: Global, stop: Stop, line: &str) -> Result<bool, Fail> {
+fn has_line(alloc: Global, stop: Stop, line: &str) -> bool {
     let mut errors = Vec::new(alloc);
     let mut text = String::new(alloc);
     tells(&mut errors, &mut text, stop, line)
 }
 
 #[test]
-fn stops_have_their_lines(rt: HostRuntime) -> Result<(), Fail> {
+fn stops_have_their_lines(rt: HostRuntime) {
     for (stop, line) in &LINES {
-        assert!(rt; has_line(rt.alloc(), *stop, line)?);
+        assert!(rt; has_line(rt.alloc(), *stop, line));
     }
-    Ok(())
 }
 
 /// Each input is refused before a thread starts, and this line tells why.

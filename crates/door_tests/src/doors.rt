@@ -21,7 +21,6 @@ use reg_workload::{
 use reg_world::{Event, World, WorldFault};
 use std::alloc::Global;
 use std::process::Abort;
-use std::test::Fail;
 
 const READ: Op = Op::Read { register: 0 };
 
@@ -36,15 +35,14 @@ fn shape(rt: &impl Abort, processes: u32) -> Shape {
 }
 
 #[test]
-fn base(rt: HostRuntime) -> Result<(), Fail> {
+fn base(rt: HostRuntime) {
     let registers: Result<Registers, OutOfMemory> = Registers::new(rt.alloc(), 1);
-    let mut registers = registers?;
+    let mut registers = registers.expect(&rt, "registers");
     let mut clock = Clock::new();
     let time: Result<u64, ClockFull> = clock.tick();
     assert!(rt; time == Ok(1));
     assert!(rt; registers.apply(&WRITE) == Some(Answer::Done) && registers.get(0) == Some(5));
     assert!(rt; Shape::new(0, 1) == Err(ShapeFault::NoProcess));
-    Ok(())
 }
 
 #[test]
@@ -73,9 +71,9 @@ fn links(rt: HostRuntime) {
 }
 
 #[test]
-fn holdback(rt: HostRuntime) -> Result<(), Fail> {
+fn holdback(rt: HostRuntime) {
     let shape = Shape::new(3, 1).expect(&rt, "a shape");
-    let mut held = Holdback::new(rt.alloc(), 1, shape)?;
+    let mut held = Holdback::new(rt.alloc(), 1, shape).expect(&rt, "a queue");
     let stamp = Stamp {
         time: 1,
         process: 0,
@@ -86,7 +84,6 @@ fn holdback(rt: HostRuntime) -> Result<(), Fail> {
     };
     assert!(rt; held.receive(stamp, Some(WRITE)).is_ok() && held.pop() == None);
     assert!(rt; held.receive(later, None).is_ok() && held.pop() == Some((stamp, WRITE)));
-    Ok(())
 }
 
 #[test]
@@ -137,25 +134,20 @@ fn checkers(rt: HostRuntime) {
 }
 
 /// The report of that history, whose order is its one write.
-fn report(rt: &impl Abort, alloc: Global) -> Result<Report, Fail> {
-    let names = Names::new(vec![in alloc; "x".to_string(alloc)?]?).expect(rt, "names");
-    let order = vec![in alloc; FIRST]?;
-    let made = Report::new(
-        "linear".to_string(alloc)?,
-        names,
-        written(rt, alloc),
-        order,
-        None,
-    );
-    Ok(made.expect(rt, "a report"))
+fn report(rt: &impl Abort, alloc: Global) -> Report {
+    let name = "x".to_string(alloc).expect(rt, "memory");
+    let names = Names::new(vec![in alloc; name].expect(rt, "memory")).expect(rt, "names");
+    let front = "linear".to_string(alloc).expect(rt, "memory");
+    let order = vec![in alloc; FIRST].expect(rt, "memory");
+    Report::new(front, names, written(rt, alloc), order, None).expect(rt, "a report")
 }
 
 #[test]
-fn reports(rt: HostRuntime) -> Result<(), Fail> {
+fn reports(rt: HostRuntime) {
     let right =
         "awreg report 2\nfront linear\nprocesses 1\nregisters 1\nx\nhistory 2\n       0  p0    #0       call    write x 5\n       0  p0    #0       answer  done\norder 1\np0 #0\nend\n";
     let mut text = Vec::new(rt.alloc());
-    assert!(rt; write_report(&mut text, &report(&rt, rt.alloc())?).is_ok());
+    assert!(rt; write_report(&mut text, &report(&rt, rt.alloc())).is_ok());
     assert!(rt; text.as_slice() == right.as_bytes());
     let wrong = ReadFault::Line {
         line: 1,
@@ -164,20 +156,20 @@ fn reports(rt: HostRuntime) -> Result<(), Fail> {
     assert!(rt;
         read_report(rt.alloc(), right).is_ok() && read_report(rt.alloc(), "").err() == Some(wrong)
     );
-    Ok(())
 }
 
 #[test]
-fn worlds(rt: HostRuntime) -> Result<(), Fail> {
-    let mut world = World::<Linear>::new(rt.alloc(), shape(&rt, 1))?;
+fn worlds(rt: HostRuntime) {
+    let mut world = World::<Linear>::new(rt.alloc(), shape(&rt, 1)).expect(&rt, "a world");
     let call = Event::Call {
         process: 0,
         op: WRITE,
     };
     assert!(rt; world.step(&call) == Ok(()));
     assert!(rt; world.step(&Event::Tick { process: 1 }) == Err(WorldFault::NoProcess));
-    assert!(rt; world.witness()?.as_slice() == [FIRST].as_slice() && world.points()?.len() == 1);
-    Ok(())
+    let order = world.witness().expect(&rt, "an order");
+    let points = world.points().expect(&rt, "points");
+    assert!(rt; order.as_slice() == [FIRST].as_slice() && points.len() == 1);
 }
 
 const DOCUMENT: &str = "front = \"linear\"\nregisters = [\"x\"]\nscripts = [[\"write x 5\"]]\n";
@@ -195,15 +187,15 @@ impl Words for Noughts {
 }
 
 #[test]
-fn workloads(rt: HostRuntime) -> Result<(), Fail> {
+fn workloads(rt: HostRuntime) {
     let made: Result<Workload, WorkloadFault> = Workload::from_toml(rt.alloc(), DOCUMENT);
     let work = made.expect(&rt, "a workload");
-    assert!(rt; play_fair::<Linear, _>(rt.alloc(), &work)?.finished);
-    assert!(rt; play_seeded::<Linear, _, _>(rt.alloc(), &work, SeedWords::new(0))?.finished);
+    let fair = play_fair::<Linear, _>(rt.alloc(), &work).expect(&rt, "a play");
+    let seeded = play_seeded::<Linear, _, _>(rt.alloc(), &work, SeedWords::new(0));
+    assert!(rt; fair.finished && seeded.expect(&rt, "a play").finished);
     assert!(rt; Noughts {}.word() == 0);
     let missing = WorkloadFault::Missing { key: Key::Front };
     assert!(rt; Workload::from_toml(rt.alloc(), "").err() == Some(missing));
-    Ok(())
 }
 
 #[test]
@@ -223,7 +215,7 @@ fn schedules(rt: HostRuntime) {
 }
 
 #[test]
-fn records(rt: HostRuntime) -> Result<(), Fail> {
+fn records(rt: HostRuntime) {
     let entry = LogEntry {
         step: Step::Call { op: WRITE },
         reply: Some(Reply {
@@ -238,12 +230,11 @@ fn records(rt: HostRuntime) -> Result<(), Fail> {
         called: 0,
         answered: 0,
     };
-    let log = vec![in rt.alloc(); entry]?;
-    let receipts = vec![in rt.alloc(); receipt]?;
+    let log = vec![in rt.alloc(); entry].expect(&rt, "memory");
+    let receipts = vec![in rt.alloc(); receipt].expect(&rt, "memory");
     let shape = Shape::new(1, 1).expect(&rt, "a shape");
     let verified = verify::<Linear, _>(rt.alloc(), shape, &[0], &[log], &[receipts]);
     assert!(rt; verified.is_ok());
-    Ok(())
 }
 
 #[test]

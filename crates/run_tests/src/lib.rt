@@ -1,5 +1,7 @@
-//! Tests of whole runs, by worlds, players and commands, over their public calls: runs worked by hand, refusals,
-//! limits, and want of memory at each growth.
+//! Tests of the parts, from shapes to reports and workloads, and of whole runs, by worlds, players and commands, over
+//! their public calls: values and runs worked by hand, refusals, limits, and want of memory at each growth.
+//!
+//! They stand in a crate of their own since a crate with tests is proved twice.
 #![tactic(auto)]
 
 #[cfg(test)]
@@ -28,6 +30,8 @@ mod orders_found;
 #[cfg(test)]
 mod overtaking;
 #[cfg(test)]
+mod parts;
+#[cfg(test)]
 mod play_reports;
 #[cfg(test)]
 mod plays;
@@ -47,6 +51,7 @@ mod seeded;
 mod sources;
 #[cfg(test)]
 mod streams;
+pub mod values;
 #[cfg(test)]
 mod world_rows;
 #[cfg(test)]

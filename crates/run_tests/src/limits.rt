@@ -1,9 +1,8 @@
 //! The limits of a run.
-use part_tests::values::WRITE_FIVE;
+use crate::values::WRITE_FIVE;
 use reg_base::Shape;
 use reg_front::Linear;
 use reg_world::{Event, World, WorldFault};
-use std::test::Fail;
 
 /// An event, how often a world of one process accepts it, and why not once more.
 const LIMITS: [(Event, u32, WorldFault); 2] = [
@@ -33,11 +32,10 @@ fn accepts(world: &mut World<Linear>, event: &Event, count: u32, fault: WorldFau
 }
 
 #[test]
-fn a_run_has_so_many_operations_and_events(rt: HostRuntime) -> Result<(), Fail> {
-    let shape = Shape::new(1, 1)?;
+fn a_run_has_so_many_operations_and_events(rt: HostRuntime) {
+    let shape = Shape::new(1, 1).expect(&rt, "a shape");
     for (event, count, fault) in &LIMITS {
-        let mut world = World::<Linear>::new(rt.alloc(), shape)?;
+        let mut world = World::<Linear>::new(rt.alloc(), shape).expect(&rt, "memory");
         assert!(rt; accepts(&mut world, event, *count, *fault));
     }
-    Ok(())
 }

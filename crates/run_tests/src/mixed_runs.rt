@@ -1,11 +1,12 @@
 //! A run of the front end of a user's own.
 use crate::mixed::Mixed;
+use crate::values::{READ, WRITE_FIVE};
+use crate::world_rows::{answered, called, id};
 use crate::worlds::has_witness;
-use part_tests::values::{READ, WRITE_FIVE, answered, called, id};
-use reg_base::{Answer, Shape};
+use reg_base::{Answer, OpId, Shape};
+use reg_history::Entry;
 use reg_process::Reply;
 use reg_world::{Event, World};
-use std::test::Fail;
 
 const EVENTS: [Event; 3] = [
     Event::Call {
@@ -29,6 +30,14 @@ const LAST: Event = Event::Take {
     number: 1,
 };
 
+/// The history behind the last event.
+const HISTORY: [Entry; 4] = [
+    called!(0, 0, 0, WRITE_FIVE),
+    answered!(0, 0, 0, Answer::Done),
+    called!(1, 0, 1, READ),
+    answered!(3, 0, 1, Answer::Value(5)),
+];
+
 /// How many casts process 0 has delivered.
 fn delivered(world: &World<Mixed>) -> Option<u64> {
     match world.process(0) {
@@ -43,23 +52,17 @@ fn sees_its_write(world: &mut World<Mixed>) -> bool {
         answer: Answer::Value(5),
         place: 1,
     };
-    let history = [
-        called(0, id(0, 0), WRITE_FIVE),
-        answered(0, id(0, 0), Answer::Done),
-        called(1, id(0, 1), READ),
-        answered(3, id(0, 1), Answer::Value(5)),
-    ];
     delivered(world) == Some(0)
         && world.step_reply(&LAST) == Ok(Some(seen))
         && delivered(world) == Some(2)
-        && world.history().entries() == history.as_slice()
-        && has_witness(world, [id(0, 0), id(0, 1)].as_slice())
+        && world.history().entries() == HISTORY.as_slice()
+        && has_witness(world, [id!(0, 0), id!(0, 1)].as_slice())
 }
 
 #[test]
-fn reads_of_the_mixed_front_end_see_own_writes(rt: HostRuntime) -> Result<(), Fail> {
-    let shape = Shape::new(2, 1)?;
-    let mut world = World::<Mixed>::run(rt.alloc(), shape, EVENTS.as_slice())?;
+fn reads_of_the_mixed_front_end_see_own_writes(rt: HostRuntime) {
+    let shape = Shape::new(2, 1).expect(&rt, "a shape");
+    let made = World::<Mixed>::run(rt.alloc(), shape, EVENTS.as_slice());
+    let mut world = made.expect(&rt, "a world");
     assert!(rt; sees_its_write(&mut world));
-    Ok(())
 }

@@ -1,9 +1,8 @@
 //! What no outcome tells though each of its values stands in some outcome, and the text of all outcomes: by hand.
+use crate::interleavings::scripts_of;
 use reg_base::Op;
 use reg_outcomes::{AllOutcomes, MOST_STAGES, all_outcomes, are_playable, nevers_of, write_all};
 use std::alloc::Global;
-use std::process::Abort;
-use std::test::Fail;
 
 const X: u16 = 0;
 
@@ -23,104 +22,111 @@ const READ_X: Op = Op::Read { register: X };
 
 const READ_Y: Op = Op::Read { register: Y };
 
-/// All outcomes of two scripts on two registers.
-fn outcomes(
-    rt: &impl Abort,
-    alloc: Global,
-    first: &[Op],
-    second: &[Op],
-) -> Result<AllOutcomes, Fail> {
-    let mut scripts = Vec::new(alloc);
-    scripts.push(Vec::from_slice(alloc, first)?)?;
-    scripts.push(Vec::from_slice(alloc, second)?)?;
-    assert!(rt; are_playable(scripts.as_slice(), 2));
-    Ok(all_outcomes(alloc, scripts.as_slice(), 2, MOST_STAGES)?)
+/// All outcomes of two scripts on two registers. None where there is no memory for them.
+fn outcomes(alloc: Global, first: &[Op], second: &[Op]) -> Option<AllOutcomes> {
+    let scripts = scripts_of(alloc, &[first, second]).ok()?;
+    if !are_playable(scripts.as_slice(), 2) {
+        return None;
+    }
+    all_outcomes(alloc, scripts.as_slice(), 2, MOST_STAGES).ok()
 }
 
-/// The text of all outcomes of two scripts with so many operations.
-fn text_of(
-    rt: &impl Abort,
-    alloc: Global,
-    first: &[Op],
-    second: &[Op],
-    operations: u64,
-) -> Result<String, Fail> {
-    let all = outcomes(rt, alloc, first, second)?;
-    let nevers = nevers_of(alloc, all.list.as_slice())?;
+/// Writes the text of all outcomes of scripts with so many operations. Whether it is written.
+fn writes(bytes: &mut Vec<u8>, alloc: Global, all: &AllOutcomes, operations: u64) -> bool {
+    match nevers_of(alloc, all.list.as_slice()) {
+        Ok(nevers) => write_all(bytes, operations, all, &nevers).is_ok(),
+        Err(_) => false,
+    }
+}
+
+/// The text of all outcomes of two scripts with so many operations. Empty where there is no memory for it.
+fn text_of(alloc: Global, first: &[Op], second: &[Op], operations: u64) -> String {
     let mut bytes = Vec::new(alloc);
-    if write_all(&mut bytes, operations, &all, &nevers).is_err() {
-        return Err("unwritten")?;
-    }
+    let written = match outcomes(alloc, first, second) {
+        Some(all) => writes(&mut bytes, alloc, &all, operations),
+        None => false,
+    };
     match String::from_utf8(bytes) {
-        Ok(text) => Ok(text),
-        Err(_) => Err("not text")?,
+        Ok(text) if written => text,
+        _ => String::new(alloc),
     }
 }
 
-// In one order of the four operations the first read answers 0, in one the second, in none both, and in four none.
-#[test]
-fn store_buffering(rt: HostRuntime) -> Result<(), Fail> {
-    let text = text_of(&rt, rt.alloc(), &[WRITE_X, READ_Y], &[WRITE_Y, READ_X], 4)?;
+/// Whether this is the text of store buffering.
+fn is_store_buffering(text: &str) -> bool {
     let begun = "operations 4
 stages 13
 outcomes 3
 p0 #1 value 0  p1 #1 value 1  turns 0 0 1 1
 p0 #1 value 1  p1 #1 value 0  turns 1 1 0 0
 p0 #1 value 1  p1 #1 value 1  turns ";
-    assert!(rt; text.starts_with(begun), "{text}");
-    assert!(rt;
-        text.ends_with("\nnever 1\np0 #1 value 0  p1 #1 value 0\n"),
-        "{text}"
-    );
-    assert_eq!(rt; text.lines().count(), 8);
-    Ok(())
+    text.starts_with(begun)
+        && text.ends_with("\nnever 1\np0 #1 value 0  p1 #1 value 0\n")
+        && text.lines().count() == 8
+}
+
+// In one order of the four operations the first read answers 0, in one the second, in none both, and in four none.
+#[test]
+fn store_buffering(rt: HostRuntime) {
+    let text = text_of(rt.alloc(), &[WRITE_X, READ_Y], &[WRITE_Y, READ_X], 4);
+    assert!(rt; is_store_buffering(text.as_str()));
+}
+
+/// Whether the text of all outcomes of two scripts ends so.
+fn ends_so(alloc: Global, first: &[Op], second: &[Op], operations: u64, end: &str) -> bool {
+    let text = text_of(alloc, first, second, operations);
+    text.ends_with(end)
 }
 
 // The flag, and not the message.
 #[test]
-fn message_passing(rt: HostRuntime) -> Result<(), Fail> {
-    let text = text_of(&rt, rt.alloc(), &[WRITE_X, WRITE_Y], &[READ_Y, READ_X], 4)?;
-    assert!(rt;
-        text.ends_with("\nnever 1\np1 #0 value 1  p1 #1 value 0\n"),
-        "{text}"
-    );
-    Ok(())
+fn message_passing(rt: HostRuntime) {
+    let end = "\nnever 1\np1 #0 value 1  p1 #1 value 0\n";
+    assert!(rt; ends_so(rt.alloc(), &[WRITE_X, WRITE_Y], &[READ_Y, READ_X], 4, end));
 }
 
-/// How many combinations no outcome has where a register is written once and read so many times: its values rise.
-fn count_of_reads(rt: &impl Abort, alloc: Global, reads: usize) -> Result<Option<usize>, Fail> {
-    let mut script = Vec::new(alloc);
-    for _ in 0..reads {
-        script.push(READ_X)?;
+/// Whether no outcome has so many combinations. None where they are too many to list.
+fn are_so_many(alloc: Global, all: &AllOutcomes, count: Option<usize>) -> bool {
+    match nevers_of(alloc, all.list.as_slice()) {
+        Ok(Some(nevers)) => count == Some(nevers.len()),
+        Ok(None) => count.is_none(),
+        Err(_) => false,
     }
-    let all = outcomes(rt, alloc, &[WRITE_X], script.as_slice())?;
-    assert_eq!(rt; all.list.len(), reads.saturating_add(1));
-    Ok(nevers_of(alloc, all.list.as_slice())?.map(|nevers| nevers.len()))
+}
+
+/// Whether no outcome has so many combinations where a register is written once and read so: its values rise.
+fn has_count(alloc: Global, reads: &[Op], count: Option<usize>) -> bool {
+    match outcomes(alloc, &[WRITE_X], reads) {
+        Some(all) => {
+            all.list.len() == reads.len().saturating_add(1) && are_so_many(alloc, &all, count)
+        }
+        None => false,
+    }
 }
 
 // Of 2^n combinations n + 1 rise.
 #[test]
-fn many(rt: HostRuntime) -> Result<(), Fail> {
-    assert!(rt; count_of_reads(&rt, rt.alloc(), 1)? == Some(0));
-    assert!(rt; count_of_reads(&rt, rt.alloc(), 8)? == Some(247));
-    assert!(rt; count_of_reads(&rt, rt.alloc(), 9)?.is_none());
-    Ok(())
+fn many(rt: HostRuntime) {
+    assert!(rt; has_count(rt.alloc(), &[READ_X], Some(0)));
+    assert!(rt; has_count(rt.alloc(), &[READ_X; 8], Some(247)));
+    assert!(rt; has_count(rt.alloc(), &[READ_X; 9], None));
 }
 
 #[test]
-fn nothing_to_tell(rt: HostRuntime) -> Result<(), Fail> {
-    let text = text_of(&rt, rt.alloc(), &[], &[], 0)?;
-    assert_eq!(rt;
-        text.as_str(),
-        "operations 0\nstages 1\noutcomes 1\nturns\nnever 0\n"
+fn nothing_to_tell(rt: HostRuntime) {
+    let text = text_of(rt.alloc(), &[], &[], 0);
+    assert!(rt; text.as_str() == "operations 0\nstages 1\noutcomes 1\nturns\nnever 0\n");
+}
+
+#[test]
+fn too_many_to_list(rt: HostRuntime) {
+    assert!(rt;
+        ends_so(
+            rt.alloc(),
+            &[WRITE_X],
+            &[READ_X; 9],
+            10,
+            "\nnever over 256\n"
+        )
     );
-    Ok(())
-}
-
-#[test]
-fn too_many_to_list(rt: HostRuntime) -> Result<(), Fail> {
-    let reads = [READ_X; 9];
-    let text = text_of(&rt, rt.alloc(), &[WRITE_X], &reads, 10)?;
-    assert!(rt; text.ends_with("\nnever over 256\n"), "{text}");
-    Ok(())
 }

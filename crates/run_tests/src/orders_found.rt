@@ -1,17 +1,12 @@
 //! Serial orders and point orders of small histories, found: those worked out by hand, the limit, and want of memory.
-use part_tests::values::{READ, WRITE_FIVE, answered, called, id};
+use crate::values::{READ, WRITE_FIVE};
+use crate::world_rows::{answered, called, id, point, write_of};
 use refusing::{Trial, refusals};
 use reg_base::{Answer, Op, OpId, Shape};
 use reg_history::{Entry, History, Point, check_points, check_serial};
 use reg_outcomes::{InterleavingFault, find_points, find_serial};
 use std::alloc::{Allocator, Global};
-use std::process::Abort;
 use std::test::Fail;
-
-/// A write of this value to the register.
-fn write_of(value: u64) -> Op {
-    Op::Write { register: 0, value }
-}
 
 /// A history of four processes on one register. None where memory is refused.
 fn history_of<A: Allocator + Copy>(alloc: A, entries: &[Entry]) -> Option<History<A>> {
@@ -23,170 +18,170 @@ fn history_of<A: Allocator + Copy>(alloc: A, entries: &[Entry]) -> Option<Histor
     Some(history)
 }
 
-/// That this order is found, which the checker takes.
-fn finds(rt: &impl Abort, alloc: Global, entries: &[Entry], order: &[OpId]) -> Result<(), Fail> {
-    let history = history_of(alloc, entries).expect(rt, "in place");
-    let found = find_serial(alloc, &history, 100)?.expect(rt, "an order");
-    assert!(rt; found.as_slice() == order);
-    assert!(rt; check_serial(alloc, &history, &found) == Ok(()));
-    Ok(())
+/// Whether this is the serial order that is found, which the checker takes, or there is none.
+fn has_order(alloc: Global, history: &History, order: Option<&[OpId]>) -> bool {
+    match find_serial(alloc, history, 100) {
+        Ok(Some(found)) => {
+            order == Some(found.as_slice()) && check_serial(alloc, history, &found) == Ok(())
+        }
+        Ok(None) => order.is_none(),
+        Err(_) => false,
+    }
 }
 
-/// That these points are found, which the checker takes.
-fn finds_points(
-    rt: &impl Abort,
+/// The same of the points.
+fn has_points(alloc: Global, history: &History, points: Option<&[Point]>) -> bool {
+    match find_points(alloc, history, 100) {
+        Ok(Some(found)) => {
+            points == Some(found.as_slice()) && check_points(alloc, history, &found) == Ok(())
+        }
+        Ok(None) => points.is_none(),
+        Err(_) => false,
+    }
+}
+
+/// Whether this order and these points are found of a history.
+fn finds(
     alloc: Global,
     entries: &[Entry],
-    points: &[Point],
-) -> Result<(), Fail> {
-    let history = history_of(alloc, entries).expect(rt, "in place");
-    let found = find_points(alloc, &history, 100)?.expect(rt, "points");
-    assert!(rt; found.as_slice() == points);
-    assert!(rt; check_points(alloc, &history, &found) == Ok(()));
-    Ok(())
+    order: Option<&[OpId]>,
+    points: Option<&[Point]>,
+) -> bool {
+    match history_of(alloc, entries) {
+        Some(history) => has_order(alloc, &history, order) && has_points(alloc, &history, points),
+        None => false,
+    }
 }
 
 /// A write that is answered before a read of another process is called, which still answers 0.
-fn stale_read() -> [Entry; 4] {
-    [
-        called(0, id(0, 0), WRITE_FIVE),
-        answered(4, id(0, 0), Answer::Done),
-        called(5, id(1, 0), READ),
-        answered(5, id(1, 0), Answer::Value(0)),
-    ]
-}
+const STALE_READ: [Entry; 4] = [
+    called!(0, 0, 0, WRITE_FIVE),
+    answered!(4, 0, 0, Answer::Done),
+    called!(5, 1, 0, READ),
+    answered!(5, 1, 0, Answer::Value(0)),
+];
 
 #[test]
-fn a_stale_read_comes_first(rt: HostRuntime) -> Result<(), Fail> {
-    finds(&rt, rt.alloc(), &stale_read(), &[id(1, 0), id(0, 0)])
+fn a_stale_read_comes_first(rt: HostRuntime) {
+    let history = history_of(rt.alloc(), &STALE_READ).expect(&rt, "in place");
+    assert!(rt; has_order(rt.alloc(), &history, Some(&[id!(1, 0), id!(0, 0)])));
 }
 
 /// The write stands before the read in each point order, and the read's answer says that it doesn't.
 #[test]
-fn a_stale_read_has_no_points(rt: HostRuntime) -> Result<(), Fail> {
-    let history = history_of(rt.alloc(), &stale_read()).expect(&rt, "in place");
-    assert!(rt; find_points(rt.alloc(), &history, 100)?.is_none());
-    Ok(())
+fn a_stale_read_has_no_points(rt: HostRuntime) {
+    let history = history_of(rt.alloc(), &STALE_READ).expect(&rt, "in place");
+    assert!(rt; has_points(rt.alloc(), &history, None));
 }
+
+const OVERLAPPING: [Entry; 4] = [
+    called!(0, 0, 0, WRITE_FIVE),
+    called!(1, 1, 0, READ),
+    answered!(2, 1, 0, Answer::Value(0)),
+    answered!(3, 0, 0, Answer::Done),
+];
 
 /// The write is called before the read is answered, so the read may come first. Its point is its call, and the write's
 /// is that event too, since no point falls.
 #[test]
-fn an_overlapping_pair(rt: HostRuntime) -> Result<(), Fail> {
-    let entries = [
-        called(0, id(0, 0), WRITE_FIVE),
-        called(1, id(1, 0), READ),
-        answered(2, id(1, 0), Answer::Value(0)),
-        answered(3, id(0, 0), Answer::Done),
-    ];
-    let points = [
-        Point {
-            id: id(1, 0),
-            at: 1,
-        },
-        Point {
-            id: id(0, 0),
-            at: 1,
-        },
-    ];
-    finds_points(&rt, rt.alloc(), &entries, &points)
+fn an_overlapping_pair(rt: HostRuntime) {
+    let (order, points) = ([id!(1, 0), id!(0, 0)], [point!(1, 1), point!(0, 1)]);
+    assert!(rt; finds(rt.alloc(), &OVERLAPPING, Some(&order), Some(&points)));
 }
 
 #[test]
-fn no_operations(rt: HostRuntime) -> Result<(), Fail> {
-    finds(&rt, rt.alloc(), &[], &[])
+fn no_operations(rt: HostRuntime) {
+    assert!(rt; finds(rt.alloc(), &[], Some(&[]), Some(&[])));
 }
+
+const UNFINISHED: [Entry; 4] = [
+    called!(0, 0, 0, WRITE_FIVE),
+    called!(1, 1, 0, READ),
+    answered!(2, 1, 0, Answer::Value(5)),
+    called!(3, 2, 0, READ),
+];
 
 /// An unfinished write is placed where its value was read, and an unfinished read nowhere.
 #[test]
-fn unfinished_operations(rt: HostRuntime) -> Result<(), Fail> {
-    let entries = [
-        called(0, id(0, 0), WRITE_FIVE),
-        called(1, id(1, 0), READ),
-        answered(2, id(1, 0), Answer::Value(5)),
-        called(3, id(2, 0), READ),
-    ];
-    finds(&rt, rt.alloc(), &entries, &[id(0, 0), id(1, 0)])?;
-    let points = [
-        Point {
-            id: id(0, 0),
-            at: 0,
-        },
-        Point {
-            id: id(1, 0),
-            at: 1,
-        },
-    ];
-    finds_points(&rt, rt.alloc(), &entries, &points)
+fn unfinished_operations(rt: HostRuntime) {
+    let (order, points) = ([id!(0, 0), id!(1, 0)], [point!(0, 0), point!(1, 1)]);
+    assert!(rt; finds(rt.alloc(), &UNFINISHED, Some(&order), Some(&points)));
 }
+
+const OPPOSITE: [Entry; 12] = [
+    called!(0, 0, 0, write_of!(1)),
+    answered!(1, 0, 0, Answer::Done),
+    called!(2, 1, 0, write_of!(2)),
+    answered!(3, 1, 0, Answer::Done),
+    called!(4, 2, 0, READ),
+    answered!(5, 2, 0, Answer::Value(1)),
+    called!(6, 2, 1, READ),
+    answered!(7, 2, 1, Answer::Value(2)),
+    called!(8, 3, 0, READ),
+    answered!(9, 3, 0, Answer::Value(2)),
+    called!(10, 3, 1, READ),
+    answered!(11, 3, 1, Answer::Value(1)),
+];
 
 /// Two processes read two writes in opposite orders.
 #[test]
-fn opposite_orders(rt: HostRuntime) -> Result<(), Fail> {
-    let entries = [
-        called(0, id(0, 0), write_of(1)),
-        answered(1, id(0, 0), Answer::Done),
-        called(2, id(1, 0), write_of(2)),
-        answered(3, id(1, 0), Answer::Done),
-        called(4, id(2, 0), READ),
-        answered(5, id(2, 0), Answer::Value(1)),
-        called(6, id(2, 1), READ),
-        answered(7, id(2, 1), Answer::Value(2)),
-        called(8, id(3, 0), READ),
-        answered(9, id(3, 0), Answer::Value(2)),
-        called(10, id(3, 1), READ),
-        answered(11, id(3, 1), Answer::Value(1)),
-    ];
-    let history = history_of(rt.alloc(), &entries).expect(&rt, "in place");
-    assert!(rt; find_serial(rt.alloc(), &history, 100)?.is_none());
-    Ok(())
+fn opposite_orders(rt: HostRuntime) {
+    assert!(rt; finds(rt.alloc(), &OPPOSITE, None, None));
+}
+
+const TWO_WRITES: [Entry; 4] = [
+    called!(0, 0, 0, write_of!(1)),
+    called!(1, 1, 0, write_of!(2)),
+    answered!(2, 0, 0, Answer::Done),
+    answered!(3, 1, 0, Answer::Done),
+];
+
+/// Whether both are found within two stages, and not within one.
+fn is_limited(alloc: Global, history: &History) -> bool {
+    matches!(
+        find_serial(alloc, history, 1),
+        Err(InterleavingFault::TooManyStages)
+    ) && matches!(
+        find_points(alloc, history, 1),
+        Err(InterleavingFault::TooManyStages)
+    ) && matches!(find_serial(alloc, history, 2), Ok(Some(_)))
+        && matches!(find_points(alloc, history, 2), Ok(Some(_)))
 }
 
 #[test]
-fn limit(rt: HostRuntime) -> Result<(), Fail> {
-    let entries = [
-        called(0, id(0, 0), write_of(1)),
-        called(1, id(1, 0), write_of(2)),
-        answered(2, id(0, 0), Answer::Done),
-        answered(3, id(1, 0), Answer::Done),
-    ];
-    let history = history_of(rt.alloc(), &entries).expect(&rt, "in place");
-    let serial = find_serial(rt.alloc(), &history, 1);
-    assert!(rt; matches!(serial, Err(InterleavingFault::TooManyStages)));
-    let points = find_points(rt.alloc(), &history, 1);
-    assert!(rt; matches!(points, Err(InterleavingFault::TooManyStages)));
-    assert!(rt; find_serial(rt.alloc(), &history, 2)?.is_some());
-    assert!(rt; find_points(rt.alloc(), &history, 2)?.is_some());
-    Ok(())
+fn limit(rt: HostRuntime) {
+    let history = history_of(rt.alloc(), &TWO_WRITES).expect(&rt, "in place");
+    assert!(rt; is_limited(rt.alloc(), &history));
 }
 
 /// The stale read, with its memory refused.
 struct Starved;
 
+/// The order that is found of it. None where memory is wanted.
+fn found_told<A: Allocator + Copy>(
+    alloc: A,
+    ample: Global,
+    history: &History<A>,
+) -> Result<Option<String>, Fail> {
+    match find_serial(alloc, history, 100) {
+        Ok(Some(ids)) => Ok(Some(format!(in ample; "{:?}", ids.as_slice())?)),
+        Ok(None) => Err("no order")?,
+        Err(InterleavingFault::OutOfMemory) => Ok(None),
+        Err(fault) => Err(fault)?,
+    }
+}
+
 impl Trial for Starved {
     fn answer<A: Allocator + Copy>(&self, alloc: A, ample: Global) -> Result<Option<String>, Fail> {
-        let Some(history) = history_of(alloc, &stale_read()) else {
-            return Ok(None);
-        };
-        match find_serial(alloc, &history, 100) {
-            Ok(Some(ids)) => {
-                let mut text = String::new(ample);
-                for id in &ids {
-                    let OpId { process, number } = *id;
-                    text.push_str(format!(in ample; "p{process} #{number} ")?.as_str())?;
-                }
-                Ok(Some(text))
-            }
-            Ok(None) => Err("no order")?,
-            Err(InterleavingFault::OutOfMemory) => Ok(None),
-            Err(fault) => Err(fault)?,
+        match history_of(alloc, &STALE_READ) {
+            Some(history) => found_told(alloc, ample, &history),
+            None => Ok(None),
         }
     }
 }
 
 #[test]
 fn want_of_memory(rt: HostRuntime) -> Result<(), Fail> {
-    let refused = refusals(&Starved, rt.alloc())?;
-    assert!(rt; refused > 10);
+    assert!(rt; refusals(&Starved, rt.alloc())? > 10);
     Ok(())
 }

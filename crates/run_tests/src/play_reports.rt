@@ -5,7 +5,6 @@ use crate::replay_reports::verdict_on;
 use crate::streams::{demand_each_growth, demand_failing_streams};
 use reg_commands::Command;
 use std::alloc::{AllocError, Global};
-use std::test::Fail;
 
 /// How the report of its plays begins.
 const SMALL_HEAD: &str = "awreg report 2
@@ -298,36 +297,33 @@ fn has_report(alloc: Global, fair: bool, document: (&str, &str), report: &str) -
 }
 
 /// The same of the small workload, with lines more and the rest of its report.
-fn has_small_report(
-    alloc: Global,
-    fair: bool,
-    lines: &str,
-    tail: &str,
-) -> Result<bool, AllocError> {
-    let report = joined(alloc, SMALL_HEAD, tail)?;
-    Ok(has_report(alloc, fair, (SMALL, lines), report.as_str()))
+fn has_small_report(alloc: Global, fair: bool, lines: &str, tail: &str) -> bool {
+    match joined(alloc, SMALL_HEAD, tail) {
+        Ok(report) => has_report(alloc, fair, (SMALL, lines), report.as_str()),
+        Err(_) => false,
+    }
 }
 
 #[test]
-fn each_fair_play_has_its_report(rt: HostRuntime) -> Result<(), Fail> {
+fn each_fair_play_has_its_report(rt: HostRuntime) {
     for (line, tail) in [("", FAIR), ("budget = 3\n", FAIR_THREE)] {
-        assert!(rt; has_small_report(rt.alloc(), true, line, tail)?);
+        assert!(rt; has_small_report(rt.alloc(), true, line, tail));
     }
-    Ok(())
 }
 
 /// Whether the seeded play of the small workload by this seed has this rest of its report.
-fn has_seeded_report(alloc: Global, seed: usize, tail: &str) -> Result<bool, AllocError> {
-    let lines = format!(in alloc; "loss = 20\nrepeat = 20\nseed = {seed}\n")?;
-    has_small_report(alloc, false, lines.as_str(), tail)
+fn has_seeded_report(alloc: Global, seed: usize, tail: &str) -> bool {
+    match format!(in alloc; "loss = 20\nrepeat = 20\nseed = {seed}\n") {
+        Ok(lines) => has_small_report(alloc, false, lines.as_str(), tail),
+        Err(_) => false,
+    }
 }
 
 #[test]
-fn each_seeded_play_has_its_report(rt: HostRuntime) -> Result<(), Fail> {
+fn each_seeded_play_has_its_report(rt: HostRuntime) {
     for (seed, tail) in SEEDED.iter().enumerate() {
-        assert!(rt; has_seeded_report(rt.alloc(), seed, tail)?);
+        assert!(rt; has_seeded_report(rt.alloc(), seed, tail));
     }
-    Ok(())
 }
 
 #[test]
@@ -374,10 +370,9 @@ fn documents_are_refused(rt: HostRuntime) {
 }
 
 #[test]
-fn a_play_with_failing_streams(rt: HostRuntime) -> Result<(), Fail> {
-    let report = joined(rt.alloc(), SMALL_HEAD, FAIR)?;
+fn a_play_with_failing_streams(rt: HostRuntime) {
+    let report = joined(rt.alloc(), SMALL_HEAD, FAIR).expect(&rt, "memory");
     let command = Command::Play { fair: true };
     demand_failing_streams(&rt, rt.alloc(), command, SMALL, report.as_str());
     demand_each_growth(&rt, rt.alloc(), command, SMALL, report.as_str());
-    Ok(())
 }

@@ -1,5 +1,5 @@
 //! Worlds brought to rest: a lost write, as worked by hand, and each growth refused.
-use part_tests::values::WRITE_FIVE;
+use crate::values::WRITE_FIVE;
 use refusing::{Trial, refusals};
 use reg_base::Shape;
 use reg_front::Linear;
@@ -80,12 +80,11 @@ fn settles_by(alloc: Global, shape: Shape, events: &[Event]) -> bool {
 }
 
 #[test]
-fn a_lost_write_is_settled_as_worked_by_hand(rt: HostRuntime) -> Result<(), Fail> {
+fn a_lost_write_is_settled_as_worked_by_hand(rt: HostRuntime) {
     for (processes, events) in [(2, TWO.as_slice()), (3, THREE.as_slice())] {
-        let shape = Shape::new(processes, 1)?;
+        let shape = Shape::new(processes, 1).expect(&rt, "a shape");
         assert!(rt; settles_by(rt.alloc(), shape, events), "{processes}");
     }
-    Ok(())
 }
 
 /// A linear run of so many processes, brought to rest.

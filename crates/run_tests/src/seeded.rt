@@ -1,12 +1,11 @@
 //! A plain list of the witness, by a scan of all reads for each place, beside the merged one on pseudo-random runs.
-use part_tests::values::READ;
+use crate::values::READ;
 use reg_base::{Op, OpId, Shape};
 use reg_frames::{Body, Frame};
 use reg_front::{FrontEnd, Linear, LocalRead, LocalWrite};
 use reg_history::{Entry, check_serial};
 use reg_world::{CopyRead, Event, First, World};
 use std::alloc::{AllocError, Global};
-use std::test::Fail;
 
 const PROCESSES: u8 = 3;
 
@@ -258,12 +257,11 @@ fn all_agree(alloc: Global, shape: Shape, seed: u64) -> bool {
 }
 
 #[test]
-fn the_witness_is_the_plain_list(rt: HostRuntime) -> Result<(), Fail> {
-    let shape = Shape::new(3, 1)?;
+fn the_witness_is_the_plain_list(rt: HostRuntime) {
+    let shape = Shape::new(3, 1).expect(&rt, "a shape");
     for seed in 0..40 {
         assert!(rt; all_agree(rt.alloc(), shape, seed));
     }
-    Ok(())
 }
 
 /// Whether one of these is neither a delivered cast nor a read from a copy.
@@ -289,15 +287,14 @@ fn lost_and_reads_of(alloc: Global, shape: Shape, seed: u64) -> Result<(bool, us
 }
 
 #[test]
-fn some_casts_are_lost_and_some_reads_share_a_place(rt: HostRuntime) -> Result<(), Fail> {
-    let shape = Shape::new(3, 1)?;
+fn some_casts_are_lost_and_some_reads_share_a_place(rt: HostRuntime) {
+    let shape = Shape::new(3, 1).expect(&rt, "a shape");
     let mut lost = false;
     let mut reads = 0;
     for seed in 0..40 {
-        let (is_lost, count) = lost_and_reads_of(rt.alloc(), shape, seed)?;
+        let (is_lost, count) = lost_and_reads_of(rt.alloc(), shape, seed).expect(&rt, "memory");
         lost = lost || is_lost;
         reads = count.max(reads);
     }
     assert!(rt; lost && reads > 3);
-    Ok(())
 }

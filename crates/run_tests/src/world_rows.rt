@@ -1,5 +1,5 @@
 //! Runs as worked by hand, and what a world tells after each.
-use part_tests::values::{READ, WRITE_FIVE};
+use crate::values::{READ, WRITE_FIVE};
 use reg_base::{Answer, Op, OpId, Stamp};
 use reg_frames::{Body, Frame};
 use reg_history::{Entry, Point};
@@ -112,6 +112,13 @@ macro_rules! point {
         }
     };
 }
+
+pub(crate) use answered;
+pub(crate) use called;
+pub(crate) use cast;
+pub(crate) use id;
+pub(crate) use point;
+pub(crate) use write_of;
 
 const TICK: Event = Event::Tick { process: 0 };
 

@@ -1,6 +1,6 @@
 //! Runs as worked by hand: what a world tells after its events.
+use crate::values::WRITE_FIVE;
 use crate::world_rows::{LINEAR, LOCAL_READ, LOCAL_WRITE, Row};
-use part_tests::values::WRITE_FIVE;
 use reg_base::{OpId, Shape};
 use reg_frames::Frame;
 use reg_front::{FrontEnd, Linear, LocalRead, LocalWrite};
@@ -8,7 +8,6 @@ use reg_history::Point;
 use reg_process::Process;
 use reg_world::{Event, World};
 use std::alloc::{Allocator, Global};
-use std::test::Fail;
 
 fn is_copy<F: FrontEnd>(process: &Process<F>, copy: &(u64, u64, bool, u64)) -> bool {
     let (clock, pending, busy, value) = *copy;
@@ -145,10 +144,10 @@ fn goes_on(world: &mut World<Linear>) -> bool {
 }
 
 #[test]
-fn a_run_goes_on_behind_its_list(rt: HostRuntime) -> Result<(), Fail> {
-    let shape = Shape::new(2, 1)?;
-    let events = vec![in rt.alloc(); CALL]?;
-    let mut world = World::<Linear>::run_owned(rt.alloc(), shape, events)?;
+fn a_run_goes_on_behind_its_list(rt: HostRuntime) {
+    let shape = Shape::new(2, 1).expect(&rt, "a shape");
+    let events = vec![in rt.alloc(); CALL].expect(&rt, "memory");
+    let made = World::<Linear>::run_owned(rt.alloc(), shape, events);
+    let mut world = made.expect(&rt, "a world");
     assert!(rt; goes_on(&mut world));
-    Ok(())
 }

@@ -1,8 +1,7 @@
 //! Litmus tests: what small workloads answer under each front end, against all interleavings of their operations,
 //! worked out by hand.
 use reg_show::{MOST_PLAYS, show_outcomes};
-use std::alloc::{AllocError, Global};
-use std::test::Fail;
+use std::alloc::Global;
 
 /// A workload without its front end, how often it is played, and what its reads and swaps may answer, by process and
 /// number: one digit for each value.
@@ -92,96 +91,109 @@ never drawn 0
 ",
 ];
 
-/// What so many plays of a test answer under a front end.
-pub(crate) fn table(
-    alloc: Global,
-    plays: u32,
-    front: &str,
-    work: &str,
-) -> Result<String, AllocError> {
-    let text = format!(in alloc; "front = \"{front}\"\n{work}")?;
+/// The table of so many plays of a workload, from this seed on or from the document's own. Empty where it is refused.
+pub(crate) fn table(alloc: Global, plays: u32, seed: Option<u32>, text: &str) -> String {
     let mut output = Vec::new(alloc);
     let mut errors = Vec::new(alloc);
     let mut input = text.as_bytes();
     let plays = plays.min(MOST_PLAYS);
+    let seed = match seed {
+        Some(seed) => Some(seed as u64),
+        None => None,
+    };
     let status = show_outcomes(
         alloc,
         alloc,
         plays,
-        None,
+        seed,
         &mut input,
         &mut output,
         &mut errors,
     );
-    if status != 0 {
-        return String::from_str(alloc, "refused");
-    }
     match String::from_utf8(output) {
-        Ok(table) => Ok(table),
-        Err(_) => String::from_str(alloc, "not text"),
+        Ok(table) if status == 0 => table,
+        _ => String::new(alloc),
     }
 }
 
-/// The values of a line, one after another.
-fn values(alloc: Global, line: &str) -> Result<String, AllocError> {
-    let mut values = String::new(alloc);
+/// The same of a workload under a front end.
+pub(crate) fn table_under(alloc: Global, plays: u32, front: &str, work: &str) -> String {
+    match format!(in alloc; "front = \"{front}\"\n{work}") {
+        Ok(text) => table(alloc, plays, None, text.as_str()),
+        Err(_) => String::new(alloc),
+    }
+}
+
+/// Whether these are the values of a line, one after another.
+fn has_values(line: &str, values: &str) -> bool {
+    let mut rest = values.as_bytes();
     let mut is_value = false;
     for word in line.split(' ') {
         if is_value {
-            values.push_str(word)?;
+            match rest.strip_prefix(word.as_bytes()) {
+                Some(behind) => rest = behind,
+                None => return false,
+            }
         }
         is_value = word == "value";
     }
-    Ok(values)
+    rest.is_empty()
 }
 
 /// Whether the line of an outcome has one that is allowed, or the line is that of a count.
-fn is_allowed(alloc: Global, line: &str, allowed: &[&str]) -> Result<bool, AllocError> {
-    if !line.starts_with(' ') {
-        return Ok(true);
-    }
-    let values = values(alloc, line)?;
-    Ok(allowed.iter().any(|outcome| *outcome == values.as_str()))
-}
-
-#[test]
-fn no_outcome_is_seen_that_sequential_consistency_forbids(rt: HostRuntime) -> Result<(), Fail> {
-    let alloc = rt.alloc();
-    for test in &TESTS {
-        for front in &FRONTS {
-            let table = table(alloc, test.plays, front, test.work)?;
-            assert!(rt; table.starts_with("plays "), "{table}");
-            assert!(rt; table.contains("\nunfinished 0\nnever drawn "), "{table}");
-            for line in table.lines() {
-                let good = is_allowed(alloc, line, test.allowed)?;
-                assert!(rt; good, "{front} {line}");
-            }
+fn is_allowed(line: &str, allowed: &[&str]) -> bool {
+    for values in allowed {
+        if has_values(line, values) {
+            return true;
         }
     }
-    Ok(())
+    !line.starts_with(' ')
+}
+
+/// Whether all plays of a table are finished, and each of its outcomes is allowed.
+fn are_allowed(table: &str, allowed: &[&str]) -> bool {
+    for line in table.lines() {
+        if !is_allowed(line, allowed) {
+            return false;
+        }
+    }
+    table.starts_with("plays ") && table.contains("\nunfinished 0\nnever drawn ")
+}
+
+/// Whether all plays of a test under a front end are so.
+fn is_kept(alloc: Global, test: &Litmus, front: &str) -> bool {
+    let table = table_under(alloc, test.plays, front, test.work);
+    are_allowed(table.as_str(), test.allowed)
 }
 
 #[test]
-fn without_budget_no_play_is_finished(rt: HostRuntime) -> Result<(), Fail> {
-    let alloc = rt.alloc();
+fn no_outcome_is_seen_that_sequential_consistency_forbids(rt: HostRuntime) {
+    for test in &TESTS {
+        for front in &FRONTS {
+            assert!(rt; is_kept(rt.alloc(), test, front), "{front} {}", test.work);
+        }
+    }
+}
+
+/// Whether so many plays of a workload under a front end have this table.
+pub(crate) fn has_table(alloc: Global, plays: u32, front: &str, work: &str, right: &str) -> bool {
+    let table = table_under(alloc, plays, front, work);
+    table.as_str() == right
+}
+
+#[test]
+fn without_budget_no_play_is_finished(rt: HostRuntime) {
     let work = "registers = [\"x\"]\nscripts = [[\"write x 1\"], [\"read x\"]]\nbudget = 1\n";
-    let table = table(alloc, 100, "linear", work)?;
-    assert!(rt;
-        table.as_str() == "plays 100\noutcomes 0\nunfinished 100\nnever drawn 2\n",
-        "{table}"
-    );
-    Ok(())
+    let right = "plays 100\noutcomes 0\nunfinished 100\nnever drawn 2\n";
+    assert!(rt; has_table(rt.alloc(), 100, "linear", work, right));
 }
 
 #[test]
-fn a_hundred_plays_are_counted(rt: HostRuntime) -> Result<(), Fail> {
-    let alloc = rt.alloc();
+fn a_hundred_plays_are_counted(rt: HostRuntime) {
     let work = "registers = [\"x\", \"y\"]
 scripts = [[\"write x 1\", \"read y\"], [\"write y 1\", \"read x\"]]
 ";
     for (front, counted) in FRONTS.iter().zip(COUNTED.iter()) {
-        let table = table(alloc, 100, front, work)?;
-        assert!(rt; table.as_str() == *counted, "{front}\n{table}");
+        assert!(rt; has_table(rt.alloc(), 100, front, work, counted), "{front}");
     }
-    Ok(())
 }

@@ -67,20 +67,21 @@ fn a_record_that_ends_in_its_head_is_told_there(rt: HostRuntime) {
 }
 
 /// Whether the record with the one in the place of the other is refused with this line.
-fn is_refused(alloc: Global, old: &str, new: &str, line: &str) -> Result<bool, Fail> {
+fn is_refused(alloc: Global, old: &str, new: &str, line: &str) -> bool {
     let Some((front, rest)) = WRITE.split_once(old) else {
-        return Ok(false);
+        return false;
     };
-    let text = format!(in alloc; "{front}{new}{rest}")?;
-    Ok(is_told(alloc, text.as_str(), 1, "", line))
+    match format!(in alloc; "{front}{new}{rest}") {
+        Ok(text) => is_told(alloc, text.as_str(), 1, "", line),
+        Err(_) => false,
+    }
 }
 
 #[test]
-fn a_changed_record_is_refused_at_its_line(rt: HostRuntime) -> Result<(), Fail> {
+fn a_changed_record_is_refused_at_its_line(rt: HostRuntime) {
     for (old, new, line) in &CHANGES {
-        assert!(rt; is_refused(rt.alloc(), *old, *new, *line)?, "{new}");
+        assert!(rt; is_refused(rt.alloc(), *old, *new, *line), "{new}");
     }
-    Ok(())
 }
 
 /// The record, judged.

@@ -160,10 +160,18 @@ fn data_is_that_worked_by_hand(rt: HostRuntime) {
     }
 }
 
+/// Whether there is a value, which is this string.
+fn is_string(value: Option<&Value>, wanted: &str) -> bool {
+    match value {
+        Some(value) => value.as_str() == Some(wanted),
+        None => false,
+    }
+}
+
 /// Whether the member of this path of the data is this string.
 fn is_string_at(alloc: Global, json: &str, path: &str, wanted: &str) -> bool {
     match Value::from_str(alloc, json) {
-        Ok(value) => value.pointer(path).and_then(Value::as_str) == Some(wanted),
+        Ok(value) => is_string(value.pointer(path), wanted),
         Err(_) => false,
     }
 }
@@ -200,11 +208,20 @@ fn behind<'b>(bytes: &'b [u8], texts: &[&str]) -> Option<&'b [u8]> {
     Some(rest)
 }
 
+/// What stands behind the head of a page.
+fn behind_head(page: &[u8]) -> &[u8] {
+    behind(page, &HEAD).unwrap_or(&[])
+}
+
+/// Whether these are the tail of a page.
+fn is_tail(bytes: &[u8]) -> bool {
+    matches!(behind(bytes, &TAIL), Some([]))
+}
+
 /// Whether the page is its head, the data without its last line feed, and its tail.
 fn is_page(page: &[u8], data_text: &str) -> bool {
-    let data = behind(page, &HEAD).unwrap_or(&[]);
-    let tail = behind(data, &[data_text.trim_end()]).unwrap_or(&[]);
-    matches!(behind(tail, &TAIL), Some([]))
+    let data = behind_head(page);
+    is_tail(behind(data, &[data_text.trim_end()]).unwrap_or(&[]))
 }
 
 /// Whether the page of a text has this data.

@@ -1,8 +1,8 @@
 //! Plays and tables by a seed that is given, in place of the workload's.
+use crate::litmus::table;
 use crate::values::scheduled;
-use reg_show::{MOST_PLAYS, Player, show_outcomes};
-use std::alloc::{AllocError, Global};
-use std::test::Fail;
+use reg_show::Player;
+use std::alloc::Global;
 
 /// A workload that says no seed, so that it is 0.
 const WORK: &str = "front = \"local-read\"
@@ -12,60 +12,52 @@ loss = 20
 repeat = 20
 ";
 
-/// The same with a seed in the document.
-fn with_seed(alloc: Global, seed: u32) -> Result<String, AllocError> {
-    format!(in alloc; "{WORK}seed = {seed}\n")
-}
-
-/// Whether the schedule by a seed is that of the document that says it, and another than that by the document's own.
-fn plays_by(alloc: Global, seed: u32) -> Result<bool, AllocError> {
-    let said = with_seed(alloc, seed)?;
-    let given = Player::Seeded {
-        seed: Some(seed as u64),
-    };
-    let own = Player::Seeded { seed: None };
-    let (status, by_given, errors) = scheduled(alloc, given, WORK.as_bytes());
-    let (_, by_said, _) = scheduled(alloc, own, said.as_bytes());
-    let (_, by_own, _) = scheduled(alloc, own, WORK.as_bytes());
-    Ok(status == 0 && errors.is_empty() && by_given == by_said && by_given != by_own)
-}
-
-/// The table of a workload's plays.
-fn table(alloc: Global, plays: u32, seed: Option<u32>, text: &str) -> Option<Vec<u8>> {
-    let (mut output, mut errors) = (Vec::new(alloc), Vec::new(alloc));
-    let mut input = text.as_bytes();
-    let plays = plays.min(MOST_PLAYS);
+/// The schedule of the play of a workload, by this seed or by the document's own. Empty where it is refused.
+fn schedule(alloc: Global, seed: Option<u32>, text: &str) -> String {
     let seed = match seed {
         Some(seed) => Some(seed as u64),
         None => None,
     };
-    let status = show_outcomes(
-        alloc,
-        alloc,
-        plays,
-        seed,
-        &mut input,
-        &mut output,
-        &mut errors,
-    );
-    if status == 0 { Some(output) } else { None }
+    let (status, output, errors) = scheduled(alloc, Player::Seeded { seed }, text.as_bytes());
+    match String::from_utf8(output) {
+        Ok(schedule) if status == 0 && errors.is_empty() => schedule,
+        _ => String::new(alloc),
+    }
+}
+
+/// Whether what is made by a seed that is given is what is made by one that is said, and another than by the own one.
+fn is_as_said(given: &str, said: &str, own: &str) -> bool {
+    !given.is_empty() && given == said && given != own
+}
+
+/// Whether the schedule by a seed is that of the document that says it, and another than that by the document's own.
+fn plays_by(alloc: Global, seed: u32, said: &str) -> bool {
+    let by_given = schedule(alloc, Some(seed), WORK);
+    let by_said = schedule(alloc, None, said);
+    let by_own = schedule(alloc, None, WORK);
+    is_as_said(by_given.as_str(), by_said.as_str(), by_own.as_str())
 }
 
 /// Whether the table from a seed on is that of the document that says it, and another than that from the document's own
 /// on.
-fn counts_from(alloc: Global, seed: u32) -> Result<bool, AllocError> {
-    let said = with_seed(alloc, seed)?;
-    let given = table(alloc, 20, Some(seed), WORK);
-    let by_said = table(alloc, 20, None, said.as_str());
+fn counts_from(alloc: Global, seed: u32, said: &str) -> bool {
+    let by_given = table(alloc, 20, Some(seed), WORK);
+    let by_said = table(alloc, 20, None, said);
     let by_own = table(alloc, 20, None, WORK);
-    Ok(given.is_some() && given == by_said && given != by_own)
+    is_as_said(by_given.as_str(), by_said.as_str(), by_own.as_str())
+}
+
+/// Whether both are so, where the document says the seed.
+fn is_taken(alloc: Global, seed: u32) -> bool {
+    match format!(in alloc; "{WORK}seed = {seed}\n") {
+        Ok(said) => plays_by(alloc, seed, said.as_str()) && counts_from(alloc, seed, said.as_str()),
+        Err(_) => false,
+    }
 }
 
 #[test]
-fn a_seed_that_is_given_is_as_one_in_the_document(rt: HostRuntime) -> Result<(), Fail> {
+fn a_seed_that_is_given_is_as_one_in_the_document(rt: HostRuntime) {
     for seed in [1u32, 62, u32::MAX] {
-        assert!(rt; plays_by(rt.alloc(), seed)?, "{seed}");
-        assert!(rt; counts_from(rt.alloc(), seed)?, "{seed}");
+        assert!(rt; is_taken(rt.alloc(), seed), "{seed}");
     }
-    Ok(())
 }

@@ -6,7 +6,6 @@ use crate::values::{scheduled, shown};
 use reg_commands::{Command, run_text};
 use reg_show::{Player, Showing, show_text};
 use std::alloc::{AllocError, Global};
-use std::test::Fail;
 
 /// A write that is done once the other process has acknowledged its cast.
 pub(crate) const WRITE: &str = "processes 2
@@ -184,24 +183,32 @@ fn is_drawn(alloc: Global, text: &str) -> bool {
     status == 0 && errors.is_empty() && output.as_slice().starts_with(b"<svg ")
 }
 
-/// A schedule with so many ticks.
-fn ticks(alloc: Global, count: u32) -> Result<String, AllocError> {
-    let mut text = String::from_str(alloc, "processes 1\nregisters x\nfront linear\n")?;
+/// Adds a schedule with so many ticks.
+fn add_ticks(text: &mut String, count: u32) -> Result<(), AllocError> {
+    text.push_str("processes 1\nregisters x\nfront linear\n")?;
     for _ in 0..count {
         text.push_str("tick 0\n")?;
     }
-    Ok(text)
+    Ok(())
+}
+
+/// A schedule with so many ticks. Empty where there is no memory for it.
+fn ticks(alloc: Global, count: u32) -> String {
+    let mut text = String::new(alloc);
+    if add_ticks(&mut text, count).is_err() {
+        text.clear();
+    }
+    text
 }
 
 /// What a run with too many events is told by.
 const TOO_MANY: (u8, &str, &str) = (1, "", "too many events to draw\n");
 
 #[test]
-fn a_drawing_has_at_most_400_events(rt: HostRuntime) -> Result<(), Fail> {
-    let (most, more) = (ticks(rt.alloc(), 400)?, ticks(rt.alloc(), 401)?);
+fn a_drawing_has_at_most_400_events(rt: HostRuntime) {
+    let (most, more) = (ticks(rt.alloc(), 400), ticks(rt.alloc(), 401));
     assert!(rt; is_drawn(rt.alloc(), most.as_str()));
     assert!(rt; tells(rt.alloc(), Showing::Draw, more.as_str(), TOO_MANY));
-    Ok(())
 }
 
 /// Whether a run is told whole.
@@ -211,13 +218,12 @@ fn is_told(alloc: Global, showing: Showing, text: &str) -> bool {
 }
 
 #[test]
-fn a_page_has_at_most_2000_events(rt: HostRuntime) -> Result<(), Fail> {
-    let (most, more) = (ticks(rt.alloc(), 2_000)?, ticks(rt.alloc(), 2_001)?);
-    assert!(rt; is_told(rt.alloc(), Showing::Data, most.as_str()));
-    assert!(rt; is_told(rt.alloc(), Showing::Page, most.as_str()));
-    assert!(rt; tells(rt.alloc(), Showing::Data, more.as_str(), TOO_MANY));
-    assert!(rt; tells(rt.alloc(), Showing::Page, more.as_str(), TOO_MANY));
-    Ok(())
+fn a_page_has_at_most_2000_events(rt: HostRuntime) {
+    let (most, more) = (ticks(rt.alloc(), 2_000), ticks(rt.alloc(), 2_001));
+    for showing in [Showing::Data, Showing::Page] {
+        assert!(rt; is_told(rt.alloc(), showing, most.as_str()));
+        assert!(rt; tells(rt.alloc(), showing, more.as_str(), TOO_MANY));
+    }
 }
 
 /// The status of a command over a text.

@@ -4,6 +4,7 @@ use crate::{why_reports, why_schedules, why_workloads};
 use refusing::{Trial, refusals};
 use reg_show::why_text;
 use std::alloc::{Allocator, Global};
+use std::process::Abort;
 use std::test::Fail;
 
 /// Whether this is told of a text, with the status that goes with it.
@@ -17,17 +18,18 @@ fn is_told(alloc: Global, text: &str, is_accepted: bool, answer: &str) -> bool {
 /// A text, whether it is accepted, and what is told of it.
 pub(crate) type Row = (&'static str, bool, &'static str);
 
+/// Demands what is told of each text.
+pub(crate) fn demand_told(rt: &(impl Abort + AllocGlobal), rows: &[Row]) {
+    for (text, is_accepted, answer) in rows {
+        assert!(rt; is_told(rt.alloc(), text, *is_accepted, answer), "{text}");
+    }
+}
+
 #[test]
 fn texts_are_told_as_worked_by_hand(rt: HostRuntime) {
-    for rows in [
-        why_schedules::ROWS.as_slice(),
-        why_workloads::ROWS.as_slice(),
-        why_reports::ROWS.as_slice(),
-    ] {
-        for (text, is_accepted, answer) in rows {
-            assert!(rt; is_told(rt.alloc(), text, *is_accepted, answer), "{text}");
-        }
-    }
+    why_schedules::demand_all(&rt);
+    why_workloads::demand_all(&rt);
+    why_reports::demand_all(&rt);
 }
 
 /// A schedule of which the last event is refused, and what is told of it.

@@ -1,5 +1,5 @@
 //! What callers are told, and how soon, where no pacer runs.
-use crate::live::crews::{call_back, parts_of, pass_of, send_off, shut, told, wait};
+use crate::live::crews::{call_back, parts_of, pass_of, send_off, shut, size_of, told, wait};
 use crate::live::stops::{Change, Changing};
 use crate::live::watches::Watch;
 use crate::values::{read, write};
@@ -25,10 +25,8 @@ fn a_later_caller_is_not_told_an_earlier_answer(rt: HostRuntime) {
         .is_ok();
     let stopped = call_back(&rt, alloc, &mut parts, couriers);
     let second = pass_of(&rt, &mut parts.passes, 0).perform(&rt, read(0));
-    let closed = shut(&rt, alloc, parts);
-    assert!(rt;
-        first && stopped && second == Err(LiveFault::Failed) && told(&closed, 0) == Some(1)
-    );
+    let told = told(&shut(&rt, alloc, parts), 0);
+    assert!(rt; first && stopped && second == Err(LiveFault::Failed) && told == Some(1));
 }
 
 /// Holds the first parcel until another caller was answered, and tells where that took too long.
@@ -95,7 +93,7 @@ fn no_station_is_locked_while_its_frames_are_sent(rt: HostRuntime) {
     let mut parts = parts_of::<LocalWrite, NoGate>(&rt, alloc, (2, 1), NoGate);
     let written = writes_in_time(rt, alloc, &mut parts, &road);
     watch.end(&rt);
-    let _closed = shut(&rt, alloc, parts);
+    let _size = size_of(shut(&rt, alloc, parts));
     assert!(rt; written);
 }
 
@@ -114,8 +112,8 @@ fn a_caller_is_told_at_once_where_a_station_stops(rt: HostRuntime) {
     let refused = pass_of(&rt, &mut parts.passes, 0).perform(&rt, write(0, 1));
     let stopped = call_back(&rt, alloc, &mut parts, couriers);
     watch.end(&rt);
-    let closed = shut(&rt, alloc, parts);
-    assert!(rt; refused == Err(LiveFault::Failed) && stopped && closed.world.events() == 1);
+    let (events, _) = size_of(shut(&rt, alloc, parts));
+    assert!(rt; refused == Err(LiveFault::Failed) && stopped && events == 1);
 }
 
 /// Whether a write is answered, and the journal gets five sections within some seconds.
@@ -145,6 +143,6 @@ fn what_comes_of_an_answering_frame_is_sent(rt: HostRuntime) {
     let sent = sends_all(&rt, pass_of(&rt, &mut parts.passes, 0));
     let stopped = call_back(&rt, alloc, &mut parts, couriers);
     watch.end(&rt);
-    let closed = shut(&rt, alloc, parts);
-    assert!(rt; sent && stopped && closed.world.events() == 5);
+    let (events, _) = size_of(shut(&rt, alloc, parts));
+    assert!(rt; sent && stopped && events == 5);
 }

@@ -144,7 +144,7 @@ fn others_go_on_while_one_is_held(rt: HostRuntime) {
     perform_both(rt, &mut passes, write(0, 1), &flags);
     put_back(&rt, &mut passes, third);
     let late = flags.late.load(Ordering::SeqCst);
-    let closed = end(&rt, alloc, running, passes);
+    let (_, entries) = size_of(end(&rt, alloc, running, passes));
     watch.end(&rt);
-    assert!(rt; !late && closed.world.history().entries().len() == 4);
+    assert!(rt; !late && entries == 4);
 }

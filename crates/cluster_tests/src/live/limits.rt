@@ -1,7 +1,5 @@
 //! The limits of a process and of the journal.
-use crate::live::crews::{
-    close_parts, parts_of, pass_of, perform_apart, shut, size_of, told_apart,
-};
+use crate::live::crews::{parts_of, pass_of, perform_apart, shut, size_of, told_apart};
 use crate::values::{read, write};
 use reg_base::limits::{MOST_EVENTS, MOST_OPERATIONS};
 use reg_front::{FrontEnd, Linear, LocalRead};
@@ -32,8 +30,8 @@ fn a_pass_calls_so_many_operations(rt: HostRuntime) {
     let alloc = rt.alloc();
     let mut parts = parts_of::<Linear, NoGate>(&rt, alloc, (1, 1), NoGate);
     let full = gets_full(&rt, pass_of(&rt, &mut parts.passes, 0));
-    let closed = close_parts(&rt, alloc, parts).is_ok();
-    assert!(rt; full && closed);
+    let (events, _) = size_of(shut(&rt, alloc, parts));
+    assert!(rt; full && events == MOST_OPERATIONS);
 }
 
 /// Fills a journal by reads that are answered from the copies, all but the last places. Whether all are answered.

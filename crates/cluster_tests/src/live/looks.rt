@@ -1,5 +1,5 @@
 //! How long the pacer pauses between two looks.
-use crate::live::crews::{join_all, parts_of, pass_of, send_off, shut, wait};
+use crate::live::crews::{join_all, parts_of, pass_of, send_off, shut, size_of, wait};
 use crate::live::pacing::length_of;
 use crate::values::write;
 use reg_front::LocalWrite;
@@ -144,6 +144,6 @@ fn looks_are_ten_milliseconds_apart(rt: HostRuntime) {
         couriers: none,
         pacer,
     };
-    let _closed = shut(&rt, alloc, parts);
+    let _size = size_of(shut(&rt, alloc, parts));
     assert!(rt; written && stopped && lengths == (Some(1), Some(2)));
 }

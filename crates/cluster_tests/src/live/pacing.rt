@@ -266,8 +266,11 @@ fn rests(closed: &Closed<LocalWrite>, process: u8) -> bool {
 
 /// Whether a scene of two processes goes as it should, and the frames of these were all acknowledged then.
 fn rests_after(rt: &(impl Wait + Abort), alloc: Global, scene: &Scene, still: &[u8]) -> bool {
-    let (right, closed) = played(rt, alloc, 2, scene);
-    right && still.iter().all(|process| rests(&closed, *process))
+    let (mut right, closed) = played(rt, alloc, 2, scene);
+    for process in still {
+        right = rests(&closed, *process) && right;
+    }
+    right
 }
 
 #[test]

@@ -1,6 +1,6 @@
 //! Which parcels come out of a road: of one that tells of each whether it came, and of a rough one by the words it
 //! draws.
-use crate::live::crews::{call_all, call_back, parts_of, pass_of, send_off, shut};
+use crate::live::crews::{call_all, call_back, parts_of, pass_of, send_off, shut, size_of};
 use crate::live::watches::Watch;
 use crate::values::write;
 use reg_frames::Frame;
@@ -55,11 +55,9 @@ fn litter_is_dropped(rt: HostRuntime) {
     let couriers = send_off(rt, alloc, &mut parts, road);
     call_all(rt, alloc, &mut parts.passes);
     let stopped = call_back(&rt, alloc, &mut parts, couriers);
-    let closed = shut(&rt, alloc, parts);
+    let (_, entries) = size_of(shut(&rt, alloc, parts));
     watch.end(&rt);
-    assert!(rt;
-        stopped && !wrong.load(Ordering::SeqCst) && closed.world.history().entries().len() == 12
-    );
+    assert!(rt; stopped && !wrong.load(Ordering::SeqCst) && entries == 12);
 }
 
 /// How many writes are sent over a rough road.
@@ -107,10 +105,10 @@ fn expected(alloc: Global, seed: u64, loss: u32, repeat: u32) -> Vec<u64> {
 }
 
 /// The counts among frames.
-fn counts_of(alloc: Global, frames: &[Frame]) -> Vec<u64> {
+fn counts_of(alloc: Global, frames: Option<&[Frame]>) -> Vec<u64> {
     let mut counts = Vec::new(alloc);
     let mut all = true;
-    for frame in frames {
+    for frame in frames.unwrap_or(&[]) {
         if let Frame::Got { count } = *frame {
             all = counts.push(count).is_ok() && all;
         }
@@ -130,7 +128,20 @@ pub fn carry(rt: &impl Wait, parts: &mut Parts<LocalWrite, NoGate>, road: &impl 
     stopped
 }
 
-/// The counts that process 1 puts for process 0, which writes so often.
+/// Has process 0 write so often, and carries its frames over a road, and what answers them nowhere. Whether the
+/// couriers could be run.
+fn writes_over(
+    rt: &(impl Wait + Abort),
+    parts: &mut Parts<LocalWrite, NoGate>,
+    road: &impl Road,
+) -> bool {
+    for value in 0..WRITES {
+        let _told = pass_of(rt, &mut parts.passes, 0).perform(rt, write(0, value));
+    }
+    carry(rt, parts, road) && carry(rt, parts, &Lost)
+}
+
+/// The counts that process 1 puts for process 0 then.
 fn answered(
     rt: &(impl Wait + Abort),
     alloc: Global,
@@ -139,16 +150,10 @@ fn answered(
     repeat: u32,
 ) -> Vec<u64> {
     let mut parts = parts_of::<LocalWrite, NoGate>(rt, alloc, (2, 1), NoGate);
-    for value in 0..WRITES {
-        let _told = pass_of(rt, &mut parts.passes, 0).perform(rt, write(0, value));
-    }
     let road = Rough::new(SeedWords::new(seed), loss, repeat);
-    let sent = carry(rt, &mut parts, &road) && carry(rt, &mut parts, &Lost);
+    assert!(rt; writes_over(rt, &mut parts, &road));
     let closed = shut(rt, alloc, parts);
-    match closed.world.wire(1, 0) {
-        Some(frames) if sent => counts_of(alloc, frames),
-        _ => Vec::new(alloc),
-    }
+    counts_of(alloc, closed.world.wire(1, 0))
 }
 
 /// Loses all parcels.

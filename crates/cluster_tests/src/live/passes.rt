@@ -34,7 +34,9 @@ fn one_process_answers_at_once(rt: HostRuntime) {
     let pass = pass_of(&rt, &mut parts.passes, 0);
     let right = answers_at_once(&rt, pass, &mut parts.pacer);
     let closed = shut(&rt, alloc, parts);
-    assert!(rt; right && closed.world.history().entries().len() == 4 && closed.receipts.len() == 1);
+    let passes = closed.receipts.len();
+    let (_, entries) = size_of(closed);
+    assert!(rt; right && entries == 4 && passes == 1);
 }
 
 /// Whether two writes have the event of a tick between them.

@@ -128,9 +128,12 @@ fn judges<A: Allocator + Copy>(
     if logs.len() != count || lists.len() != count {
         return Err(AllocError);
     }
-    let plain = verify::<Linear, A>(alloc, shape, row.order, logs, lists);
+    let plain = is_said(
+        verify::<Linear, A>(alloc, shape, row.order, logs, lists),
+        row,
+    )?;
     let packed = verify_in::<Linear, A, PackedWires<A>>(alloc, shape, row.order, logs, lists);
-    Ok(is_said(plain, row)? && is_said(packed, row)?)
+    Ok(is_said(packed, row)? && plain)
 }
 
 /// The same, with the log and the receipts of the row put into these lists, which are empty.

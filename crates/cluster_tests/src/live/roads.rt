@@ -1,11 +1,11 @@
 //! Roads that lose, repeat and reorder parcels.
 use crate::live::crews::{
-    answered, call_all, end, parts_of, pass_of, perform_apart, start, told_apart,
+    answered, call_all, end, parts_of, pass_of, perform_apart, size_of, start, told_apart,
 };
 use crate::live::watches::Watch;
 use crate::values::{read, write};
 use reg_base::Answer;
-use reg_front::{Front, FrontEnd, Linear, LocalRead, LocalWrite};
+use reg_front::{FrontEnd, Linear, LocalRead, LocalWrite};
 use reg_history::{check_points, check_serial};
 use reg_live::{Closed, LiveFault, NoGate, Pass, Receipt, Rough};
 use reg_workload::SeedWords;
@@ -41,20 +41,6 @@ fn is_serial<F: FrontEnd>(alloc: Global, closed: &Closed<F>) -> bool {
     }
 }
 
-/// Whether a run over a rough road is serial, and under the linear front end its points place its six operations.
-fn is_right<R: Threads + Wait + Clock + Abort + Copy + Send + Sync + 'static>(
-    rt: R,
-    alloc: Global,
-    front: Front,
-    seed: u64,
-) -> bool {
-    match front {
-        Front::Linear => is_pointed(alloc, &run_rough::<Linear, R>(rt, alloc, seed)),
-        Front::LocalRead => is_serial(alloc, &run_rough::<LocalRead, R>(rt, alloc, seed)),
-        Front::LocalWrite => is_serial(alloc, &run_rough::<LocalWrite, R>(rt, alloc, seed)),
-    }
-}
-
 /// Whether the witness of a run is serial, and its points place its six operations in a point order.
 fn is_pointed(alloc: Global, closed: &Closed<Linear>) -> bool {
     let pointed = match closed.world.points() {
@@ -66,12 +52,22 @@ fn is_pointed(alloc: Global, closed: &Closed<Linear>) -> bool {
     pointed && is_serial(alloc, closed)
 }
 
+/// Whether a run over a rough road is serial.
+fn runs_serially<
+    F: FrontEnd + Send + Sync + 'static,
+    R: Threads + Wait + Clock + Abort + Copy + Send + Sync + 'static,
+>(rt: R, alloc: Global, seed: u64) -> bool {
+    let closed = run_rough::<F, R>(rt, alloc, seed);
+    is_serial(alloc, &closed)
+}
+
 #[test]
 fn callers_are_answered_over_rough_roads(rt: HostRuntime) {
-    for front in [Front::Linear, Front::LocalRead, Front::LocalWrite] {
-        for seed in 0..10u64 {
-            assert!(rt; is_right(rt, rt.alloc(), front, seed), "seed {seed}");
-        }
+    for seed in 0..10u64 {
+        let linear = is_pointed(rt.alloc(), &run_rough::<Linear, _>(rt, rt.alloc(), seed));
+        let local_read = runs_serially::<LocalRead, _>(rt, rt.alloc(), seed);
+        let local_write = runs_serially::<LocalWrite, _>(rt, rt.alloc(), seed);
+        assert!(rt; linear && local_read && local_write, "seed {seed}");
     }
 }
 
@@ -105,7 +101,7 @@ fn fronts_are_handed_on(rt: HostRuntime) {
     let parts = parts_of::<Linear, NoGate>(&rt, alloc, (3, 1), NoGate);
     let (mut passes, running) = start(rt, alloc, parts, road(7));
     let right = hands_on(rt, &mut passes);
-    let closed = end(&rt, alloc, running, passes);
+    let (_, entries) = size_of(end(&rt, alloc, running, passes));
     watch.end(&rt);
-    assert!(rt; right && closed.world.history().entries().len() == 6);
+    assert!(rt; right && entries == 6);
 }

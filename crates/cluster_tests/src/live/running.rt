@@ -41,9 +41,11 @@ fn a_running_cluster_has_a_pacer(rt: HostRuntime) {
         "a cluster",
     );
     let told = pass_of(&rt, &mut passes, 0).perform(&rt, write(0, 1));
-    let closed = running.close_in::<_, PackedWires<Global>>(&rt, alloc, passes);
+    let closed = running
+        .close_in::<_, PackedWires<Global>>(&rt, alloc, passes)
+        .is_ok();
     watch.end(&rt);
-    assert!(rt; told.is_ok() && closed.is_ok());
+    assert!(rt; told.is_ok() && closed);
 }
 
 /// Loses all parcels, and holds the courier that brings one from this process until it may go on.
@@ -80,19 +82,26 @@ fn written<R: Threads + Wait + Clock + Abort + Copy + Send + Sync + 'static>(
     (running, passes)
 }
 
-/// The courier of each process in turn is held until the cluster is being closed, and isn't any more when it is closed.
+/// Whether the courier of a process is held until the cluster is being closed, and isn't any more when it is closed.
+fn is_waited_for<R: Threads + Wait + Clock + Abort + Copy + Send + Sync + 'static>(
+    rt: R,
+    alloc: Global,
+    from: u8,
+) -> bool {
+    let hold = Arc::new(alloc, Hold::new()).expect(&rt, "memory");
+    let (running, passes) = written(rt, alloc, from, &hold);
+    let held = wait(&hold.inside, 1_000_000_000);
+    let releasing = release_later(&rt, &hold);
+    hold.closing.store(true, Ordering::SeqCst);
+    let closed = running.close(&rt, alloc, passes).is_ok();
+    let left = hold.inside.load(Ordering::SeqCst);
+    releasing.join(&rt);
+    held && closed && !left
+}
+
 #[test]
 fn no_courier_is_left_behind(rt: HostRuntime) {
-    let alloc = rt.alloc();
     for from in 0..2u8 {
-        let hold = Arc::new(alloc, Hold::new()).expect(&rt, "memory");
-        let (running, passes) = written(rt, alloc, from, &hold);
-        let held = wait(&hold.inside, 1_000_000_000);
-        let releasing = release_later(&rt, &hold);
-        hold.closing.store(true, Ordering::SeqCst);
-        let closed = running.close(&rt, alloc, passes).is_ok();
-        let left = hold.inside.load(Ordering::SeqCst);
-        releasing.join(&rt);
-        assert!(rt; held && closed && !left);
+        assert!(rt; is_waited_for(rt, rt.alloc(), from), "{from}");
     }
 }

@@ -51,9 +51,9 @@ fn each_caller_reads_what_it_wrote(rt: HostRuntime) {
     let (mut passes, running) = start(rt, alloc, parts, Honest);
     call_all(rt, alloc, &mut passes);
     let behind = is_called_behind(rt, &mut passes);
-    let closed = end(&rt, alloc, running, passes);
+    let all = has_all(&end(&rt, alloc, running, passes));
     watch.end(&rt);
-    assert!(rt; behind && has_all(&closed));
+    assert!(rt; behind && all);
 }
 
 /// Adds the script that writes a register and reads it.
@@ -88,8 +88,8 @@ fn performed<
 fn scripts_are_performed(rt: HostRuntime) {
     let alloc = rt.alloc();
     for processes in [1u16, 3] {
-        let closed = performed::<Linear, HostRuntime>(rt, alloc, processes, 4);
-        assert!(rt; closed.is_ok());
+        let closed = performed::<Linear, HostRuntime>(rt, alloc, processes, 4).is_ok();
+        assert!(rt; closed);
     }
 }
 

@@ -1,7 +1,7 @@
 //! Stations that stop, and frames that were changed on their way.
 use crate::live::crews::{
     call_back, close_parts, end, last_of, parts_of, pass_of, perform_apart, put_back, send_off,
-    shut, start, told, told_apart, wait,
+    shut, size_of, start, told, told_apart, wait,
 };
 use crate::live::watches::Watch;
 use crate::values::{read, write};
@@ -153,9 +153,9 @@ fn a_station_stops_alone(rt: HostRuntime) {
     let road = Changing::new(alloc, Change::LastTime);
     let (mut passes, running) = start(rt, alloc, parts, road);
     let stopped = stops_second(&rt, &mut passes, &seen);
-    let closed = end(&rt, alloc, running, passes);
+    let both = has_both_writes(&end(&rt, alloc, running, passes));
     watch.end(&rt);
-    assert!(rt; stopped && has_both_writes(&closed));
+    assert!(rt; stopped && both);
 }
 
 /// Closes a cluster in which a value was changed on its way, without its last pass where `less`. No pacer runs, so that
@@ -216,9 +216,9 @@ fn all_callers_are_told_where_a_station_stops(rt: HostRuntime) {
     let road = Changing::new(alloc, Change::LastTime);
     let (mut passes, running) = start(rt, alloc, parts, road);
     let told = both_are_told(rt, &mut passes);
-    let closed = end(&rt, alloc, running, passes);
+    let (_, entries) = size_of(end(&rt, alloc, running, passes));
     watch.end(&rt);
-    assert!(rt; told && closed.world.history().entries().len() == 2);
+    assert!(rt; told && entries == 2);
 }
 
 /// Counts turns until so many sections were made, and some more, in which their callers begin to wait.
@@ -250,7 +250,7 @@ fn no_caller_waits_once_the_cluster_is_stopped(rt: HostRuntime) {
     for caller in callers {
         told = told_apart(&rt, &mut parts.passes, caller) == STOPPED && told;
     }
-    let closed = shut(&rt, alloc, parts);
+    let (events, _) = size_of(shut(&rt, alloc, parts));
     watch.end(&rt);
-    assert!(rt; told && closed.world.events() == 3);
+    assert!(rt; told && events == 3);
 }

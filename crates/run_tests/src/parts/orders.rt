@@ -1,10 +1,9 @@
 //! Histories and their orders, as worked by hand.
-use crate::values::{READ, WRITE_FIVE, answered, called};
+use crate::values::{READ, WRITE_FIVE};
 use reg_base::{Answer, OpId, Shape};
 use reg_history::{CheckFault, Entry, History, HistoryFault, Point, check_points, check_serial};
-use std::alloc::{AllocError, Global};
+use std::alloc::Global;
 use std::process::Abort;
-use std::test::Fail;
 
 /// A history of three processes with one register.
 fn history_of(rt: &(impl Abort + AllocGlobal), entries: &[Entry]) -> History {
@@ -150,10 +149,10 @@ fn a_stale_read_has_no_points(rt: HostRuntime) {
 
 /// Demands that an answer is out of place before its call, and in place after it.
 fn demand_places(rt: &impl Abort, history: &mut History) {
-    let done = answered(0, P, Answer::Done);
+    let done = answered!(0, P, Answer::Done);
     assert!(rt; history.push(done) == Err(HistoryFault::OutOfPlace));
     assert!(rt; history.reserve(2).is_ok());
-    assert!(rt; history.push(called(0, P, WRITE_FIVE)) == Ok(()));
+    assert!(rt; history.push(called!(0, P, WRITE_FIVE)) == Ok(()));
     assert!(rt; history.push(done) == Ok(()));
     assert!(rt; history.entries().len() == 2);
 }
@@ -179,15 +178,14 @@ const SHOWN: [(CheckFault, &str); 8] = [
 ];
 
 /// Whether a fault shows these words.
-fn shows(alloc: Global, fault: CheckFault, words: &str) -> Result<bool, AllocError> {
-    let shown = format!(in alloc; "{fault}")?;
-    Ok(shown.as_str() == words)
+fn shows(alloc: Global, fault: CheckFault, words: &str) -> bool {
+    let mut text = String::new(alloc);
+    write!(text, "{fault}").is_ok() && text.as_str() == words
 }
 
 #[test]
-fn each_fault_is_shown_in_its_words(rt: HostRuntime) -> Result<(), Fail> {
+fn each_fault_is_shown_in_its_words(rt: HostRuntime) {
     for (fault, words) in &SHOWN {
-        assert!(rt; shows(rt.alloc(), *fault, words)?);
+        assert!(rt; shows(rt.alloc(), *fault, words));
     }
-    Ok(())
 }

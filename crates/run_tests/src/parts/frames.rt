@@ -1,5 +1,6 @@
 //! Frames and their bytes, as worked by hand.
-use crate::values::{READ as READ_FIRST, WRITE_FIVE, cast};
+use crate::values::{READ as READ_FIRST, WRITE_FIVE};
+use crate::world_rows::cast;
 use reg_base::Op;
 use reg_frames::{Body, Frame, FrameFault, decode, encode};
 use std::process::Abort;
@@ -101,7 +102,7 @@ fn each_form_there_and_back(rt: HostRuntime) {
         assert!(rt; decode(bytes) == Ok(*frame));
         assert!(rt; is_spelled(&rt, frame, bytes));
     }
-    for frame in [cast(0, 0, READ_FIRST), cast(1, 3, PAST_THE_LAST)] {
+    for frame in [cast!(0, 0, READ_FIRST), cast!(1, 3, PAST_THE_LAST)] {
         assert!(rt; encode(rt.alloc(), &frame).err() == Some(FrameFault::Range));
     }
 }

@@ -1,5 +1,5 @@
 //! Each growth of the parts refused in turn: the answer is want of memory, or the one with ample memory.
-use crate::reports::{NO_POINTS, NO_POINTS_NOW, ONE_PROCESS, ONE_PROCESS_NOW};
+use crate::parts::reports::{NO_POINTS, NO_POINTS_NOW, ONE_PROCESS, ONE_PROCESS_NOW};
 use crate::values::{READ, WRITE_FIVE};
 use refusing::{Trial, refusals};
 use reg_base::{OpId, Shape};
@@ -76,7 +76,12 @@ fn event<A: Allocator + Copy>(
 }
 
 fn has_stopped<A: Allocator + Copy>(process: &mut Process<LocalWrite, A>) -> bool {
-    STEPS.iter().all(|step| matches!(event(process, step), Err(ProcessFault::Failed)))
+    for step in &STEPS {
+        if !matches!(event(process, step), Err(ProcessFault::Failed)) {
+            return false;
+        }
+    }
+    true
 }
 
 fn push_out<A: Allocator + Copy>(text: &mut String, out: &Outcome<A>) -> Result<(), AllocError> {

@@ -1,9 +1,10 @@
 //! Reports of both versions: what they tell, how they are written, and the line at which a text is refused.
-use crate::demands::demand;
-use crate::texts::names_of;
-use crate::values::{READ, WRITE_FIVE, answered, called, id, point};
-use reg_base::{Answer, Shape};
-use reg_history::{History, ReadFault, ReadWhy, Report, read_report, write_report};
+use crate::parts::demands::demand;
+use crate::parts::texts::names_of;
+use crate::values::{READ, WRITE_FIVE};
+use crate::world_rows::{answered, called, id};
+use reg_base::{Answer, OpId, Shape};
+use reg_history::{Entry, History, Point, ReadFault, ReadWhy, Report, read_report, write_report};
 use std::alloc::{AllocError, Global};
 use std::process::Abort;
 
@@ -20,17 +21,33 @@ pub(crate) const ONE_PROCESS_NOW: &str =
 pub(crate) const NO_POINTS_NOW: &str =
     "awreg report 2\nfront local-read\nprocesses 3\nregisters 1\nx\nhistory 4\n       0  p0    #0       call    write x 5\n       4  p0    #0       answer  done\n       5  p1    #0       call    read x\n       5  p1    #0       answer  value 0\norder 2\np1 #0\np0 #0\nend\n";
 
+/// What the first report is made of.
+const ENTRIES: [Entry; 4] = [
+    called!(0, 0, 0, WRITE_FIVE),
+    answered!(0, 0, 0, Answer::Done),
+    called!(1, 0, 1, READ),
+    answered!(1, 0, 1, Answer::Value(5)),
+];
+
+const ORDER: [OpId; 2] = [id!(0, 0), id!(0, 1)];
+
+const POINTS: [Point; 2] = [
+    Point {
+        id: id!(0, 0),
+        at: 0,
+    },
+    Point {
+        id: id!(0, 1),
+        at: 1,
+    },
+];
+
 /// The history of the first report.
 fn history(rt: &(impl Abort + AllocGlobal)) -> History {
     let shape = Shape::new(1, 1).expect(rt, "a shape");
     let mut history = History::new(rt.alloc(), shape).expect(rt, "memory");
-    for entry in [
-        called(0, id(0, 0), WRITE_FIVE),
-        answered(0, id(0, 0), Answer::Done),
-        called(1, id(0, 1), READ),
-        answered(1, id(0, 1), Answer::Value(5)),
-    ] {
-        history.push(entry).expect(rt, "in place");
+    for entry in &ENTRIES {
+        history.push(*entry).expect(rt, "in place");
     }
     history
 }
@@ -39,10 +56,8 @@ fn history(rt: &(impl Abort + AllocGlobal)) -> History {
 fn one_process(rt: &(impl Abort + AllocGlobal)) -> Report {
     let front = String::from_str(rt.alloc(), "linear").expect(rt, "memory");
     let names = names_of(rt.alloc(), "registers x").expect(rt, "names");
-    let order = [id(0, 0), id(0, 1)].to_vec(rt.alloc()).expect(rt, "memory");
-    let points = [point(0, 0, 0), point(0, 1, 1)]
-        .to_vec(rt.alloc())
-        .expect(rt, "memory");
+    let order = ORDER.to_vec(rt.alloc()).expect(rt, "memory");
+    let points = POINTS.to_vec(rt.alloc()).expect(rt, "memory");
     Report::new(front, names, history(rt), order, Some(points)).expect(rt, "a report")
 }
 

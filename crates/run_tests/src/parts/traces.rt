@@ -1,5 +1,5 @@
 //! What steps of processes give, a line for each.
-use crate::demands::demand;
+use crate::parts::demands::demand;
 use reg_base::{Answer, Delivered, Op, Shape, Stamp};
 use reg_frames::{Body, Frame};
 use reg_front::FrontEnd;
@@ -7,7 +7,6 @@ use reg_process::{Outcome, Process, ProcessFault, Put, Reply, Step};
 use reg_text::OpLine;
 use std::alloc::{AllocError, Global};
 use std::process::Abort;
-use std::test::Fail;
 
 /// The process that makes the step, the step, and the line of what it gives.
 pub(crate) type Row = (u8, Step, &'static str);
@@ -151,22 +150,18 @@ fn demand_rows<F: FrontEnd>(rt: &(impl Abort + AllocGlobal), all: &mut [Process<
 }
 
 /// So many processes of one register.
-fn all_of<F: FrontEnd>(alloc: Global, processes: u8) -> Result<Vec<Process<F>>, Fail> {
-    let shape = Shape::new(u32::from(processes), 1)?;
-    let mut all = Vec::new(alloc);
+fn all_of<F: FrontEnd>(rt: &(impl Abort + AllocGlobal), processes: u8) -> Vec<Process<F>> {
+    let shape = Shape::new(u32::from(processes), 1).expect(rt, "a shape");
+    let mut all = Vec::new(rt.alloc());
     for me in 0..processes {
-        all.push(Process::<F>::new(alloc, shape, me)?)?;
+        let process = Process::<F>::new(rt.alloc(), shape, me).expect(rt, "a process");
+        all.push(process).expect(rt, "memory");
     }
-    Ok(all)
+    all
 }
 
 /// Has processes of one shape make the steps, and demands the line of each.
-pub(crate) fn follow<F: FrontEnd>(
-    rt: &(impl Abort + AllocGlobal),
-    processes: u8,
-    rows: &[Row],
-) -> Result<(), Fail> {
-    let mut all = all_of::<F>(rt.alloc(), processes)?;
+pub(crate) fn follow<F: FrontEnd>(rt: &(impl Abort + AllocGlobal), processes: u8, rows: &[Row]) {
+    let mut all = all_of::<F>(rt, processes);
     demand_rows(rt, all.as_mut_slice(), rows);
-    Ok(())
 }

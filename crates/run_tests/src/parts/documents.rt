@@ -1,5 +1,5 @@
 //! Workloads that are read, and that are refused.
-use crate::demands::demand;
+use crate::parts::demands::demand;
 use reg_front::Front;
 use reg_inputs::{Key, Workload, WorkloadFault};
 use std::alloc::{AllocError, Global};

@@ -1,11 +1,10 @@
 //! Worked examples of one process and of several side by side, as tables of steps and what each gives.
-use crate::traces::{Row, follow};
+use crate::parts::traces::{Row, follow};
 use crate::values::{READ, WRITE_FIVE};
 use reg_base::{Op, Shape};
 use reg_frames::{Body, Frame};
 use reg_front::{Linear, LocalRead, LocalWrite};
 use reg_process::{Process, ProcessFault, Put, Step};
-use std::test::Fail;
 
 const BEYOND: Op = Op::Read { register: 1 };
 
@@ -323,9 +322,9 @@ const EACH_LACKS: [Row; 7] = [
 ];
 
 #[test]
-fn two_processes_step_by_step(rt: HostRuntime) -> Result<(), Fail> {
+fn two_processes_step_by_step(rt: HostRuntime) {
     for rows in [AT_ONCE.as_slice(), HELD_READ.as_slice(), SWAP.as_slice()] {
-        follow::<LocalWrite>(&rt, 2, rows)?;
+        follow::<LocalWrite>(&rt, 2, rows);
     }
     for rows in [
         REFUSED.as_slice(),
@@ -334,15 +333,15 @@ fn two_processes_step_by_step(rt: HostRuntime) -> Result<(), Fail> {
         PAST_LAST_TIME.as_slice(),
         STOPPED.as_slice(),
     ] {
-        follow::<LocalRead>(&rt, 2, rows)?;
+        follow::<LocalRead>(&rt, 2, rows);
     }
-    follow::<Linear>(&rt, 2, WAITING.as_slice())
+    follow::<Linear>(&rt, 2, WAITING.as_slice());
 }
 
 #[test]
-fn three_processes_step_by_step(rt: HostRuntime) -> Result<(), Fail> {
-    follow::<Linear>(&rt, 3, TO_ALL.as_slice())?;
-    follow::<LocalWrite>(&rt, 3, EACH_LACKS.as_slice())
+fn three_processes_step_by_step(rt: HostRuntime) {
+    follow::<Linear>(&rt, 3, TO_ALL.as_slice());
+    follow::<LocalWrite>(&rt, 3, EACH_LACKS.as_slice());
 }
 
 #[test]

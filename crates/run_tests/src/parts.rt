@@ -1,0 +1,14 @@
+//! Tests of the parts, from shapes to reports and workloads.
+mod bases;
+mod demands;
+mod documents;
+mod frames;
+mod growths;
+mod holdbacks;
+mod links;
+mod orders;
+mod processes;
+mod refusals;
+mod reports;
+mod texts;
+mod traces;
