@@ -192,8 +192,14 @@ fn calls(alloc: Global, count: usize) -> Result<String, AllocError> {
 
 #[test]
 fn no_answered_call_is_dropped(rt: HostRuntime) -> Result<(), Fail> {
-    let text = reads(rt.alloc(), MOST_SHORTENED)?;
-    let short = calls(rt.alloc(), MOST_SHORTENED)?;
-    assert!(rt; tells_short(rt.alloc(), Player::Fair, text.as_str(), (0, short.as_str(), "")));
+    let (text, short) = (reads(rt.alloc(), 100)?, calls(rt.alloc(), 100)?);
+    assert!(rt;
+        tells_short(
+            rt.alloc(),
+            Player::Fair,
+            text.as_str(),
+            (0, short.as_str(), "")
+        )
+    );
     Ok(())
 }
