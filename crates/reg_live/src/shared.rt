@@ -5,10 +5,9 @@ ghost use Rattle.reg_live.specs.Stations.{IsRefusal};
 use crate::faults::LiveFault;
 use crate::gates::Gate;
 use crate::journals::Journal;
-use crate::stations::{Section, Station};
+use crate::stations::{Request, Section, Station};
 use reg_base::Shape;
 use reg_front::FrontEnd;
-use reg_process::Step;
 use std::alloc::{AllocError, Global};
 use std::sync::{Condvar, Mutex, MutexGuard, Wait};
 
@@ -84,25 +83,15 @@ impl<F: FrontEnd, G: Gate> Shared<F, G> {
         rt: &R,
         desk: &Desk<F>,
         station: MutexGuard<'_, Station<F>>,
-        process: u8,
-        floor: u64,
-        step: &Step,
+        request: Request,
     ) -> Result<Section, LiveFault>
-        ensures own { IfOk result (λ section. section.spot.process ≡ process) }
-        ensures floor { IfOk result (λ section. floor ≤ section.spot.place) }
-        ensures refusal { IfErr result (λ fault. IsRefusal self.now.shape.registers floor step.now fault) }
+        ensures own { IfOk result (λ section. section.spot.process ≡ request.process) }
+        ensures floor { IfOk result (λ section. request.floor ≤ section.spot.place) }
+        ensures refusal { IfErr result (λ fault. IsRefusal self.now.shape.registers request.floor request.step fault) }
     {
         let mut station = station;
         let registers = self.shape.registers();
-        let made = station.section(
-            rt,
-            &self.journal,
-            &self.gate,
-            process,
-            registers,
-            floor,
-            step,
-        );
+        let made = station.section(rt, &self.journal, &self.gate, registers, request);
         let ends = station.ends_waiting();
         drop(station);
         if is_answered(&made) {

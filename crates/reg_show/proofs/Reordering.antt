@@ -11,7 +11,7 @@ use Rattle.reg_history.specs.Reports.{Contents, IsReport, IsReportFault, SpellsR
 use Rattle.reg_history.specs.declared.report_faults.ReportFault.{ReportFault}
 use Rattle.reg_history.specs.declared.report_faults.ReportFault.TheVariants.{Front as FrontFault, Names as NamesFault, Range as RangeFault}
 use Rattle.reg_outcomes.specs.declared.kinds.OrderKind.{OrderKind}
-use Rattle.reg_show.specs.declared.faults.SearchFault.{SearchFault}
+use Rattle.reg_show.specs.declared.faults.ShowFault.{ShowFault}
 use Rattle.reg_show.specs.Finding.{BlamesFind, Finds, HasNone, IsReordered, IsUnfound, none_text, with_order}
 
 no_fault : (r : Contents) → IsReport r → (ids : List OpId) (points : Option (List Point)) (fault : ReportFault) → IsSerial r.shape.registers r.entries ids → PointsStand r.shape.registers r.entries points → IsReportFault (with_order r ids points) fault → ⊥
@@ -36,9 +36,9 @@ module _ (shape : Extent) (entries : List Entry) (r : Contents) (same_shape : sh
   points_there ps order = subst (λ (x : Extent). IsPointOrder x.registers r.entries ps) same_shape (subst (λ (es : List Entry). IsPointOrder shape.registers es ps) same_entries order)
 
 -- what a fault of the search says of the text
-pub blamed : (kind : OrderKind) (r : Contents) (text : List ℕ) (fault : SearchFault) → SpellsReport text r → IsUnfound kind r fault → BlamesFind kind fault text
-blamed kind r text fault read (inl e) = subst (λ (f : SearchFault). BlamesFind kind f text) (sym e) tt
-blamed kind r text fault read (inr (e, wide)) = subst (λ (f : SearchFault). BlamesFind kind f text) (sym e) (r, read, wide)
+pub blamed : (kind : OrderKind) (r : Contents) (text : List ℕ) (fault : ShowFault) → SpellsReport text r → IsUnfound kind r fault → BlamesFind kind fault text
+blamed kind r text fault read (inl e) = subst (λ (f : ShowFault). BlamesFind kind f text) (sym e) tt
+blamed kind r text fault read (inr (e, wide)) = subst (λ (f : ShowFault). BlamesFind kind f text) (sym e) (r, read, wide)
 
 pub found_any : (kind : OrderKind) (Wrote : List ℕ → Type 0) (text : List ℕ) (r found : Contents) → SpellsReport text r → IsReordered kind r found → Wrote (report_text found) → Finds kind true Wrote text
 found_any kind Wrote text r found read reordered written = record { report = r; read = read; found = found; reordered = reordered; written = written }

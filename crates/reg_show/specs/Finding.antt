@@ -13,8 +13,8 @@ use Rattle.reg_outcomes.specs.declared.kinds.OrderKind.{OrderKind}
 use Rattle.reg_outcomes.specs.declared.kinds.OrderKind.TheVariants.{Serial, Points}
 use Rattle.reg_outcomes.specs.declared.outcomes.TheConstants.{MOST_STAGES}
 use Rattle.reg_outcomes.specs.Finding.{IsWiderSearch}
-use Rattle.reg_show.specs.declared.faults.SearchFault.{SearchFault}
-use Rattle.reg_show.specs.declared.faults.SearchFault.TheVariants.{Command, TooManyStages}
+use Rattle.reg_show.specs.declared.faults.ShowFault.{ShowFault}
+use Rattle.reg_show.specs.declared.faults.ShowFault.TheVariants.{Command, TooManyStages}
 
 -- the report with this order, and these points or none, in place of its own
 abbrev pub with_order : Contents → List OpId → Option (List Point) → Contents
@@ -70,10 +70,11 @@ abbrev pub IsWiderReport : OrderKind → Contents → Type 0
 IsWiderReport kind r = IsWiderSearch kind r.shape.processes r.shape.registers r.entries MOST_STAGES
 
 -- why no order of a report's history is found, nor told that there is none
-abbrev pub IsUnfound : OrderKind → Contents → SearchFault → Type 0
+abbrev pub IsUnfound : OrderKind → Contents → ShowFault → Type 0
 IsUnfound kind r fault = (fault ≡ Command OutOfMemory) ⊎ ((fault ≡ TooManyStages) × IsWiderReport kind r)
 
 -- what a fault says of the text: of a command, what it says where a report is checked
-abbrev pub BlamesFind : OrderKind → SearchFault → List ℕ → Type 0
+abbrev pub BlamesFind : OrderKind → ShowFault → List ℕ → Type 0
 BlamesFind kind (Command fault) text = Blames Check fault text
 BlamesFind kind TooManyStages text = (r : Contents) × SpellsReport text r × IsWiderReport kind r
+BlamesFind kind _ text = ⊥

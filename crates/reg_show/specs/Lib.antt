@@ -12,6 +12,6 @@ pub mod Showings
 pub mod ToldRuns
 pub mod Outcomes
 pub mod OneOutcome
-pub mod Searches
+pub mod Faults
 pub mod AllOutcomes
 pub mod Finding

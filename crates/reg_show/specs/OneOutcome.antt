@@ -1,10 +1,9 @@
 -- The schedule of a run with one of the outcomes of a workload's scripts.
-use Rattle.std.specs.Prelude.{ℕ, ◌≡◌, ◌-◌, ◌<◌, List, [], ◌∷◌, ◌++◌, codes, false, length}
+use Rattle.std.specs.Prelude.{ℕ, ◌≡◌, ◌-◌, ◌<◌, List, false, length}
 use Rattle.reg_base.specs.declared.memory.Op.{Op}
 use Rattle.reg_front.specs.declared.starts.Start.{Start}
 use Rattle.reg_checkers.specs.History.{IsAt}
 use Rattle.reg_commands.specs.Answers.{Blames}
-use Rattle.reg_commands.specs.FaultLines.{fault_line}
 use Rattle.reg_commands.specs.Plays.{Holds, plan_of}
 use Rattle.reg_commands.specs.Replays.{start_of}
 use Rattle.reg_commands.specs.declared.command.Command.TheVariants.{Play}
@@ -15,8 +14,8 @@ use Rattle.reg_outcomes.specs.Finishing.{HasRoom}
 use Rattle.reg_outcomes.specs.Interleavings.{AreAll, Interleaving, IsWider}
 use Rattle.reg_outcomes.specs.Showing.{IsRunOf}
 use Rattle.reg_outcomes.specs.declared.outcomes.TheConstants.{MOST_STAGES}
-use Rattle.reg_show.specs.declared.one_outcome.OutcomeFault.{OutcomeFault}
-use Rattle.reg_show.specs.declared.one_outcome.OutcomeFault.TheVariants.{Command, NoSuchOutcome, TooManyEvents, TooManyStages}
+use Rattle.reg_show.specs.declared.faults.ShowFault.{ShowFault}
+use Rattle.reg_show.specs.declared.faults.ShowFault.TheVariants.{Command, NoSuchOutcome, TooManyEvents, TooManyStages}
 use Rattle.reg_world.specs.Worlds.{Made}
 
 -- The schedule of a run that has this outcome of the workload's scripts was written, under the workload's names and
@@ -42,11 +41,10 @@ pub record WritesOutcome (number : ℕ) (Wrote : List ℕ → Type 0) (text : Li
   pub shown : ShowsOutcome number (start_of work.front) Wrote work
 
 -- memory was refused, or this doesn't hold, and a run has no room
-abbrev pub Lacks : Type 0 → OutcomeFault → Type 0
+abbrev pub Lacks : Type 0 → ShowFault → Type 0
 Lacks Room (Command fault) = fault ≡ OutOfMemory
-Lacks Room TooManyStages = ⊥
-Lacks Room NoSuchOutcome = ⊥
 Lacks Room TooManyEvents = ¬ Room
+Lacks Room _ = ⊥
 
 -- The text says a workload of which this holds.
 pub record SaysSome (IsSo : Load → Type 0) (text : List ℕ) : Type 0 where
@@ -63,15 +61,9 @@ abbrev pub HasFewer : ℕ → Load → Type 0
 HasFewer number work = (found : List Interleaving) × AreAll work.scripts work.shape.registers found × (length found < number)
 
 -- what a fault says of the text: of a command, what it says where a workload is played
-abbrev pub BlamesOutcome : ℕ → OutcomeFault → List ℕ → Type 0
+abbrev pub BlamesOutcome : ℕ → ShowFault → List ℕ → Type 0
 BlamesOutcome number (Command fault) text = Blames (Play false) fault text
 BlamesOutcome number TooManyStages text = SaysSome IsTooWide text
 BlamesOutcome number NoSuchOutcome text = SaysSome (HasFewer number) text
 BlamesOutcome number TooManyEvents text = SaysSome (λ work. ¬ HasRoom work.scripts) text
-
--- the line of a fault on the error stream, with its line feed
-abbrev pub outcome_line : OutcomeFault → List ℕ
-outcome_line (Command fault) = fault_line fault
-outcome_line TooManyStages = codes "too many stages" ++ 10 ∷ []
-outcome_line NoSuchOutcome = codes "no such outcome" ++ 10 ∷ []
-outcome_line TooManyEvents = codes "too many events" ++ 10 ∷ []
+BlamesOutcome number _ text = ⊥

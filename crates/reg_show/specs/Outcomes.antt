@@ -11,8 +11,8 @@ use Rattle.reg_outcomes.specs.PlayTables.{Line}
 use Rattle.reg_outcomes.specs.TableText.{table_text}
 use Rattle.reg_inputs.specs.Loads.{Load}
 use Rattle.reg_show.specs.OneOutcome.{SaysSome}
-use Rattle.reg_show.specs.declared.faults.SearchFault.{SearchFault}
-use Rattle.reg_show.specs.declared.faults.SearchFault.TheVariants.{Command, TooManyStages}
+use Rattle.reg_show.specs.declared.faults.ShowFault.{ShowFault}
+use Rattle.reg_show.specs.declared.faults.ShowFault.TheVariants.{Command, TooManyStages}
 use Rattle.reg_show.specs.Seeds.{HoldsSeeded, reseeded}
 
 -- The text of the table of so many plays of the workload was written. `Wrote` says how a text was.
@@ -35,11 +35,13 @@ abbrev pub HasWiderPlay : ℕ → (Op → ℕ → Start) → Load → Type 0
 HasWiderPlay plays start work = (k : ℕ) × (k < plays) × IsWiderPlay start work (seed_at work k)
 
 -- why no table of a workload's plays is written
-abbrev pub StopsPlays : ℕ → (Op → ℕ → Start) → Load → SearchFault → Type 0
+abbrev pub StopsPlays : ℕ → (Op → ℕ → Start) → Load → ShowFault → Type 0
 StopsPlays plays start work (Command fault) = (fault ≡ Output) ⊎ (fault ≡ OutOfMemory)
 StopsPlays plays start work TooManyStages = HasWiderPlay plays start work
+StopsPlays plays start work _ = ⊥
 
 -- what a fault says of the text: of a command, what it says where a workload is played
-abbrev pub BlamesCount : ℕ → Option ℕ → SearchFault → List ℕ → Type 0
+abbrev pub BlamesCount : ℕ → Option ℕ → ShowFault → List ℕ → Type 0
 BlamesCount plays seed (Command fault) text = Blames (Play false) fault text
 BlamesCount plays seed TooManyStages text = SaysSome (λ work. HasWiderPlay plays (start_of work.front) (reseeded seed work)) text
+BlamesCount plays seed _ text = ⊥

@@ -11,7 +11,7 @@ use Rattle.reg_commands.specs.Answers.{Blames}
 use Rattle.reg_commands.specs.declared.command.Command.TheVariants.{Replay}
 use Rattle.reg_inputs.specs.ScheduleText.{IsScheduleText, schedule_text}
 use Rattle.reg_show.specs.declared.faults.ShowFault.{ShowFault}
-use Rattle.reg_show.specs.declared.faults.ShowFault.TheVariants.{Command, TooManyToDraw, TooManyToRest}
+use Rattle.reg_show.specs.declared.faults.ShowFault.TheVariants.{Command, TooManyToRest}
 
 -- All events of a plan are accepted, and its run was brought to rest.
 pub record IsRested (start : Op → ℕ → Start) (p : Plan) (made : Made) : Type 0 where
@@ -42,8 +42,8 @@ pub record LacksRoom (start : Op → ℕ → Start) (p : Plan) : Type 0 where
 -- what a fault says of the run of a plan
 abbrev pub BlamesRested : (Op → ℕ → Start) → Plan → ShowFault → Type 0
 BlamesRested start p (Command fault) = BlamesRun start p fault
-BlamesRested start p TooManyToDraw = ⊥
 BlamesRested start p TooManyToRest = LacksRoom start p
+BlamesRested start p _ = ⊥
 
 -- the text is that of a plan whose run has no room to rest
 pub record IsTooFull (text : List ℕ) : Type 0 where
@@ -55,5 +55,5 @@ pub record IsTooFull (text : List ℕ) : Type 0 where
 -- what a fault says of the schedule whose run is to rest
 abbrev pub BlamesRest : ShowFault → List ℕ → Type 0
 BlamesRest (Command fault) text = Blames Replay fault text
-BlamesRest TooManyToDraw text = ⊥
 BlamesRest TooManyToRest text = IsTooFull text
+BlamesRest _ text = ⊥

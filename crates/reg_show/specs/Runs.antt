@@ -6,7 +6,7 @@ use Rattle.reg_commands.specs.Answers.{Blames}
 use Rattle.reg_commands.specs.declared.command.Command.TheVariants.{Replay}
 use Rattle.reg_show.specs.declared.commands.TheConstants.{MOST_DRAWN}
 use Rattle.reg_show.specs.declared.faults.ShowFault.{ShowFault}
-use Rattle.reg_show.specs.declared.faults.ShowFault.TheVariants.{Command, TooManyToDraw, TooManyToRest}
+use Rattle.reg_show.specs.declared.faults.ShowFault.TheVariants.{Command, TooManyToDraw}
 use Rattle.reg_trace.specs.Moments.{moments_of}
 use Rattle.reg_trace.specs.Traces.{trace_text}
 
@@ -38,4 +38,4 @@ pub record IsTooLong (most : ℕ) (text : List ℕ) : Type 0 where
 abbrev pub BlamesDrawn : ℕ → ShowFault → List ℕ → Type 0
 BlamesDrawn most (Command fault) text = Blames Replay fault text
 BlamesDrawn most TooManyToDraw text = IsTooLong most text
-BlamesDrawn most TooManyToRest text = ⊥
+BlamesDrawn most _ text = ⊥

@@ -1,6 +1,6 @@
 -- The short form of a play: its events up to the last answer, without those that no answer needs. To be believed:
 -- promises speak of it.
-use Rattle.std.specs.Prelude.{ℕ, zero, suc, ◌≡◌, ◌+◌, ◌<◌, ◌⊎◌, ◌==◌, cond, max, Bool, false, List, [], ◌∷◌, ◌++◌, codes, length, take, Option, Some, None}
+use Rattle.std.specs.Prelude.{ℕ, zero, suc, ◌≡◌, ◌+◌, ◌<◌, ◌⊎◌, ◌==◌, cond, max, Bool, false, List, [], ◌∷◌, ◌++◌, length, take, Option, Some, None}
 use Rattle.std.specs.List.{remove}
 use Rattle.reg_base.specs.declared.memory.Answer.{Answer}
 use Rattle.reg_base.specs.declared.memory.Op.{Op}
@@ -8,7 +8,6 @@ use Rattle.reg_base.specs.Shape.{Extent}
 use Rattle.reg_checkers.specs.declared.entries.Entry.{Entry}
 use Rattle.reg_checkers.specs.declared.entries.Entry.TheVariants.{Called, Answered}
 use Rattle.reg_commands.specs.Answers.{Blames}
-use Rattle.reg_commands.specs.FaultLines.{fault_line}
 use Rattle.reg_commands.specs.Plays.{IsPlayBy}
 use Rattle.reg_commands.specs.Replays.{start_of}
 use Rattle.reg_commands.specs.declared.command.Command.TheVariants.{Play}
@@ -21,9 +20,9 @@ use Rattle.reg_process.specs.declared.events.Event.{Event}
 use Rattle.reg_world.specs.World.{whole}
 use Rattle.reg_world.specs.Worlds.{Made}
 use Rattle.reg_show.specs.Seeds.{HoldsSeeded, is_fair, seed_of}
+use Rattle.reg_show.specs.declared.faults.ShowFault.{ShowFault}
+use Rattle.reg_show.specs.declared.faults.ShowFault.TheVariants.{Command, TooManyToShorten}
 use Rattle.reg_show.specs.declared.players.Player.{Player}
-use Rattle.reg_show.specs.declared.short_schedules.ShortFault.{ShortFault}
-use Rattle.reg_show.specs.declared.short_schedules.ShortFault.TheVariants.{Command, TooManyToShorten}
 use Rattle.reg_show.specs.declared.short_schedules.TheConstants.{MOST_SHORTENED}
 use Rattle.reg_show.specs.declared.shortening.Finished.{Finished}
 
@@ -127,9 +126,10 @@ pub record IsLongPlay (fair : Bool) (start : Op → ℕ → Start) (work : Load)
   pub many : MOST_SHORTENED < length (up_to_end made)
 
 -- why a workload has no short play: memory was refused, or its play is too long
-abbrev pub LacksShort : Bool → (Op → ℕ → Start) → Load → ShortFault → Type 0
+abbrev pub LacksShort : Bool → (Op → ℕ → Start) → Load → ShowFault → Type 0
 LacksShort fair start work (Command fault) = fault ≡ OutOfMemory
 LacksShort fair start work TooManyToShorten = IsLongPlay fair start work
+LacksShort fair start work _ = ⊥
 
 -- The text is a document that says a workload, whose play has more events up to its last answer than are shortened.
 pub record SaysLongPlay (player : Player) (text : List ℕ) : Type 0 where
@@ -138,11 +138,7 @@ pub record SaysLongPlay (player : Player) (text : List ℕ) : Type 0 where
   pub long : IsLongPlay (is_fair player) (start_of work.front) work
 
 -- what a fault says of the text: of a command, what it says where a workload is played
-abbrev pub BlamesShort : Player → ShortFault → List ℕ → Type 0
+abbrev pub BlamesShort : Player → ShowFault → List ℕ → Type 0
 BlamesShort player (Command fault) text = Blames (Play false) fault text
 BlamesShort player TooManyToShorten text = SaysLongPlay player text
-
--- the line of a fault on the error stream, with its line feed
-abbrev pub short_line : ShortFault → List ℕ
-short_line (Command fault) = fault_line fault
-short_line TooManyToShorten = codes "too many events to shorten" ++ 10 ∷ []
+BlamesShort player _ text = ⊥

@@ -1,12 +1,11 @@
 -- What is shown of a text, and what a fault says of it.
-use Rattle.std.specs.Prelude.{ℕ, ◌≡◌, ◌⊎◌, List, [], ◌∷◌, ◌++◌, codes, flat_map, None}
+use Rattle.std.specs.Prelude.{ℕ, ◌≡◌, ◌⊎◌, List, [], ◌∷◌, flat_map, None}
 use Rattle.reg_commands.specs.declared.command.Command.TheVariants.{Replay}
 use Rattle.reg_commands.specs.Answers.{Blames as BlamesCommand}
-use Rattle.reg_commands.specs.FaultLines.{fault_line}
 use Rattle.reg_show.specs.declared.commands.TheConstants.{MOST_DRAWN}
 use Rattle.reg_show.specs.declared.paging.TheConstants.{MOST_TOLD}
 use Rattle.reg_show.specs.declared.faults.ShowFault.{ShowFault}
-use Rattle.reg_show.specs.declared.faults.ShowFault.TheVariants.{Command, TooManyToDraw, TooManyToRest}
+use Rattle.reg_show.specs.declared.faults.ShowFault.TheVariants.{Command}
 use Rattle.reg_show.specs.declared.showing.Showing.{Showing}
 use Rattle.reg_show.specs.declared.showing.Showing.TheVariants.{Trace, Draw, Data, Page, Rest}
 use Rattle.reg_page.specs.declared.head.TheConstants.{HEAD}
@@ -28,8 +27,7 @@ ShowsText Rest Wrote text = RestsRun Wrote text
 -- what a fault says of it: what the command that reads the same says by it
 abbrev pub BlamesText : Showing → ShowFault → List ℕ → Type 0
 BlamesText Trace (Command fault) text = BlamesCommand Replay fault text
-BlamesText Trace TooManyToDraw text = ⊥
-BlamesText Trace TooManyToRest text = ⊥
+BlamesText Trace _ text = ⊥
 BlamesText Draw fault text = BlamesDrawn MOST_DRAWN fault text
 BlamesText Data fault text = BlamesDrawn MOST_TOLD fault text
 BlamesText Page fault text = BlamesDrawn MOST_TOLD fault text
@@ -46,9 +44,3 @@ Shows showing Wrote text = ShowsText showing Wrote text ⊎ ((played : List ℕ)
 -- what a fault says of the input
 abbrev pub Blames : Showing → ShowFault → List ℕ → Type 0
 Blames showing fault text = BlamesText showing fault text ⊎ ((played : List ℕ) × IsPlayed text played × BlamesText showing fault played)
-
--- the line of a fault on the error stream, with its line feed
-abbrev pub show_line : ShowFault → List ℕ
-show_line (Command fault) = fault_line fault
-show_line TooManyToDraw = codes "too many events to draw" ++ 10 ∷ []
-show_line TooManyToRest = codes "too many events to rest" ++ 10 ∷ []

@@ -68,17 +68,11 @@ fn told_to_draw<A: Allocator + Copy>(alloc: A, text: &str) -> Result<TracedRun<A
     ensures why { IfErr result (λ f. BlamesDrawn MOST_DRAWN f text.now) }
     ensures kind { IfErr result (λ f. f ≢ ShowFault.Command Fault.Output) }
 {
-    let schedule = match read_schedule(alloc, text) {
-        Ok(schedule) => schedule,
-        Err(fault) => return Err(ShowFault::Command { fault }),
-    };
+    let schedule = read_schedule(alloc, text)?;
     if schedule.events.len() > MOST_DRAWN {
         return Err(ShowFault::TooManyToDraw);
     }
-    match tell_schedule(alloc, schedule) {
-        Ok(told) => Ok(told),
-        Err(fault) => Err(ShowFault::Command { fault }),
-    }
+    Ok(tell_schedule(alloc, schedule)?)
 }
 
 /// Writes a drawing, and tells whether all of it went out.
@@ -98,11 +92,7 @@ pub(crate) fn draw<A: Allocator + Copy, W: Write>(
     ensures part { IsErrOf result (ShowFault.Command Fault.Output) → DrawsRun text.now }
 {
     let told = told_to_draw(alloc, text)?;
-    let Ok(drawing) = draw_told(alloc, &told) else {
-        return Err(ShowFault::Command {
-            fault: Fault::OutOfMemory,
-        });
-    };
+    let drawing = draw_told(alloc, &told)?;
     if !is_sent(writer, &drawing) {
         return Err(ShowFault::Command {
             fault: Fault::Output,

@@ -7,12 +7,11 @@ ghost use Rattle.reg_commands.specs.Replays.{start_of};
 ghost use Rattle.reg_outcomes.specs.declared.plays.TheConstants.{MOST_PLAYS};
 ghost use Rattle.reg_outcomes.specs.TableText.{table_text};
 ghost use Rattle.reg_show.specs.Outcomes.{BlamesCount, ShowsOutcomes, StopsPlays, WritesOutcomes};
-ghost use Rattle.reg_show.specs.Searches.{search_line};
+ghost use Rattle.reg_show.specs.Faults.{show_line};
 ghost use Rattle.reg_show.specs.Seeds.{IsSeed};
-ghost use Rattle.reg_show.specs.declared.faults.SearchFault.{SearchFault as AnyFault};
+ghost use Rattle.reg_show.specs.declared.faults.ShowFault.{ShowFault as AnyFault};
 
-use crate::faults::SearchFault;
-use crate::searching::write_search_fault;
+use crate::faults::{ShowFault, write_show_fault};
 use crate::seeding::read_seeded;
 use reg_commands::{Fault, read_input};
 use reg_front::{Front, FrontEnd, Linear, LocalRead, LocalWrite};
@@ -41,12 +40,12 @@ fn write_plays<F: FrontEnd, A: Allocator + Copy, W: Write>(
     work: &Workload<A>,
     plays: u32,
     writer: &mut W,
-) -> Result<(), SearchFault>
+) -> Result<(), ShowFault>
     requires { plays ≤ MOST_PLAYS }
     ensures ok { IfOk result (λ _. ShowsOutcomes plays F.start (Appends (W.contents writer.old) (W.contents writer.new)) work.now) }
     ensures why { IfErr result (StopsPlays plays F.start work.now) }
-    ensures silent { IfErr result (λ f. f ≢ SearchFault.Command Fault.Output → writer.new ≡ writer.old) }
-    ensures part { IsErrOf result (SearchFault.Command Fault.Output) → ShowsOutcomes plays F.start (AppendsPart (W.contents writer.old) (W.contents writer.new)) work.now }
+    ensures silent { IfErr result (λ f. f ≢ ShowFault.Command Fault.Output → writer.new ≡ writer.old) }
+    ensures part { IsErrOf result (ShowFault.Command Fault.Output) → ShowsOutcomes plays F.start (AppendsPart (W.contents writer.old) (W.contents writer.new)) work.now }
 {
     let outcomes = play_many::<F, A>(alloc, work, plays)?;
     send(writer, plays, &outcomes)?;
@@ -59,12 +58,12 @@ fn write_outcomes<A: Allocator + Copy, W: Write>(
     work: &Workload<A>,
     plays: u32,
     writer: &mut W,
-) -> Result<(), SearchFault>
+) -> Result<(), ShowFault>
     requires { plays ≤ MOST_PLAYS }
     ensures ok { IfOk result (λ _. ShowsOutcomes plays (start_of work.now.front) (Appends (W.contents writer.old) (W.contents writer.new)) work.now) }
     ensures why { IfErr result (StopsPlays plays (start_of work.now.front) work.now) }
-    ensures silent { IfErr result (λ f. f ≢ SearchFault.Command Fault.Output → writer.new ≡ writer.old) }
-    ensures part { IsErrOf result (SearchFault.Command Fault.Output) → ShowsOutcomes plays (start_of work.now.front) (AppendsPart (W.contents writer.old) (W.contents writer.new)) work.now }
+    ensures silent { IfErr result (λ f. f ≢ ShowFault.Command Fault.Output → writer.new ≡ writer.old) }
+    ensures part { IsErrOf result (ShowFault.Command Fault.Output) → ShowsOutcomes plays (start_of work.now.front) (AppendsPart (W.contents writer.old) (W.contents writer.new)) work.now }
 {
     match work.front {
         Front::Linear => write_plays::<Linear, A, W>(alloc, work, plays, writer),
@@ -81,13 +80,13 @@ fn outcomes<A: Allocator + Copy, W: Write>(
     plays: u32,
     seed: Option<u64>,
     writer: &mut W,
-) -> Result<(), SearchFault>
+) -> Result<(), ShowFault>
     requires plays { plays ≤ MOST_PLAYS }
     requires seed { IsSeed seed }
     ensures ok { IfOk result (λ _. WritesOutcomes plays seed (Appends (W.contents writer.old) (W.contents writer.new)) text.now) }
     ensures why { IfErr result (λ f. BlamesCount plays seed f text.now) }
-    ensures silent { IfErr result (λ f. f ≢ SearchFault.Command Fault.Output → writer.new ≡ writer.old) }
-    ensures part { IsErrOf result (SearchFault.Command Fault.Output) → WritesOutcomes plays seed (AppendsPart (W.contents writer.old) (W.contents writer.new)) text.now }
+    ensures silent { IfErr result (λ f. f ≢ ShowFault.Command Fault.Output → writer.new ≡ writer.old) }
+    ensures part { IsErrOf result (ShowFault.Command Fault.Output) → WritesOutcomes plays seed (AppendsPart (W.contents writer.old) (W.contents writer.new)) text.now }
 {
     let work = read_seeded(alloc, global, text, seed)?;
     write_outcomes(alloc, &work, plays, writer)
@@ -100,14 +99,14 @@ fn obey<A: Allocator + Copy, R: Read, W: Write>(
     seed: Option<u64>,
     reader: &mut R,
     writer: &mut W,
-) -> Result<(), SearchFault>
+) -> Result<(), ShowFault>
     requires plays { plays ≤ MOST_PLAYS }
     requires seed { IsSeed seed }
     ensures ok { IfOk result (λ _. IfSome (R.remaining reader.old) (WritesOutcomes plays seed (Appends (W.contents writer.old) (W.contents writer.new)))) }
     ensures within { OnOk result (IfSome (R.remaining reader.old) (λ xs. length xs ≤ LONGEST_INPUT)) }
     ensures why { IfErr result (λ f. IfSome (R.remaining reader.old) (BlamesCount plays seed f)) }
-    ensures silent { IfErr result (λ f. f ≢ SearchFault.Command Fault.Output → writer.new ≡ writer.old) }
-    ensures part { IsErrOf result (SearchFault.Command Fault.Output) → IfSome (R.remaining reader.old) (WritesOutcomes plays seed (AppendsPart (W.contents writer.old) (W.contents writer.new))) }
+    ensures silent { IfErr result (λ f. f ≢ ShowFault.Command Fault.Output → writer.new ≡ writer.old) }
+    ensures part { IsErrOf result (ShowFault.Command Fault.Output) → IfSome (R.remaining reader.old) (WritesOutcomes plays seed (AppendsPart (W.contents writer.old) (W.contents writer.new))) }
 {
     let text = read_input(alloc, reader)?;
     outcomes(alloc, global, text.as_str(), plays, seed, writer)
@@ -132,15 +131,15 @@ pub fn show_outcomes<A: Allocator + Copy, R: Read, W: Write, E: Write>(
     ensures range { result ≤ 1 }
     ensures within { result ≡ 0 → IfSome (R.remaining reader.old) (λ xs. length xs ≤ LONGEST_INPUT) }
     ensures shown { result ≡ 0 → IfSome (R.remaining reader.old) (WritesOutcomes plays seed (Appends (W.contents writer.old) (W.contents writer.new))) }
-    ensures refused { result ≡ 1 → (f : AnyFault) × IfSome (R.remaining reader.old) (BlamesCount plays seed f) × (f ≢ SearchFault.Command Fault.Output → writer.new ≡ writer.old)
-        × (f ≡ SearchFault.Command Fault.Output → IfSome (R.remaining reader.old) (WritesOutcomes plays seed (AppendsPart (W.contents writer.old) (W.contents writer.new))))
-        × AppendsPart (E.contents errors.old) (E.contents errors.new) (search_line f) }
+    ensures refused { result ≡ 1 → (f : AnyFault) × IfSome (R.remaining reader.old) (BlamesCount plays seed f) × (f ≢ ShowFault.Command Fault.Output → writer.new ≡ writer.old)
+        × (f ≡ ShowFault.Command Fault.Output → IfSome (R.remaining reader.old) (WritesOutcomes plays seed (AppendsPart (W.contents writer.old) (W.contents writer.new))))
+        × AppendsPart (E.contents errors.old) (E.contents errors.new) (show_line f) }
     ensures quiet { result ≡ 0 → errors.new ≡ errors.old }
 {
     match obey(alloc, global, plays, seed, reader, writer) {
         Ok(()) => 0,
         Err(fault) => {
-            let _ = write_search_fault(errors, fault);
+            let _ = write_show_fault(errors, fault);
             1
         }
     }

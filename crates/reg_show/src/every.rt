@@ -8,11 +8,10 @@ ghost use Rattle.reg_outcomes.specs.AllText.{ShowsAll, all_text};
 ghost use Rattle.reg_outcomes.specs.Interleavings.{IsWider};
 ghost use Rattle.reg_outcomes.specs.declared.outcomes.TheConstants.{MOST_STAGES};
 ghost use Rattle.reg_show.specs.AllOutcomes.{BlamesAll, WritesAll};
-ghost use Rattle.reg_show.specs.Searches.{search_line};
-ghost use Rattle.reg_show.specs.declared.faults.SearchFault.{SearchFault as AnyFault};
+ghost use Rattle.reg_show.specs.Faults.{show_line};
+ghost use Rattle.reg_show.specs.declared.faults.ShowFault.{ShowFault as AnyFault};
 
-use crate::faults::SearchFault;
-use crate::searching::write_search_fault;
+use crate::faults::{ShowFault, write_show_fault};
 use reg_commands::{Fault, read_input, read_workload};
 use reg_outcomes::{
     AllOutcomes, MOST_STAGES, ToldValue, all_outcomes, count_operations, nevers_of, write_all,
@@ -27,11 +26,11 @@ fn send<A: Allocator + Copy, W: Write>(
     operations: u64,
     all: &AllOutcomes<A>,
     nevers: &Option<Vec<Vec<ToldValue, A>, A>>,
-) -> Result<(), SearchFault>
-    ensures { MatchResult result (λ _. Appends (W.contents writer.old) (W.contents writer.new) (all_text operations all.now.stages all.now.list.items (option_map (λ list. map (λ v. v.items) list.items) nevers.now))) (λ f. (f ≡ SearchFault.Command Fault.Output) × AppendsPart (W.contents writer.old) (W.contents writer.new) (all_text operations all.now.stages all.now.list.items (option_map (λ list. map (λ v. v.items) list.items) nevers.now))) }
+) -> Result<(), ShowFault>
+    ensures { MatchResult result (λ _. Appends (W.contents writer.old) (W.contents writer.new) (all_text operations all.now.stages all.now.list.items (option_map (λ list. map (λ v. v.items) list.items) nevers.now))) (λ f. (f ≡ ShowFault.Command Fault.Output) × AppendsPart (W.contents writer.old) (W.contents writer.new) (all_text operations all.now.stages all.now.list.items (option_map (λ list. map (λ v. v.items) list.items) nevers.now))) }
 {
     if write_all(writer, operations, all, nevers).is_err() || writer.flush().is_err() {
-        return Err(SearchFault::Command {
+        return Err(ShowFault::Command {
             fault: Fault::Output,
         });
     }
@@ -43,11 +42,11 @@ fn write_all_of<A: Allocator + Copy, W: Write>(
     alloc: A,
     work: &Workload<A>,
     writer: &mut W,
-) -> Result<(), SearchFault>
+) -> Result<(), ShowFault>
     ensures ok { IfOk result (λ _. ShowsAll work.now.scripts work.now.shape.registers (Appends (W.contents writer.old) (W.contents writer.new))) }
-    ensures why { IfErr result (λ f. ((f ≡ SearchFault.Command Fault.Output) ⊎ (f ≡ SearchFault.Command Fault.OutOfMemory)) ⊎ ((f ≡ SearchFault.TooManyStages) × IsWider work.now.scripts work.now.shape.registers MOST_STAGES)) }
-    ensures silent { IfErr result (λ f. f ≢ SearchFault.Command Fault.Output → writer.new ≡ writer.old) }
-    ensures part { IsErrOf result (SearchFault.Command Fault.Output) → ShowsAll work.now.scripts work.now.shape.registers (AppendsPart (W.contents writer.old) (W.contents writer.new)) }
+    ensures why { IfErr result (λ f. ((f ≡ ShowFault.Command Fault.Output) ⊎ (f ≡ ShowFault.Command Fault.OutOfMemory)) ⊎ ((f ≡ ShowFault.TooManyStages) × IsWider work.now.scripts work.now.shape.registers MOST_STAGES)) }
+    ensures silent { IfErr result (λ f. f ≢ ShowFault.Command Fault.Output → writer.new ≡ writer.old) }
+    ensures part { IsErrOf result (ShowFault.Command Fault.Output) → ShowsAll work.now.scripts work.now.shape.registers (AppendsPart (W.contents writer.old) (W.contents writer.new)) }
 {
     let scripts = work.scripts.as_slice();
     let registers = work.shape.registers() as u16;
@@ -62,11 +61,11 @@ fn outcomes<A: Allocator + Copy, W: Write>(
     global: Global,
     text: &str,
     writer: &mut W,
-) -> Result<(), SearchFault>
+) -> Result<(), ShowFault>
     ensures ok { IfOk result (λ _. WritesAll (Appends (W.contents writer.old) (W.contents writer.new)) text.now) }
     ensures why { IfErr result (λ f. BlamesAll f text.now) }
-    ensures silent { IfErr result (λ f. f ≢ SearchFault.Command Fault.Output → writer.new ≡ writer.old) }
-    ensures part { IsErrOf result (SearchFault.Command Fault.Output) → WritesAll (AppendsPart (W.contents writer.old) (W.contents writer.new)) text.now }
+    ensures silent { IfErr result (λ f. f ≢ ShowFault.Command Fault.Output → writer.new ≡ writer.old) }
+    ensures part { IsErrOf result (ShowFault.Command Fault.Output) → WritesAll (AppendsPart (W.contents writer.old) (W.contents writer.new)) text.now }
 {
     let work = read_workload(alloc, global, text)?;
     write_all_of(alloc, &work, writer)
@@ -77,12 +76,12 @@ fn obey<A: Allocator + Copy, R: Read, W: Write>(
     global: Global,
     reader: &mut R,
     writer: &mut W,
-) -> Result<(), SearchFault>
+) -> Result<(), ShowFault>
     ensures ok { IfOk result (λ _. IfSome (R.remaining reader.old) (WritesAll (Appends (W.contents writer.old) (W.contents writer.new)))) }
     ensures within { OnOk result (IfSome (R.remaining reader.old) (λ xs. length xs ≤ LONGEST_INPUT)) }
     ensures why { IfErr result (λ f. IfSome (R.remaining reader.old) (BlamesAll f)) }
-    ensures silent { IfErr result (λ f. f ≢ SearchFault.Command Fault.Output → writer.new ≡ writer.old) }
-    ensures part { IsErrOf result (SearchFault.Command Fault.Output) → IfSome (R.remaining reader.old) (WritesAll (AppendsPart (W.contents writer.old) (W.contents writer.new))) }
+    ensures silent { IfErr result (λ f. f ≢ ShowFault.Command Fault.Output → writer.new ≡ writer.old) }
+    ensures part { IsErrOf result (ShowFault.Command Fault.Output) → IfSome (R.remaining reader.old) (WritesAll (AppendsPart (W.contents writer.old) (W.contents writer.new))) }
 {
     let text = read_input(alloc, reader)?;
     outcomes(alloc, global, text.as_str(), writer)
@@ -103,15 +102,15 @@ pub fn show_all_outcomes<A: Allocator + Copy, R: Read, W: Write, E: Write>(
     ensures range { result ≤ 1 }
     ensures within { result ≡ 0 → IfSome (R.remaining reader.old) (λ xs. length xs ≤ LONGEST_INPUT) }
     ensures shown { result ≡ 0 → IfSome (R.remaining reader.old) (WritesAll (Appends (W.contents writer.old) (W.contents writer.new))) }
-    ensures refused { result ≡ 1 → (f : AnyFault) × IfSome (R.remaining reader.old) (BlamesAll f) × (f ≢ SearchFault.Command Fault.Output → writer.new ≡ writer.old)
-        × (f ≡ SearchFault.Command Fault.Output → IfSome (R.remaining reader.old) (WritesAll (AppendsPart (W.contents writer.old) (W.contents writer.new))))
-        × AppendsPart (E.contents errors.old) (E.contents errors.new) (search_line f) }
+    ensures refused { result ≡ 1 → (f : AnyFault) × IfSome (R.remaining reader.old) (BlamesAll f) × (f ≢ ShowFault.Command Fault.Output → writer.new ≡ writer.old)
+        × (f ≡ ShowFault.Command Fault.Output → IfSome (R.remaining reader.old) (WritesAll (AppendsPart (W.contents writer.old) (W.contents writer.new))))
+        × AppendsPart (E.contents errors.old) (E.contents errors.new) (show_line f) }
     ensures quiet { result ≡ 0 → errors.new ≡ errors.old }
 {
     match obey(alloc, global, reader, writer) {
         Ok(()) => 0,
         Err(fault) => {
-            let _ = write_search_fault(errors, fault);
+            let _ = write_show_fault(errors, fault);
             1
         }
     }

@@ -1,41 +1,66 @@
 //! Why nothing is shown.
-use reg_commands::Fault;
-use reg_outcomes::InterleavingFault;
-use std::alloc::AllocError;
-use thiserror::Error;
+ghost use Rattle.std.specs.Prelude.{MatchResult};
+ghost use Rattle.std.specs.Io.KnownBytes.{Appends};
+ghost use Rattle.reg_text.specs.Writing.{AppendsPart};
+ghost use Rattle.reg_show.specs.Faults.{show_line};
 
-/// Why nothing is shown. As text, the line of it on standard error.
-#[derive(Clone, Copy, Debug, PartialEq, Eq, Error)]
+use reg_commands::{Fault, write_fault};
+use reg_outcomes::{InterleavingFault, TurnsFault};
+use reg_text::{Unwritten, write_bytes};
+use std::alloc::AllocError;
+use std::io::Write;
+
+/// Why nothing is shown.
+#[derive(Clone, Copy, Debug)]
 pub enum ShowFault {
     /// The input is refused, the output failed, or there was no memory.
-    #[error("{fault}")]
     Command { fault: Fault },
     /// The run has more events than a drawing shows, or than data and a page tell.
-    #[error("too many events to draw")]
     TooManyToDraw,
     /// A run has no room for as many more events as rest may take.
-    #[error("too many events to rest")]
     TooManyToRest,
-}
-
-/// Why a search among stages gives no answer. As text, the line of it on standard error.
-#[derive(Clone, Copy, Debug, PartialEq, Eq, Error)]
-pub enum SearchFault {
-    /// The input is refused, the output failed, or there was no memory.
-    #[error("{fault}")]
-    Command { fault: Fault },
+    /// The play has more events up to its last answer than are shortened.
+    TooManyToShorten,
     /// Some number of operations, one after another, leads to more stages than the most.
-    #[error("too many stages")]
     TooManyStages,
+    /// There are fewer outcomes.
+    NoSuchOutcome,
+    /// A run has no room to call all operations one after another, and to come to rest after each.
+    TooManyEvents,
 }
 
-impl From<InterleavingFault> for SearchFault {
+impl From<AllocError> for ShowFault {
     ghost use Rattle.std.specs.Prelude.{◌≡◌};
-    ghost use Rattle.reg_show.specs.Searches.{fault_of};
+    ghost use Rattle.reg_commands.specs.declared.faults.Fault.TheVariants.{OutOfMemory};
+    ghost use Rattle.reg_show.specs.declared.faults.ShowFault.TheVariants.{Command};
 
-    ghost from_gives = { λ fault told. told ≡ fault_of fault };
+    ghost from_gives = { λ _ told. told ≡ Command OutOfMemory };
 
-    fn from(fault: InterleavingFault) -> SearchFault {
+    fn from(_error: AllocError) -> ShowFault {
+        Self::Command {
+            fault: Fault::OutOfMemory,
+        }
+    }
+}
+
+impl From<Fault> for ShowFault {
+    ghost use Rattle.std.specs.Prelude.{◌≡◌};
+    ghost use Rattle.reg_show.specs.declared.faults.ShowFault.TheVariants.{Command};
+
+    ghost from_gives = { λ fault told. told ≡ Command fault };
+
+    fn from(fault: Fault) -> ShowFault {
+        Self::Command { fault }
+    }
+}
+
+impl From<InterleavingFault> for ShowFault {
+    ghost use Rattle.std.specs.Prelude.{◌≡◌};
+    ghost use Rattle.reg_show.specs.Faults.{fault_of_search};
+
+    ghost from_gives = { λ fault told. told ≡ fault_of_search fault };
+
+    fn from(fault: InterleavingFault) -> ShowFault {
         match fault {
             InterleavingFault::TooManyStages => Self::TooManyStages,
             InterleavingFault::OutOfMemory => Self::Command {
@@ -45,27 +70,33 @@ impl From<InterleavingFault> for SearchFault {
     }
 }
 
-impl From<AllocError> for SearchFault {
+impl From<TurnsFault> for ShowFault {
     ghost use Rattle.std.specs.Prelude.{◌≡◌};
-    ghost use Rattle.reg_commands.specs.declared.faults.Fault.TheVariants.{OutOfMemory};
-    ghost use Rattle.reg_show.specs.declared.faults.SearchFault.TheVariants.{Command};
+    ghost use Rattle.reg_show.specs.Faults.{fault_of_turns};
 
-    ghost from_gives = { λ _ told. told ≡ Command OutOfMemory };
+    ghost from_gives = { λ fault told. told ≡ fault_of_turns fault };
 
-    fn from(_error: AllocError) -> SearchFault {
-        Self::Command {
-            fault: Fault::OutOfMemory,
+    fn from(fault: TurnsFault) -> ShowFault {
+        match fault {
+            TurnsFault::TooManyEvents => Self::TooManyEvents,
+            TurnsFault::OutOfMemory => Self::Command {
+                fault: Fault::OutOfMemory,
+            },
         }
     }
 }
 
-impl From<Fault> for SearchFault {
-    ghost use Rattle.std.specs.Prelude.{◌≡◌};
-    ghost use Rattle.reg_show.specs.declared.faults.SearchFault.TheVariants.{Command};
-
-    ghost from_gives = { λ fault told. told ≡ Command fault };
-
-    fn from(fault: Fault) -> SearchFault {
-        Self::Command { fault }
+/// Writes the line of a fault, all of it or, where the writer fails, a first part.
+pub(crate) fn write_show_fault<W: Write>(errors: &mut W, fault: ShowFault) -> Result<(), Unwritten>
+    ensures { MatchResult result (λ _. Appends (W.contents errors.old) (W.contents errors.new) (show_line fault)) (λ _. AppendsPart (W.contents errors.old) (W.contents errors.new) (show_line fault)) }
+{
+    match fault {
+        ShowFault::Command { fault } => write_fault(errors, fault),
+        ShowFault::TooManyToDraw => write_bytes(errors, b"too many events to draw\n"),
+        ShowFault::TooManyToRest => write_bytes(errors, b"too many events to rest\n"),
+        ShowFault::TooManyToShorten => write_bytes(errors, b"too many events to shorten\n"),
+        ShowFault::TooManyStages => write_bytes(errors, b"too many stages\n"),
+        ShowFault::NoSuchOutcome => write_bytes(errors, b"no such outcome\n"),
+        ShowFault::TooManyEvents => write_bytes(errors, b"too many events\n"),
     }
 }

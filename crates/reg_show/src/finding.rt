@@ -4,13 +4,12 @@ ghost use Rattle.std.specs.Io.KnownBytes.{Appends};
 ghost use Rattle.reg_base.specs.declared.limits.TheConstants.{LONGEST_INPUT};
 ghost use Rattle.reg_text.specs.Writing.{AppendsPart};
 ghost use Rattle.reg_show.specs.Finding.{BlamesFind, Finds, FindsAny, HasNone, IsReordered, IsUnfound, WritesFound, WritesNone, none_text};
-ghost use Rattle.reg_show.specs.Searches.{search_line};
-ghost use Rattle.reg_show.specs.declared.faults.SearchFault.{SearchFault as AnyFault};
+ghost use Rattle.reg_show.specs.Faults.{show_line};
+ghost use Rattle.reg_show.specs.declared.faults.ShowFault.{ShowFault as AnyFault};
 
 use crate::asking::send;
 use crate::copying::reordered;
-use crate::faults::SearchFault;
-use crate::searching::write_search_fault;
+use crate::faults::{ShowFault, write_show_fault};
 use reg_checkers::ids_of_points;
 use reg_commands::{Fault, read_input, read_report_text, write_out};
 use reg_history::Report;
@@ -22,7 +21,7 @@ use std::io::{Read, Write};
 fn with_serial_order<A: Allocator + Copy>(
     alloc: A,
     report: &Report<A>,
-) -> Result<Option<Report<A>>, SearchFault>
+) -> Result<Option<Report<A>>, ShowFault>
     ensures found { IfOk result (λ o. MatchOption o (HasNone OrderKind.Serial report.now) (λ r. IsReordered OrderKind.Serial report.now r)) }
     ensures why { IfErr result (IsUnfound OrderKind.Serial report.now) }
 {
@@ -36,7 +35,7 @@ fn with_serial_order<A: Allocator + Copy>(
 fn with_points<A: Allocator + Copy>(
     alloc: A,
     report: &Report<A>,
-) -> Result<Option<Report<A>>, SearchFault>
+) -> Result<Option<Report<A>>, ShowFault>
     ensures found { IfOk result (λ o. MatchOption o (HasNone OrderKind.Points report.now) (λ r. IsReordered OrderKind.Points report.now r)) }
     ensures why { IfErr result (IsUnfound OrderKind.Points report.now) }
 {
@@ -52,7 +51,7 @@ fn with_order_found<A: Allocator + Copy>(
     alloc: A,
     kind: OrderKind,
     report: &Report<A>,
-) -> Result<Option<Report<A>>, SearchFault>
+) -> Result<Option<Report<A>>, ShowFault>
     ensures found { IfOk result (λ o. MatchOption o (HasNone kind report.now) (λ r. IsReordered kind report.now r)) }
     ensures why { IfErr result (IsUnfound kind report.now) }
 {
@@ -80,11 +79,11 @@ fn find<A: Allocator + Copy, W: Write>(
     kind: OrderKind,
     text: String<A>,
     writer: &mut W,
-) -> Result<bool, SearchFault>
+) -> Result<bool, ShowFault>
     ensures ok { IfOk result (λ found. Finds kind found (Appends (W.contents writer.old) (W.contents writer.new)) (string_bytes text)) }
     ensures why { IfErr result (λ f. BlamesFind kind f (string_bytes text)) }
-    ensures silent { IfErr result (λ f. f ≢ SearchFault.Command Fault.Output → writer.new ≡ writer.old) }
-    ensures part { IsErrOf result (SearchFault.Command Fault.Output) → FindsAny kind (AppendsPart (W.contents writer.old) (W.contents writer.new)) (string_bytes text) }
+    ensures silent { IfErr result (λ f. f ≢ ShowFault.Command Fault.Output → writer.new ≡ writer.old) }
+    ensures part { IsErrOf result (ShowFault.Command Fault.Output) → FindsAny kind (AppendsPart (W.contents writer.old) (W.contents writer.new)) (string_bytes text) }
 {
     let report = read_report_text(alloc, text.as_str())?;
     drop(text);
@@ -105,12 +104,12 @@ fn obey<A: Allocator + Copy, R: Read, W: Write>(
     kind: OrderKind,
     reader: &mut R,
     writer: &mut W,
-) -> Result<bool, SearchFault>
+) -> Result<bool, ShowFault>
     ensures ok { IfOk result (λ found. IfSome (R.remaining reader.old) (Finds kind found (Appends (W.contents writer.old) (W.contents writer.new)))) }
     ensures within { OnOk result (IfSome (R.remaining reader.old) (λ xs. length xs ≤ LONGEST_INPUT)) }
     ensures why { IfErr result (λ f. IfSome (R.remaining reader.old) (BlamesFind kind f)) }
-    ensures silent { IfErr result (λ f. f ≢ SearchFault.Command Fault.Output → writer.new ≡ writer.old) }
-    ensures part { IsErrOf result (SearchFault.Command Fault.Output) → IfSome (R.remaining reader.old) (FindsAny kind (AppendsPart (W.contents writer.old) (W.contents writer.new))) }
+    ensures silent { IfErr result (λ f. f ≢ ShowFault.Command Fault.Output → writer.new ≡ writer.old) }
+    ensures part { IsErrOf result (ShowFault.Command Fault.Output) → IfSome (R.remaining reader.old) (FindsAny kind (AppendsPart (W.contents writer.old) (W.contents writer.new))) }
 {
     let text = read_input(alloc, reader)?;
     find(alloc, kind, text, writer)
@@ -132,16 +131,16 @@ pub fn find_order<A: Allocator + Copy, R: Read, W: Write, E: Write>(
     ensures within { result ≡ 0 → IfSome (R.remaining reader.old) (λ xs. length xs ≤ LONGEST_INPUT) }
     ensures found { result ≡ 0 → IfSome (R.remaining reader.old) (WritesFound kind (Appends (W.contents writer.old) (W.contents writer.new))) }
     ensures refused { result ≡ 1 → (IfSome (R.remaining reader.old) (WritesNone kind (Appends (W.contents writer.old) (W.contents writer.new))) × (errors.new ≡ errors.old))
-        ⊎ ((f : AnyFault) × IfSome (R.remaining reader.old) (BlamesFind kind f) × (f ≢ SearchFault.Command Fault.Output → writer.new ≡ writer.old)
-        × (f ≡ SearchFault.Command Fault.Output → IfSome (R.remaining reader.old) (FindsAny kind (AppendsPart (W.contents writer.old) (W.contents writer.new))))
-        × AppendsPart (E.contents errors.old) (E.contents errors.new) (search_line f)) }
+        ⊎ ((f : AnyFault) × IfSome (R.remaining reader.old) (BlamesFind kind f) × (f ≢ ShowFault.Command Fault.Output → writer.new ≡ writer.old)
+        × (f ≡ ShowFault.Command Fault.Output → IfSome (R.remaining reader.old) (FindsAny kind (AppendsPart (W.contents writer.old) (W.contents writer.new))))
+        × AppendsPart (E.contents errors.old) (E.contents errors.new) (show_line f)) }
     ensures quiet { result ≡ 0 → errors.new ≡ errors.old }
 {
     match obey(alloc, kind, reader, writer) {
         Ok(true) => 0,
         Ok(false) => 1,
         Err(fault) => {
-            let _ = write_search_fault(errors, fault);
+            let _ = write_show_fault(errors, fault);
             1
         }
     }

@@ -1,5 +1,5 @@
 //! The command that prints the schedule of a run with one of the outcomes of a workload's scripts.
-ghost use Rattle.std.specs.Prelude.{◌≡◌, ◌≢◌, ◌≤◌, ◌⊎◌, IfOk, IfErr, IfSome, IsErrOf, MatchResult, OnOk, length};
+ghost use Rattle.std.specs.Prelude.{◌≡◌, ◌≢◌, ◌≤◌, ◌⊎◌, IfOk, IfErr, IfSome, IsErrOf, OnOk, length};
 ghost use Rattle.std.specs.Io.KnownBytes.{Appends};
 ghost use Rattle.reg_base.specs.declared.limits.TheConstants.{LONGEST_INPUT};
 ghost use Rattle.reg_text.specs.Writing.{AppendsPart};
@@ -8,62 +8,30 @@ ghost use Rattle.reg_outcomes.specs.Finishing.{HasRoom};
 ghost use Rattle.reg_outcomes.specs.Interleavings.{AreAll, IsInterleaving, IsWider};
 ghost use Rattle.reg_outcomes.specs.Showing.{IsRunOf};
 ghost use Rattle.reg_outcomes.specs.declared.outcomes.TheConstants.{MOST_STAGES};
-ghost use Rattle.reg_show.specs.OneOutcome.{BlamesOutcome, Lacks, SendsRun, WritesOutcome, outcome_line};
-ghost use Rattle.reg_show.specs.declared.one_outcome.OutcomeFault.{OutcomeFault as AnyFault};
+ghost use Rattle.reg_show.specs.Faults.{show_line};
+ghost use Rattle.reg_show.specs.OneOutcome.{BlamesOutcome, Lacks, SendsRun, WritesOutcome};
+ghost use Rattle.reg_show.specs.declared.faults.ShowFault.{ShowFault as AnyFault};
 
+use crate::faults::{ShowFault, write_show_fault};
 use crate::scheduling::{events_have_bits, send};
-use reg_commands::{Fault, read_input, read_workload, write_fault};
+use reg_commands::{Fault, read_input, read_workload};
 use reg_front::{Front, FrontEnd, Linear, LocalRead, LocalWrite};
-use reg_outcomes::{
-    AllOutcomes, InterleavingFault, MOST_STAGES, Outcome, TurnsFault, all_outcomes, run_outcome,
-};
-use reg_text::{Unwritten, write_bytes};
+use reg_outcomes::{AllOutcomes, MOST_STAGES, Outcome, all_outcomes, run_outcome};
 use reg_workload::Workload;
 use reg_world::{PackedWires, World};
 use std::alloc::{Allocator, Global};
 use std::io::{Read, Write};
-use thiserror::Error;
-
-/// Why no run with an outcome is shown. As text, the line of it on standard error.
-#[derive(Clone, Copy, Debug, PartialEq, Eq, Error)]
-pub enum OutcomeFault {
-    /// The input is refused, the output failed, or there was no memory.
-    #[error("{fault}")]
-    Command { fault: Fault },
-    /// Some number of turns leads to more stages than the most.
-    #[error("too many stages")]
-    TooManyStages,
-    /// There are fewer outcomes.
-    #[error("no such outcome")]
-    NoSuchOutcome,
-    /// A run has no room to call all operations one after another, and to come to rest after each.
-    #[error("too many events")]
-    TooManyEvents,
-}
-
-/// There was no memory.
-fn no_memory() -> OutcomeFault
-    ensures { result ≡ OutcomeFault.Command Fault.OutOfMemory }
-{
-    OutcomeFault::Command {
-        fault: Fault::OutOfMemory,
-    }
-}
 
 /// All outcomes of a workload's scripts.
 fn outcomes_of<A: Allocator + Copy>(
     alloc: A,
     work: &Workload<A>,
-) -> Result<AllOutcomes<A>, OutcomeFault>
+) -> Result<AllOutcomes<A>, ShowFault>
     ensures all { IfOk result (λ all. AreAll work.now.scripts work.now.shape.registers all.list.items) }
-    ensures why { IfErr result (λ f. (f ≡ OutcomeFault.Command Fault.OutOfMemory) ⊎ ((f ≡ OutcomeFault.TooManyStages) × IsWider work.now.scripts work.now.shape.registers MOST_STAGES)) }
+    ensures why { IfErr result (λ f. (f ≡ ShowFault.Command Fault.OutOfMemory) ⊎ ((f ≡ ShowFault.TooManyStages) × IsWider work.now.scripts work.now.shape.registers MOST_STAGES)) }
 {
     let registers = work.shape.registers() as u16;
-    match all_outcomes(alloc, work.scripts.as_slice(), registers, MOST_STAGES) {
-        Ok(all) => Ok(all),
-        Err(InterleavingFault::TooManyStages) => Err(OutcomeFault::TooManyStages),
-        Err(InterleavingFault::OutOfMemory) => Err(no_memory()),
-    }
+    Ok(all_outcomes(alloc, work.scripts.as_slice(), registers, MOST_STAGES)?)
 }
 
 /// A run with an outcome of a workload's scripts.
@@ -71,16 +39,12 @@ fn run_of<F: FrontEnd, A: Allocator + Copy>(
     alloc: A,
     work: &Workload<A>,
     outcome: &Outcome<A>,
-) -> Result<World<F, A, PackedWires<A>>, OutcomeFault>
+) -> Result<World<F, A, PackedWires<A>>, ShowFault>
     requires { IsInterleaving work.now.scripts work.now.shape.registers outcome.now }
     ensures run { IfOk result (λ world. IsRunOf F.start work.now.scripts work.now.shape.registers outcome.now world) }
     ensures why { IfErr result (λ f. Lacks (HasRoom work.now.scripts) f) }
 {
-    match run_outcome(alloc, work.shape, work.scripts.as_slice(), outcome) {
-        Ok(world) => Ok(world),
-        Err(TurnsFault::TooManyEvents) => Err(OutcomeFault::TooManyEvents),
-        Err(TurnsFault::OutOfMemory) => Err(no_memory()),
-    }
+    Ok(run_outcome(alloc, work.shape, work.scripts.as_slice(), outcome)?)
 }
 
 /// Makes a run with an outcome of a workload's scripts, and writes its schedule.
@@ -89,20 +53,18 @@ fn write_run<F: FrontEnd, A: Allocator + Copy, W: Write>(
     work: &Workload<A>,
     outcome: &Outcome<A>,
     writer: &mut W,
-) -> Result<(), OutcomeFault>
+) -> Result<(), ShowFault>
     requires { IsInterleaving work.now.scripts work.now.shape.registers outcome.now }
     ensures ok { IfOk result (λ _. SendsRun F.start (Appends (W.contents writer.old) (W.contents writer.new)) work.now outcome.now) }
-    ensures why { IfErr result (λ f. (f ≡ OutcomeFault.Command Fault.Output) ⊎ Lacks (HasRoom work.now.scripts) f) }
-    ensures silent { IfErr result (λ f. f ≢ OutcomeFault.Command Fault.Output → writer.new ≡ writer.old) }
-    ensures part { IsErrOf result (OutcomeFault.Command Fault.Output) → SendsRun F.start (AppendsPart (W.contents writer.old) (W.contents writer.new)) work.now outcome.now }
+    ensures why { IfErr result (λ f. (f ≡ ShowFault.Command Fault.Output) ⊎ Lacks (HasRoom work.now.scripts) f) }
+    ensures silent { IfErr result (λ f. f ≢ ShowFault.Command Fault.Output → writer.new ≡ writer.old) }
+    ensures part { IsErrOf result (ShowFault.Command Fault.Output) → SendsRun F.start (AppendsPart (W.contents writer.old) (W.contents writer.new)) work.now outcome.now }
 {
     let world = run_of::<F, A>(alloc, work, outcome)?;
     let events = world.accepted();
     events_have_bits(events);
-    match send(writer, work.shape, &work.names, work.front, events) {
-        Ok(()) => Ok(()),
-        Err(fault) => Err(OutcomeFault::Command { fault }),
-    }
+    send(writer, work.shape, &work.names, work.front, events)?;
+    Ok(())
 }
 
 /// Makes a run with an outcome of a workload's scripts under its front end, and writes its schedule.
@@ -111,12 +73,12 @@ fn write_run_of<A: Allocator + Copy, W: Write>(
     work: &Workload<A>,
     outcome: &Outcome<A>,
     writer: &mut W,
-) -> Result<(), OutcomeFault>
+) -> Result<(), ShowFault>
     requires { IsInterleaving work.now.scripts work.now.shape.registers outcome.now }
     ensures ok { IfOk result (λ _. SendsRun (start_of work.now.front) (Appends (W.contents writer.old) (W.contents writer.new)) work.now outcome.now) }
-    ensures why { IfErr result (λ f. (f ≡ OutcomeFault.Command Fault.Output) ⊎ Lacks (HasRoom work.now.scripts) f) }
-    ensures silent { IfErr result (λ f. f ≢ OutcomeFault.Command Fault.Output → writer.new ≡ writer.old) }
-    ensures part { IsErrOf result (OutcomeFault.Command Fault.Output) → SendsRun (start_of work.now.front) (AppendsPart (W.contents writer.old) (W.contents writer.new)) work.now outcome.now }
+    ensures why { IfErr result (λ f. (f ≡ ShowFault.Command Fault.Output) ⊎ Lacks (HasRoom work.now.scripts) f) }
+    ensures silent { IfErr result (λ f. f ≢ ShowFault.Command Fault.Output → writer.new ≡ writer.old) }
+    ensures part { IsErrOf result (ShowFault.Command Fault.Output) → SendsRun (start_of work.now.front) (AppendsPart (W.contents writer.old) (W.contents writer.new)) work.now outcome.now }
 {
     match work.front {
         Front::Linear => write_run::<Linear, A, W>(alloc, work, outcome, writer),
@@ -132,21 +94,21 @@ fn outcome<A: Allocator + Copy, W: Write>(
     text: &str,
     number: u32,
     writer: &mut W,
-) -> Result<(), OutcomeFault>
+) -> Result<(), ShowFault>
     requires { 1 ≤ number }
     ensures ok { IfOk result (λ _. WritesOutcome number (Appends (W.contents writer.old) (W.contents writer.new)) text.now) }
     ensures why { IfErr result (λ f. BlamesOutcome number f text.now) }
-    ensures silent { IfErr result (λ f. f ≢ OutcomeFault.Command Fault.Output → writer.new ≡ writer.old) }
-    ensures part { IsErrOf result (OutcomeFault.Command Fault.Output) → WritesOutcome number (AppendsPart (W.contents writer.old) (W.contents writer.new)) text.now }
+    ensures silent { IfErr result (λ f. f ≢ ShowFault.Command Fault.Output → writer.new ≡ writer.old) }
+    ensures part { IsErrOf result (ShowFault.Command Fault.Output) → WritesOutcome number (AppendsPart (W.contents writer.old) (W.contents writer.new)) text.now }
 {
     let work = match read_workload(alloc, global, text) {
         Ok(work) => work,
-        Err(fault) => return Err(OutcomeFault::Command { fault }),
+        Err(fault) => return Err(ShowFault::Command { fault }),
     };
     let all = outcomes_of(alloc, &work)?;
     match all.list.get(number as usize - 1) {
         Some(outcome) => write_run_of(alloc, &work, outcome, writer),
-        None => Err(OutcomeFault::NoSuchOutcome),
+        None => Err(ShowFault::NoSuchOutcome),
     }
 }
 
@@ -156,30 +118,16 @@ fn obey<A: Allocator + Copy, R: Read, W: Write>(
     number: u32,
     reader: &mut R,
     writer: &mut W,
-) -> Result<(), OutcomeFault>
+) -> Result<(), ShowFault>
     requires { 1 ≤ number }
     ensures ok { IfOk result (λ _. IfSome (R.remaining reader.old) (WritesOutcome number (Appends (W.contents writer.old) (W.contents writer.new)))) }
     ensures within { OnOk result (IfSome (R.remaining reader.old) (λ xs. length xs ≤ LONGEST_INPUT)) }
     ensures why { IfErr result (λ f. IfSome (R.remaining reader.old) (BlamesOutcome number f)) }
-    ensures silent { IfErr result (λ f. f ≢ OutcomeFault.Command Fault.Output → writer.new ≡ writer.old) }
-    ensures part { IsErrOf result (OutcomeFault.Command Fault.Output) → IfSome (R.remaining reader.old) (WritesOutcome number (AppendsPart (W.contents writer.old) (W.contents writer.new))) }
+    ensures silent { IfErr result (λ f. f ≢ ShowFault.Command Fault.Output → writer.new ≡ writer.old) }
+    ensures part { IsErrOf result (ShowFault.Command Fault.Output) → IfSome (R.remaining reader.old) (WritesOutcome number (AppendsPart (W.contents writer.old) (W.contents writer.new))) }
 {
-    match read_input(alloc, reader) {
-        Ok(text) => outcome(alloc, global, text.as_str(), number, writer),
-        Err(fault) => Err(OutcomeFault::Command { fault }),
-    }
-}
-
-/// Writes the line of a fault, all of it or, where the writer fails, a first part.
-fn write_outcome_fault<W: Write>(errors: &mut W, fault: OutcomeFault) -> Result<(), Unwritten>
-    ensures { MatchResult result (λ _. Appends (W.contents errors.old) (W.contents errors.new) (outcome_line fault)) (λ _. AppendsPart (W.contents errors.old) (W.contents errors.new) (outcome_line fault)) }
-{
-    match fault {
-        OutcomeFault::Command { fault } => write_fault(errors, fault),
-        OutcomeFault::TooManyStages => write_bytes(errors, b"too many stages\n"),
-        OutcomeFault::NoSuchOutcome => write_bytes(errors, b"no such outcome\n"),
-        OutcomeFault::TooManyEvents => write_bytes(errors, b"too many events\n"),
-    }
+    let text = read_input(alloc, reader)?;
+    outcome(alloc, global, text.as_str(), number, writer)
 }
 
 /// Writes the schedule of a run with the outcome of this number, counted from 1, among all outcomes that the scripts of
@@ -200,15 +148,15 @@ pub fn show_outcome<A: Allocator + Copy, R: Read, W: Write, E: Write>(
     ensures range { result ≤ 1 }
     ensures within { result ≡ 0 → IfSome (R.remaining reader.old) (λ xs. length xs ≤ LONGEST_INPUT) }
     ensures shown { result ≡ 0 → IfSome (R.remaining reader.old) (WritesOutcome number (Appends (W.contents writer.old) (W.contents writer.new))) }
-    ensures refused { result ≡ 1 → (f : AnyFault) × IfSome (R.remaining reader.old) (BlamesOutcome number f) × (f ≢ OutcomeFault.Command Fault.Output → writer.new ≡ writer.old)
-        × (f ≡ OutcomeFault.Command Fault.Output → IfSome (R.remaining reader.old) (WritesOutcome number (AppendsPart (W.contents writer.old) (W.contents writer.new))))
-        × AppendsPart (E.contents errors.old) (E.contents errors.new) (outcome_line f) }
+    ensures refused { result ≡ 1 → (f : AnyFault) × IfSome (R.remaining reader.old) (BlamesOutcome number f) × (f ≢ ShowFault.Command Fault.Output → writer.new ≡ writer.old)
+        × (f ≡ ShowFault.Command Fault.Output → IfSome (R.remaining reader.old) (WritesOutcome number (AppendsPart (W.contents writer.old) (W.contents writer.new))))
+        × AppendsPart (E.contents errors.old) (E.contents errors.new) (show_line f) }
     ensures quiet { result ≡ 0 → errors.new ≡ errors.old }
 {
     match obey(alloc, global, number, reader, writer) {
         Ok(()) => 0,
         Err(fault) => {
-            let _ = write_outcome_fault(errors, fault);
+            let _ = write_show_fault(errors, fault);
             1
         }
     }

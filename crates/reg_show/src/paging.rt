@@ -29,10 +29,7 @@ fn schedule_to_show<A: Allocator + Copy>(alloc: A, text: &str) -> Result<Schedul
     ensures why { IfErr result (λ f. BlamesDrawn MOST_TOLD f text.now) }
     ensures kind { IfErr result (λ f. f ≢ ShowFault.Command Fault.Output) }
 {
-    let schedule = match read_schedule(alloc, text) {
-        Ok(schedule) => schedule,
-        Err(fault) => return Err(ShowFault::Command { fault }),
-    };
+    let schedule = read_schedule(alloc, text)?;
     if schedule.events.len() > MOST_TOLD {
         return Err(ShowFault::TooManyToDraw);
     }
@@ -142,12 +139,7 @@ pub(crate) fn write_run<A: Allocator + Copy, W: Write>(
     ensures part { IsErrOf result (ShowFault.Command Fault.Output) → ShowsData (one_text head.now) (one_text tail.now) (AppendsPart (W.contents writer.old) (W.contents writer.new)) text.now }
 {
     let schedule = schedule_to_show(alloc, text)?;
-    let told = match data_of_text(alloc, schedule, text) {
-        Ok(told) => told,
-        Err(fault) => return Err(ShowFault::Command { fault }),
-    };
-    match send_data(writer, head, &told, tail) {
-        Ok(()) => Ok(()),
-        Err(fault) => Err(ShowFault::Command { fault }),
-    }
+    let told = data_of_text(alloc, schedule, text)?;
+    send_data(writer, head, &told, tail)?;
+    Ok(())
 }

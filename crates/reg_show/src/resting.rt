@@ -29,10 +29,7 @@ fn rest_run<F: FrontEnd, A: Allocator + Copy>(
         mut world,
         names,
         front,
-    } = match run_events::<F, A, PackedWires<A>>(alloc, schedule) {
-        Ok(ran) => ran,
-        Err(fault) => return Err(ShowFault::Command { fault }),
-    };
+    } = run_events::<F, A, PackedWires<A>>(alloc, schedule)?;
     // (for the proof: by this getter's contract the world is the run of these events)
     world.accepted();
     match settle(&mut world) {
@@ -68,10 +65,8 @@ fn write_rest<F: FrontEnd, A: Allocator + Copy, W: Write>(
     } = rest_run::<F, A>(alloc, schedule)?;
     let events = world.accepted();
     events_have_bits(events);
-    match send(writer, world.shape(), &names, front, events) {
-        Ok(()) => Ok(()),
-        Err(fault) => Err(ShowFault::Command { fault }),
-    }
+    send(writer, world.shape(), &names, front, events)?;
+    Ok(())
 }
 
 /// Reads a schedule, brings its run to rest, and writes the schedule of all events: the same, with ticks and takes
@@ -86,10 +81,7 @@ pub(crate) fn rest<A: Allocator + Copy, W: Write>(
     ensures silent { IfErr result (λ f. f ≢ ShowFault.Command Fault.Output → writer.new ≡ writer.old) }
     ensures part { IsErrOf result (ShowFault.Command Fault.Output) → RestsRun (AppendsPart (W.contents writer.old) (W.contents writer.new)) text.now }
 {
-    let schedule = match read_schedule(alloc, text) {
-        Ok(schedule) => schedule,
-        Err(fault) => return Err(ShowFault::Command { fault }),
-    };
+    let schedule = read_schedule(alloc, text)?;
     match schedule.front {
         Front::Linear => write_rest::<Linear, A, W>(alloc, schedule, writer),
         Front::LocalRead => write_rest::<LocalRead, A, W>(alloc, schedule, writer),

@@ -1,24 +1,24 @@
 //! Showing a text over any reader and writer.
-ghost use Rattle.std.specs.Prelude.{◌≡◌, ◌≢◌, ◌≤◌, IfOk, IfErr, IsErrOf, MatchResult, OnOk, IfSome, length};
+ghost use Rattle.std.specs.Prelude.{◌≡◌, ◌≢◌, ◌≤◌, IfOk, IfErr, IsErrOf, OnOk, IfSome, length};
 ghost use Rattle.std.specs.Io.KnownBytes.{Appends};
 ghost use Rattle.reg_base.specs.declared.limits.TheConstants.{LONGEST_INPUT};
 ghost use Rattle.reg_text.specs.Writing.{AppendsPart};
 ghost use Rattle.reg_show.specs.declared.faults.ShowFault.{ShowFault as AnyFault};
 ghost use Rattle.std.specs.Str.{IsUtf8};
-ghost use Rattle.reg_show.specs.Showings.{Blames, BlamesText, IsPlayed, Shows, ShowsText, show_line};
+ghost use Rattle.reg_show.specs.Faults.{show_line};
+ghost use Rattle.reg_show.specs.Showings.{Blames, BlamesText, IsPlayed, Shows, ShowsText};
 
 use crate::commands::{draw, trace};
-use crate::faults::ShowFault;
+use crate::faults::{ShowFault, write_show_fault};
 use crate::kinds::{Kind, kind_of};
 use crate::paging::write_run;
 use crate::players::Player;
 use crate::resting::rest;
 use crate::scheduling::schedule;
 use crate::showing::Showing;
-use reg_commands::{Fault, read_input, write_fault};
+use reg_commands::{Fault, read_input};
 use reg_page::head::HEAD;
 use reg_page::tail::TAIL;
-use reg_text::{Unwritten, write_bytes};
 use std::alloc::{AllocError, Allocator, Global};
 use std::io::{Read, Write};
 use std::str;
@@ -35,10 +35,7 @@ fn show<A: Allocator + Copy, W: Write>(
     ensures part { IsErrOf result (ShowFault.Command Fault.Output) → ShowsText showing (AppendsPart (W.contents writer.old) (W.contents writer.new)) text.now }
 {
     match showing {
-        Showing::Trace => match trace(alloc, text, writer) {
-            Ok(()) => Ok(()),
-            Err(fault) => Err(ShowFault::Command { fault }),
-        },
+        Showing::Trace => Ok(trace(alloc, text, writer)?),
         Showing::Draw => draw(alloc, text, writer),
         Showing::Data => write_run(alloc, text, &[], &["\n"], writer),
         Showing::Page => write_run(alloc, text, &HEAD, &TAIL, writer),
@@ -92,15 +89,12 @@ fn show_any<A: Allocator + Copy, W: Write>(
     ensures silent { IfErr result (λ f. f ≢ ShowFault.Command Fault.Output → writer.new ≡ writer.old) }
     ensures part { IsErrOf result (ShowFault.Command Fault.Output) → Shows showing (AppendsPart (W.contents writer.old) (W.contents writer.new)) text.now }
 {
-    match source(alloc, global, text) {
-        Ok(Some(schedule)) => match str::from_utf8(schedule.as_slice()) {
+    match source(alloc, global, text)? {
+        Some(schedule) => match str::from_utf8(schedule.as_slice()) {
             Ok(played) => show(alloc, showing, played, writer),
             Err(_) => unreachable!(),
         },
-        Ok(None) => show(alloc, showing, text, writer),
-        Err(_) => Err(ShowFault::Command {
-            fault: Fault::OutOfMemory,
-        }),
+        None => show(alloc, showing, text, writer),
     }
 }
 
@@ -117,21 +111,8 @@ fn obey<A: Allocator + Copy, R: Read, W: Write>(
     ensures silent { IfErr result (λ f. f ≢ ShowFault.Command Fault.Output → writer.new ≡ writer.old) }
     ensures part { IsErrOf result (ShowFault.Command Fault.Output) → IfSome (R.remaining reader.old) (Shows showing (AppendsPart (W.contents writer.old) (W.contents writer.new))) }
 {
-    match read_input(alloc, reader) {
-        Ok(text) => show_any(alloc, global, showing, text.as_str(), writer),
-        Err(fault) => Err(ShowFault::Command { fault }),
-    }
-}
-
-/// Writes the line of a fault, all of it or, where the writer fails, a first part.
-fn write_show_fault<W: Write>(errors: &mut W, fault: ShowFault) -> Result<(), Unwritten>
-    ensures { MatchResult result (λ _. Appends (W.contents errors.old) (W.contents errors.new) (show_line fault)) (λ _. AppendsPart (W.contents errors.old) (W.contents errors.new) (show_line fault)) }
-{
-    match fault {
-        ShowFault::Command { fault } => write_fault(errors, fault),
-        ShowFault::TooManyToDraw => write_bytes(errors, b"too many events to draw\n"),
-        ShowFault::TooManyToRest => write_bytes(errors, b"too many events to rest\n"),
-    }
+    let text = read_input(alloc, reader)?;
+    show_any(alloc, global, showing, text.as_str(), writer)
 }
 
 /// Shows what the text on the reader says: it reads the whole input, and writes once all of it is accepted. The answer

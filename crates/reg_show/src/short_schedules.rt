@@ -1,70 +1,45 @@
 //! The command that prints the schedule of the short form of a play.
-ghost use Rattle.std.specs.Prelude.{◌≡◌, ◌≢◌, ◌≤◌, ◌⊎◌, IfOk, IfErr, IfSome, IsErrOf, MatchResult, OnOk, length};
+ghost use Rattle.std.specs.Prelude.{◌≡◌, ◌≢◌, ◌≤◌, ◌⊎◌, IfOk, IfErr, IfSome, IsErrOf, OnOk, length};
 ghost use Rattle.std.specs.Io.KnownBytes.{Appends};
 ghost use Rattle.reg_base.specs.declared.limits.TheConstants.{LONGEST_INPUT};
 ghost use Rattle.reg_text.specs.Writing.{AppendsPart};
 ghost use Rattle.reg_commands.specs.Replays.{start_of};
+ghost use Rattle.reg_show.specs.Faults.{show_line};
 ghost use Rattle.reg_show.specs.Seeds.{IsSeed, seed_of};
-ghost use Rattle.reg_show.specs.Shorts.{BlamesShort, IsShortPlay, LacksShort, ShowsShort, WritesShort, short_line};
-ghost use Rattle.reg_show.specs.declared.short_schedules.ShortFault.{ShortFault as AnyFault};
+ghost use Rattle.reg_show.specs.Shorts.{BlamesShort, IsShortPlay, LacksShort, ShowsShort, WritesShort};
+ghost use Rattle.reg_show.specs.declared.faults.ShowFault.{ShowFault as AnyFault};
 
+use crate::faults::{ShowFault, write_show_fault};
 use crate::players::Player;
 use crate::scheduling::{events_have_bits, send};
 use crate::seeding::read_seeded;
 use crate::shortening::{shorten, up_to_last};
-use reg_commands::{Fault, play_by, read_input, write_fault};
+use reg_commands::{Fault, play_by, read_input};
 use reg_front::{Front, FrontEnd, Linear, LocalRead, LocalWrite};
-use reg_text::{Unwritten, write_bytes};
 use reg_workload::Workload;
 use reg_world::{Event, PackedWires};
 use std::alloc::{Allocator, Global};
 use std::io::{Read, Write};
-use thiserror::Error;
 
 /// The most events up to the last answer of a play that is shortened.
 pub const MOST_SHORTENED: usize = 2_000;
-
-/// Why no short schedule is shown. As text, the line of it on standard error.
-#[derive(Clone, Copy, Debug, PartialEq, Eq, Error)]
-pub enum ShortFault {
-    /// The input is refused, the output failed, or there was no memory.
-    #[error("{fault}")]
-    Command { fault: Fault },
-    /// The play has more events up to its last answer than are shortened.
-    #[error("too many events to shorten")]
-    TooManyToShorten,
-}
-
-/// There was no memory.
-fn no_memory() -> ShortFault
-    ensures { result ≡ ShortFault.Command Fault.OutOfMemory }
-{
-    ShortFault::Command {
-        fault: Fault::OutOfMemory,
-    }
-}
 
 /// The events of the short form of a workload's play.
 fn short_play<F: FrontEnd, A: Allocator + Copy>(
     alloc: A,
     work: &Workload<A>,
     fair: bool,
-) -> Result<Vec<Event, A>, ShortFault>
+) -> Result<Vec<Event, A>, ShowFault>
     ensures short { IfOk result (λ v. IsShortPlay fair F.start work.now v.items) }
     ensures why { IfErr result (LacksShort fair F.start work.now) }
 {
-    let Ok(play) = play_by::<F, A, PackedWires<A>>(alloc, work, fair) else {
-        return Err(no_memory());
-    };
+    let play = play_by::<F, A, PackedWires<A>>(alloc, work, fair)?;
     let entries = play.world.history().entries();
     let events = up_to_last(entries, play.world.accepted());
     if events.len() > MOST_SHORTENED {
-        return Err(ShortFault::TooManyToShorten);
+        return Err(ShowFault::TooManyToShorten);
     }
-    match shorten::<F, A>(alloc, work.shape, entries, events) {
-        Ok(short) => Ok(short),
-        Err(_) => Err(no_memory()),
-    }
+    Ok(shorten::<F, A>(alloc, work.shape, entries, events)?)
 }
 
 /// Plays a workload, and writes the schedule of the play's short form.
@@ -73,19 +48,17 @@ fn write_short<F: FrontEnd, A: Allocator + Copy, W: Write>(
     work: &Workload<A>,
     fair: bool,
     writer: &mut W,
-) -> Result<(), ShortFault>
+) -> Result<(), ShowFault>
     ensures ok { IfOk result (λ _. ShowsShort fair F.start (Appends (W.contents writer.old) (W.contents writer.new)) work.now) }
-    ensures why { IfErr result (λ f. (f ≡ ShortFault.Command Fault.Output) ⊎ LacksShort fair F.start work.now f) }
-    ensures silent { IfErr result (λ f. f ≢ ShortFault.Command Fault.Output → writer.new ≡ writer.old) }
-    ensures part { IsErrOf result (ShortFault.Command Fault.Output) → ShowsShort fair F.start (AppendsPart (W.contents writer.old) (W.contents writer.new)) work.now }
+    ensures why { IfErr result (λ f. (f ≡ ShowFault.Command Fault.Output) ⊎ LacksShort fair F.start work.now f) }
+    ensures silent { IfErr result (λ f. f ≢ ShowFault.Command Fault.Output → writer.new ≡ writer.old) }
+    ensures part { IsErrOf result (ShowFault.Command Fault.Output) → ShowsShort fair F.start (AppendsPart (W.contents writer.old) (W.contents writer.new)) work.now }
 {
     let short = short_play::<F, A>(alloc, work, fair)?;
     let events = short.as_slice();
     events_have_bits(events);
-    match send(writer, work.shape, &work.names, work.front, events) {
-        Ok(()) => Ok(()),
-        Err(fault) => Err(ShortFault::Command { fault }),
-    }
+    send(writer, work.shape, &work.names, work.front, events)?;
+    Ok(())
 }
 
 /// Plays a workload under its front end, and writes the schedule of the play's short form.
@@ -94,11 +67,11 @@ fn write_short_of<A: Allocator + Copy, W: Write>(
     work: &Workload<A>,
     fair: bool,
     writer: &mut W,
-) -> Result<(), ShortFault>
+) -> Result<(), ShowFault>
     ensures ok { IfOk result (λ _. ShowsShort fair (start_of work.now.front) (Appends (W.contents writer.old) (W.contents writer.new)) work.now) }
-    ensures why { IfErr result (λ f. (f ≡ ShortFault.Command Fault.Output) ⊎ LacksShort fair (start_of work.now.front) work.now f) }
-    ensures silent { IfErr result (λ f. f ≢ ShortFault.Command Fault.Output → writer.new ≡ writer.old) }
-    ensures part { IsErrOf result (ShortFault.Command Fault.Output) → ShowsShort fair (start_of work.now.front) (AppendsPart (W.contents writer.old) (W.contents writer.new)) work.now }
+    ensures why { IfErr result (λ f. (f ≡ ShowFault.Command Fault.Output) ⊎ LacksShort fair (start_of work.now.front) work.now f) }
+    ensures silent { IfErr result (λ f. f ≢ ShowFault.Command Fault.Output → writer.new ≡ writer.old) }
+    ensures part { IsErrOf result (ShowFault.Command Fault.Output) → ShowsShort fair (start_of work.now.front) (AppendsPart (W.contents writer.old) (W.contents writer.new)) work.now }
 {
     match work.front {
         Front::Linear => write_short::<Linear, A, W>(alloc, work, fair, writer),
@@ -114,17 +87,14 @@ fn short_schedule<A: Allocator + Copy, W: Write>(
     text: &str,
     player: Player,
     writer: &mut W,
-) -> Result<(), ShortFault>
+) -> Result<(), ShowFault>
     requires { IsSeed (seed_of player) }
     ensures ok { IfOk result (λ _. WritesShort player (Appends (W.contents writer.old) (W.contents writer.new)) text.now) }
     ensures why { IfErr result (λ f. BlamesShort player f text.now) }
-    ensures silent { IfErr result (λ f. f ≢ ShortFault.Command Fault.Output → writer.new ≡ writer.old) }
-    ensures part { IsErrOf result (ShortFault.Command Fault.Output) → WritesShort player (AppendsPart (W.contents writer.old) (W.contents writer.new)) text.now }
+    ensures silent { IfErr result (λ f. f ≢ ShowFault.Command Fault.Output → writer.new ≡ writer.old) }
+    ensures part { IsErrOf result (ShowFault.Command Fault.Output) → WritesShort player (AppendsPart (W.contents writer.old) (W.contents writer.new)) text.now }
 {
-    let work = match read_seeded(alloc, global, text, player.seed()) {
-        Ok(work) => work,
-        Err(fault) => return Err(ShortFault::Command { fault }),
-    };
+    let work = read_seeded(alloc, global, text, player.seed())?;
     write_short_of(alloc, &work, player.is_fair(), writer)
 }
 
@@ -134,28 +104,16 @@ fn obey<A: Allocator + Copy, R: Read, W: Write>(
     player: Player,
     reader: &mut R,
     writer: &mut W,
-) -> Result<(), ShortFault>
+) -> Result<(), ShowFault>
     requires { IsSeed (seed_of player) }
     ensures ok { IfOk result (λ _. IfSome (R.remaining reader.old) (WritesShort player (Appends (W.contents writer.old) (W.contents writer.new)))) }
     ensures within { OnOk result (IfSome (R.remaining reader.old) (λ xs. length xs ≤ LONGEST_INPUT)) }
     ensures why { IfErr result (λ f. IfSome (R.remaining reader.old) (BlamesShort player f)) }
-    ensures silent { IfErr result (λ f. f ≢ ShortFault.Command Fault.Output → writer.new ≡ writer.old) }
-    ensures part { IsErrOf result (ShortFault.Command Fault.Output) → IfSome (R.remaining reader.old) (WritesShort player (AppendsPart (W.contents writer.old) (W.contents writer.new))) }
+    ensures silent { IfErr result (λ f. f ≢ ShowFault.Command Fault.Output → writer.new ≡ writer.old) }
+    ensures part { IsErrOf result (ShowFault.Command Fault.Output) → IfSome (R.remaining reader.old) (WritesShort player (AppendsPart (W.contents writer.old) (W.contents writer.new))) }
 {
-    match read_input(alloc, reader) {
-        Ok(text) => short_schedule(alloc, global, text.as_str(), player, writer),
-        Err(fault) => Err(ShortFault::Command { fault }),
-    }
-}
-
-/// Writes the line of a fault, all of it or, where the writer fails, a first part.
-fn write_short_fault<W: Write>(errors: &mut W, fault: ShortFault) -> Result<(), Unwritten>
-    ensures { MatchResult result (λ _. Appends (W.contents errors.old) (W.contents errors.new) (short_line fault)) (λ _. AppendsPart (W.contents errors.old) (W.contents errors.new) (short_line fault)) }
-{
-    match fault {
-        ShortFault::Command { fault } => write_fault(errors, fault),
-        ShortFault::TooManyToShorten => write_bytes(errors, b"too many events to shorten\n"),
-    }
+    let text = read_input(alloc, reader)?;
+    short_schedule(alloc, global, text.as_str(), player, writer)
 }
 
 /// Writes the schedule of the short form of the player's play of the workload that the text on the reader says: it
@@ -178,15 +136,15 @@ pub fn show_short_schedule<A: Allocator + Copy, R: Read, W: Write, E: Write>(
     ensures range { result ≤ 1 }
     ensures within { result ≡ 0 → IfSome (R.remaining reader.old) (λ xs. length xs ≤ LONGEST_INPUT) }
     ensures shown { result ≡ 0 → IfSome (R.remaining reader.old) (WritesShort player (Appends (W.contents writer.old) (W.contents writer.new))) }
-    ensures refused { result ≡ 1 → (f : AnyFault) × IfSome (R.remaining reader.old) (BlamesShort player f) × (f ≢ ShortFault.Command Fault.Output → writer.new ≡ writer.old)
-        × (f ≡ ShortFault.Command Fault.Output → IfSome (R.remaining reader.old) (WritesShort player (AppendsPart (W.contents writer.old) (W.contents writer.new))))
-        × AppendsPart (E.contents errors.old) (E.contents errors.new) (short_line f) }
+    ensures refused { result ≡ 1 → (f : AnyFault) × IfSome (R.remaining reader.old) (BlamesShort player f) × (f ≢ ShowFault.Command Fault.Output → writer.new ≡ writer.old)
+        × (f ≡ ShowFault.Command Fault.Output → IfSome (R.remaining reader.old) (WritesShort player (AppendsPart (W.contents writer.old) (W.contents writer.new))))
+        × AppendsPart (E.contents errors.old) (E.contents errors.new) (show_line f) }
     ensures quiet { result ≡ 0 → errors.new ≡ errors.old }
 {
     match obey(alloc, global, player, reader, writer) {
         Ok(()) => 0,
         Err(fault) => {
-            let _ = write_short_fault(errors, fault);
+            let _ = write_show_fault(errors, fault);
             1
         }
     }

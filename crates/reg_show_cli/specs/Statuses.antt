@@ -10,20 +10,14 @@ use Rattle.reg_commands.specs.declared.faults.Fault.TheVariants.{Output}
 use Rattle.reg_commands.specs.FaultLines.{fault_line}
 use Rattle.reg_show.specs.AllOutcomes.{BlamesAll, WritesAll}
 use Rattle.reg_show.specs.Finding.{BlamesFind, FindsAny, WritesFound, WritesNone}
-use Rattle.reg_show.specs.Searches.{search_line}
-use Rattle.reg_show.specs.declared.faults.SearchFault.{SearchFault}
-use Rattle.reg_show.specs.declared.faults.SearchFault.TheVariants.{Command as SearchCommand}
+use Rattle.reg_show.specs.Faults.{show_line}
 use Rattle.reg_show.specs.declared.faults.ShowFault.{ShowFault}
 use Rattle.reg_show.specs.declared.faults.ShowFault.TheVariants.{Command}
-use Rattle.reg_show.specs.OneOutcome.{BlamesOutcome, WritesOutcome, outcome_line}
+use Rattle.reg_show.specs.OneOutcome.{BlamesOutcome, WritesOutcome}
 use Rattle.reg_show.specs.Outcomes.{BlamesCount, WritesOutcomes}
-use Rattle.reg_show.specs.declared.one_outcome.OutcomeFault.{OutcomeFault}
-use Rattle.reg_show.specs.declared.one_outcome.OutcomeFault.TheVariants.{Command as OutcomeCommand}
 use Rattle.reg_show.specs.Schedules.{WritesSchedule}
-use Rattle.reg_show.specs.Shorts.{BlamesShort, WritesShort, short_line}
-use Rattle.reg_show.specs.declared.short_schedules.ShortFault.{ShortFault}
-use Rattle.reg_show.specs.declared.short_schedules.ShortFault.TheVariants.{Command as ShortCommand}
-use Rattle.reg_show.specs.Showings.{Blames, Shows, show_line}
+use Rattle.reg_show.specs.Shorts.{BlamesShort, WritesShort}
+use Rattle.reg_show.specs.Showings.{Blames, Shows}
 use Rattle.reg_verify.specs.Verifies.{BlamesAccount, Verifies, verify_line}
 use Rattle.reg_verify.specs.declared.faults.VerifyFault.{VerifyFault}
 use Rattle.reg_verify.specs.declared.faults.VerifyFault.TheVariants.{Command as VerifyCommand}
@@ -46,26 +40,26 @@ Obeys help version Verify input Wrote = IfSome input (λ xs. length xs ≤ LONGE
 Obeys help version Help input Wrote = Wrote help
 Obeys help version Version input Wrote = Wrote version
 
+-- The line of a fault was told, or a first part of it. It holds of the input, and nothing was written unless the writer
+-- failed; then a first part of what is shown was. `Holds` says what holds, and `Shown` what is shown.
+abbrev pub Refuses : (ShowFault → List ℕ → Type 0) → ((List ℕ → Type 0) → List ℕ → Type 0) → Option (List ℕ) → Type 0 → Option (List ℕ) → Option (List ℕ) → Option (List ℕ) → Option (List ℕ) → Type 0
+Refuses Holds Shown input unwritten old new was is =
+    (f : ShowFault) × IfSome input (Holds f) × (f ≢ Command Output → unwritten) × (f ≡ Command Output → IfSome input (Shown (AppendsPart old new))) × AppendsPart was is (show_line f)
+
 -- Status 1: the line of a fault was told, or a first part of it. It holds of the input, and nothing was written unless
 -- the writer failed; then a first part of what is shown was. Where help or the version was asked for, the writer
 -- failed. Where the question was why, the text is refused, and its answer was written; where an order was looked for,
 -- there is none, and that was written.
 abbrev pub Stops : Asked → Option (List ℕ) → Type 0 → Option (List ℕ) → Option (List ℕ) → Option (List ℕ) → Option (List ℕ) → Type 0
-Stops (Show showing) input unwritten old new was is =
-    (f : ShowFault) × IfSome input (Blames showing f) × (f ≢ Command Output → unwritten) × (f ≡ Command Output → IfSome input (Shows showing (AppendsPart old new))) × AppendsPart was is (show_line f)
+Stops (Show showing) input unwritten old new was is = Refuses (Blames showing) (Shows showing) input unwritten old new was is
 Stops (Schedule player) input unwritten old new was is =
     (f : Fault) × IfSome input (BlamesCommand (Play false) f) × (f ≢ Output → unwritten) × (f ≡ Output → IfSome input (WritesSchedule player (AppendsPart old new))) × AppendsPart was is (fault_line f)
-Stops (ShortSchedule player) input unwritten old new was is =
-    (f : ShortFault) × IfSome input (BlamesShort player f) × (f ≢ ShortCommand Output → unwritten) × (f ≡ ShortCommand Output → IfSome input (WritesShort player (AppendsPart old new))) × AppendsPart was is (short_line f)
-Stops (Outcomes plays seed) input unwritten old new was is =
-    (f : SearchFault) × IfSome input (BlamesCount plays seed f) × (f ≢ SearchCommand Output → unwritten) × (f ≡ SearchCommand Output → IfSome input (WritesOutcomes plays seed (AppendsPart old new))) × AppendsPart was is (search_line f)
-Stops AllOutcomes input unwritten old new was is =
-    (f : SearchFault) × IfSome input (BlamesAll f) × (f ≢ SearchCommand Output → unwritten) × (f ≡ SearchCommand Output → IfSome input (WritesAll (AppendsPart old new))) × AppendsPart was is (search_line f)
-Stops (Outcome number) input unwritten old new was is =
-    (f : OutcomeFault) × IfSome input (BlamesOutcome number f) × (f ≢ OutcomeCommand Output → unwritten) × (f ≡ OutcomeCommand Output → IfSome input (WritesOutcome number (AppendsPart old new))) × AppendsPart was is (outcome_line f)
+Stops (ShortSchedule player) input unwritten old new was is = Refuses (BlamesShort player) (WritesShort player) input unwritten old new was is
+Stops (Outcomes plays seed) input unwritten old new was is = Refuses (BlamesCount plays seed) (WritesOutcomes plays seed) input unwritten old new was is
+Stops AllOutcomes input unwritten old new was is = Refuses BlamesAll WritesAll input unwritten old new was is
+Stops (Outcome number) input unwritten old new was is = Refuses (BlamesOutcome number) (WritesOutcome number) input unwritten old new was is
 Stops (Find kind) input unwritten old new was is =
-    (IfSome input (WritesNone kind (Appends old new)) × (was ≡ is))
-    ⊎ ((f : SearchFault) × IfSome input (BlamesFind kind f) × (f ≢ SearchCommand Output → unwritten) × (f ≡ SearchCommand Output → IfSome input (FindsAny kind (AppendsPart old new))) × AppendsPart was is (search_line f))
+    (IfSome input (WritesNone kind (Appends old new)) × (was ≡ is)) ⊎ Refuses (BlamesFind kind) (FindsAny kind) input unwritten old new was is
 Stops Why input unwritten old new was is =
     (IfSome input (Answers false (Appends old new)) × (was ≡ is))
     ⊎ ((f : Fault) × IfSome input (Halts f) × (f ≢ Output → unwritten) × (f ≡ Output → IfSome input (AnswersAny (AppendsPart old new))) × AppendsPart was is (fault_line f))
@@ -78,11 +72,11 @@ Stops Version input unwritten old new was is = AppendsPart was is (fault_line Ou
 abbrev pub Tells : Asked → Option (List ℕ) → Option (List ℕ) → Type 0
 Tells (Show showing) was is = (f : ShowFault) × AppendsPart was is (show_line f)
 Tells (Schedule player) was is = (f : Fault) × AppendsPart was is (fault_line f)
-Tells (ShortSchedule player) was is = (f : ShortFault) × AppendsPart was is (short_line f)
-Tells (Outcomes plays seed) was is = (f : SearchFault) × AppendsPart was is (search_line f)
-Tells AllOutcomes was is = (f : SearchFault) × AppendsPart was is (search_line f)
-Tells (Outcome number) was is = (f : OutcomeFault) × AppendsPart was is (outcome_line f)
-Tells (Find kind) was is = (was ≡ is) ⊎ ((f : SearchFault) × AppendsPart was is (search_line f))
+Tells (ShortSchedule player) was is = (f : ShowFault) × AppendsPart was is (show_line f)
+Tells (Outcomes plays seed) was is = (f : ShowFault) × AppendsPart was is (show_line f)
+Tells AllOutcomes was is = (f : ShowFault) × AppendsPart was is (show_line f)
+Tells (Outcome number) was is = (f : ShowFault) × AppendsPart was is (show_line f)
+Tells (Find kind) was is = (was ≡ is) ⊎ ((f : ShowFault) × AppendsPart was is (show_line f))
 Tells Why was is = (was ≡ is) ⊎ ((f : Fault) × AppendsPart was is (fault_line f))
 Tells Verify was is = (f : VerifyFault) × AppendsPart was is (verify_line f)
 Tells Help was is = AppendsPart was is (fault_line Output)

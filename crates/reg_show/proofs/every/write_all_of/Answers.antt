@@ -8,7 +8,7 @@ use Rattle.reg_commands.specs.declared.faults.Fault.TheVariants.{Output}
 use Rattle.reg_inputs.specs.Loads.{Load}
 use Rattle.reg_outcomes.specs.Interleavings.{ArePlayable}
 use Rattle.reg_outcomes.proofs.Leading.{few_operations}
-use Rattle.reg_show.specs.declared.faults.SearchFault.TheVariants.{Command}
+use Rattle.reg_show.specs.declared.faults.ShowFault.TheVariants.{Command}
 use Rattle.reg_outcomes.proofs.Playable.{playable}
 use Rattle.reg_show.proofs.Shown.{if_in_part, if_sent, shows}
 use Rattle.reg_show.proofs.every.write_all_of.Goals as goal

@@ -1,6 +1,6 @@
 use Rattle.std.proofs.Common.{Err, ap}
 use Rattle.reg_text.proofs.Sent.{all_or_part}
-use Rattle.reg_show.specs.Showings.{show_line}
+use Rattle.reg_show.specs.Faults.{show_line}
 use Rattle.reg_show.proofs.running.show_text.Goals as goal
 
 pub returns-in-Err-clause-refused : goal.returns-in-Err-clause-refused
