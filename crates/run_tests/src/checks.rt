@@ -1,28 +1,9 @@
 //! The commands as a user meets them, on reports and schedules worked by hand.
-use crate::sources::{Source, whole};
-use reg_commands::{Command, run_text};
+use crate::commands::{Given, gives, gives_from};
+use crate::report_texts::ONE_PROCESS_NOW;
+use crate::sources::whole;
+use reg_commands::Command;
 use std::alloc::Global;
-use std::process::Abort;
-
-/// One process writes 5 and reads it.
-pub(crate) const ONE_PROCESS: &str = "awreg report 2
-front linear
-processes 1
-registers 1
-x
-history 4
-       0  p0    #0       call    write x 5
-       0  p0    #0       answer  done
-       1  p0    #1       call    read x
-       1  p0    #1       answer  value 5
-order 2
-p0 #0
-p0 #1
-points 2
-p0 #0 at 0
-p0 #1 at 1
-end
-";
 
 /// A write is done before a read of another process is called, which still answers 0.
 const STALE_READ: &str = "awreg report 1
@@ -70,56 +51,6 @@ history 3
        2  p1    #0       answer  value 5
 ";
 
-/// Whether what a command did is this: its status, what it wrote and the faults that it told.
-pub(crate) fn is_answer(done: (u8, &[u8], &[u8]), status: u8, output: &str, faults: &str) -> bool {
-    let (got, written, told) = done;
-    got == status && written == output.as_bytes() && told == faults.as_bytes()
-}
-
-/// Whether a command has this status, output and faults.
-pub(crate) fn answers(
-    alloc: Global,
-    command: Command,
-    reader: &mut Source<'_>,
-    status: u8,
-    output: &str,
-    faults: &str,
-) -> bool {
-    let mut written = Vec::new(alloc);
-    let mut errors = Vec::new(alloc);
-    let got = run_text(alloc, alloc, command, reader, &mut written, &mut errors);
-    let done = (got, written.as_slice(), errors.as_slice());
-    is_answer(done, status, output, faults)
-}
-
-/// The same over the two parts of an input.
-pub(crate) fn answers_joined(
-    alloc: Global,
-    command: Command,
-    parts: (&str, &str),
-    status: u8,
-    output: &str,
-    faults: &str,
-) -> bool {
-    let (head, tail) = parts;
-    let mut reader = whole(head.as_bytes(), tail.as_bytes());
-    answers(alloc, command, &mut reader, status, output, faults)
-}
-
-/// Demands the status, the output and the faults of a command.
-pub(crate) fn demand(
-    rt: &impl Abort,
-    alloc: Global,
-    command: Command,
-    input: &[u8],
-    status: u8,
-    output: &str,
-    faults: &str,
-) {
-    let mut reader = whole(input, &[]);
-    assert!(rt; answers(alloc, command, &mut reader, status, output, faults));
-}
-
 /// The rest of a report, and what is said of it.
 type Judged = (&'static str, &'static str);
 
@@ -165,8 +96,12 @@ const JUDGED: [(&str, &[Judged]); 4] = [
 /// Whether this is said of a head with each of its rests.
 fn is_judged(alloc: Global, head: &str, rests: &[Judged]) -> bool {
     for (rest, lines) in rests {
-        let status = if *lines == "serial yes\n" { 0 } else { 1 };
-        if !answers_joined(alloc, Command::Check, (head, rest), status, lines, "") {
+        let given = if *lines == "serial yes\n" {
+            Given::Accepted(lines)
+        } else {
+            Given::Denied(lines)
+        };
+        if !gives(alloc, Command::Check, (head, rest), given) {
             return false;
         }
     }
@@ -205,44 +140,46 @@ p0 #1 at 1
 end
 ";
 
-/// What is cut off the report of one process, what is put behind it, the verdicts, and the fault.
-const CHANGED: [(&str, &str, &str, &str); 6] = [
-    ("", "", "serial yes\npoints yes\n", ""),
+/// What is cut off the report of one process, what is put behind it, and what its check gives then.
+const CHANGED: [(&str, &str, Given<'static>); 6] = [
+    ("", "", Given::Accepted("serial yes\npoints yes\n")),
     (
         FROM_THE_FIRST_ANSWER,
         "       0  p0    #0       answer done\n       1  p0    #1       call    read x\nend\n",
-        "",
-        "line 8: form\n",
+        Given::Refused("line 8: form\n"),
     ),
     (
         FROM_THE_FIRST_CALL,
         "       0  p0    #0       answer  done\n       0  p0    #0       call    write x 5\nend\n",
-        "",
-        "line 7: place\n",
+        Given::Refused("line 7: place\n"),
     ),
-    ("\n", "", "serial yes\npoints yes\n", ""),
-    ("end\n", "", "", "line 17: end\n"),
-    ("", "end\n", "", "line 18: end\n"),
+    ("\n", "", Given::Accepted("serial yes\npoints yes\n")),
+    ("end\n", "", Given::Refused("line 17: end\n")),
+    ("", "end\n", Given::Refused("line 18: end\n")),
 ];
 
 #[test]
 fn reports_are_read_as_they_were_written(rt: HostRuntime) {
-    let (alloc, check) = (rt.alloc(), Command::Check);
-    for (cut, behind, both, line) in &CHANGED {
-        let front = ONE_PROCESS.strip_suffix(*cut).unwrap_or("");
-        let status = u8::from(!line.is_empty());
-        assert!(rt; answers_joined(alloc, check, (front, behind), status, both, line));
+    for (cut, behind, given) in &CHANGED {
+        let front = ONE_PROCESS_NOW.strip_suffix(*cut).unwrap_or("");
+        assert!(rt; gives(rt.alloc(), Command::Check, (front, behind), *given));
     }
+}
+
+/// Whether a command refuses bytes that are no text.
+fn refuses_bytes(alloc: Global, command: Command) -> bool {
+    let mut reader = whole(b"\xff", &[]);
+    let given = Given::Refused("input: not text\n");
+    gives_from(alloc, command, &mut reader, given)
 }
 
 #[test]
 fn an_input_is_text(rt: HostRuntime) {
-    let alloc = rt.alloc();
     for command in [
         Command::Check,
         Command::Replay,
         Command::Play { fair: true },
     ] {
-        demand(&rt, alloc, command, b"\xff", 1, "", "input: not text\n");
+        assert!(rt; refuses_bytes(rt.alloc(), command));
     }
 }

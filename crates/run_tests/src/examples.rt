@@ -1,14 +1,13 @@
 //! Examples that stand in no other table, with what the tutorial says of them. The texts are those of the folder
 //! `examples`.
-use crate::checks::demand;
+use crate::commands::{Given, gives};
 use reg_commands::Command;
 
-/// An example, the command that reads it, its status and what it writes.
+/// An example, the command that reads it, and what it gives.
 struct Example {
     command: Command,
     text: &'static str,
-    status: u8,
-    output: &'static str,
+    given: Given<'static>,
 }
 
 const EXAMPLES: [Example; 4] = [
@@ -28,8 +27,8 @@ take 1 0 0
 # process 1 takes the acknowledgement of process 0, and delivers its own swap, which answers 1
 take 0 1 2
 ",
-        status: 0,
-        output: "awreg report 2
+        given: Given::Accepted(
+            "awreg report 2
 front linear
 processes 2
 registers 1
@@ -47,6 +46,7 @@ p0 #0 at 2
 p1 #0 at 3
 end
 ",
+        ),
     },
     // Points that fall, of a read that missed a write.
     Example {
@@ -68,10 +68,11 @@ p1 #0 at 3
 p0 #0 at 2
 end
 ",
-        status: 1,
-        output: "serial yes
+        given: Given::Denied(
+            "serial yes
 points no: falling at 1
 ",
+        ),
     },
     // A read that misses the write of its own process.
     Example {
@@ -90,9 +91,10 @@ p0 #1
 p0 #0
 end
 ",
-        status: 1,
-        output: "serial no: own order
+        given: Given::Denied(
+            "serial no: own order
 ",
+        ),
     },
     // A fair play of a workload.
     Example {
@@ -106,8 +108,8 @@ seed = 0
 loss = 20
 repeat = 20
 ",
-        status: 0,
-        output: "awreg report 2
+        given: Given::Accepted(
+            "awreg report 2
 front local-write
 processes 2
 registers 1
@@ -125,20 +127,14 @@ p0 #0
 p0 #1
 end
 ",
+        ),
     },
 ];
 
 #[test]
 fn each_example_is_answered_as_the_tutorial_says(rt: HostRuntime) {
     for example in &EXAMPLES {
-        demand(
-            &rt,
-            rt.alloc(),
-            example.command,
-            example.text.as_bytes(),
-            example.status,
-            example.output,
-            "",
-        );
+        let parts = (example.text, "");
+        assert!(rt; gives(rt.alloc(), example.command, parts, example.given));
     }
 }

@@ -7,6 +7,8 @@
 #[cfg(test)]
 mod checks;
 #[cfg(test)]
+mod commands;
+#[cfg(test)]
 mod examples;
 #[cfg(test)]
 mod fault_lines;
@@ -15,11 +17,15 @@ mod growths;
 #[cfg(test)]
 mod growths_of_texts;
 #[cfg(test)]
+mod histories;
+#[cfg(test)]
 mod interleavings;
 #[cfg(test)]
 mod large_shapes;
 #[cfg(test)]
 mod limits;
+#[cfg(test)]
+mod macros;
 pub mod mixed;
 #[cfg(test)]
 mod mixed_runs;
@@ -41,6 +47,8 @@ mod replay_reports;
 mod replay_rows;
 #[cfg(test)]
 mod replays;
+#[cfg(test)]
+mod report_texts;
 #[cfg(test)]
 mod resting;
 #[cfg(test)]

@@ -1,4 +1,5 @@
 //! The limits of a run.
+use crate::macros::{call, tick};
 use crate::values::WRITE_FIVE;
 use reg_base::Shape;
 use reg_front::Linear;
@@ -6,19 +7,8 @@ use reg_world::{Event, World, WorldFault};
 
 /// An event, how often a world of one process accepts it, and why not once more.
 const LIMITS: [(Event, u32, WorldFault); 2] = [
-    (
-        Event::Call {
-            process: 0,
-            op: WRITE_FIVE,
-        },
-        65_535,
-        WorldFault::TooManyOperations,
-    ),
-    (
-        Event::Tick { process: 0 },
-        1_048_576,
-        WorldFault::TooManyEvents,
-    ),
+    (call!(0, WRITE_FIVE), 65_535, WorldFault::TooManyOperations),
+    (tick!(0), 1_048_576, WorldFault::TooManyEvents),
 ];
 
 /// Whether a world accepts the event so many times, and then refuses it so.

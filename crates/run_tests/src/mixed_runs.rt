@@ -1,34 +1,16 @@
 //! A run of the front end of a user's own.
+use crate::macros::{answered, call, called, id, take};
 use crate::mixed::Mixed;
 use crate::values::{READ, WRITE_FIVE};
-use crate::world_rows::{answered, called, id};
 use crate::worlds::has_witness;
 use reg_base::{Answer, OpId, Shape};
 use reg_history::Entry;
 use reg_process::Reply;
 use reg_world::{Event, World};
 
-const EVENTS: [Event; 3] = [
-    Event::Call {
-        process: 0,
-        op: WRITE_FIVE,
-    },
-    Event::Call {
-        process: 0,
-        op: READ,
-    },
-    Event::Take {
-        from: 0,
-        to: 1,
-        number: 0,
-    },
-];
+const EVENTS: [Event; 3] = [call!(0, WRITE_FIVE), call!(0, READ), take!(0, 1, 0)];
 
-const LAST: Event = Event::Take {
-    from: 1,
-    to: 0,
-    number: 1,
-};
+const LAST: Event = take!(1, 0, 1);
 
 /// The history behind the last event.
 const HISTORY: [Entry; 4] = [

@@ -1,35 +1,8 @@
 //! What no outcome tells though each of its values stands in some outcome, and the text of all outcomes: by hand.
-use crate::interleavings::scripts_of;
+use crate::interleavings::{READ_X, READ_Y, WRITE_X, WRITE_Y, outcomes_of};
 use reg_base::Op;
-use reg_outcomes::{AllOutcomes, MOST_STAGES, all_outcomes, are_playable, nevers_of, write_all};
+use reg_outcomes::{AllOutcomes, nevers_of, write_all};
 use std::alloc::Global;
-
-const X: u16 = 0;
-
-const Y: u16 = 1;
-
-const WRITE_X: Op = Op::Write {
-    register: X,
-    value: 1,
-};
-
-const WRITE_Y: Op = Op::Write {
-    register: Y,
-    value: 1,
-};
-
-const READ_X: Op = Op::Read { register: X };
-
-const READ_Y: Op = Op::Read { register: Y };
-
-/// All outcomes of two scripts on two registers. None where there is no memory for them.
-fn outcomes(alloc: Global, first: &[Op], second: &[Op]) -> Option<AllOutcomes> {
-    let scripts = scripts_of(alloc, &[first, second]).ok()?;
-    if !are_playable(scripts.as_slice(), 2) {
-        return None;
-    }
-    all_outcomes(alloc, scripts.as_slice(), 2, MOST_STAGES).ok()
-}
 
 /// Writes the text of all outcomes of scripts with so many operations. Whether it is written.
 fn writes(bytes: &mut Vec<u8>, alloc: Global, all: &AllOutcomes, operations: u64) -> bool {
@@ -42,9 +15,9 @@ fn writes(bytes: &mut Vec<u8>, alloc: Global, all: &AllOutcomes, operations: u64
 /// The text of all outcomes of two scripts with so many operations. Empty where there is no memory for it.
 fn text_of(alloc: Global, first: &[Op], second: &[Op], operations: u64) -> String {
     let mut bytes = Vec::new(alloc);
-    let written = match outcomes(alloc, first, second) {
-        Some(all) => writes(&mut bytes, alloc, &all, operations),
-        None => false,
+    let written = match outcomes_of(alloc, &[first, second]) {
+        Ok(all) => writes(&mut bytes, alloc, &all, operations),
+        Err(_) => false,
     };
     match String::from_utf8(bytes) {
         Ok(text) if written => text,
@@ -96,11 +69,11 @@ fn are_so_many(alloc: Global, all: &AllOutcomes, count: Option<usize>) -> bool {
 
 /// Whether no outcome has so many combinations where a register is written once and read so: its values rise.
 fn has_count(alloc: Global, reads: &[Op], count: Option<usize>) -> bool {
-    match outcomes(alloc, &[WRITE_X], reads) {
-        Some(all) => {
+    match outcomes_of(alloc, &[&[WRITE_X], reads]) {
+        Ok(all) => {
             all.list.len() == reads.len().saturating_add(1) && are_so_many(alloc, &all, count)
         }
-        None => false,
+        Err(_) => false,
     }
 }
 

@@ -1,22 +1,13 @@
 //! Serial orders and point orders of small histories, found: those worked out by hand, the limit, and want of memory.
+use crate::histories::{STALE_READ, history_of};
+use crate::macros::{answered, called, id, point, write_of};
 use crate::values::{READ, WRITE_FIVE};
-use crate::world_rows::{answered, called, id, point, write_of};
 use refusing::{Trial, refusals};
-use reg_base::{Answer, Op, OpId, Shape};
+use reg_base::{Answer, Op, OpId};
 use reg_history::{Entry, History, Point, check_points, check_serial};
 use reg_outcomes::{InterleavingFault, find_points, find_serial};
 use std::alloc::{Allocator, Global};
 use std::test::Fail;
-
-/// A history of four processes on one register. None where memory is refused.
-fn history_of<A: Allocator + Copy>(alloc: A, entries: &[Entry]) -> Option<History<A>> {
-    let shape = Shape::new(4, 1).ok()?;
-    let mut history = History::new(alloc, shape).ok()?;
-    for entry in entries {
-        history.push(*entry).ok()?;
-    }
-    Some(history)
-}
 
 /// Whether this is the serial order that is found, which the checker takes, or there is none.
 fn has_order(alloc: Global, history: &History, order: Option<&[OpId]>) -> bool {
@@ -47,30 +38,22 @@ fn finds(
     order: Option<&[OpId]>,
     points: Option<&[Point]>,
 ) -> bool {
-    match history_of(alloc, entries) {
+    match history_of(alloc, 4, entries) {
         Some(history) => has_order(alloc, &history, order) && has_points(alloc, &history, points),
         None => false,
     }
 }
 
-/// A write that is answered before a read of another process is called, which still answers 0.
-const STALE_READ: [Entry; 4] = [
-    called!(0, 0, 0, WRITE_FIVE),
-    answered!(4, 0, 0, Answer::Done),
-    called!(5, 1, 0, READ),
-    answered!(5, 1, 0, Answer::Value(0)),
-];
-
 #[test]
 fn a_stale_read_comes_first(rt: HostRuntime) {
-    let history = history_of(rt.alloc(), &STALE_READ).expect(&rt, "in place");
+    let history = history_of(rt.alloc(), 4, &STALE_READ).expect(&rt, "in place");
     assert!(rt; has_order(rt.alloc(), &history, Some(&[id!(1, 0), id!(0, 0)])));
 }
 
 /// The write stands before the read in each point order, and the read's answer says that it doesn't.
 #[test]
 fn a_stale_read_has_no_points(rt: HostRuntime) {
-    let history = history_of(rt.alloc(), &STALE_READ).expect(&rt, "in place");
+    let history = history_of(rt.alloc(), 4, &STALE_READ).expect(&rt, "in place");
     assert!(rt; has_points(rt.alloc(), &history, None));
 }
 
@@ -150,7 +133,7 @@ fn is_limited(alloc: Global, history: &History) -> bool {
 
 #[test]
 fn limit(rt: HostRuntime) {
-    let history = history_of(rt.alloc(), &TWO_WRITES).expect(&rt, "in place");
+    let history = history_of(rt.alloc(), 4, &TWO_WRITES).expect(&rt, "in place");
     assert!(rt; is_limited(rt.alloc(), &history));
 }
 
@@ -173,7 +156,7 @@ fn found_told<A: Allocator + Copy>(
 
 impl Trial for Starved {
     fn answer<A: Allocator + Copy>(&self, alloc: A, ample: Global) -> Result<Option<String>, Fail> {
-        match history_of(alloc, &STALE_READ) {
+        match history_of(alloc, 4, &STALE_READ) {
             Some(history) => found_told(alloc, ample, &history),
             None => Ok(None),
         }

@@ -1,6 +1,7 @@
 //! Runs in which an operation stands before one that was answered before its call: the schedules of `examples`, and
 //! what the checker says of the order that the clock would give.
-use crate::checks::answers_joined;
+use crate::commands::{Given, gives};
+use crate::replay_reports::has_report;
 use crate::replay_rows::Row;
 use reg_commands::Command;
 use std::alloc::Global;
@@ -268,20 +269,13 @@ end
     },
 ];
 
-/// Whether a run has its report, and this is said of its order and of the order of the calls.
+/// Whether a run has its report, whose order is serial, and this is said of the order of the calls.
 fn is_overtaken(alloc: Global, row: &Overtaking) -> bool {
     let report = row.run.report;
     let head = report.strip_suffix(row.order).unwrap_or("");
-    let (order, in_time) = ((head, row.order), (head, row.in_time));
-    answers_joined(
-        alloc,
-        Command::Replay,
-        (row.run.schedule, ""),
-        0,
-        report,
-        "",
-    ) && answers_joined(alloc, Command::Check, order, 0, "serial yes\n", "")
-        && answers_joined(alloc, Command::Check, in_time, 1, row.refusal, "")
+    let in_time = (head, row.in_time);
+    has_report(alloc, Command::Replay, (row.run.schedule, ""), report)
+        && gives(alloc, Command::Check, in_time, Given::Denied(row.refusal))
 }
 
 #[test]

@@ -1,7 +1,7 @@
 //! Plays of workloads, with reports worked out apart from this code, and documents that are refused.
-use crate::checks::answers_joined;
+use crate::commands::{Given, gives};
 use crate::plays::SMALL;
-use crate::replay_reports::verdict_on;
+use crate::replay_reports::has_report;
 use crate::streams::{demand_each_growth, demand_failing_streams};
 use reg_commands::Command;
 use std::alloc::{AllocError, Global};
@@ -289,17 +289,11 @@ fn joined(alloc: Global, head: &str, tail: &str) -> Result<String, AllocError> {
     format!(in alloc; "{head}{tail}")
 }
 
-/// Whether a play of the two parts of a document has this report, and the report is judged well.
-fn has_report(alloc: Global, fair: bool, document: (&str, &str), report: &str) -> bool {
-    let verdict = verdict_on(report);
-    answers_joined(alloc, Command::Play { fair }, document, 0, report, "")
-        && answers_joined(alloc, Command::Check, (report, ""), 0, verdict, "")
-}
-
-/// The same of the small workload, with lines more and the rest of its report.
+/// Whether a play of the small workload, with lines more, has this rest of its report, which is judged well.
 fn has_small_report(alloc: Global, fair: bool, lines: &str, tail: &str) -> bool {
+    let play = Command::Play { fair };
     match joined(alloc, SMALL_HEAD, tail) {
-        Ok(report) => has_report(alloc, fair, (SMALL, lines), report.as_str()),
+        Ok(report) => has_report(alloc, play, (SMALL, lines), report.as_str()),
         Err(_) => false,
     }
 }
@@ -328,29 +322,30 @@ fn each_seeded_play_has_its_report(rt: HostRuntime) {
 
 #[test]
 fn each_front_end_has_its_report(rt: HostRuntime) {
+    let seeded = Command::Play { fair: false };
     for (front, report) in &BY_FRONT {
-        assert!(rt; has_report(rt.alloc(), false, (front, THREE), report));
+        assert!(rt; has_report(rt.alloc(), seeded, (front, THREE), report));
     }
 }
 
-const FRONT: &str = "front = \"linear\"\n";
+const FRONT_ALONE: &str = "front = \"linear\"\n";
 
-const SHORT: &str = "front = \"linear\"\nregisters = [\"x\"]\n";
+const WITHOUT_SCRIPTS: &str = "front = \"linear\"\nregisters = [\"x\"]\n";
 
 /// The two parts of a document, and the line that it is refused with.
 const REFUSED: [(&str, &str, &str); 11] = [
     ("", "", "missing front\n"),
-    (FRONT, "", "missing registers\n"),
-    (FRONT, "registers = [\"x", "toml\n"),
+    (FRONT_ALONE, "", "missing registers\n"),
+    (FRONT_ALONE, "registers = [\"x", "toml\n"),
     (SMALL, "speed = 1\n", "unknown key\n"),
     ("front = 3\n", THREE, "kind front\n"),
     ("front = \"other\"\n", THREE, "range front\n"),
-    (SHORT, "scripts = []\n", "range scripts\n"),
+    (WITHOUT_SCRIPTS, "scripts = []\n", "range scripts\n"),
     (SMALL, "seed = -1\n", "range seed\n"),
     (SMALL, "loss = 101\n", "range loss\n"),
     (SMALL, "budget = 0\n", "range budget\n"),
     (
-        SHORT,
+        WITHOUT_SCRIPTS,
         "scripts = [[\"read x\", \"write y 5\"]]\n",
         "script 0 1\n",
     ),
@@ -358,8 +353,9 @@ const REFUSED: [(&str, &str, &str); 11] = [
 
 /// Whether the fair play and the seeded one of the two parts of a document are refused with this line.
 fn is_refused(alloc: Global, document: (&str, &str), line: &str) -> bool {
-    answers_joined(alloc, Command::Play { fair: true }, document, 1, "", line)
-        && answers_joined(alloc, Command::Play { fair: false }, document, 1, "", line)
+    let given = Given::Refused(line);
+    gives(alloc, Command::Play { fair: true }, document, given)
+        && gives(alloc, Command::Play { fair: false }, document, given)
 }
 
 #[test]

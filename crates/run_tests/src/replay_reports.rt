@@ -1,13 +1,14 @@
 //! Each schedule that was worked by hand has its report, and each report is judged too.
-use crate::checks::{ONE_PROCESS, answers_joined};
+use crate::commands::{Given, gives};
 use crate::replay_rows::ROWS;
 use crate::replays::ONE_PROCESS_SCHEDULE;
+use crate::report_texts::ONE_PROCESS_NOW;
 use crate::streams::demand_each_growth;
 use reg_commands::Command;
 use std::alloc::Global;
 
 /// The verdict on a report, by the front end that it names.
-pub(crate) fn verdict_on(report: &str) -> &'static str {
+fn verdict_on(report: &str) -> &'static str {
     if report.starts_with("awreg report 2\nfront linear\n") {
         "serial yes\npoints yes\n"
     } else {
@@ -15,19 +16,25 @@ pub(crate) fn verdict_on(report: &str) -> &'static str {
     }
 }
 
-/// Whether a schedule has its report, and that is judged well.
-fn has_report(alloc: Global, schedule: &str, report: &str) -> bool {
-    let verdict = verdict_on(report);
-    answers_joined(alloc, Command::Replay, (schedule, ""), 0, report, "")
-        && answers_joined(alloc, Command::Check, (report, ""), 0, verdict, "")
+/// Whether a command gives this report of the two parts of a text, and it is judged well.
+pub(crate) fn has_report(
+    alloc: Global,
+    command: Command,
+    parts: (&str, &str),
+    report: &str,
+) -> bool {
+    let verdict = Given::Accepted(verdict_on(report));
+    gives(alloc, command, parts, Given::Accepted(report))
+        && gives(alloc, Command::Check, (report, ""), verdict)
 }
 
 #[test]
 fn each_run_has_its_report(rt: HostRuntime) {
-    assert!(rt; has_report(rt.alloc(), ONE_PROCESS_SCHEDULE, ONE_PROCESS));
+    let (alloc, replay) = (rt.alloc(), Command::Replay);
+    assert!(rt; has_report(alloc, replay, (ONE_PROCESS_SCHEDULE, ""), ONE_PROCESS_NOW));
     for row in ROWS.as_slice() {
         assert!(rt;
-            has_report(rt.alloc(), row.schedule, row.report),
+            has_report(alloc, replay, (row.schedule, ""), row.report),
             "{}",
             row.schedule
         );

@@ -1,5 +1,6 @@
 //! Schedules that are refused, and the limits and streams of a replay.
-use crate::checks::{ONE_PROCESS, answers_joined};
+use crate::commands::{Given, gives};
+use crate::report_texts::ONE_PROCESS_NOW;
 use crate::streams::{demand_each_growth, demand_failing_streams};
 use reg_commands::Command;
 use std::alloc::{AllocError, Global};
@@ -12,28 +13,30 @@ call 0 write x 5
 call 0 read x
 ";
 
-const ONE: &str = "processes 1\nregisters x\nfront linear\n";
+/// One process that calls nothing.
+const IDLE: &str = "processes 1\nregisters x\nfront linear\n";
 
-const TWO: &str = "processes 2\nregisters x\nfront linear\ncall 0 write x 5\n";
+/// Two processes, of which the first waits for the answer of its write.
+const BUSY: &str = "processes 2\nregisters x\nfront linear\ncall 0 write x 5\n";
 
 /// The two parts of a schedule, and the line that it is refused with.
 const REFUSED: [(&str, &str, &str); 9] = [
-    (ONE, "call 1 read x\n", "event 0: no process\n"),
-    (ONE, "take 0 0 0\n", "event 0: no frame\n"),
-    (ONE, "take 0 1 0\n", "event 0: no process\n"),
-    (TWO, "call 0 read x\n", "event 1: busy\n"),
-    (TWO, "take 0 0 0\n", "event 1: no frame\n"),
-    (TWO, "take 0 1 1\n", "event 1: no frame\n"),
-    (TWO, "tick 2\n", "event 1: no process\n"),
+    (IDLE, "call 1 read x\n", "event 0: no process\n"),
+    (IDLE, "take 0 0 0\n", "event 0: no frame\n"),
+    (IDLE, "take 0 1 0\n", "event 0: no process\n"),
+    (BUSY, "call 0 read x\n", "event 1: busy\n"),
+    (BUSY, "take 0 0 0\n", "event 1: no frame\n"),
+    (BUSY, "take 0 1 1\n", "event 1: no frame\n"),
+    (BUSY, "tick 2\n", "event 1: no process\n"),
     ("", "", "line 1: end\n"),
     ("processes 65\n", "", "line 1: range\n"),
 ];
 
 #[test]
 fn events_are_refused(rt: HostRuntime) {
-    let (alloc, replay) = (rt.alloc(), Command::Replay);
     for (head, event, line) in &REFUSED {
-        assert!(rt; answers_joined(alloc, replay, (head, event), 1, "", line));
+        let given = Given::Refused(line);
+        assert!(rt; gives(rt.alloc(), Command::Replay, (head, event), given));
     }
 }
 
@@ -47,10 +50,10 @@ fn add_too_many_reads(text: &mut String) -> Result<(), AllocError> {
 
 /// Whether a schedule of one process with so many reads is refused at the last one.
 fn is_last_refused(alloc: Global) -> bool {
-    let line = "event 65535: too many operations\n";
+    let given = Given::Refused("event 65535: too many operations\n");
     let mut reads = String::new(alloc);
     add_too_many_reads(&mut reads).is_ok()
-        && answers_joined(alloc, Command::Replay, (ONE, reads.as_str()), 1, "", line)
+        && gives(alloc, Command::Replay, (IDLE, reads.as_str()), given)
 }
 
 #[test]
@@ -60,7 +63,7 @@ fn a_process_calls_as_many_operations_as_it_may(rt: HostRuntime) {
 
 #[test]
 fn a_replay_with_failing_streams(rt: HostRuntime) {
-    let (schedule, report) = (ONE_PROCESS_SCHEDULE, ONE_PROCESS);
+    let (schedule, report) = (ONE_PROCESS_SCHEDULE, ONE_PROCESS_NOW);
     demand_failing_streams(&rt, rt.alloc(), Command::Replay, schedule, report);
     demand_each_growth(&rt, rt.alloc(), Command::Replay, schedule, report);
 }

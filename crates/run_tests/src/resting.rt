@@ -1,4 +1,5 @@
 //! Worlds brought to rest: a lost write, as worked by hand, and each growth refused.
+use crate::macros::{call, take, tick};
 use crate::values::WRITE_FIVE;
 use refusing::{Trial, refusals};
 use reg_base::Shape;
@@ -8,26 +9,7 @@ use reg_world::{Event, RunFault, World, WorldFault};
 use std::alloc::{Allocator, Global};
 use std::test::Fail;
 
-macro_rules! take {
-    ($from:expr, $to:expr, $number:expr) => {
-        Event::Take {
-            from: $from,
-            to: $to,
-            number: $number,
-        }
-    };
-}
-
-macro_rules! tick {
-    ($process:expr) => {
-        Event::Tick { process: $process }
-    };
-}
-
-const WRITE: Event = Event::Call {
-    process: 0,
-    op: WRITE_FIVE,
-};
+const WRITE: Event = call!(0, WRITE_FIVE);
 
 /// The events that bring two processes to rest where the first one's cast was lost, as worked by hand: the cast is put
 /// again, accepted and counted, and then its acknowledgement.

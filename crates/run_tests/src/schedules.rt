@@ -1,4 +1,6 @@
 //! Schedules as they are read, and the lines that they are refused at.
+use crate::macros::{call, take, tick};
+use crate::values::READ;
 use reg_base::Op;
 use reg_front::Front;
 use reg_workload::{Schedule, ScheduleFault, Why, parse_schedule};
@@ -15,23 +17,16 @@ const SCHEDULE: &str =
 
 /// Its events.
 const EVENTS: [Event; 4] = [
-    Event::Call {
-        process: 0,
-        op: Op::Write {
+    call!(
+        0,
+        Op::Write {
             register: 1,
             value: 5,
-        },
-    },
-    Event::Call {
-        process: 1,
-        op: Op::Read { register: 0 },
-    },
-    Event::Take {
-        from: 0,
-        to: 1,
-        number: 4_294_967_295,
-    },
-    Event::Tick { process: 255 },
+        }
+    ),
+    call!(1, READ),
+    take!(0, 1, 4_294_967_295),
+    tick!(255),
 ];
 
 /// Whether a schedule is the one above.

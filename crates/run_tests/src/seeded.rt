@@ -70,16 +70,16 @@ fn add_lost<F: FrontEnd>(
     process: u8,
     times: &[u64],
 ) -> Result<(), AllocError> {
-    let mut i = 0usize;
+    let mut casts = 0usize;
     for entry in world.history().entries() {
         if let Entry::Called { at: _, id, op } = *entry
             && id.process == process
             && op.updates()
         {
             if is_lost(world, id) {
-                lost.push((times.get(i).copied().unwrap_or(0), process, id.number))?;
+                lost.push((times.get(casts).copied().unwrap_or(0), process, id.number))?;
             }
-            i = i.wrapping_add(1);
+            casts = casts.wrapping_add(1);
         }
     }
     Ok(())
@@ -227,7 +227,7 @@ fn event_of<F: FrontEnd>(world: &World<F>, word: u64) -> Event {
 /// Has the world make pseudo-random events, of which the refused ones change nothing.
 fn play_on<F: FrontEnd>(world: &mut World<F>, seed: u64) {
     let mut state = seed;
-    for _i in 0..200 {
+    for _event in 0..200 {
         state = state
             .wrapping_mul(6_364_136_223_846_793_005)
             .wrapping_add(1_442_695_040_888_963_407);

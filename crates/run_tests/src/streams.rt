@@ -1,5 +1,6 @@
 //! Streams that fail, that never end, and memory that is refused in the midst of a command.
-use crate::checks::{ONE_PROCESS, answers, is_answer};
+use crate::commands::{Given, gives_from, is_given};
+use crate::report_texts::ONE_PROCESS_NOW;
 use crate::sources::{Endless, Source, whole};
 use refusing::Refusing;
 use reg_commands::{Command, run_text};
@@ -70,7 +71,7 @@ fn reads_of(alloc: Global, command: Command, input: &str, output: &str) -> Optio
         most: A_READ,
         ..whole(input.as_bytes(), &[])
     };
-    if answers(alloc, command, &mut reader, 0, output, "") {
+    if gives_from(alloc, command, &mut reader, Given::Accepted(output)) {
         within(u32::MAX.saturating_sub(reader.before))
     } else {
         None
@@ -87,10 +88,10 @@ fn is_read_told(
 ) -> bool {
     let (input, output) = streams;
     let (kind, times, line) = *fault;
-    let (status, written, left) = if line.is_empty() {
-        (0, output, 0)
+    let (given, left) = if line.is_empty() {
+        (Given::Accepted(output), 0)
     } else {
-        (1, "", times.saturating_sub(1))
+        (Given::Refused(line), times.saturating_sub(1))
     };
     let mut reader = Source {
         most: A_READ,
@@ -99,7 +100,7 @@ fn is_read_told(
         kind,
         ..whole(input.as_bytes(), &[])
     };
-    answers(alloc, command, &mut reader, status, written, line) && reader.times == left
+    gives_from(alloc, command, &mut reader, given) && reader.times == left
 }
 
 /// Whether a command does so where every read up to the last fails in turn.
@@ -117,19 +118,19 @@ fn is_each_read_told(alloc: Global, command: Command, input: &str, output: &str)
     true
 }
 
-/// Whether a command has this status and tells these faults, and has given the writer nothing but its output.
+/// Whether a command tells the line of this fault, or ends well where there is none, and has given the writer nothing
+/// but its output.
 fn writes_so(
     alloc: Global,
     command: Command,
     input: &str,
     writer: &mut FailingWriter<'_>,
-    status: u8,
-    faults: &str,
+    line: &str,
 ) -> bool {
     let mut reader = input.as_bytes();
     let mut errors = Vec::new(alloc);
-    let got = run_text(alloc, alloc, command, &mut reader, writer, &mut errors);
-    got == status && errors.as_slice() == faults.as_bytes() && !writer.differs
+    let status = run_text(alloc, alloc, command, &mut reader, writer, &mut errors);
+    status == u8::from(!line.is_empty()) && errors.as_slice() == line.as_bytes() && !writer.differs
 }
 
 /// How many writes a command makes where none fails. None where it answers otherwise than so.
@@ -141,7 +142,7 @@ fn writes_of(alloc: Global, command: Command, input: &str, output: &str) -> Opti
         times: 0,
         flushes: true,
     };
-    if writes_so(alloc, command, input, &mut writer, 0, "") && writer.rest.is_empty() {
+    if writes_so(alloc, command, input, &mut writer, "") && writer.rest.is_empty() {
         within(u32::MAX.saturating_sub(writer.before))
     } else {
         None
@@ -165,7 +166,7 @@ fn is_write_told(
         times,
         flushes: times > 0,
     };
-    writes_so(alloc, command, input, &mut writer, 1, "output: write\n")
+    writes_so(alloc, command, input, &mut writer, "output: write\n")
 }
 
 /// Whether a command does so where every write fails in turn, and then the flush.
@@ -213,13 +214,13 @@ enum Ending {
 
 /// How a command ended that did this, with this output where memory is ample.
 fn ending_of(waits: bool, done: (u8, &[u8], &[u8]), output: &str) -> Ending {
-    if is_answer(done, 0, output, "") {
+    if is_given(done, Given::Accepted(output)) {
         if waits {
             Ending::Unrefused
         } else {
             Ending::Whole
         }
-    } else if !waits && is_answer(done, 1, "", "out of memory\n") {
+    } else if !waits && is_given(done, Given::Refused("out of memory\n")) {
         Ending::Wants
     } else {
         Ending::Other
@@ -280,8 +281,8 @@ pub(crate) fn demand_each_growth(
 #[test]
 fn a_check_with_failing_streams(rt: HostRuntime) {
     let both = "serial yes\npoints yes\n";
-    demand_failing_streams(&rt, rt.alloc(), Command::Check, ONE_PROCESS, both);
-    demand_each_growth(&rt, rt.alloc(), Command::Check, ONE_PROCESS, both);
+    demand_failing_streams(&rt, rt.alloc(), Command::Check, ONE_PROCESS_NOW, both);
+    demand_each_growth(&rt, rt.alloc(), Command::Check, ONE_PROCESS_NOW, both);
 }
 
 #[test]
@@ -297,5 +298,5 @@ fn an_input_without_end(rt: HostRuntime) {
         &mut errors,
     );
     let done = (status, output.as_slice(), errors.as_slice());
-    assert!(rt; is_answer(done, 1, "", "input: too long\n"));
+    assert!(rt; is_given(done, Given::Refused("input: too long\n")));
 }

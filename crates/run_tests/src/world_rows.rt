@@ -1,66 +1,10 @@
 //! Runs as worked by hand, and what a world tells after each.
+use crate::macros::{ack, answered, call, called, cast, id, point, take, tick, write_of};
 use crate::values::{READ, WRITE_FIVE};
 use reg_base::{Answer, Op, OpId, Stamp};
 use reg_frames::{Body, Frame};
 use reg_history::{Entry, Point};
 use reg_world::{CopyRead, Event, First};
-
-macro_rules! write_of {
-    ($value:expr) => {
-        Op::Write {
-            register: 0,
-            value: $value,
-        }
-    };
-}
-
-macro_rules! call {
-    ($process:expr, $op:expr) => {
-        Event::Call {
-            process: $process,
-            op: $op,
-        }
-    };
-}
-
-macro_rules! take {
-    ($from:expr, $to:expr, $number:expr) => {
-        Event::Take {
-            from: $from,
-            to: $to,
-            number: $number,
-        }
-    };
-}
-
-macro_rules! id {
-    ($process:expr, $number:expr) => {
-        OpId {
-            process: $process,
-            number: $number,
-        }
-    };
-}
-
-macro_rules! called {
-    ($at:expr, $process:expr, $number:expr, $op:expr) => {
-        Entry::Called {
-            at: $at,
-            id: id!($process, $number),
-            op: $op,
-        }
-    };
-}
-
-macro_rules! answered {
-    ($at:expr, $process:expr, $number:expr, $answer:expr) => {
-        Entry::Answered {
-            at: $at,
-            id: id!($process, $number),
-            answer: $answer,
-        }
-    };
-}
 
 /// A first operation that was cast at time 1, and the event at which it was delivered first.
 macro_rules! first {
@@ -77,50 +21,11 @@ macro_rules! first {
     };
 }
 
-macro_rules! cast {
-    ($number:expr, $time:expr, $op:expr) => {
-        Frame::Numbered {
-            number: $number,
-            body: Body::Cast {
-                time: $time,
-                op: $op,
-            },
-        }
-    };
-}
-
-macro_rules! ack {
-    ($number:expr, $time:expr) => {
-        Frame::Numbered {
-            number: $number,
-            body: Body::Ack { time: $time },
-        }
-    };
-}
-
 macro_rules! got {
     ($count:expr) => {
         Frame::Got { count: $count }
     };
 }
-
-macro_rules! point {
-    ($process:expr, $at:expr) => {
-        Point {
-            id: id!($process, 0),
-            at: $at,
-        }
-    };
-}
-
-pub(crate) use answered;
-pub(crate) use called;
-pub(crate) use cast;
-pub(crate) use id;
-pub(crate) use point;
-pub(crate) use write_of;
-
-const TICK: Event = Event::Tick { process: 0 };
 
 /// A run over one register, and what its world then tells.
 pub(crate) struct Row {
@@ -143,7 +48,12 @@ pub(crate) const LINEAR: [Row; 2] = [
     // A tick puts the frames again.
     Row {
         processes: 2,
-        events: &[call!(0, WRITE_FIVE), TICK, take!(0, 1, 1), take!(1, 0, 1)],
+        events: &[
+            call!(0, WRITE_FIVE),
+            tick!(0),
+            take!(0, 1, 1),
+            take!(1, 0, 1),
+        ],
         history: &[
             called!(0, 0, 0, WRITE_FIVE),
             answered!(3, 0, 0, Answer::Done),

@@ -1,4 +1,5 @@
 //! Runs as worked by hand: what a world tells after its events.
+use crate::macros::{call, tick};
 use crate::values::WRITE_FIVE;
 use crate::world_rows::{LINEAR, LOCAL_READ, LOCAL_WRITE, Row};
 use reg_base::{OpId, Shape};
@@ -129,12 +130,9 @@ fn local_runs(rt: HostRuntime) {
     }
 }
 
-const CALL: Event = Event::Call {
-    process: 0,
-    op: WRITE_FIVE,
-};
+const CALL: Event = call!(0, WRITE_FIVE);
 
-const TICK: Event = Event::Tick { process: 1 };
+const TICK: Event = tick!(1);
 
 /// Whether the world accepted the call, and goes on with a tick.
 fn goes_on(world: &mut World<Linear>) -> bool {

@@ -1,15 +1,14 @@
 //! All outcomes of a workload, by the command that prints them: a text worked out by hand, and a refusal.
+use crate::given::{Given, is_given};
 use reg_show::show_all_outcomes;
 use std::alloc::Global;
 
-/// Whether this is what was written for a text, and what of faults, and the status.
-fn tells(alloc: Global, text: &str, (status, shown, told): (u8, &str, &str)) -> bool {
-    let mut output = Vec::new(alloc);
-    let mut errors = Vec::new(alloc);
+/// Whether this is given for a text.
+fn tells(alloc: Global, text: &str, given: Given<'_>) -> bool {
+    let (mut output, mut errors) = (Vec::new(alloc), Vec::new(alloc));
     let mut input = text.as_bytes();
-    show_all_outcomes(alloc, alloc, &mut input, &mut output, &mut errors) == status
-        && output.as_slice() == shown.as_bytes()
-        && errors.as_slice() == told.as_bytes()
+    let status = show_all_outcomes(alloc, alloc, &mut input, &mut output, &mut errors);
+    is_given((status, output.as_slice(), errors.as_slice()), given)
 }
 
 // One of the two has the lock, and which one has it is the one whose turn is first.

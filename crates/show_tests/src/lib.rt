@@ -7,6 +7,8 @@
 #[cfg(test)]
 mod all_shown;
 #[cfg(test)]
+mod given;
+#[cfg(test)]
 mod lines;
 #[cfg(test)]
 mod litmus;

@@ -11,15 +11,17 @@ struct Litmus {
     allowed: &'static [&'static str],
 }
 
+const STORE_BUFFERING: &str = "registers = [\"x\", \"y\"]
+scripts = [[\"write x 1\", \"read y\"], [\"write y 1\", \"read x\"]]
+";
+
 const FRONTS: [&str; 3] = ["linear", "local-read", "local-write"];
 
 /// Store buffering, message passing, coherence of reads, two and two writes, a lock, and independent reads of
 /// independent writes. Sequential consistency allows just these outcomes.
 const TESTS: [Litmus; 6] = [
     Litmus {
-        work: "registers = [\"x\", \"y\"]
-scripts = [[\"write x 1\", \"read y\"], [\"write y 1\", \"read x\"]]
-",
+        work: STORE_BUFFERING,
         plays: 40,
         allowed: &["01", "10", "11"],
     },
@@ -190,10 +192,10 @@ fn without_budget_no_play_is_finished(rt: HostRuntime) {
 
 #[test]
 fn a_hundred_plays_are_counted(rt: HostRuntime) {
-    let work = "registers = [\"x\", \"y\"]
-scripts = [[\"write x 1\", \"read y\"], [\"write y 1\", \"read x\"]]
-";
     for (front, counted) in FRONTS.iter().zip(COUNTED.iter()) {
-        assert!(rt; has_table(rt.alloc(), 100, front, work, counted), "{front}");
+        assert!(rt;
+            has_table(rt.alloc(), 100, front, STORE_BUFFERING, counted),
+            "{front}"
+        );
     }
 }

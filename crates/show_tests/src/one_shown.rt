@@ -1,5 +1,6 @@
 //! The schedule of a run with one outcome of a workload, by the command that prints it: a text worked out by hand, and
 //! refusals.
+use crate::given::{Given, is_given};
 use reg_show::show_outcome;
 use std::alloc::{AllocError, Global};
 
@@ -30,15 +31,15 @@ take 1 0 5
 take 0 1 5
 ";
 
-/// Whether this is what was written for a text, and what of faults, and the status.
-fn tells(alloc: Global, number: u32, text: &str, (status, shown, told): (u8, &str, &str)) -> bool {
-    let mut output = Vec::new(alloc);
-    let mut errors = Vec::new(alloc);
+/// Whether this is given for a text and the number of an outcome, which isn't 0.
+fn tells(alloc: Global, number: u32, text: &str, given: Given<'_>) -> bool {
+    if number == 0 {
+        return false;
+    }
+    let (mut output, mut errors) = (Vec::new(alloc), Vec::new(alloc));
     let mut input = text.as_bytes();
-    number > 0
-        && show_outcome(alloc, alloc, number, &mut input, &mut output, &mut errors) == status
-        && output.as_slice() == shown.as_bytes()
-        && errors.as_slice() == told.as_bytes()
+    let status = show_outcome(alloc, alloc, number, &mut input, &mut output, &mut errors);
+    is_given((status, output.as_slice(), errors.as_slice()), given)
 }
 
 /// Adds a workload whose only process with a script calls 87 operations. With 64 processes each may take 12,097 events.

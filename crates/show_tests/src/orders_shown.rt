@@ -1,21 +1,15 @@
 //! Orders of a report's history, by the command that finds them: texts worked out by hand, and refusals.
+use crate::given::{Given, is_given};
 use reg_outcomes::OrderKind;
 use reg_show::find_order;
 use std::alloc::Global;
 
-/// Whether this is what was written for a text, and what of faults, and the status.
-fn tells(
-    alloc: Global,
-    kind: OrderKind,
-    text: &str,
-    (status, shown, told): (u8, &str, &str),
-) -> bool {
-    let mut output = Vec::new(alloc);
-    let mut errors = Vec::new(alloc);
+/// Whether this is given for a text and an order of this kind.
+fn tells(alloc: Global, kind: OrderKind, text: &str, given: Given<'_>) -> bool {
+    let (mut output, mut errors) = (Vec::new(alloc), Vec::new(alloc));
     let mut input = text.as_bytes();
-    find_order(alloc, kind, &mut input, &mut output, &mut errors) == status
-        && output.as_slice() == shown.as_bytes()
-        && errors.as_slice() == told.as_bytes()
+    let status = find_order(alloc, kind, &mut input, &mut output, &mut errors);
+    is_given((status, output.as_slice(), errors.as_slice()), given)
 }
 
 /// A write of process 0 is answered before process 1 reads, which still answers 0. Its own order is none.

@@ -1,4 +1,5 @@
 //! Records judged: one that is worked out by hand, and what is told of others.
+use crate::given::{Given, answer_of, is_given};
 use refusing::{Trial, refusals};
 use reg_verify::verify_text;
 use std::alloc::{Allocator, Global};
@@ -46,24 +47,22 @@ const CHANGES: [(&str, &str, &str); 10] = [
     ("linear", "local", "line 2: name\n"),
 ];
 
-/// Whether a record gets this status, this report and this line.
-fn is_told(alloc: Global, text: &str, status: u8, report: &str, line: &str) -> bool {
+/// Whether this is given for a record.
+fn tells(alloc: Global, text: &str, given: Given<'_>) -> bool {
     let mut reader = text.as_bytes();
     let (mut output, mut errors) = (Vec::new(alloc), Vec::new(alloc));
-    let given = verify_text(alloc, &mut reader, &mut output, &mut errors);
-    given == status
-        && output.as_slice() == report.as_bytes()
-        && errors.as_slice() == line.as_bytes()
+    let status = verify_text(alloc, &mut reader, &mut output, &mut errors);
+    is_given((status, output.as_slice(), errors.as_slice()), given)
 }
 
 #[test]
 fn a_record_worked_by_hand_has_the_report_of_its_run(rt: HostRuntime) {
-    assert!(rt; is_told(rt.alloc(), WRITE, 0, REPORT, ""));
+    assert!(rt; tells(rt.alloc(), WRITE, (0, REPORT, "")));
 }
 
 #[test]
 fn a_record_that_ends_in_its_head_is_told_there(rt: HostRuntime) {
-    assert!(rt; is_told(rt.alloc(), "tellwydar record 1\n", 1, "", "line 2: end\n"));
+    assert!(rt; tells(rt.alloc(), "tellwydar record 1\n", (1, "", "line 2: end\n")));
 }
 
 /// Whether the record with the one in the place of the other is refused with this line.
@@ -72,7 +71,7 @@ fn is_refused(alloc: Global, old: &str, new: &str, line: &str) -> bool {
         return false;
     };
     match format!(in alloc; "{front}{new}{rest}") {
-        Ok(text) => is_told(alloc, text.as_str(), 1, "", line),
+        Ok(text) => tells(alloc, text.as_str(), (1, "", line)),
         Err(_) => false,
     }
 }
@@ -93,13 +92,7 @@ impl Trial for Judged {
         let mut reader = WRITE.as_bytes();
         let (mut output, mut errors) = (Vec::new(ample), Vec::new(ample));
         verify_text(alloc, &mut reader, &mut output, &mut errors);
-        if errors.as_slice() == "out of memory\n".as_bytes() && output.is_empty() {
-            return Ok(None);
-        }
-        match String::from_utf8(output) {
-            Ok(told) => Ok(Some(told)),
-            Err(_) => Ok(Some(String::new(ample))),
-        }
+        Ok(answer_of(ample, output, errors.as_slice()))
     }
 }
 

@@ -1,8 +1,8 @@
 //! Short schedules of plays, with what was worked out by hand from the rules.
 ghost use Rattle.reg_show.specs.Seeds.{IsSeed, seed_of};
 
-use crate::shown::WRITE;
-use reg_commands::{Command, run_text};
+use crate::given::{Given, is_given};
+use crate::shown::{WRITE, replays_to};
 use reg_show::{MOST_SHORTENED, Player, show_short_schedule};
 use std::alloc::{AllocError, Global};
 use std::test::Fail;
@@ -72,17 +72,14 @@ registers x
 front linear
 ";
 
-/// What the short schedule of a player's play is told by.
-fn tells_short(alloc: Global, player: Player, text: &str, told: (u8, &str, &str)) -> bool
+/// Whether this is given for the short schedule of a player's play.
+fn tells_short(alloc: Global, player: Player, text: &str, given: Given<'_>) -> bool
     requires { IsSeed (seed_of player) }
 {
     let (mut output, mut errors) = (Vec::new(alloc), Vec::new(alloc));
     let mut input = text.as_bytes();
     let status = show_short_schedule(alloc, alloc, player, &mut input, &mut output, &mut errors);
-    let (wanted, written, fault) = told;
-    status == wanted
-        && output.as_slice() == written.as_bytes()
-        && errors.as_slice() == fault.as_bytes()
+    is_given((status, output.as_slice(), errors.as_slice()), given)
 }
 
 #[test]
@@ -141,25 +138,14 @@ p1 #0 at 2
 end
 ";
 
-/// Whether the run of a schedule has this report.
-fn replays_to(alloc: Global, schedule: &str, report: &str) -> bool {
-    let (mut output, mut errors) = (Vec::new(alloc), Vec::new(alloc));
-    let mut input = schedule.as_bytes();
-    let status = run_text(
-        alloc,
-        alloc,
-        Command::Replay,
-        &mut input,
-        &mut output,
-        &mut errors,
-    );
-    status == 0 && errors.is_empty() && output.as_slice() == report.as_bytes()
-}
-
 #[test]
 fn a_short_schedule_replays_to_the_same_answers(rt: HostRuntime) {
-    assert!(rt; replays_to(rt.alloc(), WRITE, WRITE_REPORT));
-    assert!(rt; replays_to(rt.alloc(), SHORT_WRITE_AND_SWAP, WRITE_AND_SWAP_REPORT));
+    for (schedule, report) in [
+        (WRITE, WRITE_REPORT),
+        (SHORT_WRITE_AND_SWAP, WRITE_AND_SWAP_REPORT),
+    ] {
+        assert!(rt; replays_to(rt.alloc(), schedule.as_bytes(), report.as_bytes()));
+    }
 }
 
 /// One process alone that reads so often, each time answered at once.

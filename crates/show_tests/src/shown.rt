@@ -1,6 +1,7 @@
 //! Schedules, traces and drawings of texts, with what was worked out by hand from the rules.
 ghost use Rattle.reg_show.specs.Seeds.{IsSeed, seed_of};
 
+use crate::given::{Given, is_given};
 use crate::run_data::WRITE_DATA;
 use crate::values::{scheduled, shown};
 use reg_commands::{Command, run_text};
@@ -112,13 +113,10 @@ repeat = 20
 budget = 60
 ";
 
-/// Whether a text is shown by this status, output and fault.
-pub(crate) fn tells(alloc: Global, showing: Showing, text: &str, told: (u8, &str, &str)) -> bool {
+/// Whether this is given where a text is shown.
+pub(crate) fn tells(alloc: Global, showing: Showing, text: &str, given: Given<'_>) -> bool {
     let (status, output, errors) = shown(alloc, showing, text.as_bytes());
-    let (wanted, written, fault) = told;
-    status == wanted
-        && output.as_slice() == written.as_bytes()
-        && errors.as_slice() == fault.as_bytes()
+    is_given((status, output.as_slice(), errors.as_slice()), given)
 }
 
 #[test]
@@ -201,8 +199,8 @@ fn ticks(alloc: Global, count: u32) -> String {
     text
 }
 
-/// What a run with too many events is told by.
-const TOO_MANY: (u8, &str, &str) = (1, "", "too many events to draw\n");
+/// What is given for a run with too many events.
+const TOO_MANY: Given<'static> = (1, "", "too many events to draw\n");
 
 #[test]
 fn a_drawing_has_at_most_400_events(rt: HostRuntime) {
@@ -226,36 +224,32 @@ fn a_page_has_at_most_2000_events(rt: HostRuntime) {
     }
 }
 
-/// The status of a command over a text.
-fn run_into(
-    alloc: Global,
-    command: Command,
-    text: &[u8],
-    output: &mut Vec<u8>,
-    errors: &mut Vec<u8>,
-) -> u8 {
-    let mut reader = text;
-    run_text(alloc, alloc, command, &mut reader, output, errors)
+/// Whether the run of a schedule has this report.
+pub(crate) fn replays_to(alloc: Global, schedule: &[u8], report: &[u8]) -> bool {
+    let (mut output, mut errors) = (Vec::new(alloc), Vec::new(alloc));
+    let mut reader = schedule;
+    let status = run_text(
+        alloc,
+        alloc,
+        Command::Replay,
+        &mut reader,
+        &mut output,
+        &mut errors,
+    );
+    status == 0 && errors.is_empty() && output.as_slice() == report
 }
 
 /// Whether the schedule of a play replays to the report of the play.
 fn replays_to_the_play(alloc: Global, player: Player) -> bool
     requires { IsSeed (seed_of player) }
 {
-    let (status, text, mut errors) = scheduled(alloc, player, WORK.as_bytes());
-    let (mut replayed, mut played) = (Vec::new(alloc), Vec::new(alloc));
-    let replay = run_into(
-        alloc,
-        Command::Replay,
-        text.as_slice(),
-        &mut replayed,
-        &mut errors,
-    );
+    let (status, schedule, mut errors) = scheduled(alloc, player, WORK.as_bytes());
+    let (mut reader, mut report) = (WORK.as_bytes(), Vec::new(alloc));
     let fair = player == Player::Fair;
     let command = Command::Play { fair };
-    let play = run_into(alloc, command, WORK.as_bytes(), &mut played, &mut errors);
-    let ended = status == 0 && replay == 0 && play == 0 && errors.is_empty();
-    ended && !played.is_empty() && replayed.as_slice() == played.as_slice()
+    let played = run_text(alloc, alloc, command, &mut reader, &mut report, &mut errors);
+    let ended = status == 0 && played == 0 && errors.is_empty() && !report.is_empty();
+    ended && replays_to(alloc, schedule.as_slice(), report.as_slice())
 }
 
 #[test]

@@ -1,5 +1,6 @@
 //! How it is told what is wrong with a text: all of the answer, a first part where the writer fails, and nothing where
 //! there is no memory.
+use crate::given::{answer_of, is_given};
 use crate::{why_reports, why_schedules, why_workloads};
 use refusing::{Trial, refusals};
 use reg_show::why_text;
@@ -12,14 +13,15 @@ fn is_told(alloc: Global, text: &str, is_accepted: bool, answer: &str) -> bool {
     let mut reader = text.as_bytes();
     let (mut output, mut errors) = (Vec::new(alloc), Vec::new(alloc));
     let status = why_text(alloc, alloc, &mut reader, &mut output, &mut errors);
-    status == u8::from(!is_accepted) && output.as_slice() == answer.as_bytes() && errors.is_empty()
+    let given = (u8::from(!is_accepted), answer, "");
+    is_given((status, output.as_slice(), errors.as_slice()), given)
 }
 
 /// A text, whether it is accepted, and what is told of it.
 pub(crate) type Row = (&'static str, bool, &'static str);
 
 /// Demands what is told of each text.
-pub(crate) fn demand_told(rt: &(impl Abort + AllocGlobal), rows: &[Row]) {
+fn demand_told(rt: &(impl Abort + AllocGlobal), rows: &[Row]) {
     for (text, is_accepted, answer) in rows {
         assert!(rt; is_told(rt.alloc(), text, *is_accepted, answer), "{text}");
     }
@@ -27,9 +29,9 @@ pub(crate) fn demand_told(rt: &(impl Abort + AllocGlobal), rows: &[Row]) {
 
 #[test]
 fn texts_are_told_as_worked_by_hand(rt: HostRuntime) {
-    why_schedules::demand_all(&rt);
-    why_workloads::demand_all(&rt);
-    why_reports::demand_all(&rt);
+    demand_told(&rt, why_schedules::ROWS.as_slice());
+    demand_told(&rt, why_workloads::ROWS.as_slice());
+    demand_told(&rt, why_reports::ROWS.as_slice());
 }
 
 /// A schedule of which the last event is refused, and what is told of it.
@@ -78,13 +80,7 @@ impl Trial for Asked {
         let mut reader = self.text.as_bytes();
         let (mut output, mut errors) = (Vec::new(ample), Vec::new(ample));
         why_text(alloc, ample, &mut reader, &mut output, &mut errors);
-        if errors.as_slice() == "out of memory\n".as_bytes() && output.is_empty() {
-            return Ok(None);
-        }
-        match String::from_utf8(output) {
-            Ok(told) => Ok(Some(told)),
-            Err(_) => Ok(Some(String::new(ample))),
-        }
+        Ok(answer_of(ample, output, errors.as_slice()))
     }
 }
 

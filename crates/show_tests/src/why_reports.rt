@@ -1,9 +1,8 @@
 //! What is told of reports: what an accepted one is, and where one is wrong that has a mistake.
-use crate::why::{Row, demand_told};
-use std::process::Abort;
+use crate::why::Row;
 
 /// A text, whether it is accepted, and what is told of it, worked out by hand.
-const ROWS: [Row; 27] = [
+pub(crate) const ROWS: [Row; 27] = [
     (
         "awreg report 2\nfront linear\nprocesses 2\nregisters 1\nx\nhistory 4\n       0  p0    #0       call    write x 5\n       2  p0    #0       answer  done\n       3  p1    #0       call    read x\n       5  p1    #0       answer  value 5\norder 2\np0 #0\np1 #0\npoints 2\np0 #0 at 1\np1 #0 at 4\nend\n",
         true,
@@ -140,8 +139,3 @@ const ROWS: [Row; 27] = [
         "line 17: form\n17 | end\n   | ^\nexpected p and a process, as in p0 #0, found \"end\"\nfewer points stand here than their count says\n",
     ),
 ];
-
-/// Demands what is told of each.
-pub(crate) fn demand_all(rt: &(impl Abort + AllocGlobal)) {
-    demand_told(rt, ROWS.as_slice());
-}

@@ -1,9 +1,8 @@
 //! What is told of schedules: what an accepted one is, and where one is wrong that has a mistake.
-use crate::why::{Row, demand_told};
-use std::process::Abort;
+use crate::why::Row;
 
 /// A text, whether it is accepted, and what is told of it, worked out by hand.
-const ROWS: [Row; 61] = [
+pub(crate) const ROWS: [Row; 61] = [
     (
         "processes 2\nregisters x z\nfront linear\ncall 0 write x 1\ntake 0 1 0\n",
         true,
@@ -310,8 +309,3 @@ const ROWS: [Row; 61] = [
         "event 1: no frame\n6 | take 1 0 0\n  |          ^\nthe wire from 1 to 0 has no frame yet\n",
     ),
 ];
-
-/// Demands what is told of each.
-pub(crate) fn demand_all(rt: &(impl Abort + AllocGlobal)) {
-    demand_told(rt, ROWS.as_slice());
-}

@@ -1,9 +1,8 @@
 //! What is told of workloads: what an accepted one is, and where one is wrong that has a mistake.
-use crate::why::{Row, demand_told};
-use std::process::Abort;
+use crate::why::Row;
 
 /// A text, whether it is accepted, and what is told of it, worked out by hand.
-const ROWS: [Row; 22] = [
+pub(crate) const ROWS: [Row; 22] = [
     (
         "front = \"local-write\"\nregisters = [\"x\"]\nscripts = [[\"write x 5\", \"read x\"], [\"read x\"]]\n",
         true,
@@ -115,8 +114,3 @@ const ROWS: [Row; 22] = [
         "toml\n1 | proceses 2\n  |          ^\nkey with no value, expected `=`\na schedule begins with processes and a number, as in processes 2\n",
     ),
 ];
-
-/// Demands what is told of each.
-pub(crate) fn demand_all(rt: &(impl Abort + AllocGlobal)) {
-    demand_told(rt, ROWS.as_slice());
-}

@@ -1,5 +1,5 @@
 //! What callers are told, and how soon, where no pacer runs.
-use crate::live::crews::{call_back, parts_of, pass_of, send_off, shut, size_of, told, wait};
+use crate::live::crews::{LONG, call_back, parts_of, pass_of, send_off, shut, size_of, told, wait};
 use crate::live::stops::{Change, Changing};
 use crate::live::watches::Watch;
 use crate::values::{read, write};
@@ -42,7 +42,7 @@ impl Road for Held {
         if self.inside.swap(true, Ordering::SeqCst) {
             return;
         }
-        if !wait(&self.answered, 1_000_000_000) {
+        if !wait(&self.answered, LONG) {
             self.late.store(true, Ordering::SeqCst);
         }
     }
@@ -65,7 +65,7 @@ fn writes_meanwhile(
     road: &Held,
 ) -> bool {
     let first = pass.perform(rt, write(0, 1)).is_ok();
-    let _set = wait(&road.inside, 1_000_000_000);
+    let _set = wait(&road.inside, LONG);
     let second = pass.perform(rt, write(0, 2)).is_ok();
     road.answered.store(true, Ordering::SeqCst);
     first && second

@@ -1,6 +1,6 @@
 //! A cluster that is closed while a station makes a section.
 use crate::live::crews::{
-    answered, call_back, close_parts, join_all, parts_of, pass_of, send_off, wait,
+    LONG, answered, call_back, close_parts, join_all, parts_of, pass_of, send_off, wait,
 };
 use crate::live::holds::{Hold, release_later};
 use crate::values::write;
@@ -60,7 +60,7 @@ fn sends<R: Threads + Wait + Abort + Copy + Send + Sync + 'static>(
     let second = parts.couriers.pop().expect(&rt, "a courier");
     let first = send_off(rt, alloc, parts, road);
     let _receipt = answered(&rt, pass_of(&rt, &mut parts.passes, 0), write(0, 1));
-    let sent = wait(put, 1_000_000_000);
+    let sent = wait(put, LONG);
     let stopped = call_back(&rt, alloc, parts, first);
     parts.couriers.clear();
     parts.couriers.push(second).expect(&rt, "memory");
@@ -80,7 +80,7 @@ fn a_section_under_way_is_in_the_record(rt: HostRuntime) {
     let mut parts = parts_of::<LocalWrite, Holding>(&rt, alloc, (2, 1), gate);
     let sent = sends(rt, alloc, &mut parts, &put);
     let second = send_off(rt, alloc, &mut parts, Telling { put });
-    let entered = wait(&hold.inside, 1_000_000_000);
+    let entered = wait(&hold.inside, LONG);
     let releasing = release_later(&rt, &hold);
     hold.closing.store(true, Ordering::SeqCst);
     let events = events_of(&rt, alloc, parts);

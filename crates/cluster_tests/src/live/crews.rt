@@ -154,6 +154,9 @@ pub fn told_apart<
     told
 }
 
+/// How many turns are counted for what is to come: some seconds.
+pub const LONG: u32 = 1_000_000_000;
+
 /// Counts turns until the flag is set, or there were so many. Whether it was set.
 pub fn wait(flag: &AtomicBool, turns: u32) -> bool {
     for _ in 0..turns {

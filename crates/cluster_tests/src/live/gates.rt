@@ -1,7 +1,7 @@
 //! Stations that are held in a section while others go on.
 use crate::live::crews::{
-    answered, end, last_of, parts_of, perform_apart, put_back, shut, size_of, start, told_apart,
-    wait,
+    LONG, answered, end, last_of, parts_of, perform_apart, put_back, shut, size_of, start,
+    told_apart, wait,
 };
 use crate::live::watches::Watch;
 use crate::values::{read, write};
@@ -14,9 +14,6 @@ use std::sync::atomic::{AtomicBool, Ordering};
 use std::sync::{Arc, Wait};
 use std::thread;
 use std::thread::{JoinHandle, Threads};
-
-/// How many turns are counted at most.
-const TURNS: u32 = 1_000_000_000;
 
 /// What was seen of the stations, and of the second caller.
 #[derive(Drop)]
@@ -43,7 +40,7 @@ impl Flags {
 
     /// Counts turns until the flag is set.
     fn wait(&self, flag: &AtomicBool) {
-        if !wait(flag, TURNS) {
+        if !wait(flag, LONG) {
             self.late.store(true, Ordering::SeqCst);
         }
     }

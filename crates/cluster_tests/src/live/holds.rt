@@ -1,5 +1,5 @@
 //! A thread that is held inside a call of a gate or of a road, until some time after its cluster began to be closed.
-use crate::live::crews::wait;
+use crate::live::crews::{LONG, wait};
 use std::process::Abort;
 use std::sync::atomic::{AtomicBool, Ordering};
 use std::sync::{Arc, Wait};
@@ -29,7 +29,7 @@ impl Hold {
     /// Holds the thread that calls it until it may go on.
     pub fn stay(&self) {
         self.inside.store(true, Ordering::SeqCst);
-        let _set = wait(&self.released, 1_000_000_000);
+        let _set = wait(&self.released, LONG);
         self.inside.store(false, Ordering::SeqCst);
     }
 }
@@ -38,7 +38,7 @@ impl Hold {
 pub fn release_later<R: Threads + Wait + Abort>(rt: &R, hold: &Arc<Hold>) -> JoinHandle<()> {
     let hold = Arc::try_clone(hold).expect(rt, "memory");
     thread::spawn(rt, move || {
-        let _closing = wait(&hold.closing, 1_000_000_000);
+        let _closing = wait(&hold.closing, LONG);
         let _long = wait(&hold.released, 30_000_000);
         hold.released.store(true, Ordering::SeqCst);
     })

@@ -10,7 +10,7 @@ use std::thread::Threads;
 
 /// Whether so many reads are all answered.
 fn reads_so_often<F: FrontEnd>(rt: &impl Wait, pass: &mut Pass<F, NoGate>, times: u32) -> bool {
-    for _i in 0..times {
+    for _read in 0..times {
         if pass.perform(rt, read(0)).is_err() {
             return false;
         }

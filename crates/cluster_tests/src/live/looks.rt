@@ -1,5 +1,5 @@
 //! How long the pacer pauses between two looks.
-use crate::live::crews::{join_all, parts_of, pass_of, send_off, shut, size_of, wait};
+use crate::live::crews::{LONG, join_all, parts_of, pass_of, send_off, shut, size_of, wait};
 use crate::live::pacing::length_of;
 use crate::values::write;
 use reg_front::LocalWrite;
@@ -49,11 +49,11 @@ impl Held {
         let reading = self.readings.fetch_add(1, Ordering::SeqCst);
         if reading == 100 {
             self.before.store(true, Ordering::SeqCst);
-            let _set = wait(&self.go_on, 1_000_000_000);
+            let _set = wait(&self.go_on, LONG);
         }
         if reading == 120 {
             self.behind.store(true, Ordering::SeqCst);
-            let _set = wait(&self.end, 1_000_000_000);
+            let _set = wait(&self.end, LONG);
         }
         match reading {
             0 => Duration::from_millis(0),
@@ -103,10 +103,10 @@ fn lengths_of(
     pass: &mut Pass<LocalWrite, NoGate>,
     clock: &Held,
 ) -> (Option<u64>, Option<u64>) {
-    let _set = wait(&clock.before, 1_000_000_000);
+    let _set = wait(&clock.before, LONG);
     let before = length_of(rt, pass);
     clock.go_on.store(true, Ordering::SeqCst);
-    let _set = wait(&clock.behind, 1_000_000_000);
+    let _set = wait(&clock.behind, LONG);
     (before, length_of(rt, pass))
 }
 
@@ -125,7 +125,7 @@ fn looks_are_ten_milliseconds_apart(rt: HostRuntime) {
     let written = pass_of(&rt, &mut parts.passes, 0)
         .perform(&rt, write(0, 1))
         .is_ok();
-    let _set = wait(&sent, 1_000_000_000);
+    let _set = wait(&sent, LONG);
     let Parts {
         cluster,
         mut passes,

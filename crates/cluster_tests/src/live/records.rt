@@ -9,14 +9,17 @@ use reg_live::{CloseFault, LogEntry, Receipt, Reply, Step, verify, verify_in};
 use reg_world::{PackedWires, WireStore, World};
 use std::alloc::{AllocError, Allocator, Global};
 
-/// A write of 5, called at the only process and answered at once.
-const ENTRY: LogEntry = LogEntry {
-    step: Step::Call {
-        op: Op::Write {
-            register: 0,
-            value: 5,
-        },
+/// The call of a write of 5.
+const CALL: Step = Step::Call {
+    op: Op::Write {
+        register: 0,
+        value: 5,
     },
+};
+
+/// The write, called at the only process and answered at once.
+const ENTRY: LogEntry = LogEntry {
+    step: CALL,
     reply: Some(Reply {
         answer: Answer::Done,
         place: 0,
@@ -25,12 +28,7 @@ const ENTRY: LogEntry = LogEntry {
 
 /// The same answered with a place that no cast was delivered at.
 const MISPLACED: LogEntry = LogEntry {
-    step: Step::Call {
-        op: Op::Write {
-            register: 0,
-            value: 5,
-        },
-    },
+    step: CALL,
     reply: Some(Reply {
         answer: Answer::Done,
         place: 1,

@@ -1,5 +1,5 @@
 //! Clusters whose threads `start` of a running cluster made, and that `close` of one ends.
-use crate::live::crews::{answered, pass_of, shape_of, wait};
+use crate::live::crews::{LONG, answered, pass_of, shape_of, wait};
 use crate::live::holds::{Hold, release_later};
 use crate::live::watches::Watch;
 use crate::values::write;
@@ -90,7 +90,7 @@ fn is_waited_for<R: Threads + Wait + Clock + Abort + Copy + Send + Sync + 'stati
 ) -> bool {
     let hold = Arc::new(alloc, Hold::new()).expect(&rt, "memory");
     let (running, passes) = written(rt, alloc, from, &hold);
-    let held = wait(&hold.inside, 1_000_000_000);
+    let held = wait(&hold.inside, LONG);
     let releasing = release_later(&rt, &hold);
     hold.closing.store(true, Ordering::SeqCst);
     let closed = running.close(&rt, alloc, passes).is_ok();

@@ -1,7 +1,7 @@
 //! Stations that stop, and frames that were changed on their way.
 use crate::live::crews::{
-    call_back, close_parts, end, last_of, parts_of, pass_of, perform_apart, put_back, send_off,
-    shut, size_of, start, told, told_apart, wait,
+    LONG, call_back, close_parts, end, last_of, parts_of, pass_of, perform_apart, put_back,
+    send_off, shut, size_of, start, told, told_apart, wait,
 };
 use crate::live::watches::Watch;
 use crate::values::{read, write};
@@ -120,7 +120,7 @@ fn stops_second(
     seen: &AtomicBool,
 ) -> bool {
     let before = pass_of(rt, passes, 0).perform(rt, write(0, 1)).is_ok();
-    let came = wait(seen, 1_000_000_000);
+    let came = wait(seen, LONG);
     let refused = pass_of(rt, passes, 1).perform(rt, read(0));
     let after = pass_of(rt, passes, 0).perform(rt, write(0, 2)).is_ok();
     before && came && refused == Err(LiveFault::Failed) && after
@@ -224,7 +224,7 @@ fn all_callers_are_told_where_a_station_stops(rt: HostRuntime) {
 /// Counts turns until so many sections were made, and some more, in which their callers begin to wait.
 fn wait_for_callers(rt: &impl Wait, pass: &mut Pass<Linear, NoGate>, sections: u64) {
     let made = Err(LiveFault::Behind { length: sections });
-    for _turn in 0..1_000_000_000u32 {
+    for _turn in 0..LONG {
         if pass.perform_after(rt, read(0), 2_000_000) == made {
             break;
         }

@@ -1,4 +1,5 @@
 //! Shapes, clocks, registers and names, as worked by hand.
+use crate::values::{READ, WRITE_FIVE};
 use reg_base::limits::{MOST_PROCESSES, MOST_REGISTERS};
 use reg_base::{
     Answer, Clock, ClockFull, Names, NamesFault, Op, OutOfMemory, Registers, Shape, ShapeFault,
@@ -50,13 +51,6 @@ fn a_clock_at_its_end(rt: HostRuntime) {
     }
 }
 
-const READ: Op = Op::Read { register: 0 };
-
-const WRITE: Op = Op::Write {
-    register: 0,
-    value: 5,
-};
-
 const SWAP: Op = Op::Swap {
     register: 0,
     value: 6,
@@ -70,11 +64,11 @@ const OUTSIDE: Op = Op::Write {
 /// An operation on a memory of one register, what it answers, and the value that the register then has.
 const ONE_MEMORY: [(Op, Option<Answer>, u64); 8] = [
     (READ, Some(Answer::Value(0)), 0),
-    (WRITE, Some(Answer::Done), 5),
+    (WRITE_FIVE, Some(Answer::Done), 5),
     (READ, Some(Answer::Value(5)), 5),
     (SWAP, Some(Answer::Value(5)), 6),
     (SWAP, Some(Answer::Value(6)), 6),
-    (WRITE, Some(Answer::Done), 5),
+    (WRITE_FIVE, Some(Answer::Done), 5),
     (OUTSIDE, None, 5),
     (Op::Read { register: 1 }, None, 5),
 ];

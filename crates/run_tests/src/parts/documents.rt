@@ -1,12 +1,10 @@
 //! Workloads that are read, and that are refused.
 use crate::parts::demands::demand;
+use crate::plays::SMALL;
 use reg_front::Front;
 use reg_inputs::{Key, Workload, WorkloadFault};
 use std::alloc::{AllocError, Global};
 use std::process::Abort;
-
-const SMALL: &str =
-    "front = \"local-write\"\nregisters = [\"x\"]\nscripts = [[\"write x 5\", \"read x\"], [\"read x\"]]\n";
 
 const MOST: &str =
     "front = \"linear\"\nregisters = [\"x\", \"yy\"]\nscripts = [[], []]\nseed = 9223372036854775807\nloss = 100\nrepeat = 99\nbudget = 1048576\n";

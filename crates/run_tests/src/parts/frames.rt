@@ -1,6 +1,6 @@
 //! Frames and their bytes, as worked by hand.
+use crate::macros::{ack, cast};
 use crate::values::{READ as READ_FIRST, WRITE_FIVE};
-use crate::world_rows::cast;
 use reg_base::Op;
 use reg_frames::{Body, Frame, FrameFault, decode, encode};
 use std::process::Abort;
@@ -32,58 +32,30 @@ const LAST_REGISTER: [u8; 32] = [
 
 /// Frames, and the bytes of each.
 const FRAMES: [(Frame, &[u8]); 6] = [
+    (cast!(0, 1, WRITE_FIVE), &WRITE),
     (
-        Frame::Numbered {
-            number: 0,
-            body: Body::Cast {
-                time: 1,
-                op: WRITE_FIVE,
-            },
-        },
-        &WRITE,
-    ),
-    (
-        Frame::Numbered {
-            number: 1,
-            body: Body::Cast {
-                time: 3,
-                op: Op::Swap {
-                    register: 0,
-                    value: 7,
-                },
-            },
-        },
+        cast!(
+            1,
+            3,
+            Op::Swap {
+                register: 0,
+                value: 7
+            }
+        ),
         &SWAP,
     ),
     (Frame::Got { count: 1 }, &GOT),
+    (ack!(0, 2), &ACK),
+    (cast!(0, 1, READ_FIRST), &READ),
     (
-        Frame::Numbered {
-            number: 0,
-            body: Body::Ack { time: 2 },
-        },
-        &ACK,
-    ),
-    (
-        Frame::Numbered {
-            number: 0,
-            body: Body::Cast {
-                time: 1,
-                op: READ_FIRST,
-            },
-        },
-        &READ,
-    ),
-    (
-        Frame::Numbered {
-            number: 1,
-            body: Body::Cast {
-                time: 3,
-                op: Op::Write {
-                    register: 4095,
-                    value: 5,
-                },
-            },
-        },
+        cast!(
+            1,
+            3,
+            Op::Write {
+                register: 4095,
+                value: 5
+            }
+        ),
         &LAST_REGISTER,
     ),
 ];
@@ -173,22 +145,13 @@ const LAST: [(&[u8], Result<Frame, FrameFault>); 7] = [
         &[
             0, 0x16, 1, 1, 0, 0, 0, 0, 0, 0, 0, 0, 1, 0, 0, 0, 0, 0, 0, 0, 1, 1, 1, 0,
         ],
-        Ok(Frame::Numbered {
-            number: 0,
-            body: Body::Cast {
-                time: 1,
-                op: Op::Read { register: 256 },
-            },
-        }),
+        Ok(cast!(0, 1, Op::Read { register: 256 })),
     ),
     (
         &[
             0, 0x13, 1, 1, 0, 0, 0xff, 0xff, 0xff, 0xff, 0xff, 0xff, 2, 0, 0, 0, 0, 0, 0, 0, 2,
         ],
-        Ok(Frame::Numbered {
-            number: 0xffff_ffff_ffff,
-            body: Body::Ack { time: 2 },
-        }),
+        Ok(ack!(0xffff_ffff_ffff, 2)),
     ),
     (
         &[
@@ -200,12 +163,7 @@ const LAST: [(&[u8], Result<Frame, FrameFault>); 7] = [
         &[
             0, 0x13, 1, 1, 0, 0, 0, 0, 0, 0, 0, 0, 2, 0, 1, 0, 0, 0, 0, 0, 0,
         ],
-        Ok(Frame::Numbered {
-            number: 0,
-            body: Body::Ack {
-                time: 0x1_0000_0000_0000,
-            },
-        }),
+        Ok(ack!(0, 0x1_0000_0000_0000)),
     ),
     (
         &[

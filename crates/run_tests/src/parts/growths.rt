@@ -1,5 +1,7 @@
 //! Each growth of the parts refused in turn: the answer is want of memory, or the one with ample memory.
-use crate::parts::reports::{NO_POINTS, NO_POINTS_NOW, ONE_PROCESS, ONE_PROCESS_NOW};
+use crate::macros::{ack, cast, id, point};
+use crate::parts::traces::step_of;
+use crate::report_texts::{NO_POINTS, NO_POINTS_NOW, ONE_PROCESS, ONE_PROCESS_NOW};
 use crate::values::{READ, WRITE_FIVE};
 use refusing::{Trial, refusals};
 use reg_base::{OpId, Shape};
@@ -16,23 +18,11 @@ use std::test::Fail;
 #[derive(Clone, Copy)]
 struct Events;
 
-const CAST: Frame = Frame::Numbered {
-    number: 0,
-    body: Body::Cast {
-        time: 1,
-        op: WRITE_FIVE,
-    },
-};
+const CAST: Frame = cast!(0, 1, WRITE_FIVE);
 
-const ACK: Frame = Frame::Numbered {
-    number: 1,
-    body: Body::Ack { time: 3 },
-};
+const ACK: Frame = ack!(1, 3);
 
-const AHEAD: Frame = Frame::Numbered {
-    number: 5,
-    body: Body::Ack { time: 9 },
-};
+const AHEAD: Frame = ack!(5, 9);
 
 const STEPS: [Step; 9] = [
     Step::Call { op: WRITE_FIVE },
@@ -64,20 +54,9 @@ const STEPS: [Step; 9] = [
     },
 ];
 
-fn event<A: Allocator + Copy>(
-    process: &mut Process<LocalWrite, A>,
-    step: &Step,
-) -> Result<Outcome<A>, ProcessFault> {
-    match step {
-        Step::Call { op } => process.call(*op),
-        Step::Take { from, frame } => process.take(*from, frame),
-        Step::Tick => process.tick(),
-    }
-}
-
 fn has_stopped<A: Allocator + Copy>(process: &mut Process<LocalWrite, A>) -> bool {
     for step in &STEPS {
-        if !matches!(event(process, step), Err(ProcessFault::Failed)) {
+        if !matches!(step_of(process, step), Err(ProcessFault::Failed)) {
             return false;
         }
     }
@@ -96,7 +75,7 @@ fn push_told<A: Allocator + Copy>(
     process: &mut Process<LocalWrite, A>,
     step: &Step,
 ) -> (Result<(), AllocError>, bool) {
-    match event(process, step) {
+    match step_of(process, step) {
         Ok(out) => (push_out(text, &out), false),
         Err(ProcessFault::OutOfMemory) if has_stopped(process) => (Ok(()), true),
         Err(ProcessFault::OutOfMemory) => (text.push_str("goes on\n"), false),
@@ -139,22 +118,7 @@ impl Trial for Events {
 }
 
 /// Points in the real-time order of a stale read.
-const STALE: [Point; 2] = [
-    Point {
-        id: OpId {
-            process: 0,
-            number: 0,
-        },
-        at: 4,
-    },
-    Point {
-        id: OpId {
-            process: 1,
-            number: 0,
-        },
-        at: 5,
-    },
-];
+const STALE: [Point; 2] = [point!(0, 4), point!(1, 5)];
 
 /// A report of several names, each on a line of its own.
 const NAMES_NOW: &str =

@@ -1,11 +1,7 @@
 //! The hold-back queue, as worked by hand.
+use crate::values::WRITE_FIVE;
 use reg_base::{Op, Shape, Stamp};
 use reg_holdback::{HoldFault, Holdback};
-
-const WRITE: Op = Op::Write {
-    register: 0,
-    value: 5,
-};
 
 macro_rules! stamp {
     ($time:expr, $process:expr) => {
@@ -26,8 +22,8 @@ type Row = (
 
 /// The queue of process 1 of three: a cast waits until the third process is heard past it.
 const OF_THREE: [Row; 5] = [
-    (stamp!(1, 0), Some(WRITE), Ok(()), None),
-    (stamp!(2, 2), None, Ok(()), Some((stamp!(1, 0), WRITE))),
+    (stamp!(1, 0), Some(WRITE_FIVE), Ok(()), None),
+    (stamp!(2, 2), None, Ok(()), Some((stamp!(1, 0), WRITE_FIVE))),
     (stamp!(2, 2), None, Err(HoldFault::Stale), None),
     (stamp!(3, 1), None, Err(HoldFault::NoProcess), None),
     (stamp!(3, 3), None, Err(HoldFault::NoProcess), None),
@@ -37,11 +33,11 @@ const OF_THREE: [Row; 5] = [
 const BEHIND_ITS_OWN: [Row; 2] = [
     (
         stamp!(1, 0),
-        Some(WRITE),
+        Some(WRITE_FIVE),
         Ok(()),
-        Some((stamp!(1, 0), WRITE)),
+        Some((stamp!(1, 0), WRITE_FIVE)),
     ),
-    (stamp!(2, 0), None, Ok(()), Some((stamp!(1, 1), WRITE))),
+    (stamp!(2, 0), None, Ok(()), Some((stamp!(1, 1), WRITE_FIVE))),
 ];
 
 /// Whether the queue answers so, row by row.
@@ -65,6 +61,6 @@ fn a_cast_waits_until_all_are_heard(rt: HostRuntime) {
 fn an_own_cast_waits_behind_an_earlier_one(rt: HostRuntime) {
     let shape = Shape::new(2, 1).expect(&rt, "a shape");
     let mut held = Holdback::new(rt.alloc(), 1, shape).expect(&rt, "memory");
-    let cast = held.cast(stamp!(1, 1), WRITE).is_ok();
+    let cast = held.cast(stamp!(1, 1), WRITE_FIVE).is_ok();
     assert!(rt; cast && answers(&mut held, BEHIND_ITS_OWN.as_slice()));
 }

@@ -1,100 +1,50 @@
 //! Histories and their orders, as worked by hand.
+use crate::histories::{STALE_READ, history_of};
+use crate::macros::{answered, called, id, point};
 use crate::values::{READ, WRITE_FIVE};
 use reg_base::{Answer, OpId, Shape};
 use reg_history::{CheckFault, Entry, History, HistoryFault, Point, check_points, check_serial};
 use std::alloc::Global;
 use std::process::Abort;
 
-/// A history of three processes with one register.
-fn history_of(rt: &(impl Abort + AllocGlobal), entries: &[Entry]) -> History {
-    let shape = Shape::new(3, 1).expect(rt, "a shape");
-    let mut history = History::new(rt.alloc(), shape).expect(rt, "memory");
-    for entry in entries {
-        history.push(*entry).expect(rt, "in place");
-    }
-    history
-}
-
-macro_rules! called {
-    ($at:expr, $id:expr, $op:expr) => {
-        Entry::Called {
-            at: $at,
-            id: $id,
-            op: $op,
-        }
-    };
-}
-
-macro_rules! answered {
-    ($at:expr, $id:expr, $answer:expr) => {
-        Entry::Answered {
-            at: $at,
-            id: $id,
-            answer: $answer,
-        }
-    };
-}
-
-/// A write at process 0 that is answered before a read at process 1 is called, which still answers 0.
-const STALE: [Entry; 4] = [
-    called!(0, P, WRITE_FIVE),
-    answered!(4, P, Answer::Done),
-    called!(5, Q, READ),
-    answered!(5, Q, Answer::Value(0)),
-];
-
 /// A write at a process, and then a read of it, which isn't answered yet.
 const UNFINISHED: [Entry; 3] = [
-    called!(0, P, WRITE_FIVE),
-    answered!(0, P, Answer::Done),
-    called!(1, NEXT, READ),
+    called!(0, 0, 0, WRITE_FIVE),
+    answered!(0, 0, 0, Answer::Done),
+    called!(1, 0, 1, READ),
 ];
 
 /// The same with the read answered.
 const FINISHED: [Entry; 4] = [
-    called!(0, P, WRITE_FIVE),
-    answered!(0, P, Answer::Done),
-    called!(1, NEXT, READ),
-    answered!(3, NEXT, Answer::Value(5)),
+    called!(0, 0, 0, WRITE_FIVE),
+    answered!(0, 0, 0, Answer::Done),
+    called!(1, 0, 1, READ),
+    answered!(3, 0, 1, Answer::Value(5)),
 ];
-
-/// The operation of the writer, and that of the reader.
-const P: OpId = OpId {
-    process: 0,
-    number: 0,
-};
-
-const Q: OpId = OpId {
-    process: 1,
-    number: 0,
-};
-
-/// The second one of the writer.
-const NEXT: OpId = OpId {
-    process: 0,
-    number: 1,
-};
 
 /// Orders of the stale read, and what is said of each.
 const ORDERS: [(&[OpId], Result<(), CheckFault>); 4] = [
-    (&[Q, P], Ok(())),
-    (&[P, Q], Err(CheckFault::Answer { place: 1 })),
-    (&[Q], Err(CheckFault::Missing)),
-    (&[Q, P, P], Err(CheckFault::Twice)),
+    (&[id!(1, 0), id!(0, 0)], Ok(())),
+    (
+        &[id!(0, 0), id!(1, 0)],
+        Err(CheckFault::Answer { place: 1 }),
+    ),
+    (&[id!(1, 0)], Err(CheckFault::Missing)),
+    (&[id!(1, 0), id!(0, 0), id!(0, 0)], Err(CheckFault::Twice)),
 ];
 
 /// Its points, and what is said of each.
 const POINTS: [(&[Point], Result<(), CheckFault>); 3] = [
     (
-        &[Point { id: Q, at: 5 }, Point { id: P, at: 4 }],
+        &[point!(1, 5), point!(0, 4)],
         Err(CheckFault::Falling { place: 1 }),
     ),
     (
-        &[Point { id: Q, at: 4 }, Point { id: P, at: 4 }],
+        &[point!(1, 4), point!(0, 4)],
         Err(CheckFault::Outside { place: 0 }),
     ),
     (
-        &[Point { id: P, at: 4 }, Point { id: Q, at: 5 }],
+        &[point!(0, 4), point!(1, 5)],
         Err(CheckFault::Answer { place: 1 }),
     ),
 ];
@@ -104,16 +54,19 @@ type Ordered = (&'static [OpId], Result<(), CheckFault>);
 
 /// Histories, and orders of each.
 const JUDGED: [(&[Entry], &[Ordered]); 3] = [
-    (&STALE, &ORDERS),
+    (&STALE_READ, &ORDERS),
     (
         &UNFINISHED,
-        &[(&[P, NEXT], Err(CheckFault::Unknown)), (&[P], Ok(()))],
+        &[
+            (&[id!(0, 0), id!(0, 1)], Err(CheckFault::Unknown)),
+            (&[id!(0, 0)], Ok(())),
+        ],
     ),
     (
         &FINISHED,
         &[
-            (&[P, NEXT], Ok(())),
-            (&[NEXT, P], Err(CheckFault::OwnOrder)),
+            (&[id!(0, 0), id!(0, 1)], Ok(())),
+            (&[id!(0, 1), id!(0, 0)], Err(CheckFault::OwnOrder)),
         ],
     ),
 ];
@@ -131,14 +84,14 @@ fn are_judged(alloc: Global, history: &History, orders: &[Ordered]) -> bool {
 #[test]
 fn a_stale_read_is_serial(rt: HostRuntime) {
     for (entries, orders) in &JUDGED {
-        let history = history_of(&rt, entries);
+        let history = history_of(rt.alloc(), 3, entries).expect(&rt, "in place");
         assert!(rt; are_judged(rt.alloc(), &history, orders));
     }
 }
 
 #[test]
 fn a_stale_read_has_no_points(rt: HostRuntime) {
-    let history = history_of(&rt, STALE.as_slice());
+    let history = history_of(rt.alloc(), 3, &STALE_READ).expect(&rt, "in place");
     for (points, said) in &POINTS {
         assert!(rt;
             check_points(rt.alloc(), &history, points) == *said,
@@ -149,10 +102,10 @@ fn a_stale_read_has_no_points(rt: HostRuntime) {
 
 /// Demands that an answer is out of place before its call, and in place after it.
 fn demand_places(rt: &impl Abort, history: &mut History) {
-    let done = answered!(0, P, Answer::Done);
+    let done = answered!(0, 0, 0, Answer::Done);
     assert!(rt; history.push(done) == Err(HistoryFault::OutOfPlace));
     assert!(rt; history.reserve(2).is_ok());
-    assert!(rt; history.push(called!(0, P, WRITE_FIVE)) == Ok(()));
+    assert!(rt; history.push(called!(0, 0, 0, WRITE_FIVE)) == Ok(()));
     assert!(rt; history.push(done) == Ok(()));
     assert!(rt; history.entries().len() == 2);
 }

@@ -1,27 +1,16 @@
 //! Reports of both versions: what they tell, how they are written, and the line at which a text is refused.
+use crate::histories::history_of;
+use crate::macros::{answered, called, id, point};
 use crate::parts::demands::demand;
 use crate::parts::texts::names_of;
+use crate::report_texts::{NO_POINTS, NO_POINTS_NOW, ONE_PROCESS, ONE_PROCESS_NOW};
 use crate::values::{READ, WRITE_FIVE};
-use crate::world_rows::{answered, called, id};
-use reg_base::{Answer, OpId, Shape};
-use reg_history::{Entry, History, Point, ReadFault, ReadWhy, Report, read_report, write_report};
+use reg_base::{Answer, OpId};
+use reg_history::{Entry, Point, ReadFault, ReadWhy, Report, read_report, write_report};
 use std::alloc::{AllocError, Global};
 use std::process::Abort;
 
-pub(crate) const ONE_PROCESS: &str =
-    "awreg report 1\nfront linear\nprocesses 1\nregisters x\nhistory 4\n       0  p0    #0       call    write x 5\n       0  p0    #0       answer  done\n       1  p0    #1       call    read x\n       1  p0    #1       answer  value 5\norder 2\np0 #0\np0 #1\npoints 2\np0 #0 at 0\np0 #1 at 1\nend\n";
-
-pub(crate) const NO_POINTS: &str =
-    "awreg report 1\nfront local-read\nprocesses 3\nregisters x\nhistory 4\n       0  p0    #0       call    write x 5\n       4  p0    #0       answer  done\n       5  p1    #0       call    read x\n       5  p1    #0       answer  value 0\norder 2\np1 #0\np0 #0\nend\n";
-
-// The same in version 2.
-pub(crate) const ONE_PROCESS_NOW: &str =
-    "awreg report 2\nfront linear\nprocesses 1\nregisters 1\nx\nhistory 4\n       0  p0    #0       call    write x 5\n       0  p0    #0       answer  done\n       1  p0    #1       call    read x\n       1  p0    #1       answer  value 5\norder 2\np0 #0\np0 #1\npoints 2\np0 #0 at 0\np0 #1 at 1\nend\n";
-
-pub(crate) const NO_POINTS_NOW: &str =
-    "awreg report 2\nfront local-read\nprocesses 3\nregisters 1\nx\nhistory 4\n       0  p0    #0       call    write x 5\n       4  p0    #0       answer  done\n       5  p1    #0       call    read x\n       5  p1    #0       answer  value 0\norder 2\np1 #0\np0 #0\nend\n";
-
-/// What the first report is made of.
+/// What the report of one process is made of.
 const ENTRIES: [Entry; 4] = [
     called!(0, 0, 0, WRITE_FIVE),
     answered!(0, 0, 0, Answer::Done),
@@ -32,33 +21,21 @@ const ENTRIES: [Entry; 4] = [
 const ORDER: [OpId; 2] = [id!(0, 0), id!(0, 1)];
 
 const POINTS: [Point; 2] = [
-    Point {
-        id: id!(0, 0),
-        at: 0,
-    },
+    point!(0, 0),
     Point {
         id: id!(0, 1),
         at: 1,
     },
 ];
 
-/// The history of the first report.
-fn history(rt: &(impl Abort + AllocGlobal)) -> History {
-    let shape = Shape::new(1, 1).expect(rt, "a shape");
-    let mut history = History::new(rt.alloc(), shape).expect(rt, "memory");
-    for entry in &ENTRIES {
-        history.push(*entry).expect(rt, "in place");
-    }
-    history
-}
-
-/// The first report, of its parts.
+/// The report of one process, of its parts.
 fn one_process(rt: &(impl Abort + AllocGlobal)) -> Report {
     let front = String::from_str(rt.alloc(), "linear").expect(rt, "memory");
     let names = names_of(rt.alloc(), "registers x").expect(rt, "names");
     let order = ORDER.to_vec(rt.alloc()).expect(rt, "memory");
     let points = POINTS.to_vec(rt.alloc()).expect(rt, "memory");
-    Report::new(front, names, history(rt), order, Some(points)).expect(rt, "a report")
+    let history = history_of(rt.alloc(), 1, &ENTRIES).expect(rt, "in place");
+    Report::new(front, names, history, order, Some(points)).expect(rt, "a report")
 }
 
 /// What the getters of a report give.

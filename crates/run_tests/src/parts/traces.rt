@@ -5,7 +5,7 @@ use reg_frames::{Body, Frame};
 use reg_front::FrontEnd;
 use reg_process::{Outcome, Process, ProcessFault, Put, Reply, Step};
 use reg_text::OpLine;
-use std::alloc::{AllocError, Global};
+use std::alloc::{AllocError, Allocator, Global};
 use std::process::Abort;
 
 /// The process that makes the step, the step, and the line of what it gives.
@@ -73,7 +73,11 @@ fn push_told(text: &mut String, out: &Outcome) -> Result<(), AllocError> {
     }
 }
 
-fn step_of<F: FrontEnd>(process: &mut Process<F>, step: &Step) -> Result<Outcome, ProcessFault> {
+/// What a process gives where it makes the step.
+pub(crate) fn step_of<F: FrontEnd, A: Allocator + Copy>(
+    process: &mut Process<F, A>,
+    step: &Step,
+) -> Result<Outcome<A>, ProcessFault> {
     match step {
         Step::Call { op } => process.call(*op),
         Step::Take { from, frame } => process.take(*from, frame),

@@ -1,0 +1,73 @@
+//! Reports that several tests read or compare with, in both versions.
+
+/// A report of version 1: one process writes 5 and reads it.
+pub(crate) const ONE_PROCESS: &str = "awreg report 1
+front linear
+processes 1
+registers x
+history 4
+       0  p0    #0       call    write x 5
+       0  p0    #0       answer  done
+       1  p0    #1       call    read x
+       1  p0    #1       answer  value 5
+order 2
+p0 #0
+p0 #1
+points 2
+p0 #0 at 0
+p0 #1 at 1
+end
+";
+
+/// The same in version 2.
+pub(crate) const ONE_PROCESS_NOW: &str = "awreg report 2
+front linear
+processes 1
+registers 1
+x
+history 4
+       0  p0    #0       call    write x 5
+       0  p0    #0       answer  done
+       1  p0    #1       call    read x
+       1  p0    #1       answer  value 5
+order 2
+p0 #0
+p0 #1
+points 2
+p0 #0 at 0
+p0 #1 at 1
+end
+";
+
+/// A report of version 1: a read misses a write that was answered before its call.
+pub(crate) const NO_POINTS: &str = "awreg report 1
+front local-read
+processes 3
+registers x
+history 4
+       0  p0    #0       call    write x 5
+       4  p0    #0       answer  done
+       5  p1    #0       call    read x
+       5  p1    #0       answer  value 0
+order 2
+p1 #0
+p0 #0
+end
+";
+
+/// The same in version 2.
+pub(crate) const NO_POINTS_NOW: &str = "awreg report 2
+front local-read
+processes 3
+registers 1
+x
+history 4
+       0  p0    #0       call    write x 5
+       4  p0    #0       answer  done
+       5  p1    #0       call    read x
+       5  p1    #0       answer  value 0
+order 2
+p1 #0
+p0 #0
+end
+";
