@@ -1,9 +1,8 @@
 -- Outcomes that no play had.
-use Rattle.std.proofs.Common.{◌≡◌, ℕ, ◌+◌, ◌≤◌, true, false, Bool, List, [], ◌∷◌, ◌++◌, length, take, Option, Some, None, refl, ap, sym, ◌∙◌, subst, arith, length-append}
+use Rattle.std.proofs.Common.{◌≡◌, ℕ, ◌+◌, ◌≤◌, true, false, List, [], ◌∷◌, ◌++◌, Option, Some, None, refl, sym, ◌∙◌, subst, arith, length-append}
 use Rattle.std.specs.Option.{is_some}
 use Rattle.std.specs.BTreeMap.{BTreeMap, get}
 use Rattle.reg_base.specs.declared.memory.Op.{Op}
-use Rattle.reg_checkers.specs.History.{IsAt}
 use Rattle.reg_outcomes.specs.declared.told.ToldValue.{ToldValue}
 use Rattle.reg_outcomes.specs.Interleavings.{AreAll, CountsStages, HasMoreStages, Interleaving}
 use Rattle.reg_outcomes.specs.declared.tallies.Tally.{Tally}

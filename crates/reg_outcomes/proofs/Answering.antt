@@ -1,5 +1,5 @@
 -- Scripts are used up where each of their operations is answered.
-use Rattle.std.proofs.Common.{◌≡◌, inl, inr, ℕ, ◌<◌, ◌≤◌, ◌-◌, ◌↔◌, List, length, map, take, Option, Some, None, refl, ap, sym, ◌∙◌, subst, arith, take_all}
+use Rattle.std.proofs.Common.{◌≡◌, inl, inr, ℕ, ◌<◌, ◌≤◌, ◌-◌, ◌↔◌, List, length, Option, Some, None, refl, ap, sym, ◌∙◌, arith, take_all}
 use Rattle.std.proofs.lemmas.Bool.{cases_lt}
 use Rattle.std.proofs.lemmas.List.{length-map}
 use Rattle.reg_base.specs.declared.memory.Op.{Op}
@@ -21,7 +21,6 @@ use Rattle.reg_workload.specs.Plays.{FollowsScript, calls_of}
 use Rattle.reg_outcomes.specs.Finishing.{AllAnswered, UsesUp}
 use Rattle.reg_outcomes.specs.Interleavings.{script_of}
 use Rattle.reg_outcomes.proofs.MissingCalls.{has_scripts, noted, ops_called}
-use Rattle.reg_outcomes.proofs.Stepping.{has_script}
 
 module _ (start : Op → ℕ → Start) (scripts : List (List Op)) (registers : ℕ) (laws : KeepsLaws start) (events : List Event) (accepted : (whole start (length scripts) registers events).accepted ≡ events)
     (follows : (p : ℕ) → p < length scripts → FollowsScript scripts events p) (all : AllAnswered scripts (whole start (length scripts) registers events).history) where

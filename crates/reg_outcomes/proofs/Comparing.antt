@@ -8,16 +8,11 @@ use Rattle.std.specs.Cmp.Lexicographic.{slice_cmp}
 use Rattle.std.proofs.lemmas.Cmp.{nat_list_cmp_total, on_total, then_total}
 use Rattle.std.proofs.lemmas.Map.Lookups.{CmpEqualImpliesEq, exact_bytes}
 use Rattle.reg_outcomes.specs.Told.{told_cmp}
-use Rattle.reg_outcomes.proofs.ToldOrder.{outcomes_exact, outcomes_total}
+use Rattle.reg_outcomes.proofs.ToldOrder.{both_equal, outcomes_exact, outcomes_total}
 use Rattle.reg_outcomes.specs.Layers.{stage_cmp}
 
 pub stages_total : IsTotalOrder stage_cmp
 stages_total = then_total (on_total (λ s. s.next) nat_list_cmp_total) (then_total (on_total (λ s. s.memory) nat_list_cmp_total) (on_total (λ s. s.told) outcomes_total))
-
-both_equal : (a b : Ordering) → ordering_then a b ≡ Equal → (a ≡ Equal) × (b ≡ Equal)
-both_equal Less b h = absurd cc
-both_equal Equal b h = (refl, h)
-both_equal Greater b h = absurd cc
 
 -- stages that compare alike are one
 pub stages_exact : CmpEqualImpliesEq stage_cmp

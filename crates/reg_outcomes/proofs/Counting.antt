@@ -1,7 +1,9 @@
 -- What is told of one play more.
 use Rattle.std.proofs.Common.{◌≡◌, ◌≢◌, ◌⊎◌, inl, inr, ℕ, zero, suc, ◌+◌, ◌<◌, ◌≤◌, Bool, true, false, cond, List, [], ◌∷◌, ◌++◌, length, Option, Some, None, refl, ap, sym, ◌∙◌, subst, arith, length-append}
 use Rattle.std.specs.Prelude.{IfSome, ◌↔◌, ◌^◌, ◌-◌, not}
+use Rattle.std.specs.Bool.{then_some}
 use Rattle.std.specs.BTreeMap.{BTreeMap, get, Updates, is_at}
+use Rattle.std.specs.Option.{option_or}
 use Rattle.std.proofs.lemmas.Bool.{cases_Bool, false≢true}
 use Rattle.std.proofs.lemmas.Option.{same_Some, slice_get_within}
 use Rattle.reg_checkers.specs.History.{IsAt}
@@ -39,10 +41,7 @@ module _ (kind : Bool) (plays : List Seen) (s : Seen) where
     ],
   )
 
-  pub first_more : (o : Option ℕ) (seed : ℕ) → o ≡ Some seed → IsFirst kind plays o → IsFirst kind (plays ++ s ∷ []) (Some seed)
-  first_more o seed is first = first_kept seed (subst (λ (x : Option ℕ). IsFirst kind plays x) is first)
-
-  pub first_now : s.linearizable ≡ kind → IsFirst kind plays None → IsFirst kind (plays ++ s ∷ []) (Some s.seed)
+  first_now : s.linearizable ≡ kind → IsFirst kind plays None → IsFirst kind (plays ++ s ∷ []) (Some s.seed)
   first_now is none = (
     length plays,
     s,
@@ -55,11 +54,16 @@ module _ (kind : Bool) (plays : List Seen) (s : Seen) where
     ],
   )
 
-  pub first_not : s.linearizable ≢ kind → IsFirst kind plays None → IsFirst kind (plays ++ s ∷ []) None
+  first_not : s.linearizable ≢ kind → IsFirst kind plays None → IsFirst kind (plays ++ s ∷ []) None
   first_not other none = λ k x at same. elim (at_push plays k s x at) [
     | inl old ↦ none k x old same
     | inr (k_is, is_new) ↦ other (sym (ap (λ (y : Seen). y.linearizable) is_new) ∙ same)
   ]
+
+  pub first_joined : (o : Option ℕ) (such : Bool) → (such ≡ true) ↔ (s.linearizable ≡ kind) → IsFirst kind plays o → IsFirst kind (plays ++ s ∷ []) (option_or o (then_some such s.seed))
+  first_joined None true is none = first_now (is.0 refl) none
+  first_joined None false is none = first_not (λ e. false≢true (is.1 e)) none
+  first_joined (Some seed) such is first = first_kept seed first
 
 pub first_tally : (s : Seen) (in_time late : Option ℕ) → IsFirst true (s ∷ []) in_time → IsFirst false (s ∷ []) late → IsTally (s ∷ []) (record { count = 1; events = s.events; seed = s.seed; in_time = in_time; late = late })
 first_tally s in_time late first other = record {

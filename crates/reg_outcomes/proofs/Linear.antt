@@ -1,13 +1,11 @@
 -- A serial order that keeps the real time, and points that were looked for.
-use Rattle.std.proofs.Common.{ℕ, ◌≡◌, ◌<◌, ◌↔◌, Bool, true, false, List, Option, Some, None, Vec, MatchOption, refl, sym, ◌∙◌}
+use Rattle.std.proofs.Common.{ℕ, ◌≡◌, ◌↔◌, Bool, true, List, Option, Some, None, Vec, MatchOption, sym, ◌∙◌}
 use Rattle.std.specs.Option.{is_some}
 use Rattle.std.proofs.lemmas.Bool.{false≢true}
-use Rattle.reg_base.specs.declared.memory.Answer.{Answer}
-use Rattle.reg_base.specs.declared.memory.Op.{Op}
 use Rattle.reg_base.specs.declared.memory.OpId.{OpId}
 use Rattle.reg_checkers.specs.declared.entries.Entry.{Entry}
 use Rattle.reg_checkers.specs.declared.entries.Point.{Point}
-use Rattle.reg_checkers.specs.History.{IsAnswered, IsAt, IsCalled, IsHistory}
+use Rattle.reg_checkers.specs.History.{IsHistory}
 use Rattle.reg_checkers.specs.Orders.{IsPointOrder, IsSerial}
 use Rattle.reg_outcomes.specs.Placing.{KeepsRealTime as StandsInTime}
 use Rattle.reg_outcomes.proofs.Pointing.{has_points}

@@ -1,6 +1,6 @@
 -- What is left once the outcomes are cut out, listed.
-use Rattle.std.proofs.Common.{◌≡◌, ℕ, ◌<◌, ◌≤◌, ◌+◌, List, ◌∷◌, length, map, drop, Option, None, Some, ap, ap₂, sym, ◌∙◌, subst, arith}
-use Rattle.std.specs.Prelude.{MatchOption}
+use Rattle.std.proofs.Common.{◌≡◌, ℕ, ◌<◌, ◌≤◌, ◌+◌, List, ◌∷◌, length, map, drop, Option, None, Some, Result, Ok, Err, ap, ap₂, sym, ◌∙◌, subst, arith}
+use Rattle.std.specs.Prelude.{IfOk, MatchOption, OnOk}
 use Rattle.std.specs.Option.{option_map}
 use Rattle.std.specs.declared.cmp.Ordering.{Ordering}
 use Rattle.std.specs.declared.cmp.Ordering.TheVariants.{Less}
@@ -34,7 +34,7 @@ module _ {K : Type 0} (read : K → List ToldValue) where
       ap₂ (λ x y. slice_cmp told_cmp x y) (sym a.2 ∙ sym (ap read (get_or_from_slice_get ks k a.0 a.0 a.1))) (sym b.2 ∙ sym (ap read (get_or_from_slice_get ks l b.0 a.0 b.1))) ∙ less
 
   module _ (outcomes : List (List ToldValue)) (first : List ToldValue) (at : IsAt outcomes 0 first) (ks left : List K) (all : AreCombinations outcomes (length first) (map read ks)) (is : IsCut read outcomes ks left) (ordered : IsStrictlySortedBy by left) where
-    pub tells_nevers : {X : Type 0} (items : X → List K) (most : ℕ) (found : Option X) → MatchOption found (most < length left) (λ list. (items list ≡ left) × (length left ≤ most)) → TellsNevers outcomes most (option_map (λ list. map read (items list)) found)
+    tells_nevers : {X : Type 0} (items : X → List K) (most : ℕ) (found : Option X) → MatchOption found (most < length left) (λ list. (items list ≡ left) × (length left ≤ most)) → TellsNevers outcomes most (option_map (λ list. map read (items list)) found)
     tells_nevers items most None more = record {
       nevers = map read left;
       more = (let e = length-map left read in omega (arith, e, more));
@@ -49,3 +49,9 @@ module _ {K : Type 0} (read : K → List ToldValue) where
       },
       (let e = length-map left read in omega (arith, e, few)),
     )
+
+  -- the same of a call
+  pub tells_listed : {X E : Type 0} (outcomes : List (List ToldValue)) (first : List ToldValue) → IsAt outcomes 0 first → (ks left : List K) → AreCombinations outcomes (length first) (map read ks) → IsCut read outcomes ks left → (items : X → List K) (most : ℕ) (r : Result (Option X) E) → OnOk r (IsStrictlySortedBy by left)
+      → IfOk r (λ found. MatchOption found (most < length left) (λ list. (items list ≡ left) × (length left ≤ most))) → IfOk r (λ found. TellsNevers outcomes most (option_map (λ list. map read (items list)) found))
+  tells_listed outcomes first at ks left all is items most (Ok found) ordered told = tells_nevers outcomes first at ks left all is ordered items most found told
+  tells_listed outcomes first at ks left all is items most (Err e) ordered told = tt

@@ -17,7 +17,7 @@ use Rattle.reg_checkers.proofs.Histories.{answered_was_called}
 use Rattle.reg_checkers.proofs.Places.{element_at, same_at, within}
 use Rattle.reg_outcomes.specs.declared.told.ToldValue.{ToldValue}
 use Rattle.reg_outcomes.specs.Told.{told_in, told_of, outcome_of}
-use Rattle.reg_outcomes.proofs.Elements.{take_at}
+use Rattle.reg_outcomes.proofs.Elements.{none_at_first, take_at}
 use Rattle.reg_world.proofs.lists.Members.{map_append}
 use Rattle.reg_world.proofs.one_memory.Replicas.{memory-append}
 use Rattle.reg_outcomes.specs.Interleavings.{Leads, Nothing, Turn, Stage, IsInterleaving, first_stage, stage_after, script_of}
@@ -28,11 +28,6 @@ use Rattle.reg_outcomes.proofs.Stepping.{has_script}
 
 take_next : {X : Type 0} (xs : List X) (k : ℕ) (x : X) → IsAt xs k x → take (suc k) xs ≡ take k xs ++ x ∷ []
 take_next xs k x at = let one : suc k ≡ k + 1 = omega arith in ap (λ n. take n xs) one ∙ take_at xs k x at
-
-none_at_first : (n p : ℕ) → slice_index (replicate n 0) p ≡ 0
-none_at_first zero p = refl
-none_at_first (suc n) zero = refl
-none_at_first (suc n) (suc p) = none_at_first n p
 
 length_of_script : (scripts : List (List Op)) (p : ℕ) → slice_index (map length scripts) p ≡ length (script_of scripts p)
 length_of_script [] p = refl

@@ -14,17 +14,13 @@ use Rattle.std.specs.Cmp.Lexicographic.{slice_cmp}
 use Rattle.std.proofs.lemmas.Cmp.{nat_cmp_total, on_total, then_total, back_total, tied_itself, ranked}
 use Rattle.reg_outcomes.specs.declared.told.ToldValue.{ToldValue}
 use Rattle.reg_outcomes.specs.Told.{told_cmp}
+use Rattle.reg_outcomes.proofs.Comparing.{equal_is}
 use Rattle.reg_outcomes.proofs.ToldOrder.{outcomes_exact, outcomes_total}
 use Rattle.reg_outcomes.specs.PlayTables.{Line, StandsBefore}
 use Rattle.reg_outcomes.specs.Counts.{line_cmp}
 
 pub keys_total : {K : Type 0} (items : K → List ToldValue) → IsTotalOrder (λ a b. slice_cmp told_cmp (items a) (items b))
 keys_total items = on_total items outcomes_total
-
-equal_is : (o : Ordering) → is_eq o ≡ true → o ≡ Equal
-equal_is Less h = absurd cc
-equal_is Equal h = refl
-equal_is Greater h = absurd cc
 
 -- outcomes that compare alike are one
 pub same_keys : (a b : List ToldValue) → is_eq (slice_cmp told_cmp a b) ≡ true → a ≡ b

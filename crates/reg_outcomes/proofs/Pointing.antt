@@ -1,6 +1,6 @@
 -- Points at the latest calls so far: of an order that keeps the real time they are a point order, and each point order
 -- keeps it. So where there is a point order, it is a serial order of fewer stages.
-use Rattle.std.proofs.Common.{◌≡◌, ◌⊎◌, inl, inr, ℕ, zero, suc, ◌+◌, ◌<◌, ◌≤◌, List, [], ◌∷◌, ◌++◌, length, map, take, Option, Some, None, Result, Ok, Err, Vec, MatchOption, IfOk, refl, ap, sym, ◌∙◌, subst, arith, length-append}
+use Rattle.std.proofs.Common.{◌≡◌, ◌⊎◌, inl, inr, ℕ, zero, suc, ◌+◌, ◌<◌, ◌≤◌, List, [], ◌∷◌, ◌++◌, length, map, max, take, Option, Some, None, Result, Ok, Err, Vec, MatchOption, IfOk, refl, ap, sym, ◌∙◌, subst, arith, length-append}
 use Rattle.std.proofs.lemmas.Bool.{cases_lt}
 use Rattle.std.proofs.lemmas.List.{take_all}
 use Rattle.reg_base.specs.Shape.{Extent}
@@ -134,23 +134,23 @@ pointing_none h ids ps e = record {
     nothing : (k : ℕ) (p : Point) → IsAt [] k p → ⊥
     nothing k p at = cc
 
-module _ (n registers : ℕ) (h : List Entry) (good : IsHistory n registers h) (ids : List OpId) (k at : ℕ) (ps : List Point) (old : IsPointing h ids k at ps) (id : OpId) (here : IsAt ids k id) (t : ℕ) (op : Op) (called : IsCalled h id t op) (now : ℕ) (latest : ((now ≡ at) × (t ≤ at)) ⊎ ((now ≡ t) × (at ≤ t))) where
+module _ (n registers : ℕ) (h : List Entry) (good : IsHistory n registers h) (ids : List OpId) (k at : ℕ) (ps : List Point) (old : IsPointing h ids k at ps) (id : OpId) (here : IsAt ids k id) (t : ℕ) (op : Op) (called : IsCalled h id t op) (now : ℕ) (latest : now ≡ max at t) where
   abbrev point : Point
   point = record { id = id; at = now }
 
   own_below : t ≤ now
-  own_below = elim latest [ inl (e, le) ↦ omega (arith, e, le) | inr (e, le) ↦ omega (arith, e) ]
+  own_below = omega (arith, latest)
 
   all_below : at ≤ now
-  all_below = elim latest [ inl (e, le) ↦ omega (arith, e) | inr (e, le) ↦ omega (arith, e, le) ]
+  all_below = omega (arith, latest)
 
   from : (j : ℕ) × (x : OpId) × (o : Op) × (j ≤ k) × IsAt ids j x × IsCalled h x now o
-  from = elim latest [
-    | inl (e, le) ↦ elim old.last [
-      | inl none ↦ (k, id, op, omega arith, here, subst (λ m. IsCalled h id m op) (omega (arith, e, le, none)) called)
-      | inr (j, x, o, lt, there, is) ↦ (j, x, o, omega (arith, lt), there, subst (λ m. IsCalled h x m o) (sym e) is)
+  from = elim (cases_lt at t) [
+    | inl lt ↦ (k, id, op, omega arith, here, subst (λ m. IsCalled h id m op) (omega (arith, latest, lt)) called)
+    | inr le ↦ elim old.last [
+      | inl none ↦ (k, id, op, omega arith, here, subst (λ m. IsCalled h id m op) (omega (arith, latest, le, none)) called)
+      | inr (j, x, o, lt, there, is) ↦ (j, x, o, omega (arith, lt), there, subst (λ m. IsCalled h x m o) (omega (arith, latest, le)) is)
     ]
-    | inr (e, le) ↦ (k, id, op, omega arith, here, subst (λ m. IsCalled h id m op) (sym e) called)
   ]
 
   pub pointing_more : (new : List Point) → new ≡ ps ++ point ∷ [] → IsPointing h ids (k + 1) now new
@@ -205,20 +205,17 @@ pointed h ids k at ps le is = record { same = is.same ∙ take_all k ids le; lat
 
 -- so an order that keeps the real time has points
 module _ (n registers : ℕ) (h : List Entry) (good : IsHistory n registers h) (ids : List OpId) (order : IsOrder Points registers h ids) where
-  later : (at t : ℕ) → (now : ℕ) × (((now ≡ at) × (t ≤ at)) ⊎ ((now ≡ t) × (at ≤ t)))
-  later at t = elim (cases_lt at t) [ inl lt ↦ (t, inr (refl, omega (arith, lt))) | inr le ↦ (at, inl (refl, le)) ]
-
   first_points : (k : ℕ) → k ≤ length ids → (at : ℕ) × (ps : List Point) × IsPointing h ids k at ps
   first_points zero le = (0, [], pointing_none h ids [] refl)
   first_points (suc k) le =
       let old = first_points k (omega arith) in
       let here = element_at ids k (omega arith) in
       let call = stands_called n registers h good ids order.serial k here.0 here.1 in
-      let now = later old.0 call.0 in
-      let new : List Point = old.1 ++ record { id = here.0; at = now.0 } ∷ [] in
-      let is = pointing_more n registers h good ids k old.0 old.1 old.2 here.0 here.1 call.0 call.1 call.2 now.0 now.1 new refl in
+      let now = max old.0 call.0 in
+      let new : List Point = old.1 ++ record { id = here.0; at = now } ∷ [] in
+      let is = pointing_more n registers h good ids k old.0 old.1 old.2 here.0 here.1 call.0 call.1 call.2 now refl new refl in
       let e : k + 1 ≡ suc k = omega arith in
-      (now.0, new, subst (λ (m : ℕ). IsPointing h ids m now.0 new) e is)
+      (now, new, subst (λ (m : ℕ). IsPointing h ids m now new) e is)
 
   pub has_points : (ps : List Point) × IsPointOrder registers h ps
   has_points =

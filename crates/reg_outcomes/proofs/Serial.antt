@@ -23,7 +23,7 @@ use Rattle.reg_checkers.proofs.NoOrder.{same_ops}
 use Rattle.reg_checkers.proofs.OwnOrder.{zip_push}
 use Rattle.reg_checkers.proofs.Places.{at_take, element_at, in_take, within}
 use Rattle.reg_checkers.proofs.Pushing.{at_push}
-use Rattle.reg_outcomes.proofs.Elements.{take_at as first_and_next}
+use Rattle.reg_outcomes.proofs.Elements.{none_at_first, take_at as first_and_next}
 use Rattle.reg_world.proofs.lists.Bodies.{place_first, place_last}
 use Rattle.reg_world.proofs.lists.Members.{at_in}
 use Rattle.reg_world.proofs.one_memory.Replicas.{memory-append}
@@ -34,11 +34,6 @@ use Rattle.reg_outcomes.specs.Interleavings.{Stage, first_stage}
 use Rattle.reg_outcomes.specs.Placing.{IsComplete, IsOrder, IsOrderBy, KeepsRealTime, KeepsTime, ids_along}
 use Rattle.reg_outcomes.proofs.Layering.{no_more}
 use Rattle.reg_outcomes.proofs.Placed.{IsPlacedLayer, along, in_bounds, room}
-
-none_at_first : (n p : ℕ) → slice_index (replicate n 0) p ≡ 0
-none_at_first zero p = refl
-none_at_first (suc n) zero = refl
-none_at_first (suc n) (suc p) = none_at_first n p
 
 as_long : {X Y : Type 0} (R : X → Y → Type 0) (xs : List X) (ys : List Y) → AllZip R xs ys → length xs ≡ length ys
 as_long R [] [] all = refl

@@ -7,9 +7,10 @@ use Rattle.std.proofs.lemmas.Option.{slice_get_within, same_Some}
 use Rattle.reg_base.specs.declared.memory.Op.{Op}
 use Rattle.reg_base.specs.Order.{In}
 use Rattle.reg_checkers.specs.History.{IsAt}
+use Rattle.reg_outcomes.specs.declared.layers.GrowingLayer.{GrowingLayer}
 use Rattle.reg_outcomes.specs.declared.stages.Stage.{Stage as Held}
 use Rattle.reg_outcomes.specs.Interleavings.{Stage, script_of, stage_after}
-use Rattle.reg_outcomes.specs.Layers.{Adds, IsAfterSome, IsFirstOf, IsFirstStep, IsNext, IsReady, IsSomeOf, IsStep, reached}
+use Rattle.reg_outcomes.specs.Layers.{Adds, IsAfterSome, IsFirstOf, IsFirstStep, IsNext, IsReady, IsSomeOf, IsStep, entries_of, reached}
 
 -- so many operations of each script are behind
 abbrev pub AreBehind : List ℕ → List (List Op) → Type 0
@@ -102,7 +103,8 @@ module _ {X : Type 0} (read : X → Stage × List ℕ) (Step : ℕ → Stage × 
   next_cases (from, at, next) = elim (in_cases read xs x from at) [ inl old ↦ inl (from, old, next) | inr e ↦ inr (subst (λ r. IsSomeOf Step r f) e next) ]
 
 -- entries are behind, and what follows them was added, within the limit
-pub record IsUnderWay {A : Type 0} (Step : ℕ → Stage × List ℕ → Stage × List ℕ → Type 0) (limit : ℕ) (behind ahead all next : List (Held A × Vec ℕ A)) : Type 0 where
+pub record IsUnderWay {A : Type 0} (Step : ℕ → Stage × List ℕ → Stage × List ℕ → Type 0) (limit : ℕ) (behind ahead all : List (Held A × Vec ℕ A)) (next : GrowingLayer A) : Type 0 where
   pub split : behind ++ ahead ≡ all
-  pub added : Adds (IsAfterSome Step (map reached behind)) [] (map reached next)
-  pub narrow : length next ≤ limit
+  pub added : Adds (IsAfterSome Step (map reached behind)) [] (entries_of next.layer)
+  pub narrow : length next.layer.entries ≤ limit
+  pub kept : next.limit ≡ limit

@@ -1,6 +1,6 @@
 //! Orders of a history, found or by proof none: operations are placed one after another (Wing and Gong 1993), and each
 //! stage that they lead to is kept once (Lowe 2017).
-ghost use Rattle.std.specs.Prelude.{◌≡◌, [], ℕ, List, ◌<◌, ◌≤◌, ◌⊎◌, ◌↔◌, IsTrue, MatchOption, IfOk, IfErr, IfSome, OnOk, length, replicate, slice_index};
+ghost use Rattle.std.specs.Prelude.{◌≡◌, [], ℕ, List, ◌<◌, ◌≤◌, ◌↔◌, IsTrue, MatchOption, IfOk, IfErr, IfSome, OnOk, length, replicate, slice_index};
 ghost use Rattle.reg_base.specs.declared.memory.Op.{Op as AnyOp};
 ghost use Rattle.reg_base.specs.declared.memory.OpId.{OpId as AnyId};
 ghost use Rattle.reg_base.specs.Memory.{register_of};
@@ -17,27 +17,19 @@ ghost use Rattle.reg_outcomes.specs.Placing.{ArePointsOf, HasRoomFor, IsOrder, I
 use crate::faults::InterleavingFault;
 use crate::finder::Finder;
 use crate::kinds::OrderKind;
-use crate::layers::{Layer, add_stage, first_layer};
+use crate::layers::{GrowingLayer, Layer, first_layer};
 use crate::stages::Stage;
 use crate::tables::Invocation;
 use reg_base::{Answer, Op, OpId};
 use reg_checkers::{History, Point};
 use std::alloc::{AllocError, Allocator, Global};
-use std::collections::BTreeMap;
-
-/// Whether these answers are one.
-fn is_same(given: Answer, answer: Answer) -> bool
-    ensures { IsTrue result ↔ (given ≡ answer) }
-{
-    given == answer
-}
 
 /// Whether an operation may come where the memory gives it this answer.
 fn may_come<A: Allocator + Copy>(finder: &Finder<'_, A>, id: OpId, op: Op, answer: Answer) -> bool
     ensures { IsTrue result ↔ MayCome finder.now.entries id op answer }
 {
     match finder.response(id) {
-        Some(given) => is_same(given.answer, answer),
+        Some(given) => given.answer == answer,
         None => op.updates(),
     }
 }
@@ -114,48 +106,50 @@ fn placeable<A: Allocator + Copy>(
     Some(call.op)
 }
 
-/// Adds the stage after the next operation of a process, where that may come next.
-fn add_place<A: Allocator + Copy>(
-    alloc: A,
-    finder: &Finder<'_, A>,
-    stage: &Stage<A>,
-    turns: &[u8],
-    process: u8,
-    layer: &mut Layer<A>,
-) -> Result<(), InterleavingFault>
-    requires process { process < finder.now.shape.processes }
-    requires history { IsHistory finder.now.shape.processes finder.now.shape.registers finder.now.entries }
-    requires room { HasRoomFor finder.now.shape.processes finder.now.shape.registers (stage_of stage.now) }
-    ensures adds { OnOk result (Adds (IsPlacing finder.now.kind finder.now.entries process (stage_of stage.now, turns.now)) (entries_of layer.old) (entries_of layer.new)) }
-    ensures refused { IfErr result (Refuses finder.now.limit (IsPlacing finder.now.kind finder.now.entries process (stage_of stage.now, turns.now)) (entries_of layer.old)) }
-{
-    match placeable(finder, stage, process) {
-        Some(op) => {
-            let later = stage_placed(alloc, stage, process, op)?;
-            add_stage(alloc, later, turns, process, finder.limit(), layer)
+impl<A: Allocator + Copy> GrowingLayer<A> {
+    /// Adds the stage after the next operation of a process, where that may come next.
+    fn add_place(
+        &mut self,
+        finder: &Finder<'_, A>,
+        stage: &Stage<A>,
+        turns: &[u8],
+        process: u8,
+    ) -> Result<(), InterleavingFault>
+        requires process { process < finder.now.shape.processes }
+        requires history { IsHistory finder.now.shape.processes finder.now.shape.registers finder.now.entries }
+        requires room { HasRoomFor finder.now.shape.processes finder.now.shape.registers (stage_of stage.now) }
+        ensures adds { OnOk result (Adds (IsPlacing finder.now.kind finder.now.entries process (stage_of stage.now, turns.now)) (entries_of self.old.layer) (entries_of self.new.layer)) }
+        ensures limit { self.new.limit ≡ self.old.limit }
+        ensures refused { IfErr result (Refuses self.old.limit (IsPlacing finder.now.kind finder.now.entries process (stage_of stage.now, turns.now)) (entries_of self.old.layer)) }
+    {
+        match placeable(finder, stage, process) {
+            Some(op) => {
+                let later = stage_placed(self.alloc, stage, process, op)?;
+                self.add_stage(later, turns, process)
+            }
+            None => Ok(()),
         }
-        None => Ok(()),
     }
-}
 
-/// Adds the stage after the next operation of each process, where that may come next.
-fn add_places<A: Allocator + Copy>(
-    alloc: A,
-    finder: &Finder<'_, A>,
-    stage: &Stage<A>,
-    turns: &[u8],
-    layer: &mut Layer<A>,
-) -> Result<(), InterleavingFault>
-    requires history { IsHistory finder.now.shape.processes finder.now.shape.registers finder.now.entries }
-    requires room { HasRoomFor finder.now.shape.processes finder.now.shape.registers (stage_of stage.now) }
-    ensures adds { OnOk result (Adds (IsSomeOf (IsPlacing finder.now.kind finder.now.entries) (stage_of stage.now, turns.now)) (entries_of layer.old) (entries_of layer.new)) }
-    ensures refused { IfErr result (Refuses finder.now.limit (IsSomeOf (IsPlacing finder.now.kind finder.now.entries) (stage_of stage.now, turns.now)) (entries_of layer.old)) }
-{
-    let processes = finder.shape().processes() as u8;
-    for process in 0..processes {
-        add_place(alloc, finder, stage, turns, process, layer)?;
+    /// Adds the stage after the next operation of each process, where that may come next.
+    fn add_places(
+        &mut self,
+        finder: &Finder<'_, A>,
+        stage: &Stage<A>,
+        turns: &[u8],
+    ) -> Result<(), InterleavingFault>
+        requires history { IsHistory finder.now.shape.processes finder.now.shape.registers finder.now.entries }
+        requires room { HasRoomFor finder.now.shape.processes finder.now.shape.registers (stage_of stage.now) }
+        ensures adds { OnOk result (Adds (IsSomeOf (IsPlacing finder.now.kind finder.now.entries) (stage_of stage.now, turns.now)) (entries_of self.old.layer) (entries_of self.new.layer)) }
+        ensures limit { self.new.limit ≡ self.old.limit }
+        ensures refused { IfErr result (Refuses self.old.limit (IsSomeOf (IsPlacing finder.now.kind finder.now.entries) (stage_of stage.now, turns.now)) (entries_of self.old.layer)) }
+    {
+        let processes = finder.shape().processes() as u8;
+        for process in 0..processes {
+            self.add_place(finder, stage, turns, process)?;
+        }
+        Ok(())
     }
-    Ok(())
 }
 
 /// What a layer gives: turns that place all finished operations, or the next layer.
@@ -176,14 +170,14 @@ fn search_layer<A: Allocator + Copy>(
     ensures searched { IfOk result (λ search. IsSearched finder.now.kind finder.now.entries (entries_of layer) search) }
     ensures refused { IfErr result (Refuses finder.now.limit (IsAfterSome (IsPlacing finder.now.kind finder.now.entries) (entries_of layer)) []) }
 {
-    let mut next = BTreeMap::new(alloc);
+    let mut next = GrowingLayer::new(alloc, finder.limit());
     for (stage, turns) in layer {
         if finder.is_complete(&stage.next) {
             return Ok(Search::Found(turns));
         }
-        add_places(alloc, finder, &stage, &turns, &mut next)?;
+        next.add_places(finder, &stage, &turns)?;
     }
-    Ok(Search::Open(next))
+    Ok(Search::Open(next.layer))
 }
 
 /// The ids of operations that stand by process.
@@ -197,8 +191,8 @@ fn ids_of_turns<A: Allocator + Copy>(
 {
     let mut next: Vec<u32, A> = vec![in alloc; 0; processes]?;
     let mut ids = Vec::new(alloc);
-    for k in 0..turns.len() {
-        let process = turns[k];
+    for turn in turns {
+        let process = *turn;
         let number = next_number(&next, process);
         ids.push(OpId { process, number })?;
         next[usize::from(process)] = number + 1;
@@ -276,13 +270,6 @@ pub fn find_serial<A: Allocator + Copy>(
     }
 }
 
-/// The later of two events.
-fn latest(at: u32, other: u32) -> u32
-    ensures { ((result ≡ at) × (other ≤ at)) ⊎ ((result ≡ other) × (at ≤ other)) }
-{
-    if at < other { other } else { at }
-}
-
 /// The event of a call that the history has.
 fn event_of_call<A: Allocator + Copy>(finder: &Finder<'_, A>, id: OpId) -> u32
     requires { WasCalled finder.now.entries id }
@@ -305,11 +292,10 @@ fn points_of<A: Allocator + Copy>(
     ensures { IfOk result (λ v. ArePointsOf finder.now.entries ids.now v.items) }
 {
     let mut points = Vec::with_capacity(alloc, ids.len())?;
-    let mut at = 0;
-    for k in 0..ids.len() {
-        let id = ids[k];
-        at = latest(at, event_of_call(finder, id));
-        points.push(Point { id, at })?;
+    let mut at: u32 = 0;
+    for id in ids {
+        at = at.max(event_of_call(finder, *id));
+        points.push(Point { id: *id, at })?;
     }
     Ok(points)
 }

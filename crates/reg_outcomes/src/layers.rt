@@ -29,75 +29,94 @@ fn with_turn<A: Allocator + Copy>(
     Ok(longer)
 }
 
-/// Adds a stage, unless it is there. One more turn, of this process, leads to it.
-pub(crate) fn add_stage<A: Allocator + Copy>(
-    alloc: A,
-    stage: Stage<A>,
-    turns: &[u8],
-    process: u8,
-    limit: u32,
-    layer: &mut Layer<A>,
-) -> Result<(), InterleavingFault>
-    ensures adds { OnOk result (Adds (λ f. f ≡ (stage_of stage, turns.now ++ process ∷ [])) (entries_of layer.old) (entries_of layer.new)) }
-    ensures narrow { OnOk result (length layer.old.entries ≤ limit → length layer.new.entries ≤ limit) }
-    ensures refused { IfErr result (Refuses limit (λ f. f ≡ (stage_of stage, turns.now ++ process ∷ [])) (entries_of layer.old)) }
-{
-    if layer.contains_key(&stage) {
-        return Ok(());
-    }
-    if layer.len() >= limit as usize {
-        return Err(InterleavingFault::TooManyStages);
-    }
-    let turns = with_turn(alloc, turns, process)?;
-    layer.insert(stage, turns)?;
-    Ok(())
+/// A layer while stages are added to it, and how many it may have at most.
+#[derive(Drop)]
+pub(crate) struct GrowingLayer<A: Allocator + Copy = Global> {
+    pub(crate) alloc: A,
+    pub(crate) limit: u32,
+    pub(crate) layer: Layer<A>,
 }
 
-/// Adds the stage after the next operation of a process, if it has one.
-fn add_step<A: Allocator + Copy>(
-    alloc: A,
-    scripts: &[Vec<Op, A>],
-    stage: &Stage<A>,
-    turns: &[u8],
-    process: u8,
-    limit: u32,
-    layer: &mut Layer<A>,
-) -> Result<(), InterleavingFault>
-    requires process { process < length scripts.now }
-    requires ready { IsReady (map (λ v. v.items) scripts.now) (stage_of stage.now) }
-    ensures adds { OnOk result (Adds (IsStep (map (λ v. v.items) scripts.now) process (stage_of stage.now, turns.now)) (entries_of layer.old) (entries_of layer.new)) }
-    ensures narrow { OnOk result (length layer.old.entries ≤ limit → length layer.new.entries ≤ limit) }
-    ensures refused { IfErr result (Refuses limit (IsStep (map (λ v. v.items) scripts.now) process (stage_of stage.now, turns.now)) (entries_of layer.old)) }
-{
-    match stage.next_op(scripts, process) {
-        Some(op) => {
-            let later = stage.after(alloc, process, op)?;
-            add_stage(alloc, later, turns, process, limit, layer)
+impl<A: Allocator + Copy> GrowingLayer<A> {
+    /// No stage is there yet.
+    pub(crate) fn new(alloc: A, limit: u32) -> GrowingLayer<A>
+        ensures empty { result.layer.entries ≡ [] }
+        ensures limit { result.limit ≡ limit }
+    {
+        GrowingLayer {
+            alloc,
+            limit,
+            layer: BTreeMap::new(alloc),
         }
-        None => Ok(()),
     }
-}
 
-/// Adds the stage after the next operation of each process that has one.
-fn add_steps<A: Allocator + Copy>(
-    alloc: A,
-    scripts: &[Vec<Op, A>],
-    stage: &Stage<A>,
-    turns: &[u8],
-    limit: u32,
-    layer: &mut Layer<A>,
-) -> Result<(), InterleavingFault>
-    requires few { length scripts.now ≤ MOST_PROCESSES }
-    requires ready { IsReady (map (λ v. v.items) scripts.now) (stage_of stage.now) }
-    ensures adds { OnOk result (Adds (IsNext (map (λ v. v.items) scripts.now) (stage_of stage.now, turns.now)) (entries_of layer.old) (entries_of layer.new)) }
-    ensures narrow { OnOk result (length layer.old.entries ≤ limit → length layer.new.entries ≤ limit) }
-    ensures refused { IfErr result (Refuses limit (IsNext (map (λ v. v.items) scripts.now) (stage_of stage.now, turns.now)) (entries_of layer.old)) }
-{
-    let processes = scripts.len() as u8;
-    for process in 0..processes {
-        add_step(alloc, scripts, stage, turns, process, limit, layer)?;
+    /// Adds a stage, unless it is there. One more turn, of this process, leads to it.
+    pub(crate) fn add_stage(
+        &mut self,
+        stage: Stage<A>,
+        turns: &[u8],
+        process: u8,
+    ) -> Result<(), InterleavingFault>
+        ensures adds { OnOk result (Adds (λ f. f ≡ (stage_of stage, turns.now ++ process ∷ [])) (entries_of self.old.layer) (entries_of self.new.layer)) }
+        ensures narrow { OnOk result (length self.old.layer.entries ≤ self.old.limit → length self.new.layer.entries ≤ self.old.limit) }
+        ensures limit { self.new.limit ≡ self.old.limit }
+        ensures refused { IfErr result (Refuses self.old.limit (λ f. f ≡ (stage_of stage, turns.now ++ process ∷ [])) (entries_of self.old.layer)) }
+    {
+        if self.layer.contains_key(&stage) {
+            return Ok(());
+        }
+        if self.layer.len() >= self.limit as usize {
+            return Err(InterleavingFault::TooManyStages);
+        }
+        let turns = with_turn(self.alloc, turns, process)?;
+        self.layer.insert(stage, turns)?;
+        Ok(())
     }
-    Ok(())
+
+    /// Adds the stage after the next operation of a process, if it has one.
+    fn add_step(
+        &mut self,
+        scripts: &[Vec<Op, A>],
+        stage: &Stage<A>,
+        turns: &[u8],
+        process: u8,
+    ) -> Result<(), InterleavingFault>
+        requires process { process < length scripts.now }
+        requires ready { IsReady (map (λ v. v.items) scripts.now) (stage_of stage.now) }
+        ensures adds { OnOk result (Adds (IsStep (map (λ v. v.items) scripts.now) process (stage_of stage.now, turns.now)) (entries_of self.old.layer) (entries_of self.new.layer)) }
+        ensures narrow { OnOk result (length self.old.layer.entries ≤ self.old.limit → length self.new.layer.entries ≤ self.old.limit) }
+        ensures limit { self.new.limit ≡ self.old.limit }
+        ensures refused { IfErr result (Refuses self.old.limit (IsStep (map (λ v. v.items) scripts.now) process (stage_of stage.now, turns.now)) (entries_of self.old.layer)) }
+    {
+        match stage.next_op(scripts, process) {
+            Some(op) => {
+                let later = stage.after(self.alloc, process, op)?;
+                self.add_stage(later, turns, process)
+            }
+            None => Ok(()),
+        }
+    }
+
+    /// Adds the stage after the next operation of each process that has one.
+    fn add_steps(
+        &mut self,
+        scripts: &[Vec<Op, A>],
+        stage: &Stage<A>,
+        turns: &[u8],
+    ) -> Result<(), InterleavingFault>
+        requires few { length scripts.now ≤ MOST_PROCESSES }
+        requires ready { IsReady (map (λ v. v.items) scripts.now) (stage_of stage.now) }
+        ensures adds { OnOk result (Adds (IsNext (map (λ v. v.items) scripts.now) (stage_of stage.now, turns.now)) (entries_of self.old.layer) (entries_of self.new.layer)) }
+        ensures narrow { OnOk result (length self.old.layer.entries ≤ self.old.limit → length self.new.layer.entries ≤ self.old.limit) }
+        ensures limit { self.new.limit ≡ self.old.limit }
+        ensures refused { IfErr result (Refuses self.old.limit (IsNext (map (λ v. v.items) scripts.now) (stage_of stage.now, turns.now)) (entries_of self.old.layer)) }
+    {
+        let processes = scripts.len() as u8;
+        for process in 0..processes {
+            self.add_step(scripts, stage, turns, process)?;
+        }
+        Ok(())
+    }
 }
 
 /// All stages after one turn more.
@@ -113,11 +132,11 @@ pub(crate) fn next_layer<A: Allocator + Copy>(
     ensures narrow { IfOk result (λ next. length next.entries ≤ limit) }
     ensures refused { IfErr result (Refuses limit (IsNextOf (map (λ v. v.items) scripts.now) (entries_of layer)) []) }
 {
-    let mut next = BTreeMap::new(alloc);
+    let mut next = GrowingLayer::new(alloc, limit);
     for (stage, turns) in layer {
-        add_steps(alloc, scripts, &stage, &turns, limit, &mut next)?;
+        next.add_steps(scripts, &stage, &turns)?;
     }
-    Ok(next)
+    Ok(next.layer)
 }
 
 /// The stage that no turn leads to.

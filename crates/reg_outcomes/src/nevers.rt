@@ -146,6 +146,5 @@ pub fn nevers_of<A: Allocator + Copy>(
         return Ok(None);
     };
     remove_told(outcomes, &mut combinations);
-    let found = listed_within(alloc, combinations)?;
-    Ok(found)
+    listed_within(alloc, combinations)
 }

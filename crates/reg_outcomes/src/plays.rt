@@ -1,5 +1,5 @@
 //! Many plays of a workload, and what they told.
-ghost use Rattle.std.specs.Prelude.{◌≡◌, ◌≤◌, ◌<◌, ◌++◌, ◌∷◌, ◌-◌, ◌^◌, ◌+◌, List, [], IfOk, IfErr, OnOk, length};
+ghost use Rattle.std.specs.Prelude.{◌≡◌, ◌≤◌, ◌<◌, ◌++◌, ◌∷◌, ◌+◌, List, [], IfOk, IfErr, OnOk, length};
 ghost use Rattle.reg_outcomes.specs.declared.kinds.OrderKind.TheVariants.{Points};
 ghost use Rattle.reg_outcomes.specs.declared.outcomes.TheConstants.{MOST_STAGES};
 ghost use Rattle.reg_outcomes.specs.Finding.{IsFindFault};

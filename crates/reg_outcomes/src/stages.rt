@@ -1,6 +1,6 @@
 //! Where interleaved scripts stand.
-ghost use Rattle.std.specs.Prelude.{◌≡◌, ◌<◌, ◌≤◌, ◌-◌, length, slice_get, slice_index, map, IfOk, OnOk, insert};
-ghost use Rattle.reg_base.specs.Memory.{after, register_of};
+ghost use Rattle.std.specs.Prelude.{◌≡◌, ◌<◌, ◌≤◌, length, slice_get, slice_index, map, IfOk, OnOk, insert};
+ghost use Rattle.reg_base.specs.Memory.{register_of};
 ghost use Rattle.reg_outcomes.specs.declared.told.ToldValue.{ToldValue as AnyValue};
 ghost use Rattle.reg_outcomes.specs.Interleavings.{first_stage, script_of, stage_after, told_after, told_behind};
 ghost use Rattle.reg_outcomes.specs.Layers.{stage_of};

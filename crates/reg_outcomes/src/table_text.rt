@@ -107,9 +107,8 @@ fn put_rows<A: Allocator + Copy, W: Write>(sink: &mut Sink<'_, W>, rows: &[Row<A
 fn put_undrawn<W: Write>(sink: &mut Sink<'_, W>, undrawn: Option<usize>)
     ensures { Puts W.contents sink.old sink.new (text_of (undrawn_lines undrawn)) }
 {
-    match undrawn {
-        Some(count) => put_count(sink, "never drawn ", count as u64),
-        None => (),
+    if let Some(count) = undrawn {
+        put_count(sink, "never drawn ", count as u64);
     }
 }
 

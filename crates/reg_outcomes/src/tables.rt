@@ -33,7 +33,7 @@ fn empty_lists<T: Copy, A: Allocator + Copy>(
     ensures none { IfOk result (λ v. (p : ℕ) → list_of (lists_of v.items) p ≡ []) }
 {
     let mut lists: Vec<Vec<T, A>, A> = Vec::new(alloc);
-    for _p in 0..processes {
+    for _process in 0..processes {
         lists.push(Vec::new(alloc))?;
     }
     Ok(lists)
@@ -60,10 +60,7 @@ fn item_at<T: Copy, A: Allocator + Copy>(
 ) -> Option<T>
     ensures { result ≡ slice_get (list_of (lists_of lists.now) process) place }
 {
-    match lists.get(process) {
-        Some(list) => list.get(place).copied(),
-        None => None,
-    }
+    lists.get(process)?.get(place).copied()
 }
 
 /// The number of a process's next operation, where so many of each process are placed.
@@ -147,14 +144,14 @@ fn note<A: Allocator + Copy>(
     table: &mut Table<A>,
     shape: Shape,
     entries: &[Entry],
-    i: usize,
+    place: usize,
 ) -> Result<(), AllocError>
-    requires place { i < length entries.now }
+    requires place { place < length entries.now }
     requires history { IsHistory shape.processes shape.registers entries.now }
-    requires table { IsTable shape.processes (take i entries.now) (lists_of table.old.invocations.items) (lists_of table.old.responses.items) }
-    ensures { OnOk result (IsTable shape.processes (take (i + 1) entries.now) (lists_of table.new.invocations.items) (lists_of table.new.responses.items)) }
+    requires table { IsTable shape.processes (take place entries.now) (lists_of table.old.invocations.items) (lists_of table.old.responses.items) }
+    ensures { OnOk result (IsTable shape.processes (take (place + 1) entries.now) (lists_of table.new.invocations.items) (lists_of table.new.responses.items)) }
 {
-    match entries[i] {
+    match entries[place] {
         Entry::Called { at, id, op } => {
             push_to(&mut table.invocations, id.process, Invocation { op, at })
         }
@@ -177,8 +174,8 @@ pub(crate) fn table_of<A: Allocator + Copy>(
         invocations: empty_lists(alloc, shape.processes())?,
         responses: empty_lists(alloc, shape.processes())?,
     };
-    for i in 0..entries.len() {
-        note(&mut table, shape, entries, i)?;
+    for place in 0..entries.len() {
+        note(&mut table, shape, entries, place)?;
     }
     Ok(table)
 }

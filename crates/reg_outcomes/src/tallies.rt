@@ -48,10 +48,7 @@ pub struct Tallies<A: Allocator + Copy = Global> {
 fn first_of(seed: Option<u64>, glance: Glance, is_such: bool) -> Option<u64>
     ensures { (kind : Bool) (plays : List Seen) (outcome : List ToldValue) → (is_such ≡ true) ↔ (glance.linearizable ≡ kind) → IsFirst kind plays seed → IsFirst kind (plays ++ finished_play outcome glance ∷ []) result }
 {
-    match seed {
-        Some(seed) => Some(seed),
-        None => { if is_such { Some(glance.seed) } else { None } }
-    }
+    seed.or(is_such.then_some(glance.seed))
 }
 
 /// What is told of one play.

@@ -2,8 +2,7 @@
 ghost use Rattle.std.specs.Prelude.{◌≡◌, ◌++◌, IfOk, OnOk, MatchOption, [], ◌∷◌};
 ghost use Rattle.reg_outcomes.specs.Told.{outcome_of, told_at, told_of};
 
-use reg_base::limits::MOST_PROCESSES;
-use reg_base::{Answer, OpId};
+use reg_base::Answer;
 use reg_checkers::{Entry, History};
 use std::alloc::{AllocError, Allocator};
 
@@ -22,22 +21,16 @@ fn told_by(process: u8, entry: Entry) -> Option<ToldValue>
     ensures { MatchOption result (told_at process entry ≡ []) (λ told. told_at process entry ≡ told ∷ []) }
 {
     match entry {
-        Entry::Called { .. } => None,
-        Entry::Answered { at: _, id, answer } => match answer {
-            Answer::Done => None,
-            Answer::Value(value) => {
-                if id.process == process {
-                    let OpId { process, number } = id;
-                    Some(ToldValue {
-                        process,
-                        number,
-                        value,
-                    })
-                } else {
-                    None
-                }
-            }
-        },
+        Entry::Answered {
+            id,
+            answer: Answer::Value(value),
+            ..
+        } if id.process == process => Some(ToldValue {
+            process,
+            number: id.number,
+            value,
+        }),
+        _ => None,
     }
 }
 

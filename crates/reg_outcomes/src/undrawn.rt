@@ -1,5 +1,5 @@
 //! How many outcomes no play had.
-ghost use Rattle.std.specs.Prelude.{◌≡◌, ◌++◌, ◌∷◌, [], ◌+◌, ◌-◌, ◌^◌, ◌<◌, ◌≤◌, ℕ, List, IfOk};
+ghost use Rattle.std.specs.Prelude.{◌++◌, ◌∷◌, [], ◌+◌, ◌-◌, ◌^◌, ◌<◌, ◌≤◌, ℕ, List, IfOk};
 ghost use Rattle.reg_outcomes.specs.Interleavings.{Interleaving};
 ghost use Rattle.reg_outcomes.specs.PlayTables.{Seen};
 ghost use Rattle.reg_outcomes.specs.Counts.{IsCounted};

@@ -1,4 +1,4 @@
-use Rattle.std.proofs.Common.{inl, inr, sym, ◌∙◌}
+use Rattle.std.proofs.Common.{◌≡◌, ◌↔◌, IsTrue, inl, inr, rules, sym, ◌∙◌}
 use Rattle.reg_checkers.specs.History.{IsAnswered, IsFinished}
 use Rattle.reg_checkers.proofs.Histories.{answer_is}
 use Rattle.reg_outcomes.proofs.finding.may_come.Goals as goal
@@ -8,9 +8,10 @@ returns-in-Some g c =
     let s = c.args.finder.now in
     let id = c.args.id in
     let given = c.in-Some.given in
+    let same : IsTrue c.eq.result ↔ (given.answer ≡ c.args.answer) = search rules in
     let is : IsAnswered s.entries id given.at given.answer = c.in-Some.ensures.value in (
-      λ t. (λ at answer a. (answer_is s.shape.processes s.shape.registers s.entries c.in-Some.ensures.in_place id at given.at answer given.answer a is).1 ∙ c.is_same.ensures.0 t, inl (given.at, given.answer, is)),
-      λ may. c.is_same.ensures.1 (may.0 given.at given.answer is),
+      λ t. (λ at answer a. (answer_is s.shape.processes s.shape.registers s.entries c.in-Some.ensures.in_place id at given.at answer given.answer a is).1 ∙ same.0 t, inl (given.at, given.answer, is)),
+      λ may. same.1 (may.0 given.at given.answer is),
     )
 
 pub returns-in-None : goal.returns-in-None

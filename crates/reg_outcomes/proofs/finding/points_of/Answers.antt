@@ -8,10 +8,10 @@ abbrev blank : OpId
 blank = record { process = 0; number = 0 }
 
 pub event_of_call-requires : goal.event_of_call-requires
-event_of_call-requires g c = c.requires.called c.loop-k.k _ (slice_get-get_or c.args.ids.now c.loop-k.k blank c.loop-k-test.true)
+event_of_call-requires g c = c.requires.called c.loop-id.id-index _ (slice_get-get_or c.args.ids.now c.loop-id.id-index blank c.loop-id-test.true)
 
-pub loop-k-preserved : goal.loop-k-preserved
-loop-k-preserved g c =
+pub loop-id-preserved : goal.loop-id-preserved
+loop-id-preserved g c =
     let s = c.args.finder.now in
     let call = c.event_of_call.ensures in
-    pointing_more s.shape.processes s.shape.registers s.entries c.requires.history c.args.ids.now c.loop-k.k c.loop-k.at c.loop-k.points.items c.loop-k.invariant _ (slice_get-get_or c.args.ids.now c.loop-k.k blank c.loop-k-test.true) c.event_of_call.result call.0 call.1 c.latest-at.result c.latest-at.ensures c.push.new.self.items c.in_ok-push.ensures.items
+    pointing_more s.shape.processes s.shape.registers s.entries c.requires.history c.args.ids.now c.loop-id.id-index c.loop-id.at c.loop-id.points.items c.loop-id.invariant _ (slice_get-get_or c.args.ids.now c.loop-id.id-index blank c.loop-id-test.true) c.event_of_call.result call.0 call.1 c.max-at.result c.max-at.ensures c.push.new.self.items c.in_ok-push.ensures.items

@@ -31,14 +31,14 @@ returns-in_err-add_places-clause-refused g c =
     let Step = IsPlacing c.args.finder.now.kind c.args.finder.now.entries in
     let layer = entries_of c.args.layer in
     let old = map reached c.loop-stage.yielded in
-    let next = entries_of c.loop-stage.next in
+    let next = entries_of c.loop-stage.next.layer in
     let behind = one_behind c.loop-stage.yielded c.loop-stage.stage-iterator c.next.new.self c.args.layer.entries item c.loop-stage.invariant.split c.in-Some.ensures.steps in
     let p = err_from_is_err_and c.from_residual.result c.from_residual.ensures.1 in
-    rw (p.1, p.2)
-    (refuses_then c.args.finder.now.limit (IsAfterSome Step old) (IsSomeOf Step (reached item)) (IsAfterSome Step layer) [] next c.in_err-add_places.field-0.0
+    rw (p.1, p.2, ← c.loop-stage.invariant.limit)
+    (refuses_then c.loop-stage.next.limit (IsAfterSome Step old) (IsSomeOf Step (reached item)) (IsAfterSome Step layer) [] next c.in_err-add_places.field-0.0
     (λ f h. let n = next_more reached Step c.loop-stage.yielded item f h in (n.0, among reached (c.loop-stage.yielded ++ item ∷ []) c.next.new.self c.args.layer.entries n.0 behind n.1, n.2))
     c.loop-stage.invariant.added
-    (subst (λ (t : List ℕ). Refuses c.args.finder.now.limit (IsSomeOf Step (stage_of c.in-Some.stage, t)) next c.in_err-add_places.field-0.0) c.deref-in-loop-stage.ensures.value c.in_err-add_places.ensures.refused))
+    (subst (λ (t : List ℕ). Refuses c.loop-stage.next.limit (IsSomeOf Step (stage_of c.in-Some.stage, t)) next c.in_err-add_places.field-0.0) c.deref-in-loop-stage.ensures.value c.in_err-add_places.ensures.refused))
 
 pub loop-stage-preserved : goal.loop-stage-preserved
 loop-stage-preserved g c =
@@ -46,8 +46,8 @@ loop-stage-preserved g c =
     let h = c.args.finder.now.entries in
     let Step = IsPlacing c.args.finder.now.kind h in
     let old = map reached c.loop-stage.yielded in
-    let next = entries_of c.loop-stage.next in
-    let now = entries_of c.add_places.new.layer in
+    let next = entries_of c.loop-stage.next.layer in
+    let now = entries_of c.add_places.new.self.layer in
     record {
       split = one_behind c.loop-stage.yielded c.loop-stage.stage-iterator c.next.new.self c.args.layer.entries item c.loop-stage.invariant.split c.in-Some.ensures.steps;
       none = λ f i. elim (in_cases reached c.loop-stage.yielded item f i) [
@@ -58,6 +58,7 @@ loop-stage-preserved g c =
           (λ f i. next_more reached Step c.loop-stage.yielded item f i) (λ f i. next_cases reached Step c.loop-stage.yielded item f i)
           c.loop-stage.invariant.added
           (subst (λ (t : List ℕ). Adds (IsSomeOf Step (stage_of c.in-Some.stage, t)) next now) c.deref-in-loop-stage.ensures.value c.in_ok-add_places.ensures.adds);
+      limit = c.add_places.ensures.limit ∙ c.loop-stage.invariant.limit;
     }
 
 pub returns-clause-searched : goal.returns-clause-searched
@@ -65,4 +66,4 @@ returns-clause-searched g c =
     let h = c.args.finder.now.entries in
     let yielded : List (Held g.row.A.Denot × Vec ℕ g.row.A.Denot) = c.loop-stage.yielded in
     let whole : yielded ≡ c.args.layer.entries = sym (append-nil yielded) ∙ ap (λ (l : List (Held g.row.A.Denot × Vec ℕ g.row.A.Denot)). yielded ++ l) (sym c.in-None.ensures.steps.0) ∙ c.loop-stage.invariant.split in
-    subst (λ (es : List (Held g.row.A.Denot × Vec ℕ g.row.A.Denot)). ((f : Stage × List ℕ) → In f (map reached es) → ¬ IsComplete h f.0.next) × Adds (IsAfterSome (IsPlacing c.args.finder.now.kind h) (map reached es)) [] (entries_of c.loop-stage.next)) whole (c.loop-stage.invariant.none, c.loop-stage.invariant.added)
+    subst (λ (es : List (Held g.row.A.Denot × Vec ℕ g.row.A.Denot)). ((f : Stage × List ℕ) → In f (map reached es) → ¬ IsComplete h f.0.next) × Adds (IsAfterSome (IsPlacing c.args.finder.now.kind h) (map reached es)) [] (entries_of c.loop-stage.next.layer)) whole (c.loop-stage.invariant.none, c.loop-stage.invariant.added)

@@ -8,7 +8,7 @@ use Rattle.reg_outcomes.specs.Interleavings.{Interleaving}
 use Rattle.reg_outcomes.specs.Nevers.{AreOver, tells}
 use Rattle.reg_outcomes.specs.Combining.{AreCombinations, lists_of}
 use Rattle.reg_outcomes.proofs.Growing.{IsCut, is_cut}
-use Rattle.reg_outcomes.proofs.Listing.{tells_nevers}
+use Rattle.reg_outcomes.proofs.Listing.{tells_listed}
 use Rattle.reg_outcomes.proofs.nevers.nevers_of.Goals as goal
 
 pub returns : goal.returns
@@ -22,4 +22,4 @@ returns g c =
     let many : c.len.result ≡ length first = (let a = c.first-2.inside.told.ok.0 in let b = c.len.ensures in omega (arith, a, b)) in
     let all : AreCombinations outcomes (length first) (map read ks) = subst (λ n. AreCombinations outcomes n (map read ks)) many (subst (λ o. MatchOption o (AreOver outcomes MOST_NEVERS) (λ found. AreCombinations outcomes c.len.result (lists_of found))) c.in-Some-2.is c.in_ok-combinations.ensures) in
     let is : IsCut read outcomes ks left = subst (λ l. IsCut read outcomes ks l) (sym c.remove_told.ensures.keys) (is_cut read outcomes ks all.once) in
-    tells_nevers read outcomes first at ks left all is c.in_ok-found.ensures.ordered (λ v. v.items) MOST_NEVERS c.in_ok-found.found c.in_ok-found.ensures.list
+    tells_listed read outcomes first at ks left all is (λ v. v.items) MOST_NEVERS c.listed_within.result c.listed_within.ensures.ordered c.listed_within.ensures.list

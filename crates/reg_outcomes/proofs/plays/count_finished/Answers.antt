@@ -1,4 +1,4 @@
-use Rattle.std.proofs.Common.{◌∙◌, List, refl, sym, ap, subst}
+use Rattle.std.proofs.Common.{List, refl, sym, ap, subst}
 use Rattle.reg_base.specs.declared.memory.OpId.{OpId}
 use Rattle.reg_base.specs.Shape.{Extent}
 use Rattle.reg_checkers.specs.Orders.{IsSerial}

@@ -1,4 +1,4 @@
-use Rattle.std.proofs.Common.{◌≡◌, ◌++◌, ◌∷◌, [], List, length, map, codes, ap, arith}
+use Rattle.std.proofs.Common.{◌++◌, ◌∷◌, [], List, length, map, codes, ap}
 use Rattle.std.specs.Fmt.{decimal}
 use Rattle.reg_text.proofs.Sent.{puts_as}
 use Rattle.reg_text.specs.Lines.{text_of}

@@ -20,7 +20,7 @@ blank_entry = Called 0 (record { process = 0; number = 0 }) (Read 0)
 pub push_to-requires : goal.push_to-requires
 unfolding blank_entry
 push_to-requires g c =
-    let may = c.requires.history c.args.i (Called c.in-Called.at c.in-Called.id c.in-Called.op) (read_at c.args.entries.now c.args.i blank_entry _ c.in-Called.is c.requires.place) in
+    let may = c.requires.history c.args.place (Called c.in-Called.at c.in-Called.id c.in-Called.op) (read_at c.args.entries.now c.args.place blank_entry _ c.in-Called.is c.requires.place) in
     let process = may.process in
     let count = c.requires.table.count in
     let same = length-map c.args.table.now.invocations.items (λ v. v.items) in
@@ -30,7 +30,7 @@ pub push_to-requires-in-Answered : goal.push_to-requires-in-Answered
 unfolding blank_entry
 push_to-requires-in-Answered g c =
     let es = c.args.entries.now in
-    let i = c.args.i in
+    let i = c.args.place in
     let n = c.args.shape.processes in
     let registers = c.args.shape.registers in
     let may = c.requires.history i (Answered c.in-Answered.at c.in-Answered.id c.in-Answered.answer) (read_at es i blank_entry _ c.in-Answered.is c.requires.place) in
@@ -43,7 +43,7 @@ pub returns-in-Called : goal.returns-in-Called
 unfolding blank_entry
 returns-in-Called g c =
     let es = c.args.entries.now in
-    let i = c.args.i in
+    let i = c.args.place in
     let at = c.in-Called.at in
     let id = c.in-Called.id in
     let op = c.in-Called.op in
@@ -59,7 +59,7 @@ pub returns-in-Answered : goal.returns-in-Answered
 unfolding blank_entry
 returns-in-Answered g c =
     let es = c.args.entries.now in
-    let i = c.args.i in
+    let i = c.args.place in
     let at = c.in-Answered.at in
     let id = c.in-Answered.id in
     let answer = c.in-Answered.answer in

@@ -1,4 +1,4 @@
-use Rattle.std.proofs.Common.{List, ap, sym, ◌∙◌}
+use Rattle.std.proofs.Common.{ap, sym, ◌∙◌}
 use Rattle.reg_outcomes.specs.Interleavings.{Interleaving}
 use Rattle.reg_outcomes.proofs.Absent.{absent_more, absent_same, never_drawn, was_drawn}
 use Rattle.reg_outcomes.proofs.undrawn.undrawn_with.Goals as goal

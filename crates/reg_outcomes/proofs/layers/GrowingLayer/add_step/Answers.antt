@@ -4,7 +4,7 @@ use Rattle.reg_outcomes.specs.Interleavings.{Stage}
 use Rattle.reg_outcomes.specs.Layers.{IsStep, entries_of, stage_of}
 use Rattle.reg_outcomes.proofs.Adding.{call_adds, call_refuses}
 use Rattle.reg_outcomes.proofs.Stepping.{as_many, is_step, number_fits, step_is}
-use Rattle.reg_outcomes.proofs.layers.add_step.Goals as goal
+use Rattle.reg_outcomes.proofs.layers.GrowingLayer.add_step.Goals as goal
 
 pub next_op-requires-clause-process : goal.next_op-requires-clause-process
 next_op-requires-clause-process g c =
@@ -29,7 +29,7 @@ returns-in_ok-later-in-Some-clause-adds g c =
     let from : Stage × List ℕ = (stage_of c.args.stage.now, c.args.turns.now) in
     let later = stage_of c.in_ok-later-in-Some.later in
     let at = sym c.next_op.ensures ∙ c.in-Some.is in
-    call_adds (λ f. f ≡ (later, c.args.turns.now ++ c.args.process ∷ [])) (IsStep scripts c.args.process from) (entries_of c.args.layer.now) (entries_of c.add_stage.new.layer) c.add_stage.result
+    call_adds (λ f. f ≡ (later, c.args.turns.now ++ c.args.process ∷ [])) (IsStep scripts c.args.process from) (entries_of c.args.self.now.layer) (entries_of c.add_stage.new.self.layer) c.add_stage.result
     (λ f e. is_step scripts c.args.process c.in-Some.op from f later at c.in_ok-later-in-Some.ensures e)
     (λ f step. step_is scripts c.args.process c.in-Some.op from f later at c.in_ok-later-in-Some.ensures step)
     c.add_stage.ensures.adds
@@ -40,5 +40,5 @@ returns-in_ok-later-in-Some-clause-refused g c =
     let from : Stage × List ℕ = (stage_of c.args.stage.now, c.args.turns.now) in
     let later = stage_of c.in_ok-later-in-Some.later in
     let at = sym c.next_op.ensures ∙ c.in-Some.is in
-    call_refuses c.args.limit (λ f. f ≡ (later, c.args.turns.now ++ c.args.process ∷ [])) (IsStep scripts c.args.process from) (entries_of c.args.layer.now) c.add_stage.result
+    call_refuses c.args.self.now.limit (λ f. f ≡ (later, c.args.turns.now ++ c.args.process ∷ [])) (IsStep scripts c.args.process from) (entries_of c.args.self.now.layer) c.add_stage.result
     (λ f e. is_step scripts c.args.process c.in-Some.op from f later at c.in_ok-later-in-Some.ensures e) c.add_stage.ensures.refused
