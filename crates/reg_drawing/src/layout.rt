@@ -2,7 +2,7 @@
 use crate::words::{AnswerText, cast_text};
 use reg_base::Names;
 use reg_text::{OpLine, name_of_op};
-use reg_trace::{Bar, Filled, GAP, Moment};
+use reg_trace::{Bar, Filled, GAP, Moment, TracedRun};
 use std::alloc::{AllocError, Allocator};
 
 /// The left edge of the first event.
@@ -107,15 +107,15 @@ fn rows_of<A: Allocator + Copy>(
     Ok((rows, y))
 }
 
-/// The layout of these moments and bars, with the text of each bar, for so many processes and at least so wide.
+/// The layout of a run with these bars and the text of each, at least so wide.
 pub fn lay_out<A: Allocator + Copy>(
     alloc: A,
-    names: &Names<A>,
-    (processes, least): (u32, u32),
-    moments: &[Moment<A>],
+    told: &TracedRun<A>,
     bars: &[Bar],
     labels: &[Label<A>],
+    least: u32,
 ) -> Result<Layout<A>, AllocError> {
+    let moments = told.moments.as_slice();
     let mut filled = Filled::new(least);
     let mut events = Vec::new(alloc);
     let mut x = LEFT;
@@ -126,14 +126,14 @@ pub fn lay_out<A: Allocator + Copy>(
             }
         }
         if !moment.delivered.is_empty() {
-            let wide = width_of(longest(alloc, names, moment)?);
+            let wide = width_of(longest(alloc, &told.names, moment)?);
             x = filled.put_below(moment.process, x, wide);
         }
         events.push(x)?;
         x = x.saturating_add(STEP);
         filled.reach(x);
     }
-    let (rows, bottom) = rows_of(alloc, processes, moments)?;
+    let (rows, bottom) = rows_of(alloc, told.history.shape().processes(), moments)?;
     Ok(Layout {
         events,
         rows,

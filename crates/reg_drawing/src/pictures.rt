@@ -142,7 +142,6 @@ pub fn draw_told<A: Allocator + Copy>(
     let bars = bars(alloc, told.history.entries())?;
     let arrows = arrows(alloc, moments)?;
     let labels = labels_of(alloc, &told.names, moments, &bars, told.points.is_none())?;
-    let processes = told.history.shape().processes();
     let points = match &told.points {
         Some(points) => points.as_slice(),
         None => &[],
@@ -150,14 +149,7 @@ pub fn draw_told<A: Allocator + Copy>(
     let title = title_of(alloc, told.front, &told.names)?;
     let legend = legend_of(moments, &arrows, !points.is_empty());
     let least = width_of(title.len()).saturating_add(20).max(LEAST);
-    let layout = lay_out(
-        alloc,
-        &told.names,
-        (processes, least),
-        moments,
-        &bars,
-        &labels,
-    )?;
+    let layout = lay_out(alloc, told, &bars, &labels, least)?;
     Ok(Drawing {
         names: &told.names,
         moments,

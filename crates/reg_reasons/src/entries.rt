@@ -1,14 +1,15 @@
 //! Why an entry of a report may not come after those before it.
 ghost use Rattle.std.specs.Prelude.{◌≤◌, IfSome};
 
-use crate::report_lines::{Part, Walk};
+use crate::lines_at::Line;
+use crate::report_lines::{Part, ReportLines};
 use crate::saying::put_with;
 use crate::scanning::{behind, front_of, spaces_of, token_of};
 use reg_base::OpId;
-use reg_text::{Lines, Sink, numeral_within, skip};
+use reg_text::{Sink, numeral_within, skip};
 use std::io::Write;
 
-/// The columns of an entry, and whether it is a call of a write, of another operation, or an answer.
+/// The columns of an entry.
 #[derive(Clone, Copy)]
 struct Columns {
     at: u64,
@@ -22,12 +23,6 @@ enum Tail {
     Call { is_write: bool },
     /// An answer that is `done`, or a value.
     Answer { is_done: bool },
-}
-
-impl Columns {
-    fn is_call(&self) -> bool {
-        matches!(self.tail, Tail::Call { .. })
-    }
 }
 
 /// The number that begins a column, after spaces.
@@ -75,17 +70,13 @@ struct Before {
 
 /// What stands before the line of this number, whose entry is of this process.
 fn stands_before(text: &[u8], number: u64, process: u8) -> Before {
-    let mut lines = Lines::new(text);
-    let mut walk = Walk::new();
     let mut before = Before {
         last: None,
         own: None,
         processes: 0,
     };
-    for _ in 1..number {
-        let Some(line) = lines.next() else {
-            return before;
-        };
+    let count = number.saturating_sub(1) as usize;
+    for (walk, line) in ReportLines::new(text).take(count) {
         match walk.part {
             Part::Processes => before.processes = column_number(line, 10, 255).unwrap_or(0),
             Part::Entry => {
@@ -96,10 +87,11 @@ fn stands_before(text: &[u8], number: u64, process: u8) -> Before {
             }
             _ => {}
         }
-        walk = walk.after(line);
     }
     before
 }
+
+const NEXT: &str = "the next operation of process {} is #{}\n";
 
 fn put_last<W: Write>(sink: &mut Sink<'_, W>, entry: Columns, last: Columns) {
     let text = "event {} doesn't come behind event {}, of the line before\n";
@@ -108,24 +100,22 @@ fn put_last<W: Write>(sink: &mut Sink<'_, W>, entry: Columns, last: Columns) {
 
 /// Puts why a call may not come here.
 fn put_call<W: Write>(sink: &mut Sink<'_, W>, entry: Columns, before: Before) {
-    if let Some(last) = before.last {
-        if entry.at <= last.at {
-            return put_last(sink, entry, last);
-        }
+    if let Some(last) = before.last
+        && entry.at <= last.at
+    {
+        return put_last(sink, entry, last);
     }
     let process = entry.id.process as u64;
     let Some(own) = before.own else {
         return put_with(sink, NEXT, &[process, 0]);
     };
     let number = own.id.number as u64;
-    if own.is_call() {
+    if let Tail::Call { .. } = own.tail {
         let text = "p{} #{}, called at event {}, is not answered yet\n";
         return put_with(sink, text, &[process, number, own.at]);
     }
     put_with(sink, NEXT, &[process, number.saturating_add(1)]);
 }
-
-const NEXT: &str = "the next operation of process {} is #{}\n";
 
 /// Puts why an answer may not come here.
 fn put_answer<W: Write>(sink: &mut Sink<'_, W>, entry: Columns, before: Before, is_done: bool) {
@@ -152,13 +142,13 @@ fn put_answer<W: Write>(sink: &mut Sink<'_, W>, entry: Columns, before: Before, 
     }
 }
 
-/// Puts why the entry of the line of this number may not come there.
-pub fn explain_entry<W: Write>(sink: &mut Sink<'_, W>, text: &[u8], number: u64, line: &[u8]) {
-    let Some(entry) = columns_of(line) else {
+/// Puts why the entry of this line may not come there.
+pub fn explain_entry<W: Write>(sink: &mut Sink<'_, W>, text: &[u8], line: Line<'_>) {
+    let Some(entry) = columns_of(line.bytes) else {
         return;
     };
     let process = entry.id.process;
-    let before = stands_before(text, number, process);
+    let before = stands_before(text, line.number, process);
     if process as u64 >= before.processes {
         let last = before.processes.saturating_sub(1);
         let text = "there is no process {}: the report has processes 0 to {}\n";

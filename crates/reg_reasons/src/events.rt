@@ -1,8 +1,7 @@
 //! Why an event is refused: what the world is like just before it.
 use crate::lines_at::kept_at;
 use crate::saying::{put_place, put_with};
-use crate::scanning::{behind, token_of};
-use reg_base::OpId;
+use reg_base::Shape;
 use reg_base::limits::{MOST_EVENTS, MOST_OPERATIONS};
 use reg_front::{Front, FrontEnd, Linear, LocalRead, LocalWrite};
 use reg_history::Entry;
@@ -15,53 +14,13 @@ use std::io::Write;
 /// How many lines a schedule has before its events.
 const HEAD_LINES: usize = 3;
 
-/// Where the word of this place, from 0, begins on a line with one space between each two.
+/// Where the word at a place, from 0, begins on a line with one space between each two.
 fn word_at(line: &[u8], place: usize) -> usize {
     let mut at = 0usize;
-    for _ in 0..place {
-        let word = token_of(behind(line, at));
+    for word in line.split(|b| *b == b' ').take(place) {
         at = at.saturating_add(word.len()).saturating_add(1);
     }
     at
-}
-
-/// The word of its line for which an event is refused.
-fn blamed_word(event: Event, fault: WorldFault, processes: u32) -> usize {
-    match (event, fault) {
-        (Event::Take { from, .. }, WorldFault::NoProcess) if (from as u32) < processes => 2,
-        (Event::Take { .. }, WorldFault::NoProcess) => 1,
-        (Event::Take { .. }, _) => 3,
-        _ => 1,
-    }
-}
-
-/// The process of an event that is not there.
-fn blamed_process(event: Event, processes: u32) -> u8 {
-    match event {
-        Event::Take { from, to, .. } if (from as u32) < processes => to,
-        Event::Take { from, .. } => from,
-        Event::Call { process, .. } | Event::Tick { process } => process,
-    }
-}
-
-/// The call of a process that is not answered.
-fn running(entries: &[Entry], process: u8) -> Option<(OpId, u32)> {
-    let mut found = None;
-    for entry in entries {
-        match *entry {
-            Entry::Called { at, id, op: _ } => {
-                if id.process == process {
-                    found = Some((id, at));
-                }
-            }
-            Entry::Answered { id, .. } => {
-                if id.process == process {
-                    found = None;
-                }
-            }
-        }
-    }
-    found
 }
 
 /// Puts that a process is not there.
@@ -87,47 +46,127 @@ fn put_frames<W: Write>(sink: &mut Sink<'_, W>, from: u8, to: u8, count: usize) 
     put_with(sink, text, &[from as u64, to as u64, count as u64, last]);
 }
 
+/// Puts the last call of a process, which is not answered.
 fn put_running<W: Write>(sink: &mut Sink<'_, W>, entries: &[Entry], process: u8) {
-    if let Some((id, at)) = running(entries, process) {
+    let call = entries.iter().rev().find_map(|entry| match *entry {
+        Entry::Called { at, id, .. } if id.process == process => Some((id.number, at)),
+        _ => None,
+    });
+    if let Some((number, at)) = call {
         let process = process as u64;
         let text = "process {} runs p{} #{}, called at event {}\n";
-        put_with(sink, text, &[process, process, id.number as u64, at as u64]);
+        put_with(sink, text, &[process, process, number as u64, at as u64]);
     }
 }
 
-/// Puts why a world refuses an event.
-fn put_refusal<F: FrontEnd, A: Allocator + Copy, W: Write>(
-    sink: &mut Sink<'_, W>,
-    world: &World<F, A, PackedWires<A>>,
+/// An event that is refused, after others of a run of this shape.
+#[derive(Drop)]
+struct RefusedEvent<'a> {
+    shape: Shape,
+    before: &'a [Event],
     event: Event,
     fault: WorldFault,
-) {
-    let processes = world.shape().processes();
-    match (event, fault) {
-        (_, WorldFault::NoProcess) => {
-            put_processes(sink, blamed_process(event, processes), processes);
+}
+
+impl RefusedEvent<'_> {
+    /// Whether there is a process of this number.
+    fn has(&self, process: u8) -> bool {
+        u32::from(process) < self.shape.processes()
+    }
+
+    /// The place of the word for which it is refused.
+    fn word(&self) -> usize {
+        match (self.event, self.fault) {
+            (Event::Take { from, .. }, WorldFault::NoProcess) if self.has(from) => 2,
+            (Event::Take { .. }, WorldFault::NoProcess) => 1,
+            (Event::Take { .. }, _) => 3,
+            _ => 1,
         }
-        (Event::Take { from, to, .. }, WorldFault::NoFrame) => {
-            match world.frame_count(from, to) {
-                Some(count) => put_frames(sink, from, to, count),
-                None => sink.put(b"no wire goes from a process to itself\n"),
+    }
+
+    /// The process that is not there.
+    fn missing_process(&self) -> u8 {
+        match self.event {
+            Event::Take { from, to, .. } if self.has(from) => to,
+            Event::Take { from, .. } => from,
+            Event::Call { process, .. } | Event::Tick { process } => process,
+        }
+    }
+
+    /// Puts why a world refuses it.
+    fn put_refusal<F: FrontEnd, A: Allocator + Copy, W: Write>(
+        &self,
+        sink: &mut Sink<'_, W>,
+        world: &World<F, A, PackedWires<A>>,
+    ) {
+        match (self.event, self.fault) {
+            (_, WorldFault::NoProcess) => {
+                put_processes(sink, self.missing_process(), self.shape.processes());
             }
+            (Event::Take { from, to, .. }, WorldFault::NoFrame) => {
+                match world.frame_count(from, to) {
+                    Some(count) => put_frames(sink, from, to, count),
+                    None => sink.put(b"no wire goes from a process to itself\n"),
+                }
+            }
+            (Event::Call { process, .. }, WorldFault::Busy) => {
+                put_running(sink, world.history().entries(), process);
+            }
+            (_, WorldFault::TooManyOperations) => {
+                let text = "a process calls at most {} operations\n";
+                put_with(sink, text, &[MOST_OPERATIONS as u64]);
+            }
+            (_, WorldFault::TooManyEvents) => {
+                put_with(sink, "a run has at most {} events\n", &[MOST_EVENTS as u64]);
+            }
+            _ => {}
         }
-        (Event::Call { process, .. }, WorldFault::Busy) => {
-            put_running(sink, world.history().entries(), process);
-        }
-        (_, WorldFault::TooManyOperations) => {
-            let text = "a process calls at most {} operations\n";
-            put_with(sink, text, &[MOST_OPERATIONS as u64]);
-        }
-        (_, WorldFault::TooManyEvents) => {
-            put_with(sink, "a run has at most {} events\n", &[MOST_EVENTS as u64]);
-        }
-        _ => {}
+    }
+
+    /// Runs the events before it, and puts why it is refused.
+    fn explain<F: FrontEnd, A: Allocator + Copy, W: Write>(
+        &self,
+        alloc: A,
+        sink: &mut Sink<'_, W>,
+    ) -> Result<(), AllocError> {
+        let world = World::<F, A, PackedWires<A>>::run(alloc, self.shape, self.before).map_err(
+            |_| AllocError,
+        )?;
+        self.put_refusal(sink, &world);
+        Ok(())
     }
 }
 
-/// Runs the events before a refused one, and puts why it is refused.
+/// The event at this place of a schedule, which is refused.
+fn refused_event<A: Allocator + Copy>(
+    schedule: &Schedule<A>,
+    at: usize,
+    fault: WorldFault,
+) -> Option<RefusedEvent<'_>> {
+    let (before, rest) = schedule.events.as_slice().split_at_checked(at)?;
+    Some(RefusedEvent {
+        shape: schedule.shape,
+        before,
+        event: *rest.first()?,
+        fault,
+    })
+}
+
+/// Puts the line of a refused event.
+fn put_event_line<A: Allocator + Copy, W: Write>(
+    sink: &mut Sink<'_, W>,
+    text: &[u8],
+    schedule: &Schedule<A>,
+    at: usize,
+    fault: WorldFault,
+) {
+    let line = kept_at(text, at.saturating_add(HEAD_LINES));
+    if let (Some(line), Some(refused)) = (line, refused_event(schedule, at, fault)) {
+        put_place(sink, line, word_at(line.bytes, refused.word()));
+    }
+}
+
+/// Puts why an event is refused under a front end.
 fn put_event<F: FrontEnd, A: Allocator + Copy, W: Write>(
     alloc: A,
     sink: &mut Sink<'_, W>,
@@ -135,16 +174,9 @@ fn put_event<F: FrontEnd, A: Allocator + Copy, W: Write>(
     at: usize,
     fault: WorldFault,
 ) -> Result<(), AllocError> {
-    let events = schedule.events.as_slice();
-    let Some((before, [event, ..])) = events.split_at_checked(at) else {
-        return Ok(());
-    };
-    match World::<F, A, PackedWires<A>>::run(alloc, schedule.shape, before) {
-        Ok(world) => {
-            put_refusal(sink, &world, *event, fault);
-            Ok(())
-        }
-        Err(_) => Err(AllocError),
+    match refused_event(schedule, at, fault) {
+        Some(refused) => refused.explain::<F, A, W>(alloc, sink),
+        None => Ok(()),
     }
 }
 
@@ -159,12 +191,7 @@ pub fn explain_event<A: Allocator + Copy, W: Write>(
     let Ok(schedule) = parse_schedule(alloc, text) else {
         return Err(AllocError);
     };
-    let processes = schedule.shape.processes();
-    let kept = kept_at(text.as_bytes(), at.saturating_add(HEAD_LINES));
-    if let (Some(kept), Some(event)) = (kept, schedule.events.as_slice().get(at)) {
-        let column = word_at(kept.line, blamed_word(*event, fault, processes));
-        put_place(sink, kept.number, kept.line, column);
-    }
+    put_event_line(sink, text.as_bytes(), &schedule, at, fault);
     match schedule.front {
         Front::Linear => put_event::<Linear, A, W>(alloc, sink, &schedule, at, fault),
         Front::LocalRead => put_event::<LocalRead, A, W>(alloc, sink, &schedule, at, fault),

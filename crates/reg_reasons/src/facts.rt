@@ -1,16 +1,24 @@
 //! What the history of a report says of each operation, with the lines of its entries.
 use reg_base::{Answer, Op, OpId};
-use reg_history::{Entry, Point, Report};
+use reg_history::{Entry, Report};
 use std::alloc::{AllocError, Allocator};
 
 /// What a history says of one operation.
 #[derive(Clone, Copy)]
 pub struct Fact {
+    pub id: OpId,
     pub op: Op,
     pub called: u32,
     pub answered: Option<Given>,
-    /// The line of the order, or of the points, at which it was met.
+    /// The first line of the order, or of the points, on which it stands.
     pub stands: Option<u64>,
+}
+
+impl Fact {
+    /// Whether it may stand in an order: it is answered, or it may change the memory.
+    pub fn may_stand(&self) -> bool {
+        self.answered.is_some() || self.op.updates()
+    }
 }
 
 /// An answer, its event, and its line in the report.
@@ -35,10 +43,8 @@ impl<A: Allocator + Copy> Facts<A> {
             rows.push(Vec::new(alloc))?;
         }
         let mut facts = Facts { rows };
-        let mut line = first;
-        for entry in report.history().entries() {
-            facts.note(*entry, line)?;
-            line = line.saturating_add(1);
+        for (place, entry) in report.history().entries().iter().enumerate() {
+            facts.note(*entry, first.saturating_add(place as u64))?;
         }
         Ok(facts)
     }
@@ -46,33 +52,37 @@ impl<A: Allocator + Copy> Facts<A> {
     /// Notes an entry that stands on this line.
     fn note(&mut self, entry: Entry, line: u64) -> Result<(), AllocError> {
         match entry {
-            Entry::Called { at, id, op } => self.call(
+            Entry::Called { at, id, op } => self.add(Fact {
                 id,
-                Fact {
-                    op,
-                    called: at,
-                    answered: None,
-                    stands: None,
-                },
-            ),
+                op,
+                called: at,
+                answered: None,
+                stands: None,
+            }),
             Entry::Answered { at, id, answer } => {
-                self.answer(id, Given { at, answer, line });
+                if let Some(fact) = self.at(id) {
+                    self.set(Fact {
+                        answered: Some(Given { at, answer, line }),
+                        ..fact
+                    });
+                }
                 Ok(())
             }
         }
     }
 
-    fn call(&mut self, id: OpId, fact: Fact) -> Result<(), AllocError> {
-        if let Some(row) = self.rows.get_mut(id.process as usize) {
+    fn add(&mut self, fact: Fact) -> Result<(), AllocError> {
+        if let Some(row) = self.rows.get_mut(fact.id.process as usize) {
             row.push(fact)?;
         }
         Ok(())
     }
 
-    fn answer(&mut self, id: OpId, given: Given) {
-        if let Some(row) = self.rows.get_mut(id.process as usize) {
-            if let Some(fact) = row.get_mut(id.number as usize) {
-                fact.answered = Some(given);
+    /// Puts a fact in the place of the one of its operation.
+    fn set(&mut self, fact: Fact) {
+        if let Some(row) = self.rows.get_mut(fact.id.process as usize) {
+            if let Some(old) = row.get_mut(fact.id.number as usize) {
+                *old = fact;
             }
         }
     }
@@ -83,44 +93,13 @@ impl<A: Allocator + Copy> Facts<A> {
         row.get(id.number as usize).copied()
     }
 
-    /// Notes that an operation stands on this line of a list.
+    /// Notes that an operation stands on this line, where it stands on none before.
     pub fn stand(&mut self, id: OpId, line: u64) {
-        if let Some(row) = self.rows.get_mut(id.process as usize) {
-            if let Some(fact) = row.get_mut(id.number as usize) {
-                fact.stands = Some(line);
-            }
+        if let Some(fact) = self.at(id) {
+            self.set(Fact {
+                stands: fact.stands.or(Some(line)),
+                ..fact
+            });
         }
-    }
-}
-
-/// A list of operations that is judged: an order, or points.
-#[derive(Clone, Copy)]
-pub struct Listing<'a> {
-    pub ids: &'a [OpId],
-    pub points: &'a [Point],
-    /// The line of its first item.
-    pub first: u64,
-}
-
-impl Listing<'_> {
-    /// How many items it has.
-    pub fn len(&self) -> usize {
-        self.ids.len().max(self.points.len())
-    }
-
-    /// The operation at a place, or one that no report has.
-    pub fn id(&self, place: usize) -> OpId {
-        if let Some(point) = self.points.get(place) {
-            return point.id;
-        }
-        self.ids.get(place).copied().unwrap_or(OpId {
-            process: u8::MAX,
-            number: u32::MAX,
-        })
-    }
-
-    /// The line of a place.
-    pub fn line(&self, place: usize) -> u64 {
-        self.first.saturating_add(place as u64)
     }
 }

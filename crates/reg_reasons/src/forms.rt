@@ -90,6 +90,9 @@ const IDS: Range = Range {
     most: MOST_IDS as u64,
 };
 
+/// The names of the front ends.
+pub const FRONTS: &[&str] = &["linear", "local-read", "local-write"];
+
 /// One of these words.
 macro_rules! word {
     ($($word:literal)*) => {
@@ -242,7 +245,10 @@ const OLDER_NAMES: &[Step] = &[
 const FRONT: &[Step] = &[
     FRONT_WORD,
     Step::Space,
-    word!("linear" "local-read" "local-write"),
+    Step::Word {
+        words: FRONTS,
+        forms: &[],
+    },
     Step::End,
 ];
 

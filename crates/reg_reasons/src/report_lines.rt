@@ -1,8 +1,10 @@
 //! The lines of a report, part by part.
+ghost use Rattle.std.specs.Iterator.{item_count};
+
 use crate::forms::{Form, VALUE};
 use crate::scanning::behind;
-use crate::schedule_lines::words_of;
-use reg_text::{Lines, numeral_within, skip};
+use crate::schedule_lines::names_on;
+use reg_text::{Lines, numeral_within};
 use std::alloc::{AllocError, Allocator};
 
 /// What stands on a line of a report.
@@ -27,9 +29,9 @@ pub enum Part {
 #[derive(Clone, Copy)]
 pub struct Walk {
     pub part: Part,
-    pub left: u64,
+    left: u64,
     /// Whether it is a report of version 1.
-    pub is_older: bool,
+    is_older: bool,
 }
 
 /// The number that ends a line, and 0 where none does.
@@ -38,66 +40,44 @@ fn last_number(line: &[u8]) -> u64 {
     numeral_within(behind(line, place.saturating_add(1)), VALUE.most).unwrap_or(0)
 }
 
+/// Before the first line.
+const START: Walk = Walk {
+    part: Part::Version,
+    left: 0,
+    is_older: false,
+};
+
 impl Walk {
-    /// The first line.
-    pub fn new() -> Walk {
-        Walk {
-            part: Part::Version,
-            left: 0,
-            is_older: false,
-        }
-    }
-
     fn to(self, part: Part) -> Walk {
-        Walk {
-            part,
-            left: 0,
-            is_older: self.is_older,
-        }
+        Walk { part, ..self }
     }
 
-    /// As many lines as were announced, and what stands after them.
+    /// As many lines of a part as are left, and what stands after them.
     fn block(self, left: u64, part: Part, next: Part) -> Walk {
-        if left == 0 {
-            return self.to(next);
-        }
-        Walk {
-            part,
-            left,
-            is_older: self.is_older,
-        }
+        let part = if left == 0 { next } else { part };
+        Walk { part, left, ..self }
     }
 
     /// Behind one more line.
-    pub fn after(self, line: &[u8]) -> Walk {
+    fn after(self, line: &[u8]) -> Walk {
         let left = self.left.saturating_sub(1);
         match self.part {
             Part::Version => Walk {
                 part: Part::Front,
-                left: 0,
                 is_older: line.ends_with(b" 1"),
+                ..self
             },
             Part::Front => self.to(Part::Processes),
             Part::Processes => self.to(Part::Registers),
-            Part::Registers => {
-                if self.is_older {
-                    self.to(Part::History)
-                } else {
-                    self.block(last_number(line), Part::Name, Part::History)
-                }
-            }
+            Part::Registers if self.is_older => self.to(Part::History),
+            Part::Registers => self.block(last_number(line), Part::Name, Part::History),
             Part::Name => self.block(left, Part::Name, Part::History),
             Part::History => self.block(last_number(line), Part::Entry, Part::Order),
             Part::Entry => self.block(left, Part::Entry, Part::Order),
             Part::Order => self.block(last_number(line), Part::Id, Part::Tail),
             Part::Id => self.block(left, Part::Id, Part::Tail),
-            Part::Tail => {
-                if line == b"end".as_slice() {
-                    self.to(Part::Behind)
-                } else {
-                    self.block(last_number(line), Part::Point, Part::End)
-                }
-            }
+            Part::Tail if line == b"end".as_slice() => self.to(Part::Behind),
+            Part::Tail => self.block(last_number(line), Part::Point, Part::End),
             Part::Point => self.block(left, Part::Point, Part::End),
             Part::End => self.to(Part::Behind),
             Part::Behind => self,
@@ -105,16 +85,43 @@ impl Walk {
     }
 }
 
-/// Where one is before the line of this number.
-pub fn walk_to(text: &[u8], number: u64) -> Walk {
-    let mut lines = Lines::new(text);
-    let mut walk = Walk::new();
-    for _ in 1..number {
-        if let Some(line) = lines.next() {
-            walk = walk.after(line);
+/// The lines of a report, each with where one is before it.
+#[derive(Drop)]
+pub struct ReportLines<'a> {
+    lines: Lines<'a>,
+    walk: Walk,
+}
+
+impl<'a> ReportLines<'a> {
+    /// All lines of a text.
+    pub fn new(text: &'a [u8]) -> ReportLines<'a> {
+        ReportLines {
+            lines: Lines::new(text),
+            walk: START,
         }
     }
-    walk
+}
+
+impl<'a> Iterator for ReportLines<'a> {
+    type Item = (Walk, &'a [u8]);
+
+    ghost remaining = { item_count (λ s. s.lines.left) };
+
+    fn next(&mut self) -> Option<(Walk, &'a [u8])> {
+        let walk = self.walk;
+        let line = self.lines.next()?;
+        self.walk = walk.after(line);
+        Some((walk, line))
+    }
+}
+
+/// Where one is before the line of this number.
+pub fn walk_to(text: &[u8], number: u64) -> Walk {
+    let mut lines = ReportLines::new(text);
+    for _ in 1..number {
+        lines.next();
+    }
+    lines.walk
 }
 
 /// The names that a report gives its registers.
@@ -123,21 +130,13 @@ pub fn report_names<A: Allocator + Copy>(
     text: &[u8],
 ) -> Result<Vec<&[u8], A>, AllocError> {
     let mut names = Vec::new(alloc);
-    let mut lines = Lines::new(text);
-    let mut walk = Walk::new();
-    for _ in 0..text.len() {
-        let Some(line) = lines.next() else {
-            break;
-        };
+    for (walk, line) in ReportLines::new(text) {
         match walk.part {
             Part::History => break,
-            Part::Registers if walk.is_older => {
-                return words_of(alloc, skip(line, b"registers").unwrap_or(line));
-            }
+            Part::Registers if walk.is_older => return names_on(alloc, line),
             Part::Name => names.push(line)?,
             _ => {}
         }
-        walk = walk.after(line);
     }
     Ok(names)
 }

@@ -1,4 +1,5 @@
 //! What doesn't fit, in plain words: the line with its number, a mark below the place, and what was wanted there.
+use crate::lines_at::Line;
 use crate::scanning::{behind, front_of, spaces_of, token_of};
 use crate::wanting::{Misfit, Range, Wanted};
 use reg_text::{Sink, is_numeral, put_number, skip};
@@ -31,15 +32,19 @@ pub fn put_with<W: Write>(sink: &mut Sink<'_, W>, text: &str, numbers: &[u64]) {
     }
 }
 
-/// Puts what was found in marks of quotation, with words before and after it.
-pub fn put_quoted<W: Write>(sink: &mut Sink<'_, W>, before: &str, found: &[u8], after: &[&str]) {
-    sink.put(before.as_bytes());
+/// Puts texts, one behind the other.
+pub fn put_texts<W: Write>(sink: &mut Sink<'_, W>, texts: &[&str]) {
+    for text in texts {
+        sink.put(text.as_bytes());
+    }
+}
+
+/// Puts what was found in marks of quotation, and texts after it.
+pub fn put_quoted<W: Write>(sink: &mut Sink<'_, W>, found: &[u8], after: &[&str]) {
     sink.put(b"\"");
     sink.put(found);
     sink.put(b"\"");
-    for words in after {
-        sink.put(words.as_bytes());
-    }
+    put_texts(sink, after);
 }
 
 /// The printed signs at the start, as many as are shown.
@@ -76,25 +81,24 @@ fn shown_part(line: &[u8], at: usize) -> (&[u8], usize) {
         return (line, 0);
     }
     let start = at.saturating_sub(SHOWN_BEFORE);
-    let rest = line.get(start..).unwrap_or(line);
+    let rest = behind(line, start);
     let cut = rest.iter().take_while(|b| goes_on(**b)).count();
-    let from = start.saturating_add(cut);
-    let part = front_of(line.get(from..).unwrap_or(line), LONGEST_SHOWN);
-    (part, from)
+    let part = front_of(behind(rest, cut), LONGEST_SHOWN);
+    (part, start.saturating_add(cut))
 }
 
 /// Puts a line with its number, and a mark below one of its places.
-pub fn put_place<W: Write>(sink: &mut Sink<'_, W>, number: u64, line: &[u8], at: usize) {
-    let bare = line.strip_suffix(b"\r").unwrap_or(line);
+pub fn put_place<W: Write>(sink: &mut Sink<'_, W>, line: Line<'_>, at: usize) {
+    let bare = line.bytes.strip_suffix(b"\r").unwrap_or(line.bytes);
     let shown = skip(bare, MARK).unwrap_or(bare);
     let place = at.saturating_sub(bare.len().saturating_sub(shown.len()));
     let (part, from) = shown_part(shown, place);
-    put_with(sink, "{} | ", &[number]);
+    put_with(sink, "{} | ", &[line.number]);
     for byte in part {
         put_sign(sink, *byte);
     }
     sink.put(b"\n");
-    put_margin(sink, number);
+    put_margin(sink, line.number);
     for byte in front_of(part, place.saturating_sub(from)) {
         put_room(sink, *byte);
     }
@@ -103,12 +107,8 @@ pub fn put_place<W: Write>(sink: &mut Sink<'_, W>, number: u64, line: &[u8], at:
 
 /// Puts the room below the number of a line.
 fn put_margin<W: Write>(sink: &mut Sink<'_, W>, number: u64) {
-    let mut rest = number;
-    for _ in 0..20u32 {
-        if rest > 0 {
-            sink.put(b" ");
-        }
-        rest /= 10;
+    for _ in 0..=number.checked_ilog10().unwrap_or(0) {
+        sink.put(b" ");
     }
     sink.put(b" | ");
 }
@@ -148,17 +148,17 @@ fn found_parts(found: &[u8]) -> (&[u8], &'static str) {
     }
 }
 
-/// Puts what stands at a place.
+/// Puts what stands at a place, after what was expected there.
 fn put_found<W: Write>(sink: &mut Sink<'_, W>, found: &[u8]) {
+    sink.put(b", found ");
     let spaces = spaces_of(found);
     if spaces > 1 {
         return put_with(sink, "{} spaces", &[spaces as u64]);
     }
-    let (quoted, words) = found_parts(found);
-    if !quoted.is_empty() {
-        put_quoted(sink, "", quoted, &[]);
+    match found_parts(found) {
+        ([], words) => sink.put(words.as_bytes()),
+        (quoted, words) => put_quoted(sink, quoted, &[words]),
     }
-    sink.put(words.as_bytes());
 }
 
 /// The bytes of the first character.
@@ -173,11 +173,11 @@ pub fn near<A: Allocator + Copy>(
     found: &[u8],
     words: &'static [&'static str],
 ) -> Result<Option<&'static str>, AllocError> {
-    let mut best = None;
-    let mut least = 3usize;
     if found.is_empty() || found.len() > LONGEST_WORD {
         return Ok(None);
     }
+    let mut best = None;
+    let mut least = 3usize;
     for word in words {
         let edits = edits_between(alloc, found, word.as_bytes())?;
         if edits < least && edits < word.len() {
@@ -199,6 +199,7 @@ fn edits_between<A: Allocator + Copy>(
     generic_levenshtein(alloc, found, word)
 }
 
+/// Puts which words were expected, or the one that was meant.
 pub fn put_wanted_words<A: Allocator + Copy, W: Write>(
     alloc: A,
     sink: &mut Sink<'_, W>,
@@ -207,11 +208,10 @@ pub fn put_wanted_words<A: Allocator + Copy, W: Write>(
 ) -> Result<(), AllocError> {
     let token = shown_token(found);
     match near(alloc, token, words)? {
-        Some(word) => put_quoted(sink, "", token, &[": did you mean ", word, "?"]),
+        Some(word) => put_quoted(sink, token, &[": did you mean ", word, "?"]),
         None => {
             sink.put(b"expected ");
             put_words(sink, words);
-            sink.put(b", found ");
             put_found(sink, found);
         }
     }
@@ -221,39 +221,31 @@ pub fn put_wanted_words<A: Allocator + Copy, W: Write>(
 /// Puts why a number doesn't fit.
 fn put_wanted_number<W: Write>(sink: &mut Sink<'_, W>, range: Range, found: &[u8]) {
     let token = shown_token(found);
-    let bounds = [range.least, range.most];
     if is_numeral(token) {
         sink.put(token);
         put_out_of_range(sink, range);
     } else if token.len() > 1 && token.iter().all(|b| b.is_ascii_digit()) {
-        put_quoted(
-            sink,
-            "",
-            token,
-            &[": a number doesn't begin with a needless 0"],
-        );
+        put_quoted(sink, token, &[": a number doesn't begin with a needless 0"]);
     } else {
-        put_with(sink, "expected a number from {} to {}, found ", &bounds);
+        let bounds = [range.least, range.most];
+        put_with(sink, "expected a number from {} to {}", &bounds);
         put_found(sink, found);
     }
 }
 
 /// Puts what a number is that is out of range, after it.
 pub fn put_out_of_range<W: Write>(sink: &mut Sink<'_, W>, range: Range) {
-    sink.put(b" is out of range: ");
-    sink.put(range.what.as_bytes());
-    sink.put(b" ");
-    sink.put(range.verb.as_bytes());
+    put_texts(sink, &[" is out of range: ", range.what, " ", range.verb]);
     put_with(sink, " from {} to {}", &[range.least, range.most]);
 }
 
 /// Puts the names of the registers, or the first of them.
 fn put_names<W: Write>(sink: &mut Sink<'_, W>, names: &[&[u8]]) {
-    sink.put(if names.len() == 1 {
-        b"the register is ".as_slice()
-    } else {
-        b"the registers are ".as_slice()
-    });
+    let words = match names {
+        [_] => "the register is ",
+        _ => "the registers are ",
+    };
+    sink.put(words.as_bytes());
     for (place, name) in names.iter().take(MOST_LISTED).enumerate() {
         if place > 0 {
             sink.put(b", ");
@@ -261,16 +253,9 @@ fn put_names<W: Write>(sink: &mut Sink<'_, W>, names: &[&[u8]]) {
         sink.put(name);
     }
     if names.len() > MOST_LISTED {
-        let more = names.len().saturating_sub(MOST_LISTED) as u64;
-        put_with(sink, " and {} more", &[more]);
+        let more = names.len() - MOST_LISTED;
+        put_with(sink, " and {} more", &[more as u64]);
     }
-}
-
-fn put_expected<W: Write>(sink: &mut Sink<'_, W>, words: &str, found: &[u8]) {
-    sink.put(b"expected ");
-    sink.put(words.as_bytes());
-    sink.put(b", found ");
-    put_found(sink, found);
 }
 
 /// What is told of a name that is none.
@@ -307,26 +292,23 @@ fn put_wanted<A: Allocator + Copy, W: Write>(
     let found = misfit.found;
     let token = shown_token(found);
     if let Some(words) = expected_of(misfit.wanted, found) {
-        put_expected(sink, words, found);
+        put_texts(sink, &["expected ", words]);
+        put_found(sink, found);
         return Ok(());
     }
     match misfit.wanted {
         Wanted::Words { words } => return put_wanted_words(alloc, sink, words, found),
         Wanted::Number { range } => put_wanted_number(sink, range, found),
         Wanted::Register => {
-            put_quoted(sink, "no register ", token, &[": "]);
+            sink.put(b"no register ");
+            put_quoted(sink, token, &[": "]);
             put_names(sink, names);
         }
-        Wanted::Name => put_quoted(sink, "", token, &[NAME_FORM]),
-        Wanted::OtherName => put_quoted(sink, "", token, &[NAME_TAKEN]),
-        Wanted::Fewer { most } => {
-            put_with(sink, "there are no more registers than {}", &[most]);
-        }
+        Wanted::Name => put_quoted(sink, token, &[NAME_FORM]),
+        Wanted::OtherName => put_quoted(sink, token, &[NAME_TAKEN]),
+        Wanted::Fewer { most } => put_with(sink, "there are no more registers than {}", &[most]),
         Wanted::NoValue => sink.put(b"a read takes no value"),
-        Wanted::Missing { what } => {
-            sink.put(what.as_bytes());
-            sink.put(b" is missing");
-        }
+        Wanted::Missing { what } => put_texts(sink, &[what, " is missing"]),
         _ => sink.put(b"a comment stands on a line of its own"),
     }
     Ok(())

@@ -15,18 +15,12 @@ const EVENT_PLACES: usize = 8;
 
 /// The first bytes, or all where there are fewer.
 pub fn front_of(bytes: &[u8], count: usize) -> &[u8] {
-    match bytes.split_at_checked(count) {
-        Some((front, _)) => front,
-        None => bytes,
-    }
+    bytes.get(..count).unwrap_or(bytes)
 }
 
 /// What stands after the first bytes.
 pub fn behind(bytes: &[u8], count: usize) -> &[u8] {
-    match bytes.split_at_checked(count) {
-        Some((_, rest)) => rest,
-        None => b"".as_slice(),
-    }
+    bytes.get(count..).unwrap_or(b"")
 }
 
 /// The printed signs at the start, up to the first space, control character or byte past ASCII.
@@ -42,10 +36,7 @@ pub fn spaces_of(bytes: &[u8]) -> usize {
 
 /// Whether the bytes are a register's name.
 pub fn is_register(bytes: &[u8]) -> bool {
-    match str::from_utf8(bytes) {
-        Ok(name) => is_name(name),
-        Err(_) => false,
-    }
+    str::from_utf8(bytes).is_ok_and(|name| is_name(name))
 }
 
 /// The place of a word among these.
@@ -55,15 +46,7 @@ pub fn place_of(words: &[&str], word: &[u8]) -> Option<usize> {
 
 /// Whether this word stands in a text of words with a space between each two.
 fn stands_in(text: &[u8], word: &[u8]) -> bool {
-    let mut rest = text;
-    for _ in 0..text.len() {
-        let next = token_of(rest);
-        if next == word {
-            return true;
-        }
-        rest = behind(rest, next.len().saturating_add(1));
-    }
-    false
+    text.split(|b| *b == b' ').any(|next| next == word)
 }
 
 /// A line, and what of it is not scanned yet.
@@ -99,28 +82,25 @@ impl<'a> Scan<'a> {
         }
     }
 
-    /// Goes behind the printed signs that stand next, where they fit.
-    fn token(&mut self, fits: bool) -> bool {
+    /// Goes behind so many bytes, where they fit.
+    fn pass_where(&mut self, fits: bool, count: usize) -> bool {
         if fits {
-            self.pass(token_of(self.rest).len());
+            self.pass(count);
         }
         fits
     }
 
+    /// The printed signs that stand next.
+    fn token(&mut self, fits: bool) -> bool {
+        self.pass_where(fits, token_of(self.rest).len())
+    }
+
     fn space(&mut self) -> bool {
-        let is_one = spaces_of(self.rest) == 1;
-        if is_one {
-            self.pass(1);
-        }
-        is_one
+        self.pass_where(spaces_of(self.rest) == 1, 1)
     }
 
     fn signs(&mut self, signs: &[u8]) -> bool {
-        let stand = self.rest.starts_with(signs);
-        if stand {
-            self.pass(signs.len());
-        }
-        stand
+        self.pass_where(self.rest.starts_with(signs), signs.len())
     }
 
     /// The number that stands next, within a range.
@@ -188,11 +168,8 @@ impl<'a> Scan<'a> {
     /// Names, no more than this, up to the end of the line.
     fn names(&mut self, most: u64) -> Option<Wanted> {
         for count in 0..=most {
-            if count > 0 && self.rest.is_empty() {
-                return None;
-            }
             if self.rest.is_empty() {
-                return Some(Wanted::Missing { what: "a name" });
+                return unless(count > 0, Wanted::Missing { what: "a name" });
             }
             if !self.space() {
                 return Some(Wanted::Space);
@@ -259,7 +236,7 @@ fn missing(later: &'static [Step]) -> Wanted {
 }
 
 fn unless(fits: bool, wanted: Wanted) -> Option<Wanted> {
-    if fits { None } else { Some(wanted) }
+    (!fits).then_some(wanted)
 }
 
 /// The steps that go on from a word with forms, by the place of the word that stands there.

@@ -1,27 +1,16 @@
 //! The lines of a schedule.
 use crate::forms::Form;
-use crate::lines_at::{kept_at, kept_before};
-use crate::scanning::{behind, spaces_of, token_of};
+use crate::lines_at::kept_at;
 use reg_text::skip;
 use std::alloc::{AllocError, Allocator};
 
-/// The words of a text, with a space before each.
-pub fn words_of<'a, A: Allocator + Copy>(
-    alloc: A,
-    text: &'a [u8],
-) -> Result<Vec<&'a [u8], A>, AllocError> {
-    let mut words = Vec::new(alloc);
-    let mut rest = text;
-    for _ in 0..text.len() {
-        rest = behind(rest, spaces_of(rest));
-        let word = token_of(rest);
-        if word.is_empty() {
-            return Ok(words);
-        }
-        words.push(word)?;
-        rest = behind(rest, word.len());
-    }
-    Ok(words)
+/// The names on a line of registers, with a space before each.
+pub fn names_on<A: Allocator + Copy>(alloc: A, line: &[u8]) -> Result<Vec<&[u8], A>, AllocError> {
+    let names = skip(line, b"registers").unwrap_or(line);
+    names
+        .split(|b| *b == b' ')
+        .filter(|name| !name.is_empty())
+        .collect(alloc)
 }
 
 /// The names that a schedule gives its registers.
@@ -30,14 +19,14 @@ pub fn schedule_names<A: Allocator + Copy>(
     text: &[u8],
 ) -> Result<Vec<&[u8], A>, AllocError> {
     match kept_at(text, 1) {
-        Some(kept) => words_of(alloc, skip(kept.line, b"registers").unwrap_or(kept.line)),
+        Some(line) => names_on(alloc, line.bytes),
         None => Ok(Vec::new(alloc)),
     }
 }
 
-/// The form of the line of this number.
-pub fn form_of_line(text: &[u8], number: u64) -> Form {
-    match kept_before(text, number) {
+/// The form of the line at this place, from 0.
+pub fn form_of_line(place: usize) -> Form {
+    match place {
         0 => Form::Processes,
         1 => Form::Names,
         2 => Form::Front,
@@ -45,7 +34,7 @@ pub fn form_of_line(text: &[u8], number: u64) -> Form {
     }
 }
 
-/// What stands on the header line of this place, from 0.
+/// What stands on the header line at this place, from 0.
 pub fn head_line(place: usize) -> &'static str {
     match place {
         0 => "processes and a number, as in processes 2",

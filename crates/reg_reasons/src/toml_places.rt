@@ -3,10 +3,10 @@ use crate::scanning::behind;
 
 /// Whether a line begins with this key, and with nothing that would make it another one.
 fn begins_with(line: &[u8], key: &[u8]) -> bool {
-    match line.strip_prefix(key) {
-        Some([b' ' | b'\t' | b'=' | b'.' | b']' | b'"' | b'\'', ..]) => true,
-        _ => false,
-    }
+    matches!(
+        line.strip_prefix(key),
+        Some([b' ' | b'\t' | b'=' | b'.' | b']' | b'"' | b'\'', ..])
+    )
 }
 
 /// How many bytes stand before the key of a line: room, and what opens a table or a string.
@@ -131,19 +131,17 @@ pub fn open_array(text: &[u8], end: usize) -> Option<usize> {
             opened = place;
         }
     }
-    if nest.depth > 0 { Some(opened) } else { None }
+    (nest.depth > 0).then_some(opened)
 }
 
 /// The place of an item of the array that stands after this place.
 pub fn item_place(text: &[u8], start: usize, item: Item) -> Option<usize> {
     let mut nest = START;
-    let mut place = start;
-    for byte in behind(text, start) {
+    for (place, byte) in text.iter().enumerate().skip(start) {
         if nest.inside == Inside::Nothing && begins_item(*byte) && nest.is_at(item) {
             return Some(place);
         }
         nest = nest.after(*byte);
-        place = place.saturating_add(1);
     }
     None
 }
