@@ -14,7 +14,7 @@ pub struct Refusing<B: Allocator> {
 }
 
 impl<B: Allocator> Refusing<B> {
-    /// An allocator over `inner` that refuses the allocation after so many.
+    /// An allocator over `inner` that refuses the allocation after the first `before`.
     pub fn new(inner: B, before: u64) -> Refusing<B> {
         Refusing {
             inner,

@@ -5,26 +5,27 @@ use std::test::Fail;
 
 /// Calls that take memory, with one answer where there is enough of it.
 pub trait Trial {
-    /// The answer as a text, which is made in ample memory. None where it is want of memory.
+    /// The answer as a text, which is made in ample memory. None where the calls are out of memory.
     ///
     /// # Errors
     ///
-    /// It isn't an answer that can be had at all.
+    /// What came back is no answer that the calls can give.
     fn answer<A: Allocator + Copy>(&self, alloc: A, ample: Global) -> Result<Option<String>, Fail>;
 }
 
 /// What is wrong with a trial.
 #[derive(Clone, Copy, Debug, PartialEq, Eq)]
 pub enum Wrong {
-    /// It wants memory where none is refused. So many allocations came before.
+    /// It is out of memory where none was refused. The allocation after `before` ones was to be refused.
     WantsMemory { before: u64 },
-    /// It has another answer where the allocation after so many is refused.
+    /// It has another answer where the allocation after `before` ones is refused.
     OtherAnswer { before: u64 },
     /// No allocation was refused, or too many were.
     NoEnd,
 }
 
-/// Has the allocation after so many refused. True where the refusal was still to come at the end.
+/// Makes the calls with the allocation after `before` ones refused. True where the refusal was still to come at the
+/// end.
 fn tries<T: Trial>(trial: &T, ample: Global, whole: &str, before: u64) -> Result<bool, Fail> {
     let heap = Refusing::new(ample, before);
     match trial.answer(&heap, ample)? {
@@ -35,11 +36,11 @@ fn tries<T: Trial>(trial: &T, ample: Global, whole: &str, before: u64) -> Result
     }
 }
 
-/// Has each allocation of the calls refused in turn, up to the first time that none is, and gives how many were.
+/// Makes the calls with each allocation refused in turn, up to the first time that none is, and gives how many were.
 ///
 /// # Errors
 ///
-/// Some answer is neither want of memory nor the one with ample memory, or it is want of memory where none was refused;
+/// Some answer is neither out of memory nor the one with ample memory, or it is out of memory where none was refused;
 /// or no allocation was refused.
 pub fn refusals<T: Trial>(trial: &T, ample: Global) -> Result<u64, Fail> {
     let Some(whole) = trial.answer(ample, ample)? else {

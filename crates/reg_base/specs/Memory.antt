@@ -33,7 +33,7 @@ abbrev pub memory_after : List Op → List ℕ → List ℕ
 memory_after [] m = m
 memory_after (op ∷ ops) m = memory_after ops (after op m)
 
--- The other definitions of this file are no part of the definitions behind a serial order: they are shorthands.
+-- The definitions that follow are shorthands: a serial order doesn't rest on them.
 
 -- a memory: a value for each register
 abbrev pub Memory : Type 0

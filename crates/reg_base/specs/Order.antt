@@ -22,7 +22,7 @@ Below a b = (a.time < b.time) ⊎ ((a.time ≡ b.time) × (a.process < b.process
 abbrev pub AtMost : Stamp → Stamp → Type 0
 AtMost a b = (a.time < b.time) ⊎ ((a.time ≡ b.time) × (a.process ≤ b.process))
 
--- the same as tests
+-- whether (t, p) < (u, q), as a test
 abbrev pub below : Stamp → Stamp → Bool
 below a b = nat_lt a.time b.time || (a.time == b.time && nat_lt a.process b.process)
 
@@ -44,12 +44,12 @@ abbrev pub insert : Delivered → List Delivered → List Delivered
 insert c [] = c ∷ []
 insert c (x ∷ xs) = cond (below c.stamp x.stamp) (c ∷ x ∷ xs) (x ∷ insert c xs)
 
--- A stamp is clear for one of n processes when every other one is known to have passed it: the stamp of the last body
--- from it, whose time is `seen` of it, is not below.
+-- A stamp is clear for one of n processes when every other process is known to have passed it: the stamp of the last
+-- body from that process, whose time is `seen` of it, is not below.
 abbrev pub IsClear : ℕ → (ℕ → ℕ) → ℕ → Stamp → Type 0
 IsClear me seen n stamp = (r : ℕ) → r < n → (r ≡ me → ⊥) → AtMost stamp (stamp_at (seen r) r)
 
--- the same as a test
+-- whether a stamp is clear, as a test
 abbrev pub is_clear : ℕ → (ℕ → ℕ) → ℕ → Stamp → Bool
 is_clear me seen n stamp = all_below (λ r. (r == me) || at_most stamp (stamp_at (seen r) r)) n
 

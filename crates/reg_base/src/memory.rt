@@ -34,7 +34,7 @@ pub struct OpId {
 }
 
 impl Op {
-    /// Whether it may change the memory.
+    /// Whether the operation may change the memory.
     pub fn updates(&self) -> bool
         ensures { result ≡ updates self.now }
     {
@@ -51,7 +51,7 @@ impl Op {
         }
     }
 
-    /// Whether it has this answer on some memory.
+    /// Whether the operation has this answer on some memory.
     pub fn can_answer(&self, answer: &Answer) -> bool
         ensures { IsTrue result ↔ ((m : List ℕ) × (answer.now ≡ answer_of self.now m)) }
     {
@@ -77,7 +77,7 @@ impl Op {
         }
     }
 
-    /// The register that it names.
+    /// The register that the operation names.
     pub fn register(&self) -> u16
         ensures { result ≡ register_of self.now }
     {
@@ -88,7 +88,7 @@ impl Op {
         }
     }
 
-    /// What it answers on a memory, which has a value for each register. It isn't applied.
+    /// What the operation answers on a memory, which has a value for each register. The operation isn't applied.
     pub fn answer_on(&self, memory: &[u64]) -> Answer
         requires { register_of self.now < length memory.now }
         ensures { result ≡ answer_of self.now memory.now }
@@ -104,7 +104,7 @@ impl Op {
         }
     }
 
-    /// Applies it to a memory, which has a value for each register, and answers it.
+    /// Applies the operation to a memory, which has a value for each register, and answers it.
     pub fn apply_to(&self, memory: &mut [u64]) -> Answer
         requires { register_of self.now < length memory.old }
         ensures answer { result ≡ answer_of self.now memory.old }
@@ -138,7 +138,7 @@ impl<A: Allocator + Copy> Model for Registers<A> {
 }
 
 impl<A: Allocator + Copy> Registers<A> {
-    /// So many registers, all 0.
+    /// As many registers as `count` says, all 0.
     pub fn new(alloc: A, count: u16) -> Result<Registers<A>, AllocError>
         ensures { IfOk result (λ r. r ≡ blank count) }
     {

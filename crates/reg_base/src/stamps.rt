@@ -16,7 +16,8 @@ pub struct Stamp {
 }
 
 impl Stamp {
-    /// How it stands to another one: by time, and equal times by process. The operators answer the same.
+    /// How the stamp compares with another one: by time, and equal times by process. The comparison operators answer
+    /// the same.
     pub fn order(&self, other: &Stamp) -> Ordering
         ensures { result ≡ stamp_cmp self.now other.now }
     {

@@ -27,7 +27,7 @@ pub record Grows (old new : Log) (e : Entry) : Type 0 where
   pub entries : new.entries ≡ old.entries ++ e ∷ []
   pub room : old.room ≤ new.room + 1
 
--- why an entry is refused: want of memory comes only to one that was in place, where no room was left
+-- why an entry is refused: memory is refused only to one that was in place, where no room was left
 abbrev pub Refuses : Log → Entry → HistoryFault → Type 0
 Refuses h e OutOfPlace = ¬ IsNextOf h e
 Refuses h e OutOfMemory = IsNextOf h e × (h.room ≡ 0)

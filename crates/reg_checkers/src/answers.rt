@@ -8,7 +8,7 @@ use crate::facts::Fact;
 use reg_base::{Registers, Shape};
 use std::alloc::{AllocError, Allocator};
 
-/// Whether the fact has another answer than that of the values, on which the operation is done.
+/// Whether the fact has another answer than the operation has on these values. The operation is applied to them.
 fn is_wrong<A: Allocator + Copy>(values: &mut Registers<A>, fact: Fact) -> bool
     requires { register_of fact.op < length values.old }
     ensures verdict { IsTrue result ↔ IsWrongOn values.old fact }

@@ -71,8 +71,8 @@ impl<A: Allocator + Copy> History<A> {
         self.entries.reserve(n as usize)
     }
 
-    /// Adds an entry at the end. One out of place is refused, and one in place for want of memory alone, where no room
-    /// is left. Nothing has changed then.
+    /// Adds an entry at the end. One out of place is refused; one in place only where no room is left and memory is
+    /// refused. Nothing has changed then.
     #[inline]
     pub fn push(&mut self, entry: Entry) -> Result<(), HistoryFault>
         ensures { MatchResult result (λ _. Grows self.old self.new entry) (λ fault. Refuses self.old entry fault × (self.new ≡ self.old)) }

@@ -28,7 +28,7 @@ HasAnswerForm text = (text ≡ codes "done") ⊎ ((digits : List ℕ) × ((is_nu
 abbrev pub HasTailForm : List ℕ → Type 0
 HasTailForm rest = ((text : List ℕ) × ((rest ≡ codes "call    " ++ text) × HasOpForm text)) ⊎ ((text : List ℕ) × ((rest ≡ codes "answer  " ++ text) × HasAnswerForm text))
 
--- a numeral that has room in a column of so many places
+-- a numeral that has room in a column of this number of places
 pub record FitsColumn (places : ℕ) (numeral : List ℕ) : Type 0 where
   pub numeral_is : is_numeral numeral ≡ true
   pub short : length numeral ≤ places
@@ -62,12 +62,12 @@ pub record IsEntryWhy (version : Version) (names : List (List ℕ)) (line : List
   pub beyond : (at process number rest : List ℕ) → HasColumns line at process number rest → HasTailForm rest → ¬ (AreWithin version at process number) → why ≡ BeyondLimit
   pub within : (at process number rest : List ℕ) → HasColumns line at process number rest → HasTailForm rest → AreWithin version at process number → (told : Why) × IsTailWhy names rest told × (why ≡ why_of told)
 
--- it is none of an entry's
+-- the line is none of an entry's
 pub record IsNoEntry (version : Version) (names : List (List ℕ)) (line : List ℕ) (why : ReadWhy) : Type 0 where
   pub none : (e : Entry) → EntryFits version names e → line ≢ entry_text names e
   pub told : IsEntryWhy version names line why
 
--- it is that of an entry which may not come after those before it
+-- the line is that of an entry which may not come after those before it
 pub record IsMisplaced (version : Version) (names : List (List ℕ)) (shape : Extent) (before : List Entry) (line : List ℕ) (why : ReadWhy) : Type 0 where
   pub entry : Entry
   pub spelled : line ≡ entry_text names entry
@@ -82,7 +82,7 @@ IsIdForm line process number = (is_numeral process ≡ true) × (is_numeral numb
 abbrev pub HasIdForm : List ℕ → Type 0
 HasIdForm line = (process : List ℕ) × ((number : List ℕ) × IsIdForm line process number)
 
--- the same of a point's line
+-- the line has the form of a point's, whatever the limits: these numerals in their places
 abbrev pub IsPointForm : List ℕ → List ℕ → List ℕ → List ℕ → Type 0
 IsPointForm line process number at = (is_numeral process ≡ true) × (is_numeral number ≡ true) × (is_numeral at ≡ true)
     × (line ≡ codes "p" ++ (process ++ 32 ∷ (codes "#" ++ (number ++ 32 ∷ (codes "at " ++ at)))))

@@ -28,22 +28,22 @@ abbrev pub IsWrongNext : (List ℕ → ReadWhy → Type 0) → Option (List ℕ)
 IsWrongNext IsNone None why = why ≡ End
 IsWrongNext IsNone (Some line) why = IsNone line why
 
--- it names no version
+-- the line names no version
 abbrev pub IsNoVersion : List ℕ → ReadWhy → Type 0
 IsNoVersion line why = ((version : Version) → line ≢ version_line version) × (why ≡ Form)
 
--- it names no front end
+-- the line names no front end
 abbrev pub IsNoFront : List ℕ → ReadWhy → Type 0
 IsNoFront line why = ((word : List ℕ) → line ≡ codes "front " ++ word → is_front word ≡ false) × (why ≡ Form)
 
--- it is the mark with no number from the least to the limit: a number beyond them is Range, and what is no number is
--- Form
+-- the line is not the mark with a number from the least to the limit: a number beyond them is Range, and what is no
+-- number is Form
 pub record IsNoCount (mark : List ℕ) (least limit : ℕ) (line : List ℕ) (why : ReadWhy) : Type 0 where
   pub none : (n : ℕ) → least ≤ n → n ≤ limit → line ≢ mark ++ decimal n
   pub range : (digits : List ℕ) → is_numeral digits ≡ true → line ≡ mark ++ digits → why ≡ Range
   pub form : ((digits : List ℕ) → line ≡ mark ++ digits → is_numeral digits ≡ false) → why ≡ Form
 
--- it has no words, or words that are no names or too many: the line of all names of version 1
+-- the line of all names of version 1 has no words, or words that are no names or too many
 pub record IsNoNames (line : List ℕ) (why : ReadWhy) : Type 0 where
   pub none : (names : List (List ℕ)) → names_fault names ≡ None → length names ≤ most_registers One → line ≢ codes "registers" ++ names_text names
   pub words : (ws : List (List ℕ)) → AreWords ws → line ≡ codes "registers" ++ names_text ws → (told : Why) × IsNamesWhy (most_registers One) ws told × (why ≡ why_of told)
@@ -52,19 +52,19 @@ pub record IsNoNames (line : List ℕ) (why : ReadWhy) : Type 0 where
 abbrev pub IsAmong : List ℕ → List (List ℕ) → Type 0
 IsAmong name names = (k : ℕ) × (slice_get names k ≡ Some name)
 
--- well spelt, and it doesn't stand earlier
+-- the name is well spelt, and doesn't stand earlier
 abbrev pub IsNewName : List (List ℕ) → List ℕ → Type 0
 IsNewName before name = (is_name name ≡ true) × (¬ IsAmong name before)
 
--- it is misspelt, and Form where it is no word; or it stands earlier too
+-- the name is misspelt, and Form where it is no word; or it stands earlier too
 abbrev pub IsNoNewName : List (List ℕ) → List ℕ → ReadWhy → Type 0
 IsNoNewName before line why = ((is_name line ≢ true) × (why ≡ (if is_word line then Name else Form))) ⊎ ((is_name line ≡ true) × IsAmong line before × (why ≡ Name))
 
--- it is no entry's, or that of one which may not come after those before it
+-- the line is no entry's, or that of one which may not come after those before it
 abbrev pub IsNoNextEntry : Version → List (List ℕ) → Extent → List Entry → List ℕ → ReadWhy → Type 0
 IsNoNextEntry version names shape before line why = IsNoEntry version names line why ⊎ IsMisplaced version names shape before line why
 
--- it is neither `end` nor the count of points
+-- the line is neither `end` nor the count of points
 abbrev pub IsNoTail : List ℕ → ReadWhy → Type 0
 IsNoTail line why = (line ≢ codes "end") × IsNoCount (codes "points ") 0 MOST_IDS line why
 

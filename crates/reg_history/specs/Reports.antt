@@ -69,7 +69,7 @@ abbrev pub PointsFit : Version → Option (List Point) → Type 0
 PointsFit version None = Unit {0}
 PointsFit version (Some points) = AllFit (λ _ p. PointFits version p) points × (length points ≤ MOST_IDS)
 
--- ids, points and lengths within the limits
+-- ids, points and lengths are within the limits of a report of this version
 pub record InRange (version : Version) (entries : List Entry) (order : List OpId) (points : Option (List Point)) : Type 0 where
   pub few_entries : length entries ≤ MOST_ENTRIES
   pub ids : AllFit (λ _ id. IdFits version id) order

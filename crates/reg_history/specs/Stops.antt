@@ -70,7 +70,7 @@ IsFurther before next why = (before ≡ []) × (line : List ℕ) × (next ≡ So
 abbrev pub IsWrongEnd : List (List ℕ) → Option (List ℕ) → ReadWhy → Type 0
 IsWrongEnd before next why = IsFirst IsNoEnd before next why ⊎ ((before ≡ codes "end" ∷ []) × (line : List ℕ) × (next ≡ Some line) × (why ≡ NoLine))
 
--- one of so many points is wrong, or their last line is, or one more stands after it
+-- one of the given number of points is wrong, or their last line is, or one more stands after it
 abbrev pub IsWrongPoints : Version → ℕ → List (List ℕ) → Option (List ℕ) → ReadWhy → Type 0
 IsWrongPoints version count before next why =
     IsWrongItem point_text (λ _ p. PointFits version p) (λ _. IsBadLine point_text (PointFits version) HasPointForm) count before next why

@@ -75,8 +75,8 @@ pub fn read_entry<A: Allocator + Copy>(
     Some(Entry::Answered { at, id, answer })
 }
 
-/// Whether the bytes have an answer's form, of a line that was not read. It isn't `read_answer`, which takes no numeral
-/// that is out of range: by its form alone a line is refused for its range and not for its form.
+/// Whether the bytes have an answer's form, in a line that was not read. `read_answer` doesn't tell: it takes no
+/// numeral that is out of range, while a line that has its form is refused for its range.
 fn answer_form(text: &[u8]) -> Option<Why>
     ensures read { IfSome result (λ why. HasAnswerForm text.now × (why ≡ Why.Range)) }
     ensures done { text.now ≡ codes "done" → result ≡ Some Why.Range }

@@ -23,7 +23,7 @@ pub enum ReportFault {
 /// What is wrong with a line of a report: the first of these that applies.
 #[derive(Clone, Copy, Debug, PartialEq, Eq, Error)]
 pub enum ReadWhy {
-    /// The line is spelled otherwise than such lines are.
+    /// The line is spelled otherwise than lines of its kind are.
     Form,
     /// A number, or how many names there are, is beyond its limit.
     Range,

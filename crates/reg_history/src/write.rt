@@ -20,7 +20,7 @@ use std::io::Write;
 /// No number of 64 bits has more digits.
 const DIGITS: usize = 20;
 
-/// Puts a number at the right of so many places, and the mark that stands after twenty spaces.
+/// Puts a number at the right of `places` places, and the mark that stands after twenty spaces.
 fn put_right<W: Write>(sink: &mut Sink<'_, W>, number: u64, places: usize, marked: &mut [u8])
     requires places { places ≤ DIGITS }
     requires marked { marked.old ≡ replicate DIGITS 32 ++ drop DIGITS marked.old }

@@ -94,7 +94,7 @@ fn casts<A: Allocator + Copy, B: Allocator + Copy>(
 }
 
 impl<A: Allocator + Copy> Holdback<A> {
-    /// Nothing is held, and nothing was heard of anyone. The process is one of the shape.
+    /// A queue that holds nothing and has heard of no process. The own process is one of the shape.
     pub fn new(alloc: A, me: u8, shape: Shape) -> Result<Holdback<A>, AllocError>
         requires { me < shape.processes }
         ensures { IfOk result (λ h. h ≡ record { me = me; seen = replicate shape.processes 0; held = [] }) }

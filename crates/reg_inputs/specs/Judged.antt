@@ -48,7 +48,7 @@ abbrev pub optional : (Data → Option WorkloadFault) → Option Data → Option
 optional fault None = None
 optional fault (Some d) = fault d
 
--- one of the three names
+-- one of the three names of front ends
 abbrev pub is_front : List ℕ → Bool
 is_front name = bytes_eq name (codes "linear") || (bytes_eq name (codes "local-read") || bytes_eq name (codes "local-write"))
 

@@ -14,11 +14,11 @@ key_name Loss = codes "loss"
 key_name Repeat = codes "repeat"
 key_name Budget = codes "budget"
 
--- one of these
+-- one of the keys of a workload, as it is written
 abbrev pub is_key : List ℕ → Bool
 is_key name = bytes_eq name (codes "front") || (bytes_eq name (codes "registers") || (bytes_eq name (codes "scripts") || (bytes_eq name (codes "seed") || (bytes_eq name (codes "loss") || (bytes_eq name (codes "repeat") || bytes_eq name (codes "budget"))))))
 
--- all keys of a table are such keys
+-- all keys of a table are keys of a workload
 abbrev pub all_known : Members → Bool
 all_known no_members = true
 all_known (member name d ms) = is_key name && all_known ms

@@ -25,14 +25,14 @@ IsTakeForm line from to number = (is_numeral from ≡ true) × (is_numeral to �
 abbrev pub IsTickForm : List ℕ → List ℕ → Type 0
 IsTickForm line process = (is_numeral process ≡ true) × (line ≡ codes "tick " ++ process)
 
--- any of them
+-- the form of a call, of a take or of a tick
 abbrev pub HasEventForm : List ℕ → Type 0
 HasEventForm line =
     ((process text : List ℕ) × IsCallForm line process text)
     ⊎ (((from to number : List ℕ) × IsTakeForm line from to number) ⊎ ((process : List ℕ) × IsTickForm line process))
 
--- Why a line that has the form of an event's is none: a process, or the number of a frame, is beyond its range, and of
--- a call within it the operation tells.
+-- Why a line that has the form of an event's is none: a process, or the number of a frame, is beyond its range; and of
+-- a call whose process is within it, the operation tells.
 pub record IsEventWhy (names : List (List ℕ)) (line : List ℕ) (why : Why) : Type 0 where
   pub formed : HasEventForm line
   pub call : (process : ℕ) (text : List ℕ) → process ≤ 255 → IsCallForm line (decimal process) text → IsOpWhy names text why

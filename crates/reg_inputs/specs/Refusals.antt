@@ -18,12 +18,12 @@ pub record IsProcessesWhy (line : List ℕ) (why : Why) : Type 0 where
   pub range : (digits : List ℕ) → is_numeral digits ≡ true → line ≡ codes "processes " ++ digits → why ≡ Range
   pub form : ((digits : List ℕ) → line ≡ codes "processes " ++ digits → is_numeral digits ≡ false) → why ≡ Form
 
--- why a second one is: it has no words, or they are no names or too many
+-- why a second line is refused: it has no words, or they are no names or too many
 pub record IsRegistersWhy (line : List ℕ) (why : Why) : Type 0 where
   pub words : (ws : List (List ℕ)) → AreWords ws → line ≡ codes "registers" ++ names_text ws → IsNamesWhy MOST_REGISTERS ws why
   pub form : ((text : List ℕ) → HasWords text → ¬ (line ≡ codes "registers" ++ text)) → why ≡ Form
 
--- why a third one is: it has no word, or one that names no front end
+-- why a third line is refused: it has no word, or one that names no front end
 pub record IsFrontWhy (line : List ℕ) (why : Why) : Type 0 where
   pub name : (word : List ℕ) → is_front_form word ≡ true → line ≡ codes "front " ++ word → why ≡ Name
   pub form : ((word : List ℕ) → line ≡ codes "front " ++ word → is_front_form word ≡ false) → why ≡ Form
@@ -36,7 +36,7 @@ pub record IsEventsWhy (lines : List (List ℕ)) (line : List ℕ) (why : Why) :
   pub none : length plan.events < MOST_EVENTS → IsLineWhy plan.names line why
   pub further : length plan.events ≡ MOST_EVENTS → IsFurtherWhy line why
 
--- the same by the lines before it
+-- why a line is refused, by the lines before it
 abbrev pub IsReason : List (List ℕ) → List ℕ → Why → Type 0
 IsReason [] line why = IsProcessesWhy line why
 IsReason (a ∷ []) line why = IsRegistersWhy line why

@@ -77,7 +77,7 @@ fn call_form<A: Allocator + Copy>(text: &[u8], names: &Names<A>) -> Option<Why>
     }
 }
 
-/// Why what stands after `take ` is none of an event's form, or None.
+/// Why a line of a take, with this after `take `, is no event. None where its form is not kept.
 fn take_form(text: &[u8]) -> Option<Why>
     ensures read { (names : List (List ℕ)) → IfSome result (IsEventWhy names (codes "take " ++ text.now)) }
     ensures whole { HasEventForm (codes "take " ++ text.now) → IsSome result }

@@ -3,8 +3,8 @@ use crate::keys::Key;
 use std::fmt;
 use thiserror::Error;
 
-/// Why a workload is refused. The first that applies is told: each key is judged in turn, and the operations last. As
-/// text, the line of it on standard error.
+/// Why a workload is refused. The first that applies is told: each key is judged in turn, and the operations last. Its
+/// text is its line on standard error.
 #[derive(Clone, Copy, Debug, PartialEq, Eq, Error)]
 pub enum WorkloadFault {
     /// The text is no TOML document.

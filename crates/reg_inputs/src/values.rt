@@ -169,7 +169,7 @@ fn are_short(values: &[Value]) -> bool
     values.iter().all(|v| is_short(v))
 }
 
-/// Whether there can be so many processes.
+/// Whether there can be as many processes as there are values.
 fn is_count(values: &[Value]) -> bool
     ensures value { result ≡ (nat_lt 0 (length values.now) && nat_le (length values.now) MOST_PROCESSES) }
     ensures some { IsTrue result → 0 < length values.now }

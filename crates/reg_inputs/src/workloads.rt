@@ -27,9 +27,9 @@ pub struct Workload<A: Allocator + Copy = Global> {
     pub scripts: Vec<Vec<Op, A>, A>,
     /// The seed of a seeded play.
     pub seed: u64,
-    /// Of a hundred frames that are chosen, so many are lost.
+    /// How many of a hundred frames that are chosen are lost.
     pub loss: u32,
-    /// Of a hundred frames that are taken, so many can be taken again.
+    /// How many of a hundred frames that are taken can be taken again.
     pub repeat: u32,
     /// The most events of a play.
     pub budget: u32,

@@ -16,7 +16,7 @@ pub record Sending : Type 0 where
 abbrev pub next_all : Sending → ℕ
 next_all s = s.first + length s.bodies
 
--- what a process that has acknowledged so many has not
+-- the bodies that a process hasn't acknowledged, where it has acknowledged the given number
 abbrev pub link_at : Sending → ℕ → Unacknowledged
 link_at s count = record { first = count; pending = drop (count - s.first) s.bodies }
 
@@ -34,7 +34,7 @@ pub record IsQueued (old : Sending) (me : ℕ) (body : Body) (number : ℕ) (new
   pub links : (r : ℕ) → r < length old.counts → (r ≡ me → ⊥) → link_to new r ≡ with_queued (link_to old r) body
   pub own : link_to new me ≡ record { first = number + 1; pending = [] }
 
--- one process has acknowledged so many, the others what they had
+-- one process has acknowledged the given number of bodies, and the others as many as before
 pub record IsCounted (old : Sending) (from : ℕ) (count : ℕ) (new : Sending) : Type 0 where
   pub next : next_all new ≡ next_all old
   pub link : link_to new from ≡ acknowledged (link_to old from) count

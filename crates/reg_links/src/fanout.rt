@@ -63,7 +63,7 @@ fn least_again(next: u64, counts: &[u64], bound: u64, slowest: &mut usize) -> u6
     least
 }
 
-/// Drops so many bodies from the front.
+/// Drops `count` bodies from the front.
 fn forget<A: Allocator + Copy>(bodies: &mut VecDeque<Body, A>, count: u64)
     ensures { bodies.new.items ≡ drop count bodies.old.items }
 {
@@ -72,7 +72,7 @@ fn forget<A: Allocator + Copy>(bodies: &mut VecDeque<Body, A>, count: u64)
     }
 }
 
-/// No process has acknowledged anything.
+/// The counts of processes that have acknowledged nothing.
 fn no_counts<A: Allocator + Copy>(alloc: A, processes: u32) -> Result<Vec<u64, A>, AllocError>
     ensures { IfOk result (λ v. v.items ≡ replicate processes 0) }
 {
@@ -84,7 +84,7 @@ fn no_counts<A: Allocator + Copy>(alloc: A, processes: u32) -> Result<Vec<u64, A
 }
 
 impl<A: Allocator + Copy> Outboxes<A> {
-    /// Links to so many processes, the own one among them. Nothing was queued.
+    /// Links to the given number of processes, the own one among them. Nothing was queued.
     pub fn new(alloc: A, processes: u32) -> Result<Outboxes<A>, AllocError>
         ensures { IfOk result (λ s. s ≡ record { first = 0; bodies = []; counts = replicate processes 0 }) }
     {
@@ -132,8 +132,8 @@ impl<A: Allocator + Copy> Outboxes<A> {
         Ok(number)
     }
 
-    /// A process has acknowledged so many bodies. A count not above one before changes nothing, nor does one that is
-    /// ahead.
+    /// Notes that a process has acknowledged `count` bodies. A count not above an earlier one changes nothing, nor does
+    /// one that is ahead.
     pub fn got(&mut self, from: u8, count: u64) -> Result<(), Ahead>
         requires { from < length self.old.counts }
         ensures answer { OkIff result (count ≤ next_of (link_to self.old from)) tt }

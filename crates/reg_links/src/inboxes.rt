@@ -23,14 +23,14 @@ impl Model for Inbox {
 }
 
 impl Inbox {
-    /// Expects number 0.
+    /// An inbox that expects number 0.
     pub fn new() -> Inbox
         ensures { result ≡ 0 }
     {
         Inbox { expected: 0 }
     }
 
-    /// Expects the given number. None where that is past the last count.
+    /// An inbox that expects the given number. None where that is past the last count.
     pub fn starting(expected: u64) -> Option<Inbox>
         ensures { SomeIff result (expected ≤ FRAME_NUMBERS) expected }
     {

@@ -45,7 +45,7 @@ impl<A: Allocator + Copy> Model for Outbox<A> {
 }
 
 impl<A: Allocator + Copy> Outbox<A> {
-    /// Nothing was queued. It takes no memory yet.
+    /// An outbox to which nothing was queued. It takes no memory yet.
     pub fn new(alloc: A) -> Outbox<A>
         ensures { result ≡ record { first = 0; pending = [] } }
     {
@@ -55,7 +55,7 @@ impl<A: Allocator + Copy> Outbox<A> {
         }
     }
 
-    /// Nothing is pending, and the next number is given. None where that is past the last count.
+    /// An outbox with nothing pending and the given next number. None where that is past the last count.
     pub fn starting(alloc: A, next: u64) -> Option<Outbox<A>>
         ensures { SomeIff result (next ≤ FRAME_NUMBERS) (record { first = next; pending = [] }) }
     {
@@ -82,7 +82,7 @@ impl<A: Allocator + Copy> Outbox<A> {
         }
     }
 
-    /// Drops what lies below a count of accepted frames. A count not above one before changes nothing, nor does one
+    /// Drops what lies below a count of accepted frames. A count not above an earlier one changes nothing, nor does one
     /// that is ahead.
     pub fn got(&mut self, count: u64) -> Result<(), Ahead>
         ensures answer { OkIff result (count ≤ next_of self.old) tt }

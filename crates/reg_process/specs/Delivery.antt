@@ -7,13 +7,13 @@ use Rattle.reg_process.specs.Process.{State, Running, Own, Held, is_own, is_stam
 pub use Rattle.reg_process.specs.Faults.{first_of}
 use Rattle.reg_process.specs.Parts.{Parts}
 
--- the reply due to the cast c that is delivered on the memory m, where so many own ones stay held
+-- the reply that is due when the cast c is delivered on the memory m, where `left` own casts stay held
 abbrev pub reply_by : Memory → ℕ → ℕ → Delivered → Option Running → Option Reply
 reply_by m place left c None = None
 reply_by m place left c (Some (Own stamp op)) = cond (is_stamp stamp c) (Some (record { answer = answer_of op m; place = place })) None
 reply_by m place left c (Some (Held op)) = cond (left == 0) (Some (record { answer = answer_of op (after c.op m); place = place + 1 })) None
 
--- the same, where the rest stays held
+-- the reply that is due when the cast c is delivered, where the rest stays held
 abbrev pub reply_one : State → Delivered → List Delivered → Option Running → Option Reply
 reply_one s c rest running = reply_by s.copy s.delivered (count_by (is_own s) rest) c running
 
@@ -26,7 +26,7 @@ popped s c rest = record s {
   running = still (reply_one s c rest s.running) s.running;
 }
 
--- the parts after the cast c was delivered, where the rest and so many own ones stay held
+-- the parts after the cast c was delivered, where the rest stays held, with the given number of own casts
 abbrev pub delivered_parts : Parts → Delivered → List Delivered → ℕ → Parts
 delivered_parts p c rest left = record p {
   waiting = record p.waiting { held = rest };

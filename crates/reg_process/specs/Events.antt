@@ -48,7 +48,7 @@ pub record Steps (start : Op → ℕ → Start) (old : Kept) (e : Step) (frames 
   pub room : new.room ≡ (if uses_list start old.state e then 0 else old.room)
   pub outcome : IsOutcome (length old.state.peers) (step start old.state e).1 frames cast delivered reply
 
--- a refused one: stopped for good, or unchanged
+-- a refused event: the process has stopped for good, or is unchanged
 abbrev pub Refused : (Op → ℕ → Start) → Kept → Step → ProcessFault → Kept → Type 0
 Refused start old e OutOfMemory new = (process_fault start old e ≡ None) × (new.failed ≡ true)
 Refused start old e ClockFull new = (process_fault start old e ≡ Some ClockFull) × (new.failed ≡ true)

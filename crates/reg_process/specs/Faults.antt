@@ -63,13 +63,14 @@ abbrev pub is_numbered : Frame → Bool
 is_numbered (Numbered number body) = true
 is_numbered (Got count) = false
 
--- Whether an expected body can find no memory, where so many frames fit into the kept list: a cast is held, and an
--- acknowledgement wants it only for its answer where there is no room, or for the casts that it makes clear.
+-- Whether an expected body can be refused memory, where `room` frames fit into the kept list. A cast can, since it is
+-- held; an acknowledgement takes memory only for its answer, where there is no room, or for the casts that it makes
+-- clear.
 abbrev pub body_memory : State → ℕ → ℕ → Body → Bool
 body_memory s room from (Cast t op) = true
 body_memory s room from (Ack t) = (room == 0) || nat_lt 0 (length (clear_casts (accepts from t s)))
 
--- Whether a frame can find no memory: an expected body as above, and a dropped one where there is no room for its
+-- Whether a frame can be refused memory: an expected body as above, and a dropped one where there is no room for its
 -- answer, but never a count.
 abbrev pub takes_memory : State → ℕ → ℕ → Frame → Bool
 takes_memory s room from (Numbered number body) = if number == (peer_at s from).expected then body_memory s room from body else (room == 0)

@@ -96,7 +96,7 @@ clear_casts s = filter (λ c. is_clear s c.stamp) s.held
 abbrev pub ops_of : List Delivered → List Op
 ops_of cs = map (λ (c : Delivered). c.op) cs
 
--- those before the stamp, and those up to the last own one
+-- the casts before the stamp, and those up to the last own one
 abbrev pub casts_before : Stamp → List Delivered → List Delivered
 casts_before stamp cs = filter (λ c. below c.stamp stamp) cs
 

@@ -27,7 +27,7 @@ owed (Some got) r = cond (r == got.0) (Got got.1 ∷ []) []
 abbrev pub body_frames : ℕ → Body → ℕ → Unacknowledged → List Frame
 body_frames me body r out = cond (r == me) [] (Numbered (next_of out) body ∷ [])
 
--- the same frame where the number is known
+-- the frame of a body for a process, where the body's number is known
 abbrev pub frame_to : ℕ → ℕ → Body → ℕ → List Frame
 frame_to me number body r = cond (r == me) [] (Numbered number body ∷ [])
 

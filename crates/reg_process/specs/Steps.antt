@@ -29,7 +29,7 @@ cast_start runs = cond runs Casts CastsAndAnswers
 abbrev pub is_peer : State → ℕ → Bool
 is_peer s from = not (nat_le (length s.peers) from || from == s.me)
 
--- what stops a process: the clock is full, or want of memory
+-- what stops a process: the clock is full, or memory is refused
 abbrev pub Stops : Bool → ProcessFault → Type 0
 Stops full OutOfMemory = full ≡ false
 Stops full ClockFull = full ≡ true
@@ -53,13 +53,13 @@ pub record DeliversOne (s : State) (d : Delivered) (reply : Option Reply) (s' : 
   pub state : delivered_state s ≡ delivered_state s'
   pub answer : due s ≡ first_of reply (due s')
 
--- none is clear
+-- no held cast is clear
 pub record DeliversNone (s : State) : Type 0 where
   pub casts : clear_casts s ≡ []
   pub state : delivered_state s ≡ s
   pub answer : due s ≡ None
 
--- all clear ones were delivered
+-- all clear casts were delivered
 pub record Delivers (s : State) (ds : List Delivered) (reply : Option Reply) (s' : State) : Type 0 where
   pub casts : ds ≡ clear_casts s
   pub state : s' ≡ delivered_state s
@@ -84,7 +84,7 @@ pub record TakesCast (s : State) (from t : ℕ) (op : Op) (frames : List Put) (s
   pub state : s' ≡ with_cast s from t op
   pub put : frames ≡ puts (both_frames (got_frames from ((peer_at s from).expected + 1)) (data_frames s (Some (Ack (max s.clock t + 1))))) (length s.peers)
 
--- a body without one
+-- a body without a cast was accepted
 pub record TakesAck (s : State) (from t : ℕ) (frames : List Put) (s' : State) : Type 0 where
   pub room : max s.clock t < LAST_TIME
   pub state : s' ≡ accepts from t s

@@ -121,7 +121,7 @@ impl<A: Allocator + Copy> Core<A> {
         pending_in(&self.outboxes, self.me)
     }
 
-    /// Puts what is pending again. Memory is wanting only where a frame is put.
+    /// Puts what is pending again. Memory can be refused only where a frame is put.
     pub(crate) fn tick(&self, spare: &mut Spare<A>) -> Result<Vec<Put, A>, AllocError>
         ensures frames { IfOk result (λ v. v.items ≡ puts (resent self.now) (length self.now.peers)) }
         ensures memory { OnErr result (puts (resent self.now) (length self.now.peers) ≢ []) }

@@ -43,7 +43,7 @@ impl<F: FrontEnd, A: Allocator + Copy> Model for Process<F, A> {
 }
 
 impl<F: FrontEnd, A: Allocator + Copy> Process<F, A> {
-    /// A process that did nothing yet. Refused are a process that the shape does not have, and want of memory.
+    /// A process that did nothing yet. It is refused where the shape doesn't have it, or where memory is refused.
     pub fn new(alloc: A, shape: Shape, me: u8) -> Result<Process<F, A>, ProcessFault>
         ensures made { IfOk result (λ p. (me < shape.processes) × (p ≡ record { failed = false; state = state_of (first_parts me shape.processes shape.registers); room = 0 })) }
         ensures fault { IfErr result (λ fault. NewRefused shape.processes me fault) }

@@ -20,7 +20,7 @@ struct Sent {
     got: Option<(u8, u64)>,
 }
 
-/// Puts one frame. Memory is wanting only where the list has no room.
+/// Puts one frame. Memory can be refused only where the list has no room.
 pub fn put_frame<A: Allocator + Copy>(
     frames: &mut Vec<Put, A>,
     to: u8,
@@ -107,7 +107,8 @@ fn queue_for_others<A: Allocator + Copy>(
     }
 }
 
-/// Queues a body for all other processes, and puts it in an empty list. Where memory is wanting, it may be queued.
+/// Queues a body for all other processes, and puts it in an empty list. Where memory is refused, the body may have been
+/// queued.
 pub fn queue_on_all<A: Allocator + Copy>(
     frames: &mut Vec<Put, A>,
     outboxes: &mut Outboxes<A>,

@@ -41,7 +41,7 @@ pub record IsEntry (start : Op → ℕ → Start) (w : Made) (p : ℕ) (entry : 
   pub move : Moves start w p entry.step e
   pub reply : reply_in start w e ≡ entry.reply
 
--- whether the process made such an event
+-- whether the process made an event with the entry's step and reply
 abbrev pub IsMade : (Op → ℕ → Start) → Made → ℕ → LogEntry → Bool → Made → Type 0
 IsMade start old p entry true new = (e : Event) × IsEntry start old p entry e × (new ≡ with_event start old e)
 IsMade start old p entry false new = (e : Event) → IsEntry start old p entry e → ⊥

@@ -30,7 +30,7 @@ pub record AreFinished (h : List Entry) (p : ℕ) (receipts : List Receipt) : Ty
 abbrev pub AreTold : List Entry → List (List Receipt) → Type 0
 AreTold h lists = (p : ℕ) (receipts : List Receipt) → IsAt lists p receipts → AreFinished h p receipts
 
--- the first process whose list is another
+-- the first process whose list is not its finished operations
 pub record IsFirstUntold (h : List Entry) (lists : List (List Receipt)) (p : ℕ) : Type 0 where
   pub receipts : List Receipt
   pub at : IsAt lists p receipts
@@ -43,19 +43,19 @@ pub record IsRecord (start : Op → ℕ → Start) (shape : Extent) (order : Lis
   pub faithful : IsFaithful start shape order logs w
   pub told : AreTold w.history lists
 
--- the order and the logs are a run, in which p is the first process whose list is another
+-- the order and the logs are a run, in which p is the first process whose list is not its finished operations
 pub record IsMismatch (start : Op → ℕ → Start) (shape : Extent) (order : List ℕ) (logs : List (List LogEntry)) (lists : List (List Receipt)) (p : ℕ) : Type 0 where
   pub world : Made
   pub faithful : IsFaithful start shape order logs world
   pub untold : IsFirstUntold world.history lists p
 
--- why a record is refused, want of memory aside
+-- why a record is refused, refused memory aside
 abbrev pub IsRecordFault : (Op → ℕ → Start) → Extent → List ℕ → List (List LogEntry) → List (List Receipt) → CloseFault → Type 0
 IsRecordFault start shape order logs lists (Unfaithful place) = FailsAt start shape order logs place
 IsRecordFault start shape order logs lists (Mismatch p) = IsMismatch start shape order logs lists p
 IsRecordFault start shape order logs lists OutOfMemory = Unit {0}
 
--- the same where no list is compared
+-- why a record is refused, refused memory aside, where no list is compared
 abbrev pub IsPlayFault : (Op → ℕ → Start) → Extent → List ℕ → List (List LogEntry) → CloseFault → Type 0
 IsPlayFault start shape order logs (Unfaithful place) = FailsAt start shape order logs place
 IsPlayFault start shape order logs (Mismatch p) = ⊥

@@ -29,7 +29,7 @@ pub record Turn (start : Op → ℕ → Start) (order : List ℕ) (logs : List (
   pub reply : reply_in start now event ≡ entry.reply
   pub then : next ≡ with_event start now event
 
--- the first mentions, so many, are a run that ends in this world
+-- the given number of mentions, from the first on, are a run that ends in this world
 abbrev pub Plays : (Op → ℕ → Start) → Extent → List ℕ → List (List LogEntry) → ℕ → Made → Type 0
 Plays start shape order logs zero w = w ≡ new_world shape
 Plays start shape order logs (suc k) w = (before : Made) × Plays start shape order logs k before × Turn start order logs k before w
@@ -43,8 +43,8 @@ pub record IsFaithful (start : Op → ℕ → Start) (shape : Extent) (order : L
   pub plays : Plays start shape order logs (length order) w
   pub all : NothingLeft order logs
 
--- The first place at which it is none: the mentions before it are a run, and with the one at it they are none; or it is
--- after the last mention, and some entry is left.
+-- The first place at which a record is none: the mentions before the place are a run, and with the one at it they are
+-- none; or the place is after the last mention, and some entry is left.
 pub record FailsAt (start : Op → ℕ → Start) (shape : Extent) (order : List ℕ) (logs : List (List LogEntry)) (place : ℕ) : Type 0 where
   pub reached : Made
   pub plays : Plays start shape order logs place reached

@@ -21,14 +21,14 @@ receipt_by id call at answer = record { id = id; op = call.op; answer = answer; 
 abbrev pub IsNextReceipt : Matched → List Receipt → ℕ → OpId → Answer → Type 0
 IsNextReceipt told receipts at id answer = (call : Pending) × (told.running ≡ Some call) × IsAt receipts told.done (receipt_by id call at answer)
 
--- after one more entry
+-- how far the process is after one more entry
 abbrev pub IsAfter : Matched → ℕ → List Receipt → Entry → Matched → Type 0
 IsAfter told p receipts (Called at id op) next =
     (id.process ≡ p → next ≡ record { done = told.done; running = Some (record { at = at; op = op }) }) × (id.process ≢ p → next ≡ told)
 IsAfter told p receipts (Answered at id answer) next =
     (id.process ≡ p → IsNextReceipt told receipts at id answer × (next ≡ record { done = told.done + 1; running = None })) × (id.process ≢ p → next ≡ told)
 
--- the entry is an answer of the process, and the next receipt isn't its
+-- the entry is an answer of the process, and the next receipt isn't that answer's
 abbrev pub IsOther : Matched → ℕ → List Receipt → Entry → Type 0
 IsOther told p receipts (Called at id op) = ⊥
 IsOther told p receipts (Answered at id answer) = (id.process ≡ p) × (IsNextReceipt told receipts at id answer → ⊥)
@@ -38,7 +38,7 @@ abbrev pub progress_of : ℕ → Option Pending → Progress
 progress_of done None = record { next = done; running = None }
 progress_of done (Some call) = record { next = done + 1; running = Some (record { at = call.at; op = call.op }) }
 
--- so many operations of the process are finished in these entries, each as its receipt says
+-- as many operations of the process are finished in these entries as was noted, each as its receipt says
 pub record IsToldIn (es : List Entry) (p : ℕ) (receipts : List Receipt) (told : Matched) : Type 0 where
   pub progress : IsProgressOf es p (progress_of told.done told.running)
   pub within : told.done ≤ length receipts

@@ -29,7 +29,8 @@ fn stands_at<F: FrontEnd, A: Allocator + Copy, W: WireStore<A>>(
     }
 }
 
-/// A place at which the frame stands on the wire, which has so many: the one that was guessed, or else the first.
+/// A place at which the frame stands on the wire, which has `count` frames: the one that was guessed, or else the
+/// first.
 fn place_of<F: FrontEnd, A: Allocator + Copy, W: WireStore<A>>(
     world: &World<F, A, W>,
     from: u8,

@@ -15,7 +15,7 @@ use reg_process::Reply;
 use reg_world::{WireStore, World, WorldFault};
 use std::alloc::{AllocError, Allocator};
 
-/// Whether a fault is want of memory.
+/// Whether a fault is `OutOfMemory`.
 fn is_memory(fault: WorldFault) -> bool
     ensures { IsTrue result ↔ fault ≡ WorldFault.OutOfMemory }
 {

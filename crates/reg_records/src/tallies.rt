@@ -6,7 +6,7 @@ ghost use Rattle.reg_records.specs.Playing.{AreTallied};
 use crate::entries::LogEntry;
 use std::alloc::{AllocError, Allocator};
 
-/// No mention yet, of so many processes.
+/// The counts of the given number of processes, none of which was mentioned yet.
 pub(crate) fn no_counts<A: Allocator + Copy>(
     alloc: A,
     processes: usize,

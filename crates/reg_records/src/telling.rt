@@ -49,7 +49,8 @@ fn stands_at(receipts: &[Receipt], place: usize, receipt: Receipt) -> bool
     }
 }
 
-/// How far the process is after one more entry. None where that is an answer, and the next receipt isn't its.
+/// How far the process is after one more entry. None where the entry is an answer of it, and the next receipt isn't
+/// that answer's.
 fn after(told: Matched, entry: &Entry, process: u8, receipts: &[Receipt]) -> Option<Matched>
     ensures { MatchOption result (IsOther told process receipts.now entry.now) (λ next. IsAfter told process receipts.now entry.now next) }
 {

@@ -30,8 +30,8 @@ casts_between w from to = count_by is_cast (drop (peer_at (w to).state from).exp
 abbrev pub casts_to : ℕ → Nodes → ℕ → ℕ
 casts_to n w p = total n (λ q. cond (q == p) 0 (casts_between w q p))
 
--- What a process has to have acknowledged, now or later: its data frames that are not, over all links; and for each
--- cast that it has not accepted an acknowledgement, which it will put for every other process.
+-- What a process has to have acknowledged, now or later: its data frames that are not yet, over all links; and an
+-- acknowledgement for each cast that it has not accepted, which it will put for every other process.
 abbrev pub left_at : ℕ → Nodes → ℕ → ℕ
 left_at n w p = pending_of (w p).state.peers + casts_to n w p * (n - 1)
 
@@ -39,7 +39,7 @@ left_at n w p = pending_of (w p).state.peers + casts_to n w p * (n - 1)
 abbrev pub distance : ℕ → Nodes → ℕ
 distance n w = total n (left_at n w)
 
--- a bound on the events that bring a run to rest: at most three for each
+-- a bound on the events that bring a run to rest: three for each frame that has to be acknowledged
 abbrev pub most_to_rest : ℕ → Nodes → ℕ
 most_to_rest n w = 3 * distance n w
 
@@ -47,7 +47,7 @@ most_to_rest n w = 3 * distance n w
 abbrev pub put_for : Nodes → ℕ → ℕ → ℕ
 put_for w from to = length ((w from).wire to)
 
--- a tick, or a take of a frame after the first ones of its wire, so many on each
+-- a tick, or a take of a frame after the first ones of its wire: how many these are is given for each wire
 abbrev pub IsLater : (ℕ → ℕ → ℕ) → Event → Type 0
 IsLater passed (Call p op) = ⊥
 IsLater passed (Take from to number) = passed from to ≤ number
@@ -57,7 +57,7 @@ IsLater passed (Tick p) = Unit {0}
 abbrev pub AreLater : Nodes → List Event → Type 0
 AreLater w events = (e : Event) → In e events → IsLater (put_for w) e
 
--- the same with more events
+-- a world with more events
 abbrev pub with_events : (Op → ℕ → Start) → Made → List Event → Made
 with_events start w more = record w { accepted = w.accepted ++ more; history = (whole start w.processes w.registers (w.accepted ++ more)).history }
 
@@ -68,7 +68,7 @@ pub record GoesOn (start : Op → ℕ → Start) (old : Made) (new : Made) : Typ
   pub after : new ≡ with_events start old more
   pub accepted : (run_in start new).accepted ≡ new.accepted
 
--- The run was brought to rest by so many events.
+-- The run was brought to rest by the given number of events.
 pub record Settles (start : Op → ℕ → Start) (old : Made) (count : ℕ) (new : Made) : Type 0 where
   pub going : old.failed ≡ false
   pub goes : GoesOn start old new
@@ -77,12 +77,12 @@ pub record Settles (start : Op → ℕ → Start) (old : Made) (count : ℕ) (ne
   pub acknowledged : AllAcknowledged new.processes (run_in start new).nodes
   pub quiescent : IsQuiescent new.processes (run_in start new).nodes
 
--- memory was wanting for an event to which no fault applied, and the world has stopped
+-- memory was refused for an event to which no fault applied, and the world has stopped
 abbrev pub LacksMemory : (Op → ℕ → Start) → Made → Made → Type 0
 LacksMemory start last new = ((e : Event) × (refusal start last e ≡ None)) × (new ≡ stopped last)
 
--- Why it was not: the world had stopped before; or after more events it was not at rest, and there were all the events
--- that a world may have, which are fewer than the bound asks for, or memory was wanting.
+-- Why a run was not brought to rest: the world had stopped before; or after more events it was not at rest, and there
+-- were all the events that a world may have, which are fewer than the bound asks for, or memory was refused.
 abbrev pub Stops : (Op → ℕ → Start) → Made → SettleFault → Made → Type 0
 Stops start old Failed new = (old.failed ≡ true) × (new ≡ old)
 Stops start old TooManyEvents new =
@@ -90,8 +90,8 @@ Stops start old TooManyEvents new =
 Stops start old OutOfMemory new =
     (old.failed ≡ false) × (last : Made) × GoesOn start old last × (0 < distance last.processes (run_in start last).nodes) × LacksMemory start last new
 
--- A run that can come to rest, by so many ticks and takes as the bound says, each accepted, and no take of a frame that
--- was put before.
+-- A run that can come to rest, by at most as many ticks and takes as the bound says, each accepted, and no take of a
+-- frame that was put before.
 pub record CanRest (start : Op → ℕ → Start) (n registers : ℕ) (events : List Event) : Type 0 where
   pub more : List Event
   pub later : AreLater (whole start n registers events).nodes more

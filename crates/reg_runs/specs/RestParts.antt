@@ -42,7 +42,7 @@ pub record Moves (start : Op → ℕ → Start) (old new : Made) : Type 0 where
   pub accepted : new.accepted ≡ old.accepted ++ more
   pub grows : (a b : ℕ) → put_for (nodes_in start old) a b ≤ put_for (nodes_in start new) a b
 
--- none of them takes one of the first frames of its wire, so many on each
+-- none of the later events takes one of the first frames of its wire: how many these are is given for each wire
 pub record AreLaterSince (passed : ℕ → ℕ → ℕ) (old new : Made) : Type 0 where
   pub each : (k : ℕ) (e : Event) → length old.accepted ≤ k → IsAt new.accepted k e → IsLater passed e
 
@@ -82,7 +82,7 @@ pub record Passes (start : Op → ℕ → Start) (passed : ℕ → ℕ → ℕ) 
 abbrev pub IsAnswer : (Op → ℕ → Start) → Made → ℕ → ℕ → ℕ → Type 0
 IsAnswer start m from to answer = slice_get ((nodes_in start m to).wire from) answer ≡ Some (Got (link_in start m to from).expected)
 
--- so many of them were taken, and the last was answered at this place by the count of those accepted
+-- `done` of the frames put again were taken, and the last was answered at this place by the count of those accepted
 pub record Passing (start : Op → ℕ → Start) (passed : ℕ → ℕ → ℕ) (old : Made) (from to first done answer : ℕ) (new : Made) : Type 0 where
   pub moves : Moves start old new
   pub later : AreLaterSince passed old new

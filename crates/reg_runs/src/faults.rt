@@ -4,7 +4,7 @@ use thiserror::Error;
 /// Why a world is not brought to rest.
 #[derive(Clone, Copy, Debug, PartialEq, Eq, Error)]
 pub enum SettleFault {
-    /// The world stopped earlier, for want of memory.
+    /// The world stopped earlier: it was out of memory.
     #[error("failed")]
     Failed,
     /// The world has all the events that it may have.

@@ -33,7 +33,7 @@ fn processes<F: FrontEnd, A: Allocator + Copy, W: WireStore<A>>(world: &World<F,
     world.shape().processes() as u8
 }
 
-/// Makes an event that is refused at most for want of room or memory.
+/// Makes an event that can be refused only where there is no room for it, or no memory.
 fn make<F: FrontEnd, A: Allocator + Copy, W: WireStore<A>>(
     world: &mut World<F, A, W>,
     event: Event,

@@ -14,7 +14,7 @@ is_numeral (b ∷ bytes) = if b == 48 then length bytes == 0 else list_all is_as
 abbrev pub is_word_byte : ℕ → Bool
 is_word_byte b = is_ascii b && not (b == 32)
 
--- one such byte or more
+-- one or more ASCII bytes, none of them a space
 abbrev pub is_word : List ℕ → Bool
 is_word bytes = not (length bytes == 0) && list_all is_word_byte bytes
 
@@ -30,7 +30,7 @@ IsWriteForm text name digits = (is_word name ≡ true) × (is_numeral digits ≡
 abbrev pub IsSwapForm : List ℕ → List ℕ → List ℕ → Type 0
 IsSwapForm text name digits = (is_word name ≡ true) × (is_numeral digits ≡ true) × (text ≡ codes "swap " ++ (name ++ 32 ∷ digits))
 
--- any of them
+-- the form of a read, of a write or of a swap
 abbrev pub HasOpForm : List ℕ → Type 0
 HasOpForm text =
     ((name : List ℕ) × IsReadForm text name)

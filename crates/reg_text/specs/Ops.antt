@@ -20,13 +20,13 @@ op_text names (Read register) = codes "read " ++ name_of names register
 op_text names (Write register value) = codes "write " ++ valued names register value
 op_text names (Swap register value) = codes "swap " ++ valued names register value
 
--- its register has a name, and its value has 64 bits
+-- the operation's register has a name, and its value has 64 bits
 abbrev pub OpFits : List (List ℕ) → Op → Type 0
 OpFits names (Read register) = register < length names
 OpFits names (Write register value) = (register < length names) × (value < 2 ^ 64)
 OpFits names (Swap register value) = (register < length names) × (value < 2 ^ 64)
 
--- the same, with the name at hand, as it is written
+-- the operation in text, where its register has this name
 abbrev pub op_line : List ℕ → Op → List ℕ
 op_line name (Read register) = codes "read " ++ name
 op_line name (Write register value) = codes "write " ++ name ++ codes " " ++ decimal value

@@ -15,7 +15,7 @@ pub record IsBlock {X : Type 0} (line_of : X → List ℕ) (Fits : List X → X 
   pub fit : AllFit Fits xs
   pub count : length xs ≡ n
 
--- its value has 64 bits
+-- the operation's value has 64 bits
 abbrev pub HasValue : Op → Type 0
 HasValue (Read register) = ⊤
 HasValue (Write register value) = value < 2 ^ 64

@@ -19,12 +19,12 @@ is_front_letter b = is_ascii_lowercase b || (b == 45)
 abbrev pub AreWords : List (List ℕ) → Type 0
 AreWords ws = (0 < length ws) × (list_all is_word ws ≡ true)
 
--- such words, each after a space
+-- one word or more, however they are spelt, each after a space
 abbrev pub HasWords : List ℕ → Type 0
 HasWords text = (ws : List (List ℕ)) × (AreWords ws × (text ≡ names_text ws))
 
--- Why a line with these words is refused, where at most so many names may stand on it: those that may are names that
--- differ, and there are more; or they are not.
+-- Why a line with these words is refused, where it may have at most the given number of names. Range: there are more
+-- words, and those up to that number are names that differ. Name: those words are not names that differ.
 abbrev pub IsNamesWhy : ℕ → List (List ℕ) → Why → Type 0
 IsNamesWhy limit ws Range = (limit < length ws) × (names_fault (take limit ws) ≡ None)
 IsNamesWhy limit ws Name = ¬ (names_fault (take limit ws) ≡ None)

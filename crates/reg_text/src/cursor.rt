@@ -98,7 +98,7 @@ impl<'a> Lines<'a> {
         self.number
     }
 
-    /// A fault of that line.
+    /// A fault of the line that was asked for last.
     pub fn fault(&self, why: Why) -> TextFault
         ensures { result ≡ TextFault.Line self.now.number why }
     {
@@ -108,7 +108,7 @@ impl<'a> Lines<'a> {
         }
     }
 
-    /// The next line, with no line feed. The end has the number after that of the last line.
+    /// The next line, with no line feed. The end has the number after the last line's.
     #[inline]
     pub fn next(&mut self) -> Option<&'a [u8]>
         ensures line { MatchOption result (self.old.left ≡ []) (λ line. self.old.left ≡ line.now ∷ self.new.left) }

@@ -5,7 +5,7 @@ use thiserror::Error;
 /// right.
 #[derive(Clone, Copy, Debug, PartialEq, Eq, Error)]
 pub enum Why {
-    /// The line is spelled otherwise than such lines are.
+    /// The line is spelled otherwise than lines of its kind are.
     #[error("form")]
     Form,
     /// A number, or how many names there are, is beyond its limit.

@@ -10,7 +10,7 @@ ghost use Rattle.reg_text.specs.Parts.{Lacks};
 
 use std::str;
 
-/// Numerals of no more digits have 64 bits.
+/// A numeral of no more digits than this fits into 64 bits.
 const SHORT: usize = 19;
 
 #[inline]

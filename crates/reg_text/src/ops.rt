@@ -14,8 +14,8 @@ use std::alloc::Allocator;
 use std::fmt;
 use std::io::Write;
 
-/// The register and the value that are the whole of the text. None where the text is none with a register of these
-/// names and a value of 64 bits.
+/// The register and the value that the whole text spells. None where it doesn't spell a register of these names and a
+/// value of 64 bits.
 fn read_valued<A: Allocator + Copy>(text: &[u8], names: &Names<A>) -> Option<(u16, u64)>
     requires { names_fault names.now ≡ None }
     ensures read { IfSome result (λ p. (text.now ≡ valued names.now p.0 p.1) × (p.0 < length names.now) × (p.1 < 2 ^ 64)) }
@@ -25,8 +25,8 @@ fn read_valued<A: Allocator + Copy>(text: &[u8], names: &Names<A>) -> Option<(u1
     names.find(name).zip(numeral(digits))
 }
 
-/// The operation that is the whole of the text. None where the text spells none with a register of these names and
-/// a value of 64 bits.
+/// The operation that the whole text spells. None where it spells no operation with a register of these names and a
+/// value of 64 bits.
 pub fn read_op<A: Allocator + Copy>(text: &[u8], names: &Names<A>) -> Option<Op>
     requires { names_fault names.now ≡ None }
     ensures read { IfSome result (λ op. (text.now ≡ op_text names.now op) × OpFits names.now op) }

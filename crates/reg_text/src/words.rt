@@ -47,8 +47,8 @@ fn why_more<A: Allocator + Copy>(words: Vec<String<A>, A>) -> Why
     }
 }
 
-/// The words, each after a space, and no more than the limit. Where there are more, the first that is wrong in the
-/// order from left to right decides: Name for one of those that may be, and else Range.
+/// The words, each after a space, and no more than the limit. Where there are more, the first that is wrong from left
+/// to right decides: Name for one within the limit, and else Range.
 pub fn read_words<A: Allocator + Copy>(
     alloc: A,
     text: &[u8],

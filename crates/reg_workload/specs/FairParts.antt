@@ -28,8 +28,8 @@ counted_after c [] = c
 counted_after c (Numbered i body ∷ fs) = counted_after c fs
 counted_after c (Got count ∷ fs) = counted_after (max c count) fs
 
--- Where of each wire so many frames are behind: those that are left bring all that was queued to the receiver, and all
--- that it accepted to the knowledge of the sender.
+-- Where of each wire the given number of frames is behind: those that are left bring all that was queued to the
+-- receiver, and all that it accepted to the knowledge of the sender.
 pub record InStep (n : ℕ) (w : Nodes) (behind : ℕ → ℕ → ℕ) : Type 0 where
   pub within : (p q : ℕ) → p < n → q < n → p ≢ q → behind p q ≤ length ((w p).wire q)
   pub bodies : (p q : ℕ) → p < n → q < n → p ≢ q → expected_after (peer_at (w q).state p).expected (drop (behind p q) ((w p).wire q)) ≡ length (w p).queued
@@ -42,15 +42,15 @@ takes_for n (Numbered i (Cast t op)) = 2 * n
 takes_for n (Numbered i (Ack t)) = 2
 takes_for n (Got count) = 1
 
--- the same of these frames
+-- how many takes these frames ask for
 abbrev pub takes_for_all : ℕ → List Frame → ℕ
 takes_for_all n frames = sum_by (takes_for n) frames
 
--- the same of the frames of a wire that are not behind, where there is such a wire
+-- how many takes the frames of a wire ask for that are not behind, where there is such a wire
 abbrev pub left_on : ℕ → Nodes → (ℕ → ℕ → ℕ) → ℕ → ℕ → ℕ
 left_on n w behind a b = cond (a == b) 0 (takes_for_all n (drop (behind a b) ((w a).wire b)))
 
--- the same of all wires
+-- how many takes the frames of all wires ask for that are not behind
 abbrev pub left_in : ℕ → Nodes → (ℕ → ℕ → ℕ) → ℕ
 left_in n w behind = total n (λ a. total n (left_on n w behind a))
 

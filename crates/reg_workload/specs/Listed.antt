@@ -61,7 +61,7 @@ Passes (PutAgain q) a b = ⊥
 abbrev pub AreOthersListed : (Op → ℕ → Start) → Playing → Choice → Chances → Type 0
 AreOthersListed start s choice c = AreListedBut start s (Acts choice) (Passes choice) c
 
--- its processes are those of the play
+-- the processes of a choice are processes of the play
 abbrev pub IsWithin : ℕ → Choice → Type 0
 IsWithin n (CallNext p) = p < n
 IsWithin n (TakeNext from to number) = (from < n) × (to < n)
@@ -78,7 +78,7 @@ pub record Lists (start : Op → ℕ → Start) (s : Playing) (p : ℕ) (old new
   pub ticks : (q : ℕ) → q < MOST_PROCESSES → q ≢ p → bit_at new.ticks q ≡ bit_at old.ticks q
   pub takes : (q : ℕ) → q ≢ p → takes_at new q ≡ takes_at old q
 
--- the same of a wire
+-- what is kept of a wire is so from now on, and of others it stays
 pub record ListsWire (start : Op → ℕ → Start) (s : Playing) (from to : ℕ) (old new : Chances) : Type 0 where
   pub calls : new.calls ≡ old.calls
   pub ticks : new.ticks ≡ old.ticks

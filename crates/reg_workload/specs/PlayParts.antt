@@ -10,7 +10,7 @@ use Rattle.reg_workload.specs.declared.choices.Choice.{Choice}
 use Rattle.reg_workload.specs.declared.choices.Choice.TheVariants.{Call as CallNext, Take as TakeNext, Tick as PutAgain}
 use Rattle.reg_workload.specs.Plays.{calls_of, script_of, Playing, next_at, next_frame}
 
--- so many operations of its script were called, and no others
+-- the process called as many operations of its script as is noted, from the first on, and no others
 pub record Follows (s : Playing) (p : ℕ) : Type 0 where
   pub calls : calls_of p s.made.accepted ≡ take (next_at s p) (script_of s.scripts p)
   pub within : next_at s p ≤ length (script_of s.scripts p)
@@ -36,7 +36,7 @@ pub record IsReadyToCall (start : Op → ℕ → Start) (s : Playing) (p : ℕ) 
   pub idle : ((run_in start s.made).nodes p).state.running ≡ None
   pub left : next_at s p < length (script_of s.scripts p)
 
--- the play went on, with so many events at most
+-- the play went on, with at most as many events as the budget says
 pub record GoesOn (budget : ℕ) (old new : Playing) : Type 0 where
   pub same : new.scripts ≡ old.scripts
   pub processes : new.made.processes ≡ old.made.processes

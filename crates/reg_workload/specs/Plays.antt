@@ -39,7 +39,8 @@ pub record IsDone (start : Op → ℕ → Start) (scripts : List (List Op)) (w :
 abbrev pub IsFinished : (Op → ℕ → Start) → List (List Op) → Made → Type 0
 IsFinished start scripts w = (p : ℕ) → p < length scripts → IsDone start scripts w p
 
--- What happened in a play of these scripts, one for each process of this shape, with so many events at most.
+-- What happened in a play of these scripts, one for each process of this shape, with at most as many events as the
+-- budget says.
 pub record IsPlay (start : Op → ℕ → Start) (shape : Extent) (all : List (List Op)) (budget : ℕ) (w : Made) (is_finished : Bool) : Type 0 where
   pub going : w.failed ≡ false
   pub processes : w.processes ≡ shape.processes

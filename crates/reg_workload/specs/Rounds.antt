@@ -19,7 +19,7 @@ take_if_room start budget s from to (Some number) = cond (nat_lt (length s.made.
 unfoldable pub take_in_round : (Op → ℕ → Start) → ℕ → Playing → ℕ → ℕ → Playing
 take_in_round start budget s from to = take_if_room start budget s from to (next_frame start s from to)
 
--- the same for the first n processes, by rising number
+-- each of the first n processes calls its next operation so, by rising number
 abbrev pub calls_in_round : (Op → ℕ → Start) → ℕ → ℕ → Playing → Playing
 calls_in_round start budget n s = steps (λ p t. call_in_round start budget t p) n s
 
@@ -33,11 +33,11 @@ takes_in_round start budget n s = steps (λ from t. takes_from_in_round start bu
 unfoldable pub round : (Op → ℕ → Start) → ℕ → Playing → Playing
 round start budget s = takes_in_round start budget s.made.processes (calls_in_round start budget s.made.processes s)
 
--- So many rounds. After one that makes no event nothing changes any more: the play has ended.
+-- This number of rounds. After one that makes no event nothing changes any more: the play has ended.
 abbrev pub rounds : (Op → ℕ → Start) → ℕ → ℕ → Playing → Playing
 rounds start budget n s = steps (λ _ t. round start budget t) n s
 
 -- the play of these scripts, one for each process of this shape: each round before the end makes an event, so that it
--- ends within so many rounds as the budget says
+-- ends within as many rounds as the budget says
 abbrev pub fair_play : (Op → ℕ → Start) → Extent → List (List Op) → ℕ → Playing
 fair_play start shape scripts budget = rounds start budget budget (new_play shape scripts)

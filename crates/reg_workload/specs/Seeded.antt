@@ -24,7 +24,7 @@ take_choice start s from to = take_of from to (next_frame start s from to)
 abbrev pub tick_choice : (Op → ℕ → Start) → Playing → ℕ → List Choice
 tick_choice start s p = cond (nat_lt 0 (pending_at start s p)) (PutAgain p ∷ []) []
 
--- the same of the first n processes, by rising number
+-- what the first n processes can call, by rising number
 unfoldable pub call_choices : (Op → ℕ → Start) → Playing → ℕ → List Choice
 call_choices start s n = flat_map (call_choice start s) (range_with_len 0 n)
 
@@ -46,7 +46,7 @@ abbrev pub takes_next : {W : Type 0} → (Op → ℕ → Start) → (W → ℕ �
 takes_next start next_word repeat s from to number w =
     (cond (says repeat (next_word w).0) (makes start s (Take from to number)) (passes (makes start s (Take from to number)) from to), (next_word w).1)
 
--- the same, where the next word doesn't say that the frame is lost
+-- A frame is taken so, unless the next word says that it is lost.
 abbrev pub takes_or_loses : {W : Type 0} → (Op → ℕ → Start) → (W → ℕ × W) → ℕ → ℕ → Playing → ℕ → ℕ → ℕ → W → Playing × W
 takes_or_loses start next_word loss repeat s from to number w =
     cond (says loss (next_word w).0) (passes s from to, (next_word w).1) (takes_next start next_word repeat s from to number (next_word w).1)
@@ -71,7 +71,7 @@ turns_by start next_word loss repeat s (Some choice) w = chooses start next_word
 unfoldable pub turn : {W : Type 0} → (Op → ℕ → Start) → (W → ℕ × W) → ℕ → ℕ → Playing × W → Playing × W
 turn start next_word loss repeat x = turns_by start next_word loss repeat x.0 (picked (choices_of start x.0) (next_word x.1).0) x.1
 
--- So many turns. After one with no choice nothing changes any more: the play has ended.
+-- This number of turns. After one with no choice nothing changes any more: the play has ended.
 abbrev pub turns : {W : Type 0} → (Op → ℕ → Start) → (W → ℕ × W) → ℕ → ℕ → ℕ → Playing × W → Playing × W
 turns start next_word loss repeat n x = steps (λ _ y. turn start next_word loss repeat y) n x
 

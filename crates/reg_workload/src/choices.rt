@@ -45,7 +45,8 @@ fn with_bit(bits: u64, place: u8, is_set: bool) -> u64
     if is_set { bits | bit } else { bits & !bit }
 }
 
-/// The place of the bit that so many are before, of all that are set, or how many more than these that is.
+/// The place of the set bit that `count` set bits are before; where there is none, how many more `count` is than there
+/// are set bits.
 fn nth_bit(bits: u64, count: u32) -> Result<u8, u32>
     ensures set { IfOk result (λ place. bit_at bits place ≡ 1) }
     ensures count { MatchResult result (λ place. count ≡ count_ones (bits % 2 ^ place)) (λ left. count ≡ count_ones bits + left) }
@@ -126,7 +127,7 @@ impl Chances {
         chances
     }
 
-    /// Lists anew what a process can do, and which of its frames can be taken. Those that could be still can.
+    /// Lists anew what a process can do, and which of its frames can be taken. A frame that could be taken still can.
     fn list<F: FrontEnd, A: Allocator + Copy, W: WireStore<A>>(
         &mut self,
         player: &Player<'_, F, A, W>,

@@ -170,7 +170,7 @@ fn play_rounds<F: FrontEnd, A: Allocator + Copy, W: WireStore<A>>(
 
 /// Plays scripts, one for each process of the shape, in rounds: each process that is free calls its next operation, by
 /// rising number, and then the next frame of each wire is taken, by sender and then by receiver. It ends with a round
-/// that makes no event, or once there are so many events as the budget says. So the frames of each wire are taken in
+/// that makes no event, or once there are as many events as the budget says. So the frames of each wire are taken in
 /// order, each once, and none is put again. A play of fewer events than the budget is finished. Each operation brings
 /// about one call and at most `2 * n * (n - 1)` takes among n processes, so a budget above that many events for all of
 /// them is enough.

@@ -34,7 +34,8 @@ pub(crate) struct Player<'w, F: FrontEnd, A: Allocator + Copy, W: WireStore<A>> 
     scripts: &'w [Vec<Op, A>],
     /// How many operations of its script each process has called.
     next: Vec<usize, A>,
-    /// How many frames of each wire are behind, by sender and then by receiver.
+    /// How many frames of each wire are behind, so that none of them is chosen any more, by sender and then by
+    /// receiver.
     cursors: Vec<[u32; WIDTH], A>,
 }
 
@@ -50,7 +51,7 @@ impl<'w, F: FrontEnd, A: Allocator + Copy, W: WireStore<A>> Model for Player<'w,
     ghost invariant = { λ p. IsPlaying (record { made = p.world; scripts = map (λ v. v.items) p.scripts.now; next = p.next.items; cursors = p.cursors.items }) };
 }
 
-/// Makes an event that no fault applies to: only memory can be wanting.
+/// Makes an event that no fault applies to: it fails only where memory is refused.
 fn make<F: FrontEnd, A: Allocator + Copy, W: WireStore<A>>(
     world: &mut World<F, A, W>,
     event: Event,
@@ -69,7 +70,7 @@ fn make<F: FrontEnd, A: Allocator + Copy, W: WireStore<A>>(
 }
 
 impl<'w, F: FrontEnd, A: Allocator + Copy, W: WireStore<A>> Player<'w, F, A, W> {
-    /// Nothing happened yet.
+    /// A play in which nothing happened yet.
     pub(crate) fn new(
         alloc: A,
         shape: Shape,
@@ -278,7 +279,7 @@ impl<'w, F: FrontEnd, A: Allocator + Copy, W: WireStore<A>> Player<'w, F, A, W> 
         true
     }
 
-    /// What happened.
+    /// What happened in the play.
     pub(crate) fn end(self) -> Play<F, A, W>
         requires { self.made.failed ≡ false }
         ensures world { result.world ≡ self.entry.made }

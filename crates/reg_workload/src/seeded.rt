@@ -17,9 +17,9 @@ use std::alloc::{AllocError, Allocator};
 /// How often of a hundred times a frame is lost, and how often it can be taken again.
 #[derive(Clone, Copy)]
 pub(crate) struct Odds {
-    /// Of a hundred frames that are chosen, so many are lost.
+    /// How many of a hundred frames that are chosen are lost.
     pub(crate) loss: u32,
-    /// Of a hundred frames that are taken, so many can be taken again.
+    /// How many of a hundred frames that are taken can be taken again.
     pub(crate) repeat: u32,
 }
 
@@ -103,7 +103,7 @@ fn play_turn<F: FrontEnd, R: Words, A: Allocator + Copy, W: WireStore<A>>(
     Ok(false)
 }
 
-/// Turns, until nothing can happen or there were so many. Tells whether nothing can happen.
+/// Makes turns until nothing can happen, or as many as the budget says. Tells whether nothing can happen.
 fn play_turns<F: FrontEnd, R: Words, A: Allocator + Copy, W: WireStore<A>>(
     player: &mut Player<'_, F, A, W>,
     words: &mut R,

@@ -18,7 +18,7 @@ process_of (Tick p) = p
 abbrev pub IsRunning : List Entry → OpId → Type 0
 IsRunning es id = WasCalled es id × (¬ IsFinished es id)
 
--- A call adds that of the process's next operation, by event at. Other events call nothing.
+-- A call adds the entry of its call, of the process's next operation, by event at. Other events call nothing.
 abbrev pub AddsCall : ℕ → List Entry → Event → List Entry → Type 0
 AddsCall at old (Call p op) new = (id : OpId) × (id.process ≡ p) × IsNext old id × (new ≡ old ++ Called at id op ∷ [])
 AddsCall at old (Take from to number) new = new ≡ old

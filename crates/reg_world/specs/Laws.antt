@@ -11,11 +11,11 @@ use Rattle.reg_base.specs.Memory.{register_of}
 use Rattle.reg_process.specs.Process.{State, peer_at, time_of, next_of, pending_of}
 use Rattle.reg_world.specs.Nodes.{Nodes}
 
--- The deliveries of any two processes are one a prefix of the other.
+-- Of the deliveries of any two processes, one list is a prefix of the other.
 abbrev pub DeliveriesAgree : ℕ → Nodes → Type 0
 DeliveriesAgree n w = (p q : ℕ) → p < n → q < n → IsPrefixOf (w p).deliveries (w q).deliveries ⊎ IsPrefixOf (w q).deliveries (w p).deliveries
 
--- each in rising stamp order
+-- the deliveries of each process are in rising stamp order
 abbrev pub DeliveriesRise : ℕ → Nodes → Type 0
 DeliveriesRise n w = (p : ℕ) → p < n → Rising (w p).deliveries
 
@@ -23,7 +23,8 @@ DeliveriesRise n w = (p : ℕ) → p < n → Rising (w p).deliveries
 abbrev pub IsMade : ℕ → Nodes → Delivered → Type 0
 IsMade n w c = (c.stamp.process < n) × ((i : ℕ) × (slice_get (w c.stamp.process).queued i ≡ Some (Cast c.stamp.time c.op)))
 
--- A cast that q hasn't delivered in the earlier world, made then or later, stands above all that it has.
+-- A cast that q hasn't delivered in the earlier world, made then or later, stands above all casts that it has
+-- delivered.
 abbrev pub UndeliveredAbove : ℕ → Nodes → Nodes → Type 0
 UndeliveredAbove n earlier later =
     (q : ℕ) (c d : Delivered) → q < n → IsMade n later c → (In c (earlier q).deliveries → ⊥) → In d (earlier q).deliveries → Below d.stamp c.stamp

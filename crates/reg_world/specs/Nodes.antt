@@ -22,8 +22,8 @@ pub record Said : Type 0 where
   pub op : Op
   pub reply : Reply
 
--- A process with what is known of its past: the casts that it delivered, the bodies that it queued, the same for
--- every other process, all frames ever put from it to each other process, and its replies.
+-- A process with what is known of its past: the casts that it delivered, the bodies that it queued, which are the same
+-- for every other process, all frames ever put from it to each other process, and its replies.
 pub record Node : Type 0 where
   pub state : State
   pub deliveries : List Delivered
@@ -34,7 +34,7 @@ pub record Node : Type 0 where
 abbrev pub Nodes : Type 0
 Nodes = ℕ → Node
 
--- the same with another value at i
+-- the function with another value at i
 abbrev pub put : {A : Type 0} → (ℕ → A) → ℕ → A → ℕ → A
 put at i x j = cond (j == i) x (at j)
 

@@ -85,14 +85,14 @@ number_at (n ∷ ns) time = cond (n.time == time) n.number (number_at ns time)
 abbrev pub first_in : List Tally → ℕ → Delivered → First
 first_in tallies at d = record { stamp = d.stamp; id = op_id d.stamp.process (number_at (tally_at tallies d.stamp.process).casts d.stamp.time); op = d.op; at = at }
 
--- those that come after the last cast that was delivered are delivered for the first time
+-- the casts that come after the last one that was delivered are delivered for the first time
 abbrev pub firsts_in : List Tally → ℕ → Option Stamp → List Delivered → List First
 firsts_in tallies at last ds = map (first_in tallies at) (filter (λ (d : Delivered). is_after last d.stamp) ds)
 
 abbrev pub entries_after : List Entry → ℕ → ℕ → Tally → Step → Option Reply → List Entry
 entries_after entries at p t step reply = (entries ++ calls_in at (op_id p t.calls) step) ++ answers_in at (op_id p (calls_after step t.calls - 1)) reply
 
--- after the event, in which p made the step
+-- the pages after the event, in which p made the step
 abbrev pub entered : Pages → Event → ℕ → Step → Bool → Option Stamp → List Delivered → Option Reply → Pages
 entered b e p step runs cast ds reply = record {
   shape = b.shape;

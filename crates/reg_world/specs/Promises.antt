@@ -49,8 +49,8 @@ abbrev pub IsAnsweredFirst : (Op → ℕ → Start) → ℕ → ℕ → World �
 IsAnsweredFirst start n registers w id at op = start op (unsettled ((whole start n registers (take at w.accepted)).nodes id.process).state) ≡ CastsAndAnswers
 
 -- The replies are the answers of the history, each that of the memory after the first casts of the order, as many as
--- its place says. Where the operation made a cast, that stands at the place; but for an operation that the front end
--- answers before its delivery, in the call's own event.
+-- its place says. Where the operation made a cast, the cast stands at the place; except where the front end answers the
+-- operation before its delivery, in the call's own event.
 pub record RepliesRight (start : Op → ℕ → Start) (n registers : ℕ) (w : World) : Type 0 where
   pub answered : (y : Replied) → ((k : ℕ) × IsAt w.replies k y) → IsAnswered w.history y.id y.at y.reply.answer
   pub all : (id : OpId) (at : ℕ) (x : Answer) → IsAnswered w.history id at x → (y : Replied) × ((k : ℕ) × IsAt w.replies k y) × (y.id ≡ id) × (y.at ≡ at) × (y.reply.answer ≡ x)

@@ -21,12 +21,12 @@ IsCallOf P h id = (at : ℕ) × (op : Op) × IsCalled h id at op × P op
 abbrev pub WaitsForDelivery : (Op → ℕ → Start) → Op → Type 0
 WaitsForDelivery start op = (unsettled : ℕ) → start op unsettled ≢ CastsAndAnswers
 
--- it answers no operation so
+-- the front end answers no operation before its cast is delivered
 abbrev pub AnswersNothingFirst : (Op → ℕ → Start) → Type 0
 AnswersNothingFirst start = (op : Op) → WaitsForDelivery start op
 
--- An operation that may change the memory stands after each that was answered before its call, but where the front end
--- may answer that one before its delivery.
+-- An operation that may change the memory stands after each that was answered before its call, except those that the
+-- front end may answer before their delivery.
 abbrev pub KeepsUpdates : (Op → ℕ → Start) → List Entry → List OpId → Type 0
 KeepsUpdates start h ids = (i j : ℕ) (a b : OpId) → IsAt ids i a → IsAt ids j b → IsEarlier h a b → IsCallOf (WaitsForDelivery start) h a → IsCallOf IsUpdate h b → i < j
 

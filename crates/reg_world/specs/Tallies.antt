@@ -3,7 +3,7 @@ use Rattle.std.specs.Prelude.{ℕ, ◌-◌, Bool, false, nat_lt, if◌then◌els
 use Rattle.reg_base.specs.declared.memory.OpId.{OpId}
 use Rattle.reg_world.specs.declared.callers.Note.{Note}
 
--- how many it called, whether the last of them runs, and the casts that it made
+-- how many operations a process called, whether the last of them runs, and the casts that it made
 pub record Tally : Type 0 where
   pub calls : ℕ
   pub runs : Bool
@@ -12,7 +12,7 @@ pub record Tally : Type 0 where
 abbrev pub no_calls : Tally
 no_calls = record { calls = 0; runs = false; casts = [] }
 
--- how many are finished
+-- how many operations are finished
 abbrev pub finished : Tally → ℕ
 finished t = (if t.runs then t.calls - 1 else t.calls)
 

@@ -10,7 +10,7 @@ use Rattle.reg_world.specs.declared.words.Slot.TheVariants.{Data, Count, Other}
 abbrev pub slot_of : ℕ → Slot
 slot_of bits = cond (nat_lt bits FIRST_COUNT) (Data bits) (cond (nat_lt bits FIRST_OTHER) (Count (bits - FIRST_COUNT)) (Other (bits - FIRST_OTHER)))
 
--- the word that says it
+-- the word that says a slot
 abbrev pub bits_of : Slot → ℕ
 bits_of (Data number) = number
 bits_of (Count count) = FIRST_COUNT + count
@@ -28,7 +28,7 @@ bits_again bits = first (nat_lt bits FIRST_COUNT) refl
     first true e = refl
     first false e = second (nat_lt bits FIRST_OTHER) e refl
 
--- it has room in a word
+-- the slot has room in a word
 abbrev pub HasRoom : Slot → Type 0
 HasRoom (Data number) = number < FIRST_COUNT
 HasRoom (Count count) = count < MOST_SLOTS

@@ -27,15 +27,15 @@ pub record Made : Type 0 where
 abbrev pub run_in : (Op → ℕ → Start) → Made → World
 run_in start w = whole start w.processes w.registers w.accepted
 
--- why an event is refused, want of memory aside
+-- why an event is refused, refused memory aside
 abbrev pub refusal : (Op → ℕ → Start) → Made → Event → Option WorldFault
 refusal start w e = cond w.failed (Some Failed) (world_fault w.processes w.registers (run_in start w) e)
 
--- the same with one more event
+-- a world with one more event
 abbrev pub with_event : (Op → ℕ → Start) → Made → Event → Made
 with_event start w e = record w { accepted = w.accepted ++ e ∷ []; history = (whole start w.processes w.registers (w.accepted ++ e ∷ [])).history }
 
--- the same, but stopped for good
+-- a world as it was, but stopped for good
 abbrev pub stopped : Made → Made
 stopped w = record w { failed = true }
 
@@ -52,8 +52,8 @@ pub record Accepts (start : Op → ℕ → Start) (old : Made) (e : Event) (new 
   pub no_fault : refusal start old e ≡ None
   pub after : new ≡ with_event start old e
 
--- An event was refused: by the first fault that applies, and nothing has changed; or for want of memory, and the world
--- has stopped.
+-- An event was refused: by the first fault that applies, and nothing has changed; or because memory was refused, and
+-- the world has stopped.
 abbrev pub Refuses : (Op → ℕ → Start) → Made → Event → WorldFault → Made → Type 0
 Refuses start old e OutOfMemory new = (refusal start old e ≡ None) × (new ≡ stopped old)
 Refuses start old e fault new = (refusal start old e ≡ Some fault) × (new ≡ old)
@@ -66,8 +66,8 @@ new_world shape = record { failed = false; processes = shape.processes; register
 abbrev pub after_events : (Op → ℕ → Start) → Extent → List Event → Made
 after_events start shape events = record { failed = false; processes = shape.processes; registers = shape.registers; accepted = events; history = (whole start shape.processes shape.registers events).history }
 
--- Why a run of these events ends at this one: the first fault that applies to it after those before it; or want of
--- memory, where none applies to it, or before the first event, of which it is told then.
+-- Why a run of these events ends at this one: the first fault that applies to it after those before it; or refused
+-- memory, where no fault applies to it, or before the first event, of which it is told then.
 abbrev pub RunRefuses : (Op → ℕ → Start) → Extent → List Event → ℕ → WorldFault → Type 0
 RunRefuses start shape events at OutOfMemory = (at ≡ 0) ⊎ ((e : Event) × IsAt events at e × (refusal start (after_events start shape (take at events)) e ≡ None))
 RunRefuses start shape events at fault = (e : Event) × IsAt events at e × (refusal start (after_events start shape (take at events)) e ≡ Some fault)
@@ -83,7 +83,7 @@ IsWire start w from to frames = (from < w.processes) × (to < w.processes) × (f
 abbrev pub IsNoWire : Made → ℕ → ℕ → Type 0
 IsNoWire w from to = (w.processes ≤ from) ⊎ ((w.processes ≤ to) ⊎ (from ≡ to))
 
--- so many frames were ever put from one process to another, unless the world has stopped
+-- this number of frames was ever put from one process to another, unless the world has stopped
 abbrev pub HasFrames : (Op → ℕ → Start) → Made → ℕ → ℕ → ℕ → Type 0
 HasFrames start w from to count = (from < w.processes) × (to < w.processes) × (from ≡ to → ⊥) × (w.failed ≡ false → count ≡ length (((run_in start w).nodes from).wire to))
 
@@ -91,6 +91,6 @@ HasFrames start w from to count = (from < w.processes) × (to < w.processes) × 
 abbrev pub HasFrameAt : (Op → ℕ → Start) → Made → ℕ → ℕ → ℕ → Option Frame → Type 0
 HasFrameAt start w from to number found = (from < w.processes) × (to < w.processes) × (from ≡ to → ⊥) × (w.failed ≡ false → found ≡ slice_get (((run_in start w).nodes from).wire to) number)
 
--- the same, or none where these are no two processes
+-- what stands at a place of the frames ever put from one process to another, or none where these are no two processes
 abbrev pub IsFrameAt : (Op → ℕ → Start) → Made → ℕ → ℕ → ℕ → Option Frame → Type 0
 IsFrameAt start w from to number found = (IsNoWire w from to × (found ≡ None)) ⊎ HasFrameAt start w from to number found

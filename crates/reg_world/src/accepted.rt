@@ -26,7 +26,7 @@ impl<A: Allocator + Copy> Model for Accepted<A> {
 }
 
 impl<A: Allocator + Copy> Accepted<A> {
-    /// None was accepted, and none is ahead.
+    /// No event was accepted, and none is ahead.
     pub(crate) fn new(alloc: A) -> Accepted<A>
         ensures taken { result.taken ≡ [] }
         ensures ahead { result.ahead ≡ [] }
@@ -37,21 +37,21 @@ impl<A: Allocator + Copy> Accepted<A> {
         }
     }
 
-    /// How many were accepted.
+    /// How many events were accepted.
     pub(crate) fn len(&self) -> usize
         ensures { result ≡ length self.now.taken }
     {
         self.count
     }
 
-    /// Those that were accepted.
+    /// The events that were accepted.
     pub(crate) fn as_slice(&self) -> &[Event]
         ensures { result.now ≡ self.now.taken }
     {
         &self.events[..self.count]
     }
 
-    /// The first one that is ahead.
+    /// The first event that is ahead.
     pub(crate) fn next(&self) -> Option<Event>
         ensures { result ≡ slice_get self.now.ahead 0 }
     {
@@ -61,7 +61,7 @@ impl<A: Allocator + Copy> Accepted<A> {
         }
     }
 
-    /// Puts these ahead, before any was accepted.
+    /// Puts these events ahead, before any was accepted.
     pub(crate) fn put_ahead(&mut self, events: Vec<Event, A>)
         ensures taken { self.new.taken ≡ [] }
         ensures ahead { self.new.ahead ≡ events.items }
@@ -70,7 +70,7 @@ impl<A: Allocator + Copy> Accepted<A> {
         self.count = 0;
     }
 
-    /// Makes room for one more. Nothing else changes.
+    /// Makes room for one more event. Nothing else changes.
     pub(crate) fn make_room(&mut self) -> Result<(), AllocError>
         ensures taken { self.new.taken ≡ self.old.taken }
         ensures ahead { self.new.ahead ≡ self.old.ahead }
@@ -82,7 +82,7 @@ impl<A: Allocator + Copy> Accepted<A> {
         self.events.reserve(1)
     }
 
-    /// Adds one more, in the place of the first one that is ahead, where one is.
+    /// Adds an accepted event, in the place of the first one that is ahead, where one is.
     pub(crate) fn add(&mut self, event: Event)
         requires { 1 ≤ self.old.room }
         ensures taken { self.new.taken ≡ self.old.taken ++ event ∷ [] }

@@ -37,7 +37,7 @@ impl<A: Allocator + Copy> Model for Book<A> {
     ghost view = { λ b. record { shape = b.history.shape; accepted = b.accepted.taken; ahead = b.accepted.ahead; entries = b.history.entries; order = b.order.items; reads = b.reads.items; tallies = b.callers.items } };
 }
 
-/// So many processes that called nothing yet.
+/// What is kept of each of the given number of processes, which called nothing yet.
 fn new_callers<A: Allocator + Copy>(alloc: A, count: u32) -> Result<Vec<Caller<A>, A>, AllocError>
     ensures { IfOk result (λ v. v.items ≡ replicate count no_calls) }
 {
@@ -76,11 +76,11 @@ fn reserve_all<A: Allocator + Copy>(
 /// The operations of a step.
 #[derive(Clone, Copy)]
 struct StepIds {
-    /// The one that is called, where one is.
+    /// The operation that is called, where one is.
     called: OpId,
-    /// The last one called, which a reply is to.
+    /// The last operation called, which a reply is to.
     answered: OpId,
-    /// Whether a reply to it is from a copy: it made no cast.
+    /// Whether a reply to that operation is from a copy: it made no cast.
     is_copied: bool,
 }
 
@@ -214,7 +214,7 @@ fn push_firsts<A: Allocator + Copy>(
 }
 
 impl<A: Allocator + Copy> Book<A> {
-    /// Nothing happened yet.
+    /// The book of a run in which nothing happened yet.
     pub(crate) fn new(alloc: A, shape: Shape) -> Result<Book<A>, AllocError>
         ensures { IfOk result (λ b. b ≡ record { shape = shape; accepted = []; ahead = []; entries = []; order = []; reads = []; tallies = replicate shape.processes no_calls }) }
     {

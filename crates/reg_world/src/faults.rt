@@ -8,7 +8,7 @@ use thiserror::Error;
 /// Why an event is refused: the first of these that applies.
 #[derive(Clone, Copy, Debug, PartialEq, Eq, Error)]
 pub enum WorldFault {
-    /// The world stopped earlier, for want of memory.
+    /// The world stopped earlier: it was out of memory.
     Failed,
     /// The world has all the events that it may have.
     TooManyEvents,
@@ -27,7 +27,7 @@ pub enum WorldFault {
 }
 
 impl WorldFault {
-    /// The words for it.
+    /// The words for the fault.
     pub fn words(self) -> &'static str
         ensures { result.now ≡ refusal_text self }
     {
@@ -61,6 +61,6 @@ impl fmt::Display for WorldFault {
 pub struct RunFault {
     /// The index of the first event that was refused.
     pub at: usize,
-    /// Why it was.
+    /// Why that event was refused.
     pub fault: WorldFault,
 }

@@ -25,9 +25,9 @@ pub fn witness_is_serial()
     ensures { (start : Op → ℕ → Start) (n registers : ℕ) (events : List Event) (ids : List OpId) → KeepsLaws start → IsWitness (run_of registers (whole start n registers events)) ids → IsSerial registers (whole start n registers events).history ids }
 {}
 
-/// In that order an operation that may change the memory stands after each that was answered before its call, but where
-/// the front end may answer that one before its delivery. Where it answers none so, after each; and where every
-/// operation is cast, each operation stands after those that were answered before its call.
+/// In the order by rising key an operation that may change the memory stands after each that was answered before its
+/// call, except those that the front end may answer before their delivery. Where it answers none so, there is no
+/// exception; and where every operation is cast, each operation stands after those that were answered before its call.
 pub fn witness_keeps_updates()
     ensures updates { (start : Op → ℕ → Start) (n registers : ℕ) (events : List Event) (ids : List OpId) → KeepsLaws start → IsWitness (run_of registers (whole start n registers events)) ids → KeepsUpdates start (whole start n registers events).history ids }
     ensures all_updates { (start : Op → ℕ → Start) (n registers : ℕ) (events : List Event) (ids : List OpId) → KeepsLaws start → AnswersNothingFirst start → IsWitness (run_of registers (whole start n registers events)) ids → KeepsAllUpdates (whole start n registers events).history ids }
@@ -40,8 +40,8 @@ pub fn serial_order_keeps_own_time()
     ensures { (n registers : ℕ) (h : List Entry) (ids : List OpId) → IsHistory n registers h → IsSerial registers h ids → KeepsOwnTime h ids }
 {}
 
-/// What a front end never answers before its delivery: whatever the laws hold of it, an operation whose answer tells of
-/// the memory, as a read or a swap; and two of the three named ones nothing at all.
+/// Which operations a front end never answers before their delivery: a lawful one none whose answer tells of the
+/// memory, such as a read or a swap; and two of the three named front ends none at all.
 pub fn what_waits()
     ensures tells { (start : Op → ℕ → Start) → KeepsLaws start → (op : Op) → ¬ (IsBlind op) → WaitsForDelivery start op }
     ensures read { (start : Op → ℕ → Start) → KeepsLaws start → (register : ℕ) → WaitsForDelivery start (Read register) }

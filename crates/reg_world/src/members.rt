@@ -66,8 +66,8 @@ impl<F: FrontEnd, A: Allocator + Copy, W: WireStore<A>> Member<F, A, W> {
         self.wires.frame_at(to, number)
     }
 
-    /// Makes a step that no fault applies to, and puts its frames on their wires. It fails for want of memory alone;
-    /// nothing is claimed of the member then.
+    /// Makes a step that no fault applies to, and puts its frames on their wires. It fails only where memory is
+    /// refused; nothing is claimed of the member then.
     // (in line: it runs at each event, and an outcome handed back by a call would be copied once more)
     #[inline(always)]
     pub(crate) fn act(&mut self, step: &Step) -> Result<Outcome<A>, AllocError>

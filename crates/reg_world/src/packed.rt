@@ -27,7 +27,7 @@ impl<A: Allocator + Copy> Model for Tables<A> {
 }
 
 impl<A: Allocator + Copy> Tables<A> {
-    /// Nothing was put.
+    /// The tables of a process that put nothing.
     fn new(alloc: A) -> Tables<A>
         ensures { result ≡ record { bodies = []; others = [] } }
     {
@@ -56,7 +56,7 @@ impl<A: Allocator + Copy> Tables<A> {
         }
     }
 
-    /// Whether the body is kept under this number. The next one is from now on.
+    /// Whether the body is kept under this number. A body under the next number is kept from now on.
     // (in line: it runs for each frame put or taken, and does little more than a call costs)
     #[inline(always)]
     fn keeps(&mut self, number: u64, body: Body) -> Result<bool, AllocError>

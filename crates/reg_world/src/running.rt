@@ -133,9 +133,9 @@ impl<F: FrontEnd, A: Allocator + Copy, W: WireStore<A>> World<F, A, W> {
         })
     }
 
-    /// Makes an event. It is refused by the first fault that applies, and then nothing has changed; or for want of
-    /// memory, and then the world has stopped for good, with the events, history, order and reads of the steps before.
-    /// The history grows by the event's own call, and by an answer where the event gives one.
+    /// Makes an event. It is refused by the first fault that applies, and then nothing has changed; or because memory
+    /// is refused, and then the world has stopped for good, with the events, history, order and reads of the steps
+    /// before. The history grows by the event's own call, and by an answer where the event gives one.
     pub fn step(&mut self, event: &Event) -> Result<(), WorldFault>
         ensures made { MatchResult result (λ _. Accepts F.start self.old event.now self.new) (λ fault. Refuses F.start self.old event.now fault self.new) }
         ensures history { MatchResult result (λ _. (reply : Option Reply) × Grows (length self.old.accepted) self.old.history event.now reply self.new.history) (λ _. self.new.history ≡ self.old.history) }
@@ -164,8 +164,8 @@ impl<F: FrontEnd, A: Allocator + Copy, W: WireStore<A>> World<F, A, W> {
         }
     }
 
-    /// Makes these events, one after another, in a new world. The first one that is refused ends the run; want of
-    /// memory before the first event is told of that one.
+    /// Makes these events, one after another, in a new world. The first one that is refused ends the run. Where memory
+    /// is refused before the first event, that one is told.
     pub fn run(alloc: A, shape: Shape, events: &[Event]) -> Result<World<F, A, W>, RunFault>
         ensures world { MatchResult result (λ w. w ≡ after_events F.start shape events.now) (λ f. RunRefuses F.start shape events.now f.at f.fault) }
         ensures history { IfOk result (λ w. Makes events.now w.history) }
@@ -314,8 +314,8 @@ impl<F: FrontEnd, A: Allocator + Copy, W: WireStore<A>> World<F, A, W> {
     /// The operations that are finished, and the updates that some process has delivered, in one order: the reads from
     /// a copy and the casts by place, and after them the finished casts that were delivered nowhere. It is a serial
     /// order of the history (Lamport 1979), in which an operation that may change the memory stands after each that was
-    /// answered before its call, but where the front end may answer that one before its delivery; so after each, where
-    /// it answers none so.
+    /// answered before its call, except those that the front end may answer before their delivery. Where it answers
+    /// none so, there is no exception.
     pub fn witness(&self) -> Result<Vec<OpId, A>, AllocError>
         ensures keyed { IfOk result (λ ids. IsWitness (run_of self.now.registers (run_in F.start self.now)) ids.items) }
         ensures serial { IfOk result (λ ids. IsSerial self.now.registers (run_in F.start self.now).history ids.items) }
@@ -330,8 +330,8 @@ impl<F: FrontEnd, A: Allocator + Copy, W: WireStore<A>> World<F, A, W> {
         )
     }
 
-    /// The history, and the operations of `witness`: a serial order of it (Lamport 1979), with the same real time. To
-    /// believe it takes the definitions of histories and their orders alone, and none of a run.
+    /// The history, and the operations of `witness`: a serial order of it (Lamport 1979), which keeps the same real
+    /// time. To believe this takes the definitions of histories and their orders alone, and none of a run.
     pub fn serial_order(&self) -> Result<(&History<A>, Vec<OpId, A>), AllocError>
         ensures shape { IfOk result (λ r. r.0.now.shape ≡ record { processes = self.now.processes; registers = self.now.registers }) }
         ensures value { IfOk result (λ r. r.0.now.entries ≡ self.now.history) }
@@ -379,7 +379,7 @@ impl<F: RealTime, A: Allocator + Copy, W: WireStore<A>> World<F, A, W> {
     }
 
     /// The history, and `points`: a linearization of it (Herlihy and Wing 1990), which gives each operation a point
-    /// between its call and its answer. To believe it takes the definitions of histories and their orders alone, and
+    /// between its call and its answer. To believe this takes the definitions of histories and their orders alone, and
     /// none of a run.
     pub fn linearization(&self) -> Result<(&History<A>, Vec<Point, A>), AllocError>
         ensures shape { IfOk result (λ r. r.0.now.shape ≡ record { processes = self.now.processes; registers = self.now.registers }) }

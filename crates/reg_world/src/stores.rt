@@ -12,7 +12,7 @@ use std::alloc::{AllocError, Allocator};
 pub trait WireStore<A: Allocator + Copy>: Drop {
     ghost wires: { Self → List (List Frame) };
 
-    /// A wire to each of so many processes, with no frame.
+    /// A wire to each of `count` processes, with no frame.
     fn new(alloc: A, count: u32) -> Result<Self, AllocError>
         ensures { IfOk result (λ w. wires w ≡ replicate count []) };
 

@@ -16,7 +16,7 @@ pub(crate) trait Item: Copy {
 /// A list of fewer items grows to twice its room.
 const SHORT: usize = 256;
 
-/// A longer one grows by at least so many.
+/// A list of `SHORT` items or more grows by at least this number of items.
 const MANY: usize = 4096;
 
 /// Makes room for an item more. Growing a list can copy its items, while room that isn't used costs next to nothing: so
@@ -130,7 +130,7 @@ impl<T: Item, A: Allocator + Copy> Line<T, A> {
     }
 }
 
-/// A wire to each of so many processes, with no item.
+/// A wire to each of `count` processes, with no item.
 fn new_lines<T: Item, A: Allocator + Copy>(
     alloc: A,
     count: u32,
@@ -164,7 +164,7 @@ impl<T, A: Allocator + Copy> Model for Strips<T, A> {
 }
 
 impl<T: Item, A: Allocator + Copy> Strips<T, A> {
-    /// A wire to each of so many processes, with no item.
+    /// A wire to each of `count` processes, with no item.
     pub(crate) fn new(alloc: A, count: u32) -> Result<Strips<T, A>, AllocError>
         ensures { IfOk result (λ w. w ≡ replicate count []) }
     {

@@ -146,7 +146,7 @@ fn push_reads<A: Allocator + Copy>(
     Ok(reads.len())
 }
 
-/// Adds all of these.
+/// Adds all of these ids.
 fn push_ids<A: Allocator + Copy>(
     ids: &mut Vec<OpId, A>,
     ranked: &[Ranked],

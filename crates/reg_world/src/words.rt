@@ -72,7 +72,7 @@ impl Word {
         }
     }
 
-    /// The slot that it is the word for.
+    /// The slot that the word stands for.
     // (in line: it is a test or two, and runs for each frame put or taken)
     #[inline(always)]
     pub(crate) fn unpack(&self) -> Slot

@@ -17,7 +17,7 @@ use reg_base::{Delivered, Registers, Stamp};
 use reg_frames::Put;
 use std::alloc::{AllocError, Allocator};
 
-/// Applies a cast, and answers the running operation where this is due. So many own casts stay held.
+/// Applies a cast, and answers the running operation where this is due. `left` own casts stay held.
 fn settle<A: Allocator + Copy>(
     copy: &mut Registers<A>,
     running: Option<Current>,
@@ -92,7 +92,8 @@ impl<A: Allocator + Copy> Core<A> {
         Some((cast, reply))
     }
 
-    /// Delivers all clear casts into an empty list, and answers what is due. Memory is wanting only where there is one.
+    /// Delivers all clear casts into an empty list, and answers what is due. Memory can be refused only where there is
+    /// one.
     fn deliver(&mut self, delivered: &mut Vec<Delivered, A>) -> Result<Option<Reply>, AllocError>
         requires { delivered.old.items ≡ [] }
         ensures done { IfOk result (λ reply. Delivers self.old delivered.new.items reply self.new) }
