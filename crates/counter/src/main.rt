@@ -35,7 +35,7 @@ fn take_lock<R: Wait>(rt: &R, pass: &mut Pass<Linear, NoGate>, lock: u16) -> Res
     Ok(())
 }
 
-/// Adds 1 to the counter, so often, each time while holding the lock.
+/// Adds 1 to the counter `TIMES` times, each time while holding the lock.
 fn add<R: Wait>(
     rt: &R,
     pass: &mut Pass<Linear, NoGate>,

@@ -133,7 +133,7 @@ fn checkers(rt: HostRuntime) {
     assert!(rt; check_points(rt.alloc(), &history, &[point]) == Ok(()));
 }
 
-/// The report of that history, whose order is its one write.
+/// The report of the history of a write by one process, whose order is that write.
 fn report(rt: &impl Abort, alloc: Global) -> Report {
     let name = "x".to_string(alloc).expect(rt, "memory");
     let names = Names::new(vec![in alloc; name].expect(rt, "memory")).expect(rt, "names");

@@ -5,7 +5,7 @@ use Rattle.clap.specs.declared.error.ErrorKind.TheVariants.{OutOfMemory as NoMem
 use Rattle.reg_args.specs.declared.faults.WordsFault.{WordsFault}
 use Rattle.reg_args.specs.declared.faults.WordsFault.TheVariants.{CommandLine, OutOfMemory}
 
--- want of memory is itself, and every other kind is the command line's
+-- out of memory is itself, and every other kind is the command line's
 abbrev pub words_fault : ErrorKind → WordsFault
 words_fault NoMemory = OutOfMemory
 words_fault _ = CommandLine

@@ -29,7 +29,7 @@ may_ask_help word = bytes_eq (codes "help") word || is_flag word
 abbrev pub fair_rule : Rule
 fair_rule = record (new_rule (codes "fair")) { long = Some (codes "fair"); action = Some SetTrue }
 
--- a subcommand with that flag
+-- a subcommand with the flag `--fair`
 abbrev pub fair_app : Text → App
 fair_app name = with_rule (new_app name) fair_rule
 
@@ -46,7 +46,7 @@ flag_of (Some text) = truth_of text
 abbrev pub met_of : Option (Text × List Row) → Option (Text × Option Bool)
 met_of = option_map (λ p. (p.0, flag_of (one_of (codes "fair") p.1)))
 
--- the same, as it is returned
+-- the name of the subcommand and its flag, as they are returned
 abbrev pub seen : Option (Bor Text × Bool) → Option (Text × Bool)
 seen None = None
 seen (Some p) = Some (p.0.now, p.1)

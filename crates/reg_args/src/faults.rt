@@ -10,7 +10,7 @@ use std::alloc::AllocError;
 /// Why the words ask for nothing.
 #[derive(Clone, Copy, Debug, PartialEq, Eq)]
 pub enum WordsFault {
-    /// They are none of the command lines.
+    /// The words are no command line of the program.
     CommandLine,
     /// There was no memory to read them.
     OutOfMemory,

@@ -1,4 +1,4 @@
--- Shapes, and the fault of numbers that are none.
+-- Shapes, and why numbers give none.
 use Rattle.std.specs.Prelude.{ℕ, ◌<◌, ◌≤◌, nat_eq, nat_lt, Result, Ok, Err, if◌then◌else◌}
 use Rattle.reg_base.specs.declared.limits.TheConstants.{MOST_PROCESSES, MOST_REGISTERS}
 use Rattle.reg_base.specs.declared.shapes.ShapeFault.{ShapeFault}

@@ -51,33 +51,34 @@ unmade_process front me processes =
     (if nat_lt front 3 then
     (if nat_lt me processes then refusal_code refusals.OutOfMemory else refusal_code refusals.NoProcess) else no_front)
 
--- why there is no process: these numbers are no shape, or what is told of a shape
+-- why there is no process: these numbers are no shape, or there is none of their shape
 abbrev pub process_refusal : ℕ → ℕ → ℕ → ℕ → ℕ
 process_refusal front processes registers me = (if is_err (shape_of processes registers) then no_shape else unmade_process front me processes)
 
--- what a caller holds at first: such a process of the shape, with no reply and no frames yet
+-- what a caller holds at first: a process of the shape that did nothing yet, with no reply and no frames
 abbrev pub IsFirstProcess : ℕ → ℕ → Extent → HeldProcess → Type 0
 IsFirstProcess front me shape h = (process_at_first front me shape ≡ Some h.process) × (me < shape.processes) × (h.reply ≡ None) × (h.frames.items ≡ [])
 
--- a process with a list for the frames of its next step in which so many fit
+-- a process with a list for the frames of its next step in which this number of them fits
 abbrev pub with_room : ℕ → Kept → Kept
 with_room room k = record k { room = max k.room room }
 
--- a step was accepted, with its frames, its reply and that reply's number, or refused, with its fault's and neither
+-- a step was accepted, with its frames, its reply and that reply's number; or refused, with its fault's number, no
+-- frames and no reply
 abbrev pub Makes : (Op → ℕ → Start) → Step → Kept → Kept → List Put → Option Reply → ℕ → Type 0
 Makes start step old new frames reply code =
     ((cast : Option Stamp) × (delivered : List Delivered) × Steps start old step frames cast delivered reply new × (code ≡ reply_code reply))
     ⊎ ((fault : ProcessFault) × Refused start old step fault new × (frames ≡ []) × (reply ≡ None) × (code ≡ refusal_code fault))
 
--- the same of the process that is held, whose list for frames is that of the step before; or nothing where it was
--- closed
+-- what a step does to the process that is held, whose list for frames is that of the step before; or nothing where it
+-- was closed
 abbrev pub MakesIn : Step → ℕ → KeptProcess → KeptProcess → List Put → Option Reply → ℕ → Type 0
 MakesIn step room (Linear old) new frames reply code = (after : Kept) × (new ≡ Linear after) × Makes linear step (with_room room old) after frames reply code
 MakesIn step room (LocalRead old) new frames reply code = (after : Kept) × (new ≡ LocalRead after) × Makes local_read step (with_room room old) after frames reply code
 MakesIn step room (LocalWrite old) new frames reply code = (after : Kept) × (new ≡ LocalWrite after) × Makes local_write step (with_room room old) after frames reply code
 MakesIn step room Closed new frames reply code = (new ≡ Closed) × (frames ≡ []) × (reply ≡ None) × (code ≡ no_world)
 
--- the same of what is held: its frames and its reply are those of this step
+-- what a step does to what is held: its frames and its reply are those of this step
 abbrev pub Made : Step → HeldProcess → HeldProcess → ℕ → Type 0
 Made step old new code = MakesIn step (vec_capacity old.frames) old.process new.process new.frames.items new.reply code
 

@@ -20,7 +20,7 @@ point_of r = record { id = record { process = r.process; number = r.number }; at
 abbrev pub operation_of : EntryRow → OpId
 operation_of r = record { process = r.process; number = r.number }
 
--- the entry that a row says, none where its kind is none
+-- the entry that a row says, none where its kind is not one of an entry
 abbrev pub entry_of : EntryRow → Option Entry
 entry_of r =
     (if r.kind == 0 then Some (Called r.at (operation_of r) (Read r.register)) else

@@ -35,8 +35,8 @@ pub record IsVerdict (text : List ℕ) (status : ℕ) (answer told : List ℕ) :
   pub refused : status ≡ 1 → (f : VerifyFault) × BlamesAccount f text × (f ≢ VerifyCommand Output → answer ≡ []) × (f ≡ VerifyCommand Output → Verifies (AppendsPart (Some []) (Some answer)) text) × AppendsPart (Some []) (Some told) (verify_line f)
   pub quiet : status ≡ 0 → told ≡ []
 
--- An answer and the line of a fault that are so with the status: the rooms for them hold the front of them, and the
--- lengths are theirs, whatever the room.
+-- An answer and the line of a fault, of which `IsSo` holds with the status: the rooms for them hold the front of them,
+-- and the lengths are theirs, whatever the room.
 pub record Fills (IsSo : ℕ → List ℕ → List ℕ → Type 0) (status : ℕ) (old new errors_old errors_new : List ℕ) (lengths : Lengths) : Type 0 where
   pub answer : List ℕ
   pub told : List ℕ

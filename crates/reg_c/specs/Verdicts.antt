@@ -22,7 +22,7 @@ use Rattle.reg_c.specs.Rows.{Say, entry_of, id_of, point_of}
 abbrev pub EndsAt : ℕ → ℕ → List EntryRow → ℕ → Type 0
 EndsAt n registers rows k = (es : List Entry) × (r : EntryRow) × Say (take k rows) es × IsHistory n registers es × IsAt rows k r × MatchOption (entry_of r) (Unit {0}) (λ e. ¬ IsInPlace n registers es e)
 
--- why rows say no history of such a shape. Want of memory says nothing
+-- why rows say no history of such a shape. `OutOfMemory` says nothing
 abbrev pub IsUnread : ℕ → ℕ → List EntryRow → Unread → Type 0
 IsUnread n registers rows NoShape = (fault : ShapeFault) × (shape_of n registers ≡ Err fault)
 IsUnread n registers rows (OutOfPlace place) = EndsAt n registers rows place
@@ -38,7 +38,7 @@ IsSerialVerdict n registers rows ids Holds = (es : List Entry) × SayHistory n r
 IsSerialVerdict n registers rows ids (Refused fault) = (es : List Entry) × SayHistory n registers rows es × IsSerialFault registers es (map id_of ids) fault
 IsSerialVerdict n registers rows ids (NoHistory why) = IsUnread n registers rows why
 
--- the same of points
+-- what is told of points: that they are a point order, or the first fault that there is, or why the rows say no history
 abbrev pub IsPointVerdict : ℕ → ℕ → List EntryRow → List PointRow → Verdict → Type 0
 IsPointVerdict n registers rows points Holds = (es : List Entry) × SayHistory n registers rows es × IsPointOrder registers es (map point_of points)
 IsPointVerdict n registers rows points (Refused fault) = (es : List Entry) × SayHistory n registers rows es × IsPointFault registers es (map point_of points) fault

@@ -41,15 +41,15 @@ kept_at_first front shape =
 abbrev pub unmade : ℕ → ℕ
 unmade front = (if nat_lt front 3 then fault_code OutOfMemory else no_front)
 
--- why there is no world: these numbers are no shape, or what is told of a shape
+-- why there is no world: these numbers are no shape, or there is none of their shape
 abbrev pub refusal_of : ℕ → ℕ → ℕ → ℕ
 refusal_of front processes registers = (if is_err (shape_of processes registers) then no_shape else unmade front)
 
--- what a caller holds at first: such a world, with no reply yet, and no orders that it asked for
+-- what a caller holds at first: a world in which nothing happened yet, with no reply, and no orders that it asked for
 abbrev pub IsOpened : ℕ → Extent → Held → Type 0
 IsOpened front shape h = (kept_at_first front shape ≡ Some h.world) × (h.reply ≡ None) × (h.order.items ≡ []) × (h.points.items ≡ [])
 
--- an event was accepted, with its reply and that reply's number, or refused, with its fault's and no reply
+-- an event was accepted, with its reply and that reply's number; or refused, with its fault's number and no reply
 abbrev pub Goes : (Op → ℕ → Start) → Event → Made → Made → Option Reply → ℕ → Type 0
 Goes start e old new reply code = (Accepts start old e new × (reply ≡ reply_in start old e) × (code ≡ reply_code reply)) ⊎ ((fault : WorldFault) × Refuses start old e fault new × (reply ≡ None) × (code ≡ fault_code fault))
 
@@ -60,7 +60,7 @@ GoesIn e (LocalRead old) new reply code = (after : Made) × (new ≡ LocalRead a
 GoesIn e (LocalWrite old) new reply code = (after : Made) × (new ≡ LocalWrite after) × Goes local_write e old after reply code
 GoesIn e Closed new reply code = (new ≡ Closed) × (reply ≡ None) × (code ≡ no_world)
 
--- the same of what is held, or nothing where the numbers say no event
+-- what an event does to what is held, or nothing where the numbers say no event
 abbrev pub Steps : Option Event → Held → Held → ℕ → Type 0
 Steps None old new code = (code ≡ no_event) × (new ≡ old)
 Steps (Some e) old new code = GoesIn e old.world new.world new.reply code × (new.order ≡ old.order) × (new.points ≡ old.points)

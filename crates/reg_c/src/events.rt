@@ -71,7 +71,7 @@ pub fn code_of_reply(reply: Option<Reply>) -> u32
     }
 }
 
-/// 16 and more.
+/// The number of a fault of a world: 16 and more.
 pub fn code_of_fault(fault: WorldFault) -> u32
     ensures { result ≡ fault_code fault }
 {

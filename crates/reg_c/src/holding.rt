@@ -126,7 +126,7 @@ pub fn step(held: &mut Held, kind: u32, process: u8, number: u32, from: u8, valu
     code
 }
 
-/// A serial order of the world's history, None for want of memory.
+/// A serial order of the world's history, None where memory is refused.
 fn serial<F: FrontEnd>(world: &Packed<F>) -> Option<Vec<OpId>>
     ensures { IfSome result (λ ids. IsSerial world.now.registers world.now.history ids.items) }
 {
@@ -136,7 +136,7 @@ fn serial<F: FrontEnd>(world: &Packed<F>) -> Option<Vec<OpId>>
     }
 }
 
-/// A point order of the world's history, None for want of memory.
+/// A point order of the world's history, None where memory is refused.
 fn points<F: RealTime>(world: &Packed<F>) -> Option<Vec<Point>>
     ensures { IfSome result (λ points. IsPointOrder world.now.registers world.now.history points.items) }
 {
@@ -146,7 +146,7 @@ fn points<F: RealTime>(world: &Packed<F>) -> Option<Vec<Point>>
     }
 }
 
-/// The orders of what is kept, None for want of memory.
+/// The orders of what is kept, None where memory is refused.
 fn orders(alloc: Global, kept: &Kept) -> Option<(Vec<OpId>, Vec<Point>)>
     ensures { IfSome result (λ o. HasOrders kept.now o.0.items o.1.items) }
 {

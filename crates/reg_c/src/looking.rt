@@ -42,12 +42,12 @@ pub enum Look {
     OfEntry(EntryPart),
     /// The value of the last step's reply, 0 where it gave none.
     ReplyValue,
-    /// How many casts that reply counts with.
+    /// The place of the last step's reply: how many casts it counts with.
     ReplyPlace,
     /// How many operations the order has that was asked for last.
     Ids,
     OfId(IdPart),
-    /// How many points there were then.
+    /// How many points there were when the order was asked for last.
     Points,
     OfPoint(PointPart),
 }

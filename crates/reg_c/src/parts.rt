@@ -27,7 +27,7 @@ pub enum ProcessLook {
     OfState(StatePart),
     /// The value of the last step's reply, 0 where it gave none.
     ReplyValue,
-    /// How many casts that reply counts with.
+    /// The place of the last step's reply: how many casts it counts with.
     ReplyPlace,
 }
 

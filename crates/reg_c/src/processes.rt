@@ -211,7 +211,7 @@ fn spell_all(alloc: Global, puts: &[Put]) -> Result<Vec<u8>, u32>
 }
 
 /// Puts as many of the bytes of the last step's frames into the room as it takes, and tells how many there are. Where
-/// it isn't 0, nothing has changed.
+/// the result isn't 0, nothing has changed.
 pub fn frames(held: &mut HeldProcess, room: &mut [u8], length: &mut usize) -> u32
     ensures same { held.new ≡ held.old }
     ensures told { TellsFrames held.old.frames.items result room.old room.new length.old length.new }

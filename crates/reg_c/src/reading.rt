@@ -13,7 +13,7 @@ use std::alloc::Global;
 /// Why rows say no history.
 #[derive(Clone, Copy)]
 pub enum Unread {
-    /// There is no shape of so many processes and registers.
+    /// There is no shape of these numbers of processes and registers.
     NoShape,
     /// The row at this place says no entry, or one that is out of place: the first such row.
     OutOfPlace { place: usize },

@@ -12,7 +12,7 @@ use std::alloc::{AllocError, Global};
 /// What is told of an order.
 #[derive(Clone, Copy)]
 pub enum Verdict {
-    /// It is what it was asked for.
+    /// It is a serial order, or a point order, as was asked.
     Holds,
     /// It isn't, for this first fault.
     Refused { fault: CheckFault },

@@ -44,7 +44,7 @@ fn select<A: Allocator + Copy>(
     Ok(facts)
 }
 
-/// That each answer is that of one memory.
+/// Checks that each answer is that of one memory.
 fn check_answers<A: Allocator + Copy>(
     alloc: A,
     shape: Shape,
@@ -61,7 +61,7 @@ fn check_answers<A: Allocator + Copy>(
     }
 }
 
-/// That each point is between its call and its answer, and none is below the one before it.
+/// Checks that each point is between its call and its answer, and none is below the one before it.
 fn check_places(points: &[Point], facts: &[Fact]) -> Result<(), CheckFault>
     requires { length facts.now ≡ length points.now }
     ensures right { OnOk result (((k : ℕ) → ¬ IsOutsideFact points.now facts.now k) × ((k : ℕ) → ¬ IsFalling points.now k)) }
@@ -113,8 +113,8 @@ fn judge_points<A: Allocator + Copy>(
 }
 
 /// Whether the ids are a serial order of the history (sequential consistency, Lamport 1979): every finished operation
-/// once, and besides only called writes and swaps; each process's own order; each answer that of one memory. A fault is
-/// the lowest of its kind that holds, at its first place.
+/// once, and besides only called writes and swaps; each process's own order; each answer that of one memory. The fault
+/// is the first in the order of `CheckFault` that holds, at its first place.
 pub fn check_serial<A: Allocator + Copy>(
     alloc: A,
     history: &History<A>,
@@ -127,7 +127,7 @@ pub fn check_serial<A: Allocator + Copy>(
 
 /// Whether the points are a point order of the history (linearizability, Herlihy and Wing 1990): their ids are a
 /// selection with the answers of one memory, each point is between its call and its answer, and the points never fall.
-/// A fault is the lowest of its kind that holds, at its first place.
+/// The fault is the first in the order of `CheckFault` that holds, at its first place.
 pub fn check_points<A: Allocator + Copy>(
     alloc: A,
     history: &History<A>,

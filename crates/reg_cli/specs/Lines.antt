@@ -15,12 +15,12 @@ name_of (OverText Replay) = codes "replay"
 name_of (OverText Check) = codes "check"
 name_of (OverText (Play fair)) = codes "play"
 
--- whether it is a fair play
+-- whether what is asked for is a fair play
 abbrev pub is_fair : Asked → Bool
 is_fair (OverText (Play fair)) = fair
 is_fair _ = false
 
--- the words after the program's name that ask for it
+-- the words after the program's name that ask for this
 abbrev pub line_of : Asked → List Text
 line_of asked = named_line (name_of asked) (is_fair asked)
 

@@ -19,7 +19,7 @@ use Rattle.reg_cli.specs.declared.stops.Stop.TheVariants.{Command}
 
 -- Threads made a run of the workload's shape, of which each process's finished operations are just those that its
 -- thread was answered. These are the operations of its script, all of them in order. And this is the run's report: its
--- history and its witness, and points that are so.
+-- history and its witness, and points as `AreSo` says.
 pub record ShowsLive (start : Op → ℕ → Start) (work : Load) (AreSo : Plan → Option (List Point) → Type 0) (r : Contents) : Type 0 where
   pub made : Made
   pub answered : List (List Receipt)
@@ -28,12 +28,12 @@ pub record ShowsLive (start : Op → ℕ → Start) (work : Load) (AreSo : Plan 
   pub shows : Shows start (plan_of work made) r
   pub points : AreSo (plan_of work made) r.points
 
--- with points where the workload's front end has some
+-- the report of what threads made of a workload, with points where its front end has some
 abbrev pub IsReportOfLive : Load → Contents → Type 0
 IsReportOfLive work r = ShowsLive (start_of work.front) work (PointsOf work.front) r
 
 -- The text is a document that says a workload, and the report of what threads made of it was written: `Wrote` says how
--- a text was.
+-- a text was written.
 pub record Lives (Wrote : List ℕ → Type 0) (text : List ℕ) : Type 0 where
   pub work : Load
   pub holds : Holds text work
@@ -41,8 +41,8 @@ pub record Lives (Wrote : List ℕ → Type 0) (text : List ℕ) : Type 0 where
   pub shown : IsReportOfLive work report
   pub written : Wrote (report_text report)
 
--- What a stop says of the input: as of a play that isn't made. Of threads it is told only where the text says a
--- workload.
+-- What a stop says of the input: the same as where a play isn't made. A stop of threads is told only where the text
+-- says a workload.
 abbrev pub BlamesStop : Stop → List ℕ → Type 0
 BlamesStop (Command fault) text = (fair : Bool) → Blames (Play fair) fault text
 BlamesStop stop text = (work : Load) × Holds text work

@@ -35,6 +35,6 @@ abbrev pub Tells : Asked → Type 0 → Option (List ℕ) → Option (List ℕ) 
 Tells (OverText command) untold was is = ((command ≡ Check) × untold) ⊎ ((f : Fault) × AppendsPart was is (fault_line f))
 Tells Live untold was is = (stop : Stop) × AppendsPart was is (stop_line stop)
 
--- the line for want of memory to read the words, with its line feed
+-- the line for words that there was no memory to read, with its line feed
 abbrev pub memory_line : List ℕ
 memory_line = codes "out of memory" ++ 10 ∷ []

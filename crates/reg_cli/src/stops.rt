@@ -8,7 +8,7 @@ use reg_live::{CloseFault, LiveFault, RunStop};
 use std::fmt;
 use thiserror::Error;
 
-/// Why the threads' scripts give no report. As text, the line of it on standard error.
+/// Why the threads' scripts give no report. Its text is its line on standard error.
 #[derive(Clone, Copy, Debug, PartialEq, Eq, Error)]
 pub enum Stop {
     /// The input is refused, the output failed, or there was no memory.

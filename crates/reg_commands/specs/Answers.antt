@@ -22,7 +22,7 @@ use Rattle.reg_commands.specs.Replays.{start_of, run_by, Replays, RefusesAt}
 use Rattle.reg_commands.specs.Plays.{Holds, RefusesDocument, Plays}
 use Rattle.reg_commands.specs.Verdicts.{Judges, all_yes, verdicts_text}
 
--- The text is that of a report, and the verdicts on it were written: `Wrote` says how a text was.
+-- The text is that of a report, and the verdicts on it were written: `Wrote` says how a text was written.
 pub record Checks (agrees : Bool) (Wrote : List ℕ → Type 0) (text : List ℕ) : Type 0 where
   pub report : Contents
   pub good : IsReport report
@@ -38,7 +38,7 @@ Answers Replay agrees Wrote text = (agrees ≡ true) × Replays Wrote text
 Answers Check agrees Wrote text = Checks agrees Wrote text
 Answers (Play fair) agrees Wrote text = (agrees ≡ true) × Plays fair Wrote text
 
--- the same where the writer failed: a first part of an answer went out
+-- what was read where the writer failed: a first part of an answer went out
 abbrev pub AnswersInPart : Command → Option (List ℕ) → Option (List ℕ) → List ℕ → Type 0
 AnswersInPart command old new text = (agrees : Bool) × Answers command agrees (AppendsPart old new) text
 

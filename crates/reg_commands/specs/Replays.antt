@@ -39,7 +39,7 @@ plan_in front names w = record { shape = record { processes = w.processes; regis
 abbrev pub AreAtEvents : List Point → Type 0
 AreAtEvents ps = (k : ℕ) (p : Point) → IsAt ps k p → p.at ≤ LAST_EVENT
 
--- points, where there are any, are a point order at such events
+-- points, where there are any, are a point order, at events that a run may have
 abbrev pub PointsStand : ℕ → List Entry → Option (List Point) → Type 0
 PointsStand registers h None = Unit {0}
 PointsStand registers h (Some ps) = IsPointOrder registers h ps × AreAtEvents ps
@@ -51,8 +51,8 @@ pub record IsOrdered (r : Contents) : Type 0 where
   pub points : PointsStand r.shape.registers r.entries r.points
 
 -- All events of a plan are accepted, and this is the report of the run: its history and its witness, under the plan's
--- front end and names. In that order what may change the memory stands after what was answered before its call, but
--- where the front end may answer that before its delivery.
+-- front end and names. In that order what may change the memory stands after what was answered before its call, except
+-- what the front end may answer before its delivery.
 pub record Shows (start : Op → ℕ → Start) (p : Plan) (r : Contents) : Type 0 where
   pub accepted : (run_by start p).accepted ≡ p.events
   pub front : r.front ≡ front_name p.front
@@ -63,7 +63,7 @@ pub record Shows (start : Op → ℕ → Start) (p : Plan) (r : Contents) : Type
   pub ordered : IsOrdered r
   pub real_time : KeepsUpdates start r.entries r.order
 
--- with the points of the run
+-- the points are those of the run
 abbrev pub ShowsPoints : (Op → ℕ → Start) → Plan → Option (List Point) → Type 0
 ShowsPoints start p None = ⊥
 ShowsPoints start p (Some ps) = ArePoints (run_of p.shape.registers (run_by start p)) ps
@@ -79,7 +79,7 @@ pub record IsReportOf (p : Plan) (r : Contents) : Type 0 where
   pub shows : Shows (start_of p.front) p r
   pub points : PointsOf p.front p r.points
 
--- The text is that of a plan, and the report of its run was written: `Wrote` says how a text was.
+-- The text is that of a plan, and the report of its run was written: `Wrote` says how a text was written.
 pub record Replays (Wrote : List ℕ → Type 0) (text : List ℕ) : Type 0 where
   pub plan : Plan
   pub good : IsPlan plan

@@ -13,7 +13,7 @@ use Rattle.reg_commands.specs.declared.verdicts.Verdict.{Verdict}
 use Rattle.reg_commands.specs.declared.verdicts.Verdict.TheVariants.{Yes, No}
 use Rattle.reg_commands.specs.declared.verdicts.Verdicts.{Verdicts}
 
--- the fault of a checker that has this reason: each but want of memory
+-- the fault of a checker that has this reason: each fault but `OutOfMemory`
 abbrev pub fault_of : Reason → CheckFault
 fault_of Unknown = UnknownFault
 fault_of Twice = TwiceFault

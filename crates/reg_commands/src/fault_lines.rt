@@ -29,7 +29,7 @@ fn put_key<W: Write>(sink: &mut Sink<'_, W>, words: &str, key: Key)
     sink.put(key.name().as_bytes());
 }
 
-/// Puts which operation of the scripts is none.
+/// Puts which place of the scripts has no operation.
 fn put_script<W: Write>(sink: &mut Sink<'_, W>, process: u8, place: u32)
     ensures { Puts W.contents sink.old sink.new (codes "script " ++ decimal process ++ codes " " ++ decimal place) }
 {

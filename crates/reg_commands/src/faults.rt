@@ -5,7 +5,7 @@ use reg_world::WorldFault;
 use std::fmt;
 use thiserror::Error;
 
-/// Why a command gives no answer. As text, the line of it on standard error.
+/// Why a command gives no answer. Its text is its line on standard error.
 #[derive(Clone, Copy, Debug, PartialEq, Eq, Error)]
 pub enum Fault {
     /// A read of the input failed.

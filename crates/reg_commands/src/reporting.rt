@@ -29,8 +29,8 @@ fn in_place<A: Allocator + Copy>(history: &History<A>)
     history.entries();
 }
 
-/// The report of these parts, under this front end and these names. Serial orders and point orders are
-/// within the limits of a report, so it is refused for want of memory alone.
+/// The report of these parts, under this front end and these names. Serial orders and point orders are within the
+/// limits of a report, so it is refused only where memory is.
 fn report<A: Allocator + Copy>(
     alloc: A,
     front: Front,

@@ -34,9 +34,9 @@ pub enum Reason {
 /// What a checker says of an order.
 #[derive(Clone, Copy)]
 pub enum Verdict {
-    /// It is one.
+    /// It is a serial order, or a point order, as was asked.
     Yes,
-    /// It is none, for this reason.
+    /// It isn't, for this reason.
     No(Reason),
 }
 

@@ -100,6 +100,6 @@ order_text d =
     ++ (codes ",\n\"points\":" ++ (points_part d.names d.points
     ++ codes "}"))))
 
--- all of it, as JSON
+-- all that is told of a run, as JSON
 abbrev pub data_text : Data → List ℕ
 data_text d = head_text d ++ (run_text d ++ order_text d)

@@ -17,7 +17,7 @@ comma_at (suc place) = 44 ∷ []
 abbrev pub list_text : {X : Type 0} → (X → List ℕ) → List X → List ℕ
 list_text text_of xs = codes "[" ++ (joined (map text_of xs) ++ codes "]")
 
--- the same, with a line for each
+-- a list of these values, with a line for each
 abbrev pub lines_text : {X : Type 0} → (X → List ℕ) → List X → List ℕ
 lines_text text_of xs = (91 ∷ 10 ∷ []) ++ (joined (map (λ x. text_of x ++ 10 ∷ []) xs) ++ codes "]")
 

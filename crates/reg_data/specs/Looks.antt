@@ -26,7 +26,7 @@ pub record Look : Type 0 where
 abbrev pub peer_of : State → ℕ → Option Known
 peer_of s r = cond (r == s.me) None (Some (known_of (peer_at s r)))
 
--- the same of the first n processes
+-- what the process of a state knows of each of the first n processes
 abbrev pub peers_of : State → ℕ → List (Option Known)
 peers_of s zero = []
 peers_of s (suc r) = peers_of s r ++ peer_of s r ∷ []
@@ -35,7 +35,7 @@ peers_of s (suc r) = peers_of s r ++ peer_of s r ∷ []
 abbrev pub kept_at : List ℕ → ℕ → List Kept
 kept_at values r = cond (slice_index values r == 0) [] (record { register = r; value = slice_index values r } ∷ [])
 
--- those of the first so many registers
+-- the registers, of the first n, that are not 0
 abbrev pub kept_of : List ℕ → ℕ → List Kept
 kept_of values zero = []
 kept_of values (suc r) = kept_of values r ++ kept_at values r
@@ -44,11 +44,11 @@ kept_of values (suc r) = kept_of values r ++ kept_at values r
 abbrev pub look_of : Extent → State → Look
 look_of shape s = record { peers = peers_of s shape.processes; held = s.held; copy = kept_of s.copy shape.registers; delivered = s.delivered; running = s.running }
 
--- the same of the state after an event in this world, of the event's process
+-- what is told of the state of an event's process, after the event in this world
 abbrev pub look_behind : (Op → ℕ → Start) → Made → Event → Look
 look_behind start w e = look_of (record { processes = w.processes; registers = w.registers }) ((run_in start (with_event start w e)).nodes (process_of e)).state
 
--- of the first event in this world, and then of the others in the world after it
+-- the state after the first event in this world, and then those after the others in the world after it
 abbrev pub looks_from : (Op → ℕ → Start) → Made → List Event → List Look
 looks_from start w [] = []
 looks_from start w (e ∷ es) = look_behind start w e ∷ looks_from start (with_event start w e) es

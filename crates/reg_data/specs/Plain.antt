@@ -7,11 +7,11 @@ use Rattle.reg_data.specs.Strings.{escape_of}
 abbrev pub is_plain : ℕ → Bool
 is_plain c = (c == 10) || (nat_le 32 c && (nat_le c 126 && (not (c == 60) && (not (c == 62) && not (c == 38)))))
 
--- one of these but a backslash, or the escape of a unit
+-- a plain character but a backslash, or the escape of a unit
 abbrev pub IsPiece : List ℕ → Type 0
 IsPiece piece = ((c : ℕ) × (is_plain c ≡ true) × (not (c == 92) ≡ true) × (piece ≡ c ∷ [])) ⊎ ((u : ℕ) × (piece ≡ escape_of u))
 
--- All characters of the text are, and it is put together of such pieces: each backslash in it begins an escape.
+-- All characters of the text are plain, and it is put together of such pieces: each backslash in it begins an escape.
 pub record IsPlainText (text : List ℕ) : Type 0 where
   pub plain : list_all is_plain text ≡ true
   pub pieces : List (List ℕ)

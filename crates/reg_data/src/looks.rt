@@ -45,7 +45,7 @@ impl<A: Allocator + Copy> Model for Look<A> {
     ghost view = { λ l. record { peers = l.peers.items; held = l.held.items; copy = l.copy.items; delivered = l.delivered; running = option_map running_of l.awaited } };
 }
 
-/// What a process knows of each of so many, and keeps for it.
+/// What a process knows of each of the first `processes` processes, and keeps for it.
 fn peers<F: FrontEnd, A: Allocator + Copy>(
     alloc: A,
     process: &Process<F, A>,
@@ -70,7 +70,7 @@ fn peers<F: FrontEnd, A: Allocator + Copy>(
     Ok(peers)
 }
 
-/// Those of the first so many registers that are not 0.
+/// Those of the first `registers` registers that are not 0.
 fn kept_among<A: Allocator + Copy>(
     alloc: A,
     values: &Registers<A>,

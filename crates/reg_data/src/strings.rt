@@ -20,7 +20,7 @@ fn hex_digit(digit: u16) -> u8
     }
 }
 
-/// The digit of a unit at the place that is worth so much.
+/// The digit of a unit at the place that is worth `worth`.
 fn hex_at(unit: u16, worth: u16) -> u8
     requires { 0 < worth }
     ensures { result ≡ hex_digit_at worth unit }

@@ -17,7 +17,7 @@ pub const NUMBERS: u32 = 46;
 pub const TOP: u32 = 56;
 /// What stands above a process's line: its bars and their texts.
 const ABOVE: u32 = 58;
-/// What stands below it before its first delivery.
+/// What stands below a process's line before its first delivery.
 pub const BELOW: u32 = 34;
 /// From one delivery of an event to the next.
 pub const LEADING: u32 = 15;
@@ -107,7 +107,7 @@ fn rows_of<A: Allocator + Copy>(
     Ok((rows, y))
 }
 
-/// The layout of a run with these bars and the text of each, at least so wide.
+/// The layout of a run with these bars and the text of each, at least as wide as given.
 pub fn lay_out<A: Allocator + Copy>(
     alloc: A,
     told: &TracedRun<A>,

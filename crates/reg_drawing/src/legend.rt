@@ -1,4 +1,4 @@
-//! The head of a drawing, and what tells a reader its signs.
+//! The head of a drawing, and the legend of its signs.
 use crate::layout::width_of;
 use crate::shapes::{Diamond, Node, Soft, Span, Spot, Stub};
 use std::fmt;
@@ -194,7 +194,7 @@ impl Legend {
         ]
     }
 
-    /// How many rows it takes, in a drawing so wide.
+    /// How many rows the legend takes, in a drawing of this width.
     pub(crate) fn rows(&self, width: u32) -> u32 {
         let mut rows = 1u32;
         let mut x = BESIDE;
@@ -210,7 +210,7 @@ impl Legend {
         rows
     }
 
-    /// Shows it, with its first row at this height, in a drawing so wide.
+    /// Shows the legend, with its first row at this height, in a drawing of this width.
     pub(crate) fn show<W: fmt::Write>(
         &self,
         f: &mut fmt::Formatter<W>,

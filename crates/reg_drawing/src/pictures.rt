@@ -40,7 +40,7 @@ fn labels_of<A: Allocator + Copy>(
 const MOST_WITH_COUNTS: usize = 30;
 /// The least width.
 const LEAST: u32 = 380;
-/// So many registers are named in the title at most.
+/// The most registers that are named in the title.
 const MOST_NAMED: u16 = 8;
 
 /// The title: the front end, and the registers.

@@ -9,7 +9,7 @@ pub struct Spot {
 }
 
 impl Spot {
-    /// The spot so far to the right.
+    /// The spot at this distance to the right.
     pub fn right(self, by: u32) -> Spot {
         Spot {
             x: self.x.saturating_add(by),
@@ -17,7 +17,7 @@ impl Spot {
         }
     }
 
-    /// The spot so far to the right, 16 below or above.
+    /// The spot at this distance to the right, 16 below or above.
     pub fn beside(self, right: u32, is_below: bool) -> Spot {
         let y = if is_below {
             self.y.saturating_add(16)

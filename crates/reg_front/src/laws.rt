@@ -6,8 +6,8 @@ ghost use Rattle.reg_front.specs.declared.starts.Start.{Start};
 ghost use Rattle.reg_front.specs.declared.starts.Start.TheVariants.{Cast};
 ghost use Rattle.reg_front.specs.Fronts.{KeepsLaws, CastsWhatTells};
 
-/// What may change the memory and answers by what it was starts with a cast, and is answered at its delivery. A swap is
-/// such an operation.
+/// An operation that may change the memory, and whose answer tells of it, starts with a cast and is answered at its
+/// delivery. A swap is such an operation.
 pub fn what_tells_is_cast()
     ensures all { (start : Op → ℕ → Start) → KeepsLaws start → CastsWhatTells start }
     ensures swap { (start : Op → ℕ → Start) → KeepsLaws start → (register value unsettled : ℕ) → start (Swap register value) unsettled ≡ Cast }

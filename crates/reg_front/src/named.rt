@@ -27,7 +27,7 @@ impl Front {
         }
     }
 
-    /// Its name in texts.
+    /// The front end's name in texts.
     pub fn name(self) -> &'static str
         ensures { result.now ≡ front_name self }
     {

@@ -1,5 +1,5 @@
--- The forms of lines, whatever the limits, and why a line is none of an entry's or of an item's. To be believed: a
--- promise speaks of them.
+-- The forms of lines, whatever the limits, and why a line is no entry's or no item's. To be believed: a promise speaks
+-- of them.
 use Rattle.std.specs.Prelude.{ℕ, ◌≡◌, ◌≢◌, ◌≤◌, ◌⊎◌, true, List, ◌++◌, codes, length, ◌∷◌}
 use Rattle.std.specs.Fmt.{decimal}
 use Rattle.reg_base.specs.Shape.{Extent}
@@ -62,7 +62,7 @@ pub record IsEntryWhy (version : Version) (names : List (List ℕ)) (line : List
   pub beyond : (at process number rest : List ℕ) → HasColumns line at process number rest → HasTailForm rest → ¬ (AreWithin version at process number) → why ≡ BeyondLimit
   pub within : (at process number rest : List ℕ) → HasColumns line at process number rest → HasTailForm rest → AreWithin version at process number → (told : Why) × IsTailWhy names rest told × (why ≡ why_of told)
 
--- the line is none of an entry's
+-- the line is no entry's
 pub record IsNoEntry (version : Version) (names : List (List ℕ)) (line : List ℕ) (why : ReadWhy) : Type 0 where
   pub none : (e : Entry) → EntryFits version names e → line ≢ entry_text names e
   pub told : IsEntryWhy version names line why
@@ -90,7 +90,7 @@ IsPointForm line process number at = (is_numeral process ≡ true) × (is_numera
 abbrev pub HasPointForm : List ℕ → Type 0
 HasPointForm line = (process : List ℕ) × ((number : List ℕ) × ((at : List ℕ) × IsPointForm line process number at))
 
--- The line is none of an item's, for this reason: where it has the form of one, a number of it is beyond its limit.
+-- The line is no item's, for this reason: where it has the form of an item's, a number of it is beyond its limit.
 pub record IsBadLine {X : Type 0} (line_of : X → List ℕ) (Fits : X → Type 0) (HasForm : List ℕ → Type 0) (line : List ℕ) (why : ReadWhy) : Type 0 where
   pub none : (x : X) → Fits x → line ≢ line_of x
   pub range : HasForm line → why ≡ BeyondLimit

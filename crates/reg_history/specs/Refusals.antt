@@ -23,7 +23,7 @@ use Rattle.reg_history.specs.declared.report_limits.TheConstants.{MOST_ENTRIES, 
 use Rattle.reg_history.specs.declared.versions.Version.{Version}
 use Rattle.reg_history.specs.declared.versions.Version.TheVariants.{One, Two}
 
--- the text ends before this line, or the line is none that may stand there, for this reason
+-- the text ends before this line, or the line may not stand there, for this reason
 abbrev pub IsWrongNext : (List ℕ → ReadWhy → Type 0) → Option (List ℕ) → ReadWhy → Type 0
 IsWrongNext IsNone None why = why ≡ End
 IsWrongNext IsNone (Some line) why = IsNone line why
@@ -71,8 +71,8 @@ IsNoTail line why = (line ≢ codes "end") × IsNoCount (codes "points ") 0 MOST
 abbrev pub IsNoEnd : List ℕ → ReadWhy → Type 0
 IsNoEnd line why = (line ≢ codes "end") × (why ≡ Form)
 
--- The lines are of fewer elements than the count says, each fit after those before it, and the next one is none that
--- may follow them.
+-- The lines are of fewer elements than the count says, each fit after those before it, and the next one may not follow
+-- them.
 pub record IsWrongItem {X : Type 0} (line_of : X → List ℕ) (Fits : List X → X → Type 0) (IsNone : List X → List ℕ → ReadWhy → Type 0) (count : ℕ) (lines : List (List ℕ)) (next : Option (List ℕ)) (why : ReadWhy) : Type 0 where
   pub items : List X
   pub are : lines ≡ map line_of items
@@ -80,7 +80,7 @@ pub record IsWrongItem {X : Type 0} (line_of : X → List ℕ) (Fits : List X �
   pub fewer : length items < count
   pub wrong : IsWrongNext (IsNone items) next why
 
--- The next line is no count; or the lines are a count and such elements, and the next one is none of them.
+-- The next line is no count; or the lines are a count and fewer elements than it says, and the next one is no element.
 abbrev pub IsWrongCounted : {X : Type 0} → List ℕ → ℕ → ℕ → (X → List ℕ) → (List X → X → Type 0) → (List X → List ℕ → ReadWhy → Type 0) → List (List ℕ) → Option (List ℕ) → ReadWhy → Type 0
 IsWrongCounted mark least limit line_of Fits IsNone [] next why = IsWrongNext (IsNoCount mark least limit) next why
 IsWrongCounted mark least limit line_of Fits IsNone (line ∷ lines) next why =
@@ -97,8 +97,8 @@ IsFrontLine line = (word : List ℕ) × (is_front word ≡ true) × (line ≡ co
 abbrev pub IsProcessesLine : Version → List ℕ → Type 0
 IsProcessesLine version line = (n : ℕ) × (1 ≤ n) × (n ≤ most_processes version) × (line ≡ codes "processes " ++ decimal n)
 
--- The lines are the first ones of a report's head, and the next one is none that may follow them: the version, the
--- front end, the processes, and then the names.
+-- The lines are the first ones of a report's head, and the next one may not follow them: the version, the front end,
+-- the processes, and then the names.
 abbrev pub IsWrongHead : List (List ℕ) → Option (List ℕ) → ReadWhy → Type 0
 IsWrongHead [] next why = IsWrongNext IsNoVersion next why
 IsWrongHead (a ∷ []) next why = (version : Version) × (a ≡ version_line version) × IsWrongNext IsNoFront next why
@@ -126,7 +126,7 @@ IsWrongBody version names shape lines next why =
     IsWrongCounted (codes "history ") 0 MOST_ENTRIES (entry_text names) (Follows version names shape) (IsNoNextEntry version names shape) lines next why
     ⊎ ((entries : List Entry) × (lists : List (List ℕ)) × IsCounted (codes "history ") (entry_text names) (Follows version names shape) MOST_ENTRIES lines lists entries × IsWrongLists version lists next why)
 
--- the lines are a whole head and lines after it, and the next one is none that may follow them
+-- the lines are a whole head and lines after it, and the next one may not follow them
 pub record IsWrongBehind (lines : List (List ℕ)) (next : Option (List ℕ)) (why : ReadWhy) : Type 0 where
   pub version : Version
   pub front : List ℕ
@@ -141,8 +141,8 @@ pub record IsWrongBehind (lines : List (List ℕ)) (next : Option (List ℕ)) (w
   pub are : lines ≡ head_lines version front processes names body
   pub wrong : IsWrongBody version names (record { processes = processes; registers = length names }) body next why
 
--- The lines are the first ones of a report, as far as each can be judged by those before it, and the next one is none
--- that may follow them, for this reason; or the text ends before it.
+-- The lines are the first ones of a report, as far as each can be judged by those before it, and the next one may not
+-- follow them, for this reason; or the text ends before it.
 abbrev pub IsFirstWrong : List (List ℕ) → Option (List ℕ) → ReadWhy → Type 0
 IsFirstWrong before next why = IsWrongHead before next why ⊎ IsWrongBehind before next why
 

@@ -96,7 +96,7 @@ IsReport r = IsReportIn Two r
 abbrev pub SpellsReport : List ℕ → Contents → Type 0
 SpellsReport text r = (version : Version) × IsReportIn version r × IsTextOf text (text_in version r)
 
--- why parts are no report: the lowest of the three that holds
+-- why parts are no report: the first of the three that holds
 abbrev pub IsReportFault : Contents → ReportFault → Type 0
 IsReportFault r Front = is_front r.front ≢ true
 IsReportFault r Names = (is_front r.front ≡ true) × (r.shape.registers ≢ length r.names)

@@ -54,7 +54,7 @@ fn read_columns(line: &[u8], version: Version) -> Option<(u32, u8, u32, &[u8])>
     Some((at as u32, process as u8, number as u32, rest))
 }
 
-/// The entry of a line. None where the line is none, and then `why_entry` says why.
+/// The entry of a line. None where the line is no entry's, and then `why_entry` says why.
 pub fn read_entry<A: Allocator + Copy>(
     line: &[u8],
     names: &Names<A>,

@@ -17,7 +17,7 @@ pub trait Listed: Copy {
     /// The line has the form of an item's, whatever the limits.
     ghost HasForm: { List ℕ → Type 0 };
 
-    /// The item of a line. None where the line is none, and then `why_unlisted` says why.
+    /// The item of a line. None where the line is no item's, and then `why_unlisted` says why.
     fn read(line: &[u8], version: Version) -> Option<Self>
         ensures read { IfSome result (λ x. (line.now ≡ line_of x) × Fits version x) }
         ensures whole { (x : Self) → Fits version x → line.now ≡ line_of x → result ≡ Some x };

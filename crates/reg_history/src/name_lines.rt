@@ -19,7 +19,7 @@ use reg_base::{Names, NamesFault, is_name};
 use reg_text::{Lines, is_word, owned, read_count, read_names};
 use std::alloc::{AllocError, Allocator};
 
-/// The name that is the whole of a line. None where the line is none, and then `why_name` says why.
+/// The name that is the whole of a line. None where the line is no name, and then `why_name` says why.
 fn name_of_line<A: Allocator + Copy>(alloc: A, line: &[u8]) -> Result<Option<String<A>>, AllocError>
     ensures { IfOk result (λ o. MatchOption o (is_name_of line.now ≢ true) (λ s. (string_bytes s ≡ line.now) × (is_name_of line.now ≡ true))) }
 {

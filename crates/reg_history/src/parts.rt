@@ -152,7 +152,7 @@ fn read_order<A: Allocator + Copy>(
     read_block(alloc, lines, count as u32, version)
 }
 
-/// That no line is left.
+/// Checks that no line is left.
 fn expect_none(lines: &mut Lines<'_>) -> Result<(), ReadFault>
     ensures read { OnOk result (lines.old.left ≡ []) }
     ensures whole { lines.old.left ≡ [] → result ≡ Ok tt }

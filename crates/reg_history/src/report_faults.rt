@@ -36,7 +36,7 @@ pub enum ReadWhy {
 }
 
 impl ReadWhy {
-    /// The word for it.
+    /// The word for what is wrong.
     pub fn word(self) -> &'static str
         ensures { result.now ≡ why_text self }
     {

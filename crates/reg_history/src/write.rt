@@ -30,7 +30,7 @@ fn put_right<W: Write>(sink: &mut Sink<'_, W>, number: u64, places: usize, marke
     sink.put(&marked[start.min(DIGITS - places)..]);
 }
 
-/// Puts a number at the left of so many places, and the mark that stands after as many spaces.
+/// Puts a number at the left of `places` places, and the mark that stands after as many spaces.
 fn put_left<W: Write>(sink: &mut Sink<'_, W>, number: u64, places: usize, marked: &[u8])
     requires { marked.now ≡ replicate places 32 ++ drop places marked.now }
     ensures { Puts W.contents sink.old sink.new (to_left places (decimal number) ++ drop places marked.now) }

@@ -1,5 +1,5 @@
--- The forms of the lines of a schedule, whatever their numbers and names, and why such a line is refused. To be
--- believed: a promise speaks of them.
+-- The forms of the lines of a schedule, whatever their numbers and names, and why a line is refused. To be believed: a
+-- promise speaks of them.
 use Rattle.std.specs.Prelude.{ℕ, ◌≡◌, ◌≤◌, ◌⊎◌, ◌==◌, ◌&&◌, Bool, true, not, List, ◌∷◌, ◌++◌, length, codes}
 use Rattle.std.specs.Fmt.{decimal}
 use Rattle.std.specs.List.{list_all}

@@ -28,7 +28,7 @@ pub record IsFrontWhy (line : List ℕ) (why : Why) : Type 0 where
   pub name : (word : List ℕ) → is_front_form word ≡ true → line ≡ codes "front " ++ word → why ≡ Name
   pub form : ((word : List ℕ) → line ≡ codes "front " ++ word → is_front_form word ≡ false) → why ≡ Form
 
--- why the line after those of a schedule is refused: it is none of an event's, or there may be no more events
+-- why the line after those of a schedule is refused: it is no event's, or there may be no more events
 pub record IsEventsWhy (lines : List (List ℕ)) (line : List ℕ) (why : Why) : Type 0 where
   pub plan : Plan
   pub good : IsPlan plan

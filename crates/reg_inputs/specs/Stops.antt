@@ -16,8 +16,8 @@ pub record StopsFirst (old new : Rest) (why : Why) : Type 0 where
   pub stopped : IsStopped before next old new
   pub first : IsFirstWrong before next why
 
--- Of the lines, those before this one are of events, and it is refused: it is none of an event's, or there may be no
--- more events.
+-- Of the lines, those before this one are of events, and it is refused: it is no event's, or there may be no more
+-- events.
 pub record IsWrongEvent (names : List (List ℕ)) (old new : Rest) (why : Why) : Type 0 where
   pub before : List Event
   pub line : List ℕ

@@ -41,7 +41,7 @@ fn read_take(text: &[u8]) -> Option<(u8, u8, u32)>
     Some((from as u8, to as u8, number as u32))
 }
 
-/// The event of a line. None where the line is none, and then `why_event` says why.
+/// The event of a line. None where the line is no event's, and then `why_event` says why.
 pub fn read_event<A: Allocator + Copy>(line: &[u8], names: &Names<A>) -> Option<Event>
     requires { names_fault names.now ≡ None }
     ensures read { IfSome result (λ e. (line.now ≡ event_text names.now e) × EventFits names.now e) }

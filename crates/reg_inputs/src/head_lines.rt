@@ -29,7 +29,7 @@ fn why_front(word: &[u8]) -> Why
 /// # Errors
 ///
 /// `Line` names the line: `Name` says that a word of letters and hyphens is the name of no front end, `Form` that the
-/// line is none of a front end, `End` that there is none left.
+/// line names no front end, `End` that no line is left.
 pub fn read_front(lines: &mut Lines<'_>) -> Result<Front, TextFault>
     ensures read { IfOk result (λ f. lines.old.left ≡ (codes "front " ++ front_name f) ∷ lines.new.left) }
     ensures whole { (f : AnyFront) (rest : List (List ℕ)) → lines.old.left ≡ (codes "front " ++ front_name f) ∷ rest → MatchResult result (λ g. (g ≡ f) × (lines.new.left ≡ rest)) (λ _. ⊥) }

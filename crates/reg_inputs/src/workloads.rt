@@ -80,8 +80,8 @@ impl<A: Allocator + Copy> Workload<A> {
     ///
     /// # Errors
     ///
-    /// The first fault of the table: a key that no workload has, then each key in turn, and last the first operation
-    /// that is none.
+    /// The first fault of the table: a key that no workload has, then each key in turn, and last the first place of a
+    /// script that has no operation.
     pub fn from_table(alloc: A, table: &Table) -> Result<Workload<A>, WorkloadFault>
         ensures read { IfOk result (λ w. Says (table_view table.now) w × IsLoad w) }
         ensures whole { (l : Load) → Says (table_view table.now) l → IsLoad l → MatchResult result (λ w. w ≡ l) (λ e. e ≡ OutOfMemory) }

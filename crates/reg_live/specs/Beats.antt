@@ -7,11 +7,12 @@ use Rattle.reg_live.specs.declared.beats.Beat.{Beat}
 abbrev pub new_beat : Beat
 new_beat = record { first = None; silent = 0 }
 
--- the looks at a silent link that make a tick: after 1, 2, 4, .. looks, and from 64 on after 100
+-- the looks at a silent link that make a tick: the first, then after 2, 4, .. 64 more looks, and from there on after
+-- each 100
 abbrev pub is_due : ℕ → Bool
 is_due k = (k == 1) || (k == 3) || (k == 7) || (k == 15) || (k == 31) || (k == 63) || (k == 127) || (k == 227)
 
--- the number of the next such look, of which the last hundred are counted again and again
+-- the number of the next look at a silent link: the last hundred are counted again and again
 abbrev pub next_look : ℕ → ℕ
 next_look k = if nat_lt k 227 then k + 1 else 128
 
@@ -21,8 +22,8 @@ is_same None now = false
 is_same (Some n) None = false
 is_same (Some n) (Some m) = n == m
 
--- What is known of a link after a look. Where no frame is unacknowledged, or another is the first, it begins anew; mail
--- that waits at one of its ends leaves it as it is.
+-- What is known of a link after a look. Where no frame is unacknowledged, or another is the first, counting begins
+-- anew; mail that waits at one of the link's ends leaves what is known as it is.
 abbrev pub watched : Beat → Option ℕ → Bool → Beat
 watched b first mail =
     if is_same b.first first then (if mail then b else record { first = first; silent = next_look b.silent }) else record { first = first; silent = 0 }

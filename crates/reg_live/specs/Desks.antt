@@ -82,7 +82,7 @@ abbrev pub with_frames : List (List Put) → List Put → List (List Put)
 with_frames lists [] = lists
 with_frames lists (p ∷ ps) = lists ++ (p ∷ ps) ∷ []
 
--- why a journal of so many sections doesn't take one at the floor or after it: the first of these that applies
+-- why a journal of this length doesn't take a section at the floor or after it: the first of these that applies
 abbrev pub IsUnplaced : ℕ → ℕ → AppendFault → Type 0
 IsUnplaced length floor IsBehind = length < floor
 IsUnplaced length floor IsFull = (floor ≤ length) × (MOST_EVENTS ≤ length)
@@ -97,8 +97,8 @@ told_of_append fault = Failed
 abbrev pub in_phase : Desk → Phase → Desk
 in_phase s phase = record s { stopped = is_stopped phase; phase = phase }
 
--- after a process was asked to make a step, and refused: the station stops exactly where the fault is one that stops
--- its process
+-- the phase after a process was asked to make a step, and refused: the station stops exactly where the fault is one
+-- that stops its process
 abbrev pub phase_after : Phase → ProcessFault → Phase
 phase_after phase fault = if is_stop fault then after_stop phase else phase
 
@@ -109,7 +109,7 @@ pub record IsToldOf (start : Op → ℕ → Start) (old : Desk) (e : Step) (told
   pub same : told ≡ told_of fault
   pub rest : new ≡ in_phase (record old { process = new.process }) (phase_after old.phase fault)
 
--- after a step that was made, with its entry
+-- a station after a step that was made, with its entry
 abbrev pub with_entry : Desk → LogEntry → Kept → ℕ → Desk
 with_entry s e process room = record s { log = s.log ++ e ∷ []; process = process; room = room }
 
@@ -118,7 +118,7 @@ abbrev pub noted : Desk → Step → List Put → Option Reply → ℕ → Desk
 noted s e puts reply place =
     record (in_phase s (after_place s.phase place)) { links = with_puts (with_step s.links e) puts; operation = after_section s.operation e reply place }
 
--- for the caller that waits no more: without an answer the station stops
+-- the phase once the caller waits no more: without an answer the station stops
 abbrev pub phase_settled : Phase → Operation → Phase
 phase_settled phase Uncalled = after_stop phase
 phase_settled phase Running = after_stop phase
@@ -133,7 +133,7 @@ first_to s process = if s.stopped || (process == s.me) then None else first_unac
 abbrev pub MayStop : (Op → ℕ → Start) → Kept → Step → Type 0
 MayStop start process e = (process_fault start process e ≡ None) ⊎ (process_fault start process e ≡ Some ClockFull)
 
--- after a section that was refused its process is as it was, or the station has stopped, as it may
+-- after a section that was refused, its process is as it was, or the station has stopped, as `MayStop` says
 abbrev pub IsLeft : (Op → ℕ → Start) → Desk → Step → Desk → Type 0
 IsLeft start old e new =
     ((new.phase ≡ old.phase) × (new.process ≡ old.process)) ⊎ ((new.phase ≡ after_stop old.phase) × MayStop start old.process e)

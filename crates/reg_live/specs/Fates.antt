@@ -10,7 +10,7 @@ use Rattle.reg_base.specs.Words.{says}
 abbrev pub fate_by : Bool → Bool → Bool → Fate
 fate_by twice even keeps = if even && not keeps then Kept twice else Put twice
 
--- the same by the next two words, and the source after them
+-- what becomes of a parcel that isn't lost, by the next two words, and the source after them
 abbrev pub fate_left : {W : Type 0} → (W → ℕ × W) → ℕ → Bool → W → Fate × W
 fate_left next_word repeat keeps w = (fate_by (says repeat (next_word w).0) ((next_word (next_word w).1).0 % 2 == 0) keeps, (next_word (next_word w).1).1)
 

@@ -20,13 +20,13 @@ answer_to Uncalled = None
 answer_to Running = None
 answer_to (Answered told) = Some told
 
--- after a step without a reply: a call begins another operation, which has no answer
+-- the last operation after a step without a reply: a call begins another one, which has no answer
 abbrev pub after_step : Operation → Step → Operation
 after_step before (Call op) = Running
 after_step before (Take from frame) = before
 after_step before Tick = before
 
--- after a section at this place, whose reply answers the operation that runs
+-- the last operation after a section at this place, whose reply answers the operation that runs
 abbrev pub after_section : Operation → Step → Option Reply → ℕ → Operation
 after_section before step None place = after_step before step
 after_section before step (Some reply) place = Answered (record { answer = reply.answer; place = place })

@@ -14,7 +14,7 @@ is_stopped Stopped = true
 is_stopped Told = false
 is_stopped Ended = true
 
--- whether it has yet to be told that no caller is to wait any more
+-- whether the callers have yet to be told to wait no more
 abbrev pub is_untold : Phase → Bool
 is_untold Open = false
 is_untold Full = true
@@ -30,7 +30,7 @@ waits Stopped operation = false
 waits Told operation = false
 waits Ended operation = false
 
--- once the station stops
+-- the phase once the station stops
 abbrev pub after_stop : Phase → Phase
 after_stop Open = Stopped
 after_stop Full = Stopped
@@ -38,7 +38,7 @@ after_stop Stopped = Stopped
 after_stop Told = Ended
 after_stop Ended = Ended
 
--- once its caller was told to wait no more
+-- the phase once the station's caller was told to wait no more
 abbrev pub after_telling : Phase → Phase
 after_telling Open = Told
 after_telling Full = Told
@@ -46,7 +46,7 @@ after_telling Stopped = Ended
 after_telling Told = Told
 after_telling Ended = Ended
 
--- once the journal has no place left
+-- the phase once the journal has no place left
 abbrev pub after_last : Phase → Phase
 after_last Open = Full
 after_last Full = Full
@@ -54,6 +54,6 @@ after_last Stopped = Stopped
 after_last Told = Told
 after_last Ended = Ended
 
--- after a section at this place
+-- the phase after a section at this place
 abbrev pub after_place : Phase → ℕ → Phase
 after_place phase place = if nat_le MOST_EVENTS (place + 1) then after_last phase else phase

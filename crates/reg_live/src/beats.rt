@@ -7,12 +7,12 @@ ghost use Rattle.reg_live.specs.Beats.{is_due, next_look, watched, ticks_at, new
 pub struct Beat {
     /// The first frame that wasn't acknowledged at the last look, by its number.
     first: Option<u64>,
-    /// How many looks since then have found it so, and no mail to wait for.
+    /// How many looks since then have found the same frame, and no mail to wait for.
     silent: u32,
 }
 
-/// Whether a tick is made at this look of those that found a link silent: after 1, 2, 4, .. looks, and from 64 on after
-/// 100.
+/// Whether a tick is made at this look of those that found a link silent: at the first, then after 2, 4, .. 64 more
+/// looks, and from there on after each 100.
 fn is_due(silent: u32) -> bool
     ensures { result ≡ is_due silent }
 {
@@ -38,7 +38,8 @@ impl Beat {
     }
 
     /// A look at a link on which this frame is the first that isn't acknowledged. `mail` says whether a courier at one
-    /// of its ends has mail that it hasn't taken, so that an answer may be on its way. Whether the station is to tick.
+    /// of its ends has mail that it hasn't taken, so that an answer may be on its way. Tells whether the station is to
+    /// tick.
     pub fn look(&mut self, first: Option<u64>, mail: bool) -> bool
         ensures beat { self.new ≡ watched self.old first mail }
         ensures tick { result ≡ ticks_at self.old first mail }

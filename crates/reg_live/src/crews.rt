@@ -72,7 +72,7 @@ pub(crate) fn carry_all<
     Ok(())
 }
 
-/// That Stop was sent to all threads of a cluster, so that they end.
+/// A token: Stop was sent to all threads of a cluster, so that they end.
 #[derive(Drop)]
 pub(crate) struct Halted(());
 

@@ -23,7 +23,7 @@ impl<A: Allocator + Copy> Model for Links<A> {
     ghost view = { λ l. record { queued = l.queued; counts = l.counts.items } };
 }
 
-/// How many bodies a frame says are queued, where so many were known to be.
+/// How many bodies are queued, as a frame tells, where `known` were known to be.
 fn queued_by(known: u64, frame: &Frame) -> u64
     ensures { result ≡ queued_by known frame.now }
 {
@@ -33,7 +33,7 @@ fn queued_by(known: u64, frame: &Frame) -> u64
     }
 }
 
-/// How many bodies are known to be queued once these frames are seen, where so many were known before.
+/// How many bodies are known to be queued once these frames are seen, where `known` were known to be before.
 fn queued_by_all(known: u64, frames: &[Put]) -> u64
     ensures { result ≡ queued_by_all known frames.now }
 {
@@ -45,7 +45,7 @@ fn queued_by_all(known: u64, frames: &[Put]) -> u64
 }
 
 impl<A: Allocator + Copy> Links<A> {
-    /// Links to so many processes, on which nothing was queued.
+    /// Links to the given number of processes, on which nothing was queued.
     pub(crate) fn new(alloc: A, processes: u32) -> Result<Links<A>, AllocError>
         ensures { IfOk result (λ l. l ≡ record { queued = 0; counts = replicate processes 0 }) }
     {

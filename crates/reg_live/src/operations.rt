@@ -15,7 +15,7 @@ pub struct PlacedAnswer {
 /// How far the last operation called has come.
 #[derive(Clone, Copy)]
 pub(crate) enum Operation {
-    /// None was called.
+    /// No operation was called.
     Uncalled,
     /// It has no answer yet.
     Running,

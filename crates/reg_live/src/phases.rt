@@ -35,14 +35,14 @@ impl Phase {
         matches!(self, Phase::Stopped | Phase::Ended)
     }
 
-    /// Whether it has yet to be told that no caller is to wait any more.
+    /// Whether the callers have yet to be told to wait no more.
     pub(crate) fn is_untold(self) -> bool
         ensures { result ≡ is_untold self }
     {
         matches!(self, Phase::Full | Phase::Stopped)
     }
 
-    /// Once the station stops.
+    /// The phase once the station stops.
     pub(crate) fn stop(self) -> Phase
         ensures { result ≡ after_stop self }
     {
@@ -52,7 +52,7 @@ impl Phase {
         }
     }
 
-    /// Once its caller was told to wait no more.
+    /// The phase once the station's caller was told to wait no more.
     pub(crate) fn tell(self) -> Phase
         ensures { result ≡ after_telling self }
     {
@@ -63,7 +63,7 @@ impl Phase {
         }
     }
 
-    /// After a section at this place.
+    /// The phase after a section at this place.
     pub(crate) fn after(self, place: u64) -> Phase
         ensures { result ≡ after_place self place }
     {

@@ -12,7 +12,7 @@ use std::sync::{Mutex, Wait};
 pub(crate) enum Fate {
     /// It is lost.
     Lost,
-    /// It is kept back behind the next one that is put, and a copy of it is put where `twice`.
+    /// It is kept back until after the next one that is put, and a copy of it is put where `twice`.
     Kept { twice: bool },
     /// A copy of it is put where `twice`, then the parcel, and then the one that was kept back.
     Put { twice: bool },
@@ -93,7 +93,7 @@ struct Ditch<R> {
     kept: Option<Parcel>,
 }
 
-/// Loses some parcels, puts some twice, and keeps some back behind the next one, as the words of its source say.
+/// Loses some parcels, puts some twice, and keeps some back until after the next one, as the words of its source say.
 #[derive(Drop)]
 pub struct Rough<R> {
     ditch: Mutex<Ditch<R>>,
@@ -102,7 +102,7 @@ pub struct Rough<R> {
 }
 
 impl<R: Words> Rough<R> {
-    /// Of a hundred parcels, this many are lost and of the others this many are put twice.
+    /// A road on which of a hundred parcels `loss` are lost, and of a hundred others `repeat` are put twice.
     pub fn new(words: R, loss: u32, repeat: u32) -> Rough<R> {
         Rough {
             ditch: Mutex::new(Ditch { words, kept: None }),

@@ -39,8 +39,8 @@ impl From<AllocError> for StartFault {
     }
 }
 
-/// A cluster whose couriers and pacer run. Contracts see it as its shape. One that is dropped without `close` leaves
-/// its threads behind.
+/// A cluster whose couriers and pacer run. Contracts see it as its shape. Where it is dropped without `close`, its
+/// threads run on.
 #[derive(Drop)]
 pub struct Running<F: FrontEnd, G> {
     cluster: Cluster<F, G>,

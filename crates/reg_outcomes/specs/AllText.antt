@@ -13,7 +13,7 @@ use Rattle.reg_outcomes.specs.Nevers.{TellsNevers, tells}
 abbrev pub value_text : ToldValue → List ℕ
 value_text t = codes "p" ++ (decimal t.process ++ (codes " #" ++ (decimal t.number ++ (codes " value " ++ decimal t.value))))
 
--- and two spaces
+-- an operation and its value, and two spaces
 abbrev pub told_text : ToldValue → List ℕ
 told_text t = value_text t ++ codes "  "
 
@@ -30,7 +30,8 @@ abbrev pub values_text : List ToldValue → List ℕ
 values_text [] = []
 values_text (t ∷ ts) = value_text t ++ flat_map (λ u. codes "  " ++ value_text u) ts
 
--- the lines of what no outcome has: so many, and each of them, or that they are over the most that are listed
+-- the lines of what no outcome has: how many these are, and each of them, or that they are over the most that are
+-- listed
 abbrev pub never_lines : Option (List (List ToldValue)) → List (List ℕ)
 never_lines None = (codes "never over " ++ decimal MOST_NEVERS) ∷ []
 never_lines (Some nevers) = (codes "never " ++ decimal (length nevers)) ∷ map values_text nevers
@@ -42,7 +43,7 @@ all_lines operations stages found nevers =
 abbrev pub all_text : ℕ → ℕ → List Interleaving → Option (List (List ToldValue)) → List ℕ
 all_text operations stages found nevers = text_of (all_lines operations stages found nevers)
 
--- The text of all outcomes of these scripts was written, with what none has. `Wrote` says how a text was.
+-- The text of all outcomes of these scripts was written, with what none has. `Wrote` says how a text was written.
 pub record ShowsAll (scripts : List (List Op)) (registers : ℕ) (Wrote : List ℕ → Type 0) : Type 0 where
   pub found : List Interleaving
   pub stages : ℕ

@@ -19,12 +19,12 @@ pub record IsCombination (outcomes : List (List ToldValue)) (k : ℕ) (told : Li
   pub count : length told ≡ k
   pub each : (j : ℕ) (v : ToldValue) → IsAt told j v → StandsAt outcomes j v
 
--- no two are one
+-- no element stands twice
 abbrev pub AreOnce : {X : Type 0} → List X → Type 0
 AreOnce [] = Unit {0}
 AreOnce {X} (x ∷ xs) = ((y : X) → In y xs → x ≢ y) × AreOnce xs
 
--- these are all of them, each once
+-- these are all combinations, each once
 pub record AreCombinations (outcomes : List (List ToldValue)) (k : ℕ) (list : List (List ToldValue)) : Type 0 where
   pub only : (c : List ToldValue) → In c list → IsCombination outcomes k c
   pub all : (c : List ToldValue) → IsCombination outcomes k c → In c list
@@ -35,17 +35,17 @@ pub record AreValuesAt (outcomes : List (List ToldValue)) (k : ℕ) (values : Li
   pub only : (v : ToldValue) → In v values → StandsAt outcomes k v
   pub all : (v : ToldValue) → StandsAt outcomes k v → In v values
 
--- all new ones were added, and no other
+-- all that is new was added, and nothing else
 pub record Grows {X : Type 0} (IsNew : X → Type 0) (old new : List X) : Type 0 where
   pub kept : (x : X) → In x old → In x new
   pub only : (x : X) → In x new → In x old ⊎ IsNew x
   pub added : (x : X) → IsNew x → In x new
 
--- the combination with one of these values behind it
+-- the combination with one of these values after it
 abbrev pub IsLonger : List ToldValue → List ToldValue → List ToldValue → Type 0
 IsLonger values c to = (v : ToldValue) × In v values × (to ≡ c ++ v ∷ [])
 
--- one of the combinations so
+-- one of the combinations, with one of these values after it
 abbrev pub IsLongerOf : List ToldValue → List (List ToldValue) → List ToldValue → Type 0
 IsLongerOf values list to = (c : List ToldValue) × In c list × IsLonger values c to
 
@@ -54,7 +54,7 @@ module _ {K : Type 0} (read : K → List ToldValue) where
   abbrev pub cut : List ToldValue → List K → List K
   cut told ks = remove_key (λ k. is_eq (slice_cmp told_cmp told (read k))) ks
 
-  -- and without those that hold one of these, one after another
+  -- the keys without the first that holds one of these lists, list after list
   abbrev pub cut_all : List (List ToldValue) → List K → List K
   cut_all [] ks = ks
   cut_all (o ∷ os) ks = cut_all os (cut o ks)

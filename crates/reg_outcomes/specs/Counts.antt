@@ -15,7 +15,7 @@ use Rattle.reg_outcomes.specs.PlayTables.{Seen, Line, IsNoShorter, IsTallyOf, Co
 abbrev pub finished_play : List ToldValue → Glance → Seen
 finished_play outcome g = record { seed = g.seed; is_finished = true; events = g.events; outcome = outcome; linearizable = g.linearizable }
 
--- the play is shorter than those, or as short with a smaller seed
+-- the play is shorter than the ones told of, or as short with a smaller seed
 abbrev pub IsShorter : Seen → Tally → Type 0
 IsShorter s t = (s.events < t.events) ⊎ ((s.events ≡ t.events) × (s.seed < t.seed))
 
@@ -32,7 +32,7 @@ TellsOf plays outcome (Some t) = IsTallyOf plays outcome t
 abbrev pub key_cmp : {K : Type 0} → (K → List ToldValue) → K → K → Ordering
 key_cmp items a b = slice_cmp told_cmp (items a) (items b)
 
--- The map tells of the plays by their outcomes, and so many are not finished.
+-- The map tells of the plays by their outcomes, and the given number of plays is not finished.
 pub record IsCounted {K : Type 0} (items : K → List ToldValue) (plays : List Seen) (told : BTreeMap K Tally) (unfinished : ℕ) : Type 0 where
   pub tells : (q : K) → TellsOf plays (items q) (get (key_cmp items) told q)
   pub known : (k : ℕ) (s : Seen) → IsAt plays k s → s.is_finished ≡ true → (q : K) × (items q ≡ s.outcome)

@@ -19,18 +19,18 @@ use Rattle.reg_outcomes.specs.declared.faults.InterleavingFault.TheVariants.{Too
 abbrev pub script_of : List (List Op) → ℕ → List Op
 script_of scripts p = slice_index_or scripts p []
 
--- Where scripts stand: how many operations of each are behind, the memory, and the values that those operations
--- answered, in the order of an outcome.
+-- Where scripts stand: how many operations of each are done, the memory, and the values that those operations answered,
+-- in the order of an outcome.
 pub record Stage : Type 0 where
   pub next : List ℕ
   pub memory : Memory
   pub told : List ToldValue
 
--- nothing is behind
+-- the stage at which no operation is done
 abbrev pub first_stage : ℕ → ℕ → Stage
 first_stage n registers = record { next = replicate n 0; memory = blank registers; told = [] }
 
--- a value stands behind all that its process and those before it were told
+-- a value stands after all that its process and those before it were told
 abbrev pub told_behind : ToldValue → List ToldValue → List ToldValue
 told_behind t [] = t ∷ []
 told_behind t (x ∷ xs) = cond (nat_lt t.process x.process) (t ∷ x ∷ xs) (x ∷ told_behind t xs)
@@ -81,7 +81,7 @@ pub record IsWider (scripts : List (List Op)) (registers limit : ℕ) : Type 0 w
   pub once : (i j : ℕ) (s : Stage) → IsAt stages i s → IsAt stages j s → i ≡ j
   pub led : (k : ℕ) (s : Stage) → IsAt stages k s → (behind : List ℕ) × Leads scripts registers behind s × (length behind ≡ turns)
 
--- so many stages are there: this is how many turns lead to, each counted once
+-- how many stages there are: those that turns lead to, each counted once
 pub record CountsStages (scripts : List (List Op)) (registers n : ℕ) : Type 0 where
   pub stages : List Stage
   pub count : n ≡ length stages
@@ -89,7 +89,7 @@ pub record CountsStages (scripts : List (List Op)) (registers n : ℕ) : Type 0 
   pub led : (k : ℕ) (s : Stage) → IsAt stages k s → (turns : List ℕ) × Leads scripts registers turns s
   pub all : (turns : List ℕ) (s : Stage) → Leads scripts registers turns s → (k : ℕ) × IsAt stages k s
 
--- there are more stages than so many: this many are led to, each once
+-- there are more stages than `most`: turns lead to each of a longer list, in which none stands twice
 pub record HasMoreStages (scripts : List (List Op)) (registers most : ℕ) : Type 0 where
   pub stages : List Stage
   pub more : most < length stages

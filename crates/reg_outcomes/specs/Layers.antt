@@ -1,5 +1,5 @@
--- Layers of stages under way: all stages after so many turns, each with turns that lead to it. They carry a proof: no
--- promise speaks of them.
+-- Layers of stages under way: all stages after some number of turns, each with turns that lead to it. They carry a
+-- proof: no promise speaks of them.
 use Rattle.std.specs.Prelude.{ℕ, ◌≡◌, ◌≢◌, ◌<◌, ◌≤◌, ◌⊎◌, List, [], ◌∷◌, ◌++◌, length, map, slice_index, Vec}
 use Rattle.std.specs.List.{AllZip, sum_by}
 use Rattle.std.specs.BTreeMap.{BTreeMap}
@@ -18,7 +18,7 @@ use Rattle.reg_outcomes.specs.declared.faults.InterleavingFault.TheVariants.{Too
 use Rattle.reg_outcomes.specs.declared.stages.Stage.{Stage as Held}
 use Rattle.reg_outcomes.specs.Interleavings.{Interleaving, Stage, Leads, script_of, stage_after}
 
--- the stage that the code holds so
+-- the stage that a value of the code stands for
 abbrev pub stage_of : {A : Type 0} → Held A → Stage
 stage_of s = record { next = s.next.items; memory = s.memory.items; told = s.told.items }
 
@@ -47,8 +47,8 @@ pub record IsStep (scripts : List (List Op)) (p : ℕ) (from to : Stage × List 
   pub stage : to.0 ≡ stage_after p op from.0
   pub turns : to.1 ≡ from.1 ++ p ∷ []
 
--- the same of one of the first n processes, of any process, and from any of these entries, whatever the steps of a
--- process are
+-- a step of one of the first n processes, of any process, and of any process from any of these entries, whatever the
+-- steps of a process are
 abbrev pub IsFirstOf : (ℕ → Stage × List ℕ → Stage × List ℕ → Type 0) → ℕ → Stage × List ℕ → Stage × List ℕ → Type 0
 IsFirstOf Step n from to = (p : ℕ) × (p < n) × Step p from to
 

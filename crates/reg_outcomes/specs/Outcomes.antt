@@ -45,7 +45,7 @@ pub record IsSeen (start : Op → ℕ → Start) (work : Load) (seed : ℕ) (s :
 abbrev pub seed_at : Load → ℕ → ℕ
 seed_at work k = (work.seed + k) % 2 ^ 64
 
--- what is known of so many plays of a workload, in their order
+-- what is known of the given number of plays of a workload, in their order
 pub record AreSeen (start : Op → ℕ → Start) (work : Load) (plays : ℕ) (seen : List Seen) : Type 0 where
   pub count : length seen ≡ plays
   pub each : (k : ℕ) (s : Seen) → IsAt seen k s → IsSeen start work (seed_at work k) s
@@ -54,7 +54,7 @@ pub record AreSeen (start : Op → ℕ → Start) (work : Load) (plays : ℕ) (s
 abbrev pub WasDrawn : List Seen → Interleaving → Type 0
 WasDrawn plays i = (k : ℕ) × (s : Seen) × IsAt plays k s × HasOutcome i.told s
 
--- so many of these outcomes no finished play had
+-- this is the number of these outcomes that no finished play had
 abbrev pub CountsUndrawn : List Seen → List Interleaving → ℕ → Type 0
 CountsUndrawn plays found n = (those : List Interleaving) × AreThose (λ i. ¬ WasDrawn plays i) found those × (n ≡ length those)
 
@@ -64,7 +64,8 @@ abbrev pub TellsUndrawn : List (List Op) → ℕ → List Seen → Option ℕ �
 TellsUndrawn scripts registers plays None = HasMoreStages scripts registers MOST_COUNTED_STAGES
 TellsUndrawn scripts registers plays (Some n) = (stages : ℕ) × CountsStages scripts registers stages × (stages ≤ MOST_COUNTED_STAGES) × (found : List Interleaving) × AreAll scripts registers found × CountsUndrawn plays found n
 
--- the lines of the table of so many plays, the number of unfinished plays, and that of the outcomes that no play had
+-- the lines of the table of the given number of plays, the number of unfinished plays, and that of the outcomes that no
+-- play had
 pub record AreOutcomes (start : Op → ℕ → Start) (work : Load) (plays : ℕ) (lines : List Line) (unfinished : ℕ) (undrawn : Option ℕ) : Type 0 where
   pub seen : List Seen
   pub known : AreSeen start work plays seen
@@ -78,7 +79,7 @@ pub record IsWiderPlay (start : Op → ℕ → Start) (work : Load) (seed : ℕ)
   pub finished : IsPlay start work.shape work.scripts work.budget (play_from start work seed) true
   pub wider : IsWiderSearch Points work.shape.processes work.shape.registers (play_from start work seed).history MOST_STAGES
 
--- why the play from this seed is not counted, and why so many are not
+-- why the play from this seed is not counted, and why the given number of plays is not
 abbrev pub IsPlayFault : (Op → ℕ → Start) → Load → ℕ → InterleavingFault → Type 0
 IsPlayFault start work seed TooManyStages = IsWiderPlay start work seed
 IsPlayFault start work seed OutOfMemory = Unit {0}

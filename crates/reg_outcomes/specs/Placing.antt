@@ -28,7 +28,7 @@ pub record IsPlaced (kind : OrderKind) (h : List Entry) (p : ℕ) (from to : Sta
   pub follows : MayFollow kind h from.next (op_of p (slice_index from.next p))
   pub stage : to ≡ placed_after p op from
 
--- the same from one entry of a layer to another
+-- the next operation of a process may come, and leads from one entry of a layer to another
 pub record IsPlacing (kind : OrderKind) (h : List Entry) (p : ℕ) (from to : Stage × List ℕ) : Type 0 where
   pub placed : IsPlaced kind h p from.0 to.0
   pub turns : to.1 ≡ from.1 ++ p ∷ []
@@ -42,7 +42,7 @@ abbrev pub IsSearched : {A : Type 0} → OrderKind → List Entry → List (Stag
 IsSearched kind h layer (Found turns) = (f : Stage × List ℕ) × In f layer × (f.1 ≡ turns.items) × IsComplete h f.0.next
 IsSearched kind h layer (Open next) = ((f : Stage × List ℕ) → In f layer → ¬ IsComplete h f.0.next) × Adds (IsAfterSome (IsPlacing kind h) layer) [] (entries_of next)
 
--- the ids of operations that stand by process, where so many of each process are before them
+-- the ids of operations that stand by process, where the given number of each process's operations is before them
 abbrev pub ids_along : List ℕ → List ℕ → List OpId
 ids_along next [] = []
 ids_along next (p ∷ turns) = op_of p (slice_index next p) ∷ ids_along (slice_set next p (slice_index next p + 1)) turns
@@ -66,7 +66,7 @@ pub record IsOrder (kind : OrderKind) (registers : ℕ) (h : List Entry) (ids : 
   pub serial : IsSerial registers h ids
   pub time : KeepsTime kind h ids
 
--- the ids of these turns are such an order, and each is one that a process of a history can have
+-- the ids of these turns are an order of this kind, and each is one that a process of a history can have
 pub record IsOrderBy (kind : OrderKind) (n registers : ℕ) (h : List Entry) (turns : List ℕ) : Type 0 where
   pub order : IsOrder kind registers h (ids_along (replicate n 0) turns)
   pub within : (k : ℕ) (id : OpId) → IsAt (ids_along (replicate n 0) turns) k id → (id.process < n) × (id.number < MOST_OPERATIONS)

@@ -67,6 +67,6 @@ pub record IsTable (plays : List Seen) (lines : List Line) : Type 0 where
   pub once : (i j : ℕ) (a b : Line) → IsAt lines i a → IsAt lines j b → a.outcome ≡ b.outcome → i ≡ j
   pub ordered : (i j : ℕ) (a b : Line) → IsAt lines i a → IsAt lines j b → i < j → StandsBefore a b
 
--- so many of the plays are not finished: some operation of theirs is not answered
+-- this is the number of plays that are not finished: some operation of theirs is not answered
 abbrev pub CountsUnfinished : List Seen → ℕ → Type 0
 CountsUnfinished plays n = (those : List Seen) × AreThose (λ s. s.is_finished ≡ false) plays those × (n ≡ length those)

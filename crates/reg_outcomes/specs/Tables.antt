@@ -9,7 +9,7 @@ use Rattle.reg_outcomes.specs.declared.kinds.OrderKind.{OrderKind}
 use Rattle.reg_outcomes.specs.declared.tables.Invocation.{Invocation}
 use Rattle.reg_outcomes.specs.declared.tables.Response.{Response}
 
--- the lists that the code holds so
+-- the lists that values of the code stand for
 abbrev pub lists_of : {A X : Type 0} → List (Vec X A) → List (List X)
 lists_of lists = map (λ v. v.items) lists
 

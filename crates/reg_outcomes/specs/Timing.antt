@@ -23,17 +23,17 @@ abbrev pub IsPlaceOf : List OpId → OpId → Option ℕ → Type 0
 IsPlaceOf ids id None = (k : ℕ) → ¬ IsAt ids k id
 IsPlaceOf ids id (Some place) = IsAt ids place id
 
--- a call, where all that was answered so far stands before this place
+-- the bound after a call, where all that was answered so far stands before this place
 abbrev pub called_bound : Option ℕ → ℕ → Option ℕ
 called_bound None bound = Some bound
 called_bound (Some place) bound = cond (nat_lt place bound) None (Some bound)
 
--- an answer
+-- the bound after an answer
 abbrev pub answered_bound : Option ℕ → ℕ → ℕ
 answered_bound None bound = bound
 answered_bound (Some place) bound = max bound (place + 1)
 
--- one entry more
+-- the bound after one entry more
 abbrev pub bound_next : (OpId → Option ℕ) → ℕ → Entry → Option ℕ
 bound_next place bound (Called at id op) = called_bound (place id) bound
 bound_next place bound (Answered at id answer) = Some (answered_bound (place id) bound)

@@ -42,7 +42,7 @@ fn put_lines<A: Allocator + Copy, W: Write>(sink: &mut Sink<'_, W>, outcomes: &[
     }
 }
 
-/// Puts a value behind others.
+/// Puts a value that stands after others.
 fn put_behind<W: Write>(sink: &mut Sink<'_, W>, value: ToldValue)
     ensures { Puts W.contents sink.old sink.new (codes "  " ++ value_text value) }
 {
@@ -112,8 +112,8 @@ fn put_all<A: Allocator + Copy, W: Write>(
     put_nevers(sink, nevers);
 }
 
-/// Writes the text of all outcomes of so many operations, with what none has, all of it or, where the writer fails, a
-/// first part.
+/// Writes the text of all outcomes of this number of operations, with what none has: all of it or, where the writer
+/// fails, a first part.
 pub fn write_all<A: Allocator + Copy, W: Write>(
     writer: &mut W,
     operations: u64,

@@ -100,14 +100,15 @@ impl<'a, A: Allocator + Copy> Finder<'a, A> {
         self.table.response(id)
     }
 
-    /// Whether all finished operations are placed where so many of each process are.
+    /// Whether all finished operations are placed, where the given number of each process's operations is.
     pub(crate) fn is_complete(&self, next: &[u32]) -> bool
         ensures { MatchBool result (IsComplete self.now.entries next.now) (¬ IsComplete self.now.entries next.now) }
     {
         self.table.has_no_more(next)
     }
 
-    /// Whether all operations that were answered before this event are placed, where so many of each process are.
+    /// Whether all operations that were answered before this event are placed, where the given number of each process's
+    /// operations is.
     pub(crate) fn are_placed_before(&self, next: &[u32], at: u32) -> bool
         ensures { IsTrue result ↔ ArePlacedBefore self.now.entries next.now at }
     {

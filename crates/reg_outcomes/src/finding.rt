@@ -1,5 +1,5 @@
-//! Orders of a history, found or by proof none: operations are placed one after another (Wing and Gong 1993), and each
-//! stage that they lead to is kept once (Lowe 2017).
+//! Orders of a history, found or proved not to exist: operations are placed one after another (Wing and Gong 1993), and
+//! each stage that they lead to is kept once (Lowe 2017).
 ghost use Rattle.std.specs.Prelude.{◌≡◌, [], ℕ, List, ◌<◌, ◌≤◌, ◌↔◌, IsTrue, MatchOption, IfOk, IfErr, IfSome, OnOk, length, replicate, slice_index};
 ghost use Rattle.reg_base.specs.declared.memory.Op.{Op as AnyOp};
 ghost use Rattle.reg_base.specs.declared.memory.OpId.{OpId as AnyId};
@@ -34,7 +34,7 @@ fn may_come<A: Allocator + Copy>(finder: &Finder<'_, A>, id: OpId, op: Op, answe
     }
 }
 
-/// Whether the order may have this operation next, where so many of each process are placed.
+/// Whether the order may have this operation next, where the given number of each process's operations is placed.
 fn may_follow<A: Allocator + Copy>(
     finder: &Finder<'_, A>,
     next: &[u32],
@@ -220,7 +220,7 @@ fn turns_found<A: Allocator + Copy>(
     Ok(None)
 }
 
-/// The ids of the operations in such an order, None where there is none.
+/// The ids of the operations in an order that places all finished ones, None where there is none.
 fn ids_found<A: Allocator + Copy>(
     alloc: A,
     finder: &Finder<'_, A>,
@@ -250,8 +250,9 @@ fn ids_in_order<A: Allocator + Copy>(
 }
 
 /// A serial order of a history, None where there is none (sequential consistency, Lamport 1979). Operations are placed
-/// one after another, and each stage that they lead to is kept once, so what it needs is the number of stages and not
-/// that of the orders. A point order is looked for first: it is a serial order too, and fewer stages lead to it.
+/// one after another, and each stage that they lead to is kept once, so the search grows with the number of stages and
+/// not with that of the orders. A point order is looked for first: it is a serial order too, and fewer stages lead to
+/// it.
 ///
 /// # Errors
 ///

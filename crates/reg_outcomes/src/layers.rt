@@ -1,4 +1,4 @@
-//! Layers: all stages after so many turns.
+//! Layers: all stages after some number of turns.
 ghost use Rattle.std.specs.Prelude.{◌≡◌, ◌++◌, ◌∷◌, [], ◌<◌, ◌≤◌, ◌^◌, length, map, List, ℕ, IfOk, OnOk, IfErr};
 ghost use Rattle.std.specs.List.{sum_by};
 ghost use Rattle.reg_base.specs.declared.limits.TheConstants.{MOST_PROCESSES};
@@ -12,7 +12,7 @@ use reg_base::Op;
 use std::alloc::{AllocError, Allocator, Global};
 use std::collections::BTreeMap;
 
-/// All stages after so many turns, each with turns that lead to it.
+/// All stages after some number of turns, each with turns that lead to it.
 pub(crate) type Layer<A> = BTreeMap<Stage<A>, Vec<u8, A>, A>;
 
 /// These turns, and one more.
@@ -38,7 +38,7 @@ pub(crate) struct GrowingLayer<A: Allocator + Copy = Global> {
 }
 
 impl<A: Allocator + Copy> GrowingLayer<A> {
-    /// No stage is there yet.
+    /// A layer in which no stage is yet.
     pub(crate) fn new(alloc: A, limit: u32) -> GrowingLayer<A>
         ensures empty { result.layer.entries ≡ [] }
         ensures limit { result.limit ≡ limit }

@@ -39,7 +39,7 @@ fn values_at<A: Allocator + Copy>(
     Ok(values)
 }
 
-/// Adds a combination with each of the values behind it.
+/// Adds a combination with each of the values after it.
 fn add_longer<A: Allocator + Copy>(
     alloc: A,
     combination: &[ToldValue],

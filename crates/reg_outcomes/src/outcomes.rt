@@ -108,9 +108,9 @@ pub(crate) fn tell_last<A: Allocator + Copy>(
     Ok(AllOutcomes { list, stages })
 }
 
-/// All outcomes that interleavings of the scripts, one for each process, have on one memory with so many registers:
-/// each once, rising, and with the turns of an interleaving that has it. It goes turn by turn, and keeps each stage
-/// after so many turns once, so what it needs is the number of stages and not that of the interleavings.
+/// All outcomes that interleavings of the scripts, one for each process, have on one memory with the given number of
+/// registers: each once, rising, and with the turns of an interleaving that has it. The search goes turn by turn, and
+/// keeps each stage of a turn once, so it grows with the number of stages and not with that of the interleavings.
 ///
 /// # Errors
 ///

@@ -83,7 +83,7 @@ fn count_play<F: FrontEnd, A: Allocator + Copy>(
     }
 }
 
-/// Counts what so many plays told.
+/// Counts what the given number of plays told.
 fn count_plays<F: FrontEnd, A: Allocator + Copy>(
     alloc: A,
     work: &Workload<A>,
@@ -102,7 +102,7 @@ fn count_plays<F: FrontEnd, A: Allocator + Copy>(
     Ok(tallies)
 }
 
-/// Plays a workload so many times, each time by the words of a seed of its own: the first by those of the workload's
+/// Plays a workload `plays` times, each time by the words of a seed of its own: the first by those of the workload's
 /// seed, and each other by those of the next number, modulo 2^64. The lines tell what the finished plays answered, and
 /// of each outcome whether the history of some play that has it is linearizable. It keeps what is told of each outcome,
 /// and one play at a time.

@@ -21,8 +21,8 @@ fn is_playable(script: &[Op], registers: u16) -> bool
     script.len() <= MOST_OPERATIONS as usize && are_known(script, registers)
 }
 
-/// Whether these scripts can be interleaved on so many registers: there are not too many, none is too long, and each
-/// operation is on a register that there is.
+/// Whether these scripts can be interleaved on the given number of registers: there are not too many, none is too long,
+/// and each operation is on a register that there is.
 pub fn are_playable<A: Allocator + Copy>(scripts: &[Vec<Op, A>], registers: u16) -> bool
     ensures { IsTrue result ↔ ArePlayable (map (λ v. v.items) scripts.now) registers }
 {

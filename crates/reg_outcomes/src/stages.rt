@@ -13,15 +13,15 @@ use std::alloc::{AllocError, Allocator, Global};
 #[derive(Drop)]
 #[derive_where(PartialEq, Eq, PartialOrd, Ord)]
 pub(crate) struct Stage<A: Allocator + Copy = Global> {
-    /// How many operations of each script are behind.
+    /// How many operations of each script are done.
     pub(crate) next: Vec<u32, A>,
     /// The value of each register.
     pub(crate) memory: Vec<u64, A>,
-    /// What the operations behind told, in the order of an outcome.
+    /// What these operations told, in the order of an outcome.
     pub(crate) told: Vec<ToldValue, A>,
 }
 
-/// The place behind all that a process and those before it were told.
+/// The place after all that a process and those before it were told.
 fn place_behind(told: &[ToldValue], process: u8) -> usize
     ensures within { result ≤ length told.now }
     ensures place { (t : AnyValue) → t.process ≡ process → insert told.now result t ≡ told_behind t told.now }
@@ -61,7 +61,7 @@ fn tell<A: Allocator + Copy>(
 }
 
 impl<A: Allocator + Copy> Stage<A> {
-    /// No operation is behind.
+    /// The stage at which no operation is done.
     pub(crate) fn first(alloc: A, processes: usize, registers: u16) -> Result<Stage<A>, AllocError>
         ensures { IfOk result (λ s. stage_of s ≡ first_stage processes registers) }
     {

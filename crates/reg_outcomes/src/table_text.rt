@@ -25,7 +25,7 @@ fn put_spaces<W: Write>(sink: &mut Sink<'_, W>, count: usize)
     }
 }
 
-/// Puts a number at the right of so many places, or more where it has more digits.
+/// Puts a number at the right of `places` places, or of more where it has more digits.
 fn put_right<W: Write>(sink: &mut Sink<'_, W>, number: u64, places: usize)
     ensures { Puts W.contents sink.old sink.new (to_right places (decimal number)) }
 {
@@ -128,7 +128,7 @@ fn put_table<A: Allocator + Copy, W: Write>(
     put_undrawn(sink, outcomes.undrawn);
 }
 
-/// Writes the text of the table of so many plays, all of it or, where the writer fails, a first part.
+/// Writes the text of the table of the given number of plays: all of it or, where the writer fails, a first part.
 pub fn write_table<A: Allocator + Copy, W: Write>(
     writer: &mut W,
     plays: u32,

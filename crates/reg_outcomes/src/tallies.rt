@@ -44,7 +44,8 @@ pub struct Tallies<A: Allocator + Copy = Global> {
     pub unfinished: u32,
 }
 
-/// The seed of the first play of a kind, linearizable or not, of some plays and one more, which is of that kind or not.
+/// The seed of the first play of a kind, linearizable or not, among some plays and one more. `is_such` says whether
+/// that one is of the kind.
 fn first_of(seed: Option<u64>, glance: Glance, is_such: bool) -> Option<u64>
     ensures { (kind : Bool) (plays : List Seen) (outcome : List ToldValue) → (is_such ≡ true) ↔ (glance.linearizable ≡ kind) → IsFirst kind plays seed → IsFirst kind (plays ++ finished_play outcome glance ∷ []) result }
 {
@@ -108,7 +109,7 @@ fn next<A: Allocator + Copy>(
 }
 
 impl<A: Allocator + Copy> Tallies<A> {
-    /// Nothing is told, of no play.
+    /// What is told of no play.
     pub fn new(alloc: A) -> Tallies<A>
         ensures { IsCounted (λ v. v.items) [] result.told result.unfinished }
     {

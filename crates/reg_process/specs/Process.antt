@@ -75,7 +75,7 @@ peer_at s r = slice_index_or s.peers r no_peer
 abbrev pub seen_at : State → ℕ → ℕ
 seen_at s r = (peer_at s r).seen
 
--- clear, by what the process has seen of the others, and the same as a test
+-- whether a stamp is clear, by what the process has seen of the others; and that as a test
 abbrev pub IsClear : State → Stamp → Type 0
 IsClear s stamp = order.IsClear s.me (seen_at s) (length s.peers) stamp
 

@@ -7,7 +7,7 @@ pub enum ProcessFault {
     /// The process has stopped for good.
     #[error("failed")]
     Failed,
-    /// The sender is out of range or the process itself; in `new`, the process is none of the shape.
+    /// The sender is out of range or the process itself; in `new`, the shape doesn't have the process.
     #[error("no process")]
     NoProcess,
     /// An operation runs.

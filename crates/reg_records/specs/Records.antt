@@ -43,8 +43,8 @@ pub record IsFaithful (start : Op → ℕ → Start) (shape : Extent) (order : L
   pub plays : Plays start shape order logs (length order) w
   pub all : NothingLeft order logs
 
--- The first place at which a record is none: the mentions before the place are a run, and with the one at it they are
--- none; or the place is after the last mention, and some entry is left.
+-- The first place from which a record is no run: the mentions before the place are a run, and with the one at it they
+-- are none; or the place is after the last mention, and some entry is left.
 pub record FailsAt (start : Op → ℕ → Start) (shape : Extent) (order : List ℕ) (logs : List (List LogEntry)) (place : ℕ) : Type 0 where
   pub reached : Made
   pub plays : Plays start shape order logs place reached

@@ -27,7 +27,7 @@ name_of Data = codes "data"
 name_of Page = codes "page"
 name_of Rest = codes "rest"
 
--- the words after the program's name that ask for it: no flag
+-- the words after the program's name that ask for what is shown: no flag
 abbrev pub line_of : Showing → List Text
 line_of showing = name_of showing ∷ []
 
@@ -70,17 +70,17 @@ SaysShort flags player = ((flags ≡ short_words ++ player_words player) ⊎ (fl
 abbrev pub IsShortLine : List Text → Player → Type 0
 IsShortLine line player = (flags : List Text) × (line ≡ codes "schedule" ∷ flags) × SaysShort flags player
 
--- these words are those for so many plays
+-- the words for this number of plays
 abbrev pub plays_words : ℕ → List Text
 plays_words plays = codes "--plays" ∷ decimal plays ∷ []
 
--- these words are those for so many plays, within the limits, and for a seed: the one and then the other, in either
--- order; or for a seed alone, and then the plays are as many as is usual
+-- these words are those for this number of plays, within the limits, and for a seed: the one and then the other, in
+-- either order; or for a seed alone, and then the plays are as many as is usual
 abbrev pub SaysPlays : List Text → ℕ → Option ℕ → Type 0
 SaysPlays flags plays seed =
     ((plays ≡ USUAL_PLAYS) × (flags ≡ seed_words seed)) ⊎ ((1 ≤ plays) × (plays ≤ MOST_PLAYS) × ((flags ≡ plays_words plays ++ seed_words seed) ⊎ (flags ≡ seed_words seed ++ plays_words plays)))
 
--- the words ask to count what so many plays tell, from this seed on where there is one
+-- the words ask to count what this number of plays tells, from this seed on where there is one
 abbrev pub IsOutcomesLine : List Text → ℕ → Option ℕ → Type 0
 IsOutcomesLine line plays seed = (flags : List Text) × (line ≡ codes "outcomes" ∷ flags) × SaysPlays flags plays seed × IsSeed seed
 

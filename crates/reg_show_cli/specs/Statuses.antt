@@ -40,14 +40,14 @@ Obeys help version Verify input Wrote = IfSome input (λ xs. length xs ≤ LONGE
 Obeys help version Help input Wrote = Wrote help
 Obeys help version Version input Wrote = Wrote version
 
--- The line of a fault was told, or a first part of it. It holds of the input, and nothing was written unless the writer
--- failed; then a first part of what is shown was. `Holds` says what holds, and `Shown` what is shown.
+-- The line of a fault was told, or a first part of it. The fault holds of the input, and nothing was written unless the
+-- writer failed; then a first part of what is shown was. `Holds` says what holds, and `Shown` what is shown.
 abbrev pub Refuses : (ShowFault → List ℕ → Type 0) → ((List ℕ → Type 0) → List ℕ → Type 0) → Option (List ℕ) → Type 0 → Option (List ℕ) → Option (List ℕ) → Option (List ℕ) → Option (List ℕ) → Type 0
 Refuses Holds Shown input unwritten old new was is =
     (f : ShowFault) × IfSome input (Holds f) × (f ≢ Command Output → unwritten) × (f ≡ Command Output → IfSome input (Shown (AppendsPart old new))) × AppendsPart was is (show_line f)
 
--- Status 1: the line of a fault was told, or a first part of it. It holds of the input, and nothing was written unless
--- the writer failed; then a first part of what is shown was. Where help or the version was asked for, the writer
+-- Status 1: the line of a fault was told, or a first part of it. The fault holds of the input, and nothing was written
+-- unless the writer failed; then a first part of what is shown was. Where help or the version was asked for, the writer
 -- failed. Where the question was why, the text is refused, and its answer was written; where an order was looked for,
 -- there is none, and that was written.
 abbrev pub Stops : Asked → Option (List ℕ) → Type 0 → Option (List ℕ) → Option (List ℕ) → Option (List ℕ) → Option (List ℕ) → Type 0
@@ -82,6 +82,6 @@ Tells Verify was is = (f : VerifyFault) × AppendsPart was is (verify_line f)
 Tells Help was is = AppendsPart was is (fault_line Output)
 Tells Version was is = AppendsPart was is (fault_line Output)
 
--- the line for want of memory to read the words, with its line feed
+-- the line for words that there was no memory to read, with its line feed
 abbrev pub memory_line : List ℕ
 memory_line = codes "out of memory" ++ 10 ∷ []

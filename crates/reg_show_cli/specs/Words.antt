@@ -13,11 +13,11 @@ use Rattle.reg_args.specs.declared.faults.WordsFault.TheVariants.{CommandLine, O
 abbrev pub awshow_first : App
 awshow_first = with_subcommand (with_subcommand (new_app (codes "awshow")) (new_app (codes "trace")).top) (new_app (codes "draw")).top
 
--- the program with all of them
+-- the program with all of its subcommands, as clap's parse reads it
 abbrev pub awshow : App
 awshow = with_subcommand (with_subcommand (with_subcommand awshow_first (new_app (codes "data")).top) (new_app (codes "page")).top) (new_app (codes "rest")).top
 
--- help is no refusal, want of memory is itself, and every other kind is the command line's
+-- help is no refusal, out of memory is itself, and every other kind is the command line's
 abbrev pub told_of : ErrorKind → Result Asked WordsFault
 told_of DisplayHelp = Ok Help
 told_of NoMemory = Err OutOfMemory

@@ -32,7 +32,7 @@ pub(crate) fn line_of(words: &[String]) -> &[String]
     }
 }
 
-/// The words behind this one, where the words begin with it.
+/// The words after this one, where the words begin with it.
 pub(crate) fn behind<'a>(words: &'a [String], word: &str) -> Option<&'a [String]>
     ensures read { IfSome result (λ rest. map string_bytes words.now ≡ word.now ∷ map string_bytes rest.now) }
     ensures whole { (rest : List Text) → map string_bytes words.now ≡ word.now ∷ rest → IsSomeAnd result (λ r. map string_bytes r.now ≡ rest) }
@@ -45,7 +45,7 @@ pub(crate) fn behind<'a>(words: &'a [String], word: &str) -> Option<&'a [String]
     }
 }
 
-/// The number behind this flag, up to the most, and the words behind it, where the words begin with both.
+/// The number after this flag, up to the most, and the words after it, where the words begin with both.
 fn numbered<'a>(words: &'a [String], flag: &str, most: u64) -> Option<(u64, &'a [String])>
     ensures read { IfSome result (λ p. (map string_bytes words.now ≡ flag.now ∷ decimal p.0 ∷ map string_bytes p.1.now) × (p.0 ≤ most)) }
     ensures whole { (number : ℕ) (rest : List Text) → number ≤ most → map string_bytes words.now ≡ flag.now ∷ decimal number ∷ rest → IsSomeAnd result (λ p. (p.0 ≡ number) × (map string_bytes p.1.now ≡ rest)) }
@@ -55,7 +55,7 @@ fn numbered<'a>(words: &'a [String], flag: &str, most: u64) -> Option<(u64, &'a 
     Some((number, rest))
 }
 
-/// The number behind this flag, where these are all the words.
+/// The number after this flag, where these are all the words.
 pub(crate) fn number_alone(words: &[String], flag: &str, most: u64) -> Option<u64>
     ensures { MatchOption result ((number : ℕ) → number ≤ most → ¬ (map string_bytes words.now ≡ flag.now ∷ decimal number ∷ [])) (λ number. (number ≤ most) × (map string_bytes words.now ≡ flag.now ∷ decimal number ∷ [])) }
 {
@@ -73,7 +73,7 @@ fn is_word(words: &[String], word: &str) -> bool
     }
 }
 
-/// The seed that flags say, where they say no more; none where there are none.
+/// The seed that flags say, where they say no more; no seed where there are no flags.
 fn seed_said(flags: &[String]) -> Option<Option<u64>>
     ensures { MatchOption result ((seed : Option ℕ) → ¬ SaysSeed (map string_bytes flags.now) seed) (SaysSeed (map string_bytes flags.now)) }
 {
@@ -138,7 +138,7 @@ pub(crate) fn short_said(flags: &[String]) -> Option<Player>
     }
 }
 
-/// So many plays, where that many can be counted.
+/// This number of plays, unless it is 0.
 fn some_plays(plays: u64, seed: Option<u64>) -> Option<Plays>
     requires { plays ≤ MOST_PLAYS }
     ensures { MatchOption result (plays ≡ 0) (λ p. (1 ≤ plays) × (p.plays ≡ plays) × (p.seed ≡ seed)) }
@@ -152,7 +152,7 @@ fn some_plays(plays: u64, seed: Option<u64>) -> Option<Plays>
     })
 }
 
-/// The plays that flags say whose first is that of a seed.
+/// The plays that flags say, where the first flag is that of a seed.
 fn plays_behind_seed(flags: &[String]) -> Option<Plays>
     ensures { MatchOption result ((plays : ℕ) (seed : ℕ) → 1 ≤ plays → plays ≤ MOST_PLAYS → seed ≤ LAST_SEED → ¬ (map string_bytes flags.now ≡ seed_words (Some seed) ++ plays_words plays)) (λ p. SaysPlays (map string_bytes flags.now) p.plays p.seed × IsSeed p.seed) }
 {
@@ -161,7 +161,7 @@ fn plays_behind_seed(flags: &[String]) -> Option<Plays>
     some_plays(plays, Some(seed))
 }
 
-/// The plays that flags say of which this number of plays is said first, and these words behind it.
+/// The plays that flags say, where this number of plays is said first, and these words after it.
 fn plays_before_seed(plays: u64, rest: &[String]) -> Option<Plays>
     requires { plays ≤ MOST_PLAYS }
     ensures { MatchOption result ((seed : Option ℕ) → 1 ≤ plays → ¬ SaysSeed (map string_bytes rest.now) seed) (λ p. (1 ≤ plays) × (p.plays ≡ plays) × SaysSeed (map string_bytes rest.now) p.seed) }
@@ -170,7 +170,7 @@ fn plays_before_seed(plays: u64, rest: &[String]) -> Option<Plays>
     some_plays(plays, seed)
 }
 
-/// The plays that flags say which are more than a seed.
+/// The plays that flags say, where the flags are no seed alone.
 fn plays_flagged(flags: &[String]) -> Option<Plays>
     requires { (seed : Option ℕ) → ¬ SaysSeed (map string_bytes flags.now) seed }
     ensures { MatchOption result ((plays : ℕ) (seed : Option ℕ) → IsSeed seed → ¬ SaysPlays (map string_bytes flags.now) plays seed) (λ p. SaysPlays (map string_bytes flags.now) p.plays p.seed × IsSeed p.seed) }

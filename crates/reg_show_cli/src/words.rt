@@ -22,7 +22,7 @@ pub enum Asked {
     Schedule { player: Player },
     /// To print the schedule of the short form of this player's play of the workload on the input.
     ShortSchedule { player: Player },
-    /// To count what so many plays of the workload on the input tell, from this seed on, or else from its own.
+    /// To count what this number of plays of the workload on the input tells, from this seed on, or else from its own.
     Outcomes { plays: u32, seed: Option<u64> },
     /// To print all outcomes that the scripts of the workload on the input can have.
     AllOutcomes,

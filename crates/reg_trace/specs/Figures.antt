@@ -32,7 +32,7 @@ bars_of h = bars_in h h
 abbrev pub is_put : ℕ → ℕ → ℕ → Fact → Bool
 is_put from to place f = (f.process == from) && list_any (λ (s : Sent). (s.to == to) && (s.place == place)) f.sent
 
--- the number of the event that did
+-- the number of the event that put the frame
 abbrev pub putter : ℕ → ℕ → ℕ → List Fact → Option ℕ
 putter from to place facts = position (is_put from to place) facts
 

@@ -55,7 +55,8 @@ abbrev pub placed : ℕ → ℕ → List Frame → List Sent
 placed to place [] = []
 placed to place (frame ∷ frames) = record { to = to; place = place; frame = frame } ∷ placed to (place + 1) frames
 
--- the frames on the wires of p to the first n processes that stand after so many on each
+-- the frames on the wires of p to the first n processes that stand after the first ones: how many these are is given
+-- for each wire
 abbrev pub puts_since : ℕ → (ℕ → ℕ) → (ℕ → List Frame) → ℕ → List Sent
 puts_since p lengths wire zero = []
 puts_since p lengths wire (suc to) = puts_since p lengths wire to ++ cond (to == p) [] (placed to (lengths to) (drop (lengths to) (wire to)))

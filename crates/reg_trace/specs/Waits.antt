@@ -10,7 +10,7 @@ use Rattle.reg_trace.specs.declared.waits.Wait.{Wait}
 abbrev pub is_unheard : State → Stamp → ℕ → Bool
 is_unheard s stamp r = not (r == s.me) && below (stamp_at (seen_at s r) r) stamp
 
--- the process r, where there is none before it
+-- the process found before, or else the process r, where the test holds
 abbrev pub none_before : Option ℕ → Bool → ℕ → Option ℕ
 none_before None test r = cond test (Some r) None
 none_before (Some q) test r = Some q
@@ -25,7 +25,7 @@ abbrev pub wait_for : Stamp → Option ℕ → List Wait
 wait_for stamp None = []
 wait_for stamp (Some r) = record { stamp = stamp; unheard = r } ∷ []
 
--- these casts, each with the lowest process that its process hasn't heard past it
+-- these casts, each with the lowest process that the holder hasn't heard past it
 abbrev pub waits_of : ℕ → State → List Delivered → List Wait
 waits_of n s [] = []
 waits_of n s (c ∷ cs) = wait_for c.stamp (first_unheard s c.stamp n) ++ waits_of n s cs

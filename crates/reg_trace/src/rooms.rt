@@ -1,4 +1,4 @@
-//! The room beside the processes' lines of a drawing: texts stand there behind one another.
+//! The room beside the processes' lines of a drawing: texts stand there one after another.
 ghost use Rattle.std.specs.Prelude.{◌≡◌, ◌≤◌};
 
 /// The free room to the right of a text.
@@ -13,7 +13,7 @@ pub struct Filled {
 }
 
 impl Filled {
-    /// Nothing stands anywhere, and the drawing is at least so wide.
+    /// The room where nothing stands yet, of a drawing that is at least `least` wide.
     pub fn new(least: u32) -> Filled {
         Filled {
             above: [0; 256],

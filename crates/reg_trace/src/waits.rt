@@ -38,7 +38,7 @@ fn is_unheard<F: FrontEnd, A: Allocator + Copy>(
     }
 }
 
-/// The lowest of so many processes that a process hasn't heard past a stamp.
+/// The lowest of the given number of processes that a process hasn't heard past a stamp.
 fn first_unheard<F: FrontEnd, A: Allocator + Copy>(
     process: &Process<F, A>,
     me: u8,

@@ -12,7 +12,7 @@ order_of steps = map (λ r. r.process) steps
 abbrev pub log_of : ℕ → List Recorded → List LogEntry
 log_of p steps = map (λ r. r.entry) (filter (λ r. r.process == p) steps)
 
--- the logs of so many processes
+-- the logs of the given number of processes
 pub record AreLogs (processes : ℕ) (steps : List Recorded) (logs : List (List LogEntry)) : Type 0 where
   pub count : length logs ≡ processes
   pub each : (p : ℕ) → p < processes → slice_get logs p ≡ Some (log_of p steps)

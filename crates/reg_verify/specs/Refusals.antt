@@ -15,7 +15,7 @@ IsBegun lines = (a : Account) × IsAccount a × (rest : List (List ℕ)) × (acc
 abbrev pub IsStepLine : List (List ℕ) → List ℕ → Type 0
 IsStepLine names line = (r : Recorded) × RecordedFits names r × (line ≡ recorded_text names r)
 
--- why the line after those of a record is refused: it is none of a step's, or there may be no more steps
+-- why the line after those of a record is refused: it is no step's, or there may be no more steps
 pub record IsStepsWhy (lines : List (List ℕ)) (line : List ℕ) (why : Why) : Type 0 where
   pub account : Account
   pub good : IsAccount account

@@ -16,8 +16,7 @@ pub record StopsFirst (old new : Rest) (why : Why) : Type 0 where
   pub stopped : IsStopped before next old new
   pub first : IsFirstWrong before next why
 
--- Of the lines, those before this one are of steps, and it is refused: it is none of a step's, or there may be no more
--- steps.
+-- Of the lines, those before this one are of steps, and it is refused: it is no step's, or there may be no more steps.
 pub record IsWrongStep (names : List (List ℕ)) (old new : Rest) (why : Why) : Type 0 where
   pub before : List Recorded
   pub line : List ℕ

@@ -33,8 +33,8 @@ pub record Runs (start : Op → ℕ → Start) (shape : Extent) (steps : List Re
   pub split : AreLogs shape.processes steps logs
   pub faithful : IsFaithful start shape (order_of steps) logs w
 
--- The step at this place is the first with which they are none: after those before it no event is accepted in which its
--- process makes that step and gives that reply.
+-- The step at this place is the first with which the steps are no run: after those before it no event is accepted in
+-- which its process makes that step and gives that reply.
 pub record FailsFirst (start : Op → ℕ → Start) (shape : Extent) (steps : List Recorded) (place : ℕ) : Type 0 where
   pub logs : List (List LogEntry)
   pub split : AreLogs shape.processes steps logs
@@ -46,18 +46,18 @@ abbrev pub line_at : ℕ → ℕ
 line_at place = place + 5
 
 -- The steps of a record are a run, and this is its report, under the record's front end and names: its history and its
--- witness, and points that are so.
+-- witness, and points as `AreSo` says.
 pub record ShowsAccount (start : Op → ℕ → Start) (a : Account) (AreSo : Plan → Option (List Point) → Type 0) (r : Contents) : Type 0 where
   pub world : Made
   pub runs : Runs start a.shape a.steps world
   pub shows : Shows start (plan_in a.front a.names world) r
   pub points : AreSo (plan_in a.front a.names world) r.points
 
--- the same, with points where the front end has some
+-- the report of a record's steps, with points where the front end has some
 abbrev pub IsReportOfAccount : Account → Contents → Type 0
 IsReportOfAccount a r = ShowsAccount (start_of a.front) a (PointsOf a.front) r
 
--- The text is that of a record, and the report of its run was written: `Wrote` says how a text was.
+-- The text is that of a record, and the report of its run was written: `Wrote` says how a text was written.
 pub record Verifies (Wrote : List ℕ → Type 0) (text : List ℕ) : Type 0 where
   pub account : Account
   pub good : IsAccount account

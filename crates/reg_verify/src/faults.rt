@@ -3,7 +3,7 @@ use reg_commands::Fault;
 use std::alloc::AllocError;
 use thiserror::Error;
 
-/// Why a record has no report. As text, the line of it on standard error.
+/// Why a record has no report. Its text is its line on standard error.
 #[derive(Clone, Copy, Debug, PartialEq, Eq, Error)]
 pub enum VerifyFault {
     /// The input is refused, the output failed, or there was no memory.

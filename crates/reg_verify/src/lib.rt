@@ -1,5 +1,5 @@
 //! A record of processes that ran apart as one text, and the command that judges it: what they did is a run, whose
-//! report is printed, or the first line is named with which it is none.
+//! report is printed, or the first line is named with which it is no run.
 #![tactic(auto)]
 
 mod faults;

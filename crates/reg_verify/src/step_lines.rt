@@ -91,7 +91,7 @@ fn before_space(text: &[u8]) -> Option<&[u8]>
     text.strip_suffix(b" ")
 }
 
-/// The step before an equals sign, and the reply behind it.
+/// The step before an equals sign, and the reply after it.
 fn read_answered<A: Allocator + Copy>(
     front: &[u8],
     behind: &[u8],
@@ -129,7 +129,7 @@ fn read_entry<A: Allocator + Copy>(text: &[u8], names: &Names<A>) -> Option<LogE
     }
 }
 
-/// The step of a line. None where the line is none of a step's.
+/// The step of a line. None where the line is no step's.
 pub(crate) fn read_recorded<A: Allocator + Copy>(line: &[u8], names: &Names<A>) -> Option<Recorded>
     requires { names_fault names.now ≡ None }
     ensures read { IfSome result (λ r. (line.now ≡ recorded_text names.now r) × RecordedFits names.now r) }

@@ -28,7 +28,7 @@ counted_after c [] = c
 counted_after c (Numbered i body ∷ fs) = counted_after c fs
 counted_after c (Got count ∷ fs) = counted_after (max c count) fs
 
--- Where of each wire the given number of frames is behind: those that are left bring all that was queued to the
+-- Where of each wire the given number of frames is passed: those that are left bring all that was queued to the
 -- receiver, and all that it accepted to the knowledge of the sender.
 pub record InStep (n : ℕ) (w : Nodes) (behind : ℕ → ℕ → ℕ) : Type 0 where
   pub within : (p q : ℕ) → p < n → q < n → p ≢ q → behind p q ≤ length ((w p).wire q)
@@ -46,15 +46,15 @@ takes_for n (Got count) = 1
 abbrev pub takes_for_all : ℕ → List Frame → ℕ
 takes_for_all n frames = sum_by (takes_for n) frames
 
--- how many takes the frames of a wire ask for that are not behind, where there is such a wire
+-- how many takes the frames of a wire ask for that are not passed, where there is such a wire
 abbrev pub left_on : ℕ → Nodes → (ℕ → ℕ → ℕ) → ℕ → ℕ → ℕ
 left_on n w behind a b = cond (a == b) 0 (takes_for_all n (drop (behind a b) ((w a).wire b)))
 
--- how many takes the frames of all wires ask for that are not behind
+-- how many takes the frames of all wires ask for that are not passed
 abbrev pub left_in : ℕ → Nodes → (ℕ → ℕ → ℕ) → ℕ
 left_in n w behind = total n (λ a. total n (left_on n w behind a))
 
--- the frames behind are those taken, in order, and there are no more of them than events
+-- the passed frames are those taken, in order, and there are no more of them than events
 pub record IsFair (start : Op → ℕ → Start) (s : Playing) : Type 0 where
   pub spent : length s.made.accepted + left_in s.made.processes (run_in start s.made).nodes (cursor_at s) ≤ total s.made.processes (λ p. length (calls_of p s.made.accepted)) * most_for_call s.made.processes
   pub in_step : InStep s.made.processes (run_in start s.made).nodes (cursor_at s)
@@ -62,11 +62,11 @@ pub record IsFair (start : Op → ℕ → Start) (s : Playing) : Type 0 where
   pub takes : (p q : ℕ) → takes_of p q s.made.accepted ≡ range_with_len 0 (cursor_at s p q)
   pub ticks : ticks_of s.made.accepted ≡ []
 
--- each frame of the wire is behind
+-- each frame of the wire is passed
 abbrev pub IsBehind : (Op → ℕ → Start) → Playing → ℕ → ℕ → Type 0
 IsBehind start s from to = from ≢ to → length (((run_in start s.made).nodes from).wire to) ≤ cursor_at s from to
 
--- one more frame of this wire is behind
+-- one more frame of this wire is passed
 pub record Leaves (old : Playing) (from to : ℕ) (new : Playing) : Type 0 where
   pub made : new.made ≡ old.made
   pub scripts : new.scripts ≡ old.scripts
@@ -91,7 +91,7 @@ pub record RoundPart (start : Op → ℕ → Start) (budget : ℕ) (old new : Pl
 abbrev pub NoneMayCall : (Op → ℕ → Start) → Playing → ℕ → Type 0
 NoneMayCall start s n = (p : ℕ) → p < n → IsReadyToCall start s p → ⊥
 
--- each frame from this process to the first ones is behind, and each frame from the first ones to all
+-- each frame from this process to the first ones is passed, and each frame from the first ones to all
 abbrev pub AllBehindFrom : (Op → ℕ → Start) → Playing → ℕ → ℕ → Type 0
 AllBehindFrom start s from n = (to : ℕ) → to < n → IsBehind start s from to
 

@@ -30,8 +30,8 @@ may_tick start s p = nat_lt 0 (pending_at start s p)
 abbrev pub takes_at : Chances → ℕ → ℕ
 takes_at c from = slice_index_or c.takes from 0
 
--- What is kept is so, but for what these processes can do, and for these wires. Of such a process, what is kept as a
--- frame that can be taken can be.
+-- What is kept is true, except of what these processes can do, and of these wires. Of a wire from such a process, a
+-- frame that is kept as one that can be taken can be.
 pub record AreListedBut (start : Op → ℕ → Start) (s : Playing) (acts : ℕ → Type 0) (passes : ℕ → ℕ → Type 0) (c : Chances) : Type 0 where
   pub processes : s.made.processes ≤ MOST_PROCESSES
   pub few_calls : c.calls < 2 ^ s.made.processes
@@ -42,7 +42,7 @@ pub record AreListedBut (start : Op → ℕ → Start) (s : Playing) (acts : ℕ
   pub tick : (p : ℕ) → p < s.made.processes → (acts p → ⊥) → bit_at c.ticks p ≡ bit_of (may_tick start s p)
   pub take : (p q : ℕ) → p < s.made.processes → q < s.made.processes → (acts p → ⊥) → (passes p q → ⊥) → bit_at (takes_at c p) q ≡ bit_of (may_take start s p q)
 
--- all of it is so
+-- all that is kept is true
 abbrev pub AreListed : (Op → ℕ → Start) → Playing → Chances → Type 0
 AreListed start s c = AreListedBut start s (λ _. ⊥) (λ _ _. ⊥) c
 
@@ -57,7 +57,7 @@ Passes (CallNext q) a b = ⊥
 Passes (TakeNext from to number) a b = (from ≡ a) × (to ≡ b)
 Passes (PutAgain q) a b = ⊥
 
--- what a choice can't have changed is so
+-- what is kept of all that a choice can't have changed is true
 abbrev pub AreOthersListed : (Op → ℕ → Start) → Playing → Choice → Chances → Type 0
 AreOthersListed start s choice c = AreListedBut start s (Acts choice) (Passes choice) c
 
@@ -67,7 +67,7 @@ IsWithin n (CallNext p) = p < n
 IsWithin n (TakeNext from to number) = (from < n) × (to < n)
 IsWithin n (PutAgain p) = p < n
 
--- what is kept of a process is so from now on, and of others it stays
+-- what is kept of a process is true from now on, and what is kept of others stays
 pub record Lists (start : Op → ℕ → Start) (s : Playing) (p : ℕ) (old new : Chances) : Type 0 where
   pub few_calls : old.calls < 2 ^ s.made.processes → new.calls < 2 ^ s.made.processes
   pub few_ticks : old.ticks < 2 ^ s.made.processes → new.ticks < 2 ^ s.made.processes
@@ -78,7 +78,7 @@ pub record Lists (start : Op → ℕ → Start) (s : Playing) (p : ℕ) (old new
   pub ticks : (q : ℕ) → q < MOST_PROCESSES → q ≢ p → bit_at new.ticks q ≡ bit_at old.ticks q
   pub takes : (q : ℕ) → q ≢ p → takes_at new q ≡ takes_at old q
 
--- what is kept of a wire is so from now on, and of others it stays
+-- what is kept of a wire is true from now on, and what is kept of others stays
 pub record ListsWire (start : Op → ℕ → Start) (s : Playing) (from to : ℕ) (old new : Chances) : Type 0 where
   pub calls : new.calls ≡ old.calls
   pub ticks : new.ticks ≡ old.ticks

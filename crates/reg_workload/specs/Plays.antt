@@ -49,8 +49,8 @@ pub record IsPlay (start : Op → ℕ → Start) (shape : Extent) (all : List (L
   pub scripts : (p : ℕ) → p < length all → FollowsScript all w.accepted p
   pub finished : (is_finished ≡ true) ↔ IsFinished start all w
 
--- A play under way: the world, the scripts, how many operations of its script each process has called, and
--- how many frames of each wire are behind, by sender and then by receiver.
+-- A play under way: the world, the scripts, how many operations of its script each process has called, and how many
+-- frames of each wire are passed, so that they aren't chosen any more, by sender and then by receiver.
 pub record Playing : Type 0 where
   pub made : Made
   pub scripts : List (List Op)
@@ -81,7 +81,7 @@ steps step (suc n) s = step n (steps step n s)
 abbrev pub may_call : (Op → ℕ → Start) → Playing → ℕ → Bool
 may_call start s p = nat_lt (next_at s p) (length (script_of s.scripts p)) && not (is_some ((run_in start s.made).nodes p).state.running)
 
--- the first frame of a wire that is not behind
+-- the first frame of a wire that is not passed
 abbrev pub next_frame : (Op → ℕ → Start) → Playing → ℕ → ℕ → Option ℕ
 next_frame start s from to =
     cond (not (from == to) && nat_lt (cursor_at s from to) (length (((run_in start s.made).nodes from).wire to))) (Some (cursor_at s from to)) None
@@ -102,6 +102,6 @@ next_op s p = slice_index_or (script_of s.scripts p) (next_at s p) (Read 0)
 abbrev pub calls_next : (Op → ℕ → Start) → Playing → ℕ → Playing
 calls_next start s p = record s { made = with_event start s.made (Call p (next_op s p)); next = slice_set s.next p (next_at s p + 1) }
 
--- one more frame of the wire is behind
+-- one more frame of the wire is passed
 abbrev pub passes : Playing → ℕ → ℕ → Playing
 passes s from to = record s { cursors = slice_set s.cursors from (slice_set (slice_index_or s.cursors from []) to (cursor_at s from to + 1)) }

@@ -41,7 +41,7 @@ tick_choices start s n = flat_map (tick_choice start s) (range_with_len 0 n)
 unfoldable pub choices_of : (Op → ℕ → Start) → Playing → List Choice
 choices_of start s = (call_choices start s s.made.processes ++ take_choices start s s.made.processes) ++ tick_choices start s s.made.processes
 
--- A frame is taken. It is behind then, unless the next word says that it can be taken again.
+-- A frame is taken. It is passed then, unless the next word says that it can be taken again.
 abbrev pub takes_next : {W : Type 0} → (Op → ℕ → Start) → (W → ℕ × W) → ℕ → Playing → ℕ → ℕ → ℕ → W → Playing × W
 takes_next start next_word repeat s from to number w =
     (cond (says repeat (next_word w).0) (makes start s (Take from to number)) (passes (makes start s (Take from to number)) from to), (next_word w).1)

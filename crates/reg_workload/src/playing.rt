@@ -34,8 +34,7 @@ pub(crate) struct Player<'w, F: FrontEnd, A: Allocator + Copy, W: WireStore<A>> 
     scripts: &'w [Vec<Op, A>],
     /// How many operations of its script each process has called.
     next: Vec<usize, A>,
-    /// How many frames of each wire are behind, so that none of them is chosen any more, by sender and then by
-    /// receiver.
+    /// How many frames of each wire are passed, so that they aren't chosen any more, by sender and then by receiver.
     cursors: Vec<[u32; WIDTH], A>,
 }
 
@@ -206,7 +205,7 @@ impl<'w, F: FrontEnd, A: Allocator + Copy, W: WireStore<A>> Player<'w, F, A, W> 
         self.pass(Event::Tick { process })
     }
 
-    /// The first frame of a wire that is not behind.
+    /// The first frame of a wire that is not passed.
     pub(crate) fn frame(&self, from: u8, to: u8) -> Option<u32>
         requires from { from < self.now.made.processes }
         requires to { to < self.now.made.processes }
@@ -223,7 +222,7 @@ impl<'w, F: FrontEnd, A: Allocator + Copy, W: WireStore<A>> Player<'w, F, A, W> 
         }
     }
 
-    /// Takes the first frame of a wire that is not behind.
+    /// Takes the first frame of a wire that is not passed.
     pub(crate) fn take(&mut self, from: u8, to: u8, number: u32) -> Result<(), AllocError>
         requires from { from < self.old.made.processes }
         requires to { to < self.old.made.processes }
@@ -242,7 +241,7 @@ impl<'w, F: FrontEnd, A: Allocator + Copy, W: WireStore<A>> Player<'w, F, A, W> 
         self.pass(Event::Take { from, to, number })
     }
 
-    /// Puts one more frame of a wire behind.
+    /// Passes one more frame of a wire: it isn't chosen any more.
     pub(crate) fn leave(&mut self, from: u8, to: u8)
         requires from { from < self.old.made.processes }
         requires to { to < self.old.made.processes }

@@ -29,7 +29,7 @@ history 4
        3  p0    #1       answer  value 5
 ";
 
-/// The same before the read is answered.
+/// A write that is answered at once, and a read that waits for it and isn't answered yet.
 const UNFINISHED_READ: &str = "awreg report 1
 front local-write
 processes 2
@@ -140,7 +140,7 @@ p0 #1 at 1
 end
 ";
 
-/// What is cut off the report of one process, what is put behind it, and what its check gives then.
+/// What is cut off the report of one process, what is put after it, and what its check gives then.
 const CHANGED: [(&str, &str, Given<'static>); 6] = [
     ("", "", Given::Accepted("serial yes\npoints yes\n")),
     (

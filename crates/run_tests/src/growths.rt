@@ -1,4 +1,4 @@
-//! Each growth of runs refused in turn: the answer is want of memory, or the one with ample memory.
+//! Each growth of runs refused in turn: the answer is out of memory, or the one with ample memory.
 use crate::world_rows::{LINEAR, LOCAL_READ, LOCAL_WRITE, Row};
 use refusing::{Trial, refusals};
 use reg_base::{OpId, Shape};
@@ -82,7 +82,7 @@ fn all_told<F: FrontEnd, A: Allocator + Copy>(
     Ok(Some(text))
 }
 
-/// What a world tells, and its witness. None where memory is wanted.
+/// What a world tells, and its witness. None where memory is refused.
 fn told_with_witness<F: FrontEnd, A: Allocator + Copy>(
     ample: Global,
     world: &World<F, A>,
@@ -106,7 +106,7 @@ fn step_all<F: FrontEnd, A: Allocator + Copy>(
     Ok(())
 }
 
-/// What the world tells after the events. None where memory is wanted, and it has stopped as it should.
+/// What the world tells after the events. None where memory is refused, and it has stopped as it should.
 fn follow<F: FrontEnd, A: Allocator + Copy>(
     ample: Global,
     world: &mut World<F, A>,

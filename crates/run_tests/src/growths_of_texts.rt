@@ -1,4 +1,4 @@
-//! Each growth of what is read and played refused in turn: the answer is want of memory, or the one with ample memory.
+//! Each growth of what is read and played refused in turn: the answer is out of memory, or the one with ample memory.
 use crate::growths::push_kept;
 use crate::plays::SMALL;
 use refusing::{Trial, refusals};
@@ -31,7 +31,7 @@ fn schedule_told<A: Allocator + Copy>(
     Ok(Some(format!(in ample; "{register:?} {events:?}")?))
 }
 
-/// What a schedule says. None where memory is wanted.
+/// What a schedule says. None where memory is refused.
 fn schedule<A: Allocator + Copy>(alloc: A, ample: Global) -> Result<Option<String>, Fail> {
     match parse_schedule(alloc, SCHEDULE) {
         Ok(plan) => schedule_told(ample, &plan),
@@ -74,7 +74,7 @@ fn small_work<A: Allocator + Copy>(alloc: A, ample: Global) -> Result<Workload<A
     Workload::from_table(alloc, &table)
 }
 
-/// What a player makes of a workload. None where memory is wanted for it.
+/// What a player makes of a workload. None where memory is refused for it.
 fn work_told<A: Allocator + Copy>(
     alloc: A,
     ample: Global,

@@ -13,7 +13,7 @@ pub(crate) const STALE_READ: [Entry; 4] = [
     answered!(5, 1, 0, Answer::Value(0)),
 ];
 
-/// A history of so many processes on one register. None where memory is refused, or an entry isn't in place.
+/// A history of `processes` processes on one register. None where memory is refused, or an entry isn't in place.
 pub(crate) fn history_of<A: Allocator + Copy>(
     alloc: A,
     processes: u32,

@@ -1,5 +1,5 @@
 //! Tests of the parts, from shapes to reports and workloads, and of whole runs, by worlds, players and commands, over
-//! their public calls: values and runs worked by hand, refusals, limits, and want of memory at each growth.
+//! their public calls: values and runs worked by hand, refusals, limits, and memory refused at each growth.
 //!
 //! They stand in a crate of their own since a crate with tests is proved twice.
 #![tactic(auto)]

@@ -11,7 +11,7 @@ const LIMITS: [(Event, u32, WorldFault); 2] = [
     (tick!(0), 1_048_576, WorldFault::TooManyEvents),
 ];
 
-/// Whether a world accepts the event so many times, and then refuses it so.
+/// Whether a world accepts the event `count` times, and then refuses it with this fault.
 fn accepts(world: &mut World<Linear>, event: &Event, count: u32, fault: WorldFault) -> bool {
     for _ in 0..count {
         if world.step(event).is_err() {

@@ -2,7 +2,7 @@
 use reg_base::Op;
 use reg_front::{FrontEnd, Start};
 
-/// It answers its writes at once, and casts its reads and swaps.
+/// A front end that answers its writes at once, and casts its reads and swaps.
 pub struct Mixed;
 
 impl FrontEnd for Mixed {

@@ -12,7 +12,7 @@ const EVENTS: [Event; 3] = [call!(0, WRITE_FIVE), call!(0, READ), take!(0, 1, 0)
 
 const LAST: Event = take!(1, 0, 1);
 
-/// The history behind the last event.
+/// The history after the last event.
 const HISTORY: [Entry; 4] = [
     called!(0, 0, 0, WRITE_FIVE),
     answered!(0, 0, 0, Answer::Done),

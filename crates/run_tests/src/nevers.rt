@@ -4,7 +4,7 @@ use reg_base::Op;
 use reg_outcomes::{AllOutcomes, nevers_of, write_all};
 use std::alloc::Global;
 
-/// Writes the text of all outcomes of scripts with so many operations. Whether it is written.
+/// Writes the text of all outcomes of scripts with this number of operations. Tells whether it is written.
 fn writes(bytes: &mut Vec<u8>, alloc: Global, all: &AllOutcomes, operations: u64) -> bool {
     match nevers_of(alloc, all.list.as_slice()) {
         Ok(nevers) => write_all(bytes, operations, all, &nevers).is_ok(),
@@ -12,7 +12,7 @@ fn writes(bytes: &mut Vec<u8>, alloc: Global, all: &AllOutcomes, operations: u64
     }
 }
 
-/// The text of all outcomes of two scripts with so many operations. Empty where there is no memory for it.
+/// The text of all outcomes of two scripts with this number of operations. Empty where there is no memory for it.
 fn text_of(alloc: Global, first: &[Op], second: &[Op], operations: u64) -> String {
     let mut bytes = Vec::new(alloc);
     let written = match outcomes_of(alloc, &[first, second]) {
@@ -58,7 +58,7 @@ fn message_passing(rt: HostRuntime) {
     assert!(rt; ends_so(rt.alloc(), &[WRITE_X, WRITE_Y], &[READ_Y, READ_X], 4, end));
 }
 
-/// Whether no outcome has so many combinations. None where they are too many to list.
+/// Whether this is the number of combinations that no outcome has. None where they are too many to list.
 fn are_so_many(alloc: Global, all: &AllOutcomes, count: Option<usize>) -> bool {
     match nevers_of(alloc, all.list.as_slice()) {
         Ok(Some(nevers)) => count == Some(nevers.len()),
@@ -67,7 +67,8 @@ fn are_so_many(alloc: Global, all: &AllOutcomes, count: Option<usize>) -> bool {
     }
 }
 
-/// Whether no outcome has so many combinations where a register is written once and read so: its values rise.
+/// Whether this is the number of combinations that no outcome has, where a register is written once and read so: its
+/// values rise.
 fn has_count(alloc: Global, reads: &[Op], count: Option<usize>) -> bool {
     match outcomes_of(alloc, &[&[WRITE_X], reads]) {
         Ok(all) => {

@@ -1,4 +1,4 @@
-//! Serial orders and point orders of small histories, found: those worked out by hand, the limit, and want of memory.
+//! Serial orders and point orders of small histories, found: those worked out by hand, the limit, and memory refused.
 use crate::histories::{STALE_READ, history_of};
 use crate::macros::{answered, called, id, point, write_of};
 use crate::values::{READ, WRITE_FIVE};
@@ -20,7 +20,7 @@ fn has_order(alloc: Global, history: &History, order: Option<&[OpId]>) -> bool {
     }
 }
 
-/// The same of the points.
+/// Whether these are the points that are found, which the checker takes, or there are none.
 fn has_points(alloc: Global, history: &History, points: Option<&[Point]>) -> bool {
     match find_points(alloc, history, 100) {
         Ok(Some(found)) => {
@@ -119,7 +119,7 @@ const TWO_WRITES: [Entry; 4] = [
     answered!(3, 1, 0, Answer::Done),
 ];
 
-/// Whether both are found within two stages, and not within one.
+/// Whether both orders are found within two stages, and not within one.
 fn is_limited(alloc: Global, history: &History) -> bool {
     matches!(
         find_serial(alloc, history, 1),
@@ -140,7 +140,7 @@ fn limit(rt: HostRuntime) {
 /// The stale read, with its memory refused.
 struct Starved;
 
-/// The order that is found of it. None where memory is wanted.
+/// The order that is found of the stale read. None where memory is refused.
 fn found_told<A: Allocator + Copy>(
     alloc: A,
     ample: Global,

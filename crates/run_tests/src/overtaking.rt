@@ -102,7 +102,7 @@ end
 ",
         refusal: "serial no: answer at 2\n",
     },
-    // The same with a write that was answered at once.
+    // A read of the new value, and then one of the old value, of a write that was answered at once.
     Overtaking {
         run: Row {
             schedule: "processes 3

@@ -6,7 +6,7 @@ use crate::streams::{demand_each_growth, demand_failing_streams};
 use reg_commands::Command;
 use std::alloc::{AllocError, Global};
 
-/// How the report of its plays begins.
+/// How the report of a play of the small workload begins.
 const SMALL_HEAD: &str = "awreg report 2
 front local-write
 processes 2
@@ -14,7 +14,7 @@ registers 1
 x
 ";
 
-/// The rest of the report of its fair play.
+/// The rest of the report of the small workload's fair play.
 const FAIR: &str = "history 6
        0  p0    #0       call    write x 5
        0  p0    #0       answer  done
@@ -29,7 +29,7 @@ p0 #1
 end
 ";
 
-/// The same up to the third event.
+/// The rest of the report of the small workload's fair play, up to the third event.
 const FAIR_THREE: &str = "history 4
        0  p0    #0       call    write x 5
        0  p0    #0       answer  done
@@ -41,7 +41,8 @@ p0 #0
 end
 ";
 
-/// The same of its seeded plays, by seed, where one frame of five is lost and one of five can be taken again.
+/// The rest of the reports of the small workload's seeded plays, by seed, where one frame of five is lost and one of
+/// five can be taken again.
 const SEEDED: [&str; 10] = [
     "history 6
        0  p1    #0       call    read x
@@ -175,7 +176,7 @@ end
 ",
 ];
 
-/// Two operations of each of three processes, but for the front end.
+/// A workload of two operations of each of three processes, without its front end.
 const THREE: &str = "registers = [\"x\", \"y\"]
 scripts = [[\"write x 1\", \"read y\"], [\"write y 2\", \"read x\"], [\"read x\", \"write x 3\"]]
 seed = 7
@@ -184,7 +185,7 @@ repeat = 10
 budget = 400
 ";
 
-/// The report of its seeded play by each front end.
+/// The report of the seeded play of that workload by each front end.
 const BY_FRONT: [(&str, &str); 3] = [
     (
         "front = \"linear\"\n",
@@ -289,7 +290,7 @@ fn joined(alloc: Global, head: &str, tail: &str) -> Result<String, AllocError> {
     format!(in alloc; "{head}{tail}")
 }
 
-/// Whether a play of the small workload, with lines more, has this rest of its report, which is judged well.
+/// Whether a play of the small workload, with these lines more, has this rest of its report, which is judged well.
 fn has_small_report(alloc: Global, fair: bool, lines: &str, tail: &str) -> bool {
     let play = Command::Play { fair };
     match joined(alloc, SMALL_HEAD, tail) {

@@ -48,7 +48,7 @@ fn add_too_many_reads(text: &mut String) -> Result<(), AllocError> {
     Ok(())
 }
 
-/// Whether a schedule of one process with so many reads is refused at the last one.
+/// Whether a schedule of one process with one read too many is refused at the last one.
 fn is_last_refused(alloc: Global) -> bool {
     let given = Given::Refused("event 65535: too many operations\n");
     let mut reads = String::new(alloc);

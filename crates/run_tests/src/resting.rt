@@ -22,7 +22,7 @@ const TWO: [Event; 6] = [
     take!(0, 1, 2),
 ];
 
-/// The same of three processes.
+/// The events that bring three processes to rest where the first one's cast was lost.
 const THREE: [Event; 15] = [
     tick!(0),
     take!(0, 1, 1),
@@ -53,7 +53,7 @@ fn settles(world: &mut World<Linear>, events: &[Event]) -> bool {
     }
 }
 
-/// Whether the write of the first of so many processes is settled so.
+/// Whether the write of the first of the shape's processes is settled by just these events.
 fn settles_by(alloc: Global, shape: Shape, events: &[Event]) -> bool {
     match World::<Linear>::run(alloc, shape, [WRITE].as_slice()) {
         Ok(mut world) => settles(&mut world, events),
@@ -69,13 +69,13 @@ fn a_lost_write_is_settled_as_worked_by_hand(rt: HostRuntime) {
     }
 }
 
-/// A linear run of so many processes, brought to rest.
+/// A linear run of a number of processes, brought to rest.
 #[derive(Clone, Copy)]
 struct Rests {
     processes: u32,
 }
 
-/// The events of a world at rest. None where memory is wanted, and the world has stopped.
+/// The events of a world at rest. None where memory is refused, and the world has stopped.
 fn rested<A: Allocator + Copy>(
     ample: Global,
     world: &mut World<Linear, A>,

@@ -85,7 +85,8 @@ fn add_lost<F: FrontEnd>(
     Ok(())
 }
 
-/// The same, with the times of the frames that the process put for another.
+/// The finished updates of one process that were delivered nowhere, each with its time, which is that of a frame that
+/// the process put for another.
 fn add_lost_of<F: FrontEnd>(
     lost: &mut Vec<Lost>,
     alloc: Global,
@@ -264,7 +265,7 @@ fn the_witness_is_the_plain_list(rt: HostRuntime) {
     }
 }
 
-/// Whether one of these is neither a delivered cast nor a read from a copy.
+/// Whether one of these ids is neither of a delivered cast nor of a read from a copy.
 fn are_some_lost<F: FrontEnd>(world: &World<F>, ids: &[OpId]) -> bool {
     for id in ids {
         if !is_delivered(world.order(), *id) && !is_read(world.reads(), *id) {
@@ -280,7 +281,7 @@ fn lost_and_reads<F: FrontEnd>(world: &World<F>) -> Result<(bool, usize), AllocE
     Ok((are_some_lost(world, ids.as_slice()), world.reads().len()))
 }
 
-/// The same of the run of this seed.
+/// Whether some cast of the run of this seed is lost, and how many reads are from a copy.
 fn lost_and_reads_of(alloc: Global, shape: Shape, seed: u64) -> Result<(bool, usize), AllocError> {
     let world = played::<LocalWrite>(alloc, shape, seed)?;
     lost_and_reads(&world)

@@ -2,11 +2,11 @@
 use std::io;
 use std::io::{ErrorKind, Read};
 
-/// Gives a text in two parts, at most so many bytes a read. It fails so many times after so many reads.
+/// Gives a text in two parts, at most `most` bytes a read. After `before` reads it fails `times` times.
 #[derive(Drop)]
 pub(crate) struct Source<'a> {
     pub(crate) bytes: &'a [u8],
-    /// What comes behind them.
+    /// What comes after these bytes.
     pub(crate) rest: &'a [u8],
     /// The most bytes of a read.
     pub(crate) most: usize,

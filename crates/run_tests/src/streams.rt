@@ -12,8 +12,8 @@ use std::process::Abort;
 /// The most bytes that a read gives.
 const A_READ: usize = 100;
 
-/// Takes at most three bytes a write, and fails so many times after so many writes, or at each flush. It keeps what is
-/// left of the output that it is to be given, and whether it was given another.
+/// Takes at most three bytes a write, and fails a number of times after a number of writes, or at each flush. It keeps
+/// what is left of the output that it is to be given, and whether it was given another.
 #[derive(Drop)]
 struct FailingWriter<'a> {
     rest: &'a [u8],
@@ -47,7 +47,7 @@ impl Write for FailingWriter<'_> {
     }
 }
 
-/// How a read fails: its error, how many times it comes, and the line that is told. Where none is, the command reads
+/// How a read fails: its error, how many times it comes, and the line that is told. Where no line is, the command reads
 /// on.
 const READ_FAULTS: [(ErrorKind, u32, &str); 4] = [
     (ErrorKind::Other, u32::MAX, "input: read\n"),
@@ -56,7 +56,7 @@ const READ_FAULTS: [(ErrorKind, u32, &str); 4] = [
     (ErrorKind::Interrupted, 2, ""),
 ];
 
-/// So many reads or writes, where they are more than one and not too many to have each fail.
+/// This number of reads or writes, where they are more than one and not too many to have each fail.
 fn within(count: u32) -> Option<u32> {
     if count > 1 && count < 900 {
         Some(count)
@@ -65,7 +65,7 @@ fn within(count: u32) -> Option<u32> {
     }
 }
 
-/// How many reads a command makes where none fails. None where it answers otherwise than so.
+/// How many reads a command makes where none fails. None where it doesn't give this output.
 fn reads_of(alloc: Global, command: Command, input: &str, output: &str) -> Option<u32> {
     let mut reader = Source {
         most: A_READ,
@@ -103,7 +103,7 @@ fn is_read_told(
     gives_from(alloc, command, &mut reader, given) && reader.times == left
 }
 
-/// Whether a command does so where every read up to the last fails in turn.
+/// Whether a command reads on, or tells the first failure, where every read up to the last fails in turn.
 fn is_each_read_told(alloc: Global, command: Command, input: &str, output: &str) -> bool {
     let Some(reads) = reads_of(alloc, command, input, output) else {
         return false;
@@ -133,7 +133,7 @@ fn writes_so(
     status == u8::from(!line.is_empty()) && errors.as_slice() == line.as_bytes() && !writer.differs
 }
 
-/// How many writes a command makes where none fails. None where it answers otherwise than so.
+/// How many writes a command makes where none fails. None where it doesn't give this output.
 fn writes_of(alloc: Global, command: Command, input: &str, output: &str) -> Option<u32> {
     let mut writer = FailingWriter {
         rest: output.as_bytes(),
@@ -149,8 +149,8 @@ fn writes_of(alloc: Global, command: Command, input: &str, output: &str) -> Opti
     }
 }
 
-/// Whether a command tells that the write after so many fails, so many times, or each flush. What it wrote is a first
-/// part of its output.
+/// Whether a command tells that the write after a number of them fails, a number of times, or each flush. What it wrote
+/// is a first part of its output.
 fn is_write_told(
     alloc: Global,
     command: Command,
@@ -169,7 +169,7 @@ fn is_write_told(
     writes_so(alloc, command, input, &mut writer, "output: write\n")
 }
 
-/// Whether a command does so where every write fails in turn, and then the flush.
+/// Whether a command tells of it where every write fails in turn, and then the flush.
 fn is_each_write_told(alloc: Global, command: Command, input: &str, output: &str) -> bool {
     let Some(writes) = writes_of(alloc, command, input, output) else {
         return false;
@@ -206,13 +206,13 @@ enum Ending {
     Unrefused,
     /// It answers as with ample memory in spite of the refusal.
     Whole,
-    /// It tells want of memory behind the refusal, and writes nothing.
+    /// It tells that it is out of memory after the refusal, and writes nothing.
     Wants,
     /// It answers otherwise.
     Other,
 }
 
-/// How a command ended that did this, with this output where memory is ample.
+/// How a command ended that did this, where its output in ample memory is this one.
 fn ending_of(waits: bool, done: (u8, &[u8], &[u8]), output: &str) -> Ending {
     if is_given(done, Given::Accepted(output)) {
         if waits {
@@ -227,7 +227,7 @@ fn ending_of(waits: bool, done: (u8, &[u8], &[u8]), output: &str) -> Ending {
     }
 }
 
-/// How a command ends where the allocation after so many is refused.
+/// How a command ends where the allocation after `before` ones is refused.
 fn refused_after(
     alloc: Global,
     command: Command,

@@ -62,7 +62,7 @@ fn has_order<F: FrontEnd>(world: &World<F>, ids: &[OpId]) -> bool {
     }
 }
 
-/// Whether the world tells what its row says, but for the points.
+/// Whether the world tells what its row says, the points aside.
 fn tells<F: FrontEnd>(world: &World<F>, row: &Row) -> bool {
     world.shape().processes() == row.processes
         && world.accepted() == row.events

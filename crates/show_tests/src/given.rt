@@ -11,7 +11,7 @@ pub(crate) fn is_given(done: (u8, &[u8], &[u8]), given: Given<'_>) -> bool {
     got == status && written == output.as_bytes() && told == faults.as_bytes()
 }
 
-/// What a command wrote, as the answer of a trial. None where it told want of memory, and wrote nothing.
+/// What a command wrote, as the answer of a trial. None where it told that it was out of memory, and wrote nothing.
 pub(crate) fn answer_of(ample: Global, output: Vec<u8>, faults: &[u8]) -> Option<String> {
     if faults == "out of memory\n".as_bytes() && output.is_empty() {
         return None;

@@ -93,7 +93,8 @@ never drawn 0
 ",
 ];
 
-/// The table of so many plays of a workload, from this seed on or from the document's own. Empty where it is refused.
+/// The table of this number of plays of a workload, from this seed on or from the document's own. Empty where it is
+/// refused.
 pub(crate) fn table(alloc: Global, plays: u32, seed: Option<u32>, text: &str) -> String {
     let mut output = Vec::new(alloc);
     let mut errors = Vec::new(alloc);
@@ -118,7 +119,7 @@ pub(crate) fn table(alloc: Global, plays: u32, seed: Option<u32>, text: &str) ->
     }
 }
 
-/// The same of a workload under a front end.
+/// The table of this number of plays of a workload under a front end.
 pub(crate) fn table_under(alloc: Global, plays: u32, front: &str, work: &str) -> String {
     match format!(in alloc; "front = \"{front}\"\n{work}") {
         Ok(text) => table(alloc, plays, None, text.as_str()),
@@ -162,7 +163,7 @@ fn are_allowed(table: &str, allowed: &[&str]) -> bool {
     table.starts_with("plays ") && table.contains("\nunfinished 0\nnever drawn ")
 }
 
-/// Whether all plays of a test under a front end are so.
+/// Whether all plays of a test under a front end are finished, and each outcome is allowed.
 fn is_kept(alloc: Global, test: &Litmus, front: &str) -> bool {
     let table = table_under(alloc, test.plays, front, test.work);
     are_allowed(table.as_str(), test.allowed)
@@ -177,7 +178,7 @@ fn no_outcome_is_seen_that_sequential_consistency_forbids(rt: HostRuntime) {
     }
 }
 
-/// Whether so many plays of a workload under a front end have this table.
+/// Whether this number of plays of a workload under a front end has this table.
 pub(crate) fn has_table(alloc: Global, plays: u32, front: &str, work: &str, right: &str) -> bool {
     let table = table_under(alloc, plays, front, work);
     table.as_str() == right

@@ -10,8 +10,8 @@ scripts = [[\"swap lock 1\"], [\"swap lock 1\"]]
 front = \"linear\"
 ";
 
-/// Process 1 swaps first. Its cast is put again, accepted and counted, and then its acknowledgement; and then it is so
-/// with process 0.
+/// Process 1 swaps first. Its cast is put again, accepted and counted, and then the acknowledgement of it; and then the
+/// same happens for process 0.
 const SECOND: &str = "processes 2
 registers lock
 front linear

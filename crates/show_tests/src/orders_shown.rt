@@ -12,7 +12,7 @@ fn tells(alloc: Global, kind: OrderKind, text: &str, given: Given<'_>) -> bool {
     is_given((status, output.as_slice(), errors.as_slice()), given)
 }
 
-/// A write of process 0 is answered before process 1 reads, which still answers 0. Its own order is none.
+/// A write of process 0 is answered before process 1 reads, which still answers 0. The report's own order is none.
 const STALE: &str = "awreg report 1
 front local-read
 processes 2

@@ -3,8 +3,8 @@
 use crate::litmus::{has_table, table_under};
 use std::alloc::{AllocError, Global};
 
-/// Adds a workload of two processes that write so often, each its own register, with answers at once. Their
-/// interleavings go through a stage for each pair of how often both wrote.
+/// Adds a workload of two processes that write `first` and `second` times, each its own register, with answers at once.
+/// Their interleavings go through a stage for each pair of how often both wrote.
 fn add_writes(text: &mut String, first: u32, second: u32) -> Result<(), AllocError> {
     text.push_str("registers = [\"x\", \"y\"]\nscripts = [[\"write x 1\"")?;
     for _ in 1..first {
@@ -17,7 +17,7 @@ fn add_writes(text: &mut String, first: u32, second: u32) -> Result<(), AllocErr
     text.push_str("]]\n")
 }
 
-/// Whether the table of one play of so many writes ends so.
+/// Whether the table of one play of these numbers of writes ends so.
 fn ends_so(alloc: Global, first: u32, second: u32, end: &str) -> bool {
     let mut work = String::new(alloc);
     let added = add_writes(&mut work, first, second).is_ok();

@@ -199,7 +199,7 @@ fn a_json_reader_reads_the_comments(rt: HostRuntime) {
     }
 }
 
-/// What stands behind these texts, with which the bytes begin.
+/// What stands after these texts, with which the bytes begin.
 fn behind<'b>(bytes: &'b [u8], texts: &[&str]) -> Option<&'b [u8]> {
     let mut rest = bytes;
     for text in texts {
@@ -208,7 +208,7 @@ fn behind<'b>(bytes: &'b [u8], texts: &[&str]) -> Option<&'b [u8]> {
     Some(rest)
 }
 
-/// What stands behind the head of a page.
+/// What stands after the head of a page.
 fn behind_head(page: &[u8]) -> &[u8] {
     behind(page, &HEAD).unwrap_or(&[])
 }

@@ -25,7 +25,8 @@ fn schedule(alloc: Global, seed: Option<u32>, text: &str) -> String {
     }
 }
 
-/// Whether what is made by a seed that is given is what is made by one that is said, and another than by the own one.
+/// Whether what a given seed makes is what the same seed makes where the document says it, and not what the document's
+/// own makes.
 fn is_as_said(given: &str, said: &str, own: &str) -> bool {
     !given.is_empty() && given == said && given != own
 }
@@ -47,7 +48,7 @@ fn counts_from(alloc: Global, seed: u32, said: &str) -> bool {
     is_as_said(by_given.as_str(), by_said.as_str(), by_own.as_str())
 }
 
-/// Whether both are so, where the document says the seed.
+/// Whether schedule and table by this seed are those of the document that says it.
 fn is_taken(alloc: Global, seed: u32) -> bool {
     match format!(in alloc; "{WORK}seed = {seed}\n") {
         Ok(said) => plays_by(alloc, seed, said.as_str()) && counts_from(alloc, seed, said.as_str()),

@@ -7,16 +7,16 @@ use reg_show::{MOST_SHORTENED, Player, show_short_schedule};
 use std::alloc::{AllocError, Global};
 use std::test::Fail;
 
-/// Its fair play is `call 0 write x 5`, `take 0 1 0`, `take 1 0 0`, `take 1 0 1`, which answers the write, and
-/// `take 0 1 1`. The two takes of counts are of no use, and each of the others is.
+/// A workload whose fair play is `call 0 write x 5`, `take 0 1 0`, `take 1 0 0`, `take 1 0 1`, which answers the write,
+/// and `take 0 1 1`. The two takes of counts are of no use, and each of the others is.
 const LONE_WRITE: &str = "front = \"linear\"
 registers = [\"x\"]
 scripts = [[\"write x 5\"], []]
 ";
 
-/// Its fair play is `call 0 write x 5`, `call 1 swap x 6`, `take 0 1 0`, `take 1 0 0`, which answers the write, and
-/// three more events that answer nothing. The write is answered since process 0 hears of the swap, so that this has to
-/// be called, although it isn't answered itself; that process 1 hears of the write is of no use.
+/// A workload whose fair play is `call 0 write x 5`, `call 1 swap x 6`, `take 0 1 0`, `take 1 0 0`, which answers the
+/// write, and three more events that answer nothing. The write is answered since process 0 hears of the swap, so that
+/// this has to be called, although it isn't answered itself; that process 1 hears of the write is of no use.
 const WRITE_AND_SWAP: &str = "front = \"linear\"
 registers = [\"x\"]
 scripts = [[\"write x 5\", \"read x\"], [\"swap x 6\"]]
@@ -31,8 +31,8 @@ call 1 swap x 6
 take 1 0 0
 ";
 
-/// Its fair play is `call 0 write x 5` and `call 1 read x`, which is answered from the copy of process 1 at once. The
-/// write isn't answered, and goes.
+/// A workload whose fair play is `call 0 write x 5` and `call 1 read x`, which is answered from the copy of process 1
+/// at once. The write isn't answered, and goes.
 const READ_BESIDE_A_WRITE: &str = "front = \"local-read\"
 registers = [\"x\"]
 scripts = [[\"write x 5\"], [\"read x\"]]
@@ -45,8 +45,8 @@ front local-read
 call 1 read x
 ";
 
-/// Its fair play is `call 0 write x 5`, `take 0 1 0`, `take 1 0 0` and `call 0 write x 6`. Both writes are answered at
-/// once, and are different operations of one process.
+/// A workload whose fair play is `call 0 write x 5`, `take 0 1 0`, `take 1 0 0` and `call 0 write x 6`. Both writes are
+/// answered at once, and are different operations of one process.
 const TWO_WRITES: &str = "front = \"local-write\"
 registers = [\"x\"]
 scripts = [[\"write x 5\", \"write x 6\"], []]
@@ -119,7 +119,7 @@ p0 #0 at 1
 end
 ";
 
-/// The same, where process 0 has delivered both casts at once.
+/// The report of the run of a short schedule in which process 0 has delivered both casts at once.
 const WRITE_AND_SWAP_REPORT: &str = "awreg report 2
 front linear
 processes 2
@@ -148,7 +148,7 @@ fn a_short_schedule_replays_to_the_same_answers(rt: HostRuntime) {
     }
 }
 
-/// One process alone that reads so often, each time answered at once.
+/// One process alone that reads `count` times, each time answered at once.
 fn reads(alloc: Global, count: usize) -> Result<String, AllocError> {
     let mut text = String::new(alloc);
     text.push_str("front = \"linear\"\nregisters = [\"x\"]\nscripts = [[\"read x\"")?;

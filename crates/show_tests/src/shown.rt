@@ -134,7 +134,7 @@ fn traces_are_those_worked_by_hand(rt: HostRuntime) {
     }
 }
 
-/// Whether what is shown of a text goes out in part where there is so much room for it.
+/// Whether what is shown of a text goes out in part where there is this much room for it.
 fn goes_out_in_part(alloc: Global, showing: Showing, text: &str, whole: &str, room: usize) -> bool {
     let mut buffer = [0u8; 200];
     if room > buffer.len() {
@@ -181,7 +181,7 @@ fn is_drawn(alloc: Global, text: &str) -> bool {
     status == 0 && errors.is_empty() && output.as_slice().starts_with(b"<svg ")
 }
 
-/// Adds a schedule with so many ticks.
+/// Adds a schedule with `count` ticks.
 fn add_ticks(text: &mut String, count: u32) -> Result<(), AllocError> {
     text.push_str("processes 1\nregisters x\nfront linear\n")?;
     for _ in 0..count {
@@ -190,7 +190,7 @@ fn add_ticks(text: &mut String, count: u32) -> Result<(), AllocError> {
     Ok(())
 }
 
-/// A schedule with so many ticks. Empty where there is no memory for it.
+/// A schedule with `count` ticks. Empty where there is no memory for it.
 fn ticks(alloc: Global, count: u32) -> String {
     let mut text = String::new(alloc);
     if add_ticks(&mut text, count).is_err() {

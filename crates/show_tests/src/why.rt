@@ -48,7 +48,7 @@ const REFUSED_TOLD: &str = "event 1: no process
 there is no process 1: the process is 0
 ";
 
-/// Whether an answer for which there is so much room goes out in part.
+/// Whether an answer for which there is this much room goes out in part.
 fn goes_out_in_part(alloc: Global, room: usize) -> bool {
     let mut buffer = [0u8; 80];
     if room > buffer.len() {

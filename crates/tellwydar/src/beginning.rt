@@ -10,7 +10,7 @@ use reg_front::Linear;
 use reg_process::Reply;
 use reg_world::{Event, World, WorldFault};
 
-/// Calls an operation where nothing was called yet. Then the history is this call, with the answer if one came: so much
+/// Calls an operation where nothing was called yet. Then the history is this call, with the answer if one came: that
 /// follows from what `step_reply` says of histories, without the definition of a run.
 ///
 /// # Errors

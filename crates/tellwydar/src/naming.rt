@@ -5,8 +5,8 @@ ghost use Rattle.reg_base.specs.declared.shapes.ShapeFault.TheVariants.{NoRegist
 
 use reg_base::{Names, Shape, ShapeFault};
 
-/// The shape of so many processes that share a register for each name. The number of a name (`Names::number`) is its
-/// register there.
+/// The shape of this number of processes, which share a register for each name. The number of a name (`Names::number`)
+/// is its register there.
 ///
 /// # Errors
 ///

@@ -71,7 +71,8 @@ fn writes_meanwhile(
     first && second
 }
 
-/// The same with couriers at work over the road, and in time.
+/// Whether a write is answered in time, with couriers at work over the road, while the courier of its station is held
+/// with the frame of an earlier one.
 fn writes_in_time<R: Threads + Wait + Abort + Copy + Send + Sync + 'static>(
     rt: R,
     alloc: Global,

@@ -47,7 +47,8 @@ fn events_of(rt: &impl Wait, alloc: Global, parts: Parts<LocalWrite, Holding>) -
     }
 }
 
-/// Has the first courier alone send the frame of a write, and leaves the second one at its place. Whether it was sent.
+/// Has the first courier alone send the frame of a write, and leaves the second one at its place. Tells whether it was
+/// sent.
 fn sends<R: Threads + Wait + Abort + Copy + Send + Sync + 'static>(
     rt: R,
     alloc: Global,

@@ -46,7 +46,7 @@ pub fn last_of<F: FrontEnd, G: Gate + Drop>(
     passes.pop().expect(rt, "a pass")
 }
 
-/// Puts a pass behind the others.
+/// Puts a pass after the others.
 pub fn put_back<F: FrontEnd, G: Gate + Drop>(
     rt: &impl Abort,
     passes: &mut Vec<Pass<F, G>>,
@@ -139,7 +139,7 @@ pub fn perform_apart<
     .expect(&rt, "a thread")
 }
 
-/// What such a pass was told, once it is back behind the others.
+/// What such a pass was told, once it is back after the others.
 pub fn told_apart<
     F: FrontEnd + Send + Sync + 'static,
     G: Gate + Drop + Send + Sync + 'static,
@@ -157,7 +157,7 @@ pub fn told_apart<
 /// How many turns are counted for what is to come: some seconds.
 pub const LONG: u32 = 1_000_000_000;
 
-/// Counts turns until the flag is set, or there were so many. Whether it was set.
+/// Counts turns until the flag is set, or `turns` were counted. Tells whether it was set.
 pub fn wait(flag: &AtomicBool, turns: u32) -> bool {
     for _ in 0..turns {
         if flag.load(Ordering::SeqCst) {

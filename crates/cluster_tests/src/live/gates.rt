@@ -72,7 +72,7 @@ impl Gate for Holding {
 }
 
 /// Performs an operation in a thread of its own, once station 0 is held, and tells that it was answered. The section
-/// that is held isn't in the journal yet, so no place behind it is there to be called at.
+/// that is held isn't in the journal yet, so there is no place after it to be called at.
 fn perform_once_held<R: Threads + Wait + Abort + Copy + Send + Sync + 'static>(
     rt: R,
     pass: Pass<LocalWrite, Holding>,

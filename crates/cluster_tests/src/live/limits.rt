@@ -8,7 +8,7 @@ use std::process::Abort;
 use std::sync::Wait;
 use std::thread::Threads;
 
-/// Whether so many reads are all answered.
+/// Whether `times` reads are all answered.
 fn reads_so_often<F: FrontEnd>(rt: &impl Wait, pass: &mut Pass<F, NoGate>, times: u32) -> bool {
     for _read in 0..times {
         if pass.perform(rt, read(0)).is_err() {
@@ -18,7 +18,7 @@ fn reads_so_often<F: FrontEnd>(rt: &impl Wait, pass: &mut Pass<F, NoGate>, times
     true
 }
 
-/// Whether a new pass is full after so many operations, and no sooner.
+/// Whether a new pass is full after the most operations of a process, and no sooner.
 fn gets_full(rt: &impl Wait, pass: &mut Pass<Linear, NoGate>) -> bool {
     reads_so_often(rt, pass, MOST_OPERATIONS)
         && pass.perform(rt, read(0)) == Err(LiveFault::Full)

@@ -97,7 +97,7 @@ fn pace<R: Threads + Wait + Abort + Copy + Send + Sync + Drop + 'static>(
     .expect(&rt, "a thread")
 }
 
-/// How many sections the journal has just before 10 milliseconds are over, and behind that.
+/// How many sections the journal has just before 10 milliseconds are over, and after that.
 fn lengths_of(
     rt: &impl Wait,
     pass: &mut Pass<LocalWrite, NoGate>,

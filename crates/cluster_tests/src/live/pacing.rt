@@ -23,7 +23,7 @@ pub fn length_of(rt: &impl Wait, pass: &mut Pass<LocalWrite, NoGate>) -> Option<
     }
 }
 
-/// Runs the couriers one after another, so often.
+/// Runs the couriers one after another, `rounds` times.
 fn carry_often(
     rt: &impl Wait,
     parts: &mut Parts<LocalWrite, NoGate>,
@@ -37,7 +37,7 @@ fn carry_often(
     all
 }
 
-/// So many writes of a process, each of which is answered at once.
+/// Makes `times` writes of a process. Tells whether each is answered at once.
 fn write_often(
     rt: &(impl Wait + Abort),
     parts: &mut Parts<LocalWrite, NoGate>,
@@ -100,7 +100,7 @@ fn waits_for_mail(rt: &(impl Wait + Abort), parts: &mut Parts<LocalWrite, NoGate
     written && stopped && own == Some(1) && other == Some(1)
 }
 
-/// Hands each parcel on, and behind the count 2 from process 1 the count 1 once more.
+/// Hands each parcel on, and after the count 2 from process 1 the count 1 once more.
 #[derive(Drop)]
 struct Late {
     alloc: Global,
@@ -119,8 +119,7 @@ impl Road for Late {
     }
 }
 
-/// Whether no look makes a tick behind so many writes all of whose frames come over the road, and behind their
-/// sections.
+/// Whether no look makes a tick after `writes` writes all of whose frames come over the road, and after their sections.
 fn rests_behind(
     rt: &(impl Wait + Abort),
     parts: &mut Parts<LocalWrite, NoGate>,
@@ -170,7 +169,7 @@ fn has_lengths(
         && [first, second, third] == [Some(lengths[0]), Some(lengths[1]), Some(lengths[2])]
 }
 
-/// A write of a process whose frames all come: at once, or behind a tick where they are lost first.
+/// A write of a process whose frames all come: at once, or after a tick where they are lost first.
 fn comes(
     rt: &(impl Wait + Abort),
     parts: &mut Parts<LocalWrite, NoGate>,
@@ -232,7 +231,7 @@ fn plays(
     }
 }
 
-/// The cluster of so many processes in which a scene was played, and whether it went as it should.
+/// The cluster, of a number of processes, in which a scene was played, and whether it went as it should.
 fn played(
     rt: &(impl Wait + Abort),
     alloc: Global,
@@ -244,7 +243,7 @@ fn played(
     (right, shut(rt, alloc, parts))
 }
 
-/// Whether a scene goes as it should, and the cluster has so many events then.
+/// Whether a scene goes as it should, and the cluster then has this number of events.
 fn ends_with(
     rt: &(impl Wait + Abort),
     alloc: Global,
@@ -330,7 +329,7 @@ fn frames_are_sent_though_mail_waits(rt: HostRuntime) {
     assert!(rt; rests_after(&rt, rt.alloc(), &Scene::BothWrite, &[0, 1]));
 }
 
-/// Writes and reads so often, in a thread of its own. The pass, and whether all were answered.
+/// Writes and reads a number of times, in a thread of its own. Gives the pass, and whether all were answered.
 fn perform_apart<R: Threads + Wait + Abort + Copy + Send + Sync + 'static>(
     rt: R,
     pass: Pass<Linear, NoGate>,

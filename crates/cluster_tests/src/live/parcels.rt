@@ -63,7 +63,7 @@ fn litter_is_dropped(rt: HostRuntime) {
 /// How many writes are sent over a rough road.
 const WRITES: u64 = 12;
 
-/// Takes a frame of this number where so many were accepted, and adds the count that is answered.
+/// Takes a frame of this number where `accepted` frames were accepted, and adds the count that is answered.
 fn take(counts: &mut Vec<u64>, accepted: &mut u64, number: u64) -> bool {
     if number == *accepted {
         *accepted = accepted.wrapping_add(1);
@@ -73,7 +73,7 @@ fn take(counts: &mut Vec<u64>, accepted: &mut u64, number: u64) -> bool {
 
 /// The counts that answer the frames which come out of a rough road, by the rule in words: the first word says whether
 /// a frame is lost, and then no other is drawn; the second whether it comes twice, and the third whether it is kept
-/// back behind the next one.
+/// back until after the next one.
 fn expected(alloc: Global, seed: u64, loss: u32, repeat: u32) -> Vec<u64> {
     let mut words = SeedWords::new(seed);
     let mut counts = Vec::new(alloc);
@@ -128,8 +128,8 @@ pub fn carry(rt: &impl Wait, parts: &mut Parts<LocalWrite, NoGate>, road: &impl 
     stopped
 }
 
-/// Has process 0 write so often, and carries its frames over a road, and what answers them nowhere. Whether the
-/// couriers could be run.
+/// Has process 0 write a number of times, and carries its frames over a road, and what answers them nowhere. Tells
+/// whether the couriers could be run.
 fn writes_over(
     rt: &(impl Wait + Abort),
     parts: &mut Parts<LocalWrite, NoGate>,

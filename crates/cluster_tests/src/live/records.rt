@@ -26,7 +26,7 @@ const ENTRY: LogEntry = LogEntry {
     }),
 };
 
-/// The same answered with a place that no cast was delivered at.
+/// The write, answered with a place that no cast was delivered at.
 const MISPLACED: LogEntry = LogEntry {
     step: CALL,
     reply: Some(Reply {
@@ -134,7 +134,8 @@ fn judges<A: Allocator + Copy>(
     Ok(is_said(packed, row)? && plain)
 }
 
-/// The same, with the log and the receipts of the row put into these lists, which are empty.
+/// Whether `verify` and `verify_in` say of one process what they are to say, with the log and the receipts of the row
+/// put into these lists, which are empty.
 fn judges_row<A: Allocator + Copy>(
     shape: Shape,
     alloc: A,

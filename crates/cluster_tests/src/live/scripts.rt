@@ -14,7 +14,7 @@ use std::sync::Wait;
 use std::thread::Threads;
 use std::time::Clock;
 
-/// The place behind the answer of the last operation of a pass.
+/// The place after the answer of the last operation of a pass.
 fn front_of(pass: &Pass<LocalWrite, NoGate>) -> u64 {
     match pass.receipts().last() {
         Some(receipt) => receipt.answered.wrapping_add(1),
@@ -22,7 +22,7 @@ fn front_of(pass: &Pass<LocalWrite, NoGate>) -> u64 {
     }
 }
 
-/// Whether a read by the second of three is called behind the last answer of the first.
+/// Whether a read by the second of three is called after the last answer of the first.
 fn is_called_behind<R: Threads + Wait + Abort + Copy + Send + Sync + 'static>(
     rt: R,
     passes: &mut Vec<Pass<LocalWrite, NoGate>>,
@@ -71,7 +71,7 @@ fn scripts(rt: &impl Abort, alloc: Global, processes: u16) -> Vec<Vec<Op>> {
     scripts
 }
 
-/// Performs the scripts of so many processes, over these registers.
+/// Performs the scripts of the given number of processes, over these registers.
 fn performed<
     F: FrontEnd + Send + Sync + 'static,
     R: Threads + Wait + Clock + Abort + Copy + Send + Sync + 'static,

@@ -221,7 +221,7 @@ fn all_callers_are_told_where_a_station_stops(rt: HostRuntime) {
     assert!(rt; told && entries == 2);
 }
 
-/// Counts turns until so many sections were made, and some more, in which their callers begin to wait.
+/// Counts turns until this number of sections was made, and some more, in which their callers begin to wait.
 fn wait_for_callers(rt: &impl Wait, pass: &mut Pass<Linear, NoGate>, sections: u64) {
     let made = Err(LiveFault::Behind { length: sections });
     for _turn in 0..LONG {

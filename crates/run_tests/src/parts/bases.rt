@@ -133,7 +133,7 @@ fn add_many(names: &mut Vec<String>, alloc: Global, count: u32) -> Result<(), Ou
     Ok(())
 }
 
-/// How many names there are, and why there may not be so many.
+/// How many names there are, and why there may not be that many.
 const COUNTS: [(u32, Option<NamesFault>); 2] = [
     (4096, None),
     (4097, Some(NamesFault::TooManyNames)),

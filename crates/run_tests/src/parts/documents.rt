@@ -82,7 +82,7 @@ fn documents_are_read(rt: HostRuntime) {
 /// A part of a document, and the fault.
 type Refused = (&'static str, WorkloadFault);
 
-/// Demands the fault of each part, with one text before it and another behind it.
+/// Demands the fault of each part, with one text before it and another after it.
 fn all_refused(rt: &(impl AllocGlobal + Abort), before: &str, rows: &[Refused], behind: &str) {
     for (part, fault) in rows {
         let text = format!(in rt.alloc(); "{before}{part}{behind}").expect(rt, "memory");
@@ -211,7 +211,7 @@ const NUMBERS: [Refused; 15] = [
     ("budget = 0\nrepeat = 101", range!(Key::Repeat)),
 ];
 
-/// What stands before each kind of parts, the parts, and what stands behind each.
+/// What stands before each kind of parts, the parts, and what stands after each.
 const REFUSED: [(&str, &[Refused], &str); 4] = [
     ("", &DOCUMENTS, ""),
     ("front = \"linear\"\nregisters = ", &REGISTERS, "\n"),

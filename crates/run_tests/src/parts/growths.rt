@@ -1,4 +1,4 @@
-//! Each growth of the parts refused in turn: the answer is want of memory, or the one with ample memory.
+//! Each growth of the parts refused in turn: the answer is out of memory, or the one with ample memory.
 use crate::macros::{ack, cast, id, point};
 use crate::parts::traces::step_of;
 use crate::report_texts::{NO_POINTS, NO_POINTS_NOW, ONE_PROCESS, ONE_PROCESS_NOW};
@@ -69,7 +69,7 @@ fn push_out<A: Allocator + Copy>(text: &mut String, out: &Outcome<A>) -> Result<
     write!(text, "{frames:?} {delivered:?} {:?}\n", out.reply)
 }
 
-/// What an event gives, and whether memory is wanted at it; the process has stopped then.
+/// What an event gives, and whether memory is refused at it; the process has stopped then.
 fn push_told<A: Allocator + Copy>(
     text: &mut String,
     process: &mut Process<LocalWrite, A>,
@@ -83,7 +83,7 @@ fn push_told<A: Allocator + Copy>(
     }
 }
 
-/// What each event gives. None where one of them wants memory.
+/// What each event gives. None where memory is refused at one of them.
 fn all_told<A: Allocator + Copy>(
     ample: Global,
     process: &mut Process<LocalWrite, A>,
@@ -131,7 +131,7 @@ struct Judged {
     now: &'static str,
 }
 
-/// Whether the report is written as this text. None where memory is wanted.
+/// Whether the report is written as this text. None where memory is refused.
 fn is_written<A: Allocator + Copy>(alloc: A, report: &Report<A>, now: &str) -> Option<bool> {
     let mut out = Vec::new(alloc);
     match write_report(&mut out, report) {
@@ -140,8 +140,8 @@ fn is_written<A: Allocator + Copy>(alloc: A, report: &Report<A>, now: &str) -> O
     }
 }
 
-/// What both checks say of a report, which has the points of a stale read, and whether it is written as this text.
-/// None where one of them wants memory.
+/// What both checks say of a report, which has the points of a stale read, and whether it is written as this text. None
+/// where memory is refused to one of them.
 fn told<A: Allocator + Copy>(
     alloc: A,
     ample: Global,

@@ -12,7 +12,7 @@ macro_rules! stamp {
     };
 }
 
-/// What is received, what is told of it, and what is popped then, with nothing behind it.
+/// What is received, what is told of it, and what is popped then, with nothing after it.
 type Row = (
     Stamp,
     Option<Op>,

@@ -89,7 +89,7 @@ const OF_THREE: [(Use, [u64; 3]); 16] = [
     (got!(1, 3, Ok(())), [1, 0, 2]),
 ];
 
-/// The same with one link alone, and what is then pending.
+/// A use of one link alone, and what is then pending.
 const OF_TWO: [(Use, u64); 9] = [
     (queue!(TWO, 0), 1),
     (queue!(THREE, 1), 2),

@@ -14,7 +14,7 @@ const UNFINISHED: [Entry; 3] = [
     called!(1, 0, 1, READ),
 ];
 
-/// The same with the read answered.
+/// A write at a process, and then a read of it, which is answered.
 const FINISHED: [Entry; 4] = [
     called!(0, 0, 0, WRITE_FIVE),
     answered!(0, 0, 0, Answer::Done),
@@ -33,7 +33,7 @@ const ORDERS: [(&[OpId], Result<(), CheckFault>); 4] = [
     (&[id!(1, 0), id!(0, 0), id!(0, 0)], Err(CheckFault::Twice)),
 ];
 
-/// Its points, and what is said of each.
+/// Points of the stale read, and what is said of each.
 const POINTS: [(&[Point], Result<(), CheckFault>); 3] = [
     (
         &[point!(1, 5), point!(0, 4)],

@@ -367,7 +367,7 @@ fn are_first_sixteen(puts: &[Put]) -> bool {
     number == 16
 }
 
-/// Whether a new process makes so many writes, and then a tick puts the first sixteen frames again.
+/// Whether a new process makes `writes` writes, and then a tick puts the first sixteen frames again.
 fn puts_the_first_sixteen(process: &mut Process<LocalWrite>, writes: u8) -> bool {
     for _write in 0..writes {
         if process.call(WRITE_FIVE).is_err() {

@@ -2,7 +2,8 @@
 use refusing::Refusing;
 use std::alloc::Global;
 
-/// Whether a byte is pushed where there is to be memory, and whether the refusal is then still to come as it is to be.
+/// Whether a byte is pushed exactly where memory is expected, and whether the refusal is then still to come as
+/// expected.
 fn pushes(
     heap: &Refusing<Global>,
     list: &mut Vec<u8, &Refusing<Global>>,

@@ -100,7 +100,7 @@ const OLDER: &str =
 
 const OLDER_HEAD: &str = "processes 1\nregisters x";
 
-/// The same of version 2.
+/// A report of version 2 without entries.
 const NEWER: &str =
     "awreg report 2\nfront linear\nprocesses 1\nregisters 1\nx\nhistory 0\norder 0\nend\n";
 
@@ -328,7 +328,8 @@ fn a_report_is_refused_at_its_line(rt: HostRuntime) {
     demand_refused(&rt, CHANGED.as_slice());
 }
 
-/// The same at the limits of both versions, where the report is still read.
+/// A report, a part of it, and what is put in its place, at the limits of both versions, where the report is still
+/// read.
 const AT_LIMITS: [(&str, &str, &str); 14] = [
     (ONE_PROCESS, "front linear", "front abcdefghijklmnop"),
     (ONE_PROCESS, "processes 1", "processes 16"),

@@ -153,7 +153,7 @@ fn demand_rows<F: FrontEnd>(rt: &(impl Abort + AllocGlobal), all: &mut [Process<
     }
 }
 
-/// So many processes of one register.
+/// The given number of processes, of one register.
 fn all_of<F: FrontEnd>(rt: &(impl Abort + AllocGlobal), processes: u8) -> Vec<Process<F>> {
     let shape = Shape::new(u32::from(processes), 1).expect(rt, "a shape");
     let mut all = Vec::new(rt.alloc());
