@@ -1,6 +1,6 @@
-//! The library for programs in other languages: the functions that C can call, and what they do, as functions over
-//! values: numbers for events, replies, faults and verdicts, histories as rows, commands into buffers, and a world or a
-//! process that a caller holds by a pointer.
+//! The library for programs in other languages: the functions that C can call, and the functions over values that they
+//! call. There are numbers for events, replies, faults and verdicts, histories as rows, commands into buffers, and a
+//! world or a process that a caller holds by a pointer.
 #![tactic(auto)]
 
 mod events;

@@ -64,7 +64,7 @@ pub record NoneOfThree (h : List Entry) (ids : List OpId) : Type 0 where
   pub twice : ¬ HasTwice ids
   pub missing : ¬ HasMissing h ids
 
--- a fault of an order: it is there, and none with a lower number is. `OutOfMemory` says nothing
+-- a fault of an order: it is there, and none that `CheckFault` has before it is. `OutOfMemory` says nothing
 abbrev pub IsSerialFault : ℕ → List Entry → List OpId → CheckFault → Type 0
 IsSerialFault registers h ids Unknown = HasUnknown h ids
 IsSerialFault registers h ids Twice = (¬ HasUnknown h ids) × HasTwice ids

@@ -14,7 +14,7 @@ pub record IsSelected (h : List Entry) (ids : List OpId) (facts : List Fact) : T
   pub selection : IsSelection h ids
   pub facts_of : AreFacts h ids facts
 
--- a fault of a selection: it is there, and none with a lower number is. `OutOfMemory` says nothing
+-- a fault of a selection: it is there, and none that `CheckFault` has before it is. `OutOfMemory` says nothing
 abbrev pub IsSelectionFault : List Entry → List OpId → CheckFault → Type 0
 IsSelectionFault h ids Unknown = HasUnknown h ids
 IsSelectionFault h ids Twice = (¬ HasUnknown h ids) × HasTwice ids

@@ -42,9 +42,9 @@ Answers (Play fair) agrees Wrote text = (agrees ≡ true) × Plays fair Wrote te
 abbrev pub AnswersInPart : Command → Option (List ℕ) → Option (List ℕ) → List ℕ → Type 0
 AnswersInPart command old new text = (agrees : Bool) × Answers command agrees (AppendsPart old new) text
 
--- the text is none of those that the command reads, as a line shows: of a schedule's, the first with which no schedule
--- goes on, and of a report's, the first that may not follow those before it, with its number and its reason; no line of
--- a document is named
+-- the text is not one that the command reads, as a line shows, with its number and its reason: for a schedule the first
+-- line with which no schedule goes on, and for a report the first that may not follow those before it; no line of a
+-- document is named
 abbrev pub IsRefused : Command → ℕ → ReadWhy → List ℕ → Type 0
 IsRefused Replay line why text = ((p : Plan) → IsPlan p → ¬ Spells text p) × (length text ≤ LONGEST_INPUT → (told : Why) × (why ≡ why_of told) × RefusesLine line told text)
 IsRefused Check line why text = ((r : Contents) → ¬ SpellsReport text r) × (length text ≤ LONGEST_INPUT → RefusesReportLine line why text)

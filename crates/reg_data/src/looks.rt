@@ -70,7 +70,7 @@ fn peers<F: FrontEnd, A: Allocator + Copy>(
     Ok(peers)
 }
 
-/// Those of the first `registers` registers that are not 0.
+/// The registers that are not 0, of the first `registers` ones.
 fn kept_among<A: Allocator + Copy>(
     alloc: A,
     values: &Registers<A>,

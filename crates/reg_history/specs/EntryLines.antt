@@ -24,7 +24,7 @@ abbrev pub entry_text : List (List ℕ) → Entry → List ℕ
 entry_text names (Called at id op) = columns_text at id.process id.number (codes "call    " ++ op_text names op)
 entry_text names (Answered at id answer) = columns_text at id.process id.number (codes "answer  " ++ answer_text answer)
 
--- its value has 64 bits
+-- the answer's value has 64 bits
 abbrev pub AnswerFits : Answer → Type 0
 AnswerFits Done = ⊤
 AnswerFits (Value value) = value < 2 ^ 64

@@ -80,7 +80,8 @@ pub record IsWrongItem {X : Type 0} (line_of : X → List ℕ) (Fits : List X �
   pub fewer : length items < count
   pub wrong : IsWrongNext (IsNone items) next why
 
--- The next line is no count; or the lines are a count and fewer elements than it says, and the next one is no element.
+-- The next line is no count; or the lines are a count and fewer elements than it says, and the next one may not follow
+-- them.
 abbrev pub IsWrongCounted : {X : Type 0} → List ℕ → ℕ → ℕ → (X → List ℕ) → (List X → X → Type 0) → (List X → List ℕ → ReadWhy → Type 0) → List (List ℕ) → Option (List ℕ) → ReadWhy → Type 0
 IsWrongCounted mark least limit line_of Fits IsNone [] next why = IsWrongNext (IsNoCount mark least limit) next why
 IsWrongCounted mark least limit line_of Fits IsNone (line ∷ lines) next why =

@@ -8,10 +8,10 @@ use crate::versions::Version;
 
 /// An item of a list of a report, with a line of its own.
 pub trait Listed: Copy {
-    /// The line that spells it.
+    /// The line that spells the item.
     ghost line_of: { Self → List ℕ };
 
-    /// It is within the limits of a report of this version.
+    /// The item is within the limits of a report of this version.
     ghost Fits: { Version → Self → Type 0 };
 
     /// The line has the form of an item's, whatever the limits.

@@ -98,8 +98,8 @@ fn first_fault(fault: NamesFault, before: u64, other: ReadFault) -> ReadFault
     }
 }
 
-/// The first fault of names of which the reading stopped: one of the names that were read stands earlier too, or the
-/// reading stopped for this one.
+/// The first fault of names whose reading stopped: one of the names that were read stands earlier too, or else the
+/// fault that the reading stopped for.
 fn stopped_at<A: Allocator + Copy>(
     names: Vec<String<A>, A>,
     before: u64,
@@ -118,8 +118,8 @@ fn stopped_at<A: Allocator + Copy>(
     }
 }
 
-/// As many names as the count says, each on a line of its own. The first line that is wrong is named: a name that
-/// stands earlier too is, even where a later line is misspelt or not there.
+/// As many names as the count says, each on a line of its own. The first line that is wrong is named: also that of a
+/// name that stands earlier too, where a later line is misspelt or not there.
 fn read_listed<A: Allocator + Copy>(
     alloc: A,
     lines: &mut Lines<'_>,

@@ -22,20 +22,20 @@ pub record IsNever (outcomes : List (List ToldValue)) (told : List ToldValue) : 
   pub each : (k : ℕ) (v : ToldValue) → IsAt told k v → StandsAt outcomes k v
   pub none : (i : ℕ) → ¬ IsAt outcomes i told
 
--- These are all the lists of values that no outcome has so, and they rise, so each stands once.
+-- These are all the lists of which `IsNever` holds, and they rise, so each stands once.
 pub record AreNevers (outcomes nevers : List (List ToldValue)) : Type 0 where
   pub each : (k : ℕ) (told : List ToldValue) → IsAt nevers k told → IsNever outcomes told
   pub all : (told : List ToldValue) → IsNever outcomes told → (k : ℕ) × IsAt nevers k told
   pub rising : (k l : ℕ) (s t : List ToldValue) → IsAt nevers k s → IsAt nevers l t → k < l → slice_cmp told_cmp s t ≡ Less
 
--- There are more of these lists than `most`.
+-- There are more lists of which `IsNever` holds than `most`.
 pub record AreOver (outcomes : List (List ToldValue)) (most : ℕ) : Type 0 where
   pub nevers : List (List ToldValue)
   pub more : most < length nevers
   pub once : (i j : ℕ) (told : List ToldValue) → IsAt nevers i told → IsAt nevers j told → i ≡ j
   pub each : (k : ℕ) (told : List ToldValue) → IsAt nevers k told → IsNever outcomes told
 
--- These are all such lists, and no more than `most`; or None, and there are more.
+-- All the lists of which `IsNever` holds, no more than `most`; or None, where there are more.
 abbrev pub TellsNevers : List (List ToldValue) → ℕ → Option (List (List ToldValue)) → Type 0
 TellsNevers outcomes most None = AreOver outcomes most
 TellsNevers outcomes most (Some nevers) = AreNevers outcomes nevers × (length nevers ≤ most)

@@ -26,7 +26,8 @@ pub record IsTable (n : ℕ) (h : List Entry) (calls : List (List Invocation)) (
   pub answered : (id : OpId) (r : Response) → IsAt (list_of answers id.process) id.number r → IsAnswered h id r.at r.answer
   pub all_answered : (id : OpId) → IsFinished h id → id.number < length (list_of answers id.process)
 
--- what is looked for: an order of this kind, of this history, with no more stages of as many operations than the limit
+-- what is looked for: an order of this kind, of this history, where the same number of operations leads to no more
+-- stages than the limit
 pub record Sought : Type 0 where
   pub shape : Extent
   pub entries : List Entry

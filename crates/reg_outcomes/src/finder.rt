@@ -11,8 +11,8 @@ use reg_checkers::{Entry, History};
 use std::alloc::{AllocError, Allocator};
 use std::marker::Model;
 
-/// What a search for an order goes by. Contracts see the history, which order is looked for, and the most stages of as
-/// many operations.
+/// What a search for an order goes by. Contracts see the history, which order is looked for, and the most stages that
+/// the same number of operations may lead to.
 #[derive(Drop)]
 pub(crate) struct Finder<'a, A: Allocator + Copy> {
     history: &'a History<A>,
@@ -77,7 +77,7 @@ impl<'a, A: Allocator + Copy> Finder<'a, A> {
         self.kind
     }
 
-    /// The most stages that as many operations may lead to.
+    /// The most stages that the same number of operations may lead to.
     pub(crate) fn limit(&self) -> u32
         ensures { result ≡ self.now.limit }
     {

@@ -57,7 +57,7 @@ fn add_longer<A: Allocator + Copy>(
     Ok(())
 }
 
-/// The combinations with one place more, and None where they are more than the outcomes by more than are listed.
+/// The combinations with one place more. None where they outnumber the outcomes by more than are listed.
 fn next_combinations<A: Allocator + Copy>(
     alloc: A,
     outcomes: &[Outcome<A>],

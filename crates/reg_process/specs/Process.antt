@@ -165,7 +165,7 @@ look s op = reply_after s [] op
 abbrev pub done_at_once : State → Reply
 done_at_once s = record { answer = Done; place = s.delivered }
 
--- with the state before delivery
+-- what an event gives once delivery has run, from the state before it
 abbrev pub delivering : State → Option Body → (ℕ → List Frame) → Option Stamp → Option Reply → State × Outcome
 delivering s body frames cast reply = (
   delivered_state s,

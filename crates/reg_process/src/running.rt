@@ -25,7 +25,7 @@ impl Model for Current {
 }
 
 impl Current {
-    /// It runs until its cast is delivered.
+    /// An operation that runs until its cast is delivered.
     pub fn cast(stamp: Stamp, op: Op) -> Current
         ensures { result ≡ Own stamp op }
     {
@@ -34,7 +34,7 @@ impl Current {
         }
     }
 
-    /// It runs until every own cast is delivered.
+    /// An operation that runs until every own cast is delivered.
     pub fn held(op: Op) -> Current
         ensures { result ≡ Held op }
     {

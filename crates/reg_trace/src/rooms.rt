@@ -33,7 +33,8 @@ impl Filled {
         x
     }
 
-    /// Puts a text below the line of a process, a little to the left of x or where that line is free: tells from where.
+    /// Puts a text below the line of a process, from x or where that line is free, with a little more room after it:
+    /// tells from where.
     pub fn put_below(&mut self, process: u8, x: u32, wide: u32) -> u32
         ensures { x ≤ result }
     {

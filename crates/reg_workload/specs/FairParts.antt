@@ -79,8 +79,8 @@ pub record GoesFairly (start : Op → ℕ → Start) (budget : ℕ) (old new : P
   pub fair : IsFair start new
   pub more : length old.made.accepted ≤ length new.made.accepted
 
--- A part of a round: it ends early where the budget is used up, and where it made no event nothing changed and this is
--- so.
+-- A part of a round. It ends early only where the budget is used up. Where it made no event nothing changed, and `rest`
+-- holds unless it ended early.
 pub record RoundPart (start : Op → ℕ → Start) (budget : ℕ) (old new : Playing) (is_full : Bool) (rest : Type 0) : Type 0 where
   pub goes : GoesFairly start budget old new
   pub full : is_full ≡ true → length new.made.accepted ≡ budget

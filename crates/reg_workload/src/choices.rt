@@ -34,7 +34,7 @@ pub(crate) struct Chances {
     ticks: u64,
 }
 
-/// These bits with one that is set or not.
+/// These bits, with the one at a place set or not.
 fn with_bit(bits: u64, place: u8, is_set: bool) -> u64
     requires { place < MOST_PROCESSES }
     ensures few { (n : ℕ) → place < n → bits < 2 ^ n → result < 2 ^ n }

@@ -22,8 +22,8 @@ fn foreign(
     pass
 }
 
-/// How many processes a cluster has, how many of its last passes are left out, of how many processes those clusters
-/// are whose last passes stand beside the others, whether these made a write, and the process of the mismatch.
+/// How many processes a cluster has; how many of its last passes are left out; how many processes each other cluster
+/// has whose last pass stands beside the rest; whether these passes made a write; and the process of the mismatch.
 type Row = (u32, u8, &'static [u32], bool, Option<u8>);
 
 /// The fault of a cluster that is closed so.

@@ -7,7 +7,7 @@ use reg_live::{LiveFault, NoGate, Pacer, Pass};
 use std::sync::Wait;
 
 /// Whether the only process answers a write and a read at once, and refuses a front that is ahead and a register that
-/// isn't.
+/// doesn't exist.
 fn answers_at_once(
     rt: &impl Wait,
     pass: &mut Pass<Linear, NoGate>,
