@@ -16,7 +16,7 @@ pub trait Trial {
 /// What is wrong with a trial.
 #[derive(Clone, Copy, Debug, PartialEq, Eq)]
 pub enum Wrong {
-    /// It is out of memory where none was refused. The allocation after `before` ones was to be refused.
+    /// It is out of memory where no allocation was refused. The refusal, if any, was to come after `before` of them.
     WantsMemory { before: u64 },
     /// It has another answer where the allocation after `before` ones is refused.
     OtherAnswer { before: u64 },

@@ -7,7 +7,7 @@ use Rattle.reg_data.specs.Strings.{escape_of}
 abbrev pub is_plain : ℕ → Bool
 is_plain c = (c == 10) || (nat_le 32 c && (nat_le c 126 && (not (c == 60) && (not (c == 62) && not (c == 38)))))
 
--- a plain character but a backslash, or the escape of a unit
+-- a plain character other than a backslash, or the escape of a unit
 abbrev pub IsPiece : List ℕ → Type 0
 IsPiece piece = ((c : ℕ) × (is_plain c ≡ true) × (not (c == 92) ≡ true) × (piece ≡ c ∷ [])) ⊎ ((u : ℕ) × (piece ≡ escape_of u))
 

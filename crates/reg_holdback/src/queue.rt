@@ -59,8 +59,8 @@ fn is_behind(seen: &[u64], me: u8, stamp: Stamp, process: u8) -> bool
     known < stamp
 }
 
-/// Whether every other process is known to have passed a stamp. The process that was last found not to have is looked
-/// at first.
+/// Whether every other process is known to have passed a stamp. The process that was last found not to have passed one
+/// is looked at first.
 fn is_clear(seen: &[u64], me: u8, stamp: Stamp, behind: &mut u8) -> bool
     requires { length seen.now ≤ MOST_PROCESSES }
     ensures { result ≡ is_clear_by me (slice_index seen.now) (length seen.now) stamp }

@@ -20,7 +20,7 @@ use reg_text::{Lines, TextFault, Why, read_names};
 use std::alloc::{Allocator, Global};
 use std::marker::Model;
 
-/// Why a schedule is refused: the first line that is wrong, or refused memory.
+/// Why a schedule is refused: the first line that is wrong, or `OutOfMemory`.
 pub type ScheduleFault = TextFault;
 
 /// A shape, a name for each register, a front end and the events of a run.

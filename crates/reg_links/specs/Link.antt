@@ -24,7 +24,7 @@ acknowledged o n = record { first = max o.first n; pending = drop (n - o.first) 
 abbrev pub queue_fault : Unacknowledged → Option LinkFault
 queue_fault o = if nat_eq (next_of o) FRAME_NUMBERS then Some NumberFull else None
 
--- the fault that a refusal tells of; refused memory is none
+-- the fault that a refusal tells of; `OutOfMemory` is none
 abbrev pub refusal_of : LinkFault → Option LinkFault
 refusal_of NumberFull = Some NumberFull
 refusal_of OutOfMemory = None

@@ -18,14 +18,13 @@ use Rattle.reg_outcomes.specs.Interleavings.{Stage, first_stage}
 abbrev pub MayCome : List Entry → OpId → Op → Answer → Type 0
 MayCome h id op answer = ((at : ℕ) (given : Answer) → IsAnswered h id at given → given ≡ answer) × (IsFinished h id ⊎ (updates op ≡ true))
 
--- all operations that were answered before this event are placed, where the given number of each process's operations
--- is
+-- all operations that were answered before this event are placed once these numbers of operations are, by process
 abbrev pub ArePlacedBefore : List Entry → List ℕ → ℕ → Type 0
 ArePlacedBefore h next at = (id : OpId) (answered : ℕ) (answer : Answer) → IsAnswered h id answered answer → answered < at → id.number < slice_index next id.process
 
--- What is asked besides of the operation that is placed next, where the given number of each process's operations is
--- placed: nothing for a serial order, and for a point order that all operations that were answered before its call are
--- placed (Wing and Gong 1993).
+-- What is asked besides of the operation that is placed next, once these numbers of operations are placed, by process:
+-- nothing for a serial order, and for a point order that all operations that were answered before its call are placed
+-- (Wing and Gong 1993).
 abbrev pub MayFollow : OrderKind → List Entry → List ℕ → OpId → Type 0
 MayFollow Serial h next id = Unit {0}
 MayFollow Points h next id = (at : ℕ) (op : Op) → IsCalled h id at op → ArePlacedBefore h next at

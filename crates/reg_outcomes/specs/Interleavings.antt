@@ -89,7 +89,7 @@ pub record CountsStages (scripts : List (List Op)) (registers n : ℕ) : Type 0 
   pub led : (k : ℕ) (s : Stage) → IsAt stages k s → (turns : List ℕ) × Leads scripts registers turns s
   pub all : (turns : List ℕ) (s : Stage) → Leads scripts registers turns s → (k : ℕ) × IsAt stages k s
 
--- there are more stages than `most`: turns lead to each of a longer list, in which none stands twice
+-- there are more stages than `most`: turns lead to each stage of a longer list, in which none stands twice
 pub record HasMoreStages (scripts : List (List Op)) (registers most : ℕ) : Type 0 where
   pub stages : List Stage
   pub more : most < length stages

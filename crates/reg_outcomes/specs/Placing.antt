@@ -42,7 +42,7 @@ abbrev pub IsSearched : {A : Type 0} → OrderKind → List Entry → List (Stag
 IsSearched kind h layer (Found turns) = (f : Stage × List ℕ) × In f layer × (f.1 ≡ turns.items) × IsComplete h f.0.next
 IsSearched kind h layer (Open next) = ((f : Stage × List ℕ) → In f layer → ¬ IsComplete h f.0.next) × Adds (IsAfterSome (IsPlacing kind h) layer) [] (entries_of next)
 
--- the ids of operations that stand by process, where the given number of each process's operations is before them
+-- the ids of operations that stand by process, after these numbers of operations of each
 abbrev pub ids_along : List ℕ → List ℕ → List OpId
 ids_along next [] = []
 ids_along next (p ∷ turns) = op_of p (slice_index next p) ∷ ids_along (slice_set next p (slice_index next p + 1)) turns

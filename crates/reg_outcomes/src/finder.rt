@@ -100,15 +100,15 @@ impl<'a, A: Allocator + Copy> Finder<'a, A> {
         self.table.response(id)
     }
 
-    /// Whether all finished operations are placed, where the given number of each process's operations is.
+    /// Whether all finished operations are placed once these numbers of operations are, by process.
     pub(crate) fn is_complete(&self, next: &[u32]) -> bool
         ensures { MatchBool result (IsComplete self.now.entries next.now) (¬ IsComplete self.now.entries next.now) }
     {
         self.table.has_no_more(next)
     }
 
-    /// Whether all operations that were answered before this event are placed, where the given number of each process's
-    /// operations is.
+    /// Whether all operations that were answered before this event are placed once these numbers of operations are, by
+    /// process.
     pub(crate) fn are_placed_before(&self, next: &[u32], at: u32) -> bool
         ensures { IsTrue result ↔ ArePlacedBefore self.now.entries next.now at }
     {

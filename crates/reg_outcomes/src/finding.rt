@@ -34,7 +34,7 @@ fn may_come<A: Allocator + Copy>(finder: &Finder<'_, A>, id: OpId, op: Op, answe
     }
 }
 
-/// Whether the order may have this operation next, where the given number of each process's operations is placed.
+/// Whether the order may have this operation next, once these numbers of operations are placed, by process.
 fn may_follow<A: Allocator + Copy>(
     finder: &Finder<'_, A>,
     next: &[u32],

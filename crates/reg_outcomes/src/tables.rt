@@ -63,7 +63,7 @@ fn item_at<T: Copy, A: Allocator + Copy>(
     lists.get(process)?.get(place).copied()
 }
 
-/// The number of a process's next operation, where the given number of each process's operations is placed.
+/// The number of a process's next operation, once these numbers of operations are placed, by process.
 fn next_of(next: &[u32], process: usize) -> usize
     ensures { result ≡ slice_index next.now process }
 {
@@ -109,7 +109,7 @@ impl<A: Allocator + Copy> Table<A> {
         item_at(&self.responses, usize::from(id.process), id.number as usize)
     }
 
-    /// Whether the given number of operations of each process is no less than that of its answered ones.
+    /// Whether these numbers of operations, by process, are no less than those of the answered ones.
     pub(crate) fn has_no_more(&self, next: &[u32]) -> bool
         ensures { MatchBool result ((p : ℕ) → length (list_of (lists_of self.now.responses.items) p) ≤ slice_index next.now p)
             ((p : ℕ) × (slice_index next.now p < length (list_of (lists_of self.now.responses.items) p))) }
@@ -122,8 +122,8 @@ impl<A: Allocator + Copy> Table<A> {
         true
     }
 
-    /// Whether no process's next operation was answered before this event, where the given number of each process's
-    /// operations is placed.
+    /// Whether no process's next operation was answered before this event, once these numbers of operations are placed,
+    /// by process.
     pub(crate) fn has_none_before(&self, next: &[u32], at: u32) -> bool
         ensures { MatchBool result ((p : ℕ) (r : AnyResponse) → IsAt (list_of (lists_of self.now.responses.items) p) (slice_index next.now p) r → at ≤ r.at)
             ((p : ℕ) × (r : AnyResponse) × IsAt (list_of (lists_of self.now.responses.items) p) (slice_index next.now p) r × (r.at < at)) }

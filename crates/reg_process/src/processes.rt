@@ -157,8 +157,8 @@ impl<F: FrontEnd, A: Allocator + Copy> Process<F, A> {
     }
 
     /// Takes a frame that another process put for it. A data frame out of turn is dropped and answered by the count of
-    /// those accepted; an expected one is accepted, and what is clear then is delivered. A count takes no memory. Nor
-    /// does, where the kept list has room for the answer, a dropped frame, or an acknowledgement that makes no cast
+    /// those accepted; an expected one is accepted, and what is clear then is delivered. A count takes no memory. Where
+    /// the kept list has room for the answer, neither does a dropped frame, nor an acknowledgement that makes no cast
     /// clear.
     // (in line: it runs at each take, and a frame handed on by a call would be copied once more)
     #[inline(always)]

@@ -49,13 +49,13 @@ pub record IsMismatch (start : Op → ℕ → Start) (shape : Extent) (order : L
   pub faithful : IsFaithful start shape order logs world
   pub untold : IsFirstUntold world.history lists p
 
--- why a record is refused, refused memory aside
+-- why a record is refused, `OutOfMemory` aside
 abbrev pub IsRecordFault : (Op → ℕ → Start) → Extent → List ℕ → List (List LogEntry) → List (List Receipt) → CloseFault → Type 0
 IsRecordFault start shape order logs lists (Unfaithful place) = FailsAt start shape order logs place
 IsRecordFault start shape order logs lists (Mismatch p) = IsMismatch start shape order logs lists p
 IsRecordFault start shape order logs lists OutOfMemory = Unit {0}
 
--- why a record is refused, refused memory aside, where no list is compared
+-- why a record is refused, `OutOfMemory` aside, where no list is compared
 abbrev pub IsPlayFault : (Op → ℕ → Start) → Extent → List ℕ → List (List LogEntry) → CloseFault → Type 0
 IsPlayFault start shape order logs (Unfaithful place) = FailsAt start shape order logs place
 IsPlayFault start shape order logs (Mismatch p) = ⊥

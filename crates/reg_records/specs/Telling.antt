@@ -38,7 +38,7 @@ abbrev pub progress_of : ℕ → Option Pending → Progress
 progress_of done None = record { next = done; running = None }
 progress_of done (Some call) = record { next = done + 1; running = Some (record { at = call.at; op = call.op }) }
 
--- as many operations of the process are finished in these entries as was noted, each as its receipt says
+-- how far the process is in these entries: as many operations are finished as `told` says, each as its receipt says
 pub record IsToldIn (es : List Entry) (p : ℕ) (receipts : List Receipt) (told : Matched) : Type 0 where
   pub progress : IsProgressOf es p (progress_of told.done told.running)
   pub within : told.done ≤ length receipts

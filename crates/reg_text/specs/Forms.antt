@@ -10,7 +10,7 @@ abbrev pub is_numeral : List ℕ → Bool
 is_numeral [] = false
 is_numeral (b ∷ bytes) = if b == 48 then length bytes == 0 else list_all is_ascii_digit (b ∷ bytes)
 
--- an ASCII byte but a space
+-- an ASCII byte other than a space
 abbrev pub is_word_byte : ℕ → Bool
 is_word_byte b = is_ascii b && not (b == 32)
 

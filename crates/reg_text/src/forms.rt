@@ -42,7 +42,7 @@ fn are_word_bytes(bytes: &[u8]) -> bool
     bytes.iter().all(|b| b.is_ascii() && *b != b' ')
 }
 
-/// Whether the bytes are a word of ASCII signs but spaces.
+/// Whether the bytes are a word of ASCII signs other than spaces.
 pub fn is_word(bytes: &[u8]) -> bool
     ensures { result ≡ is_word_of bytes.now }
 {

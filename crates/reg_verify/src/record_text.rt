@@ -20,7 +20,7 @@ use reg_text::{Lines, TextFault, Why, expect_line, read_names};
 use std::alloc::{Allocator, Global};
 use std::marker::Model;
 
-/// Why a record is refused: the first line that is wrong, or refused memory.
+/// Why a record is refused: the first line that is wrong, or `OutOfMemory`.
 pub type RecordFault = TextFault;
 
 /// A front end, a shape with a name for each register, and the steps of all processes in one order.

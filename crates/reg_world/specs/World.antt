@@ -126,7 +126,7 @@ whole start n registers events = run start n registers events (empty_world n reg
 abbrev pub run_of : ℕ → World → Run
 run_of registers w = record { registers = registers; history = w.history; casts = w.casts; order = w.order; reads = w.reads }
 
--- the first fault that applies to an event, refused memory aside
+-- the first fault that applies to an event, `OutOfMemory` aside
 abbrev pub call_fault : ℕ → ℕ → State → ℕ → Op → Option WorldFault
 call_fault n registers s p op =
     cond (nat_lt p n)

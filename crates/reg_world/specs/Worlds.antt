@@ -27,7 +27,7 @@ pub record Made : Type 0 where
 abbrev pub run_in : (Op → ℕ → Start) → Made → World
 run_in start w = whole start w.processes w.registers w.accepted
 
--- why an event is refused, refused memory aside
+-- why an event is refused, `OutOfMemory` aside
 abbrev pub refusal : (Op → ℕ → Start) → Made → Event → Option WorldFault
 refusal start w e = cond w.failed (Some Failed) (world_fault w.processes w.registers (run_in start w) e)
 

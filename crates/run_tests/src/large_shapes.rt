@@ -11,7 +11,7 @@ front local-read
 call 63 read x
 ";
 
-/// The report of the last of 64 processes.
+/// The report of the run of `LAST_PROCESS`.
 const LAST_PROCESS_REPORT: &str = "awreg report 2
 front local-read
 processes 64

@@ -185,7 +185,7 @@ repeat = 10
 budget = 400
 ";
 
-/// The report of the seeded play of that workload by each front end.
+/// The report of the seeded play of `THREE` by each front end.
 const BY_FRONT: [(&str, &str); 3] = [
     (
         "front = \"linear\"\n",

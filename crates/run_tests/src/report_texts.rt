@@ -19,7 +19,7 @@ p0 #1 at 1
 end
 ";
 
-/// The report above, in version 2.
+/// `ONE_PROCESS`, in version 2.
 pub(crate) const ONE_PROCESS_NOW: &str = "awreg report 2
 front linear
 processes 1
@@ -55,7 +55,7 @@ p0 #0
 end
 ";
 
-/// The report above, in version 2.
+/// `NO_POINTS`, in version 2.
 pub(crate) const NO_POINTS_NOW: &str = "awreg report 2
 front local-read
 processes 3

@@ -15,7 +15,7 @@ fn is_judged(alloc: Global, text: &str, line: u64, why: Why) -> bool {
 const SCHEDULE: &str =
     "# a schedule é\n\nprocesses 2\nregisters x y\n#\nfront local-write\ncall 0 write y 5\n\ncall 1 read x\ntake 0 1 4294967295\ntick 255";
 
-/// The events of the schedule.
+/// The events of `SCHEDULE`.
 const EVENTS: [Event; 4] = [
     call!(
         0,

@@ -17,7 +17,7 @@ registers x
 0 take 1 001301010000000000000000020000000000000002 = done 0
 ";
 
-/// The report of that write's run. The write is first delivered by the second process, in event 1.
+/// The report of the run of `WRITE`. The write is first delivered by the second process, in event 1.
 const REPORT: &str = "awreg report 2
 front linear
 processes 2

@@ -11,7 +11,7 @@ registers = [\"x\"]
 scripts = [[\"write x 5\", \"read x\"]]
 ";
 
-/// The report of that workload: with one process there are no frames and no ticks, so it is the same each time.
+/// The report of `ONE`: with one process there are no frames and no ticks, so it is the same each time.
 const ONE_REPORT: &str = "awreg report 2
 front linear
 processes 1
