@@ -140,7 +140,7 @@ fn obey<R: Threads + Wait + Clock + Copy + Send + Sync + 'static, I: Read, W: Wr
 /// Reads a workload, has its scripts performed by threads, and writes the report of the run that they made: one thread
 /// for each script, one for the mail of each process, and one for ticks, over an honest road. Its seed, odds and budget
 /// have no part. The answer is the status: 0, or 1 where something was refused, with the line of the stop on `errors`.
-/// That `errors` fails changes no status. All threads have ended by then.
+/// That `errors` fails changes no status. The threads are joined before, which no clause says.
 pub fn run_live<
     R: Threads + Wait + Clock + Copy + Send + Sync + 'static,
     I: Read,

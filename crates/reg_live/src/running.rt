@@ -61,7 +61,7 @@ impl<F: FrontEnd, G: Gate + Drop> Running<F, G> {
     ///
     /// # Errors
     ///
-    /// Those of `close` of the cluster. All its threads have ended by then.
+    /// Those of `close` of the cluster. Its threads are joined before, which no clause says.
     pub fn close<R: Threads + Wait>(
         self,
         rt: &R,
@@ -144,7 +144,8 @@ fn run_parts<
 ///
 /// # Errors
 ///
-/// `OutOfMemory` where memory or a thread was refused. All threads that were made have ended by then.
+/// `OutOfMemory` where memory or a thread was refused. The threads that were made are joined before, which no clause
+/// says.
 pub fn start<
     F: FrontEnd + Send + Sync + 'static,
     G: Gate + Drop + Send + Sync + 'static,

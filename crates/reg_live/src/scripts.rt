@@ -248,8 +248,8 @@ fn end<F: FrontEnd, R: Threads + Wait, W: WireStore<Global>>(
 ///
 /// # Errors
 ///
-/// `Pass` where a pass was refused, `Close` where the record was, and `OutOfMemory` where memory or a thread was. All
-/// threads that were made have ended by then.
+/// `Pass` where a pass was refused, `Close` where the record was, and `OutOfMemory` where memory or a thread was. The
+/// threads that were made are joined before. No clause says any of this.
 pub fn run_scripts<
     F: FrontEnd + Send + Sync + 'static,
     R: Threads + Wait + Clock + Copy + Send + Sync + 'static,

@@ -303,7 +303,7 @@ fn points_of<A: Allocator + Copy>(
 
 /// A point order of a history, None where there is none (linearizability, Herlihy and Wing 1990). Operations are placed
 /// one after another, each only once all that were answered before its call are placed (Wing and Gong 1993), and each
-/// stage that they lead to is kept once (Lowe 2017). Each point is the event of a call.
+/// stage that they lead to is kept once (Lowe 2017).
 ///
 /// # Errors
 ///
