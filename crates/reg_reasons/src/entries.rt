@@ -1,61 +1,33 @@
 //! Why an entry of a report may not come after those before it.
-ghost use Rattle.std.specs.Prelude.{◌≤◌, IfSome};
-
 use crate::lines_at::Line;
-use crate::report_lines::{Part, ReportLines};
-use crate::saying::put_with;
-use crate::scanning::{behind, front_of, spaces_of, token_of};
-use reg_base::OpId;
-use reg_text::{Sink, numeral_within, skip};
-use std::io::Write;
+use crate::report_lines::{Part, ReportLines, number_on};
+use crate::saying::Notes;
+use reg_text::{left_field, right_field, skip};
+use std::alloc::Allocator;
 
 /// The columns of an entry.
 #[derive(Clone, Copy)]
 struct Columns {
     at: u64,
-    id: OpId,
-    tail: Tail,
-}
-
-#[derive(Clone, Copy)]
-enum Tail {
-    /// A call whose answer is `done`, or a value.
-    Call { is_write: bool },
-    /// An answer that is `done`, or a value.
-    Answer { is_done: bool },
-}
-
-/// The number that begins a column, after spaces.
-fn column_number(line: &[u8], start: usize, most: u64) -> Option<u64>
-    ensures { IfSome result (λ n. n ≤ most) }
-{
-    let column = behind(line, start);
-    numeral_within(token_of(behind(column, spaces_of(column))), most)
-}
-
-fn tail_of(text: &[u8]) -> Tail {
-    match skip(text, b"call    ") {
-        Some(op) => Tail::Call {
-            is_write: op.starts_with(b"write "),
-        },
-        None => Tail::Answer {
-            is_done: text.ends_with(b"done"),
-        },
-    }
+    process: u64,
+    number: u64,
+    is_call: bool,
+    /// Whether the answer is `done` and no value: of a call, the answer that it is to have.
+    is_done: bool,
 }
 
 /// The columns of a line that has them.
 fn columns_of(line: &[u8]) -> Option<Columns> {
-    let at = column_number(front_of(line, 8), 0, u32::MAX as u64)?;
-    let process = column_number(line, 11, u8::MAX as u64)?;
-    let number = column_number(line, 17, u32::MAX as u64)?;
+    let (at, later) = right_field(line, 8, b"  p")?;
+    let (process, others) = left_field(later, 3, b"  #")?;
+    let (number, tail) = left_field(others, 6, b"  ")?;
+    let op = skip(tail, b"call    ");
     Some(Columns {
         at,
-        id: OpId {
-            process: process as u8,
-            number: number as u32,
-        },
-        tail: tail_of(behind(line, 25)),
+        process,
+        number,
+        is_call: op.is_some(),
+        is_done: op.map_or(tail.ends_with(b"done"), |op| op.starts_with(b"write ")),
     })
 }
 
@@ -69,7 +41,7 @@ struct Before {
 }
 
 /// What stands before the line of this number, whose entry is of this process.
-fn stands_before(text: &[u8], number: u64, process: u8) -> Before {
+fn stands_before(text: &[u8], number: u64, process: u64) -> Before {
     let mut before = Before {
         last: None,
         own: None,
@@ -78,10 +50,10 @@ fn stands_before(text: &[u8], number: u64, process: u8) -> Before {
     let count = number.saturating_sub(1) as usize;
     for (walk, line) in ReportLines::new(text).take(count) {
         match walk.part {
-            Part::Processes => before.processes = column_number(line, 10, 255).unwrap_or(0),
+            Part::Processes => before.processes = number_on(line),
             Part::Entry => {
                 before.last = columns_of(line);
-                if before.last.is_some_and(|c| c.id.process == process) {
+                if before.last.is_some_and(|last| last.process == process) {
                     before.own = before.last;
                 }
             }
@@ -91,71 +63,57 @@ fn stands_before(text: &[u8], number: u64, process: u8) -> Before {
     before
 }
 
+const FALLS: &str = "event {} doesn't come behind event {}, of the line before\n";
+
 const NEXT: &str = "the next operation of process {} is #{}\n";
 
-fn put_last<W: Write>(sink: &mut Sink<'_, W>, entry: Columns, last: Columns) {
-    let text = "event {} doesn't come behind event {}, of the line before\n";
-    put_with(sink, text, &[entry.at, last.at]);
-}
-
-/// Puts why a call may not come here.
-fn put_call<W: Write>(sink: &mut Sink<'_, W>, entry: Columns, before: Before) {
+/// Why a call may not come here: a text, and the numbers in it.
+fn why_no_call(entry: Columns, before: Before) -> (&'static str, [u64; 3]) {
+    let process = entry.process;
     if let Some(last) = before.last
         && entry.at <= last.at
     {
-        return put_last(sink, entry, last);
+        return (FALLS, [entry.at, last.at, 0]);
     }
-    let process = entry.id.process as u64;
-    let Some(own) = before.own else {
-        return put_with(sink, NEXT, &[process, 0]);
-    };
-    let number = own.id.number as u64;
-    if let Tail::Call { .. } = own.tail {
-        let text = "p{} #{}, called at event {}, is not answered yet\n";
-        return put_with(sink, text, &[process, number, own.at]);
+    match before.own {
+        Some(own) if own.is_call => {
+            let text = "p{} #{}, called at event {}, is not answered yet\n";
+            (text, [process, own.number, own.at])
+        }
+        Some(own) => (NEXT, [process, own.number.saturating_add(1), 0]),
+        None => (NEXT, [process, 0, 0]),
     }
-    put_with(sink, NEXT, &[process, number.saturating_add(1)]);
 }
 
-/// Puts why an answer may not come here.
-fn put_answer<W: Write>(sink: &mut Sink<'_, W>, entry: Columns, before: Before, is_done: bool) {
-    let process = entry.id.process as u64;
-    let Some(
-        Columns {
-            id,
-            tail: Tail::Call { is_write },
-            ..
-        },
-    ) = before.own
-    else {
-        return put_with(sink, "process {} runs no operation\n", &[process]);
-    };
-    if id != entry.id {
-        let numbers = [process, id.process as u64, id.number as u64];
-        put_with(sink, "process {} runs p{} #{}\n", &numbers);
-    } else if is_write && !is_done {
-        sink.put(b"a write is answered by done\n");
-    } else if is_done && !is_write {
-        sink.put(b"a read and a swap are answered by a value\n");
-    } else if let Some(last) = before.last {
-        put_last(sink, entry, last);
+/// Why an answer may not come here: a text, and the numbers in it.
+fn why_no_answer(entry: Columns, before: Before) -> (&'static str, [u64; 3]) {
+    let process = entry.process;
+    let last = before.last.map_or(0, |last| last.at);
+    match before.own {
+        Some(own) if own.is_call && own.number != entry.number => {
+            ("process {} runs p{} #{}\n", [process, process, own.number])
+        }
+        Some(own) if own.is_call && own.is_done == entry.is_done => (FALLS, [entry.at, last, 0]),
+        Some(own) if own.is_call && own.is_done => ("a write is answered by done\n", [0; 3]),
+        Some(own) if own.is_call => ("a read and a swap are answered by a value\n", [0; 3]),
+        _ => ("process {} runs no operation\n", [process, 0, 0]),
     }
 }
 
 /// Puts why the entry of this line may not come there.
-pub fn explain_entry<W: Write>(sink: &mut Sink<'_, W>, text: &[u8], line: Line<'_>) {
+pub fn explain_entry<A: Allocator + Copy>(notes: &mut Notes<'_, A>, text: &[u8], line: Line<'_>) {
     let Some(entry) = columns_of(line.bytes) else {
         return;
     };
-    let process = entry.id.process;
-    let before = stands_before(text, line.number, process);
-    if process as u64 >= before.processes {
+    let before = stands_before(text, line.number, entry.process);
+    let (text, numbers) = if entry.process >= before.processes {
         let last = before.processes.saturating_sub(1);
         let text = "there is no process {}: the report has processes 0 to {}\n";
-        return put_with(sink, text, &[process as u64, last]);
-    }
-    match entry.tail {
-        Tail::Call { .. } => put_call(sink, entry, before),
-        Tail::Answer { is_done } => put_answer(sink, entry, before, is_done),
-    }
+        (text, [entry.process, last, 0])
+    } else if entry.is_call {
+        why_no_call(entry, before)
+    } else {
+        why_no_answer(entry, before)
+    };
+    notes.put_with(text, &numbers);
 }

@@ -3,39 +3,19 @@
 use crate::documents::explain_workload;
 use crate::entries::explain_entry;
 use crate::events::explain_event;
-use crate::forms::Form;
-use crate::lines_at::{Line, kept_before, line_at};
+use crate::forms::{EVENT_LINE, HEAD};
+use crate::lines_at::{Line, kept_at, kept_before, line_at, names_on};
 use crate::orders::RefusedList;
-use crate::report_lines::{Walk, form_at, report_names, walk_to};
-use crate::report_words::{miscounted, wanted_part};
-use crate::saying::{put_misfit, put_place, put_texts, put_with};
+use crate::report_lines::{Part, walk_to};
+use crate::saying::Notes;
 use crate::scanning::misfit_of;
-use crate::schedule_lines::{form_of_line, head_line, schedule_names};
-use crate::wanting::Misfit;
+use crate::wanting::Form;
 use reg_base::limits::MOST_EVENTS;
 use reg_commands::{Command, Fault, Verdict, Verdicts};
 use reg_history::{ReadWhy, Report};
-use reg_text::Sink;
 use std::alloc::{AllocError, Allocator, Global};
-use std::io::Write;
 
-/// Puts a line, the place there that doesn't fit, and why.
-fn put_refused<A: Allocator + Copy, W: Write>(
-    alloc: A,
-    sink: &mut Sink<'_, W>,
-    line: Line<'_>,
-    names: &[&[u8]],
-    misfit: Misfit<'_>,
-) -> Result<(), AllocError> {
-    put_place(sink, line, misfit.at);
-    put_misfit(alloc, sink, names, misfit)
-}
-
-/// Puts that the text ends before a line that says this.
-fn put_too_early<W: Write>(sink: &mut Sink<'_, W>, wanted: &str) {
-    let words = "the text ends before a line that it needs: ";
-    put_texts(sink, &[words, wanted, "\n"]);
-}
+const TOO_EARLY: &str = "the text ends before a line that it needs: ";
 
 /// Where a text is refused: the number of a line of it, which it may end before, and why.
 #[derive(Clone, Copy)]
@@ -45,71 +25,63 @@ struct RefusedLine<'a> {
     why: ReadWhy,
 }
 
-impl<'a> RefusedLine<'a> {
-    /// The first place of the line that doesn't fit a form.
-    fn misfit(&self, line: Line<'a>, form: Form, names: &[&[u8]]) -> Option<Misfit<'a>> {
-        misfit_of(line.bytes, form, names, self.why != ReadWhy::Form)
+impl RefusedLine<'_> {
+    /// Puts the line, and where it has one, the first place that doesn't fit a form, and why. False where all fits.
+    fn put_misfit<A: Allocator + Copy>(
+        &self,
+        notes: &mut Notes<'_, A>,
+        line: Line<'_>,
+        form: Form,
+        names: &[&[u8]],
+    ) -> bool {
+        let misfit = misfit_of(line.bytes, form, names, self.why != ReadWhy::Form);
+        notes.put_place(line, misfit.map_or(0, |misfit| misfit.at));
+        if let Some(misfit) = misfit {
+            notes.put_misfit(names, misfit);
+        }
+        misfit.is_some()
     }
 
-    fn explain_in_schedule<A: Allocator + Copy, W: Write>(
+    fn explain_in_schedule<A: Allocator + Copy>(
         &self,
-        alloc: A,
-        sink: &mut Sink<'_, W>,
+        notes: &mut Notes<'_, A>,
     ) -> Result<(), AllocError> {
         let place = kept_before(self.text, self.number);
+        let (wanted, form) = HEAD.get(place).copied().unwrap_or(("an event", EVENT_LINE));
         let Some(line) = line_at(self.text, self.number) else {
-            put_too_early(sink, head_line(place));
+            notes.put(&[TOO_EARLY, wanted, "\n"]);
             return Ok(());
         };
-        let names = schedule_names(alloc, self.text)?;
-        match self.misfit(line, form_of_line(place), names.as_slice()) {
-            Some(misfit) => put_refused(alloc, sink, line, names.as_slice(), misfit)?,
-            None => {
-                put_place(sink, line, 0);
-                let words = "a schedule has at most {} events\n";
-                put_with(sink, words, &[MOST_EVENTS as u64]);
-            }
+        let named = kept_at(self.text, 1).map_or(b"".as_slice(), |line| line.bytes);
+        let names = names_on(notes.alloc, named)?;
+        if !self.put_misfit(notes, line, form, names.as_slice()) {
+            let words = "a schedule has at most {} events\n";
+            notes.put_with(words, &[MOST_EVENTS as u64]);
         }
         Ok(())
     }
 
-    fn explain_in_report<A: Allocator + Copy, W: Write>(
+    fn explain_in_report<A: Allocator + Copy>(
         &self,
-        alloc: A,
-        sink: &mut Sink<'_, W>,
+        notes: &mut Notes<'_, A>,
     ) -> Result<(), AllocError> {
-        let walk = walk_to(self.text, self.number);
+        let (walk, names) = walk_to(notes.alloc, self.text, self.number)?;
+        let (wanted, form) = walk.layout();
         match (self.why, line_at(self.text, self.number)) {
             (ReadWhy::End, Some(line)) => {
-                put_place(sink, line, 0);
-                sink.put(b"a report ends with the line end: no line stands behind it\n");
+                notes.put_place(line, 0);
+                notes.put(&["a report ends with the line end: no line stands behind it\n"]);
             }
-            (ReadWhy::End, None) => put_too_early(sink, wanted_part(walk.part)),
             (ReadWhy::Place, Some(line)) => {
-                put_place(sink, line, 0);
-                explain_entry(sink, self.text, line);
+                notes.put_place(line, 0);
+                explain_entry(notes, self.text, line);
             }
-            (_, Some(line)) => self.explain_part(alloc, sink, walk, line)?,
-            (_, None) => {}
-        }
-        Ok(())
-    }
-
-    /// Puts where the line doesn't fit the part of a report that it is.
-    fn explain_part<A: Allocator + Copy, W: Write>(
-        &self,
-        alloc: A,
-        sink: &mut Sink<'_, W>,
-        walk: Walk,
-        line: Line<'a>,
-    ) -> Result<(), AllocError> {
-        let names = report_names(alloc, self.text)?;
-        match self.misfit(line, form_at(walk), names.as_slice()) {
-            Some(misfit) => {
-                put_refused(alloc, sink, line, names.as_slice(), misfit)?;
-                sink.put(miscounted(walk.part, line.bytes).as_bytes());
+            (_, Some(line)) => {
+                if self.put_misfit(notes, line, form, names.as_slice()) {
+                    notes.put(&[walk.miscounted(line.bytes)]);
+                }
             }
-            None => put_place(sink, line, 0),
+            (_, None) => notes.put(&[TOO_EARLY, wanted, "\n"]),
         }
         Ok(())
     }
@@ -123,9 +95,9 @@ pub fn explain_fault<A: Allocator + Copy>(
     text: &str,
     fault: Fault,
 ) -> Result<Vec<u8, A>, AllocError> {
-    let mut notes = Vec::new(alloc);
-    let mut sink = Sink::new(&mut notes);
-    match fault {
+    let mut bytes = Vec::new(alloc);
+    let mut notes = Notes::new(alloc, &mut bytes);
+    let told = match fault {
         Fault::Line { line, why } => {
             let refused = RefusedLine {
                 text: text.as_bytes(),
@@ -133,16 +105,16 @@ pub fn explain_fault<A: Allocator + Copy>(
                 why,
             };
             match command {
-                Command::Check => refused.explain_in_report(alloc, &mut sink)?,
-                _ => refused.explain_in_schedule(alloc, &mut sink)?,
+                Command::Check => refused.explain_in_report(&mut notes),
+                _ => refused.explain_in_schedule(&mut notes),
             }
         }
-        Fault::Event { at, fault } => explain_event(alloc, &mut sink, text, at, fault)?,
-        Fault::Workload { fault } => explain_workload(alloc, global, &mut sink, text, fault)?,
-        _ => {}
-    }
-    sink.finish().map_err(|_| AllocError)?;
-    Ok(notes)
+        Fault::Event { at, fault } => explain_event(&mut notes, text, at, fault),
+        Fault::Workload { fault } => explain_workload(&mut notes, global, text, fault),
+        _ => Ok(()),
+    };
+    told.and(notes.finish())?;
+    Ok(bytes)
 }
 
 /// What explains the first verdict on a report that is no.
@@ -152,19 +124,14 @@ pub fn explain_verdicts<A: Allocator + Copy>(
     report: &Report<A>,
     verdicts: Verdicts,
 ) -> Result<Vec<u8, A>, AllocError> {
-    let mut notes = Vec::new(alloc);
-    let mut sink = Sink::new(&mut notes);
-    match (verdicts.serial, verdicts.points) {
-        (Verdict::No(reason), _) => {
-            let list = RefusedList::order(alloc, text, report)?;
-            list.explain(alloc, &mut sink, reason)?;
-        }
-        (_, Some(Verdict::No(reason))) => {
-            let list = RefusedList::points(alloc, text, report)?;
-            list.explain(alloc, &mut sink, reason)?;
-        }
-        _ => {}
-    }
-    sink.finish().map_err(|_| AllocError)?;
-    Ok(notes)
+    let mut bytes = Vec::new(alloc);
+    let (part, reason) = match (verdicts.serial, verdicts.points) {
+        (Verdict::No(reason), _) => (Part::Id, reason),
+        (_, Some(Verdict::No(reason))) => (Part::Point, reason),
+        _ => return Ok(bytes),
+    };
+    let mut notes = Notes::new(alloc, &mut bytes);
+    let list = RefusedList::new(alloc, text, report, part)?;
+    list.explain(&mut notes, reason).and(notes.finish())?;
+    Ok(bytes)
 }

@@ -6,19 +6,11 @@ use std::alloc::{AllocError, Allocator};
 /// What a history says of one operation.
 #[derive(Clone, Copy)]
 pub struct Fact {
-    pub id: OpId,
     pub op: Op,
     pub called: u32,
     pub answered: Option<Given>,
     /// The first line of the order, or of the points, on which it stands.
     pub stands: Option<u64>,
-}
-
-impl Fact {
-    /// Whether it may stand in an order: it is answered, or it may change the memory.
-    pub fn may_stand(&self) -> bool {
-        self.answered.is_some() || self.op.updates()
-    }
 }
 
 /// An answer, its event, and its line in the report.
@@ -38,11 +30,12 @@ pub struct Facts<A: Allocator + Copy> {
 impl<A: Allocator + Copy> Facts<A> {
     /// The facts of a report, the first entry of which stands on this line.
     pub fn new(alloc: A, report: &Report<A>, first: u64) -> Result<Facts<A>, AllocError> {
-        let mut rows: Vec<Vec<Fact, A>, A> = Vec::new(alloc);
+        let mut facts = Facts {
+            rows: Vec::new(alloc),
+        };
         for _ in 0..report.history().shape().processes() {
-            rows.push(Vec::new(alloc))?;
+            facts.rows.push(Vec::new(alloc))?;
         }
-        let mut facts = Facts { rows };
         for (place, entry) in report.history().entries().iter().enumerate() {
             facts.note(*entry, first.saturating_add(place as u64))?;
         }
@@ -52,39 +45,28 @@ impl<A: Allocator + Copy> Facts<A> {
     /// Notes an entry that stands on this line.
     fn note(&mut self, entry: Entry, line: u64) -> Result<(), AllocError> {
         match entry {
-            Entry::Called { at, id, op } => self.add(Fact {
-                id,
-                op,
-                called: at,
-                answered: None,
-                stands: None,
-            }),
-            Entry::Answered { at, id, answer } => {
-                if let Some(fact) = self.at(id) {
-                    self.set(Fact {
-                        answered: Some(Given { at, answer, line }),
-                        ..fact
-                    });
+            Entry::Called { at, id, op } => {
+                if let Some(row) = self.rows.get_mut(id.process as usize) {
+                    row.push(Fact {
+                        op,
+                        called: at,
+                        answered: None,
+                        stands: None,
+                    })?;
                 }
-                Ok(())
             }
-        }
-    }
-
-    fn add(&mut self, fact: Fact) -> Result<(), AllocError> {
-        if let Some(row) = self.rows.get_mut(fact.id.process as usize) {
-            row.push(fact)?;
+            Entry::Answered { at, id, answer } => {
+                if let Some(fact) = self.at_mut(id) {
+                    fact.answered = Some(Given { at, answer, line });
+                }
+            }
         }
         Ok(())
     }
 
-    /// Puts a fact in the place of the one of its operation.
-    fn set(&mut self, fact: Fact) {
-        if let Some(row) = self.rows.get_mut(fact.id.process as usize) {
-            if let Some(old) = row.get_mut(fact.id.number as usize) {
-                *old = fact;
-            }
-        }
+    fn at_mut(&mut self, id: OpId) -> Option<&mut Fact> {
+        let row = self.rows.get_mut(id.process as usize)?;
+        row.get_mut(id.number as usize)
     }
 
     /// The fact of an operation.
@@ -95,11 +77,8 @@ impl<A: Allocator + Copy> Facts<A> {
 
     /// Notes that an operation stands on this line, where it stands on none before.
     pub fn stand(&mut self, id: OpId, line: u64) {
-        if let Some(fact) = self.at(id) {
-            self.set(Fact {
-                stands: fact.stands.or(Some(line)),
-                ..fact
-            });
+        if let Some(fact) = self.at_mut(id) {
+            fact.stands = fact.stands.or(Some(line));
         }
     }
 }

@@ -1,97 +1,22 @@
-//! The forms of the lines of schedules and of reports, as lists of their parts.
-use crate::wanting::{Range, Step};
+//! The forms of the lines of schedules and of reports.
+use crate::wanting::{Form, Range, Step};
 use reg_base::limits::{LAST_EVENT, MOST_OPERATIONS, MOST_PROCESSES, MOST_REGISTERS};
 use reg_history::{MOST_ENTRIES, MOST_IDS, OLDER_PROCESSES, OLDER_REGISTERS};
 
-/// The form of a line, or of what stands after a word.
-#[derive(Clone, Copy)]
-pub enum Form {
-    Processes,
-    Names,
-    Front,
-    Event,
-    EventCall,
-    EventTake,
-    EventTick,
-    Op,
-    Read,
-    Write,
-    Version,
-    ReportFront,
-    OlderProcesses,
-    Registers,
-    OlderNames,
-    Name,
-    History,
-    Entry,
-    OlderEntry,
-    EntryCall,
-    EntryAnswer,
-    AnswerValue,
-    Order,
-    Id,
-    OlderId,
-    Tail,
-    Points,
-    Point,
-    OlderPoint,
-    LastLine,
-    End,
-    Nothing,
-}
-
-const PROCESS: Range = Range {
-    what: "a process",
-    verb: "is a number",
-    least: 0,
-    most: 255,
-};
-
-const FRAME: Range = Range {
-    what: "the place of a frame",
-    verb: "is a number",
-    least: 0,
-    most: 4_294_967_295,
-};
-
-/// What a value of a register is.
-pub const VALUE: Range = Range {
-    what: "a value",
-    verb: "is a number",
-    least: 0,
-    most: 18_446_744_073_709_551_615,
-};
-
-const PROCESSES: Range = Range {
-    what: "the number of processes",
-    verb: "is",
-    least: 1,
-    most: MOST_PROCESSES as u64,
-};
-
-const OPERATION: Range = Range {
-    what: "the number of an operation",
-    verb: "is",
-    least: 0,
-    most: MOST_OPERATIONS as u64 - 1,
-};
-
-const EVENT: Range = Range {
-    what: "an event",
-    verb: "is a number",
-    least: 0,
-    most: LAST_EVENT as u64,
-};
-
-const IDS: Range = Range {
-    what: "the number of lines",
-    verb: "is",
-    least: 0,
-    most: MOST_IDS as u64,
-};
-
 /// The names of the front ends.
 pub const FRONTS: &[&str] = &["linear", "local-read", "local-write"];
+
+/// What a number is, what joins that and its bounds, and these.
+macro_rules! range {
+    ($what:literal $verb:literal $least:literal, $most:expr) => {
+        Range {
+            what: $what,
+            verb: $verb,
+            least: $least,
+            most: $most as u64,
+        }
+    };
+}
 
 /// One of these words.
 macro_rules! word {
@@ -105,10 +30,10 @@ macro_rules! word {
 
 /// One of these words, and the form after each.
 macro_rules! choice {
-    ($($word:literal => $form:ident),*) => {
+    ($($word:literal => $form:expr),*) => {
         Step::Word {
             words: &[$($word),*],
-            forms: &[$(Form::$form),*],
+            forms: &[$($form),*],
         }
     };
 }
@@ -123,127 +48,127 @@ macro_rules! signs {
     };
 }
 
-/// The number of a process in a report of version 2, and of version 1.
-const IN_REPORT: Range = Range {
-    what: "a process",
-    verb: "is a number",
-    least: 0,
-    most: MOST_PROCESSES as u64 - 1,
-};
-
-const IN_OLDER_REPORT: Range = Range {
-    what: "a process",
-    verb: "is a number",
-    least: 0,
-    most: OLDER_PROCESSES as u64 - 1,
-};
-
-const A_PROCESS: Step = Step::Number { range: PROCESS };
-
-const A_VALUE: Step = Step::Number { range: VALUE };
-
-const AN_OPERATION: Step = Step::Number { range: OPERATION };
-
-const AN_EVENT: Step = Step::Number { range: EVENT };
-
-const EVENT_COLUMN: Step = Step::Right { range: EVENT };
-
-const OPERATION_COLUMN: Step = Step::Left {
-    places: 6,
-    words: "a number at the left of 6 places",
-    range: OPERATION,
-};
-
-const FRONT_WORD: Step = word!("front");
-
-const OPS: Step = choice!("read" => Read, "write" => Write, "swap" => Write);
-
-const TAILS: Step = choice!("call" => EntryCall, "answer" => EntryAnswer);
-
-const P: Step = signs!(b"p", "p and a process, as in p0 #0");
-
-const NUMBER_SIGN: Step = signs!(b"#", "# and a number, as in p0 #0");
-
-/// The column of a process.
-macro_rules! process_column {
-    ($range:expr) => {
-        Step::Left {
-            places: 3,
-            words: "a process at the left of 3 places",
-            range: $range,
-        }
-    };
-}
-
-/// The line of an entry.
-macro_rules! entry {
-    ($range:expr) => {
-        &[
-            EVENT_COLUMN,
-            signs!(b"  p", "two spaces and p"),
-            process_column!($range),
-            signs!(b"  #", "two spaces and #"),
-            OPERATION_COLUMN,
-            signs!(b"  ", "two spaces"),
-            TAILS,
-        ]
-    };
-}
-
-/// An operation by its process and number, and these parts after it.
-macro_rules! id {
-    ($range:expr, $($step:expr),*) => {
-        &[
-            P,
-            Step::Number { range: $range },
-            Step::Space,
-            NUMBER_SIGN,
-            AN_OPERATION,
-            $($step),*
-        ]
-    };
-}
-
 /// A word, a number after it, and the end of the line.
 macro_rules! count {
     ($word:literal, $range:expr) => {
         &[
             word!($word),
             Step::Space,
-            Step::Number { range: $range },
+            Step::Number($range),
             Step::End,
         ]
     };
 }
 
-const PROCESSES_LINE: &[Step] = count!("processes", PROCESSES);
+/// A line of names, no more than this.
+macro_rules! names {
+    ($most:expr) => {
+        &[word!("registers"), Step::Space, Step::Names($most as u64)]
+    };
+}
 
-const OLDER_PROCESSES_LINE: &[Step] = count!(
-    "processes",
-    Range {
-        what: "the number of processes",
-        verb: "is",
-        least: 1,
-        most: OLDER_PROCESSES as u64,
-    }
-);
+/// The line of an entry, of a process in this range.
+macro_rules! entry {
+    ($range:expr) => {
+        &[
+            Step::Right,
+            Step::Number(EVENT),
+            signs!(b"  p", "two spaces and p"),
+            Step::Left {
+                places: 3,
+                words: "a process at the left of 3 places",
+                range: $range,
+            },
+            signs!(b"  #", "two spaces and #"),
+            Step::Left {
+                places: 6,
+                words: "a number at the left of 6 places",
+                range: OPERATION,
+            },
+            signs!(b"  ", "two spaces"),
+            choice!("call" => ENTRY_CALL, "answer" => ENTRY_ANSWER),
+        ]
+    };
+}
 
-const NAMES: &[Step] = &[
-    word!("registers"),
-    Step::Names {
-        most: MOST_REGISTERS as u64,
-    },
+/// An operation by its process, in this range, and its number, and these parts after it.
+macro_rules! id {
+    ($range:expr, $($step:expr),*) => {
+        &[
+            signs!(b"p", "p and a process, as in p0 #0"),
+            Step::Number($range),
+            Step::Space,
+            signs!(b"#", "# and a number, as in p0 #0"),
+            Step::Number(OPERATION),
+            $($step),*
+        ]
+    };
+}
+
+/// The point of an operation of a process in this range.
+macro_rules! point {
+    ($range:expr) => {
+        id!(
+            $range,
+            Step::Space,
+            word!("at"),
+            Step::Space,
+            Step::Number(EVENT),
+            Step::End
+        )
+    };
+}
+
+const PROCESS: Range = range!("a process" "is a number" 0, 255);
+
+const IN_REPORT: Range = range!("a process" "is a number" 0, MOST_PROCESSES - 1);
+
+const IN_OLDER_REPORT: Range = range!("a process" "is a number" 0, OLDER_PROCESSES - 1);
+
+const OPERATION: Range = range!("the number of an operation" "is" 0, MOST_OPERATIONS - 1);
+
+const EVENT: Range = range!("an event" "is a number" 0, LAST_EVENT);
+
+const FRAME: Range = range!("the place of a frame" "is a number" 0, 4_294_967_295);
+
+const VALUE: Range = range!("a value" "is a number" 0, 18_446_744_073_709_551_615);
+
+const PROCESS_COUNT: Range = range!("the number of processes" "is" 1, MOST_PROCESSES);
+
+const OLDER_PROCESS_COUNT: Range = range!("the number of processes" "is" 1, OLDER_PROCESSES);
+
+const REGISTER_COUNT: Range = range!("the number of registers" "is" 1, MOST_REGISTERS);
+
+const ENTRY_COUNT: Range = range!("the number of lines of a history" "is" 0, MOST_ENTRIES);
+
+const ID_COUNT: Range = range!("the number of lines" "is" 0, MOST_IDS);
+
+const OPS: Step = choice!("read" => READ, "write" => WRITE, "swap" => WRITE);
+
+const READ: Form = &[Step::Space, Step::Register, Step::NoValue];
+
+const WRITE: Form = &[
+    Step::Space,
+    Step::Register,
+    Step::Space,
+    Step::Number(VALUE),
+    Step::End,
 ];
 
-const OLDER_NAMES: &[Step] = &[
-    word!("registers"),
-    Step::Names {
-        most: OLDER_REGISTERS as u64,
-    },
+/// An operation of a workload.
+pub const OP: Form = &[OPS];
+
+/// The lines of a schedule before its events: what each says, and its form.
+pub const HEAD: &[(&str, Form)] = &[
+    ("processes and a number, as in processes 2", PROCESSES),
+    ("registers and their names, as in registers x y", NAMES),
+    ("front and one of linear, local-read and local-write", FRONT),
 ];
 
-const FRONT: &[Step] = &[
-    FRONT_WORD,
+const NAMES: Form = names!(MOST_REGISTERS);
+
+const FRONT: Form = &[
+    word!("front"),
     Step::Space,
     Step::Word {
         words: FRONTS,
@@ -252,33 +177,25 @@ const FRONT: &[Step] = &[
     Step::End,
 ];
 
-const AN_EVENT_LINE: &[Step] = &[choice!(
-    "call" => EventCall,
-    "take" => EventTake,
-    "tick" => EventTick
-)];
+/// The line of an event.
+pub const EVENT_LINE: Form = &[choice!("call" => CALL, "take" => TAKE, "tick" => TICK)];
 
-const EVENT_CALL: &[Step] = &[Step::Space, A_PROCESS, Step::Space, OPS];
+const CALL: Form = &[Step::Space, Step::Number(PROCESS), Step::Space, OPS];
 
-const EVENT_TAKE: &[Step] = &[
+const TICK: Form = &[Step::Space, Step::Number(PROCESS), Step::End];
+
+const TAKE: Form = &[
     Step::Space,
-    A_PROCESS,
+    Step::Number(PROCESS),
     Step::Space,
-    A_PROCESS,
+    Step::Number(PROCESS),
     Step::Space,
-    Step::Number { range: FRAME },
+    Step::Number(FRAME),
     Step::End,
 ];
 
-const EVENT_TICK: &[Step] = &[Step::Space, A_PROCESS, Step::End];
-
-const OP: &[Step] = &[OPS];
-
-const READ: &[Step] = &[Step::Space, Step::Register, Step::NoValue];
-
-const WRITE: &[Step] = &[Step::Space, Step::Register, Step::Space, A_VALUE, Step::End];
-
-const VERSION: &[Step] = &[
+/// The first line of a report. Of its other lines, what is `OLDER` is of version 1.
+pub const VERSION: Form = &[
     word!("awreg"),
     Step::Space,
     word!("report"),
@@ -287,111 +204,49 @@ const VERSION: &[Step] = &[
     Step::End,
 ];
 
-const REPORT_FRONT: &[Step] = &[FRONT_WORD, Step::Space, Step::FrontEnd, Step::End];
+pub const REPORT_FRONT: Form = &[word!("front"), Step::Space, Step::FrontEnd, Step::End];
 
-const REGISTERS: &[Step] = count!(
-    "registers",
-    Range {
-        what: "the number of registers",
-        verb: "is",
-        least: 1,
-        most: MOST_REGISTERS as u64,
-    }
-);
+pub const PROCESSES: Form = count!("processes", PROCESS_COUNT);
 
-const NAME: &[Step] = &[Step::Name, Step::End];
+pub const OLDER_PROCESSES_LINE: Form = count!("processes", OLDER_PROCESS_COUNT);
 
-const HISTORY: &[Step] = count!(
-    "history",
-    Range {
-        what: "the number of lines of a history",
-        verb: "is",
-        least: 0,
-        most: MOST_ENTRIES as u64,
-    }
-);
+pub const REGISTERS: Form = count!("registers", REGISTER_COUNT);
 
-const ENTRY: &[Step] = entry!(IN_REPORT);
+pub const OLDER_NAMES: Form = names!(OLDER_REGISTERS);
 
-const OLDER_ENTRY: &[Step] = entry!(IN_OLDER_REPORT);
+pub const NAME: Form = &[Step::Name, Step::End];
 
-const ENTRY_CALL: &[Step] = &[signs!(b"    ", "four spaces"), OPS];
+pub const HISTORY: Form = count!("history", ENTRY_COUNT);
 
-const ENTRY_ANSWER: &[Step] = &[
+pub const ENTRY: Form = entry!(IN_REPORT);
+
+pub const OLDER_ENTRY: Form = entry!(IN_OLDER_REPORT);
+
+pub const ORDER: Form = count!("order", ID_COUNT);
+
+pub const ID: Form = id!(IN_REPORT, Step::End);
+
+pub const OLDER_ID: Form = id!(IN_OLDER_REPORT, Step::End);
+
+pub const TAIL: Form = &[choice!("points" => POINTS, "end" => END)];
+
+pub const POINT: Form = point!(IN_REPORT);
+
+pub const OLDER_POINT: Form = point!(IN_OLDER_REPORT);
+
+pub const LAST_LINE: Form = &[word!("end"), Step::End];
+
+pub const NOTHING: Form = &[];
+
+const ENTRY_CALL: Form = &[signs!(b"    ", "four spaces"), OPS];
+
+const ENTRY_ANSWER: Form = &[
     signs!(b"  ", "two spaces"),
-    choice!("done" => End, "value" => AnswerValue),
+    choice!("done" => END, "value" => ANSWER_VALUE),
 ];
 
-const ANSWER_VALUE: &[Step] = &[Step::Space, A_VALUE, Step::End];
+const ANSWER_VALUE: Form = &[Step::Space, Step::Number(VALUE), Step::End];
 
-const ORDER: &[Step] = count!("order", IDS);
+const POINTS: Form = &[Step::Space, Step::Number(ID_COUNT), Step::End];
 
-const ID: &[Step] = id!(IN_REPORT, Step::End);
-
-const OLDER_ID: &[Step] = id!(IN_OLDER_REPORT, Step::End);
-
-const TAIL: &[Step] = &[choice!("points" => Points, "end" => End)];
-
-const POINTS: &[Step] = &[Step::Space, Step::Number { range: IDS }, Step::End];
-
-const POINT: &[Step] = id!(
-    IN_REPORT,
-    Step::Space,
-    word!("at"),
-    Step::Space,
-    AN_EVENT,
-    Step::End
-);
-
-const OLDER_POINT: &[Step] = id!(
-    IN_OLDER_REPORT,
-    Step::Space,
-    word!("at"),
-    Step::Space,
-    AN_EVENT,
-    Step::End
-);
-
-const LAST_LINE: &[Step] = &[word!("end"), Step::End];
-
-const END: &[Step] = &[Step::End];
-
-impl Form {
-    /// The parts of a line of this form.
-    pub fn steps(self) -> &'static [Step] {
-        match self {
-            Form::Processes => PROCESSES_LINE,
-            Form::OlderProcesses => OLDER_PROCESSES_LINE,
-            Form::Names => NAMES,
-            Form::OlderNames => OLDER_NAMES,
-            Form::Front => FRONT,
-            Form::Event => AN_EVENT_LINE,
-            Form::EventCall => EVENT_CALL,
-            Form::EventTake => EVENT_TAKE,
-            Form::EventTick => EVENT_TICK,
-            Form::Op => OP,
-            Form::Read => READ,
-            Form::Write => WRITE,
-            Form::Version => VERSION,
-            Form::ReportFront => REPORT_FRONT,
-            Form::Registers => REGISTERS,
-            Form::Name => NAME,
-            Form::History => HISTORY,
-            Form::Entry => ENTRY,
-            Form::OlderEntry => OLDER_ENTRY,
-            Form::EntryCall => ENTRY_CALL,
-            Form::EntryAnswer => ENTRY_ANSWER,
-            Form::AnswerValue => ANSWER_VALUE,
-            Form::Order => ORDER,
-            Form::Id => ID,
-            Form::OlderId => OLDER_ID,
-            Form::Tail => TAIL,
-            Form::Points => POINTS,
-            Form::Point => POINT,
-            Form::OlderPoint => OLDER_POINT,
-            Form::LastLine => LAST_LINE,
-            Form::End => END,
-            Form::Nothing => &[],
-        }
-    }
-}
+const END: Form = &[Step::End];

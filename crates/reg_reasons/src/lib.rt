@@ -12,10 +12,8 @@ mod forms;
 mod lines_at;
 mod orders;
 mod report_lines;
-mod report_words;
 mod saying;
 mod scanning;
-mod schedule_lines;
 mod toml_places;
 mod wanting;
 

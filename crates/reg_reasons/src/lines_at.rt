@@ -1,6 +1,7 @@
 //! Single lines of a text.
 use crate::scanning::front_of;
-use reg_text::Lines;
+use reg_text::{Lines, skip};
+use std::alloc::{AllocError, Allocator};
 
 /// A line of a text, with no line feed, and its number, the first being 1.
 #[derive(Clone, Copy)]
@@ -50,4 +51,13 @@ pub fn line_of_place(text: &[u8], place: usize) -> (Line<'_>, usize) {
     let number = (feeds as u64).saturating_add(1);
     let bytes = line_at(text, number).map_or(b"".as_slice(), |line| line.bytes);
     (Line { number, bytes }, column)
+}
+
+/// The names on a line of registers, with a space before each.
+pub fn names_on<A: Allocator + Copy>(alloc: A, line: &[u8]) -> Result<Vec<&[u8], A>, AllocError> {
+    let names = skip(line, b"registers").unwrap_or(line);
+    names
+        .split(|b| *b == b' ')
+        .filter(|name| !name.is_empty())
+        .collect(alloc)
 }

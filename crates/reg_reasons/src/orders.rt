@@ -1,28 +1,20 @@
 //! Why the order of a report, or its points, are refused.
 use crate::facts::{Fact, Facts};
 use crate::lines_at::line_at;
-use crate::saying::{put_place, put_with};
+use crate::report_lines::{Part, first_line};
+use crate::saying::Notes;
 use reg_base::{OpId, Registers};
 use reg_commands::Reason;
 use reg_history::{Entry, Report};
-use reg_text::{Sink, put_answer, put_op};
+use reg_text::{put_answer, put_op};
 use std::alloc::{AllocError, Allocator};
-use std::io::Write;
 
-/// The line of the first entry of a report.
-fn first_entry<A: Allocator + Copy>(text: &[u8], report: &Report<A>) -> u64 {
-    if text.starts_with(b"awreg report 1") {
-        6
-    } else {
-        (report.names().count() as u64).saturating_add(6)
-    }
-}
+/// What is told of a line of a report: its number, and a text with these numbers in the places of its `{}`.
+type Told = (u64, &'static str, [u64; 4]);
 
-/// The line of the first operation of the order of a report.
-fn first_of_order<A: Allocator + Copy>(text: &[u8], report: &Report<A>) -> u64 {
-    first_entry(text, report)
-        .saturating_add(report.history().entries().len() as u64)
-        .saturating_add(1)
+/// The numbers in a text about an operation: its process, its own number and these.
+fn numbers_of(id: OpId, third: u64, fourth: u64) -> [u64; 4] {
+    [id.process as u64, id.number as u64, third, fourth]
 }
 
 /// A list of a report that is refused, its order or its points, with what the history says of its operations.
@@ -37,14 +29,19 @@ pub struct RefusedList<'a, A: Allocator + Copy> {
 }
 
 impl<'a, A: Allocator + Copy> RefusedList<'a, A> {
-    fn new(
+    /// The order of a report that this text spells, or where the part is that of points, its points.
+    pub fn new(
         alloc: A,
         text: &'a [u8],
         report: &'a Report<A>,
-        ids: Vec<OpId, A>,
-        first: u64,
+        part: Part,
     ) -> Result<RefusedList<'a, A>, AllocError> {
-        let mut facts = Facts::new(alloc, report, first_entry(text, report))?;
+        let ids: Vec<OpId, A> = match (part, report.points()) {
+            (Part::Point, Some(points)) => points.iter().map(|point| point.id).collect(alloc),
+            _ => report.order().to_vec(alloc),
+        }?;
+        let first = first_line(text, part);
+        let mut facts = Facts::new(alloc, report, first_line(text, Part::Entry))?;
         for (place, id) in ids.iter().enumerate() {
             facts.stand(*id, first.saturating_add(place as u64));
         }
@@ -57,127 +54,108 @@ impl<'a, A: Allocator + Copy> RefusedList<'a, A> {
         })
     }
 
-    /// The order of a report that this text spells.
-    pub fn order(
-        alloc: A,
-        text: &'a [u8],
-        report: &'a Report<A>,
-    ) -> Result<RefusedList<'a, A>, AllocError> {
-        let ids = report.order().to_vec(alloc)?;
-        RefusedList::new(alloc, text, report, ids, first_of_order(text, report))
-    }
-
-    /// The points of a report that this text spells.
-    pub fn points(
-        alloc: A,
-        text: &'a [u8],
-        report: &'a Report<A>,
-    ) -> Result<RefusedList<'a, A>, AllocError> {
-        let points = report.points().unwrap_or(&[]);
-        let ids: Vec<OpId, A> = points.iter().map(|point| point.id).collect(alloc)?;
-        let first = first_of_order(text, report)
-            .saturating_add(report.order().len() as u64)
-            .saturating_add(1);
-        RefusedList::new(alloc, text, report, ids, first)
-    }
-
     /// The line of a place.
     fn line(&self, place: usize) -> u64 {
         self.first.saturating_add(place as u64)
     }
 
-    /// What the history says of the operation at a place.
-    fn fact(&self, place: usize) -> Option<Fact> {
+    /// The operation at a place, and what the history says of it.
+    fn fact(&self, place: usize) -> Option<(OpId, Fact)> {
         let id = self.ids.get(place).copied()?;
-        self.facts.at(id)
-    }
-
-    /// Puts a line of the report.
-    fn put_line<W: Write>(&self, sink: &mut Sink<'_, W>, number: u64) {
-        if let Some(line) = line_at(self.text, number) {
-            put_place(sink, line, 0);
-        }
-    }
-
-    /// Puts a line of the report, an operation, and a text about it with these numbers in the places of its `{}`.
-    fn put_about<W: Write>(
-        &self,
-        sink: &mut Sink<'_, W>,
-        line: u64,
-        id: OpId,
-        text: &str,
-        numbers: &[u64],
-    ) {
-        self.put_line(sink, line);
-        put_with(sink, "p{} #{}", &[id.process as u64, id.number as u64]);
-        put_with(sink, text, numbers);
+        Some((id, self.facts.at(id)?))
     }
 
     /// The first operation that may stand in no order.
-    fn put_unknown<W: Write>(&self, sink: &mut Sink<'_, W>) {
+    fn unknown(&self) -> Option<Told> {
         for (place, id) in self.ids.iter().enumerate() {
-            let line = self.line(place);
-            match self.facts.at(*id) {
-                None => {
-                    self.put_line(sink, line);
-                    let numbers = [id.process as u64, id.number as u64];
-                    return put_with(sink, "the history has no call of p{} #{}\n", &numbers);
+            let text = match self.facts.at(*id) {
+                None => "the history has no call of p{} #{}\n",
+                Some(fact) if fact.answered.is_none() && !fact.op.updates() => {
+                    "p{} #{} is a read that is not answered\n"
                 }
-                Some(fact) if !fact.may_stand() => {
-                    let text = " is a read that is not answered\n";
-                    return self.put_about(sink, line, *id, text, &[]);
-                }
-                Some(_) => {}
-            }
+                Some(_) => continue,
+            };
+            return Some((self.line(place), text, numbers_of(*id, 0, 0)));
         }
+        None
     }
 
     /// The first operation that stands there before.
-    fn put_twice<W: Write>(&self, sink: &mut Sink<'_, W>) {
+    fn twice(&self) -> Option<Told> {
         for (place, id) in self.ids.iter().enumerate() {
             let line = self.line(place);
-            match self.facts.at(*id).and_then(|fact| fact.stands) {
-                Some(earlier) if earlier < line => {
-                    let text = " stands on line {} too\n";
-                    return self.put_about(sink, line, *id, text, &[earlier]);
-                }
-                _ => {}
+            let first = self
+                .facts
+                .at(*id)
+                .and_then(|fact| fact.stands)
+                .unwrap_or(line);
+            if first < line {
+                let text = "p{} #{} stands on line {} too\n";
+                return Some((line, text, numbers_of(*id, first, 0)));
             }
         }
+        None
     }
 
     /// The first answered operation that doesn't stand there.
-    fn put_missing<W: Write>(&self, sink: &mut Sink<'_, W>) {
+    fn missing(&self) -> Option<Told> {
         for entry in self.report.history().entries() {
-            let Entry::Answered { id, .. } = *entry else {
-                continue;
-            };
-            if let Some(
-                Fact {
-                    stands: None,
-                    answered: Some(given),
-                    ..
-                },
-            ) = self.facts.at(id)
+            if let Entry::Answered { id, .. } = *entry
+                && let Some(fact) = self.facts.at(id)
+                && let (Some(given), None) = (fact.answered, fact.stands)
             {
-                let text = " is answered here, and doesn't stand in the order\n";
-                return self.put_about(sink, given.line, id, text, &[]);
+                let text = "p{} #{} is answered here, and doesn't stand in the order\n";
+                return Some((given.line, text, numbers_of(id, 0, 0)));
             }
         }
+        None
     }
 
     /// The first operation after a later one of its process.
-    fn put_own_order<W: Write>(&self, sink: &mut Sink<'_, W>) {
+    fn own_order(&self) -> Option<Told> {
         let mut latest = [0u32; 256];
         for (place, id) in self.ids.iter().enumerate() {
             let last = latest[id.process as usize];
             if id.number < last {
-                let numbers = [id.process as u64, last as u64];
-                let text = " stands behind p{} #{}, which its process called later\n";
-                return self.put_about(sink, self.line(place), *id, text, &numbers);
+                let text = "p{} #{} stands behind p{} #{}, which its process called later\n";
+                let numbers = numbers_of(*id, id.process as u64, last as u64);
+                return Some((self.line(place), text, numbers));
             }
             latest[id.process as usize] = id.number;
         }
+        None
+    }
+
+    /// The operation at a place, whose point isn't between its call and its answer.
+    fn outside(&self, place: usize) -> Option<Told> {
+        let (id, fact) = self.fact(place)?;
+        let (text, answered) = match fact.answered {
+            Some(given) => (
+                "p{} #{} is called at event {} and answered at event {}: its point is not between them\n",
+                given.at,
+            ),
+            None => (
+                "p{} #{} is called at event {} and not answered: its point is not between them\n",
+                0,
+            ),
+        };
+        let numbers = numbers_of(id, fact.called as u64, answered as u64);
+        Some((self.line(place), text, numbers))
+    }
+
+    /// The point at a place, which is below the one before it.
+    fn falling(&self, place: usize) -> Option<Told> {
+        let point = self.report.points()?.get(place.saturating_sub(1))?;
+        let text = "the point before it is at event {}: points never fall\n";
+        Some((self.line(place), text, [point.at as u64, 0, 0, 0]))
+    }
+
+    fn put_told(&self, notes: &mut Notes<'_, A>, told: Told) {
+        let (number, text, numbers) = told;
+        if let Some(line) = line_at(self.text, number) {
+            notes.put_place(line, 0);
+        }
+        notes.put_with(text, &numbers);
     }
 
     /// The memory just before a place.
@@ -191,69 +169,39 @@ impl<'a, A: Allocator + Copy> RefusedList<'a, A> {
         Ok(memory)
     }
 
-    /// What memory answers at a place, and what the report says.
-    fn put_wrong<W: Write>(
-        &self,
-        alloc: A,
-        sink: &mut Sink<'_, W>,
-        place: usize,
-    ) -> Result<(), AllocError> {
-        let Some(fact) = self.fact(place) else {
+    /// Puts what memory answers at a place, and what the report says.
+    fn put_wrong(&self, notes: &mut Notes<'_, A>, place: usize) -> Result<(), AllocError> {
+        let Some((id, fact)) = self.fact(place) else {
             return Ok(());
         };
-        let mut memory = self.memory_before(alloc, place)?;
-        self.put_about(sink, self.line(place), fact.id, " is ", &[]);
-        put_op(sink, self.report.names(), fact.op);
-        if let (Some(answer), Some(given)) = (memory.apply(&fact.op), fact.answered) {
-            sink.put(b": memory answers ");
-            put_answer(sink, answer);
-            sink.put(b" there, and the report says ");
-            put_answer(sink, given.answer);
-            put_with(sink, " on line {}", &[given.line]);
+        let answer = self.memory_before(notes.alloc, place)?.apply(&fact.op);
+        let numbers = numbers_of(id, 0, 0);
+        self.put_told(notes, (self.line(place), "p{} #{} is ", numbers));
+        put_op(&mut notes.sink, self.report.names(), fact.op);
+        if let (Some(answer), Some(given)) = (answer, fact.answered) {
+            notes.put(&[": memory answers "]);
+            put_answer(&mut notes.sink, answer);
+            notes.put(&[" there, and the report says "]);
+            put_answer(&mut notes.sink, given.answer);
+            notes.put_with(" on line {}", &[given.line]);
         }
-        sink.put(b"\n");
+        notes.put(&["\n"]);
         Ok(())
     }
 
-    /// A point that isn't between its call and its answer.
-    fn put_outside<W: Write>(&self, sink: &mut Sink<'_, W>, place: usize) {
-        let Some(fact) = self.fact(place) else {
-            return;
-        };
-        let (text, answered) = match fact.answered {
-            Some(given) => (" is called at event {} and answered at event {}", given.at),
-            None => (" is called at event {} and not answered", 0),
-        };
-        let numbers = [fact.called as u64, answered as u64];
-        self.put_about(sink, self.line(place), fact.id, text, &numbers);
-        sink.put(b": its point is not between them\n");
-    }
-
-    /// A point below the one before it.
-    fn put_falling<W: Write>(&self, sink: &mut Sink<'_, W>, place: usize) {
-        let points = self.report.points().unwrap_or(&[]);
-        if let Some(point) = points.get(place.saturating_sub(1)) {
-            self.put_line(sink, self.line(place));
-            let text = "the point before it is at event {}: points never fall\n";
-            put_with(sink, text, &[point.at as u64]);
-        }
-    }
-
     /// Puts why it is refused.
-    pub fn explain<W: Write>(
-        &self,
-        alloc: A,
-        sink: &mut Sink<'_, W>,
-        reason: Reason,
-    ) -> Result<(), AllocError> {
-        match reason {
-            Reason::Unknown => self.put_unknown(sink),
-            Reason::Twice => self.put_twice(sink),
-            Reason::Missing => self.put_missing(sink),
-            Reason::OwnOrder => self.put_own_order(sink),
-            Reason::Answer { place } => self.put_wrong(alloc, sink, place)?,
-            Reason::Outside { place } => self.put_outside(sink, place),
-            Reason::Falling { place } => self.put_falling(sink, place),
+    pub fn explain(&self, notes: &mut Notes<'_, A>, reason: Reason) -> Result<(), AllocError> {
+        let told = match reason {
+            Reason::Unknown => self.unknown(),
+            Reason::Twice => self.twice(),
+            Reason::Missing => self.missing(),
+            Reason::OwnOrder => self.own_order(),
+            Reason::Answer { place } => return self.put_wrong(notes, place),
+            Reason::Outside { place } => self.outside(place),
+            Reason::Falling { place } => self.falling(place),
+        };
+        if let Some(told) = told {
+            self.put_told(notes, told);
         }
         Ok(())
     }

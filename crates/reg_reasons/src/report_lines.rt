@@ -1,14 +1,17 @@
 //! The lines of a report, part by part.
 ghost use Rattle.std.specs.Iterator.{item_count};
 
-use crate::forms::{Form, VALUE};
-use crate::scanning::behind;
-use crate::schedule_lines::names_on;
-use reg_text::{Lines, numeral_within};
+use crate::forms::{
+    ENTRY, HISTORY, ID, LAST_LINE, NAME, NOTHING, OLDER_ENTRY, OLDER_ID, OLDER_NAMES, OLDER_POINT,
+    OLDER_PROCESSES_LINE, ORDER, POINT, PROCESSES, REGISTERS, REPORT_FRONT, TAIL, VERSION,
+};
+use crate::lines_at::names_on;
+use crate::wanting::Form;
+use reg_text::{Lines, cut_at, numeral};
 use std::alloc::{AllocError, Allocator};
 
 /// What stands on a line of a report.
-#[derive(Clone, Copy)]
+#[derive(Clone, Copy, PartialEq, Eq)]
 pub enum Part {
     Version,
     Front,
@@ -22,7 +25,7 @@ pub enum Part {
     Tail,
     Point,
     End,
-    Behind,
+    After,
 }
 
 /// Where one is in a report: what stands on the next line, and how many such lines are announced.
@@ -34,53 +37,94 @@ pub struct Walk {
     is_older: bool,
 }
 
-/// The number that ends a line, and 0 where none does.
-fn last_number(line: &[u8]) -> u64 {
-    let place = line.iter().position(|b| *b == b' ').unwrap_or(0);
-    numeral_within(behind(line, place.saturating_add(1)), VALUE.most).unwrap_or(0)
+/// The number after the first word of a line, and 0 where none is there.
+pub fn number_on(line: &[u8]) -> u64 {
+    let digits = cut_at(line, b' ').map_or(b"".as_slice(), |(_, digits)| digits);
+    numeral(digits).unwrap_or(0)
 }
 
-/// Before the first line.
-const START: Walk = Walk {
-    part: Part::Version,
-    left: 0,
-    is_older: false,
-};
-
 impl Walk {
-    fn to(self, part: Part) -> Walk {
-        Walk { part, ..self }
-    }
-
-    /// As many lines of a part as are left, and what stands after them.
-    fn block(self, left: u64, part: Part, next: Part) -> Walk {
-        let part = if left == 0 { next } else { part };
-        Walk { part, left, ..self }
-    }
-
-    /// Behind one more line.
+    /// After one more line.
     fn after(self, line: &[u8]) -> Walk {
-        let left = self.left.saturating_sub(1);
-        match self.part {
-            Part::Version => Walk {
-                part: Part::Front,
-                is_older: line.ends_with(b" 1"),
-                ..self
-            },
-            Part::Front => self.to(Part::Processes),
-            Part::Processes => self.to(Part::Registers),
-            Part::Registers if self.is_older => self.to(Part::History),
-            Part::Registers => self.block(last_number(line), Part::Name, Part::History),
-            Part::Name => self.block(left, Part::Name, Part::History),
-            Part::History => self.block(last_number(line), Part::Entry, Part::Order),
-            Part::Entry => self.block(left, Part::Entry, Part::Order),
-            Part::Order => self.block(last_number(line), Part::Id, Part::Tail),
-            Part::Id => self.block(left, Part::Id, Part::Tail),
-            Part::Tail if line == b"end".as_slice() => self.to(Part::Behind),
-            Part::Tail => self.block(last_number(line), Part::Point, Part::End),
-            Part::Point => self.block(left, Part::Point, Part::End),
-            Part::End => self.to(Part::Behind),
-            Part::Behind => self,
+        let left = match self.part {
+            Part::Name | Part::Entry | Part::Id | Part::Point => self.left.saturating_sub(1),
+            _ => number_on(line),
+        };
+        let part = match self.part {
+            Part::Version => Part::Front,
+            Part::Front => Part::Processes,
+            Part::Processes => Part::Registers,
+            Part::Registers if self.is_older => Part::History,
+            Part::Registers | Part::Name if left > 0 => Part::Name,
+            Part::Registers | Part::Name => Part::History,
+            Part::History | Part::Entry if left > 0 => Part::Entry,
+            Part::History | Part::Entry => Part::Order,
+            Part::Order | Part::Id if left > 0 => Part::Id,
+            Part::Order | Part::Id => Part::Tail,
+            Part::Tail if line == b"end".as_slice() => Part::After,
+            Part::Tail | Part::Point if left > 0 => Part::Point,
+            Part::Tail | Part::Point => Part::End,
+            Part::End | Part::After => Part::After,
+        };
+        let is_older = self.is_older || self.part == Part::Version && line.ends_with(b" 1");
+        Walk {
+            part,
+            left,
+            is_older,
+        }
+    }
+
+    /// What the next line is, and its form.
+    pub fn layout(self) -> (&'static str, Form) {
+        let (words, form, older) = match self.part {
+            Part::Version => ("awreg report 2", VERSION, VERSION),
+            Part::Front => (
+                "front and a word, as in front linear",
+                REPORT_FRONT,
+                REPORT_FRONT,
+            ),
+            Part::Processes => (
+                "processes and a number, as in processes 2",
+                PROCESSES,
+                OLDER_PROCESSES_LINE,
+            ),
+            Part::Registers => (
+                "registers and their number, as in registers 1",
+                REGISTERS,
+                OLDER_NAMES,
+            ),
+            Part::Name => ("the name of a register", NAME, NAME),
+            Part::History => ("history and a number, as in history 4", HISTORY, HISTORY),
+            Part::Entry => ("a line of the history", ENTRY, OLDER_ENTRY),
+            Part::Order => ("order and a number, as in order 2", ORDER, ORDER),
+            Part::Id => ("an operation of the order, as in p0 #0", ID, OLDER_ID),
+            Part::Tail => ("end, or points and a number, as in points 2", TAIL, TAIL),
+            Part::Point => ("a point, as in p0 #0 at 3", POINT, OLDER_POINT),
+            Part::End => ("end", LAST_LINE, LAST_LINE),
+            Part::After => ("nothing", NOTHING, NOTHING),
+        };
+        (words, if self.is_older { older } else { form })
+    }
+
+    /// What is told of a line beside what was wanted: more or fewer lines stand there than a count before announces.
+    pub fn miscounted(self, line: &[u8]) -> &'static str {
+        match (self.part, line) {
+            (Part::Order, [b' ', ..]) => {
+                "more lines of the history stand here than its count says\n"
+            }
+            (Part::Entry, [b'o', b'r', ..]) => {
+                "fewer lines of the history stand here than its count says\n"
+            }
+            (Part::Tail, [b'p', b'0'..=b'9', ..]) => {
+                "more lines of the order stand here than its count says\n"
+            }
+            (Part::Id, [b'p', b'o', ..] | [b'e', ..]) => {
+                "fewer lines of the order stand here than its count says\n"
+            }
+            (Part::End, [b'p', b'0'..=b'9', ..]) =>
+                "more points stand here than their count says\n",
+            (Part::Point, [b'e', ..]) => "fewer points stand here than their count says\n",
+            _ => "",
         }
     }
 }
@@ -97,7 +141,11 @@ impl<'a> ReportLines<'a> {
     pub fn new(text: &'a [u8]) -> ReportLines<'a> {
         ReportLines {
             lines: Lines::new(text),
-            walk: START,
+            walk: Walk {
+                part: Part::Version,
+                left: 0,
+                is_older: false,
+            },
         }
     }
 }
@@ -115,52 +163,34 @@ impl<'a> Iterator for ReportLines<'a> {
     }
 }
 
-/// Where one is before the line of this number.
-pub fn walk_to(text: &[u8], number: u64) -> Walk {
-    let mut lines = ReportLines::new(text);
-    for _ in 1..number {
-        lines.next();
+/// The number of the first line of a part.
+pub fn first_line(text: &[u8], part: Part) -> u64 {
+    let mut number = 1u64;
+    for (walk, _) in ReportLines::new(text) {
+        if walk.part == part {
+            break;
+        }
+        number = number.saturating_add(1);
     }
-    lines.walk
+    number
 }
 
-/// The names that a report gives its registers.
-pub fn report_names<A: Allocator + Copy>(
+/// Where one is in a report before the line of this number, and the names that it has given its registers.
+pub fn walk_to<A: Allocator + Copy>(
     alloc: A,
     text: &[u8],
-) -> Result<Vec<&[u8], A>, AllocError> {
+    number: u64,
+) -> Result<(Walk, Vec<&[u8], A>), AllocError> {
     let mut names = Vec::new(alloc);
-    for (walk, line) in ReportLines::new(text) {
-        match walk.part {
-            Part::History => break,
-            Part::Registers if walk.is_older => return names_on(alloc, line),
-            Part::Name => names.push(line)?,
+    let mut lines = ReportLines::new(text);
+    for _ in 1..number {
+        match lines.next() {
+            Some((walk, line)) if walk.part == Part::Name => names.push(line)?,
+            Some((walk, line)) if walk.part == Part::Registers && walk.is_older => {
+                names = names_on(alloc, line)?;
+            }
             _ => {}
         }
     }
-    Ok(names)
-}
-
-/// The form of a line where one is in a report.
-pub fn form_at(walk: Walk) -> Form {
-    match walk.part {
-        Part::Processes if walk.is_older => Form::OlderProcesses,
-        Part::Registers if walk.is_older => Form::OlderNames,
-        Part::Entry if walk.is_older => Form::OlderEntry,
-        Part::Id if walk.is_older => Form::OlderId,
-        Part::Point if walk.is_older => Form::OlderPoint,
-        Part::Version => Form::Version,
-        Part::Front => Form::ReportFront,
-        Part::Processes => Form::Processes,
-        Part::Registers => Form::Registers,
-        Part::Name => Form::Name,
-        Part::History => Form::History,
-        Part::Entry => Form::Entry,
-        Part::Order => Form::Order,
-        Part::Id => Form::Id,
-        Part::Tail => Form::Tail,
-        Part::Point => Form::Point,
-        Part::End => Form::LastLine,
-        Part::Behind => Form::Nothing,
-    }
+    Ok((lines.walk, names))
 }

@@ -1,14 +1,13 @@
 //! What doesn't fit, in plain words: the line with its number, a mark below the place, and what was wanted there.
-use crate::lines_at::Line;
-use crate::scanning::{behind, front_of, spaces_of, token_of};
+use crate::lines_at::{Line, line_of_place};
+use crate::scanning::{after, front_of, token_of};
 use crate::wanting::{Misfit, Range, Wanted};
-use reg_text::{Sink, is_numeral, put_number, skip};
+use reg_text::{Sink, is_numeral, put_number, skip, spaces_before};
 use std::alloc::{AllocError, Allocator};
-use std::io::Write;
 use strsim::generic_levenshtein;
 
 /// A byte order mark.
-pub const MARK: &[u8] = &[0xEF, 0xBB, 0xBF];
+const MARK: &[u8] = &[0xEF, 0xBB, 0xBF];
 
 /// No word that is wanted is longer.
 const LONGEST_WORD: usize = 16;
@@ -22,31 +21,6 @@ const SHOWN_BEFORE: usize = 60;
 /// The most names that are listed.
 const MOST_LISTED: usize = 10;
 
-/// Puts a text with these numbers in the places of its `{}`.
-pub fn put_with<W: Write>(sink: &mut Sink<'_, W>, text: &str, numbers: &[u64]) {
-    for (place, part) in text.split("{}").enumerate() {
-        if place > 0 {
-            put_number(sink, "", numbers.get(place - 1).copied().unwrap_or(0));
-        }
-        sink.put(part.as_bytes());
-    }
-}
-
-/// Puts texts, one behind the other.
-pub fn put_texts<W: Write>(sink: &mut Sink<'_, W>, texts: &[&str]) {
-    for text in texts {
-        sink.put(text.as_bytes());
-    }
-}
-
-/// Puts what was found in marks of quotation, and texts after it.
-pub fn put_quoted<W: Write>(sink: &mut Sink<'_, W>, found: &[u8], after: &[&str]) {
-    sink.put(b"\"");
-    sink.put(found);
-    sink.put(b"\"");
-    put_texts(sink, after);
-}
-
 /// The printed signs at the start, as many as are shown.
 fn shown_token(found: &[u8]) -> &[u8] {
     front_of(token_of(found), LONGEST_SHOWN)
@@ -57,277 +31,263 @@ fn goes_on(byte: u8) -> bool {
     byte & 0xC0 == 0x80
 }
 
-/// Puts a byte of a line, and for a control character but a tab a question mark.
-fn put_sign<W: Write>(sink: &mut Sink<'_, W>, byte: u8) {
-    if byte.is_ascii_control() && byte != b'\t' {
-        sink.put(b"?");
-    } else {
-        sink.put(&[byte]);
-    }
-}
-
-/// Puts what stands below a byte: the same room.
-fn put_room<W: Write>(sink: &mut Sink<'_, W>, byte: u8) {
-    if byte == b'\t' {
-        sink.put(b"\t");
-    } else if !goes_on(byte) {
-        sink.put(b" ");
-    }
-}
-
 /// The part of a line that is shown, and how many bytes stand before it.
 fn shown_part(line: &[u8], at: usize) -> (&[u8], usize) {
     if line.len() <= LONGEST_SHOWN {
         return (line, 0);
     }
     let start = at.saturating_sub(SHOWN_BEFORE);
-    let rest = behind(line, start);
+    let rest = after(line, start);
     let cut = rest.iter().take_while(|b| goes_on(**b)).count();
-    let part = front_of(behind(rest, cut), LONGEST_SHOWN);
+    let part = front_of(after(rest, cut), LONGEST_SHOWN);
     (part, start.saturating_add(cut))
 }
 
-/// Puts a line with its number, and a mark below one of its places.
-pub fn put_place<W: Write>(sink: &mut Sink<'_, W>, line: Line<'_>, at: usize) {
-    let bare = line.bytes.strip_suffix(b"\r").unwrap_or(line.bytes);
-    let shown = skip(bare, MARK).unwrap_or(bare);
-    let place = at.saturating_sub(bare.len().saturating_sub(shown.len()));
-    let (part, from) = shown_part(shown, place);
-    put_with(sink, "{} | ", &[line.number]);
-    for byte in part {
-        put_sign(sink, *byte);
-    }
-    sink.put(b"\n");
-    put_margin(sink, line.number);
-    for byte in front_of(part, place.saturating_sub(from)) {
-        put_room(sink, *byte);
-    }
-    sink.put(b"^\n");
+/// What is told of a text. Where memory is refused, `finish` says so.
+#[derive(Drop)]
+pub struct Notes<'a, A: Allocator + Copy> {
+    pub alloc: A,
+    pub sink: Sink<'a, Vec<u8, A>>,
+    has_memory: bool,
 }
 
-/// Puts the room below the number of a line.
-fn put_margin<W: Write>(sink: &mut Sink<'_, W>, number: u64) {
-    for _ in 0..=number.checked_ilog10().unwrap_or(0) {
-        sink.put(b" ");
-    }
-    sink.put(b" | ");
-}
-
-/// What stands before the word of this place in a list of so many: `a`, `a or b`, `a, b or c`.
-fn separator(place: usize, count: usize) -> &'static str {
-    if place == 0 {
-        ""
-    } else if place.saturating_add(1) == count {
-        " or "
-    } else {
-        ", "
-    }
-}
-
-/// Puts words as a list.
-pub fn put_words<W: Write>(sink: &mut Sink<'_, W>, words: &[&str]) {
-    for (place, word) in words.iter().enumerate() {
-        sink.put(separator(place, words.len()).as_bytes());
-        sink.put(word.as_bytes());
-    }
-}
-
-/// What stands at a place: what is quoted of it, and the words after that.
-fn found_parts(found: &[u8]) -> (&[u8], &'static str) {
-    let token = shown_token(found);
-    let nothing = b"".as_slice();
-    match found {
-        [] => (nothing, "the end of the line"),
-        [b'\t', ..] => (nothing, "a tab"),
-        [b'\r', ..] => (nothing, "a carriage return"),
-        [b' ', ..] => (nothing, "a space"),
-        [0xC2, 0xA0, ..] => (nothing, "a no-break space"),
-        [first, ..] if *first >= 0x80 => (character_of(found), ", which is not ASCII"),
-        _ if token.is_empty() => (nothing, "a control character"),
-        _ => (token, ""),
-    }
-}
-
-/// Puts what stands at a place, after what was expected there.
-fn put_found<W: Write>(sink: &mut Sink<'_, W>, found: &[u8]) {
-    sink.put(b", found ");
-    let spaces = spaces_of(found);
-    if spaces > 1 {
-        return put_with(sink, "{} spaces", &[spaces as u64]);
-    }
-    match found_parts(found) {
-        ([], words) => sink.put(words.as_bytes()),
-        (quoted, words) => put_quoted(sink, quoted, &[words]),
-    }
-}
-
-/// The bytes of the first character.
-fn character_of(bytes: &[u8]) -> &[u8] {
-    let more = bytes.iter().skip(1).take_while(|b| goes_on(**b)).count();
-    front_of(bytes, more.saturating_add(1))
-}
-
-/// The word that is next to the one that was found: the same but for capital letters, or one or two edits away.
-pub fn near<A: Allocator + Copy>(
-    alloc: A,
-    found: &[u8],
-    words: &'static [&'static str],
-) -> Result<Option<&'static str>, AllocError> {
-    if found.is_empty() || found.len() > LONGEST_WORD {
-        return Ok(None);
-    }
-    let mut best = None;
-    let mut least = 3usize;
-    for word in words {
-        let edits = edits_between(alloc, found, word.as_bytes())?;
-        if edits < least && edits < word.len() {
-            best = Some(*word);
-            least = edits;
+impl<'a, A: Allocator + Copy> Notes<'a, A> {
+    /// Notes that come after these bytes.
+    pub fn new(alloc: A, bytes: &'a mut Vec<u8, A>) -> Notes<'a, A> {
+        Notes {
+            alloc,
+            sink: Sink::new(bytes),
+            has_memory: true,
         }
     }
-    Ok(best)
-}
 
-fn edits_between<A: Allocator + Copy>(
-    alloc: A,
-    found: &[u8],
-    word: &[u8],
-) -> Result<usize, AllocError> {
-    if found.eq_ignore_ascii_case(word) {
-        return Ok(0);
-    }
-    generic_levenshtein(alloc, found, word)
-}
-
-/// Puts which words were expected, or the one that was meant.
-pub fn put_wanted_words<A: Allocator + Copy, W: Write>(
-    alloc: A,
-    sink: &mut Sink<'_, W>,
-    words: &'static [&'static str],
-    found: &[u8],
-) -> Result<(), AllocError> {
-    let token = shown_token(found);
-    match near(alloc, token, words)? {
-        Some(word) => put_quoted(sink, token, &[": did you mean ", word, "?"]),
-        None => {
-            sink.put(b"expected ");
-            put_words(sink, words);
-            put_found(sink, found);
+    /// Whether all was told.
+    pub fn finish(&self) -> Result<(), AllocError> {
+        if self.has_memory && self.sink.finish().is_ok() {
+            Ok(())
+        } else {
+            Err(AllocError)
         }
     }
-    Ok(())
-}
 
-/// Puts why a number doesn't fit.
-fn put_wanted_number<W: Write>(sink: &mut Sink<'_, W>, range: Range, found: &[u8]) {
-    let token = shown_token(found);
-    if is_numeral(token) {
-        sink.put(token);
-        put_out_of_range(sink, range);
-    } else if token.len() > 1 && token.iter().all(|b| b.is_ascii_digit()) {
-        put_quoted(sink, token, &[": a number doesn't begin with a needless 0"]);
-    } else {
-        let bounds = [range.least, range.most];
-        put_with(sink, "expected a number from {} to {}", &bounds);
-        put_found(sink, found);
-    }
-}
-
-/// Puts what a number is that is out of range, after it.
-pub fn put_out_of_range<W: Write>(sink: &mut Sink<'_, W>, range: Range) {
-    put_texts(sink, &[" is out of range: ", range.what, " ", range.verb]);
-    put_with(sink, " from {} to {}", &[range.least, range.most]);
-}
-
-/// Puts the names of the registers, or the first of them.
-fn put_names<W: Write>(sink: &mut Sink<'_, W>, names: &[&[u8]]) {
-    let words = match names {
-        [_] => "the register is ",
-        _ => "the registers are ",
-    };
-    sink.put(words.as_bytes());
-    for (place, name) in names.iter().take(MOST_LISTED).enumerate() {
-        if place > 0 {
-            sink.put(b", ");
+    /// Puts texts, one after the other.
+    pub fn put(&mut self, texts: &[&str]) {
+        for text in texts {
+            self.sink.put(text.as_bytes());
         }
-        sink.put(name);
     }
-    if names.len() > MOST_LISTED {
-        let more = names.len() - MOST_LISTED;
-        put_with(sink, " and {} more", &[more as u64]);
-    }
-}
 
-/// What is told of a name that is none.
-pub const NAME_FORM: &str = ": a register's name is 1 to 16 letters a to z";
-
-/// What is told of a name that another register has.
-pub const NAME_TAKEN: &str = " stands before: each register has a name of its own";
-
-/// What was expected, where nothing more is to be said than that and what was found.
-fn expected_of(wanted: Wanted, found: &[u8]) -> Option<&'static str> {
-    let is_no_token = token_of(found).is_empty();
-    match wanted {
-        Wanted::Space => Some("one space"),
-        Wanted::Text { words } => Some(words),
-        Wanted::Register if is_no_token => Some("a register"),
-        Wanted::Name if is_no_token => Some("a name"),
-        Wanted::End if !is_comment(found) => Some("the end of the line"),
-        _ => None,
-    }
-}
-
-/// Whether a comment stands after spaces.
-fn is_comment(found: &[u8]) -> bool {
-    behind(found, spaces_of(found)).starts_with(b"#")
-}
-
-/// Puts what was wanted and what was found.
-fn put_wanted<A: Allocator + Copy, W: Write>(
-    alloc: A,
-    sink: &mut Sink<'_, W>,
-    names: &[&[u8]],
-    misfit: Misfit<'_>,
-) -> Result<(), AllocError> {
-    let found = misfit.found;
-    let token = shown_token(found);
-    if let Some(words) = expected_of(misfit.wanted, found) {
-        put_texts(sink, &["expected ", words]);
-        put_found(sink, found);
-        return Ok(());
-    }
-    match misfit.wanted {
-        Wanted::Words { words } => return put_wanted_words(alloc, sink, words, found),
-        Wanted::Number { range } => put_wanted_number(sink, range, found),
-        Wanted::Register => {
-            sink.put(b"no register ");
-            put_quoted(sink, token, &[": "]);
-            put_names(sink, names);
+    /// Puts a text with these numbers in the places of its `{}`.
+    pub fn put_with(&mut self, text: &str, numbers: &[u64]) {
+        for (place, part) in text.split("{}").enumerate() {
+            if place > 0 {
+                let number = numbers.get(place - 1).copied().unwrap_or(0);
+                put_number(&mut self.sink, "", number);
+            }
+            self.sink.put(part.as_bytes());
         }
-        Wanted::Name => put_quoted(sink, token, &[NAME_FORM]),
-        Wanted::OtherName => put_quoted(sink, token, &[NAME_TAKEN]),
-        Wanted::Fewer { most } => put_with(sink, "there are no more registers than {}", &[most]),
-        Wanted::NoValue => sink.put(b"a read takes no value"),
-        Wanted::Missing { what } => put_texts(sink, &[what, " is missing"]),
-        _ => sink.put(b"a comment stands on a line of its own"),
     }
-    Ok(())
-}
 
-/// Puts why a line doesn't fit, with its line feed.
-pub fn put_misfit<A: Allocator + Copy, W: Write>(
-    alloc: A,
-    sink: &mut Sink<'_, W>,
-    names: &[&[u8]],
-    misfit: Misfit<'_>,
-) -> Result<(), AllocError> {
-    if misfit.found == b"\r".as_slice() {
-        sink.put(b"this line ends in a carriage return: save the text with line feeds alone");
-    } else if misfit.at == 0 && misfit.found.starts_with(MARK) {
-        sink.put(b"a byte order mark stands before the first line: save the text without one");
-    } else {
-        put_wanted(alloc, sink, names, misfit)?;
+    /// Puts what was found in marks of quotation, and texts after it.
+    pub fn put_quoted(&mut self, found: &[u8], texts: &[&str]) {
+        self.put(&["\""]);
+        self.sink.put(found);
+        self.put(&["\""]);
+        self.put(texts);
     }
-    sink.put(b"\n");
-    Ok(())
+
+    /// Puts a line with its number, and a mark below one of its places. For a control character but a tab a question
+    /// mark is shown.
+    pub fn put_place(&mut self, line: Line<'_>, at: usize) {
+        let bare = line.bytes.strip_suffix(b"\r").unwrap_or(line.bytes);
+        let shown = skip(bare, MARK).unwrap_or(bare);
+        let place = at.saturating_sub(bare.len().saturating_sub(shown.len()));
+        let (part, from) = shown_part(shown, place);
+        self.put_with("{} | ", &[line.number]);
+        for byte in part {
+            let is_hidden = byte.is_ascii_control() && *byte != b'\t';
+            self.sink.put(&[if is_hidden { b'?' } else { *byte }]);
+        }
+        self.put(&["\n"]);
+        self.put_mark(line.number, front_of(part, place.saturating_sub(from)));
+    }
+
+    /// Puts a mark below a line of this number, after these of its bytes.
+    fn put_mark(&mut self, number: u64, before: &[u8]) {
+        for _ in 0..=number.checked_ilog10().unwrap_or(0) {
+            self.put(&[" "]);
+        }
+        self.put(&[" | "]);
+        for byte in before {
+            if *byte == b'\t' {
+                self.put(&["\t"]);
+            } else if !goes_on(*byte) {
+                self.put(&[" "]);
+            }
+        }
+        self.put(&["^\n"]);
+    }
+
+    /// Puts the line in which a place of a text stands.
+    pub fn put_text_place(&mut self, text: &[u8], place: usize) {
+        let (line, column) = line_of_place(text, place);
+        self.put_place(line, column);
+    }
+
+    /// Puts words as a list: `a`, `a or b`, `a, b or c`.
+    pub fn put_words(&mut self, words: &[&str]) {
+        for (place, word) in words.iter().enumerate() {
+            if place > 0 {
+                let is_last = words.len().saturating_sub(place) == 1;
+                self.put(&[if is_last { " or " } else { ", " }]);
+            }
+            self.put(&[word]);
+        }
+    }
+
+    /// Puts what was expected, and what stands there.
+    fn put_expected(&mut self, words: &str, found: &[u8]) {
+        self.put(&["expected ", words]);
+        self.put_found(found);
+    }
+
+    /// Puts what stands at a place, after what was expected there.
+    fn put_found(&mut self, found: &[u8]) {
+        let token = shown_token(found);
+        self.put(&[", found "]);
+        match found {
+            [] => self.put(&["the end of the line"]),
+            [b'\t', ..] => self.put(&["a tab"]),
+            [b'\r', ..] => self.put(&["a carriage return"]),
+            [b' ', b' ', ..] => self.put_with("{} spaces", &[spaces_before(found) as u64]),
+            [b' ', ..] => self.put(&["a space"]),
+            [0xC2, 0xA0, ..] => self.put(&["a no-break space"]),
+            [first, more @ ..] if *first >= 0x80 => {
+                let more = more.iter().take_while(|b| goes_on(**b)).count();
+                let character = front_of(found, more.saturating_add(1));
+                self.put_quoted(character, &[", which is not ASCII"]);
+            }
+            _ if token.is_empty() => self.put(&["a control character"]),
+            _ => self.put_quoted(token, &[]),
+        }
+    }
+
+    /// The word that is next to the one that was found: the same but for capital letters, or one or two edits away.
+    pub fn near(&mut self, found: &[u8], words: &'static [&'static str]) -> Option<&'static str> {
+        if found.is_empty() || found.len() > LONGEST_WORD {
+            return None;
+        }
+        let mut best = None;
+        let mut least = 3usize;
+        for word in words {
+            let edits = self.edits_between(found, word.as_bytes());
+            if edits < least && edits < word.len() {
+                best = Some(*word);
+                least = edits;
+            }
+        }
+        best
+    }
+
+    /// How many edits lead from what was found to a word, but for capital letters.
+    fn edits_between(&mut self, found: &[u8], word: &[u8]) -> usize {
+        if found.eq_ignore_ascii_case(word) {
+            return 0;
+        }
+        match generic_levenshtein(self.alloc, found, word) {
+            Ok(edits) => edits,
+            Err(_) => {
+                self.has_memory = false;
+                0
+            }
+        }
+    }
+
+    /// Puts which words were expected, or the one that was meant.
+    pub fn put_wanted_words(&mut self, words: &'static [&'static str], found: &[u8]) {
+        let token = shown_token(found);
+        if let Some(word) = self.near(token, words) {
+            return self.put_quoted(token, &[": did you mean ", word, "?"]);
+        }
+        self.put(&["expected "]);
+        self.put_words(words);
+        self.put_found(found);
+    }
+
+    /// Puts why a number doesn't fit.
+    fn put_wanted_number(&mut self, range: Range, found: &[u8]) {
+        let token = shown_token(found);
+        if is_numeral(token) {
+            self.sink.put(token);
+            self.put_out_of_range(range);
+        } else if token.len() > 1 && token.iter().all(|b| b.is_ascii_digit()) {
+            self.put_quoted(token, &[": a number doesn't begin with a needless 0"]);
+        } else {
+            let bounds = [range.least, range.most];
+            self.put_with("expected a number from {} to {}", &bounds);
+            self.put_found(found);
+        }
+    }
+
+    /// Puts what a number is that is out of range, after it.
+    pub fn put_out_of_range(&mut self, range: Range) {
+        self.put(&[" is out of range: ", range.what, " ", range.verb]);
+        self.put_with(" from {} to {}", &[range.least, range.most]);
+    }
+
+    /// Puts that no register has a name, and the names that they have, or the first of them.
+    fn put_unknown_register(&mut self, token: &[u8], names: &[&[u8]]) {
+        let words = match names {
+            [_] => ": the register is ",
+            _ => ": the registers are ",
+        };
+        self.put(&["no register "]);
+        self.put_quoted(token, &[words]);
+        for (place, name) in names.iter().take(MOST_LISTED).enumerate() {
+            self.put(&[if place > 0 { ", " } else { "" }]);
+            self.sink.put(name);
+        }
+        let more = names.len().saturating_sub(MOST_LISTED);
+        if more > 0 {
+            self.put_with(" and {} more", &[more as u64]);
+        }
+    }
+
+    /// Puts what was wanted and what was found.
+    fn put_wanted(&mut self, names: &[&[u8]], wanted: Wanted, found: &[u8]) {
+        let token = shown_token(found);
+        let is_comment = after(found, spaces_before(found)).starts_with(b"#");
+        match wanted {
+            Wanted::Words(words) => self.put_wanted_words(words, found),
+            Wanted::Number(range) => self.put_wanted_number(range, found),
+            Wanted::Text(words) => self.put_expected(words, found),
+            Wanted::Space => self.put_expected("one space", found),
+            Wanted::Register if token.is_empty() => self.put_expected("a register", found),
+            Wanted::Register => self.put_unknown_register(token, names),
+            Wanted::Name(_) if token.is_empty() => self.put_expected("a name", found),
+            Wanted::Name(fault) => self.put_quoted(token, &[fault]),
+            Wanted::Fewer(most) => {
+                self.put_with("there are no more registers than {}", &[most]);
+            }
+            Wanted::End if is_comment => self.put(&["a comment stands on a line of its own"]),
+            Wanted::End => self.put_expected("the end of the line", found),
+            Wanted::NoValue => self.put(&["a read takes no value"]),
+            Wanted::Missing(what) => self.put(&[what, " is missing"]),
+        }
+    }
+
+    /// Puts why a line doesn't fit, with its line feed.
+    pub fn put_misfit(&mut self, names: &[&[u8]], misfit: Misfit<'_>) {
+        let found = misfit.found;
+        if found == b"\r".as_slice() {
+            let words = "this line ends in a carriage return: save the text with line feeds alone";
+            self.put(&[words]);
+        } else if misfit.at == 0 && found.starts_with(MARK) {
+            let words = "a byte order mark stands before the first line: save the text without one";
+            self.put(&[words]);
+        } else {
+            self.put_wanted(names, misfit.wanted, found);
+        }
+        self.put(&["\n"]);
+    }
 }

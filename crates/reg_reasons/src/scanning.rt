@@ -1,14 +1,13 @@
 //! A line, part by part, up to the first place that doesn't fit. It judges nothing: the readers have refused the line,
 //! and it says where.
-use crate::forms::Form;
-use crate::wanting::{Misfit, Range, Step, Wanted};
+use crate::wanting::{Form, Misfit, NAME_FORM, NAME_TAKEN, Range, Step, Wanted};
 use reg_base::is_name;
 use reg_history::LONGEST_FRONT;
-use reg_text::{are_front_letters, in_front, is_numeral, numeral_within};
+use reg_text::{are_front_letters, in_front, is_numeral, numeral_within, skip, spaces_before};
 use std::str;
 
-/// No line has more parts.
-const MOST_STEPS: u32 = 32;
+/// No line has more parts that take no byte of it.
+const MOST_EMPTY: usize = 8;
 
 /// How many places the number of an event has.
 const EVENT_PLACES: usize = 8;
@@ -19,7 +18,7 @@ pub fn front_of(bytes: &[u8], count: usize) -> &[u8] {
 }
 
 /// What stands after the first bytes.
-pub fn behind(bytes: &[u8], count: usize) -> &[u8] {
+pub fn after(bytes: &[u8], count: usize) -> &[u8] {
     bytes.get(count..).unwrap_or(b"")
 }
 
@@ -29,24 +28,26 @@ pub fn token_of(bytes: &[u8]) -> &[u8] {
     front_of(bytes, count)
 }
 
-/// How many spaces stand at the start.
-pub fn spaces_of(bytes: &[u8]) -> usize {
-    bytes.iter().take_while(|b| **b == b' ').count()
-}
-
-/// Whether the bytes are a register's name.
-pub fn is_register(bytes: &[u8]) -> bool {
-    str::from_utf8(bytes).is_ok_and(|name| is_name(name))
-}
-
 /// The place of a word among these.
 pub fn place_of(words: &[&str], word: &[u8]) -> Option<usize> {
     words.iter().position(|it| it.as_bytes() == word)
 }
 
-/// Whether this word stands in a text of words with a space between each two.
-fn stands_in(text: &[u8], word: &[u8]) -> bool {
-    text.split(|b| *b == b' ').any(|next| next == word)
+/// Whether the bytes are a register's name.
+fn is_register(bytes: &[u8]) -> bool {
+    str::from_utf8(bytes).is_ok_and(|name| is_name(name))
+}
+
+/// Whether a number ends the first column, of 8 places.
+fn has_right_number(bytes: &[u8]) -> bool {
+    let column = front_of(bytes, EVENT_PLACES);
+    column.len() == EVENT_PLACES && is_numeral(after(column, spaces_before(column)))
+}
+
+/// Whether a number begins the first column, of so many places.
+fn has_left_number(bytes: &[u8], places: usize) -> bool {
+    let column = front_of(bytes, places);
+    column.len() == places && is_numeral(in_front(column))
 }
 
 /// A line, and what of it is not scanned yet.
@@ -59,195 +60,121 @@ struct Scan<'a> {
 }
 
 impl<'a> Scan<'a> {
-    fn place(&self) -> usize {
-        self.line.len().saturating_sub(self.rest.len())
+    /// What stands before on the line.
+    fn before(&self) -> &'a [u8] {
+        front_of(self.line, self.line.len().saturating_sub(self.rest.len()))
     }
 
-    /// Goes behind so many bytes.
-    fn pass(&mut self, count: usize) {
-        self.rest = behind(self.rest, count);
+    /// Whether so many names stand before on the line, with a space before each.
+    fn is_full(&self, most: u64) -> bool {
+        let spaces = self.before().iter().filter(|b| **b == b' ').count();
+        spaces as u64 > most
     }
 
-    /// The next part doesn't fit. What is too much after one space is marked, and not the space.
-    fn misfit(&self, wanted: Wanted) -> Misfit<'a> {
-        let is_after_space = match wanted {
-            Wanted::Space => spaces_of(self.rest) > 1,
-            Wanted::NoValue => true,
+    fn is_number(&self, token: &[u8], range: Range) -> bool {
+        if self.is_strict {
+            numeral_within(token, range.most).is_some_and(|number| number >= range.least)
+        } else {
+            is_numeral(token)
+        }
+    }
+
+    /// Whether a name is well spelled, and none of the names that stand before on the line, after its first word.
+    fn is_new_name(&self, token: &[u8]) -> bool {
+        let mut names = self.before().split(|b| *b == b' ').skip(1);
+        !self.is_strict || is_register(token) && !names.any(|name| name == token)
+    }
+
+    /// Whether a word, a number or a name fits a part.
+    fn fits(&self, token: &[u8], step: Step, names: &[&[u8]]) -> bool {
+        match step {
+            Step::Word { words, .. } => place_of(words, token).is_some(),
+            Step::Number(range) => self.is_number(token, range),
+            Step::FrontEnd => token.len() <= LONGEST_FRONT && are_front_letters(token),
+            Step::Register => !self.is_strict || names.iter().any(|name| *name == token),
+            Step::Name => self.is_new_name(token),
+            Step::Names(most) => self.is_new_name(token) && !self.is_full(most),
             _ => false,
+        }
+    }
+
+    /// How many bytes a part takes, where it fits.
+    fn taken(&self, step: Step, names: &[&[u8]]) -> Option<usize> {
+        let rest = self.rest;
+        let token = token_of(rest);
+        let (fits, count) = match step {
+            Step::Space => (spaces_before(rest) == 1, 1),
+            Step::Signs { signs, .. } => (rest.starts_with(signs), signs.len()),
+            Step::Right => (has_right_number(rest), spaces_before(rest)),
+            Step::Left { places, range, .. } => {
+                let fits = !self.is_strict || self.is_number(token, range);
+                (fits && has_left_number(rest, places), places)
+            }
+            Step::End | Step::NoValue => (rest.is_empty(), 0),
+            _ => (
+                !token.is_empty() && self.fits(token, step, names),
+                token.len(),
+            ),
+        };
+        fits.then_some(count)
+    }
+
+    /// What is wanted in the place of a part that doesn't fit.
+    fn wanted(&self, step: Step) -> Wanted {
+        let rest = self.rest;
+        match step {
+            Step::Word { words, .. } => Wanted::Words(words),
+            Step::Space => Wanted::Space,
+            Step::Signs { words, .. } => Wanted::Text(words),
+            Step::Number(range) => Wanted::Number(range),
+            Step::Right => Wanted::Text("an event at the right of 8 places"),
+            Step::Left { places, range, .. } if has_left_number(rest, places) => {
+                Wanted::Number(range)
+            }
+            Step::Left { words, .. } => Wanted::Text(words),
+            Step::FrontEnd => Wanted::Text("1 to 16 letters a to z and hyphens"),
+            Step::Register => Wanted::Register,
+            Step::Names(most) if self.is_full(most) => Wanted::Fewer(most),
+            Step::Name | Step::Names(_) if is_register(token_of(rest)) => Wanted::Name(NAME_TAKEN),
+            Step::Name | Step::Names(_) => Wanted::Name(NAME_FORM),
+            Step::NoValue if starts_value(rest) => Wanted::NoValue,
+            Step::NoValue | Step::End => Wanted::End,
+        }
+    }
+
+    /// What doesn't fit where this is wanted, before these parts. What is too much after one space is marked, and not
+    /// the space.
+    fn misfit(&self, wanted: Wanted, later: Form) -> Misfit<'a> {
+        let (wanted, is_after_space) = match wanted {
+            Wanted::Space if self.rest.is_empty() => (missing(later), false),
+            Wanted::Space => (wanted, spaces_before(self.rest) > 1),
+            Wanted::NoValue => (wanted, true),
+            _ => (wanted, false),
         };
         Misfit {
-            at: self.place().saturating_add(usize::from(is_after_space)),
+            at: self
+                .before()
+                .len()
+                .saturating_add(usize::from(is_after_space)),
             found: self.rest,
             wanted,
         }
     }
-
-    /// Goes behind so many bytes, where they fit.
-    fn pass_where(&mut self, fits: bool, count: usize) -> bool {
-        if fits {
-            self.pass(count);
-        }
-        fits
-    }
-
-    /// The printed signs that stand next.
-    fn token(&mut self, fits: bool) -> bool {
-        self.pass_where(fits, token_of(self.rest).len())
-    }
-
-    fn space(&mut self) -> bool {
-        self.pass_where(spaces_of(self.rest) == 1, 1)
-    }
-
-    fn signs(&mut self, signs: &[u8]) -> bool {
-        self.pass_where(self.rest.starts_with(signs), signs.len())
-    }
-
-    /// The number that stands next, within a range.
-    fn number(&mut self, range: Range) -> bool {
-        let token = token_of(self.rest);
-        self.token(match numeral_within(token, range.most) {
-            Some(number) if self.is_strict => number >= range.least,
-            Some(_) => true,
-            None => !self.is_strict && is_numeral(token),
-        })
-    }
-
-    /// A number that ends its column.
-    fn right(&mut self, range: Range) -> Option<Wanted> {
-        let column = front_of(self.rest, EVENT_PLACES);
-        let start = spaces_of(column);
-        if column.len() < EVENT_PLACES || !is_numeral(behind(column, start)) {
-            let words = "an event at the right of 8 places";
-            return Some(Wanted::Text { words });
-        }
-        self.pass(start);
-        unless(self.number(range), Wanted::Number { range })
-    }
-
-    /// A number that begins its column.
-    fn left(&mut self, places: usize, words: &'static str, range: Range) -> Option<Wanted> {
-        let column = front_of(self.rest, places);
-        let digits = in_front(column).len();
-        if column.len() < places || !is_numeral(front_of(column, digits)) {
-            return Some(Wanted::Text { words });
-        }
-        if self.is_strict && !self.number(range) {
-            return Some(Wanted::Number { range });
-        }
-        let passed = if self.is_strict { digits } else { 0 };
-        self.pass(places.saturating_sub(passed));
-        None
-    }
-
-    fn front_end(&mut self) -> bool {
-        let token = token_of(self.rest);
-        self.token(!token.is_empty() && token.len() <= LONGEST_FRONT && are_front_letters(token))
-    }
-
-    /// The name of a register that the text has named.
-    fn register(&mut self, names: &[&[u8]]) -> bool {
-        let token = token_of(self.rest);
-        let is_known = !self.is_strict || names.iter().any(|name| *name == token);
-        self.token(!token.is_empty() && is_known)
-    }
-
-    /// A name that doesn't stand in this text.
-    fn name(&mut self, before: &[u8]) -> Option<Wanted> {
-        let token = token_of(self.rest);
-        if token.is_empty() || (self.is_strict && !is_register(token)) {
-            return Some(Wanted::Name);
-        }
-        if self.is_strict && stands_in(before, token) {
-            return Some(Wanted::OtherName);
-        }
-        self.pass(token.len());
-        None
-    }
-
-    /// Names, no more than this, up to the end of the line.
-    fn names(&mut self, most: u64) -> Option<Wanted> {
-        for count in 0..=most {
-            if self.rest.is_empty() {
-                return unless(count > 0, Wanted::Missing { what: "a name" });
-            }
-            if !self.space() {
-                return Some(Wanted::Space);
-            }
-            if count == most {
-                break;
-            }
-            let wanted = self.name(front_of(self.line, self.place()));
-            if wanted.is_some() {
-                return wanted;
-            }
-        }
-        Some(Wanted::Fewer { most })
-    }
-
-    /// Goes behind a part, or says what is wanted there.
-    fn step(&mut self, step: Step, names: &[&[u8]]) -> Option<Wanted> {
-        match step {
-            Step::Word { words, .. } => {
-                let stands = place_of(words, token_of(self.rest)).is_some();
-                unless(self.token(stands), Wanted::Words { words })
-            }
-            Step::Space => unless(self.space(), Wanted::Space),
-            Step::Signs { signs, words } => unless(self.signs(signs), Wanted::Text { words }),
-            Step::Number { range } => unless(self.number(range), Wanted::Number { range }),
-            Step::Right { range } => self.right(range),
-            Step::Left {
-                places,
-                words,
-                range,
-            } => self.left(places, words, range),
-            Step::FrontEnd => unless(
-                self.front_end(),
-                Wanted::Text {
-                    words: "1 to 16 letters a to z and hyphens",
-                },
-            ),
-            Step::Register => unless(self.register(names), Wanted::Register),
-            Step::Name => self.name(b""),
-            Step::Names { most } => self.names(most),
-            Step::End => unless(self.rest.is_empty(), Wanted::End),
-            Step::NoValue => unless(self.rest.is_empty(), end_of_read(self.rest)),
-        }
-    }
 }
 
-/// What is wanted where a read ends, and this stands there.
-fn end_of_read(rest: &[u8]) -> Wanted {
-    if spaces_of(rest) == 1 && is_numeral(token_of(behind(rest, 1))) {
-        Wanted::NoValue
-    } else {
-        Wanted::End
-    }
+/// Whether one space and a number stand at the start.
+fn starts_value(bytes: &[u8]) -> bool {
+    skip(bytes, b" ").is_some_and(|value| is_numeral(token_of(value)))
 }
 
-/// What is missing where the line ends in the place of a space and these steps.
-fn missing(later: &'static [Step]) -> Wanted {
+/// What is missing where the line ends in the place of a space and these parts.
+fn missing(later: Form) -> Wanted {
     match later.first().copied() {
-        Some(Step::Number { range }) => Wanted::Missing { what: range.what },
-        Some(Step::Register) => Wanted::Missing { what: "a register" },
-        Some(Step::Word { words, .. }) => Wanted::Words { words },
+        Some(Step::Number(range)) => Wanted::Missing(range.what),
+        Some(Step::Register) => Wanted::Missing("a register"),
+        Some(Step::Names(_)) => Wanted::Missing("a name"),
+        Some(Step::Word { words, .. }) => Wanted::Words(words),
         _ => Wanted::Space,
-    }
-}
-
-fn unless(fits: bool, wanted: Wanted) -> Option<Wanted> {
-    (!fits).then_some(wanted)
-}
-
-/// The steps that go on from a word with forms, by the place of the word that stands there.
-fn steps_behind(rest: &[u8], step: Step, later: &'static [Step]) -> &'static [Step] {
-    let Step::Word { words, forms } = step else {
-        return later;
-    };
-    let place = place_of(words, token_of(rest));
-    match place.and_then(|place| forms.get(place)) {
-        Some(form) => form.steps(),
-        None => later,
     }
 }
 
@@ -263,16 +190,25 @@ pub fn misfit_of<'a>(
         rest: line,
         is_strict,
     };
-    let mut steps = form.steps();
-    for _ in 0..MOST_STEPS {
+    let mut steps = form;
+    for _ in 0..line.len().saturating_add(MOST_EMPTY) {
         let (step, later) = steps.split_first()?;
-        steps = steps_behind(scan.rest, *step, later);
-        if let Some(wanted) = scan.step(*step, names) {
-            return Some(scan.misfit(match wanted {
-                Wanted::Space if scan.rest.is_empty() => missing(later),
-                _ => wanted,
-            }));
-        }
+        let Some(count) = scan.taken(*step, names) else {
+            return Some(scan.misfit(scan.wanted(*step), later));
+        };
+        steps = match *step {
+            Step::Word { words, forms } => {
+                let place = place_of(words, token_of(scan.rest));
+                place
+                    .and_then(|place| forms.get(place))
+                    .copied()
+                    .unwrap_or(later)
+            }
+            // After a name, the parts after the first word of the line go on again.
+            Step::Names(_) if count < scan.rest.len() => form.get(1..).unwrap_or(later),
+            _ => later,
+        };
+        scan.rest = after(scan.rest, count);
     }
     None
 }

@@ -1,5 +1,5 @@
 //! Where the keys and the items of a TOML document stand, by their bytes alone.
-use crate::scanning::behind;
+use crate::scanning::after;
 
 /// Whether a line begins with this key, and with nothing that would make it another one.
 fn begins_with(line: &[u8], key: &[u8]) -> bool {
@@ -9,40 +9,26 @@ fn begins_with(line: &[u8], key: &[u8]) -> bool {
     )
 }
 
-/// How many bytes stand before the key of a line: room, and what opens a table or a string.
-fn before_key(line: &[u8]) -> usize {
-    line.iter()
-        .take_while(|b| matches!(**b, b' ' | b'\t' | b'[' | b'"' | b'\''))
-        .count()
-}
-
-/// The place in a document of the first line that begins with a key.
+/// The place in a document of the first line that begins with a key, after room and what opens a table or a string.
 pub fn key_place(text: &[u8], key: &[u8]) -> Option<usize> {
     let mut start = 0usize;
     for line in text.split(|b| *b == b'\n') {
-        let room = before_key(line);
-        if begins_with(behind(line, room), key) {
-            return Some(start.saturating_add(room));
+        let opening = line.iter().take_while(|b| b" \t[\"'".contains(*b)).count();
+        if begins_with(after(line, opening), key) {
+            return Some(start.saturating_add(opening));
         }
         start = start.saturating_add(line.len()).saturating_add(1);
     }
     None
 }
 
-/// What the bytes at a place of a document are part of.
-#[derive(Clone, Copy, PartialEq, Eq)]
-enum Inside {
-    Nothing,
-    Basic,
-    Escape,
-    Literal,
-    Comment,
-}
-
 /// Where one is in nested arrays.
 #[derive(Clone, Copy)]
 struct Nest {
-    inside: Inside,
+    /// The byte that ends the string or the comment that one is in.
+    until: Option<u8>,
+    /// Whether the next byte of a string is escaped.
+    is_escaped: bool,
     depth: usize,
     outer: usize,
     inner: usize,
@@ -50,7 +36,8 @@ struct Nest {
 
 /// Outside any array.
 const START: Nest = Nest {
-    inside: Inside::Nothing,
+    until: None,
+    is_escaped: false,
     depth: 0,
     outer: 0,
     inner: 0,
@@ -65,59 +52,35 @@ pub struct Item {
 
 impl Nest {
     fn is_at(self, item: Item) -> bool {
-        match item.inner {
-            None => self.depth == 1 && self.outer == item.outer,
-            Some(inner) => self.depth == 2 && self.outer == item.outer && self.inner == inner,
-        }
+        let is_inner = match item.inner {
+            None => self.depth == 1,
+            Some(inner) => self.depth == 2 && self.inner == inner,
+        };
+        is_inner && self.outer == item.outer
     }
 
-    /// Behind a byte outside strings and comments.
-    fn after_plain(self, byte: u8) -> Nest {
-        let mut next = self;
-        match byte {
-            b'[' => {
-                next.depth = self.depth.saturating_add(1);
-                if self.depth == 0 {
-                    next.outer = 0;
-                }
-                next.inner = 0;
-            }
-            b']' => next.depth = self.depth.saturating_sub(1),
-            b',' => {
-                if self.depth == 1 {
-                    next.outer = self.outer.saturating_add(1);
-                }
-                if self.depth == 2 {
-                    next.inner = self.inner.saturating_add(1);
-                }
-            }
-            b'#' => next.inside = Inside::Comment,
-            b'"' => next.inside = Inside::Basic,
-            b'\'' => next.inside = Inside::Literal,
-            _ => {}
-        }
-        next
-    }
-
-    /// Behind a byte.
+    /// After one more byte.
     fn after(self, byte: u8) -> Nest {
         let mut next = self;
-        match (self.inside, byte) {
-            (Inside::Nothing, _) => return self.after_plain(byte),
-            (Inside::Escape, _) => next.inside = Inside::Basic,
-            (Inside::Basic, b'\\') => next.inside = Inside::Escape,
-            (Inside::Basic, b'"') => next.inside = Inside::Nothing,
-            (Inside::Literal, b'\'') => next.inside = Inside::Nothing,
-            (Inside::Comment, b'\n') => next.inside = Inside::Nothing,
-            _ => {}
+        match (self.until, byte) {
+            (Some(_), _) if self.is_escaped => next.is_escaped = false,
+            (Some(b'"'), b'\\') => next.is_escaped = true,
+            (Some(end), _) if byte == end => next.until = None,
+            (Some(_), _) => {}
+            (None, b'#') => next.until = Some(b'\n'),
+            (None, b'"' | b'\'') => next.until = Some(byte),
+            (None, b'[') => {
+                next.depth = self.depth.saturating_add(1);
+                next.outer = if self.depth == 0 { 0 } else { self.outer };
+                next.inner = 0;
+            }
+            (None, b']') => next.depth = self.depth.saturating_sub(1),
+            (None, b',') if self.depth == 1 => next.outer = self.outer.saturating_add(1),
+            (None, b',') if self.depth == 2 => next.inner = self.inner.saturating_add(1),
+            (None, _) => {}
         }
         next
     }
-}
-
-/// Whether an item can begin with this byte.
-fn begins_item(byte: u8) -> bool {
-    !matches!(byte, b' ' | b'\t' | b'\r' | b'\n' | b',' | b']' | b'#')
 }
 
 /// The place of the outermost array that is open before this place.
@@ -138,7 +101,8 @@ pub fn open_array(text: &[u8], end: usize) -> Option<usize> {
 pub fn item_place(text: &[u8], start: usize, item: Item) -> Option<usize> {
     let mut nest = START;
     for (place, byte) in text.iter().enumerate().skip(start) {
-        if nest.inside == Inside::Nothing && begins_item(*byte) && nest.is_at(item) {
+        let begins = nest.until.is_none() && !b" \t\r\n,]#".contains(byte);
+        if begins && nest.is_at(item) {
             return Some(place);
         }
         nest = nest.after(*byte);

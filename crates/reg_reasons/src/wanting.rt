@@ -1,5 +1,4 @@
 //! What is wanted at a place of a line.
-use crate::forms::Form;
 
 /// A number that is wanted.
 #[derive(Clone, Copy)]
@@ -12,7 +11,10 @@ pub struct Range {
     pub most: u64,
 }
 
-/// A part of a line. A form of lines is a list of them.
+/// The parts of a line, or of what stands after a word.
+pub type Form = &'static [Step];
+
+/// A part of a line.
 #[derive(Clone, Copy)]
 pub enum Step {
     /// One of these words. Where forms are given, that of its place among them goes on.
@@ -27,14 +29,10 @@ pub enum Step {
         signs: &'static [u8],
         words: &'static str,
     },
-    Number {
-        range: Range,
-    },
-    /// A number at the right of 8 places.
-    Right {
-        range: Range,
-    },
-    /// A number at the left of these many places, of which `words` speaks.
+    Number(Range),
+    /// The spaces before a number that ends a column of 8 places.
+    Right,
+    /// A number that begins a column of so many places, of which `words` speaks.
     Left {
         places: usize,
         words: &'static str,
@@ -47,9 +45,7 @@ pub enum Step {
     /// The name of a register.
     Name,
     /// The names of registers, with a space before each, no more than this, and the end of the line.
-    Names {
-        most: u64,
-    },
+    Names(u64),
     /// The end of the line.
     End,
     /// The end of the line of a read.
@@ -60,27 +56,31 @@ pub enum Step {
 #[derive(Clone, Copy)]
 pub enum Wanted {
     /// One of these words.
-    Words { words: &'static [&'static str] },
+    Words(&'static [&'static str]),
     /// One space.
     Space,
     /// What these words say.
-    Text { words: &'static str },
-    Number { range: Range },
+    Text(&'static str),
+    Number(Range),
     /// A register that the text has named.
     Register,
-    /// The name of a register.
-    Name,
-    /// A name that doesn't stand before.
-    OtherName,
+    /// The name of a register. What is told of one that stands there.
+    Name(&'static str),
     /// No more names than this.
-    Fewer { most: u64 },
+    Fewer(u64),
     /// The end of the line.
     End,
     /// The end of the line of a read, where a value stands.
     NoValue,
     /// More of the line, which ends: this.
-    Missing { what: &'static str },
+    Missing(&'static str),
 }
+
+/// What is told of a name that is none.
+pub const NAME_FORM: &str = ": a register's name is 1 to 16 letters a to z";
+
+/// What is told of a name that another register has.
+pub const NAME_TAKEN: &str = " stands before: each register has a name of its own";
 
 /// The first place of a line that doesn't fit: how many bytes stand before it, what stands there, and what was wanted.
 #[derive(Clone, Copy)]

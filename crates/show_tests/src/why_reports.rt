@@ -2,7 +2,7 @@
 use crate::why::Row;
 
 /// A text, whether it is accepted, and what is told of it, worked out by hand.
-pub(crate) const ROWS: [Row; 27] = [
+pub(crate) const ROWS: [Row; 28] = [
     (
         "awreg report 2\nfront linear\nprocesses 2\nregisters 1\nx\nhistory 4\n       0  p0    #0       call    write x 5\n       2  p0    #0       answer  done\n       3  p1    #0       call    read x\n       5  p1    #0       answer  value 5\norder 2\np0 #0\np1 #0\npoints 2\np0 #0 at 1\np1 #0 at 4\nend\n",
         true,
@@ -137,5 +137,10 @@ pub(crate) const ROWS: [Row; 27] = [
         "awreg report 2\nfront linear\nprocesses 2\nregisters 1\nx\nhistory 4\n       0  p0    #0       call    write x 5\n       2  p0    #0       answer  done\n       3  p1    #0       call    read x\n       5  p1    #0       answer  value 5\norder 2\np0 #0\np1 #0\npoints 3\np0 #0 at 1\np1 #0 at 4\nend\n",
         false,
         "line 17: form\n17 | end\n   | ^\nexpected p and a process, as in p0 #0, found \"end\"\nfewer points stand here than their count says\n",
+    ),
+    (
+        "awreg report 1\nfront linear\nprocesses 1\nregisters registers x1\nhistory 0\norder 0\nend\n",
+        false,
+        "line 4: name\n4 | registers registers x1\n  |                     ^\n\"x1\": a register's name is 1 to 16 letters a to z\n",
     ),
 ];

@@ -2,7 +2,7 @@
 use crate::why::Row;
 
 /// A text, whether it is accepted, and what is told of it, worked out by hand.
-pub(crate) const ROWS: [Row; 61] = [
+pub(crate) const ROWS: [Row; 64] = [
     (
         "processes 2\nregisters x z\nfront linear\ncall 0 write x 1\ntake 0 1 0\n",
         true,
@@ -227,6 +227,21 @@ pub(crate) const ROWS: [Row; 61] = [
         "processes 1\nregisters x y x\nfront linear\n",
         false,
         "line 2: name\n2 | registers x y x\n  |               ^\n\"x\" stands before: each register has a name of its own\n",
+    ),
+    (
+        "processes 1\nregisters registers\nfront linear\ncall 0 read registers\n",
+        true,
+        "a schedule: 1 process, 1 register, linear, 1 event, all accepted\n",
+    ),
+    (
+        "processes 1\nregisters registers x1\nfront linear\n",
+        false,
+        "line 2: name\n2 | registers registers x1\n  |                     ^\n\"x1\": a register's name is 1 to 16 letters a to z\n",
+    ),
+    (
+        "processes 1\nregisters registers x registers\nfront linear\n",
+        false,
+        "line 2: name\n2 | registers registers x registers\n  |                       ^\n\"registers\" stands before: each register has a name of its own\n",
     ),
     (
         "processes 1\nregisters x1\nfront linear\n",
