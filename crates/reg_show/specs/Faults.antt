@@ -1,6 +1,7 @@
 -- What the commands tell of a fault.
-use Rattle.std.specs.Prelude.{ℕ, List, [], ◌∷◌, ◌++◌, codes}
+use Rattle.std.specs.Prelude.{ℕ, ◌≡◌, ◌⊎◌, List, [], ◌∷◌, ◌++◌, codes}
 use Rattle.reg_commands.specs.FaultLines.{fault_line}
+use Rattle.reg_commands.specs.declared.faults.Fault.{Fault}
 use Rattle.reg_commands.specs.declared.faults.Fault.TheVariants.{OutOfMemory}
 use Rattle.reg_outcomes.specs.declared.faults.InterleavingFault.{InterleavingFault}
 use Rattle.reg_outcomes.specs.declared.faults.InterleavingFault.TheVariants.{TooManyStages as StagesFault, OutOfMemory as MemoryFault}
@@ -18,6 +19,10 @@ show_line TooManyToShorten = codes "too many events to shorten" ++ 10 ∷ []
 show_line TooManyStages = codes "too many stages" ++ 10 ∷ []
 show_line NoSuchOutcome = codes "no such outcome" ++ 10 ∷ []
 show_line TooManyEvents = codes "too many events" ++ 10 ∷ []
+
+-- The fault is one that the commands over a text tell, or by it something is said of some text.
+abbrev pub CanTell : (ShowFault → List ℕ → Type 0) → ShowFault → Type 0
+CanTell IsBlamed fault = ((told : Fault) × (fault ≡ Command told)) ⊎ ((text : List ℕ) × IsBlamed fault text)
 
 -- the fault of a search among stages, as a command tells it
 abbrev pub fault_of_search : InterleavingFault → ShowFault

@@ -1,12 +1,16 @@
 -- The schedule of a play.
-use Rattle.std.specs.Prelude.{ℕ, Bool, List}
+use Rattle.std.specs.Prelude.{ℕ, Bool, false, List}
 use Rattle.reg_base.specs.declared.memory.Op.{Op}
 use Rattle.reg_front.specs.declared.starts.Start.{Start}
 use Rattle.reg_inputs.specs.Loads.{Load}
 use Rattle.reg_world.specs.Worlds.{Made}
 use Rattle.reg_inputs.specs.ScheduleText.{IsScheduleText, schedule_text}
+use Rattle.reg_commands.specs.Answers.{Blames}
 use Rattle.reg_commands.specs.Replays.{start_of}
+use Rattle.reg_commands.specs.declared.command.Command.TheVariants.{Play}
 use Rattle.reg_commands.specs.Plays.{IsPlayBy, plan_of}
+use Rattle.reg_show.specs.declared.faults.ShowFault.{ShowFault}
+use Rattle.reg_show.specs.declared.faults.ShowFault.TheVariants.{Command}
 use Rattle.reg_show.specs.declared.players.Player.{Player}
 use Rattle.reg_show.specs.Seeds.{HoldsSeeded, is_fair, seed_of}
 
@@ -25,3 +29,8 @@ pub record WritesSchedule (player : Player) (Wrote : List ℕ → Type 0) (text 
   pub work : Load
   pub holds : HoldsSeeded (seed_of player) text work
   pub shown : ShowsSchedule (is_fair player) (start_of work.front) Wrote work
+
+-- what a fault says of the text: only one of a command is told, and it says what it does where a workload is played
+abbrev pub BlamesSchedule : ShowFault → List ℕ → Type 0
+BlamesSchedule (Command fault) text = Blames (Play false) fault text
+BlamesSchedule _ text = ⊥

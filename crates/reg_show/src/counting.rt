@@ -1,9 +1,10 @@
 //! The command that plays a workload many times and prints the table of what the plays told.
-ghost use Rattle.std.specs.Prelude.{◌≡◌, ◌≢◌, ◌≤◌, IfOk, IfErr, IfSome, IsErrOf, MatchResult, OnOk, length};
+ghost use Rattle.std.specs.Prelude.{◌≡◌, ◌≢◌, ◌≤◌, IfOk, IfErr, IfSome, IsErrOf, MatchResult, false, length};
 ghost use Rattle.std.specs.Io.KnownBytes.{Appends};
 ghost use Rattle.reg_base.specs.declared.limits.TheConstants.{LONGEST_INPUT};
 ghost use Rattle.reg_text.specs.Writing.{AppendsPart};
 ghost use Rattle.reg_commands.specs.Replays.{start_of};
+ghost use Rattle.reg_commands.specs.declared.command.Command.TheVariants.{Play};
 ghost use Rattle.reg_outcomes.specs.declared.plays.TheConstants.{MOST_PLAYS};
 ghost use Rattle.reg_outcomes.specs.TableText.{table_text};
 ghost use Rattle.reg_show.specs.Outcomes.{BlamesCount, ShowsOutcomes, StopsPlays, WritesOutcomes};
@@ -11,9 +12,10 @@ ghost use Rattle.reg_show.specs.Faults.{show_line};
 ghost use Rattle.reg_show.specs.Seeds.{IsSeed};
 ghost use Rattle.reg_show.specs.declared.faults.ShowFault.{ShowFault as AnyFault};
 
-use crate::faults::{ShowFault, write_show_fault};
+use crate::answering::{TextCommand, run_command};
+use crate::faults::ShowFault;
 use crate::seeding::read_seeded;
-use reg_commands::{Fault, read_input};
+use reg_commands::Fault;
 use reg_front::{Front, FrontEnd, Linear, LocalRead, LocalWrite};
 use reg_outcomes::{Outcomes, play_many, write_table};
 use reg_workload::Workload;
@@ -72,44 +74,33 @@ fn write_outcomes<A: Allocator + Copy, W: Write>(
     }
 }
 
-/// Reads a workload, plays it so many times from this seed on, or else from its own, and writes the table.
-fn outcomes<A: Allocator + Copy, W: Write>(
-    alloc: A,
-    global: Global,
-    text: &str,
+/// Shows the table of so many plays of the workload that the text says, from this seed on or else from its own.
+#[derive(Clone, Copy)]
+struct ManyPlays {
     plays: u32,
     seed: Option<u64>,
-    writer: &mut W,
-) -> Result<(), ShowFault>
-    requires plays { plays ≤ MOST_PLAYS }
-    requires seed { IsSeed seed }
-    ensures ok { IfOk result (λ _. WritesOutcomes plays seed (Appends (W.contents writer.old) (W.contents writer.new)) text.now) }
-    ensures why { IfErr result (λ f. BlamesCount plays seed f text.now) }
-    ensures silent { IfErr result (λ f. f ≢ ShowFault.Command Fault.Output → writer.new ≡ writer.old) }
-    ensures part { IsErrOf result (ShowFault.Command Fault.Output) → WritesOutcomes plays seed (AppendsPart (W.contents writer.old) (W.contents writer.new)) text.now }
-{
-    let work = read_seeded(alloc, global, text, seed)?;
-    write_outcomes(alloc, &work, plays, writer)
 }
 
-fn obey<A: Allocator + Copy, R: Read, W: Write>(
-    alloc: A,
-    global: Global,
-    plays: u32,
-    seed: Option<u64>,
-    reader: &mut R,
-    writer: &mut W,
-) -> Result<(), ShowFault>
-    requires plays { plays ≤ MOST_PLAYS }
-    requires seed { IsSeed seed }
-    ensures ok { IfOk result (λ _. IfSome (R.remaining reader.old) (WritesOutcomes plays seed (Appends (W.contents writer.old) (W.contents writer.new)))) }
-    ensures within { OnOk result (IfSome (R.remaining reader.old) (λ xs. length xs ≤ LONGEST_INPUT)) }
-    ensures why { IfErr result (λ f. IfSome (R.remaining reader.old) (BlamesCount plays seed f)) }
-    ensures silent { IfErr result (λ f. f ≢ ShowFault.Command Fault.Output → writer.new ≡ writer.old) }
-    ensures part { IsErrOf result (ShowFault.Command Fault.Output) → IfSome (R.remaining reader.old) (WritesOutcomes plays seed (AppendsPart (W.contents writer.old) (W.contents writer.new))) }
-{
-    let text = read_input(alloc, reader)?;
-    outcomes(alloc, global, text.as_str(), plays, seed, writer)
+impl TextCommand for ManyPlays {
+    ghost IsReady = { λ it. (it.plays ≤ MOST_PLAYS) × IsSeed it.seed };
+
+    ghost IsShown = { λ it. WritesOutcomes it.plays it.seed };
+
+    ghost IsBlamed = { λ it. BlamesCount it.plays it.seed };
+
+    /// Reads a workload, plays it many times, and writes the table.
+    fn answer<A: Allocator + Copy, W: Write>(
+        self,
+        alloc: A,
+        global: Global,
+        text: &str,
+        writer: &mut W,
+    ) -> Result<(), ShowFault> {
+        let work = read_seeded(alloc, global, text, self.seed)?;
+        write_outcomes(alloc, &work, self.plays, writer)
+    }
+
+    ghost blames_input = { λ _ _ _ blamed. blamed (Play false) };
 }
 
 /// Plays the workload that the text on the reader says so many times, from this seed on or else from its own, and
@@ -136,11 +127,6 @@ pub fn show_outcomes<A: Allocator + Copy, R: Read, W: Write, E: Write>(
         × AppendsPart (E.contents errors.old) (E.contents errors.new) (show_line f) }
     ensures quiet { result ≡ 0 → errors.new ≡ errors.old }
 {
-    match obey(alloc, global, plays, seed, reader, writer) {
-        Ok(()) => 0,
-        Err(fault) => {
-            let _ = write_show_fault(errors, fault);
-            1
-        }
-    }
+    let command = ManyPlays { plays, seed };
+    run_command(command, alloc, global, reader, writer, errors)
 }

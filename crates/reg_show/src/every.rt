@@ -1,9 +1,10 @@
 //! The command that prints all outcomes that a workload's scripts can have.
-ghost use Rattle.std.specs.Prelude.{◌≡◌, ◌≢◌, ◌≤◌, ◌⊎◌, IfOk, IfErr, IfSome, IsErrOf, MatchResult, OnOk, length, map};
+ghost use Rattle.std.specs.Prelude.{◌≡◌, ◌≢◌, ◌≤◌, ◌⊎◌, IfOk, IfErr, IfSome, IsErrOf, MatchResult, false, length, map};
 ghost use Rattle.std.specs.Option.{option_map};
 ghost use Rattle.std.specs.Io.KnownBytes.{Appends};
 ghost use Rattle.reg_base.specs.declared.limits.TheConstants.{LONGEST_INPUT};
 ghost use Rattle.reg_text.specs.Writing.{AppendsPart};
+ghost use Rattle.reg_commands.specs.declared.command.Command.TheVariants.{Play};
 ghost use Rattle.reg_outcomes.specs.AllText.{ShowsAll, all_text};
 ghost use Rattle.reg_outcomes.specs.Interleavings.{IsWider};
 ghost use Rattle.reg_outcomes.specs.declared.outcomes.TheConstants.{MOST_STAGES};
@@ -11,8 +12,9 @@ ghost use Rattle.reg_show.specs.AllOutcomes.{BlamesAll, WritesAll};
 ghost use Rattle.reg_show.specs.Faults.{show_line};
 ghost use Rattle.reg_show.specs.declared.faults.ShowFault.{ShowFault as AnyFault};
 
-use crate::faults::{ShowFault, write_show_fault};
-use reg_commands::{Fault, read_input, read_workload};
+use crate::answering::{TextCommand, run_command};
+use crate::faults::ShowFault;
+use reg_commands::{Fault, read_workload};
 use reg_outcomes::{
     AllOutcomes, MOST_STAGES, ToldValue, all_outcomes, count_operations, nevers_of, write_all,
 };
@@ -55,36 +57,28 @@ fn write_all_of<A: Allocator + Copy, W: Write>(
     send(writer, count_operations(scripts) as u64, &all, &nevers)
 }
 
-/// Reads a workload, and writes all outcomes of its scripts.
-fn outcomes<A: Allocator + Copy, W: Write>(
-    alloc: A,
-    global: Global,
-    text: &str,
-    writer: &mut W,
-) -> Result<(), ShowFault>
-    ensures ok { IfOk result (λ _. WritesAll (Appends (W.contents writer.old) (W.contents writer.new)) text.now) }
-    ensures why { IfErr result (λ f. BlamesAll f text.now) }
-    ensures silent { IfErr result (λ f. f ≢ ShowFault.Command Fault.Output → writer.new ≡ writer.old) }
-    ensures part { IsErrOf result (ShowFault.Command Fault.Output) → WritesAll (AppendsPart (W.contents writer.old) (W.contents writer.new)) text.now }
-{
-    let work = read_workload(alloc, global, text)?;
-    write_all_of(alloc, &work, writer)
-}
+/// Shows all outcomes that the scripts of the workload that the text says can have.
+#[derive(Clone, Copy)]
+struct EveryOutcome;
 
-fn obey<A: Allocator + Copy, R: Read, W: Write>(
-    alloc: A,
-    global: Global,
-    reader: &mut R,
-    writer: &mut W,
-) -> Result<(), ShowFault>
-    ensures ok { IfOk result (λ _. IfSome (R.remaining reader.old) (WritesAll (Appends (W.contents writer.old) (W.contents writer.new)))) }
-    ensures within { OnOk result (IfSome (R.remaining reader.old) (λ xs. length xs ≤ LONGEST_INPUT)) }
-    ensures why { IfErr result (λ f. IfSome (R.remaining reader.old) (BlamesAll f)) }
-    ensures silent { IfErr result (λ f. f ≢ ShowFault.Command Fault.Output → writer.new ≡ writer.old) }
-    ensures part { IsErrOf result (ShowFault.Command Fault.Output) → IfSome (R.remaining reader.old) (WritesAll (AppendsPart (W.contents writer.old) (W.contents writer.new))) }
-{
-    let text = read_input(alloc, reader)?;
-    outcomes(alloc, global, text.as_str(), writer)
+impl TextCommand for EveryOutcome {
+    ghost IsShown = { λ _. WritesAll };
+
+    ghost IsBlamed = { λ _. BlamesAll };
+
+    /// Reads a workload, and writes all outcomes of its scripts.
+    fn answer<A: Allocator + Copy, W: Write>(
+        self,
+        alloc: A,
+        global: Global,
+        text: &str,
+        writer: &mut W,
+    ) -> Result<(), ShowFault> {
+        let work = read_workload(alloc, global, text)?;
+        write_all_of(alloc, &work, writer)
+    }
+
+    ghost blames_input = { λ _ _ _ blamed. blamed (Play false) };
 }
 
 /// Writes all outcomes that the scripts of the workload that the text on the reader says can have, and the combinations
@@ -107,11 +101,5 @@ pub fn show_all_outcomes<A: Allocator + Copy, R: Read, W: Write, E: Write>(
         × AppendsPart (E.contents errors.old) (E.contents errors.new) (show_line f) }
     ensures quiet { result ≡ 0 → errors.new ≡ errors.old }
 {
-    match obey(alloc, global, reader, writer) {
-        Ok(()) => 0,
-        Err(fault) => {
-            let _ = write_show_fault(errors, fault);
-            1
-        }
-    }
+    run_command(EveryOutcome, alloc, global, reader, writer, errors)
 }

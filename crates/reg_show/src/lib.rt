@@ -2,6 +2,7 @@
 //! and all outcomes; an order of a report's history; and what is wrong with a text.
 #![tactic(auto)]
 
+mod answering;
 mod asking;
 mod commands;
 mod copying;

@@ -1,9 +1,10 @@
 //! The command that prints the schedule of a run with one of the outcomes of a workload's scripts.
-ghost use Rattle.std.specs.Prelude.{◌≡◌, ◌≢◌, ◌≤◌, ◌⊎◌, IfOk, IfErr, IfSome, IsErrOf, OnOk, length};
+ghost use Rattle.std.specs.Prelude.{◌≡◌, ◌≢◌, ◌≤◌, ◌⊎◌, IfOk, IfErr, IfSome, IsErrOf, false, length};
 ghost use Rattle.std.specs.Io.KnownBytes.{Appends};
 ghost use Rattle.reg_base.specs.declared.limits.TheConstants.{LONGEST_INPUT};
 ghost use Rattle.reg_text.specs.Writing.{AppendsPart};
 ghost use Rattle.reg_commands.specs.Replays.{start_of};
+ghost use Rattle.reg_commands.specs.declared.command.Command.TheVariants.{Play};
 ghost use Rattle.reg_outcomes.specs.Finishing.{HasRoom};
 ghost use Rattle.reg_outcomes.specs.Interleavings.{AreAll, IsInterleaving, IsWider};
 ghost use Rattle.reg_outcomes.specs.Showing.{IsRunOf};
@@ -12,9 +13,10 @@ ghost use Rattle.reg_show.specs.Faults.{show_line};
 ghost use Rattle.reg_show.specs.OneOutcome.{BlamesOutcome, Lacks, SendsRun, WritesOutcome};
 ghost use Rattle.reg_show.specs.declared.faults.ShowFault.{ShowFault as AnyFault};
 
-use crate::faults::{ShowFault, write_show_fault};
+use crate::answering::{TextCommand, run_command};
+use crate::faults::ShowFault;
 use crate::scheduling::{events_have_bits, send};
-use reg_commands::{Fault, read_input, read_workload};
+use reg_commands::{Fault, read_workload};
 use reg_front::{Front, FrontEnd, Linear, LocalRead, LocalWrite};
 use reg_outcomes::{AllOutcomes, MOST_STAGES, Outcome, all_outcomes, run_outcome};
 use reg_workload::Workload;
@@ -87,47 +89,40 @@ fn write_run_of<A: Allocator + Copy, W: Write>(
     }
 }
 
-/// Reads a workload, and writes the schedule of a run with the outcome of this number among all of its scripts.
-fn outcome<A: Allocator + Copy, W: Write>(
-    alloc: A,
-    global: Global,
-    text: &str,
+/// Shows the schedule of a run with the outcome of this number, counted from 1, among all outcomes that the scripts of
+/// the workload that the text says can have.
+#[derive(Clone, Copy)]
+struct OneOutcome {
     number: u32,
-    writer: &mut W,
-) -> Result<(), ShowFault>
-    requires { 1 ≤ number }
-    ensures ok { IfOk result (λ _. WritesOutcome number (Appends (W.contents writer.old) (W.contents writer.new)) text.now) }
-    ensures why { IfErr result (λ f. BlamesOutcome number f text.now) }
-    ensures silent { IfErr result (λ f. f ≢ ShowFault.Command Fault.Output → writer.new ≡ writer.old) }
-    ensures part { IsErrOf result (ShowFault.Command Fault.Output) → WritesOutcome number (AppendsPart (W.contents writer.old) (W.contents writer.new)) text.now }
-{
-    let work = match read_workload(alloc, global, text) {
-        Ok(work) => work,
-        Err(fault) => return Err(ShowFault::Command { fault }),
-    };
-    let all = outcomes_of(alloc, &work)?;
-    match all.list.get(number as usize - 1) {
-        Some(outcome) => write_run_of(alloc, &work, outcome, writer),
-        None => Err(ShowFault::NoSuchOutcome),
-    }
 }
 
-fn obey<A: Allocator + Copy, R: Read, W: Write>(
-    alloc: A,
-    global: Global,
-    number: u32,
-    reader: &mut R,
-    writer: &mut W,
-) -> Result<(), ShowFault>
-    requires { 1 ≤ number }
-    ensures ok { IfOk result (λ _. IfSome (R.remaining reader.old) (WritesOutcome number (Appends (W.contents writer.old) (W.contents writer.new)))) }
-    ensures within { OnOk result (IfSome (R.remaining reader.old) (λ xs. length xs ≤ LONGEST_INPUT)) }
-    ensures why { IfErr result (λ f. IfSome (R.remaining reader.old) (BlamesOutcome number f)) }
-    ensures silent { IfErr result (λ f. f ≢ ShowFault.Command Fault.Output → writer.new ≡ writer.old) }
-    ensures part { IsErrOf result (ShowFault.Command Fault.Output) → IfSome (R.remaining reader.old) (WritesOutcome number (AppendsPart (W.contents writer.old) (W.contents writer.new))) }
-{
-    let text = read_input(alloc, reader)?;
-    outcome(alloc, global, text.as_str(), number, writer)
+impl TextCommand for OneOutcome {
+    ghost IsReady = { λ it. 1 ≤ it.number };
+
+    ghost IsShown = { λ it. WritesOutcome it.number };
+
+    ghost IsBlamed = { λ it. BlamesOutcome it.number };
+
+    /// Reads a workload, and writes the schedule of a run with the outcome of this number.
+    fn answer<A: Allocator + Copy, W: Write>(
+        self,
+        alloc: A,
+        global: Global,
+        text: &str,
+        writer: &mut W,
+    ) -> Result<(), ShowFault> {
+        let work = match read_workload(alloc, global, text) {
+            Ok(work) => work,
+            Err(fault) => return Err(ShowFault::Command { fault }),
+        };
+        let all = outcomes_of(alloc, &work)?;
+        match all.list.get(self.number as usize - 1) {
+            Some(outcome) => write_run_of(alloc, &work, outcome, writer),
+            None => Err(ShowFault::NoSuchOutcome),
+        }
+    }
+
+    ghost blames_input = { λ _ _ _ blamed. blamed (Play false) };
 }
 
 /// Writes the schedule of a run with the outcome of this number, counted from 1, among all outcomes that the scripts of
@@ -153,11 +148,5 @@ pub fn show_outcome<A: Allocator + Copy, R: Read, W: Write, E: Write>(
         × AppendsPart (E.contents errors.old) (E.contents errors.new) (show_line f) }
     ensures quiet { result ≡ 0 → errors.new ≡ errors.old }
 {
-    match obey(alloc, global, number, reader, writer) {
-        Ok(()) => 0,
-        Err(fault) => {
-            let _ = write_show_fault(errors, fault);
-            1
-        }
-    }
+    run_command(OneOutcome { number }, alloc, global, reader, writer, errors)
 }

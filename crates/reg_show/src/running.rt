@@ -1,5 +1,5 @@
 //! Showing a text over any reader and writer.
-ghost use Rattle.std.specs.Prelude.{◌≡◌, ◌≢◌, ◌≤◌, IfOk, IfErr, IsErrOf, OnOk, IfSome, length};
+ghost use Rattle.std.specs.Prelude.{◌≡◌, ◌≢◌, ◌≤◌, IfOk, IfErr, IsErrOf, IfSome, length};
 ghost use Rattle.std.specs.Io.KnownBytes.{Appends};
 ghost use Rattle.reg_base.specs.declared.limits.TheConstants.{LONGEST_INPUT};
 ghost use Rattle.reg_text.specs.Writing.{AppendsPart};
@@ -8,15 +8,16 @@ ghost use Rattle.std.specs.Str.{IsUtf8};
 ghost use Rattle.reg_show.specs.Faults.{show_line};
 ghost use Rattle.reg_show.specs.Showings.{Blames, BlamesText, IsPlayed, Shows, ShowsText};
 
+use crate::answering::{TextCommand, run_command};
 use crate::commands::{draw, trace};
-use crate::faults::{ShowFault, write_show_fault};
+use crate::faults::ShowFault;
 use crate::kinds::{Kind, kind_of};
 use crate::paging::write_run;
 use crate::players::Player;
 use crate::resting::rest;
-use crate::scheduling::schedule;
+use crate::scheduling::FullSchedule;
 use crate::showing::Showing;
-use reg_commands::{Fault, read_input};
+use reg_commands::Fault;
 use reg_page::head::HEAD;
 use reg_page::tail::TAIL;
 use std::alloc::{AllocError, Allocator, Global};
@@ -52,11 +53,17 @@ fn played<A: Allocator + Copy>(
     ensures { IfOk result (λ o. IfSome o (λ v. IsPlayed text.now v.items × IsUtf8 v.items)) }
 {
     let mut made = Vec::new(alloc);
-    let player = Player::Seeded { seed: None };
-    match schedule(alloc, global, text, player, &mut made) {
+    let command = FullSchedule {
+        player: Player::Seeded { seed: None },
+    };
+    match command.answer(alloc, global, text, &mut made) {
         Ok(()) => Ok(Some(made)),
         // (a list takes all that is written but where memory is refused)
-        Err(Fault::OutOfMemory | Fault::Output) => Err(AllocError),
+        Err(
+            ShowFault::Command {
+                fault: Fault::OutOfMemory | Fault::Output,
+            },
+        ) => Err(AllocError),
         Err(_) => Ok(None),
     }
 }
@@ -75,44 +82,40 @@ fn source<A: Allocator + Copy>(
     }
 }
 
-/// Shows what a text says: of a workload, what the schedule of its seeded play says.
-#[tactic(auto, unfolding(crate::specs::Showings::Shows))]
-fn show_any<A: Allocator + Copy, W: Write>(
-    alloc: A,
-    global: Global,
-    showing: Showing,
-    text: &str,
-    writer: &mut W,
-) -> Result<(), ShowFault>
-    ensures ok { IfOk result (λ _. Shows showing (Appends (W.contents writer.old) (W.contents writer.new)) text.now) }
-    ensures why { IfErr result (λ f. Blames showing f text.now) }
-    ensures silent { IfErr result (λ f. f ≢ ShowFault.Command Fault.Output → writer.new ≡ writer.old) }
-    ensures part { IsErrOf result (ShowFault.Command Fault.Output) → Shows showing (AppendsPart (W.contents writer.old) (W.contents writer.new)) text.now }
-{
-    match source(alloc, global, text)? {
-        Some(schedule) => match str::from_utf8(schedule.as_slice()) {
-            Ok(played) => show(alloc, showing, played, writer),
-            Err(_) => unreachable!(),
-        },
-        None => show(alloc, showing, text, writer),
-    }
-}
+impl TextCommand for Showing {
+    ghost use Rattle.std.proofs.Common.{inl};
+    ghost use Rattle.reg_commands.specs.declared.command.Command.TheVariants.{Replay};
+    ghost use Rattle.reg_show.specs.declared.showing.Showing.TheVariants.{Trace, Draw, Data, Page, Rest};
 
-fn obey<A: Allocator + Copy, R: Read, W: Write>(
-    alloc: A,
-    global: Global,
-    showing: Showing,
-    reader: &mut R,
-    writer: &mut W,
-) -> Result<(), ShowFault>
-    ensures ok { IfOk result (λ _. IfSome (R.remaining reader.old) (Shows showing (Appends (W.contents writer.old) (W.contents writer.new)))) }
-    ensures within { OnOk result (IfSome (R.remaining reader.old) (λ xs. length xs ≤ LONGEST_INPUT)) }
-    ensures why { IfErr result (λ f. IfSome (R.remaining reader.old) (Blames showing f)) }
-    ensures silent { IfErr result (λ f. f ≢ ShowFault.Command Fault.Output → writer.new ≡ writer.old) }
-    ensures part { IsErrOf result (ShowFault.Command Fault.Output) → IfSome (R.remaining reader.old) (Shows showing (AppendsPart (W.contents writer.old) (W.contents writer.new))) }
-{
-    let text = read_input(alloc, reader)?;
-    show_any(alloc, global, showing, text.as_str(), writer)
+    ghost IsShown = { Shows };
+
+    ghost IsBlamed = { Blames };
+
+    /// Shows what a text says: of a workload, what the schedule of its seeded play says.
+    #[tactic(auto, unfolding(crate::specs::Showings::Shows))]
+    fn answer<A: Allocator + Copy, W: Write>(
+        self,
+        alloc: A,
+        global: Global,
+        text: &str,
+        writer: &mut W,
+    ) -> Result<(), ShowFault> {
+        match source(alloc, global, text)? {
+            Some(schedule) => match str::from_utf8(schedule.as_slice()) {
+                Ok(played) => show(alloc, self, played, writer),
+                Err(_) => unreachable!(),
+            },
+            None => show(alloc, self, text, writer),
+        }
+    }
+
+    ghost blames_input = { elim [
+      | Trace ↦ λ _ _ blamed. inl (blamed Replay)
+      | Draw ↦ λ _ _ blamed. inl (blamed Replay)
+      | Data ↦ λ _ _ blamed. inl (blamed Replay)
+      | Page ↦ λ _ _ blamed. inl (blamed Replay)
+      | Rest ↦ λ _ _ blamed. inl (blamed Replay)
+    ] };
 }
 
 /// Shows what the text on the reader says: it reads the whole input, and writes once all of it is accepted. The answer
@@ -135,11 +138,5 @@ pub fn show_text<A: Allocator + Copy, R: Read, W: Write, E: Write>(
         × AppendsPart (E.contents errors.old) (E.contents errors.new) (show_line f) }
     ensures quiet { result ≡ 0 → errors.new ≡ errors.old }
 {
-    match obey(alloc, global, showing, reader, writer) {
-        Ok(()) => 0,
-        Err(fault) => {
-            let _ = write_show_fault(errors, fault);
-            1
-        }
-    }
+    run_command(showing, alloc, global, reader, writer, errors)
 }

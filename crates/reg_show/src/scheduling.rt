@@ -1,5 +1,5 @@
 //! The command that prints the schedule of a play.
-ghost use Rattle.std.specs.Prelude.{◌≡◌, ◌≢◌, ◌≤◌, ◌⊎◌, ℕ, IfOk, IfErr, IfSome, IsErrOf, MatchResult, OnOk, Some, false, length, slice_get};
+ghost use Rattle.std.specs.Prelude.{◌≡◌, ◌≢◌, ◌≤◌, ◌⊎◌, ℕ, IfOk, IfErr, IfSome, IsErrOf, MatchResult, Some, false, length, slice_get};
 ghost use Rattle.std.specs.Io.KnownBytes.{Appends};
 ghost use Rattle.reg_base.specs.declared.limits.TheConstants.{LONGEST_INPUT};
 ghost use Rattle.reg_text.specs.Writing.{AppendsPart};
@@ -11,14 +11,16 @@ ghost use Rattle.reg_commands.specs.FaultLines.{fault_line};
 ghost use Rattle.reg_commands.specs.declared.faults.Fault.{Fault as AnyFault};
 ghost use Rattle.reg_inputs.specs.Schedules.{Plan};
 ghost use Rattle.reg_inputs.specs.ScheduleText.{schedule_text};
-ghost use Rattle.reg_show.specs.Schedules.{ShowsSchedule, WritesSchedule};
+ghost use Rattle.reg_show.specs.Schedules.{BlamesSchedule, ShowsSchedule, WritesSchedule};
 ghost use Rattle.reg_show.specs.Seeds.{IsSeed, seed_of};
 ghost use Rattle.reg_show.specs.ToldRuns.{EventHasBits};
 
+use crate::answering::{TextCommand, run_command};
+use crate::faults::ShowFault;
 use crate::players::Player;
 use crate::seeding::read_seeded;
 use reg_base::{Names, Shape};
-use reg_commands::{Fault, play_by, read_input, write_fault};
+use reg_commands::{Fault, play_by};
 use reg_front::{Front, FrontEnd, Linear, LocalRead, LocalWrite};
 use reg_inputs::write_schedule;
 use reg_workload::Workload;
@@ -63,15 +65,13 @@ fn write_play<F: FrontEnd, A: Allocator + Copy, W: Write>(
     work: &Workload<A>,
     fair: bool,
     writer: &mut W,
-) -> Result<(), Fault>
+) -> Result<(), ShowFault>
     ensures ok { IfOk result (λ _. ShowsSchedule fair F.start (Appends (W.contents writer.old) (W.contents writer.new)) work.now) }
-    ensures why { IfErr result (λ f. (f ≡ Fault.Output) ⊎ (f ≡ Fault.OutOfMemory)) }
-    ensures silent { IfErr result (λ f. f ≢ Fault.Output → writer.new ≡ writer.old) }
-    ensures part { IsErrOf result Fault.Output → ShowsSchedule fair F.start (AppendsPart (W.contents writer.old) (W.contents writer.new)) work.now }
+    ensures why { IfErr result (λ f. (f ≡ ShowFault.Command Fault.Output) ⊎ (f ≡ ShowFault.Command Fault.OutOfMemory)) }
+    ensures silent { IfErr result (λ f. f ≢ ShowFault.Command Fault.Output → writer.new ≡ writer.old) }
+    ensures part { IsErrOf result (ShowFault.Command Fault.Output) → ShowsSchedule fair F.start (AppendsPart (W.contents writer.old) (W.contents writer.new)) work.now }
 {
-    let Ok(play) = play_by::<F, A, PackedWires<A>>(alloc, work, fair) else {
-        return Err(Fault::OutOfMemory);
-    };
+    let play = play_by::<F, A, PackedWires<A>>(alloc, work, fair)?;
     let events = play.world.accepted();
     events_have_bits(events);
     send(writer, work.shape, &work.names, work.front, events)?;
@@ -84,11 +84,11 @@ fn write_workload<A: Allocator + Copy, W: Write>(
     work: &Workload<A>,
     fair: bool,
     writer: &mut W,
-) -> Result<(), Fault>
+) -> Result<(), ShowFault>
     ensures ok { IfOk result (λ _. ShowsSchedule fair (start_of work.now.front) (Appends (W.contents writer.old) (W.contents writer.new)) work.now) }
-    ensures why { IfErr result (λ f. (f ≡ Fault.Output) ⊎ (f ≡ Fault.OutOfMemory)) }
-    ensures silent { IfErr result (λ f. f ≢ Fault.Output → writer.new ≡ writer.old) }
-    ensures part { IsErrOf result Fault.Output → ShowsSchedule fair (start_of work.now.front) (AppendsPart (W.contents writer.old) (W.contents writer.new)) work.now }
+    ensures why { IfErr result (λ f. (f ≡ ShowFault.Command Fault.Output) ⊎ (f ≡ ShowFault.Command Fault.OutOfMemory)) }
+    ensures silent { IfErr result (λ f. f ≢ ShowFault.Command Fault.Output → writer.new ≡ writer.old) }
+    ensures part { IsErrOf result (ShowFault.Command Fault.Output) → ShowsSchedule fair (start_of work.now.front) (AppendsPart (W.contents writer.old) (W.contents writer.new)) work.now }
 {
     match work.front {
         Front::Linear => write_play::<Linear, A, W>(alloc, work, fair, writer),
@@ -97,40 +97,32 @@ fn write_workload<A: Allocator + Copy, W: Write>(
     }
 }
 
-/// Reads a workload, plays it, and writes the schedule of the play.
-pub(crate) fn schedule<A: Allocator + Copy, W: Write>(
-    alloc: A,
-    global: Global,
-    text: &str,
-    player: Player,
-    writer: &mut W,
-) -> Result<(), Fault>
-    requires { IsSeed (seed_of player) }
-    ensures ok { IfOk result (λ _. WritesSchedule player (Appends (W.contents writer.old) (W.contents writer.new)) text.now) }
-    ensures why { IfErr result (λ f. Blames (Play false) f text.now) }
-    ensures silent { IfErr result (λ f. f ≢ Fault.Output → writer.new ≡ writer.old) }
-    ensures part { IsErrOf result Fault.Output → WritesSchedule player (AppendsPart (W.contents writer.old) (W.contents writer.new)) text.now }
-{
-    let work = read_seeded(alloc, global, text, player.seed())?;
-    write_workload(alloc, &work, player.is_fair(), writer)
+/// Shows the schedule of a play of the workload that the text says.
+#[derive(Clone, Copy)]
+pub(crate) struct FullSchedule {
+    pub player: Player,
 }
 
-fn obey<A: Allocator + Copy, R: Read, W: Write>(
-    alloc: A,
-    global: Global,
-    player: Player,
-    reader: &mut R,
-    writer: &mut W,
-) -> Result<(), Fault>
-    requires { IsSeed (seed_of player) }
-    ensures ok { IfOk result (λ _. IfSome (R.remaining reader.old) (WritesSchedule player (Appends (W.contents writer.old) (W.contents writer.new)))) }
-    ensures within { OnOk result (IfSome (R.remaining reader.old) (λ xs. length xs ≤ LONGEST_INPUT)) }
-    ensures why { IfErr result (λ f. IfSome (R.remaining reader.old) (Blames (Play false) f)) }
-    ensures silent { IfErr result (λ f. f ≢ Fault.Output → writer.new ≡ writer.old) }
-    ensures part { IsErrOf result Fault.Output → IfSome (R.remaining reader.old) (WritesSchedule player (AppendsPart (W.contents writer.old) (W.contents writer.new))) }
-{
-    let text = read_input(alloc, reader)?;
-    schedule(alloc, global, text.as_str(), player, writer)
+impl TextCommand for FullSchedule {
+    ghost IsReady = { λ it. IsSeed (seed_of it.player) };
+
+    ghost IsShown = { λ it. WritesSchedule it.player };
+
+    ghost IsBlamed = { λ _. BlamesSchedule };
+
+    /// Reads a workload, plays it, and writes the schedule of the play.
+    fn answer<A: Allocator + Copy, W: Write>(
+        self,
+        alloc: A,
+        global: Global,
+        text: &str,
+        writer: &mut W,
+    ) -> Result<(), ShowFault> {
+        let work = read_seeded(alloc, global, text, self.player.seed())?;
+        write_workload(alloc, &work, self.player.is_fair(), writer)
+    }
+
+    ghost blames_input = { λ _ _ _ blamed. blamed (Play false) };
 }
 
 /// Writes the schedule of the player's play of the workload that the text on the reader says: it reads the whole input,
@@ -156,11 +148,6 @@ pub fn show_schedule<A: Allocator + Copy, R: Read, W: Write, E: Write>(
         × AppendsPart (E.contents errors.old) (E.contents errors.new) (fault_line f) }
     ensures quiet { result ≡ 0 → errors.new ≡ errors.old }
 {
-    match obey(alloc, global, player, reader, writer) {
-        Ok(()) => 0,
-        Err(fault) => {
-            let _ = write_fault(errors, fault);
-            1
-        }
-    }
+    let command = FullSchedule { player };
+    run_command(command, alloc, global, reader, writer, errors)
 }

@@ -1,20 +1,22 @@
 //! The command that prints the schedule of the short form of a play.
-ghost use Rattle.std.specs.Prelude.{◌≡◌, ◌≢◌, ◌≤◌, ◌⊎◌, IfOk, IfErr, IfSome, IsErrOf, OnOk, length};
+ghost use Rattle.std.specs.Prelude.{◌≡◌, ◌≢◌, ◌≤◌, ◌⊎◌, IfOk, IfErr, IfSome, IsErrOf, false, length};
 ghost use Rattle.std.specs.Io.KnownBytes.{Appends};
 ghost use Rattle.reg_base.specs.declared.limits.TheConstants.{LONGEST_INPUT};
 ghost use Rattle.reg_text.specs.Writing.{AppendsPart};
 ghost use Rattle.reg_commands.specs.Replays.{start_of};
+ghost use Rattle.reg_commands.specs.declared.command.Command.TheVariants.{Play};
 ghost use Rattle.reg_show.specs.Faults.{show_line};
 ghost use Rattle.reg_show.specs.Seeds.{IsSeed, seed_of};
 ghost use Rattle.reg_show.specs.Shorts.{BlamesShort, IsShortPlay, LacksShort, ShowsShort, WritesShort};
 ghost use Rattle.reg_show.specs.declared.faults.ShowFault.{ShowFault as AnyFault};
 
-use crate::faults::{ShowFault, write_show_fault};
+use crate::answering::{TextCommand, run_command};
+use crate::faults::ShowFault;
 use crate::players::Player;
 use crate::scheduling::{events_have_bits, send};
 use crate::seeding::read_seeded;
 use crate::shortening::{shorten, up_to_last};
-use reg_commands::{Fault, play_by, read_input};
+use reg_commands::{Fault, play_by};
 use reg_front::{Front, FrontEnd, Linear, LocalRead, LocalWrite};
 use reg_workload::Workload;
 use reg_world::{Event, PackedWires};
@@ -80,40 +82,32 @@ fn write_short_of<A: Allocator + Copy, W: Write>(
     }
 }
 
-/// Reads a workload, plays it, and writes the schedule of the play's short form.
-fn short_schedule<A: Allocator + Copy, W: Write>(
-    alloc: A,
-    global: Global,
-    text: &str,
+/// Shows the schedule of the short form of a play of the workload that the text says.
+#[derive(Clone, Copy)]
+struct ShortSchedule {
     player: Player,
-    writer: &mut W,
-) -> Result<(), ShowFault>
-    requires { IsSeed (seed_of player) }
-    ensures ok { IfOk result (λ _. WritesShort player (Appends (W.contents writer.old) (W.contents writer.new)) text.now) }
-    ensures why { IfErr result (λ f. BlamesShort player f text.now) }
-    ensures silent { IfErr result (λ f. f ≢ ShowFault.Command Fault.Output → writer.new ≡ writer.old) }
-    ensures part { IsErrOf result (ShowFault.Command Fault.Output) → WritesShort player (AppendsPart (W.contents writer.old) (W.contents writer.new)) text.now }
-{
-    let work = read_seeded(alloc, global, text, player.seed())?;
-    write_short_of(alloc, &work, player.is_fair(), writer)
 }
 
-fn obey<A: Allocator + Copy, R: Read, W: Write>(
-    alloc: A,
-    global: Global,
-    player: Player,
-    reader: &mut R,
-    writer: &mut W,
-) -> Result<(), ShowFault>
-    requires { IsSeed (seed_of player) }
-    ensures ok { IfOk result (λ _. IfSome (R.remaining reader.old) (WritesShort player (Appends (W.contents writer.old) (W.contents writer.new)))) }
-    ensures within { OnOk result (IfSome (R.remaining reader.old) (λ xs. length xs ≤ LONGEST_INPUT)) }
-    ensures why { IfErr result (λ f. IfSome (R.remaining reader.old) (BlamesShort player f)) }
-    ensures silent { IfErr result (λ f. f ≢ ShowFault.Command Fault.Output → writer.new ≡ writer.old) }
-    ensures part { IsErrOf result (ShowFault.Command Fault.Output) → IfSome (R.remaining reader.old) (WritesShort player (AppendsPart (W.contents writer.old) (W.contents writer.new))) }
-{
-    let text = read_input(alloc, reader)?;
-    short_schedule(alloc, global, text.as_str(), player, writer)
+impl TextCommand for ShortSchedule {
+    ghost IsReady = { λ it. IsSeed (seed_of it.player) };
+
+    ghost IsShown = { λ it. WritesShort it.player };
+
+    ghost IsBlamed = { λ it. BlamesShort it.player };
+
+    /// Reads a workload, plays it, and writes the schedule of the play's short form.
+    fn answer<A: Allocator + Copy, W: Write>(
+        self,
+        alloc: A,
+        global: Global,
+        text: &str,
+        writer: &mut W,
+    ) -> Result<(), ShowFault> {
+        let work = read_seeded(alloc, global, text, self.player.seed())?;
+        write_short_of(alloc, &work, self.player.is_fair(), writer)
+    }
+
+    ghost blames_input = { λ _ _ _ blamed. blamed (Play false) };
 }
 
 /// Writes the schedule of the short form of the player's play of the workload that the text on the reader says: it
@@ -141,11 +135,6 @@ pub fn show_short_schedule<A: Allocator + Copy, R: Read, W: Write, E: Write>(
         × AppendsPart (E.contents errors.old) (E.contents errors.new) (show_line f) }
     ensures quiet { result ≡ 0 → errors.new ≡ errors.old }
 {
-    match obey(alloc, global, player, reader, writer) {
-        Ok(()) => 0,
-        Err(fault) => {
-            let _ = write_show_fault(errors, fault);
-            1
-        }
-    }
+    let command = ShortSchedule { player };
+    run_command(command, alloc, global, reader, writer, errors)
 }

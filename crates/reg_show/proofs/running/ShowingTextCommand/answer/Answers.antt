@@ -1,7 +1,7 @@
 use Rattle.std.proofs.Common.{inr, subst, sym, ◌∙◌, IfSome, ℕ}
 use Rattle.std.specs.Str.{IsUtf8}
 use Rattle.reg_show.specs.Showings.{IsPlayed, Shows}
-use Rattle.reg_show.proofs.running.show_any.Goals as goal
+use Rattle.reg_show.proofs.running.ShowingTextCommand.answer.Goals as goal
 
 pub returns-in-Ok-clause-part : goal.returns-in-Ok-clause-part
 unfolding Shows
