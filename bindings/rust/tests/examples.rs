@@ -22,7 +22,7 @@ fn texts() {
 const WRITE: OpId = OpId { process: 0, number: 0 };
 const READ: OpId = OpId { process: 1, number: 0 };
 
-/// A write that is done, and behind it a read of another process that saw nothing of it.
+/// A write that is done, and after it a read of another process that saw nothing of it.
 const STALE: [Entry; 4] = [
     Entry::Called { at: 0, id: WRITE, op: Op::Write { register: 0, value: 5 } },
     Entry::Answered { at: 4, id: WRITE, answer: Answer::Done },
@@ -95,7 +95,7 @@ fn schedule(front: &str, processes: u8, events: &[Event]) -> String {
     text
 }
 
-/// The lines of a report behind its names.
+/// The lines of a report after its names.
 fn told(history: &[Entry], order: &[OpId], points: Option<&[Point]>) -> String {
     let mut text = format!("history {}\n", history.len());
     for entry in history {

@@ -121,7 +121,7 @@ fn put_odd_script<A: Allocator + Copy>(notes: &mut Notes<'_, A>, values: &[Value
     }
 }
 
-/// Puts how many registers or scripts a workload has, or operations a script, where there are so many of a key.
+/// Puts how many registers or scripts a workload has, or operations a script, where a key has `count` of them.
 fn put_count<A: Allocator + Copy>(notes: &mut Notes<'_, A>, key: Key, count: u64) {
     let (text, most) = match key {
         Key::Registers => (

@@ -63,7 +63,7 @@ fn stands_before(text: &[u8], number: u64, process: u64) -> Before {
     before
 }
 
-const FALLS: &str = "event {} doesn't come behind event {}, of the line before\n";
+const FALLS: &str = "event {} doesn't come after event {}, of the line before\n";
 
 const NEXT: &str = "the next operation of process {} is #{}\n";
 

@@ -70,7 +70,7 @@ impl RefusedLine<'_> {
         match (self.why, line_at(self.text, self.number)) {
             (ReadWhy::End, Some(line)) => {
                 notes.put_place(line, 0);
-                notes.put(&["a report ends with the line end: no line stands behind it\n"]);
+                notes.put(&["a report ends with the line end: no line stands after it\n"]);
             }
             (ReadWhy::Place, Some(line)) => {
                 notes.put_place(line, 0);

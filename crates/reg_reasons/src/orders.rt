@@ -117,7 +117,7 @@ impl<'a, A: Allocator + Copy> RefusedList<'a, A> {
         for (place, id) in self.ids.iter().enumerate() {
             let last = latest[id.process as usize];
             if id.number < last {
-                let text = "p{} #{} stands behind p{} #{}, which its process called later\n";
+                let text = "p{} #{} stands after p{} #{}, which its process called later\n";
                 let numbers = numbers_of(*id, id.process as u64, last as u64);
                 return Some((self.line(place), text, numbers));
             }

@@ -44,7 +44,7 @@ fn has_right_number(bytes: &[u8]) -> bool {
     column.len() == EVENT_PLACES && is_numeral(after(column, spaces_before(column)))
 }
 
-/// Whether a number begins the first column, of so many places.
+/// Whether a number begins the first column, of `places` places.
 fn has_left_number(bytes: &[u8], places: usize) -> bool {
     let column = front_of(bytes, places);
     column.len() == places && is_numeral(in_front(column))
@@ -65,7 +65,7 @@ impl<'a> Scan<'a> {
         front_of(self.line, self.line.len().saturating_sub(self.rest.len()))
     }
 
-    /// Whether so many names stand before on the line, with a space before each.
+    /// Whether `most` names stand before on the line: a space stands before each of them, and before the next one.
     fn is_full(&self, most: u64) -> bool {
         let spaces = self.before().iter().filter(|b| **b == b' ').count();
         spaces as u64 > most

@@ -32,7 +32,7 @@ pub enum Step {
     Number(Range),
     /// The spaces before a number that ends a column of 8 places.
     Right,
-    /// A number that begins a column of so many places, of which `words` speaks.
+    /// A number that begins a column of `places` places, of which `words` speaks.
     Left {
         places: usize,
         words: &'static str,
@@ -64,7 +64,7 @@ pub enum Wanted {
     Number(Range),
     /// A register that the text has named.
     Register,
-    /// The name of a register. What is told of one that stands there.
+    /// The name of a register. What is told of the one that stands there, which is misspelt or taken.
     Name(&'static str),
     /// No more names than this.
     Fewer(u64),

@@ -20,7 +20,8 @@ show_line TooManyStages = codes "too many stages" ++ 10 ∷ []
 show_line NoSuchOutcome = codes "no such outcome" ++ 10 ∷ []
 show_line TooManyEvents = codes "too many events" ++ 10 ∷ []
 
--- The fault is one that the commands over a text tell, or by it something is said of some text.
+-- The fault is one of a command, or one by which something is said of some text, also where the input isn't known. It
+-- carries a proof: no promise speaks of it.
 abbrev pub CanTell : (ShowFault → List ℕ → Type 0) → ShowFault → Type 0
 CanTell IsBlamed fault = ((told : Fault) × (fault ≡ Command told)) ⊎ ((text : List ℕ) × IsBlamed fault text)
 

@@ -30,7 +30,7 @@ pub record WritesSchedule (player : Player) (Wrote : List ℕ → Type 0) (text 
   pub holds : HoldsSeeded (seed_of player) text work
   pub shown : ShowsSchedule (is_fair player) (start_of work.front) Wrote work
 
--- what a fault says of the text: only one of a command is told, and it says what it does where a workload is played
+-- what a fault says of the text: of a command, what it says where a workload is played; no other is told
 abbrev pub BlamesSchedule : ShowFault → List ℕ → Type 0
 BlamesSchedule (Command fault) text = Blames (Play false) fault text
 BlamesSchedule _ text = ⊥

@@ -18,7 +18,7 @@ use std::io::{Read, Write};
 
 /// A command that shows something of a text.
 pub(crate) trait TextCommand: Copy {
-    /// What its caller sees to.
+    /// What its caller sees to: by default nothing.
     ghost IsReady: { Self → Type 0 } = { λ _. ⊤ };
 
     /// What the text is, and what of it was written: the second argument says how a text was.
@@ -47,7 +47,8 @@ pub(crate) trait TextCommand: Copy {
         ensures silent { IfErr result (λ f. f ≢ ShowFault.Command Fault.Output → writer.new ≡ writer.old) }
         ensures part { IsErrOf result (ShowFault.Command Fault.Output) → IsShown self (AppendsPart (W.contents writer.old) (W.contents writer.new)) text.now };
 
-    /// A fault of the input, which each command that reads it tells, is told by this one too.
+    /// What all commands tell of their input by a fault, this one tells too: that it can't be read, is too long or is
+    /// no text, or that there is no memory.
     ghost blames_input: { (it : Self) (fault : InputFault) (text : List ℕ) → ((command : AnyCommand) → Blames command fault text) → IsBlamed it (Command fault) text };
 }
 

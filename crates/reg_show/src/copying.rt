@@ -27,7 +27,7 @@ fn texts_of<A: Allocator + Copy>(
     Ok(copies)
 }
 
-/// The same names.
+/// A copy of the names.
 fn copy_names<A: Allocator + Copy>(alloc: A, names: &Names<A>) -> Result<Names<A>, AllocError>
     ensures { IfOk result (λ n. n ≡ names.now) }
 {
@@ -37,7 +37,7 @@ fn copy_names<A: Allocator + Copy>(alloc: A, names: &Names<A>) -> Result<Names<A
     }
 }
 
-/// The same history.
+/// A copy of the history.
 fn copy_history<A: Allocator + Copy>(
     alloc: A,
     history: &History<A>,

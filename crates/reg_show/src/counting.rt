@@ -74,7 +74,7 @@ fn write_outcomes<A: Allocator + Copy, W: Write>(
     }
 }
 
-/// Shows the table of so many plays of the workload that the text says, from this seed on or else from its own.
+/// Shows the table of `plays` plays of the workload that the text says, from this seed on or else from its own.
 #[derive(Clone, Copy)]
 struct ManyPlays {
     plays: u32,
@@ -103,7 +103,7 @@ impl TextCommand for ManyPlays {
     ghost blames_input = { λ _ _ _ blamed. blamed (Play false) };
 }
 
-/// Plays the workload that the text on the reader says so many times, from this seed on or else from its own, and
+/// Plays the workload that the text on the reader says `plays` times, from this seed on or else from its own, and
 /// writes the table of what the plays told: it reads the whole input, and writes once all plays are counted. The answer
 /// is the status: 0, or 1 where something was refused, with the line of the fault on `errors`, or where the writer
 /// failed, and then a first part of the table went out. That `errors` fails changes no status. The table of a workload

@@ -46,7 +46,7 @@ pub(crate) const ROWS: [Row; 28] = [
     (
         "awreg report 2\nfront linear\nprocesses 2\nregisters 1\nx\nhistory 4\n       0  p0    #0       call    write x 5\n       2  p0    #0       answer  done\n       2  p1    #0       call    read x\n       5  p1    #0       answer  value 5\norder 2\np0 #0\np1 #0\npoints 2\np0 #0 at 1\np1 #0 at 4\nend\n",
         false,
-        "line 9: place\n9 |        2  p1    #0       call    read x\n  | ^\nevent 2 doesn't come behind event 2, of the line before\n",
+        "line 9: place\n9 |        2  p1    #0       call    read x\n  | ^\nevent 2 doesn't come after event 2, of the line before\n",
     ),
     (
         "awreg report 2\nfront linear\nprocesses 2\nregisters 1\nx\nhistory 4\n       0  p0    #0       call    write x 5\n       2  p0    #0       answer  done\n       3  p1    #1       call    read x\n       5  p1    #0       answer  value 5\norder 2\np0 #0\np1 #0\npoints 2\np0 #0 at 1\np1 #0 at 4\nend\n",
@@ -81,7 +81,7 @@ pub(crate) const ROWS: [Row; 28] = [
     (
         "awreg report 2\nfront linear\nprocesses 2\nregisters 1\nx\nhistory 4\n       0  p0    #0       call    write x 5\n       2  p0    #0       answer  done\n       3  p1    #0       call    read x\n       5  p1    #0       answer  value 5\norder 2\np0 #0\np1 #0\npoints 2\np0 #0 at 1\np1 #0 at 4\nend\n\n",
         false,
-        "line 18: end\n18 | \n   | ^\na report ends with the line end: no line stands behind it\n",
+        "line 18: end\n18 | \n   | ^\na report ends with the line end: no line stands after it\n",
     ),
     (
         "awreg report 2\nfront linear\nprocesses 2\nregisters 1\nx\nhistory 4\n       0  p0    #0       call    write x 5\n       2  p0    #0       answer  done\n       3  p1    #0       call    read x\n       5  p1    #0       answer  value 7\norder 2\np0 #0\np1 #0\npoints 2\np0 #0 at 1\np1 #0 at 4\nend\n",

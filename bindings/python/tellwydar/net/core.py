@@ -11,7 +11,7 @@ __all__ = ["FRONTS", "KINDS", "READ", "SWAP", "STOPS", "WRITE", "Front", "Proces
 FRONTS = ("linear", "local-read", "local-write")
 READ, WRITE, SWAP = 0, 1, 2
 KINDS = ("read", "write", "swap")
-STOPS = ("failed", "out of memory", "clock full")  # behind these a process has stopped for good
+STOPS = ("failed", "out of memory", "clock full")  # after these a process has stopped for good
 
 
 def front_of(name: str) -> Front:

@@ -197,7 +197,7 @@ class Road:
 
 
 class LossyRoad:
-    """A road for tests: each message is lost, sent twice, kept back behind the next one, or late, as the words of a seed say."""
+    """A road for tests: each message is lost, sent twice, kept back after the next one, or late, as the words of a seed say."""
 
     def __init__(self, road: Any, seed: int, loss: float = 0.0, duplicates: float = 0.0, reorder: float = 0.0, delay: float = 0.0):
         self.road, self.random = road, random.Random(seed)

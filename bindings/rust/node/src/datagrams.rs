@@ -49,7 +49,7 @@ impl Shared {
         sealed
     }
 
-    /// The message in a box behind its nonce, or none where it was made with another key.
+    /// The message in a box after its nonce, or none where it was made with another key.
     fn opened(&self, sealed: &[u8]) -> Option<Vec<u8>> {
         let (nonce, sealing) = sealed.split_at_checked(NONCE)?;
         let mut message = vec![0; sealing.len().checked_sub(SEAL)?];

@@ -6,7 +6,7 @@ use std::fmt;
 use std::io;
 use tellwydar::Refused;
 
-/// Why a call isn't answered, or why there is no node. Only behind `Stopped` and what comes after it in this list the
+/// Why a call isn't answered, or why there is no node. Only after `Stopped` and what comes after it in this list the
 /// node has stopped.
 #[derive(Debug)]
 pub enum Fault {
@@ -35,7 +35,7 @@ pub enum Fault {
 }
 
 impl Fault {
-    /// Whether the node goes on behind this fault.
+    /// Whether the node goes on after this fault.
     pub(crate) fn is_of_a_call(&self) -> bool {
         matches!(self, Self::Busy | Self::TimedOut | Self::Paused | Self::Rung | Self::Refused(_) | Self::Nothing)
     }

@@ -14,7 +14,7 @@
 //!
 //! The last word of a line is the CRC-32 of all before it in the log, the bytes between lines too, so that a changed,
 //! missing or moved line is told at its place. A last line without its end is what a crash leaves: it is dropped. Zeros
-//! behind the last line are room that was made.
+//! after the last line are room that was made.
 use crate::config::is_name;
 use crate::front::FrontEnd;
 use std::borrow::Cow;
@@ -100,7 +100,7 @@ fn push_number(line: &mut Vec<u8>, number: u64) {
     line.extend_from_slice(&digits[at..]);
 }
 
-/// Pushes words and a number behind them, with a space between.
+/// Pushes words and a number after them, with a space between.
 fn push_field(line: &mut Vec<u8>, word: &str, number: u64) {
     line.extend_from_slice(word.as_bytes());
     line.push(b' ');
@@ -298,7 +298,7 @@ impl Log {
     }
 }
 
-/// The CRC of what stands behind bytes that have this one.
+/// The CRC of what stands after bytes that have this one.
 pub(crate) fn continued(crc: u32, bytes: &[u8]) -> u32 {
     let mut hasher = crc32fast::Hasher::new_with_initial(crc);
     hasher.update(bytes);

@@ -87,7 +87,7 @@ fn a_cut_entry_is_dropped_and_the_log_goes_on_before_it() {
     writer.go_on(&log).expect("room");
     writer.add(&sample_entries()[4]);
     writer.write(true).expect("room");
-    // (what a crash leaves here has room behind it)
+    // (what a crash leaves here has room after it)
     let log = Log::read(&room.log()).expect("a log");
     assert_eq!((log.entries, log.end, log.cut), (sample_entries(), data.len() as u64, 0));
     drop(writer);

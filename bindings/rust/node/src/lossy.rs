@@ -1,4 +1,4 @@
-//! A road for tests: each message is lost, sent twice, kept back behind the next one, or late, as the words of a seed
+//! A road for tests: each message is lost, sent twice, kept back after the next one, or late, as the words of a seed
 //! say.
 use crate::road::{Arrived, Road, RoadFault};
 use std::cmp::Reverse;

@@ -199,7 +199,7 @@ impl<'a> Arranging<'a> {
     }
 }
 
-/// The processes of the entries in an order in which each frame is taken behind the step that put it: the k-th mention
+/// The processes of the entries in an order in which each frame is taken after the step that put it: the k-th mention
 /// of one stands for the k-th entry of its log. Where no order has all entries, also the entry that waits in vain.
 /// Linear in the entries.
 fn arrange(logs: &[Log]) -> Result<(Vec<usize>, Option<Wait>), MergeFault> {

@@ -16,7 +16,7 @@ pub type Start = [u8; START];
 /// What a message brings.
 #[derive(Clone, Copy, Debug, PartialEq, Eq)]
 pub enum Brings {
-    /// Frames, one behind the other.
+    /// Frames, one after the other.
     Frames,
     /// How far its sender has come in a chapter that ends.
     State,

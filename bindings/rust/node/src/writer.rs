@@ -64,7 +64,7 @@ impl Writer {
         Self::of(path, OpenOptions::new().write(true))
     }
 
-    /// Goes on behind the entries of this log, which was read; what a crash cut is gone.
+    /// Goes on after the entries of this log, which was read; what a crash cut is gone.
     pub fn go_on(&mut self, old: &Log) -> Result<(), Fault> {
         self.file.set_len(old.end)?;
         (self.crc, self.end) = (old.crc, old.end);
@@ -99,7 +99,7 @@ impl Writer {
 }
 
 impl Drop for Writer {
-    /// Gives back the room. (Where that fails, it is zeros behind the last line, which are no entry.)
+    /// Gives back the room. (Where that fails, it is zeros after the last line, which are no entry.)
     fn drop(&mut self) {
         if self.room > self.end {
             let _ = self.file.set_len(self.end);

@@ -1,4 +1,4 @@
-use Rattle.std.proofs.Common.{inr, subst, sym, ◌∙◌, IfSome, ℕ}
+use Rattle.std.proofs.Common.{inr, subst, sym, ◌∙◌, IfSome}
 use Rattle.std.specs.Str.{IsUtf8}
 use Rattle.reg_show.specs.Showings.{IsPlayed, Shows}
 use Rattle.reg_show.proofs.running.ShowingTextCommand.answer.Goals as goal
