@@ -19,6 +19,10 @@ use std::alloc::{AllocError, Global};
 pub use telling::{tell, words_of};
 
 /// A subcommand that takes the flag `--fair`.
+///
+/// # Errors
+///
+/// Memory was refused.
 pub fn with_fair<'a>(alloc: Global, name: &'a str) -> Result<Command<'a>, AllocError>
     ensures app { IfOk result (λ c. app_of c ≡ fair_app name.entry.now) }
     ensures local { IfOk result (λ c. (fields_of c).has_globals ≡ false) }

@@ -10,7 +10,11 @@ use std::env;
 use std::io::{ErrorKind, Write};
 use std::rt::Env;
 
-/// The words of the command line.
+/// The words of the command line, which no clause names.
+///
+/// # Errors
+///
+/// `OutOfMemory` where memory was refused, and else `CommandLine`. No clause says so.
 pub fn words_of<R: AllocGlobal + Env>(rt: &R) -> Result<Vec<String>, WordsFault> {
     match env::args(rt) {
         Ok(args) => match args.collect(rt.alloc()) {

@@ -71,6 +71,10 @@ fn begin(alloc: Global, front: u32, shape: Shape) -> Result<Kept, u32>
 
 /// A world of this shape, in which nothing happened yet: 0, 1 and 2 are the front ends linear, local-read and
 /// local-write.
+///
+/// # Errors
+///
+/// 34: there is no such shape. 35: there is no such front end. 23: memory was refused.
 pub fn open(alloc: Global, front: u32, processes: u32, registers: u32) -> Result<Unboxed<Held>, u32>
     ensures world { IfOk result (λ b. kept_at_first front (record { processes = processes; registers = registers }) ≡ Some b.value.world) }
     ensures nothing_else { IfOk result (λ b. (b.value.reply ≡ None) × (b.value.order.items ≡ []) × (b.value.points.items ≡ [])) }

@@ -7,8 +7,8 @@ use crate::rows::{EntryRow, IdRow, PointRow};
 use crate::verdicts::{code_of_verdict, judge_points, judge_serial};
 use std::alloc::Global;
 
-/// Whether the order is a serial order of the history: 0 where it is, else the number of the first fault, with its
-/// place.
+/// Says of an order of the history by a number: 0 that it is serial, 8 that memory was refused, 9 and 10 that the rows
+/// say no history, and any other its first fault. The place is that of the fault or the row, else 0.
 #[unsafe(no_mangle)]
 pub extern "C" fn tellwydar_check_serial(
     alloc: Global,
@@ -25,8 +25,8 @@ pub extern "C" fn tellwydar_check_serial(
     code
 }
 
-/// Whether the points are a point order of the history: 0 where they are, else the number of the first fault, with its
-/// place.
+/// Says of points of the history by a number: 0 that they are a point order, 8 that memory was refused, 9 and 10 that
+/// the rows say no history, and any other their first fault. The place is that of the fault or the row, else 0.
 #[unsafe(no_mangle)]
 pub extern "C" fn tellwydar_check_points(
     alloc: Global,

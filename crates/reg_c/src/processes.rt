@@ -80,6 +80,10 @@ fn begin(alloc: Global, front: u32, shape: Shape, me: u8) -> Result<KeptProcess,
 
 /// The process `me` of a run of this shape, which did nothing yet: 0, 1 and 2 are the front ends linear, local-read and
 /// local-write.
+///
+/// # Errors
+///
+/// 34: there is no such shape. 35: there is no such front end. 18: there is no such process. 23: memory was refused.
 pub fn open(
     alloc: Global,
     front: u32,
@@ -297,7 +301,7 @@ fn known_in(kept: &KeptProcess, peer: u8) -> Option<Known>
     }
 }
 
-/// One number of what it knows of another process, as the number `what` says.
+/// One number of what the process that is held knows of another one, as the number `what` says.
 pub fn known(held: &mut HeldProcess, what: u32, peer: u8) -> u64
     ensures same { held.new ≡ held.old }
     ensures value { TellsKnown (state_in held.old.process) what peer result }

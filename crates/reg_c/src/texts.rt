@@ -7,7 +7,8 @@ use crate::telling::{Lengths, tell, tell_verdict};
 use reg_commands::Command;
 use std::alloc::Global;
 
-/// Runs a schedule. The answer is the report of its run, and the status 0; or 1 with the line of a fault.
+/// Runs a schedule. The answer is the report of its run, and the status 0; or 1 with the line of a fault, or a first
+/// part of it.
 #[unsafe(no_mangle)]
 pub extern "C" fn tellwydar_replay(
     alloc: Global,
@@ -21,8 +22,8 @@ pub extern "C" fn tellwydar_replay(
     tell(alloc, Command::Replay, text, output, errors, lengths)
 }
 
-/// Judges a report. The answer is the checkers' verdicts, and the status 0 where each says yes; or 1, with the line of
-/// a fault where the text is no report.
+/// Judges a report. The answer is the checkers' verdicts, and the status 0 where each says yes; or 1 where one says no,
+/// or with the line of a fault or a first part of it, also where memory was refused.
 #[unsafe(no_mangle)]
 pub extern "C" fn tellwydar_check(
     alloc: Global,
@@ -37,7 +38,7 @@ pub extern "C" fn tellwydar_check(
 }
 
 /// Plays a workload as the words of its seed say. The answer is the report of the play, and the status 0; or 1 with the
-/// line of a fault.
+/// line of a fault, or a first part of it.
 #[unsafe(no_mangle)]
 pub extern "C" fn tellwydar_play(
     alloc: Global,
@@ -52,7 +53,8 @@ pub extern "C" fn tellwydar_play(
     tell(alloc, command, text, output, errors, lengths)
 }
 
-/// Plays a workload fairly. The answer is the report of the play, and the status 0; or 1 with the line of a fault.
+/// Plays a workload fairly. The answer is the report of the play, and the status 0; or 1 with the line of a fault, or a
+/// first part of it.
 #[unsafe(no_mangle)]
 pub extern "C" fn tellwydar_play_fair(
     alloc: Global,
@@ -68,7 +70,7 @@ pub extern "C" fn tellwydar_play_fair(
 }
 
 /// Judges a record of processes that ran apart. The answer is the report of the run that it is, and the status 0; or 1
-/// with the line of a fault.
+/// with the line of a fault, or a first part of it.
 #[unsafe(no_mangle)]
 pub extern "C" fn tellwydar_verify(
     alloc: Global,

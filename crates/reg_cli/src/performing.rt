@@ -137,10 +137,10 @@ fn obey<R: Threads + Wait + Clock + Copy + Send + Sync + 'static, I: Read, W: Wr
     }
 }
 
-/// Reads a workload, has its scripts performed by threads, and writes the report of the run that they made: one thread
-/// for each script, one for the mail of each process, and one for ticks, over an honest road. Its seed, odds and budget
-/// have no part. The answer is the status: 0, or 1 where something was refused, with the line of the stop on `errors`.
-/// That `errors` fails changes no status. The threads are joined before, which no clause says.
+/// Reads a workload, has its scripts performed by threads, and writes the report of the run that they made. Its seed,
+/// odds and budget have no part. The answer is the status: 0, or 1 where something was refused, with the line of the
+/// stop on `errors`, or a first part of it. There is one thread for each script, one for the mail of each process, and
+/// one for ticks, over an honest road, and all are joined before the answer. No clause speaks of threads.
 pub fn run_live<
     R: Threads + Wait + Clock + Copy + Send + Sync + 'static,
     I: Read,

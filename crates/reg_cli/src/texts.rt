@@ -12,8 +12,8 @@ use std::alloc::Global;
 use std::io::{Read, Write};
 
 /// Runs a command: it reads the whole input, and writes once all of it is accepted. The answer is the status: 0, or 1
-/// where the answer is a no or something was refused, with the line of the fault on `errors` in the second case. That
-/// `errors` fails changes no status. `reg_commands::run_text` takes a second allocator for the table of a workload.
+/// where the answer is a no or something was refused, in the second case with the line of the fault on `errors`, or a
+/// first part of it. `reg_commands::run_text` takes a second allocator for the table of a workload.
 pub fn run_text<R: Read, W: Write, E: Write>(
     alloc: Global,
     command: Command,

@@ -45,7 +45,7 @@ fn named(name: &str, fair: bool) -> Option<Asked>
 }
 
 /// What the words ask for. The first word is the program's name. Help, version texts, a line without a command and
-/// every other refusal are `CommandLine`, and so is a word `--`.
+/// every other refusal are `CommandLine`, and so is a word `--`. It is `OutOfMemory` where memory was refused.
 pub fn choose<'a>(alloc: Global, words: &'a [String]) -> Result<Asked, WordsFault>
     ensures { IsAnswer (behind_name words.entry.now) result }
 {

@@ -44,8 +44,11 @@ fn checked<A: Allocator + Copy>(alloc: A, text: String<A>) -> Result<Verdicts, F
     }
 }
 
-/// Reads a report, and writes what the checkers say of it. The answer is whether every line says yes. The text is let
-/// go before they run.
+/// Reads a report, and writes what the checkers say of it. The answer is whether every line says yes.
+///
+/// # Errors
+///
+/// Those of `read_report_text`; and `Output` where the writer failed, and then a first part went out.
 pub fn check<A: Allocator + Copy, W: Write>(
     alloc: A,
     text: String<A>,

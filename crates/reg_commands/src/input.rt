@@ -44,7 +44,7 @@ fn read_all<A: Allocator, R: Read>(alloc: A, reader: &mut R) -> Result<Vec<u8, A
 ///
 /// # Errors
 ///
-/// `Unread` where a read failed, and then no further one is made; `TooLong`, `NotText` and `OutOfMemory`.
+/// `Unread` where a read failed; `TooLong`, `NotText` and `OutOfMemory`. No clause says which reads are made again.
 pub fn read_input<A: Allocator, R: Read>(alloc: A, reader: &mut R) -> Result<String<A>, Fault>
     ensures ok { IfOk result (λ s. IfSome (R.remaining reader.old) (λ xs. string_bytes s ≡ xs)) }
     ensures within { OnOk result (IfSome (R.remaining reader.old) (λ xs. length xs ≤ LONGEST_INPUT)) }

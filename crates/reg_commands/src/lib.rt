@@ -1,4 +1,7 @@
 //! The commands over any reader and writer, and what they tell: answers, verdicts, and faults with their lines.
+//!
+//! Two things have no clause: that a command whose error stream fails has the same status, and that the table of a
+//! workload alone is kept in the global heap.
 #![tactic(auto)]
 
 mod checking;
@@ -21,4 +24,6 @@ pub use playing::{play_by, read_workload};
 pub use replaying::{Ran, read_schedule, run_events};
 pub use reporting::{report_run, report_run_with_points, write_out};
 pub use running::run_text;
-pub use verdicts::{Reason, Verdict, Verdicts, all_yes, judge, write_verdicts};
+pub use verdicts::{
+    Reason, Verdict, Verdicts, all_yes, judge, put_points, put_serial, write_verdicts,
+};

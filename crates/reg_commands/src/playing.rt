@@ -55,6 +55,10 @@ pub fn read_workload<A: Allocator + Copy>(
 }
 
 /// Plays a workload, fairly or as the words of its seed say.
+///
+/// # Errors
+///
+/// Memory was refused.
 pub fn play_by<F: FrontEnd, A: Allocator + Copy, W: WireStore<A>>(
     alloc: A,
     work: &Workload<A>,

@@ -138,8 +138,11 @@ fn replayed<A: Allocator + Copy>(alloc: A, text: String<A>) -> Result<Report<A>,
     run_schedule(alloc, schedule)
 }
 
-/// Reads a schedule, runs it, and writes the report of the run, once all its events are accepted. The text is let go
-/// before the run.
+/// Reads a schedule, runs it, and writes the report of the run, once all its events are accepted.
+///
+/// # Errors
+///
+/// Those of `read_schedule` and of `run_events`; and `Output` where the writer failed, and then a first part went out.
 pub fn replay<A: Allocator + Copy, W: Write>(
     alloc: A,
     text: String<A>,

@@ -78,6 +78,10 @@ fn report_world<F: FrontEnd, A: Allocator + Copy, W: WireStore<A>>(
 }
 
 /// The report of what a world did, under this front end and these names, with no points.
+///
+/// # Errors
+///
+/// `OutOfMemory`, and no other.
 pub fn report_run<F: FrontEnd, A: Allocator + Copy, W: WireStore<A>>(
     alloc: A,
     front: Front,
@@ -114,6 +118,10 @@ fn points_of<F: RealTime, A: Allocator + Copy, W: WireStore<A>>(
 }
 
 /// The report of what a world did, under this front end and these names, with its points.
+///
+/// # Errors
+///
+/// `OutOfMemory`, and no other.
 pub fn report_run_with_points<F: RealTime, A: Allocator + Copy, W: WireStore<A>>(
     alloc: A,
     front: Front,
@@ -132,6 +140,10 @@ pub fn report_run_with_points<F: RealTime, A: Allocator + Copy, W: WireStore<A>>
 }
 
 /// Writes the text of a report, all of it or, where the writer fails, a first part.
+///
+/// # Errors
+///
+/// `Output` where the writer failed.
 pub fn write_out<A: Allocator + Copy, W: Write>(
     writer: &mut W,
     report: &Report<A>,

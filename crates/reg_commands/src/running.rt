@@ -62,8 +62,8 @@ fn obey<A: Allocator + Copy, R: Read, W: Write>(
 }
 
 /// Runs a command: it reads the whole input, and writes once all of it is accepted. The answer is the status: 0, or 1
-/// where the answer is a no or something was refused, with the line of the fault on `errors` in the second case. That
-/// `errors` fails changes no status. The table of a workload is kept in the global heap, all else in the other one.
+/// where the answer is a no or something was refused, in the second case with the line of the fault on `errors`, or a
+/// first part of it.
 pub fn run_text<A: Allocator + Copy, R: Read, W: Write, E: Write>(
     alloc: A,
     global: Global,

@@ -1,5 +1,5 @@
 //! Judging a report from its text alone.
-ghost use Rattle.std.specs.Prelude.{◌≡◌, ◌++◌, ◌∷◌, [], Err, IfOk, IfErr, MatchOption, MatchResult};
+ghost use Rattle.std.specs.Prelude.{◌≡◌, ◌++◌, ◌∷◌, [], Err, IfOk, IfErr, MatchOption, MatchResult, codes};
 ghost use Rattle.std.specs.Io.KnownBytes.{Appends};
 ghost use Rattle.std.specs.Fmt.{decimal};
 ghost use Rattle.reg_text.specs.Writing.{AppendsPart, Puts};
@@ -126,6 +126,10 @@ fn judge_all_points<A: Allocator + Copy>(
 }
 
 /// What the checkers say of a report.
+///
+/// # Errors
+///
+/// Memory was refused.
 pub fn judge<A: Allocator + Copy>(alloc: A, report: &Report<A>) -> Result<Verdicts, AllocError>
     ensures { IfOk result (λ v. Judges report.now v) }
 {
@@ -173,7 +177,15 @@ fn put_verdict<W: Write>(sink: &mut Sink<'_, W>, name: &str, verdict: Verdict)
     }
 }
 
-fn put_points<W: Write>(sink: &mut Sink<'_, W>, points: Option<Verdict>)
+/// Puts the line of the verdict on an order.
+pub fn put_serial<W: Write>(sink: &mut Sink<'_, W>, serial: Verdict)
+    ensures { Puts W.contents sink.old sink.new (verdict_line (codes "serial") serial) }
+{
+    put_verdict(sink, "serial", serial);
+}
+
+/// Puts the line of the verdict on points, where there are any.
+pub fn put_points<W: Write>(sink: &mut Sink<'_, W>, points: Option<Verdict>)
     ensures { Puts W.contents sink.old sink.new (points_line points) }
 {
     match points {
@@ -185,7 +197,7 @@ fn put_points<W: Write>(sink: &mut Sink<'_, W>, points: Option<Verdict>)
 fn put_verdicts<W: Write>(sink: &mut Sink<'_, W>, verdicts: Verdicts)
     ensures { Puts W.contents sink.old sink.new (verdicts_text verdicts) }
 {
-    put_verdict(sink, "serial", verdicts.serial);
+    put_serial(sink, verdicts.serial);
     put_points(sink, verdicts.points);
 }
 
@@ -202,6 +214,10 @@ fn write_lines<W: Write>(writer: &mut W, verdicts: Verdicts) -> Result<(), Fault
 }
 
 /// Writes a line for the order, and one for the points where there are any.
+///
+/// # Errors
+///
+/// `Output` where the writer failed, and then a first part of the lines went out.
 pub fn write_verdicts<W: Write>(writer: &mut W, verdicts: Verdicts) -> Result<(), Fault>
     ensures { MatchResult result (λ _. Appends (W.contents writer.old) (W.contents writer.new) (verdicts_text verdicts)) (λ f. (f ≡ Fault.Output) × AppendsPart (W.contents writer.old) (W.contents writer.new) (verdicts_text verdicts)) }
 {

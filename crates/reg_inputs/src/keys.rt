@@ -13,9 +13,9 @@ pub enum Key {
     Scripts,
     /// The seed of a seeded play.
     Seed,
-    /// How many frames of a hundred are lost.
+    /// The odds, of a hundred, that a frame is lost.
     Loss,
-    /// How many frames of a hundred can be taken again.
+    /// The odds, of a hundred, that a frame that is taken can be taken again.
     Repeat,
     /// The most events of a play.
     Budget,

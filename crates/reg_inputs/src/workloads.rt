@@ -27,9 +27,9 @@ pub struct Workload<A: Allocator + Copy = Global> {
     pub scripts: Vec<Vec<Op, A>, A>,
     /// The seed of a seeded play.
     pub seed: u64,
-    /// How many of a hundred frames that are chosen are lost.
+    /// The odds, of a hundred, that a frame that is chosen is lost.
     pub loss: u32,
-    /// How many of a hundred frames that are taken can be taken again.
+    /// The odds, of a hundred, that a frame that is taken can be taken again.
     pub repeat: u32,
     /// The most events of a play.
     pub budget: u32,
@@ -81,7 +81,7 @@ impl<A: Allocator + Copy> Workload<A> {
     /// # Errors
     ///
     /// The first fault of the table: a key that no workload has, then each key in turn, and last the first place of a
-    /// script that has no operation.
+    /// script that has no operation; or `OutOfMemory`.
     pub fn from_table(alloc: A, table: &Table) -> Result<Workload<A>, WorkloadFault>
         ensures read { IfOk result (λ w. Says (table_view table.now) w × IsLoad w) }
         ensures whole { (l : Load) → Says (table_view table.now) l → IsLoad l → MatchResult result (λ w. w ≡ l) (λ e. e ≡ OutOfMemory) }
@@ -118,7 +118,7 @@ impl Workload {
     ///
     /// # Errors
     ///
-    /// The text is no document, or the first fault of its table.
+    /// The text is no document, or the first fault of its table, or `OutOfMemory`.
     pub fn from_toml(alloc: Global, text: &str) -> Result<Workload, WorkloadFault>
         ensures read { IfOk result (λ w. (ms : Members) × (parse_document text.now ≡ Some ms) × Says ms w × IsLoad w) }
         ensures whole { (ms : Members) (l : Load) → parse_document text.now ≡ Some ms → Says ms l → IsLoad l → MatchResult result (λ w. w ≡ l) (λ e. e ≡ OutOfMemory) }

@@ -102,7 +102,7 @@ pub struct Rough<R> {
 }
 
 impl<R: Words> Rough<R> {
-    /// A road on which of a hundred parcels `loss` are lost, and of a hundred others `repeat` are put twice.
+    /// A road that loses a parcel with the odds `loss` of a hundred, and puts another twice with the odds `repeat`.
     pub fn new(words: R, loss: u32, repeat: u32) -> Rough<R> {
         Rough {
             ditch: Mutex::new(Ditch { words, kept: None }),

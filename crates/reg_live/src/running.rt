@@ -21,7 +21,7 @@ use std::thread::Threads;
 use std::time::Clock;
 use thiserror::Error;
 
-/// Why a cluster was not started. No thread of it runs then.
+/// Why a cluster was not started.
 #[derive(Clone, Copy, Debug, PartialEq, Eq, Error)]
 pub enum StartFault {
     /// There was no memory for it, or one of its threads couldn't be made.
@@ -144,8 +144,7 @@ fn run_parts<
 ///
 /// # Errors
 ///
-/// `OutOfMemory` where memory or a thread was refused. The threads that were made are joined before, which no clause
-/// says.
+/// `OutOfMemory` where memory or a thread was refused. The threads that were made are joined before.
 pub fn start<
     F: FrontEnd + Send + Sync + 'static,
     G: Gate + Drop + Send + Sync + 'static,

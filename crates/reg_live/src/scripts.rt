@@ -249,7 +249,7 @@ fn end<F: FrontEnd, R: Threads + Wait, W: WireStore<Global>>(
 /// # Errors
 ///
 /// `Pass` where a pass was refused, `Close` where the record was, and `OutOfMemory` where memory or a thread was. The
-/// threads that were made are joined before. No clause says any of this.
+/// threads that were made are joined before. No clause says which of these comes.
 pub fn run_scripts<
     F: FrontEnd + Send + Sync + 'static,
     R: Threads + Wait + Clock + Copy + Send + Sync + 'static,

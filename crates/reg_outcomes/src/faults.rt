@@ -6,7 +6,8 @@ use thiserror::Error;
 /// Why the outcomes of scripts are not given.
 #[derive(Clone, Copy, Debug, PartialEq, Eq, Error)]
 pub enum InterleavingFault {
-    /// There are more stages than the limit: of some number of turns, or in all where that is limited.
+    /// There are more stages than the limit: of some number of turns or of operations placed, or in all where that is
+    /// limited.
     #[error("too many stages")]
     TooManyStages,
     /// Memory was refused.

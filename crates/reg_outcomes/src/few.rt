@@ -36,8 +36,7 @@ fn few_layers<A: Allocator + Copy>(
 }
 
 /// All outcomes that interleavings of the scripts, one for each process, have on one memory with the given number of
-/// registers, as `all_outcomes` gives them, where the interleavings go through no more stages than the most. Where they
-/// go through more, the search ends once it has met one more.
+/// registers, as `all_outcomes` gives them, where the interleavings go through no more stages than the most.
 ///
 /// # Errors
 ///

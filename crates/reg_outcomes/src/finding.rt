@@ -251,8 +251,8 @@ fn ids_in_order<A: Allocator + Copy>(
 
 /// A serial order of a history, None where there is none (sequential consistency, Lamport 1979). Operations are placed
 /// one after another, and each stage that they lead to is kept once, so the search grows with the number of stages and
-/// not with that of the orders. A point order is looked for first: it is a serial order too, and fewer stages lead to
-/// it.
+/// not with that of the orders. A point order is looked for first, since it is a serial order too. No clause says how
+/// the search goes.
 ///
 /// # Errors
 ///
@@ -303,7 +303,7 @@ fn points_of<A: Allocator + Copy>(
 
 /// A point order of a history, None where there is none (linearizability, Herlihy and Wing 1990). Operations are placed
 /// one after another, each only once all that were answered before its call are placed (Wing and Gong 1993), and each
-/// stage that they lead to is kept once (Lowe 2017).
+/// stage that they lead to is kept once (Lowe 2017). No clause says how the search goes.
 ///
 /// # Errors
 ///

@@ -24,14 +24,14 @@ pub fn none_missing()
     ensures { (start : Op → ℕ → Start) (scripts : List (List Op)) (registers : ℕ) (told : List AnyValue) → KeepsLaws start → IsOutcome start scripts registers told → (turns : List ℕ) × IsInterleaving scripts registers (record { turns = turns; told = told }) }
 {}
 
-/// Each interleaving has a run: whatever the operations of the scripts are told in it, they are told the same in some
-/// run that uses the scripts up, under any lawful front end, if a run has room for its events.
+/// Each interleaving of playable scripts has a run, if the bound `HasRoom` holds of them: whatever the operations are
+/// told in it, they are told the same in some run that uses the scripts up, under any lawful front end.
 pub fn each_has_a_run()
     ensures { (start : Op → ℕ → Start) (scripts : List (List Op)) (registers : ℕ) (i : Interleaving) → KeepsLaws start → ArePlayable scripts registers → HasRoom scripts → IsInterleaving scripts registers i → IsOutcome start scripts registers i.told }
 {}
 
-/// So the outcomes of the interleavings are those of the runs, whatever is lost, repeated or reordered, and by its
-/// outcomes no lawful front end is told from another.
+/// The outcomes of the interleavings of playable scripts of which the bound `HasRoom` holds are those of the runs,
+/// whatever is lost, repeated or reordered, and by its outcomes no lawful front end is told from another.
 pub fn alike()
     ensures all { (start : Op → ℕ → Start) (scripts : List (List Op)) (registers : ℕ) (found : List Interleaving) → KeepsLaws start → ArePlayable scripts registers → HasRoom scripts → AreAll scripts registers found → HaveAllOutcomes start scripts registers found }
     ensures alike { (one other : Op → ℕ → Start) (scripts : List (List Op)) (registers : ℕ) (told : List AnyValue) → KeepsLaws one → KeepsLaws other → ArePlayable scripts registers → HasRoom scripts → IsOutcome one scripts registers told → IsOutcome other scripts registers told }

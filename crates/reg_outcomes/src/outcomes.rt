@@ -16,7 +16,7 @@ use std::alloc::{AllocError, Allocator, Global};
 use std::collections::BTreeMap;
 use std::marker::Model;
 
-/// The most stages that the same number of turns may lead to, for a command that is given no limit.
+/// The most stages that the same number of turns, or of operations placed, may lead to where no other limit is given.
 pub const MOST_STAGES: u32 = 4_000_000;
 
 /// An outcome of scripts, and the turns of an interleaving that has it. Contracts see it as that interleaving.
@@ -110,7 +110,8 @@ pub(crate) fn tell_last<A: Allocator + Copy>(
 
 /// All outcomes that interleavings of the scripts, one for each process, have on one memory with the given number of
 /// registers: each once, rising, and with the turns of an interleaving that has it. The search goes turn by turn, and
-/// keeps each stage of a turn once, so it grows with the number of stages and not with that of the interleavings.
+/// keeps each stage of a turn once, so it grows with the number of stages and not with that of the interleavings. No
+/// clause says how it goes.
 ///
 /// # Errors
 ///

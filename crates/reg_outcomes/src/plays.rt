@@ -29,7 +29,8 @@ pub struct Outcomes<A: Allocator + Copy = Global> {
     pub rows: Vec<Row<A>, A>,
     /// In how many plays some operation is not answered.
     pub unfinished: u32,
-    /// How many of all outcomes of the scripts no play had. None where interleavings go through too many stages.
+    /// How many of all outcomes of the scripts no finished play had. None where interleavings go through too many
+    /// stages.
     pub undrawn: Option<usize>,
 }
 
@@ -104,8 +105,8 @@ fn count_plays<F: FrontEnd, A: Allocator + Copy>(
 
 /// Plays a workload `plays` times, each time by the words of a seed of its own: the first by those of the workload's
 /// seed, and each other by those of the next number, modulo 2^64. The lines tell what the finished plays answered, and
-/// of each outcome whether the history of some play that has it is linearizable. It keeps what is told of each outcome,
-/// and one play at a time.
+/// of each outcome whether the history of some play that has it is linearizable. One play is kept at a time, which no
+/// clause says.
 ///
 /// # Errors
 ///

@@ -24,7 +24,7 @@ use thiserror::Error;
 /// Why no run of an outcome is made.
 #[derive(Clone, Copy, Debug, PartialEq, Eq, Error)]
 pub enum TurnsFault {
-    /// A run has no room to call all operations one after another, and to come to rest after each.
+    /// All operations, reckoned at `1 + 3 * n * (n - 1)` events each among n processes, take more than `MOST_EVENTS`.
     #[error("too many events")]
     TooManyEvents,
     /// Memory was refused.
@@ -108,12 +108,13 @@ fn take_turn<F: FrontEnd, A: Allocator + Copy, W: WireStore<A>>(
 }
 
 /// A run that has an outcome of scripts, one for each process: the operations are called in the order of the outcome's
-/// turns, each once the world is at rest, and then `settle` brings it to rest again. So any lawful front end answers
-/// them what the outcome tells.
+/// turns, and any lawful front end answers them what the outcome tells. After each turn `settle` brings the world to
+/// rest, which no clause says.
 ///
 /// # Errors
 ///
-/// `TooManyEvents`: a run has no room to call all operations one after another, and to come to rest after each.
+/// `TooManyEvents`: reckoned at `1 + 3 * n * (n - 1)` events for each operation among n processes (`HasRoom`), all
+/// operations take more than `MOST_EVENTS`.
 /// `OutOfMemory`: memory was refused.
 pub fn run_outcome<F: FrontEnd, A: Allocator + Copy, W: WireStore<A>>(
     alloc: A,

@@ -1,8 +1,8 @@
 //! Why a record is refused.
 use thiserror::Error;
 
-/// Why a record is no run with these receipts: the first of these that applies. `OutOfMemory` may stand in place of any
-/// other.
+/// Why a record is refused: the first of these that applies. `OutOfMemory` may stand in place of any other, and where
+/// none applies.
 #[derive(Clone, Copy, Debug, PartialEq, Eq, Error)]
 pub enum CloseFault {
     /// The order and the logs are no run from this place on.

@@ -24,8 +24,8 @@ pub fn one_list()
     ensures { (n registers : ℕ) (h : List Entry) → IsHistory n registers h → (p : ℕ) (a b : List Receipt) → AreFinished h p a → AreFinished h p b → a ≡ b }
 {}
 
-/// Where a fault is named, and it isn't `OutOfMemory`, no world makes the record a run with these receipts. So a record
-/// is accepted exactly where it is one.
+/// Where a fault is named, and it isn't `OutOfMemory`, no world makes the record a run with these receipts. So, memory
+/// aside, a record is accepted exactly where it is one.
 pub fn fault_is_no_record()
     ensures { (start : Op → ℕ → Start) (shape : Extent) (order : List ℕ) (logs : List (List LogEntry)) (lists : List (List Receipt)) (fault : CloseFault) → fault ≢ OutOfMemory → IsRecordFault start shape order logs lists fault → (w : Made) → ¬ IsRecord start shape order logs lists w }
 {}

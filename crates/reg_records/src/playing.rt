@@ -91,8 +91,8 @@ fn unfaithful(place: usize) -> CloseFault
     }
 }
 
-/// The run of a record, as `verify` has it, where no caller says what it was told. It is Ok exactly where the steps are
-/// a run that gives the replies written down.
+/// The run of a record, as `verify` has it, where no caller says what it was told. Where it is Ok the steps are a run
+/// that gives the replies written down, and where it is `Unfaithful` they are none.
 ///
 /// # Errors
 ///

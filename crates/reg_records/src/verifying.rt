@@ -12,8 +12,13 @@ use reg_world::{WireStore, World};
 use std::alloc::Allocator;
 
 /// The run of a record: the order names the processes of its steps, and the k-th mention of a process stands for the
-/// k-th entry of its log. It is Ok exactly where the steps are a run that gives the replies written down, each frame
-/// being taken from its wire, and the receipts are just the finished operations of each process.
+/// k-th entry of its log. Where it is Ok the steps are a run that gives the replies written down, each frame being
+/// taken from its wire, and the receipts are just the finished operations of each process.
+///
+/// # Errors
+///
+/// `Unfaithful` with the first place from which the order and the logs are no run, `Mismatch` with the first process
+/// whose receipts aren't its finished operations, and `OutOfMemory`.
 pub fn verify<F: FrontEnd, A: Allocator + Copy>(
     alloc: A,
     shape: Shape,
@@ -29,6 +34,10 @@ pub fn verify<F: FrontEnd, A: Allocator + Copy>(
 }
 
 /// Checks records as `verify` does, in a world that keeps its wires in a store of the caller's choice.
+///
+/// # Errors
+///
+/// Those of `verify`.
 pub fn verify_in<F: FrontEnd, A: Allocator + Copy, W: WireStore<A>>(
     alloc: A,
     shape: Shape,

@@ -54,7 +54,7 @@ pub fn local_write_read_then_read()
     ensures overtaken { Overtakes 1 new_then_old_at_once_history (op_id 2 0) (op_id 1 0) }
 {}
 
-/// A history in which an operation overtakes another has no point order: so neither of the two front ends is
+/// A history in which an operation overtakes another has no point order: so neither `local-read` nor `local-write` is
 /// linearizable.
 pub fn no_points()
     ensures all { (n registers : ℕ) (h : List Entry) (a b : OpId) → IsHistory n registers h → Overtakes registers h b a → (points : List Point) → ¬ (IsPointOrder registers h points) }

@@ -209,10 +209,10 @@ fn next_link<F: FrontEnd, A: Allocator + Copy, W: WireStore<A>>(
 }
 
 /// Brings a world to rest, and tells by how many events: ticks and takes, each an ordinary event of `World::step`,
-/// until no frame is left unacknowledged. Then all copies are equal and no operation waits. A process that has
-/// unacknowledged frames puts the first ones again; these are taken, link by link, and then the count that answers the
-/// last of a link. No frame that was put before is taken: what was lost stays lost. There are at most three events for
-/// each frame that has to be acknowledged, now or later.
+/// until no frame is left unacknowledged. Then all copies are equal and no operation waits. No frame that was put
+/// before is taken: what was lost stays lost. There are at most three events for each frame that has to be
+/// acknowledged, now or later. In which order they come no clause says: a process that has unacknowledged frames puts
+/// the first ones again; these are taken, link by link, and then the count that answers the last of a link.
 ///
 /// # Errors
 ///

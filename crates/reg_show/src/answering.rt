@@ -27,8 +27,7 @@ pub(crate) trait TextCommand: Copy {
     /// What a fault says of the text.
     ghost IsBlamed: { Self → AnyFault → List ℕ → Type 0 };
 
-    /// Answers a text. It writes once all of the text is accepted, and what is to be shown is made. The table of a
-    /// workload is kept in the global heap, all else in the other one.
+    /// Answers a text. It writes once all of the text is accepted, and what is to be shown is made.
     ///
     /// # Errors
     ///
@@ -73,8 +72,8 @@ fn obey<C: TextCommand, A: Allocator + Copy, R: Read, W: Write>(
 }
 
 /// Runs a command over the text on the reader: it reads the whole input, and answers it on the writer. The answer is
-/// the status: 0, or 1 where something was refused, with the line of the fault on `errors`, or where the writer failed,
-/// and then a first part of the answer went out. That `errors` fails changes no status.
+/// the status: 0, or 1 where something was refused, with the line of the fault on `errors` or a first part of it, or
+/// where the writer failed, and then a first part of the answer went out.
 pub(crate) fn run_command<C: TextCommand, A: Allocator + Copy, R: Read, W: Write, E: Write>(
     command: C,
     alloc: A,

@@ -60,10 +60,9 @@ fn obey<A: Allocator + Copy, R: Read, W: Write>(
 
 /// Tells what is wrong with the text on the reader, or what an accepted one is: it reads the whole input, and writes
 /// once the answer is there. The first line of the answer for a refused text is the one that the command which reads
-/// such texts tells of it; what explains it stands after. The status: 0 for an accepted text, else 1. Where something
-/// stops before the answer, its line goes to `errors`, and where the writer failed, a first part of the answer went
-/// out. That `errors` fails changes no status. The table of a workload is kept in the global heap, all else in the
-/// other one.
+/// such texts tells of it; what stands after it explains it, and has no clause. The status: 0 for an accepted text,
+/// else 1. Where something stops before the answer, its line or a first part of it goes to `errors`, and where the
+/// writer failed, a first part of the answer went out.
 pub fn why_text<A: Allocator + Copy, R: Read, W: Write, E: Write>(
     alloc: A,
     global: Global,

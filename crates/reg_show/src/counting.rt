@@ -105,9 +105,8 @@ impl TextCommand for ManyPlays {
 
 /// Plays the workload that the text on the reader says `plays` times, from this seed on or else from its own, and
 /// writes the table of what the plays told: it reads the whole input, and writes once all plays are counted. The answer
-/// is the status: 0, or 1 where something was refused, with the line of the fault on `errors`, or where the writer
-/// failed, and then a first part of the table went out. That `errors` fails changes no status. The table of a workload
-/// is kept in the global heap, all else in the other one.
+/// is the status: 0, or 1 where something was refused, with the line of the fault on `errors` or a first part of it, or
+/// where the writer failed, and then a first part of the table went out.
 pub fn show_outcomes<A: Allocator + Copy, R: Read, W: Write, E: Write>(
     alloc: A,
     global: Global,

@@ -83,9 +83,8 @@ impl TextCommand for EveryOutcome {
 
 /// Writes all outcomes that the scripts of the workload that the text on the reader says can have, and the combinations
 /// of their values that no outcome has: it reads the whole input, and writes once all are found. The answer is the
-/// status: 0, or 1 where something was refused, with the line of the fault on `errors`, or where the writer failed, and
-/// then a first part of the text went out. That `errors` fails changes no status. The table of a workload is kept in
-/// the global heap, all else in the other one.
+/// status: 0, or 1 where something was refused, with the line of the fault on `errors` or a first part of it, or where
+/// the writer failed, and then a first part of the text went out.
 pub fn show_all_outcomes<A: Allocator + Copy, R: Read, W: Write, E: Write>(
     alloc: A,
     global: Global,

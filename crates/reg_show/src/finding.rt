@@ -118,8 +118,8 @@ fn obey<A: Allocator + Copy, R: Read, W: Write>(
 /// Finds an order of the history of the report that the text on the reader spells, and writes the report in version 2
 /// with it in place of its own order and points, or one line that says that there is none. It reads the whole input,
 /// and writes once the search is over. The answer is the status: 0 where there is such an order, and 1 where there is
-/// none; or where something was refused, with the line of the fault on `errors`; or where the writer failed, and then a
-/// first part of the text went out. That `errors` fails changes no status.
+/// none; or where something was refused, with the line of the fault on `errors` or a first part of it; or where the
+/// writer failed, and then a first part of the text went out.
 pub fn find_order<A: Allocator + Copy, R: Read, W: Write, E: Write>(
     alloc: A,
     kind: OrderKind,

@@ -2,10 +2,9 @@
 ghost use Rattle.std.specs.Prelude.{◌≡◌, ◌++◌, IfOk};
 ghost use Rattle.reg_text.specs.Writing.{Puts};
 ghost use Rattle.reg_commands.specs.FaultLines.{fault_line};
-ghost use Rattle.reg_commands.specs.Verdicts.{verdicts_text};
 ghost use Rattle.reg_show.specs.FirstLines.{counted, subject_text, first_no};
 
-use reg_commands::{Fault, Verdict, Verdicts, write_fault, write_verdicts};
+use reg_commands::{Fault, Verdict, Verdicts, put_points, put_serial, write_fault};
 use reg_text::{Sink, put_number};
 use std::alloc::{AllocError, Allocator};
 use std::io::Write;
@@ -81,23 +80,6 @@ pub fn line_of_fault<A: Allocator + Copy>(alloc: A, fault: Fault) -> Result<Vec<
     Ok(line)
 }
 
-/// How many bytes the line of a serial order takes that is one.
-const SERIAL_YES: usize = 11;
-
-/// The lines of verdicts.
-fn lines_of_verdicts<A: Allocator + Copy>(
-    alloc: A,
-    verdicts: Verdicts,
-) -> Result<Vec<u8, A>, AllocError>
-    ensures { IfOk result (λ v. v.items ≡ verdicts_text verdicts) }
-{
-    let mut lines = Vec::new(alloc);
-    if write_verdicts(&mut lines, verdicts).is_err() {
-        return Err(AllocError);
-    }
-    Ok(lines)
-}
-
 /// The line of the first verdict that is no.
 pub fn line_of_no<A: Allocator + Copy>(
     alloc: A,
@@ -105,20 +87,14 @@ pub fn line_of_no<A: Allocator + Copy>(
 ) -> Result<Vec<u8, A>, AllocError>
     ensures { IfOk result (λ v. v.items ≡ first_no verdicts) }
 {
+    let mut line = Vec::new(alloc);
+    let mut sink = Sink::new(&mut line);
     match verdicts.serial {
-        Verdict::No(_) => lines_of_verdicts(
-            alloc,
-            Verdicts {
-                serial: verdicts.serial,
-                points: None,
-            },
-        ),
-        Verdict::Yes => {
-            let lines = lines_of_verdicts(alloc, verdicts)?;
-            match lines.as_slice().split_at_checked(SERIAL_YES) {
-                Some((_, line)) => Vec::from_slice(alloc, line),
-                None => Ok(lines),
-            }
-        }
+        Verdict::Yes => put_points(&mut sink, verdicts.points),
+        Verdict::No(_) => put_serial(&mut sink, verdicts.serial),
     }
+    if sink.failed {
+        return Err(AllocError);
+    }
+    Ok(line)
 }

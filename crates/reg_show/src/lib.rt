@@ -1,5 +1,8 @@
 //! Runs shown: the schedule of a play, what happened event by event, drawings, data and pages; the table of many plays,
 //! and all outcomes; an order of a report's history; and what is wrong with a text.
+//!
+//! Two things have no clause: that a command whose error stream fails has the same status, and that the table of a
+//! workload alone is kept in the global heap.
 #![tactic(auto)]
 
 mod answering;

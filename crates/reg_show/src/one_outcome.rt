@@ -127,10 +127,9 @@ impl TextCommand for OneOutcome {
 
 /// Writes the schedule of a run with the outcome of this number, counted from 1, among all outcomes that the scripts of
 /// the workload that the text on the reader says can have, in their order: it reads the whole input, and writes once
-/// the run is made. The run is made under the workload's front end: its operations are called in the order of the
-/// outcome's turns, each once nothing is under way. The answer is the status: 0, or 1 where something was refused, with
-/// the line of the fault on `errors`, or where the writer failed, and then a first part of the text went out. That
-/// `errors` fails changes no status. The table of a workload is kept in the global heap, all else in the other one.
+/// the run is made. The run is made under the workload's front end, and calls the operations in the order of the
+/// outcome's turns. The answer is the status: 0, or 1 where something was refused, with the line of the fault on
+/// `errors` or a first part of it, or where the writer failed, and then a first part of the text went out.
 pub fn show_outcome<A: Allocator + Copy, R: Read, W: Write, E: Write>(
     alloc: A,
     global: Global,

@@ -119,9 +119,8 @@ impl TextCommand for Showing {
 }
 
 /// Shows what the text on the reader says: it reads the whole input, and writes once all of it is accepted. The answer
-/// is the status: 0, or 1 where something was refused, with the line of the fault on `errors`, or where the writer
-/// failed, and then a first part of it went out. That `errors` fails changes no status. The table of
-/// a workload is kept in the global heap, all else in the other one.
+/// is the status: 0, or 1 where something was refused, with the line of the fault on `errors` or a first part of it, or
+/// where the writer failed, and then a first part of the answer went out. What stands in a drawing no clause says.
 pub fn show_text<A: Allocator + Copy, R: Read, W: Write, E: Write>(
     alloc: A,
     global: Global,

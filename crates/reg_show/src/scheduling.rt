@@ -126,11 +126,9 @@ impl TextCommand for FullSchedule {
 }
 
 /// Writes the schedule of the player's play of the workload that the text on the reader says: it reads the whole input,
-/// and writes once the play is made. Of the one by the workload's own seed, and of the fair one, `awreg replay` makes
-/// the report that `awreg play` makes of the workload. The answer is the status: 0, or 1 where something was refused,
-/// with the line of the fault on `errors`, or where the writer failed, and then a first part of the schedule went out.
-/// That `errors` fails changes no status. The table of a workload is kept in the global heap, all else in the other
-/// one.
+/// and writes once the play is made. The answer is the status: 0, or 1 where something was refused, with the line of
+/// the fault on `errors` or a first part of it, or where the writer failed, and then a first part of the schedule went
+/// out.
 pub fn show_schedule<A: Allocator + Copy, R: Read, W: Write, E: Write>(
     alloc: A,
     global: Global,

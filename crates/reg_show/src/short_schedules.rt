@@ -115,9 +115,8 @@ impl TextCommand for ShortSchedule {
 /// for those that no answer needs: from the last to the first, each event is dropped without which the others are all
 /// accepted, and each process finishes the same operations with the same answers. Frames keep their places, so an
 /// event whose absence would have a later take miss its frame is kept. The answer is the status: 0, or 1 where
-/// something was refused, with the line of the fault on `errors`, or where the writer failed, and then a first part of
-/// the schedule went out. That `errors` fails changes no status. The table of a workload is kept in the global heap,
-/// all else in the other one.
+/// something was refused, with the line of the fault on `errors` or a first part of it, or where the writer failed, and
+/// then a first part of the schedule went out.
 pub fn show_short_schedule<A: Allocator + Copy, R: Read, W: Write, E: Write>(
     alloc: A,
     global: Global,

@@ -136,7 +136,11 @@ fn help_or_choose(alloc: Global, words: &[String]) -> Result<Asked, WordsFault>
     choose(alloc, words)
 }
 
-/// What the words ask for. The first word is the program's name. A word `--` is refused.
+/// What the words ask for. The first word is the program's name. A word `--` is refused, which is only tested.
+///
+/// # Errors
+///
+/// `CommandLine`, only where the words ask for nothing; `OutOfMemory`.
 pub fn ask(alloc: Global, words: &[String]) -> Result<Asked, WordsFault>
     ensures { IsChoice (behind_name words.now) result }
 {

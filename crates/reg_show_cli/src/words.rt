@@ -26,7 +26,7 @@ pub enum Asked {
     Outcomes { plays: u32, seed: Option<u64> },
     /// To print all outcomes that the scripts of the workload on the input can have.
     AllOutcomes,
-    /// To print the schedule of a run with the outcome of this number among these.
+    /// To print the schedule of a run with the outcome of this number, among all of the workload on the input.
     Outcome { number: u32 },
     /// To find an order of the history of the report on the input.
     Find { kind: OrderKind },
@@ -113,7 +113,11 @@ fn named(name: &str) -> Option<Asked>
     Some(Asked::Show { showing })
 }
 
-/// What the words ask to show. The first word is the program's name. A word `--` is refused.
+/// What the words ask to show. The first word is the program's name. A word `--` is refused, which is only tested.
+///
+/// # Errors
+///
+/// `CommandLine`, only where the words ask to show nothing; `OutOfMemory`.
 pub fn choose<'a>(alloc: Global, words: &'a [String]) -> Result<Asked, WordsFault>
     ensures { IsAnswer (behind_name words.entry.now) result }
 {

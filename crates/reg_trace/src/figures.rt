@@ -64,6 +64,10 @@ fn end_among(entries: &[Entry], id: OpId) -> Option<End>
 }
 
 /// A bar for each operation of a history, in order of the calls.
+///
+/// # Errors
+///
+/// Memory was refused.
 pub fn bars<A: Allocator + Copy>(alloc: A, entries: &[Entry]) -> Result<Vec<Bar, A>, AllocError>
     ensures { IfOk result (λ v. v.items ≡ bars_of entries.now) }
 {
@@ -110,7 +114,12 @@ fn putter_of<A: Allocator + Copy>(
         .position(|moment| has_put(moment, from, to, place))
 }
 
-/// An arrow for each frame that is taken, in order of the takes.
+/// An arrow for each take whose frame one of the moments put, in order of the takes: of the moments of a run, for each
+/// take (`laws::takes_have_arrows`).
+///
+/// # Errors
+///
+/// Memory was refused.
 pub fn arrows<A: Allocator + Copy>(
     alloc: A,
     moments: &[Moment<A>],
@@ -148,8 +157,7 @@ fn takes<A: Allocator + Copy>(moment: &Moment<A>, from: u8, to: u8, place: usize
     }
 }
 
-/// Whether some event takes the frame at this place of a wire. A drawing shows a frame as never taken exactly where
-/// none does.
+/// Whether some event takes the frame at this place of a wire.
 pub fn is_taken<A: Allocator + Copy>(moments: &[Moment<A>], from: u8, to: u8, place: usize) -> bool
     ensures { result ≡ list_any (λ (f : Fact). takes_from from to place f.event) moments.now }
 {

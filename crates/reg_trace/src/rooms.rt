@@ -1,4 +1,5 @@
-//! The room beside the processes' lines of a drawing: texts stand there one after another.
+//! The room beside the processes' lines of a drawing: texts stand there one after another. Clauses say only that none
+//! stands left of where it is put.
 ghost use Rattle.std.specs.Prelude.{◌≡◌, ◌≤◌};
 
 /// The free room to the right of a text.

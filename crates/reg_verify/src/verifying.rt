@@ -200,8 +200,8 @@ fn write_verify_fault<W: Write>(errors: &mut W, fault: VerifyFault) -> Result<()
 
 /// Judges the record that the text on the reader spells, and writes the report of the run that it is: it reads the
 /// whole input, and writes once all steps are judged. The answer is the status: 0, or 1 where something was refused,
-/// with the line of the fault on `errors`, or where the writer failed, and then a first part of the report went out.
-/// That `errors` fails changes no status.
+/// with the line of the fault on `errors` or a first part of it, or where the writer failed, and then a first part of
+/// the report went out.
 pub fn verify_text<A: Allocator + Copy, R: Read, W: Write, E: Write>(
     alloc: A,
     reader: &mut R,

@@ -17,8 +17,8 @@ use std::alloc::{AllocError, Allocator};
 /// Plays a workload in rounds: each process that is free calls its next operation, by rising number, and then the next
 /// frame of each wire is taken, by sender and then by receiver. It ends with a round that makes no event, or once there
 /// are as many events as the budget says. So the frames of each wire are taken in order, each once, and none is put
-/// again. A play of fewer events than the budget is finished. Each operation brings about its call and at most `2 * n *
-/// (n - 1)` takes among n processes, so every budget above that many events for all operations is enough.
+/// again. A play of fewer events than the budget is finished. It has at most `1 + 2 * n * (n - 1)` events for each
+/// operation, among n processes, so every budget above that many for all operations is enough.
 ///
 /// # Errors
 ///

@@ -5,4 +5,4 @@ use Rattle.reg_commands.proofs.verdicts.put_verdicts.Goals as goal
 
 pub returns : goal.returns
 returns g c =
-    puts_two g.W.Write.contents c.args.sink.now c.put_verdict.new.sink c.put_points.new.sink (verdict_line (codes "serial") c.args.verdicts.serial) (points_line c.args.verdicts.points) c.put_verdict.ensures c.put_points.ensures
+    puts_two g.W.Write.contents c.args.sink.now c.put_serial.new.sink c.put_points.new.sink (verdict_line (codes "serial") c.args.verdicts.serial) (points_line c.args.verdicts.points) c.put_serial.ensures c.put_points.ensures
