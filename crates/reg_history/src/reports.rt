@@ -149,6 +149,30 @@ impl<A: Allocator + Copy> Report<A> {
         })
     }
 
+    /// The report with this order, and these points or none, in place of its own. It takes no memory.
+    ///
+    /// # Errors
+    ///
+    /// `Range` where an id or a point of the lists, or the length of one, is beyond the limits of a report.
+    pub fn with_lists(
+        self,
+        order: Vec<OpId, A>,
+        points: Option<Vec<Point, A>>,
+    ) -> Result<Report<A>, ReportFault>
+        ensures report { IsReport self }
+        ensures lists { let parts : Contents = record { front = self.front; shape = self.shape; names = self.names; entries = self.entries; order = order.items; points = option_map (λ v. v.items) points } in
+            MatchResult result (λ r. (r ≡ parts) × IsReport parts) (λ fault. IsReportFault parts fault) }
+    {
+        let Report {
+            front,
+            names,
+            history,
+            order: _order,
+            points: _points,
+        } = self;
+        Report::new(front, names, history, order, points)
+    }
+
     /// The name of the front end.
     pub fn front(&self) -> &str
         ensures { result.now ≡ self.now.front }

@@ -14,18 +14,11 @@ use Rattle.reg_outcomes.specs.declared.kinds.OrderKind.{OrderKind}
 use Rattle.reg_show.specs.declared.faults.ShowFault.{ShowFault}
 use Rattle.reg_show.specs.Finding.{BlamesFind, Finds, HasNone, IsReordered, IsUnfound, none_text, with_order}
 
-no_fault : (r : Contents) → IsReport r → (ids : List OpId) (points : Option (List Point)) (fault : ReportFault) → IsSerial r.shape.registers r.entries ids → PointsStand r.shape.registers r.entries points → IsReportFault (with_order r ids points) fault → ⊥
-no_fault r good ids points FrontFault serial stand refused = refused good.front
-no_fault r good ids points NamesFault serial stand refused = refused.1 good.registers
-no_fault r good ids points RangeFault serial stand refused = refused.2 (in_range r.shape.processes r.shape.registers r.entries good.history good.processes ids points serial stand)
-
--- copies of a report's other parts with such an order are no report for no reason
-pub never_refused : (r : Contents) → IsReport r → (front : List ℕ) (names : List (List ℕ)) (shape : Extent) (entries : List Entry) (ids : List OpId) (points : Option (List Point)) (fault : ReportFault) → front ≡ r.front → names ≡ r.names → shape ≡ r.shape → entries ≡ r.entries
-    → IsSerial r.shape.registers r.entries ids → PointsStand r.shape.registers r.entries points → IsReportFault (record { front = front; shape = shape; names = names; entries = entries; order = ids; points = points }) fault → ⊥
-never_refused r good front names shape entries ids points fault a b c d serial stand refused =
-    let parts : Contents = record { front = front; shape = shape; names = names; entries = entries; order = ids; points = points } in
-    let same : parts ≡ with_order r ids points = (λ i. record { front = a i; shape = c i; names = b i; entries = d i; order = ids; points = points }) in
-    no_fault r good ids points fault serial stand (subst (λ (x : Contents). IsReportFault x fault) same refused)
+-- a report with such an order is refused for no reason
+pub never_refused : (r : Contents) → IsReport r → (ids : List OpId) (points : Option (List Point)) (fault : ReportFault) → IsSerial r.shape.registers r.entries ids → PointsStand r.shape.registers r.entries points → IsReportFault (with_order r ids points) fault → ⊥
+never_refused r good ids points FrontFault serial stand refused = refused good.front
+never_refused r good ids points NamesFault serial stand refused = refused.1 good.registers
+never_refused r good ids points RangeFault serial stand refused = refused.2 (in_range r.shape.processes r.shape.registers r.entries good.history good.processes ids points serial stand)
 
 -- what is said of a history is said of the report that has it
 module _ (shape : Extent) (entries : List Entry) (r : Contents) (same_shape : shape ≡ r.shape) (same_entries : entries ≡ r.entries) where

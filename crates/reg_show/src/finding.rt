@@ -1,59 +1,77 @@
 //! The command that finds an order of a report's history.
-ghost use Rattle.std.specs.Prelude.{◌≡◌, ◌≢◌, ◌≤◌, ◌⊎◌, IfOk, IfErr, IfSome, IsErrOf, MatchOption, MatchResult, OnOk, length, string_bytes};
+ghost use Rattle.std.specs.Prelude.{◌≡◌, ◌≢◌, ◌≤◌, ◌⊎◌, IfOk, IfErr, IfSome, IsErrOf, MatchOption, MatchResult, OnOk, length, option_map, string_bytes};
 ghost use Rattle.std.specs.Io.KnownBytes.{Appends};
 ghost use Rattle.reg_base.specs.declared.limits.TheConstants.{LONGEST_INPUT};
+ghost use Rattle.reg_checkers.specs.Orders.{IsSerial};
+ghost use Rattle.reg_commands.specs.Replays.{PointsStand};
 ghost use Rattle.reg_text.specs.Writing.{AppendsPart};
-ghost use Rattle.reg_show.specs.Finding.{BlamesFind, Finds, FindsAny, HasNone, IsReordered, IsUnfound, WritesFound, WritesNone, none_text};
+ghost use Rattle.reg_show.specs.Finding.{BlamesFind, Finds, FindsAny, HasNone, IsReordered, IsUnfound, WritesFound, WritesNone, none_text, with_order};
 ghost use Rattle.reg_show.specs.Faults.{show_line};
 ghost use Rattle.reg_show.specs.declared.faults.ShowFault.{ShowFault as AnyFault};
 
 use crate::asking::send;
-use crate::copying::reordered;
 use crate::faults::{ShowFault, write_show_fault};
+use reg_base::OpId;
 use reg_checkers::ids_of_points;
 use reg_commands::{Fault, read_input, read_report_text, write_out};
-use reg_history::Report;
+use reg_history::{Point, Report};
 use reg_outcomes::{MOST_STAGES, OrderKind, find_points, find_serial};
 use std::alloc::Allocator;
 use std::io::{Read, Write};
 
+/// The report with this order, and these points or none, in place of its own.
+fn reordered<A: Allocator + Copy>(
+    report: Report<A>,
+    order: Vec<OpId, A>,
+    points: Option<Vec<Point, A>>,
+) -> Report<A>
+    requires order { IsSerial report.shape.registers report.entries order.items }
+    requires points { PointsStand report.shape.registers report.entries (option_map (λ v. v.items) points) }
+    ensures { result ≡ with_order report order.items (option_map (λ v. v.items) points) }
+{
+    match report.with_lists(order, points) {
+        Ok(report) => report,
+        Err(_) => unreachable!(),
+    }
+}
+
 /// The report with a serial order of its history, None where there is none.
 fn with_serial_order<A: Allocator + Copy>(
     alloc: A,
-    report: &Report<A>,
+    report: Report<A>,
 ) -> Result<Option<Report<A>>, ShowFault>
-    ensures found { IfOk result (λ o. MatchOption o (HasNone OrderKind.Serial report.now) (λ r. IsReordered OrderKind.Serial report.now r)) }
-    ensures why { IfErr result (IsUnfound OrderKind.Serial report.now) }
+    ensures found { IfOk result (λ o. MatchOption o (HasNone OrderKind.Serial report) (λ r. IsReordered OrderKind.Serial report r)) }
+    ensures why { IfErr result (IsUnfound OrderKind.Serial report) }
 {
     let Some(ids) = find_serial(alloc, report.history(), MOST_STAGES)? else {
         return Ok(None);
     };
-    Ok(Some(reordered(alloc, report, ids, None)?))
+    Ok(Some(reordered(report, ids, None)))
 }
 
 /// The report with a point order of its history, None where there is none.
 fn with_points<A: Allocator + Copy>(
     alloc: A,
-    report: &Report<A>,
+    report: Report<A>,
 ) -> Result<Option<Report<A>>, ShowFault>
-    ensures found { IfOk result (λ o. MatchOption o (HasNone OrderKind.Points report.now) (λ r. IsReordered OrderKind.Points report.now r)) }
-    ensures why { IfErr result (IsUnfound OrderKind.Points report.now) }
+    ensures found { IfOk result (λ o. MatchOption o (HasNone OrderKind.Points report) (λ r. IsReordered OrderKind.Points report r)) }
+    ensures why { IfErr result (IsUnfound OrderKind.Points report) }
 {
     let Some(points) = find_points(alloc, report.history(), MOST_STAGES)? else {
         return Ok(None);
     };
     let ids = ids_of_points(alloc, &points)?;
-    Ok(Some(reordered(alloc, report, ids, Some(points))?))
+    Ok(Some(reordered(report, ids, Some(points))))
 }
 
 /// The report with an order of this kind, None where its history has none.
 fn with_order_found<A: Allocator + Copy>(
     alloc: A,
     kind: OrderKind,
-    report: &Report<A>,
+    report: Report<A>,
 ) -> Result<Option<Report<A>>, ShowFault>
-    ensures found { IfOk result (λ o. MatchOption o (HasNone kind report.now) (λ r. IsReordered kind report.now r)) }
-    ensures why { IfErr result (IsUnfound kind report.now) }
+    ensures found { IfOk result (λ o. MatchOption o (HasNone kind report) (λ r. IsReordered kind report r)) }
+    ensures why { IfErr result (IsUnfound kind report) }
 {
     match kind {
         OrderKind::Serial => with_serial_order(alloc, report),
@@ -87,7 +105,7 @@ fn find<A: Allocator + Copy, W: Write>(
 {
     let report = read_report_text(alloc, text.as_str())?;
     drop(text);
-    match with_order_found(alloc, kind, &report)? {
+    match with_order_found(alloc, kind, report)? {
         Some(found) => {
             write_out(writer, &found)?;
             Ok(true)

@@ -8,7 +8,6 @@
 mod answering;
 mod asking;
 mod commands;
-mod copying;
 mod counting;
 mod every;
 mod faults;

@@ -9,7 +9,7 @@ use Rattle.reg_show.proofs.finding.with_points.Goals as goal
 
 pub reordered-requires-clause-order : goal.reordered-requires-clause-order
 reordered-requires-clause-order g c =
-    let r = c.args.report.now in
+    let r = c.args.report in
     let h = c.history.result.now in
     let ps = c.in-Some.points.items in
     let here : IsPointOrder h.shape.registers h.entries ps = subst (λ (o : Option (Vec Point g.row.A.Denot)). MatchOption o ((points : List Point) → ¬ IsPointOrder h.shape.registers h.entries points) (λ v. IsPointOrder h.shape.registers h.entries v.items)) c.in-Some.is c.in_ok-points.ensures.found in
