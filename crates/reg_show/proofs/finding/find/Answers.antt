@@ -39,8 +39,8 @@ returns-in_err-write_out-in-Some-clause-part g c = λ failed.
           (is_found c.args.kind report c.in-Some.found c.in_ok-found.field-0 c.in_ok-found.ensures.found c.in-Some.is) c.in_err-write_out-in-Some.ensures.1,
     )
 
-pub returns-in-Some-clause-ok : goal.returns-in-Some-clause-ok
-returns-in-Some-clause-ok g c =
+pub returns-in_ok-write_out-in-Some-clause-ok : goal.returns-in_ok-write_out-in-Some-clause-ok
+returns-in_ok-write_out-in-Some-clause-ok g c =
     let held = g.W.Write.contents in
     let report = c.in_ok-report.report in
     let read : SpellsReport (string_bytes c.args.text) report = subst (λ (t : List ℕ). SpellsReport t report) c.as_str.ensures.value c.in_ok-report.ensures.read.0 in
@@ -64,8 +64,8 @@ returns-in_err-write_none-in-None-clause-part g c = λ failed.
           (is_none c.args.kind report c.in_ok-found.field-0 c.in_ok-found.ensures.found c.in-None.is) c.in_err-write_none-in-None.ensures.1,
     )
 
-pub returns-clause-ok : goal.returns-clause-ok
-returns-clause-ok g c =
+pub returns-in_ok-write_none-in-None-clause-ok : goal.returns-in_ok-write_none-in-None-clause-ok
+returns-in_ok-write_none-in-None-clause-ok g c =
     let held = g.W.Write.contents in
     let report = c.in_ok-report.report in
     let read : SpellsReport (string_bytes c.args.text) report = subst (λ (t : List ℕ). SpellsReport t report) c.as_str.ensures.value c.in_ok-report.ensures.read.0 in
