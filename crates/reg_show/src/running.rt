@@ -18,12 +18,26 @@ use crate::resting::rest;
 use crate::scheduling::FullSchedule;
 use crate::showing::Showing;
 use reg_commands::Fault;
-use reg_page::head::HEAD;
-use reg_page::tail::TAIL;
+use reg_page::{texts_after, texts_before};
 use std::alloc::{AllocError, Allocator, Global};
 use std::io::{Read, Write};
 use std::str;
 
+/// Writes the page of the run of a schedule.
+fn write_page<A: Allocator + Copy, W: Write>(
+    alloc: A,
+    text: &str,
+    writer: &mut W,
+) -> Result<(), ShowFault>
+    ensures ok { IfOk result (λ _. ShowsText Showing.Page (Appends (W.contents writer.old) (W.contents writer.new)) text.now) }
+    ensures why { IfErr result (λ f. BlamesText Showing.Page f text.now) }
+    ensures silent { IfErr result (λ f. f ≢ ShowFault.Command Fault.Output → writer.new ≡ writer.old) }
+    ensures part { IsErrOf result (ShowFault.Command Fault.Output) → ShowsText Showing.Page (AppendsPart (W.contents writer.old) (W.contents writer.new)) text.now }
+{
+    write_run(alloc, text, texts_before(), texts_after(), writer)
+}
+
+/// Shows what a schedule says.
 fn show<A: Allocator + Copy, W: Write>(
     alloc: A,
     showing: Showing,
@@ -39,7 +53,7 @@ fn show<A: Allocator + Copy, W: Write>(
         Showing::Trace => Ok(trace(alloc, text, writer)?),
         Showing::Draw => draw(alloc, text, writer),
         Showing::Data => write_run(alloc, text, &[], &["\n"], writer),
-        Showing::Page => write_run(alloc, text, &HEAD, &TAIL, writer),
+        Showing::Page => write_page(alloc, text, writer),
         Showing::Rest => rest(alloc, text, writer),
     }
 }
