@@ -1,15 +1,5 @@
 //! All outcomes of a workload, by the command that prints them: a text worked out by hand, and a refusal.
-use crate::given::{Given, is_given};
-use reg_show::show_all_outcomes;
-use std::alloc::Global;
-
-/// Whether this is given for a text.
-fn tells(alloc: Global, text: &str, given: Given<'_>) -> bool {
-    let (mut output, mut errors) = (Vec::new(alloc), Vec::new(alloc));
-    let mut input = text.as_bytes();
-    let status = show_all_outcomes(alloc, alloc, &mut input, &mut output, &mut errors);
-    is_given((status, output.as_slice(), errors.as_slice()), given)
-}
+use crate::given::{Task, tells};
 
 // One of the two has the lock, and which one has it is the one whose turn is first.
 #[test]
@@ -25,11 +15,12 @@ never 2
 p0 #0 value 0  p1 #0 value 0
 p0 #0 value 1  p1 #0 value 1
 ";
-    assert!(rt; tells(rt.alloc(), text, (0, shown, "")));
+    assert!(rt; tells(rt.alloc(), Task::AllOutcomes, text, (0, shown, "")));
 }
 
 // The word stands without a value, so that the text is no document.
 #[test]
 fn no_workload(rt: HostRuntime) {
-    assert!(rt; tells(rt.alloc(), "registers", (1, "", "toml\n")));
+    let told = (1, "", "toml\n");
+    assert!(rt; tells(rt.alloc(), Task::AllOutcomes, "registers", told));
 }

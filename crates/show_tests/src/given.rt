@@ -1,14 +1,99 @@
-//! What a command gives, and what it is to give.
+//! What is done with a text, and what is to be given for it.
+use reg_outcomes::OrderKind;
+use reg_show::{
+    Player, Showing, find_order, show_all_outcomes, show_outcome, show_schedule,
+    show_short_schedule, show_text, why_text,
+};
+use reg_verify::verify_text;
 use std::alloc::Global;
+use std::io::Write;
+use std::process::Abort;
 
 /// What a command is to give: its status, its output, and the lines of its faults.
 pub(crate) type Given<'a> = (u8, &'a str, &'a str);
 
-/// Whether what a command did is this: its status, what it wrote and the faults that it told.
-pub(crate) fn is_given(done: (u8, &[u8], &[u8]), given: Given<'_>) -> bool {
-    let (got, written, told) = done;
-    let (status, output, faults) = given;
-    got == status && written == output.as_bytes() && told == faults.as_bytes()
+/// A text, and what is to be given for it.
+pub(crate) type Row = (&'static str, Given<'static>);
+
+/// What is done with a text.
+#[derive(Clone, Copy)]
+pub(crate) enum Task {
+    /// All outcomes of a workload are told.
+    AllOutcomes,
+    /// The schedule of a run with the outcome of this number, which isn't 0, is written.
+    Outcome { number: u32 },
+    /// An order of a report's history is found.
+    Order { kind: OrderKind },
+    /// The schedule of a workload's fair play is written.
+    Schedule,
+    /// The short schedule of a workload's fair play is written.
+    ShortSchedule,
+    /// A run is shown.
+    Show { showing: Showing },
+    /// A record is judged.
+    Verify,
+    /// It is told what is wrong with the text.
+    Why,
+}
+
+/// The status of a task. No command has 255, which stands for an outcome of number 0.
+fn run<W: Write>(
+    alloc: Global,
+    task: Task,
+    text: &str,
+    output: &mut W,
+    errors: &mut Vec<u8>,
+) -> u8 {
+    let mut input = text.as_bytes();
+    let input = &mut input;
+    match task {
+        Task::AllOutcomes => show_all_outcomes(alloc, alloc, input, output, errors),
+        Task::Outcome { number: 0 } => 255,
+        Task::Outcome { number } => show_outcome(alloc, alloc, number, input, output, errors),
+        Task::Order { kind } => find_order(alloc, kind, input, output, errors),
+        Task::Schedule => show_schedule(alloc, alloc, Player::Fair, input, output, errors),
+        Task::ShortSchedule => {
+            show_short_schedule(alloc, alloc, Player::Fair, input, output, errors)
+        }
+        Task::Show { showing } => show_text(alloc, alloc, showing, input, output, errors),
+        Task::Verify => verify_text(alloc, input, output, errors),
+        Task::Why => why_text(alloc, alloc, input, output, errors),
+    }
+}
+
+/// Whether this is given for a text.
+pub(crate) fn tells(alloc: Global, task: Task, text: &str, given: Given<'_>) -> bool {
+    let (status, wanted, faults) = given;
+    let (mut output, mut errors) = (Vec::new(alloc), Vec::new(alloc));
+    run(alloc, task, text, &mut output, &mut errors) == status
+        && output.as_slice() == wanted.as_bytes()
+        && errors.as_slice() == faults.as_bytes()
+}
+
+/// Demands what is to be given for each text.
+pub(crate) fn demand(rt: &(impl Abort + AllocGlobal), task: Task, rows: &[Row]) {
+    for (text, given) in rows {
+        assert!(rt; tells(rt.alloc(), task, text, *given), "{text}");
+    }
+}
+
+/// Whether a first part of what is told of a text goes out where there is this much room for it, of at most 200 bytes.
+pub(crate) fn goes_out_in_part(
+    alloc: Global,
+    task: Task,
+    text: &str,
+    whole: &str,
+    room: usize,
+) -> bool {
+    let mut buffer = [0u8; 200];
+    if room > buffer.len() {
+        return false;
+    }
+    let mut writer = &mut buffer[..room];
+    let mut errors = Vec::new(alloc);
+    run(alloc, task, text, &mut writer, &mut errors) == 1
+        && errors.as_slice() == "output: write\n".as_bytes()
+        && whole.as_bytes().starts_with(&buffer[..room])
 }
 
 /// What a command wrote, as the answer of a trial. None where it told that it was out of memory, and wrote nothing.

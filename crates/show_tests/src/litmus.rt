@@ -67,15 +67,20 @@ scripts = [[\"write x 1\"], [\"write y 1\"], [\"read x\", \"read y\"], [\"read y
 
 /// What the first hundred plays of store buffering answer under each front end, counted play by play from the schedule
 /// and the report of each. Whether a play is linearizable was found by trying all orders of its operations.
-const COUNTED: [&str; 3] = [
-    "plays 100
+const COUNTED: [(&str, &str); 3] = [
+    (
+        "linear",
+        "plays 100
 outcomes 2
       99  p0 #1 value 1  p1 #1 value 1  real time    124 events  seed 86  linearizable 0  not linearizable -
        1  p0 #1 value 1  p1 #1 value 0  real time     47 events  seed 89  linearizable 89  not linearizable -
 unfinished 0
 never drawn 1
 ",
-    "plays 100
+    ),
+    (
+        "local-read",
+        "plays 100
 outcomes 3
       59  p0 #1 value 1  p1 #1 value 1  real time     26 events  seed 76  linearizable 0  not linearizable -
       27  p0 #1 value 1  p1 #1 value 0  real time     32 events  seed 51  linearizable 7  not linearizable -
@@ -83,7 +88,10 @@ outcomes 3
 unfinished 0
 never drawn 0
 ",
-    "plays 100
+    ),
+    (
+        "local-write",
+        "plays 100
 outcomes 3
       46  p0 #1 value 0  p1 #1 value 1  real time     24 events  seed 42  linearizable 1  not linearizable 4
       32  p0 #1 value 1  p1 #1 value 0  real time     24 events  seed 84  linearizable 10  not linearizable 7
@@ -91,6 +99,7 @@ outcomes 3
 unfinished 0
 never drawn 0
 ",
+    ),
 ];
 
 /// The table of this number of plays of a workload, from this seed on or from the document's own. Empty where it is
@@ -193,7 +202,7 @@ fn without_budget_no_play_is_finished(rt: HostRuntime) {
 
 #[test]
 fn a_hundred_plays_are_counted(rt: HostRuntime) {
-    for (front, counted) in FRONTS.iter().zip(COUNTED.iter()) {
+    for (front, counted) in &COUNTED {
         assert!(rt;
             has_table(rt.alloc(), 100, front, STORE_BUFFERING, counted),
             "{front}"

@@ -1,7 +1,6 @@
 //! The schedule of a run with one outcome of a workload, by the command that prints it: a text worked out by hand, and
 //! refusals.
-use crate::given::{Given, is_given};
-use reg_show::show_outcome;
+use crate::given::{Task, tells};
 use std::alloc::{AllocError, Global};
 
 /// One of the two has the lock. With the second outcome, the other one.
@@ -31,17 +30,6 @@ take 1 0 5
 take 0 1 5
 ";
 
-/// Whether this is given for a text and the number of an outcome, which isn't 0.
-fn tells(alloc: Global, number: u32, text: &str, given: Given<'_>) -> bool {
-    if number == 0 {
-        return false;
-    }
-    let (mut output, mut errors) = (Vec::new(alloc), Vec::new(alloc));
-    let mut input = text.as_bytes();
-    let status = show_outcome(alloc, alloc, number, &mut input, &mut output, &mut errors);
-    is_given((status, output.as_slice(), errors.as_slice()), given)
-}
-
 /// Adds a workload whose only process with a script calls 87 operations. With 64 processes each may take 12,097 events.
 fn add_many_reads(text: &mut String) -> Result<(), AllocError> {
     text.push_str("registers = [\"x\"]\nfront = \"linear\"\nscripts = [[\"read x\"")?;
@@ -55,20 +43,24 @@ fn add_many_reads(text: &mut String) -> Result<(), AllocError> {
     text.push_str("]\n")
 }
 
+/// Whether this fault is told of the outcome of this number of that workload.
+fn tells_of_many_reads(alloc: Global, number: u32, fault: &str) -> bool {
+    let mut many = String::new(alloc);
+    let is_made = add_many_reads(&mut many).is_ok();
+    let told = (1, "", fault);
+    is_made && tells(alloc, Task::Outcome { number }, many.as_str(), told)
+}
+
 #[test]
 fn a_run_of_the_second_outcome(rt: HostRuntime) {
-    assert!(rt; tells(rt.alloc(), 2, LOCK, (0, SECOND, "")));
+    let told = (0, SECOND, "");
+    assert!(rt; tells(rt.alloc(), Task::Outcome { number: 2 }, LOCK, told));
 }
 
 #[test]
 fn no_run_of_an_outcome(rt: HostRuntime) {
-    let mut many = String::new(rt.alloc());
-    assert!(rt; add_many_reads(&mut many).is_ok());
-    for (number, text, told) in [
-        (3, LOCK, "no such outcome\n"),
-        (2, many.as_str(), "no such outcome\n"),
-        (1, many.as_str(), "too many events\n"),
-    ] {
-        assert!(rt; tells(rt.alloc(), number, text, (1, "", told)), "{told}");
-    }
+    let none = "no such outcome\n";
+    assert!(rt; tells(rt.alloc(), Task::Outcome { number: 3 }, LOCK, (1, "", none)));
+    assert!(rt; tells_of_many_reads(rt.alloc(), 2, none));
+    assert!(rt; tells_of_many_reads(rt.alloc(), 1, "too many events\n"));
 }

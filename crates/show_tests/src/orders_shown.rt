@@ -1,16 +1,16 @@
 //! Orders of a report's history, by the command that finds them: texts worked out by hand, and refusals.
-use crate::given::{Given, is_given};
+use crate::given::{Task, tells};
 use reg_outcomes::OrderKind;
-use reg_show::find_order;
-use std::alloc::Global;
 
-/// Whether this is given for a text and an order of this kind.
-fn tells(alloc: Global, kind: OrderKind, text: &str, given: Given<'_>) -> bool {
-    let (mut output, mut errors) = (Vec::new(alloc), Vec::new(alloc));
-    let mut input = text.as_bytes();
-    let status = find_order(alloc, kind, &mut input, &mut output, &mut errors);
-    is_given((status, output.as_slice(), errors.as_slice()), given)
-}
+/// A serial order of a report's history is found.
+const SERIAL: Task = Task::Order {
+    kind: OrderKind::Serial,
+};
+
+/// A point order of a report's history is found.
+const POINTS: Task = Task::Order {
+    kind: OrderKind::Points,
+};
 
 /// A write of process 0 is answered before process 1 reads, which still answers 0. The report's own order is none.
 const STALE: &str = "awreg report 1
@@ -43,12 +43,8 @@ p1 #0
 p0 #0
 end
 ";
-    for (kind, told) in [
-        (OrderKind::Serial, (0, found, "")),
-        (OrderKind::Points, (1, "no point order\n", "")),
-    ] {
-        assert!(rt; tells(rt.alloc(), kind, STALE, told));
-    }
+    assert!(rt; tells(rt.alloc(), SERIAL, STALE, (0, found, "")));
+    assert!(rt; tells(rt.alloc(), POINTS, STALE, (1, "no point order\n", "")));
 }
 
 /// Process 0 reads its own two writes, and process 1 the first of them after the second.
@@ -71,7 +67,7 @@ order 0
 end
 ";
     let told = (1, "no serial order\n", "");
-    assert!(rt; tells(rt.alloc(), OrderKind::Serial, text, told));
+    assert!(rt; tells(rt.alloc(), SERIAL, text, told));
 }
 
 /// An unfinished write that a read saw has a point, and an unfinished read has none.
@@ -110,11 +106,11 @@ p0 #0 at 0
 p1 #0 at 1
 end
 ";
-    assert!(rt; tells(rt.alloc(), OrderKind::Points, text, (0, found, "")));
+    assert!(rt; tells(rt.alloc(), POINTS, text, (0, found, "")));
 }
 
 #[test]
 fn no_report(rt: HostRuntime) {
     let told = (1, "", "line 1: form\n");
-    assert!(rt; tells(rt.alloc(), OrderKind::Serial, "order 0\n", told));
+    assert!(rt; tells(rt.alloc(), SERIAL, "order 0\n", told));
 }

@@ -1,5 +1,5 @@
 //! Records judged: one that is worked out by hand, and what is told of others.
-use crate::given::{Given, answer_of, is_given};
+use crate::given::{Task, answer_of, tells};
 use refusing::{Trial, refusals};
 use reg_verify::verify_text;
 use std::alloc::{Allocator, Global};
@@ -47,22 +47,15 @@ const CHANGES: [(&str, &str, &str); 10] = [
     ("linear", "local", "line 2: name\n"),
 ];
 
-/// Whether this is given for a record.
-fn tells(alloc: Global, text: &str, given: Given<'_>) -> bool {
-    let mut reader = text.as_bytes();
-    let (mut output, mut errors) = (Vec::new(alloc), Vec::new(alloc));
-    let status = verify_text(alloc, &mut reader, &mut output, &mut errors);
-    is_given((status, output.as_slice(), errors.as_slice()), given)
-}
-
 #[test]
 fn a_record_worked_by_hand_has_the_report_of_its_run(rt: HostRuntime) {
-    assert!(rt; tells(rt.alloc(), WRITE, (0, REPORT, "")));
+    assert!(rt; tells(rt.alloc(), Task::Verify, WRITE, (0, REPORT, "")));
 }
 
 #[test]
 fn a_record_that_ends_in_its_head_is_told_there(rt: HostRuntime) {
-    assert!(rt; tells(rt.alloc(), "tellwydar record 1\n", (1, "", "line 2: end\n")));
+    let told = (1, "", "line 2: end\n");
+    assert!(rt; tells(rt.alloc(), Task::Verify, "tellwydar record 1\n", told));
 }
 
 /// Whether the record with the one in the place of the other is refused with this line.
@@ -71,7 +64,7 @@ fn is_refused(alloc: Global, old: &str, new: &str, line: &str) -> bool {
         return false;
     };
     match format!(in alloc; "{front}{new}{rest}") {
-        Ok(text) => tells(alloc, text.as_str(), (1, "", line)),
+        Ok(text) => tells(alloc, Task::Verify, text.as_str(), (1, "", line)),
         Err(_) => false,
     }
 }

@@ -1,5 +1,5 @@
 //! What `awshow rest` prints, on schedules worked by hand.
-use crate::shown::tells;
+use crate::given::{Row, Task, demand};
 use reg_show::Showing;
 
 /// Two processes of which the first one wrote, and no frame was taken.
@@ -35,15 +35,18 @@ front linear
 take 0 1 0
 ";
 
+const ROWS: [Row; 5] = [
+    (LOST, (0, LOST_RESTED, "")),
+    (LOST_RESTED, (0, LOST_RESTED, "")),
+    (STILL, (0, STILL, "")),
+    (EARLY, (1, "", "event 0: no frame\n")),
+    ("processes 0\n", (1, "", "line 1: range\n")),
+];
+
 #[test]
 fn a_schedule_is_printed_with_what_brings_it_to_rest(rt: HostRuntime) {
-    for (text, told) in [
-        (LOST, (0, LOST_RESTED, "")),
-        (LOST_RESTED, (0, LOST_RESTED, "")),
-        (STILL, (0, STILL, "")),
-        (EARLY, (1, "", "event 0: no frame\n")),
-        ("processes 0\n", (1, "", "line 1: range\n")),
-    ] {
-        assert!(rt; tells(rt.alloc(), Showing::Rest, text, told), "{text}");
-    }
+    let task = Task::Show {
+        showing: Showing::Rest,
+    };
+    demand(&rt, task, ROWS.as_slice());
 }

@@ -1,5 +1,6 @@
 //! The data and the page of runs, with what was worked out by hand from the definitions.
-use crate::shown::{WRITE, tells};
+use crate::given::tells;
+use crate::shown::{DATA, WRITE};
 use crate::values::shown;
 use reg_page::head::HEAD;
 use reg_page::tail::TAIL;
@@ -150,13 +151,13 @@ const NOTED_DATA: &str = r##"{"version":1,
 ]}
 "##;
 
+/// Texts, and the data of each.
+const RUNS: [(&str, &str); 3] = [(WRITE, WRITE_DATA), (HELD, HELD_DATA), (NOTED, NOTED_DATA)];
+
 #[test]
 fn data_is_that_worked_by_hand(rt: HostRuntime) {
-    for (text, wanted) in [(WRITE, WRITE_DATA), (HELD, HELD_DATA), (NOTED, NOTED_DATA)] {
-        assert!(rt;
-            tells(rt.alloc(), Showing::Data, text, (0, wanted, "")),
-            "{text}"
-        );
+    for (text, wanted) in &RUNS {
+        assert!(rt; tells(rt.alloc(), DATA, text, (0, wanted, "")), "{text}");
     }
 }
 
@@ -176,27 +177,43 @@ fn is_string_at(alloc: Global, json: &str, path: &str, wanted: &str) -> bool {
     }
 }
 
+/// Data, the path of a member, and the string that it is.
+const MEMBERS: [(&str, &str, &str); 7] = [
+    (WRITE_DATA, "/events/2/event", "take 1 0 1"),
+    (HELD_DATA, "/operations/2/answer/text", "value 1"),
+    (
+        NOTED_DATA,
+        "/title",
+        "</script><script>alert(1)</script>  He said \"no\" & left \\ here.",
+    ),
+    (
+        NOTED_DATA,
+        "/events/0/note",
+        "no space \u{e9} \u{2603} \u{1f600}",
+    ),
+    (NOTED_DATA, "/events/1/note", "\ttab\u{7f}"),
+    (NOTED_DATA, "/events/2/note", ""),
+    (NOTED_DATA, "/events/3/note", "<!-- -->"),
+];
+
 #[test]
 fn a_json_reader_reads_the_comments(rt: HostRuntime) {
-    for (json, path, wanted) in [
-        (WRITE_DATA, "/events/2/event", "take 1 0 1"),
-        (HELD_DATA, "/operations/2/answer/text", "value 1"),
-        (
-            NOTED_DATA,
-            "/title",
-            "</script><script>alert(1)</script>  He said \"no\" & left \\ here.",
-        ),
-        (
-            NOTED_DATA,
-            "/events/0/note",
-            "no space \u{e9} \u{2603} \u{1f600}",
-        ),
-        (NOTED_DATA, "/events/1/note", "\ttab\u{7f}"),
-        (NOTED_DATA, "/events/2/note", ""),
-        (NOTED_DATA, "/events/3/note", "<!-- -->"),
-    ] {
+    for (json, path, wanted) in &MEMBERS {
         assert!(rt; is_string_at(rt.alloc(), json, path, wanted), "{path}");
     }
+}
+
+// The proof of a function goes through all texts that it names once for each text and for each step. So long texts are
+// named by functions of one step.
+
+/// The page before its data, in parts.
+fn head() -> &'static [&'static str] {
+    &HEAD
+}
+
+/// The page after its data, in parts.
+fn tail() -> &'static [&'static str] {
+    &TAIL
 }
 
 /// What stands after these texts, with which the bytes begin.
@@ -210,12 +227,12 @@ fn behind<'b>(bytes: &'b [u8], texts: &[&str]) -> Option<&'b [u8]> {
 
 /// What stands after the head of a page.
 fn behind_head(page: &[u8]) -> &[u8] {
-    behind(page, &HEAD).unwrap_or(&[])
+    behind(page, head()).unwrap_or(&[])
 }
 
 /// Whether these are the tail of a page.
 fn is_tail(bytes: &[u8]) -> bool {
-    matches!(behind(bytes, &TAIL), Some([]))
+    matches!(behind(bytes, tail()), Some([]))
 }
 
 /// Whether the page is its head, the data without its last line feed, and its tail.
@@ -232,7 +249,7 @@ fn is_framed(alloc: Global, text: &str, data_text: &str) -> bool {
 
 #[test]
 fn a_page_is_its_head_the_data_and_its_tail(rt: HostRuntime) {
-    for (text, wanted) in [(WRITE, WRITE_DATA), (HELD, HELD_DATA), (NOTED, NOTED_DATA)] {
+    for (text, wanted) in &RUNS {
         assert!(rt; is_framed(rt.alloc(), text, wanted), "{text}");
     }
 }

@@ -1,11 +1,8 @@
 //! Short schedules of plays, with what was worked out by hand from the rules.
-ghost use Rattle.reg_show.specs.Seeds.{IsSeed, seed_of};
-
-use crate::given::{Given, is_given};
+use crate::given::{Given, Row, Task, demand, tells};
 use crate::shown::{WRITE, replays_to};
-use reg_show::{MOST_SHORTENED, Player, show_short_schedule};
+use reg_show::MOST_SHORTENED;
 use std::alloc::{AllocError, Global};
-use std::test::Fail;
 
 /// A workload whose fair play is `call 0 write x 5`, `take 0 1 0`, `take 1 0 0`, `take 1 0 1`, which answers the write,
 /// and `take 0 1 1`. The two takes of counts are of no use, and each of the others is.
@@ -72,35 +69,22 @@ registers x
 front linear
 ";
 
-/// Whether this is given for the short schedule of a player's play.
-fn tells_short(alloc: Global, player: Player, text: &str, given: Given<'_>) -> bool
-    requires { IsSeed (seed_of player) }
-{
-    let (mut output, mut errors) = (Vec::new(alloc), Vec::new(alloc));
-    let mut input = text.as_bytes();
-    let status = show_short_schedule(alloc, alloc, player, &mut input, &mut output, &mut errors);
-    is_given((status, output.as_slice(), errors.as_slice()), given)
-}
+const SHORTENED: [Row; 5] = [
+    (LONE_WRITE, (0, WRITE, "")),
+    (WRITE_AND_SWAP, (0, SHORT_WRITE_AND_SWAP, "")),
+    (READ_BESIDE_A_WRITE, (0, SHORT_READ, "")),
+    (TWO_WRITES, (0, SHORT_TWO_WRITES, "")),
+    (UNANSWERED, (0, NOTHING, "")),
+];
 
 #[test]
 fn short_schedules_are_those_worked_by_hand(rt: HostRuntime) {
-    for (text, short) in [
-        (LONE_WRITE, WRITE),
-        (WRITE_AND_SWAP, SHORT_WRITE_AND_SWAP),
-        (READ_BESIDE_A_WRITE, SHORT_READ),
-        (TWO_WRITES, SHORT_TWO_WRITES),
-        (UNANSWERED, NOTHING),
-    ] {
-        assert!(rt;
-            tells_short(rt.alloc(), Player::Fair, text, (0, short, "")),
-            "{text}"
-        );
-    }
+    demand(&rt, Task::ShortSchedule, SHORTENED.as_slice());
 }
 
 #[test]
 fn no_short_schedule_of_a_text_that_is_no_workload(rt: HostRuntime) {
-    assert!(rt; tells_short(rt.alloc(), Player::Fair, WRITE, (1, "", "toml\n")));
+    assert!(rt; tells(rt.alloc(), Task::ShortSchedule, WRITE, (1, "", "toml\n")));
 }
 
 /// The report of the run of a short schedule, in which the write has its answer.
@@ -140,52 +124,50 @@ end
 
 #[test]
 fn a_short_schedule_replays_to_the_same_answers(rt: HostRuntime) {
-    for (schedule, report) in [
-        (WRITE, WRITE_REPORT),
-        (SHORT_WRITE_AND_SWAP, WRITE_AND_SWAP_REPORT),
-    ] {
-        assert!(rt; replays_to(rt.alloc(), schedule.as_bytes(), report.as_bytes()));
-    }
+    let (short, report) = (SHORT_WRITE_AND_SWAP, WRITE_AND_SWAP_REPORT);
+    assert!(rt; replays_to(rt.alloc(), WRITE.as_bytes(), WRITE_REPORT.as_bytes()));
+    assert!(rt; replays_to(rt.alloc(), short.as_bytes(), report.as_bytes()));
 }
 
-/// One process alone that reads `count` times, each time answered at once.
-fn reads(alloc: Global, count: usize) -> Result<String, AllocError> {
-    let mut text = String::new(alloc);
+/// Adds a workload of one process alone that reads `count` times, each time answered at once.
+fn add_reads(text: &mut String, count: usize) -> Result<(), AllocError> {
     text.push_str("front = \"linear\"\nregisters = [\"x\"]\nscripts = [[\"read x\"")?;
     for _ in 1..count {
         text.push_str(", \"read x\"")?;
     }
-    text.push_str("]]\n")?;
-    Ok(text)
+    text.push_str("]]\n")
+}
+
+/// Whether this is given for the short schedule of so many reads.
+fn tells_of_reads(alloc: Global, count: usize, given: Given<'_>) -> bool {
+    let mut text = String::new(alloc);
+    let is_made = add_reads(&mut text, count).is_ok();
+    is_made && tells(alloc, Task::ShortSchedule, text.as_str(), given)
 }
 
 #[test]
-fn a_play_of_more_events_up_to_the_last_answer_is_refused(rt: HostRuntime) -> Result<(), Fail> {
-    let text = reads(rt.alloc(), MOST_SHORTENED + 1)?;
+fn a_play_of_more_events_up_to_the_last_answer_is_refused(rt: HostRuntime) {
     let told = (1, "", "too many events to shorten\n");
-    assert!(rt; tells_short(rt.alloc(), Player::Fair, text.as_str(), told));
-    Ok(())
+    assert!(rt; tells_of_reads(rt.alloc(), MOST_SHORTENED + 1, told));
 }
 
-/// The schedule of those reads.
-fn calls(alloc: Global, count: usize) -> Result<String, AllocError> {
-    let mut text = String::from_str(alloc, "processes 1\nregisters x\nfront linear\n")?;
+/// Adds the schedule of so many reads.
+fn add_calls(text: &mut String, count: usize) -> Result<(), AllocError> {
+    text.push_str("processes 1\nregisters x\nfront linear\n")?;
     for _ in 0..count {
         text.push_str("call 0 read x\n")?;
     }
-    Ok(text)
+    Ok(())
+}
+
+/// Whether all of so many reads are in their short schedule.
+fn are_kept(alloc: Global, count: usize) -> bool {
+    let mut short = String::new(alloc);
+    let is_made = add_calls(&mut short, count).is_ok();
+    is_made && tells_of_reads(alloc, count, (0, short.as_str(), ""))
 }
 
 #[test]
-fn no_answered_call_is_dropped(rt: HostRuntime) -> Result<(), Fail> {
-    let (text, short) = (reads(rt.alloc(), 100)?, calls(rt.alloc(), 100)?);
-    assert!(rt;
-        tells_short(
-            rt.alloc(),
-            Player::Fair,
-            text.as_str(),
-            (0, short.as_str(), "")
-        )
-    );
-    Ok(())
+fn no_answered_call_is_dropped(rt: HostRuntime) {
+    assert!(rt; are_kept(rt.alloc(), 100));
 }

@@ -1,11 +1,11 @@
 //! Schedules, traces and drawings of texts, with what was worked out by hand from the rules.
 ghost use Rattle.reg_show.specs.Seeds.{IsSeed, seed_of};
 
-use crate::given::{Given, is_given};
+use crate::given::{Row, Task, demand, goes_out_in_part, tells};
 use crate::run_data::WRITE_DATA;
 use crate::values::{scheduled, shown};
 use reg_commands::{Command, run_text};
-use reg_show::{Player, Showing, show_text};
+use reg_show::{Player, Showing};
 use std::alloc::{AllocError, Global};
 
 /// A write that is done once the other process has acknowledged its cast.
@@ -113,72 +113,58 @@ repeat = 20
 budget = 60
 ";
 
-/// Whether this is given where a text is shown.
-pub(crate) fn tells(alloc: Global, showing: Showing, text: &str, given: Given<'_>) -> bool {
-    let (status, output, errors) = shown(alloc, showing, text.as_bytes());
-    is_given((status, output.as_slice(), errors.as_slice()), given)
-}
+const TRACES: [Row; 4] = [
+    (WRITE, (0, WRITE_TRACE, "")),
+    (HELD, (0, HELD_TRACE, "")),
+    (AGAIN, (0, AGAIN_TRACE, "")),
+    ("processes 1\nregisters x\nfront linear\n", (0, "", "")),
+];
+
+const TRACE: Task = Task::Show {
+    showing: Showing::Trace,
+};
+
+const DRAW: Task = Task::Show {
+    showing: Showing::Draw,
+};
+
+pub(crate) const DATA: Task = Task::Show {
+    showing: Showing::Data,
+};
 
 #[test]
 fn traces_are_those_worked_by_hand(rt: HostRuntime) {
-    for (text, trace) in [
-        (WRITE, WRITE_TRACE),
-        (HELD, HELD_TRACE),
-        (AGAIN, AGAIN_TRACE),
-        ("processes 1\nregisters x\nfront linear\n", ""),
-    ] {
-        assert!(rt;
-            tells(rt.alloc(), Showing::Trace, text, (0, trace, "")),
-            "{text}"
-        );
-    }
-}
-
-/// Whether what is shown of a text goes out in part where there is this much room for it.
-fn goes_out_in_part(alloc: Global, showing: Showing, text: &str, whole: &str, room: usize) -> bool {
-    let mut buffer = [0u8; 200];
-    if room > buffer.len() {
-        return false;
-    }
-    let mut writer = &mut buffer[..room];
-    let (mut reader, mut errors) = (text.as_bytes(), Vec::new(alloc));
-    let status = show_text(alloc, alloc, showing, &mut reader, &mut writer, &mut errors);
-    status == 1
-        && errors.as_slice() == "output: write\n".as_bytes()
-        && whole.as_bytes().starts_with(&buffer[..room])
+    demand(&rt, TRACE, TRACES.as_slice());
 }
 
 #[test]
 fn what_is_shown_to_a_writer_that_is_full_goes_out_in_part(rt: HostRuntime) {
-    for (showing, whole) in [(Showing::Trace, WRITE_TRACE), (Showing::Data, WRITE_DATA)] {
+    for (task, whole) in [(TRACE, WRITE_TRACE), (DATA, WRITE_DATA)] {
         for room in [0usize, 1, 99, 200] {
             assert!(rt;
-                goes_out_in_part(rt.alloc(), showing, WRITE, whole, room),
+                goes_out_in_part(rt.alloc(), task, WRITE, whole, room),
                 "{room}"
             );
         }
     }
 }
 
+const EARLY: &str = "processes 2\nregisters x\nfront linear\ntake 0 1 0\n";
+
+/// Texts that can't be shown so, and the fault of each.
+const REFUSED: [(Task, &str, &str); 5] = [
+    (TRACE, "", "line 1: end\n"),
+    (DRAW, "processes 0\n", "line 1: range\n"),
+    (TRACE, EARLY, "event 0: no frame\n"),
+    (DRAW, EARLY, "event 0: no frame\n"),
+    (Task::Schedule, EARLY, "toml\n"),
+];
+
 #[test]
 fn bad_input_is_told_in_one_line(rt: HostRuntime) {
-    let early = "processes 2\nregisters x\nfront linear\ntake 0 1 0\n";
-    for (showing, text, fault) in [
-        (Showing::Trace, "", "line 1: end\n"),
-        (Showing::Draw, "processes 0\n", "line 1: range\n"),
-        (Showing::Trace, early, "event 0: no frame\n"),
-        (Showing::Draw, early, "event 0: no frame\n"),
-    ] {
-        assert!(rt; tells(rt.alloc(), showing, text, (1, "", fault)), "{text}");
+    for (task, text, fault) in &REFUSED {
+        assert!(rt; tells(rt.alloc(), *task, text, (1, "", fault)), "{text}");
     }
-    let (status, output, errors) = scheduled(rt.alloc(), Player::Fair, early.as_bytes());
-    assert!(rt; status == 1 && output.is_empty() && errors.as_slice() == "toml\n".as_bytes());
-}
-
-/// Whether a text is drawn.
-fn is_drawn(alloc: Global, text: &str) -> bool {
-    let (status, output, errors) = shown(alloc, Showing::Draw, text.as_bytes());
-    status == 0 && errors.is_empty() && output.as_slice().starts_with(b"<svg ")
 }
 
 /// Adds a schedule with `count` ticks.
@@ -199,28 +185,38 @@ fn ticks(alloc: Global, count: u32) -> String {
     text
 }
 
-/// What is given for a run with too many events.
-const TOO_MANY: Given<'static> = (1, "", "too many events to draw\n");
+/// Whether a schedule with `count` ticks is drawn.
+fn is_drawn(alloc: Global, count: u32) -> bool {
+    let text = ticks(alloc, count);
+    let (status, output, errors) = shown(alloc, Showing::Draw, text.as_bytes());
+    status == 0 && errors.is_empty() && output.as_slice().starts_with(b"<svg ")
+}
+
+/// Whether a schedule with `count` ticks has too many events to be shown.
+fn has_too_many(alloc: Global, showing: Showing, count: u32) -> bool {
+    let text = ticks(alloc, count);
+    let given = (1, "", "too many events to draw\n");
+    tells(alloc, Task::Show { showing }, text.as_str(), given)
+}
 
 #[test]
 fn a_drawing_has_at_most_400_events(rt: HostRuntime) {
-    let (most, more) = (ticks(rt.alloc(), 400), ticks(rt.alloc(), 401));
-    assert!(rt; is_drawn(rt.alloc(), most.as_str()));
-    assert!(rt; tells(rt.alloc(), Showing::Draw, more.as_str(), TOO_MANY));
+    assert!(rt; is_drawn(rt.alloc(), 400));
+    assert!(rt; has_too_many(rt.alloc(), Showing::Draw, 401));
 }
 
-/// Whether a run is told whole.
-fn is_told(alloc: Global, showing: Showing, text: &str) -> bool {
+/// Whether a schedule with `count` ticks is shown whole.
+fn is_told(alloc: Global, showing: Showing, count: u32) -> bool {
+    let text = ticks(alloc, count);
     let (status, output, errors) = shown(alloc, showing, text.as_bytes());
     status == 0 && errors.is_empty() && !output.is_empty()
 }
 
 #[test]
 fn a_page_has_at_most_2000_events(rt: HostRuntime) {
-    let (most, more) = (ticks(rt.alloc(), 2_000), ticks(rt.alloc(), 2_001));
     for showing in [Showing::Data, Showing::Page] {
-        assert!(rt; is_told(rt.alloc(), showing, most.as_str()));
-        assert!(rt; tells(rt.alloc(), showing, more.as_str(), TOO_MANY));
+        assert!(rt; is_told(rt.alloc(), showing, 2_000));
+        assert!(rt; has_too_many(rt.alloc(), showing, 2_001));
     }
 }
 

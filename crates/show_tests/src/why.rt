@@ -1,6 +1,6 @@
 //! How it is told what is wrong with a text: all of the answer, a first part where the writer fails, and nothing where
 //! there is no memory.
-use crate::given::{answer_of, is_given};
+use crate::given::{Task, answer_of, goes_out_in_part, tells};
 use crate::{why_reports, why_schedules, why_workloads};
 use refusing::{Trial, refusals};
 use reg_show::why_text;
@@ -8,30 +8,29 @@ use std::alloc::{Allocator, Global};
 use std::process::Abort;
 use std::test::Fail;
 
-/// Whether this is told of a text, with the status that goes with it.
-fn is_told(alloc: Global, text: &str, is_accepted: bool, answer: &str) -> bool {
-    let mut reader = text.as_bytes();
-    let (mut output, mut errors) = (Vec::new(alloc), Vec::new(alloc));
-    let status = why_text(alloc, alloc, &mut reader, &mut output, &mut errors);
-    let given = (u8::from(!is_accepted), answer, "");
-    is_given((status, output.as_slice(), errors.as_slice()), given)
-}
-
-/// A text, whether it is accepted, and what is told of it.
+/// A text, whether it is accepted, and what is told of it. The proof of a function goes through all texts that it names
+/// once for each of them, so that the rows stand in several tables, each given by a function.
 pub(crate) type Row = (&'static str, bool, &'static str);
 
-/// Demands what is told of each text.
+/// Demands what is told of each text, with the status that goes with it.
 fn demand_told(rt: &(impl Abort + AllocGlobal), rows: &[Row]) {
     for (text, is_accepted, answer) in rows {
-        assert!(rt; is_told(rt.alloc(), text, *is_accepted, answer), "{text}");
+        let given = (u8::from(!*is_accepted), *answer, "");
+        assert!(rt; tells(rt.alloc(), Task::Why, text, given), "{text}");
     }
 }
 
 #[test]
 fn texts_are_told_as_worked_by_hand(rt: HostRuntime) {
-    demand_told(&rt, why_schedules::ROWS.as_slice());
-    demand_told(&rt, why_workloads::ROWS.as_slice());
-    demand_told(&rt, why_reports::ROWS.as_slice());
+    demand_told(&rt, why_schedules::words());
+    demand_told(&rt, why_schedules::spaces());
+    demand_told(&rt, why_schedules::numbers());
+    demand_told(&rt, why_schedules::names());
+    demand_told(&rt, why_schedules::events());
+    demand_told(&rt, why_workloads::rows());
+    demand_told(&rt, why_reports::lines());
+    demand_told(&rt, why_reports::places());
+    demand_told(&rt, why_reports::orders());
 }
 
 /// A schedule of which the last event is refused, and what is told of it.
@@ -48,24 +47,13 @@ const REFUSED_TOLD: &str = "event 1: no process
 there is no process 1: the process is 0
 ";
 
-/// Whether an answer for which there is this much room goes out in part.
-fn goes_out_in_part(alloc: Global, room: usize) -> bool {
-    let mut buffer = [0u8; 80];
-    if room > buffer.len() {
-        return false;
-    }
-    let mut writer = &mut buffer[..room];
-    let (mut reader, mut errors) = (REFUSED.as_bytes(), Vec::new(alloc));
-    let status = why_text(alloc, alloc, &mut reader, &mut writer, &mut errors);
-    status == 1
-        && errors.as_slice() == "output: write\n".as_bytes()
-        && REFUSED_TOLD.as_bytes().starts_with(&buffer[..room])
-}
-
 #[test]
 fn an_answer_whose_writer_is_full_goes_out_in_part(rt: HostRuntime) {
     for room in [0usize, 1, 25, 80] {
-        assert!(rt; goes_out_in_part(rt.alloc(), room), "{room}");
+        assert!(rt;
+            goes_out_in_part(rt.alloc(), Task::Why, REFUSED, REFUSED_TOLD, room),
+            "{room}"
+        );
     }
 }
 

@@ -1,8 +1,8 @@
 //! What is told of reports: what an accepted one is, and where one is wrong that has a mistake.
 use crate::why::Row;
 
-/// A text, whether it is accepted, and what is told of it, worked out by hand.
-pub(crate) const ROWS: [Row; 28] = [
+/// Reports that are accepted, and lines of a wrong form.
+const LINES: [Row; 8] = [
     (
         "awreg report 2\nfront linear\nprocesses 2\nregisters 1\nx\nhistory 4\n       0  p0    #0       call    write x 5\n       2  p0    #0       answer  done\n       3  p1    #0       call    read x\n       5  p1    #0       answer  value 5\norder 2\np0 #0\np1 #0\npoints 2\np0 #0 at 1\np1 #0 at 4\nend\n",
         true,
@@ -38,6 +38,20 @@ pub(crate) const ROWS: [Row; 28] = [
         false,
         "line 10: form\n10 |        5  p1    #0       answer  valeu 5\n   |                                  ^\n\"valeu\": did you mean value?\n",
     ),
+    (
+        "awreg report 1\nfront linear\nprocesses 1\nregisters registers x1\nhistory 0\norder 0\nend\n",
+        false,
+        "line 4: name\n4 | registers registers x1\n  |                     ^\n\"x1\": a register's name is 1 to 16 letters a to z\n",
+    ),
+];
+
+/// What is told of the form of lines.
+pub(crate) fn lines() -> &'static [Row] {
+    &LINES
+}
+
+/// Entries that are out of place, and wrong ends.
+const PLACES: [Row; 9] = [
     (
         "awreg report 2\nfront linear\nprocesses 2\nregisters 1\nx\nhistory 4\n       0  p0    #0       call    write x 5\n       2  p0    #0       answer  done\n       3  p1    #0       call    read y\n       5  p1    #0       answer  value 5\norder 2\np0 #0\np1 #0\npoints 2\np0 #0 at 1\np1 #0 at 4\nend\n",
         false,
@@ -83,6 +97,15 @@ pub(crate) const ROWS: [Row; 28] = [
         false,
         "line 18: end\n18 | \n   | ^\na report ends with the line end: no line stands after it\n",
     ),
+];
+
+/// What is told of the places of entries, and of ends.
+pub(crate) fn places() -> &'static [Row] {
+    &PLACES
+}
+
+/// Orders and points that are none, and wrong counts.
+const ORDERS: [Row; 11] = [
     (
         "awreg report 2\nfront linear\nprocesses 2\nregisters 1\nx\nhistory 4\n       0  p0    #0       call    write x 5\n       2  p0    #0       answer  done\n       3  p1    #0       call    read x\n       5  p1    #0       answer  value 7\norder 2\np0 #0\np1 #0\npoints 2\np0 #0 at 1\np1 #0 at 4\nend\n",
         false,
@@ -138,9 +161,9 @@ pub(crate) const ROWS: [Row; 28] = [
         false,
         "line 17: form\n17 | end\n   | ^\nexpected p and a process, as in p0 #0, found \"end\"\nfewer points stand here than their count says\n",
     ),
-    (
-        "awreg report 1\nfront linear\nprocesses 1\nregisters registers x1\nhistory 0\norder 0\nend\n",
-        false,
-        "line 4: name\n4 | registers registers x1\n  |                     ^\n\"x1\": a register's name is 1 to 16 letters a to z\n",
-    ),
 ];
+
+/// What is told of orders, points and counts.
+pub(crate) fn orders() -> &'static [Row] {
+    &ORDERS
+}

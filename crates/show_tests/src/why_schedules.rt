@@ -1,8 +1,8 @@
 //! What is told of schedules: what an accepted one is, and where one is wrong that has a mistake.
 use crate::why::Row;
 
-/// A text, whether it is accepted, and what is told of it, worked out by hand.
-pub(crate) const ROWS: [Row; 64] = [
+/// Schedules that are accepted, and wrong words.
+const WORDS: [Row; 14] = [
     (
         "processes 2\nregisters x z\nfront linear\ncall 0 write x 1\ntake 0 1 0\n",
         true,
@@ -73,6 +73,15 @@ pub(crate) const ROWS: [Row; 64] = [
         false,
         "line 3: form\n3 | front local read\n  |       ^\nexpected linear, local-read or local-write, found \"local\"\n",
     ),
+];
+
+/// What is told of words.
+pub(crate) fn words() -> &'static [Row] {
+    &WORDS
+}
+
+/// Wrong spaces, ends of lines and comments.
+const SPACES: [Row; 14] = [
     (
         "processes 2\nregisters x z\nfront linear\ncall  0 write x 1\n",
         false,
@@ -143,6 +152,15 @@ pub(crate) const ROWS: [Row; 64] = [
         false,
         "line 4: form\n4 | // again\n  | ^\nexpected call, take or tick, found \"//\"\n",
     ),
+];
+
+/// What is told of spaces, ends of lines and comments.
+pub(crate) fn spaces() -> &'static [Row] {
+    &SPACES
+}
+
+/// Wrong numbers, and those that are missing or too many.
+const NUMBERS: [Row; 13] = [
     (
         "processes 2\nregisters x z\nfront linear\ntick 300\n",
         false,
@@ -208,6 +226,15 @@ pub(crate) const ROWS: [Row; 64] = [
         false,
         "line 4: range\n4 | tick 9999999999999999999999999999999999999999999999999999999999999999999999999999999999999999999\n  |      ^\n999999999999999999999999999999999999999999999999999999999999999999999999999999999999999999999999 is out of range: a process is a number from 0 to 255\n",
     ),
+];
+
+/// What is told of numbers.
+pub(crate) fn numbers() -> &'static [Row] {
+    &NUMBERS
+}
+
+/// Wrong names of registers, and a text that ends behind them.
+const NAMES: [Row; 12] = [
     (
         "processes 2\nregisters x z\nfront linear\ncall 1 read y\n",
         false,
@@ -268,6 +295,15 @@ pub(crate) const ROWS: [Row; 64] = [
         false,
         "line 3: end\nthe text ends before a line that it needs: front and one of linear, local-read and local-write\n",
     ),
+];
+
+/// What is told of names of registers.
+pub(crate) fn names() -> &'static [Row] {
+    &NAMES
+}
+
+/// Events that are refused, and lines behind a comment.
+const EVENTS: [Row; 11] = [
     (
         "processes 2\nregisters x z\nfront linear\ncall 0 write x 1\ntake 0 1 0\ntake 0 1 3\n",
         false,
@@ -324,3 +360,8 @@ pub(crate) const ROWS: [Row; 64] = [
         "event 1: no frame\n6 | take 1 0 0\n  |          ^\nthe wire from 1 to 0 has no frame yet\n",
     ),
 ];
+
+/// What is told of events.
+pub(crate) fn events() -> &'static [Row] {
+    &EVENTS
+}

@@ -2,7 +2,7 @@
 use crate::why::Row;
 
 /// A text, whether it is accepted, and what is told of it, worked out by hand.
-pub(crate) const ROWS: [Row; 22] = [
+const ROWS: [Row; 22] = [
     (
         "front = \"local-write\"\nregisters = [\"x\"]\nscripts = [[\"write x 5\", \"read x\"], [\"read x\"]]\n",
         true,
@@ -114,3 +114,8 @@ pub(crate) const ROWS: [Row; 22] = [
         "toml\n1 | proceses 2\n  |          ^\nkey with no value, expected `=`\na schedule begins with processes and a number, as in processes 2\n",
     ),
 ];
+
+/// What is told of each of these texts.
+pub(crate) fn rows() -> &'static [Row] {
+    &ROWS
+}
