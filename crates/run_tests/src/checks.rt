@@ -55,7 +55,7 @@ history 3
 type Judged = (&'static str, &'static str);
 
 /// The head of a report, and each rest that it is judged with.
-const JUDGED: [(&str, &[Judged]); 4] = [
+const JUDGED: &[(&str, &[Judged])] = &[
     (
         STALE_READ,
         &[
@@ -110,7 +110,7 @@ fn is_judged(alloc: Global, head: &str, rests: &[Judged]) -> bool {
 
 #[test]
 fn orders_are_judged(rt: HostRuntime) {
-    for (head, rests) in &JUDGED {
+    for (head, rests) in JUDGED {
         assert!(rt; is_judged(rt.alloc(), head, rests));
     }
 }
@@ -141,7 +141,7 @@ end
 ";
 
 /// What is cut off the report of one process, what is put after it, and what its check gives then.
-const CHANGED: [(&str, &str, Given<'static>); 6] = [
+const CHANGED: &[(&str, &str, Given<'static>)] = &[
     ("", "", Given::Accepted("serial yes\npoints yes\n")),
     (
         FROM_THE_FIRST_ANSWER,
@@ -160,7 +160,7 @@ const CHANGED: [(&str, &str, Given<'static>); 6] = [
 
 #[test]
 fn reports_are_read_as_they_were_written(rt: HostRuntime) {
-    for (cut, behind, given) in &CHANGED {
+    for (cut, behind, given) in CHANGED {
         let front = ONE_PROCESS_NOW.strip_suffix(*cut).unwrap_or("");
         assert!(rt; gives(rt.alloc(), Command::Check, (front, behind), *given));
     }

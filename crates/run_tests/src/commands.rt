@@ -1,7 +1,8 @@
 //! What a command gives over an input, and what it is to give.
-use crate::sources::{Source, whole};
+use crate::sources::whole;
 use reg_commands::{Command, run_text};
 use std::alloc::Global;
+use std::io::Read;
 
 /// What a command gives: its status, its output, and the lines of its faults.
 #[derive(Clone, Copy)]
@@ -21,15 +22,14 @@ pub(crate) fn is_given(done: (u8, &[u8], &[u8]), given: Given<'_>) -> bool {
         Given::Denied(verdicts) => (1, verdicts, ""),
         Given::Refused(line) => (1, "", line),
     };
-    let (got, written, told) = done;
-    got == status && written == output.as_bytes() && told == faults.as_bytes()
+    done == (status, output.as_bytes(), faults.as_bytes())
 }
 
 /// Whether a command gives this where it reads from this reader.
-pub(crate) fn gives_from(
+pub(crate) fn gives_from<R: Read>(
     alloc: Global,
     command: Command,
-    reader: &mut Source<'_>,
+    reader: &mut R,
     given: Given<'_>,
 ) -> bool {
     let mut output = Vec::new(alloc);

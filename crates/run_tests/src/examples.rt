@@ -10,7 +10,7 @@ struct Example {
     given: Given<'static>,
 }
 
-const EXAMPLES: [Example; 4] = [
+const EXAMPLES: &[Example] = &[
     // Two swaps as a lock.
     Example {
         command: Command::Replay,
@@ -133,7 +133,7 @@ end
 
 #[test]
 fn each_example_is_answered_as_the_tutorial_says(rt: HostRuntime) {
-    for example in &EXAMPLES {
+    for example in EXAMPLES {
         let parts = (example.text, "");
         assert!(rt; gives(rt.alloc(), example.command, parts, example.given));
     }

@@ -1,18 +1,19 @@
 //! Each growth of runs refused in turn: the answer is out of memory, or the one with ample memory.
+use crate::answers::{shown, unless_memory};
 use crate::world_rows::{LINEAR, LOCAL_READ, LOCAL_WRITE, Row};
 use refusing::{Trial, refusals};
-use reg_base::{OpId, Shape};
+use reg_base::Shape;
 use reg_front::{Front, FrontEnd, Linear, LocalRead, LocalWrite};
 use reg_history::check_serial;
 use reg_world::{Event, RunFault, World, WorldFault};
-use std::alloc::{AllocError, Allocator, Global};
+use std::alloc::{Allocator, Global};
 use std::test::Fail;
 
 /// A run step by step, or of all events at once, and then its witness.
 #[derive(Clone, Copy)]
 struct Run {
     front: Front,
-    processes: u32,
+    shape: Shape,
     events: &'static [Event],
     at_once: bool,
 }
@@ -54,56 +55,19 @@ fn stops_behind<F: FrontEnd, A: Allocator + Copy>(
     }
 }
 
-/// The history, the casts and the reads of a copy.
-pub(crate) fn push_kept<F: FrontEnd, A: Allocator + Copy>(
-    text: &mut String,
-    world: &World<F, A>,
-) -> Result<(), AllocError> {
-    let entries = world.history().entries();
-    write!(text, "{entries:?} {:?} {:?}", world.order(), world.reads())
-}
-
-fn push_all<F: FrontEnd, A: Allocator + Copy>(
-    text: &mut String,
-    world: &World<F, A>,
-    ids: &[OpId],
-) -> Result<(), AllocError> {
-    push_kept(text, world)?;
-    write!(text, "{ids:?}")
-}
-
-fn all_told<F: FrontEnd, A: Allocator + Copy>(
-    ample: Global,
-    world: &World<F, A>,
-    ids: &[OpId],
-) -> Result<Option<String>, Fail> {
-    let mut text = String::new(ample);
-    push_all(&mut text, world, ids)?;
-    Ok(Some(text))
-}
-
 /// What a world tells, and its witness. None where memory is refused.
 fn told_with_witness<F: FrontEnd, A: Allocator + Copy>(
     ample: Global,
     world: &World<F, A>,
 ) -> Result<Option<String>, Fail> {
     match world.witness() {
-        Ok(order) => all_told(ample, world, order.as_slice()),
+        Ok(ids) => {
+            let entries = world.history().entries();
+            let told = (entries, world.order(), world.reads(), ids.as_slice());
+            shown(ample, &told)
+        }
         Err(_) => Ok(None),
     }
-}
-
-/// Has the world make the events, up to the first that is refused.
-fn step_all<F: FrontEnd, A: Allocator + Copy>(
-    world: &mut World<F, A>,
-    events: &[Event],
-) -> Result<(), RunFault> {
-    for (at, event) in events.iter().enumerate() {
-        if let Err(fault) = world.step(event) {
-            return Err(RunFault { at, fault });
-        }
-    }
-    Ok(())
 }
 
 /// What the world tells after the events. None where memory is refused, and it has stopped as it should.
@@ -112,16 +76,14 @@ fn follow<F: FrontEnd, A: Allocator + Copy>(
     world: &mut World<F, A>,
     events: &[Event],
 ) -> Result<Option<String>, Fail> {
-    match step_all(world, events) {
-        Ok(()) => told_with_witness(ample, world),
-        Err(RunFault { at, fault }) => {
+    for (at, event) in events.iter().enumerate() {
+        if let Err(fault) = world.step(event) {
             let first = events.get(..at).unwrap_or(&[]);
-            if fault == WorldFault::OutOfMemory && stops_behind(ample, world, first) {
-                return Ok(None);
-            }
-            Err(fault)?
+            let stops = fault == WorldFault::OutOfMemory && stops_behind(ample, world, first);
+            return unless_memory(fault, stops);
         }
     }
+    told_with_witness(ample, world)
 }
 
 fn step_by_step<F: FrontEnd, A: Allocator + Copy>(
@@ -129,8 +91,7 @@ fn step_by_step<F: FrontEnd, A: Allocator + Copy>(
     ample: Global,
     run: &Run,
 ) -> Result<Option<String>, Fail> {
-    let shape = Shape::new(run.processes, 1)?;
-    match World::<F, A>::new(alloc, shape) {
+    match World::<F, A>::new(alloc, run.shape) {
         Ok(mut world) => follow(ample, &mut world, run.events),
         Err(_) => Ok(None),
     }
@@ -141,11 +102,9 @@ fn all_at_once<F: FrontEnd, A: Allocator + Copy>(
     ample: Global,
     run: &Run,
 ) -> Result<Option<String>, Fail> {
-    let shape = Shape::new(run.processes, 1)?;
-    match World::<F, A>::run(alloc, shape, run.events) {
+    match World::<F, A>::run(alloc, run.shape, run.events) {
         Ok(world) => told_with_witness(ample, &world),
-        Err(RunFault { at: _, fault }) if fault == WorldFault::OutOfMemory => Ok(None),
-        Err(fault) => Err(fault)?,
+        Err(RunFault { at: _, fault }) => unless_memory(fault, fault == WorldFault::OutOfMemory),
     }
 }
 
@@ -170,17 +129,17 @@ impl Trial for Run {
     }
 }
 
-const RUNS: [(Front, &[Row]); 3] = [
-    (Front::Linear, &LINEAR),
-    (Front::LocalRead, &LOCAL_READ),
-    (Front::LocalWrite, &LOCAL_WRITE),
+const RUNS: &[(Front, &[Row])] = &[
+    (Front::Linear, LINEAR),
+    (Front::LocalRead, LOCAL_READ),
+    (Front::LocalWrite, LOCAL_WRITE),
 ];
 
 /// Refuses each growth of a run, step by step and at once.
 fn demand(alloc: Global, front: Front, row: &Row) -> Result<(), Fail> {
     let mut run = Run {
         front,
-        processes: row.processes,
+        shape: Shape::new(row.processes, 1)?,
         events: row.events,
         at_once: false,
     };
@@ -192,7 +151,7 @@ fn demand(alloc: Global, front: Front, row: &Row) -> Result<(), Fail> {
 
 #[test]
 fn each_growth_of_a_run_is_refused(rt: HostRuntime) -> Result<(), Fail> {
-    for (front, rows) in &RUNS {
+    for (front, rows) in RUNS {
         for row in *rows {
             demand(rt.alloc(), *front, row)?;
         }

@@ -1,5 +1,5 @@
 //! Each growth of what is read and played refused in turn: the answer is out of memory, or the one with ample memory.
-use crate::growths::push_kept;
+use crate::answers::{shown, unless_memory};
 use crate::plays::SMALL;
 use refusing::{Trial, refusals};
 use reg_front::LocalWrite;
@@ -22,39 +22,24 @@ enum Read {
 const SCHEDULE: &str =
     "# x\nprocesses 2\nregisters x y\nfront local-write\ncall 0 write y 5\ntake 0 1 0\ntick 1\n";
 
-fn schedule_told<A: Allocator + Copy>(
-    ample: Global,
-    plan: &Schedule<A>,
-) -> Result<Option<String>, Fail> {
-    let register = plan.names.number("y");
-    let events = plan.events.as_slice();
-    Ok(Some(format!(in ample; "{register:?} {events:?}")?))
-}
-
 /// What a schedule says. None where memory is refused.
 fn schedule<A: Allocator + Copy>(alloc: A, ample: Global) -> Result<Option<String>, Fail> {
     match parse_schedule(alloc, SCHEDULE) {
-        Ok(plan) => schedule_told(ample, &plan),
-        Err(ScheduleFault::OutOfMemory) => Ok(None),
-        Err(fault) => Err(fault)?,
+        Ok(plan) => shown(ample, &(plan.names.number("y"), plan.events.as_slice())),
+        Err(fault) => unless_memory(fault, fault == ScheduleFault::OutOfMemory),
     }
-}
-
-fn push_play<A: Allocator + Copy>(
-    text: &mut String,
-    play: &Play<LocalWrite, A>,
-) -> Result<(), AllocError> {
-    push_kept(text, &play.world)?;
-    write!(text, " {}", play.finished)
 }
 
 fn play_told<A: Allocator + Copy>(
     ample: Global,
     play: &Play<LocalWrite, A>,
 ) -> Result<Option<String>, Fail> {
-    let mut text = String::new(ample);
-    push_play(&mut text, play)?;
-    Ok(Some(text))
+    let world = &play.world;
+    let entries = world.history().entries();
+    shown(
+        ample,
+        &(entries, world.order(), world.reads(), play.finished),
+    )
 }
 
 /// The fair play of the small workload, or its seeded one.
@@ -67,11 +52,6 @@ fn play<A: Allocator + Copy>(
         return play_fair::<LocalWrite, A>(alloc, work);
     }
     play_seeded::<LocalWrite, _, A>(alloc, work, SeedWords::new(0))
-}
-
-fn small_work<A: Allocator + Copy>(alloc: A, ample: Global) -> Result<Workload<A>, WorkloadFault> {
-    let table = read_table(ample, SMALL)?;
-    Workload::from_table(alloc, &table)
 }
 
 /// What a player makes of a workload. None where memory is refused for it.
@@ -92,10 +72,10 @@ fn played<A: Allocator + Copy>(
     ample: Global,
     fair: bool,
 ) -> Result<Option<String>, Fail> {
-    match small_work(alloc, ample) {
+    let table = read_table(ample, SMALL)?;
+    match Workload::from_table(alloc, &table) {
         Ok(work) => work_told(alloc, ample, &work, fair),
-        Err(WorkloadFault::OutOfMemory) => Ok(None),
-        Err(fault) => Err(fault)?,
+        Err(fault) => unless_memory(fault, fault == WorkloadFault::OutOfMemory),
     }
 }
 

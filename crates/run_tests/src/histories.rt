@@ -6,7 +6,7 @@ use reg_history::{Entry, History};
 use std::alloc::Allocator;
 
 /// A write of process 0 that is answered before a read of process 1 is called, which still answers 0.
-pub(crate) const STALE_READ: [Entry; 4] = [
+pub(crate) const STALE_READ: &[Entry] = &[
     called!(0, 0, 0, WRITE_FIVE),
     answered!(4, 0, 0, Answer::Done),
     called!(5, 1, 0, READ),
@@ -19,10 +19,16 @@ pub(crate) fn history_of<A: Allocator + Copy>(
     processes: u32,
     entries: &[Entry],
 ) -> Option<History<A>> {
-    let shape = Shape::new(processes, 1).ok()?;
-    let mut history = History::new(alloc, shape).ok()?;
+    let Ok(shape) = Shape::new(processes, 1) else {
+        return None;
+    };
+    let Ok(mut history) = History::new(alloc, shape) else {
+        return None;
+    };
     for entry in entries {
-        history.push(*entry).ok()?;
+        if history.push(*entry).is_err() {
+            return None;
+        }
     }
     Some(history)
 }

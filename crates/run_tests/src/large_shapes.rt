@@ -28,7 +28,7 @@ end
 const BOTH: &str = "serial yes\npoints yes\n";
 
 /// A command, the two parts of its input, and what it gives.
-const LARGEST: [(Command, &str, &str, Given<'static>); 8] = [
+const LARGEST: &[(Command, &str, &str, Given<'static>)] = &[
     (
         Command::Replay,
         ONE_PROCESS_SCHEDULE,
@@ -71,7 +71,7 @@ const LARGEST: [(Command, &str, &str, Given<'static>); 8] = [
 
 #[test]
 fn the_largest_shapes_and_both_versions(rt: HostRuntime) {
-    for (command, head, tail, given) in &LARGEST {
+    for (command, head, tail, given) in LARGEST {
         assert!(rt; gives(rt.alloc(), *command, (head, tail), *given));
     }
 }

@@ -5,9 +5,13 @@
 #![tactic(auto)]
 
 #[cfg(test)]
+mod answers;
+#[cfg(test)]
 mod checks;
 #[cfg(test)]
 mod commands;
+#[cfg(test)]
+mod demands;
 #[cfg(test)]
 mod examples;
 #[cfg(test)]

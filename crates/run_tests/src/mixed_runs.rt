@@ -8,23 +8,23 @@ use reg_history::Entry;
 use reg_process::Reply;
 use reg_world::{Event, World};
 
-const EVENTS: [Event; 3] = [call!(0, WRITE_FIVE), call!(0, READ), take!(0, 1, 0)];
+const EVENTS: &[Event] = &[call!(0, WRITE_FIVE), call!(0, READ), take!(0, 1, 0)];
 
 const LAST: Event = take!(1, 0, 1);
 
 /// The history after the last event.
-const HISTORY: [Entry; 4] = [
+const HISTORY: &[Entry] = &[
     called!(0, 0, 0, WRITE_FIVE),
     answered!(0, 0, 0, Answer::Done),
     called!(1, 0, 1, READ),
     answered!(3, 0, 1, Answer::Value(5)),
 ];
 
-/// How many casts process 0 has delivered.
-fn delivered(world: &World<Mixed>) -> Option<u64> {
+/// Whether process 0 has delivered this number of casts.
+fn has_delivered(world: &World<Mixed>, count: u64) -> bool {
     match world.process(0) {
-        Some(process) => Some(process.delivered_count()),
-        None => None,
+        Some(process) => process.delivered_count() == count,
+        None => false,
     }
 }
 
@@ -34,17 +34,17 @@ fn sees_its_write(world: &mut World<Mixed>) -> bool {
         answer: Answer::Value(5),
         place: 1,
     };
-    delivered(world) == Some(0)
+    has_delivered(world, 0)
         && world.step_reply(&LAST) == Ok(Some(seen))
-        && delivered(world) == Some(2)
-        && world.history().entries() == HISTORY.as_slice()
-        && has_witness(world, [id!(0, 0), id!(0, 1)].as_slice())
+        && has_delivered(world, 2)
+        && world.history().entries() == HISTORY
+        && has_witness(world, &[id!(0, 0), id!(0, 1)])
 }
 
 #[test]
 fn reads_of_the_mixed_front_end_see_own_writes(rt: HostRuntime) {
     let shape = Shape::new(2, 1).expect(&rt, "a shape");
-    let made = World::<Mixed>::run(rt.alloc(), shape, EVENTS.as_slice());
+    let made = World::<Mixed>::run(rt.alloc(), shape, EVENTS);
     let mut world = made.expect(&rt, "a world");
     assert!(rt; sees_its_write(&mut world));
 }

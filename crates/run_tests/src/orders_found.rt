@@ -1,4 +1,5 @@
 //! Serial orders and point orders of small histories, found: those worked out by hand, the limit, and memory refused.
+use crate::answers::{shown, unless_memory};
 use crate::histories::{STALE_READ, history_of};
 use crate::macros::{answered, called, id, point, write_of};
 use crate::values::{READ, WRITE_FIVE};
@@ -46,18 +47,16 @@ fn finds(
 
 #[test]
 fn a_stale_read_comes_first(rt: HostRuntime) {
-    let history = history_of(rt.alloc(), 4, &STALE_READ).expect(&rt, "in place");
-    assert!(rt; has_order(rt.alloc(), &history, Some(&[id!(1, 0), id!(0, 0)])));
+    assert!(rt; finds(rt.alloc(), STALE_READ, Some(&[id!(1, 0), id!(0, 0)]), None));
 }
 
 /// The write stands before the read in each point order, and the read's answer says that it doesn't.
 #[test]
 fn a_stale_read_has_no_points(rt: HostRuntime) {
-    let history = history_of(rt.alloc(), 4, &STALE_READ).expect(&rt, "in place");
-    assert!(rt; has_points(rt.alloc(), &history, None));
+    assert!(rt; finds(rt.alloc(), STALE_READ, Some(&[id!(1, 0), id!(0, 0)]), None));
 }
 
-const OVERLAPPING: [Entry; 4] = [
+const OVERLAPPING: &[Entry] = &[
     called!(0, 0, 0, WRITE_FIVE),
     called!(1, 1, 0, READ),
     answered!(2, 1, 0, Answer::Value(0)),
@@ -69,7 +68,7 @@ const OVERLAPPING: [Entry; 4] = [
 #[test]
 fn an_overlapping_pair(rt: HostRuntime) {
     let (order, points) = ([id!(1, 0), id!(0, 0)], [point!(1, 1), point!(0, 1)]);
-    assert!(rt; finds(rt.alloc(), &OVERLAPPING, Some(&order), Some(&points)));
+    assert!(rt; finds(rt.alloc(), OVERLAPPING, Some(&order), Some(&points)));
 }
 
 #[test]
@@ -77,7 +76,7 @@ fn no_operations(rt: HostRuntime) {
     assert!(rt; finds(rt.alloc(), &[], Some(&[]), Some(&[])));
 }
 
-const UNFINISHED: [Entry; 4] = [
+const UNFINISHED: &[Entry] = &[
     called!(0, 0, 0, WRITE_FIVE),
     called!(1, 1, 0, READ),
     answered!(2, 1, 0, Answer::Value(5)),
@@ -88,10 +87,10 @@ const UNFINISHED: [Entry; 4] = [
 #[test]
 fn unfinished_operations(rt: HostRuntime) {
     let (order, points) = ([id!(0, 0), id!(1, 0)], [point!(0, 0), point!(1, 1)]);
-    assert!(rt; finds(rt.alloc(), &UNFINISHED, Some(&order), Some(&points)));
+    assert!(rt; finds(rt.alloc(), UNFINISHED, Some(&order), Some(&points)));
 }
 
-const OPPOSITE: [Entry; 12] = [
+const OPPOSITE: &[Entry] = &[
     called!(0, 0, 0, write_of!(1)),
     answered!(1, 0, 0, Answer::Done),
     called!(2, 1, 0, write_of!(2)),
@@ -109,31 +108,33 @@ const OPPOSITE: [Entry; 12] = [
 /// Two processes read two writes in opposite orders.
 #[test]
 fn opposite_orders(rt: HostRuntime) {
-    assert!(rt; finds(rt.alloc(), &OPPOSITE, None, None));
+    assert!(rt; finds(rt.alloc(), OPPOSITE, None, None));
 }
 
-const TWO_WRITES: [Entry; 4] = [
+const TWO_WRITES: &[Entry] = &[
     called!(0, 0, 0, write_of!(1)),
     called!(1, 1, 0, write_of!(2)),
     answered!(2, 0, 0, Answer::Done),
     answered!(3, 1, 0, Answer::Done),
 ];
 
+/// Whether both orders are found within two stages.
+fn are_found(alloc: Global, history: &History) -> bool {
+    matches!(find_serial(alloc, history, 2), Ok(Some(_)))
+        && matches!(find_points(alloc, history, 2), Ok(Some(_)))
+}
+
 /// Whether both orders are found within two stages, and not within one.
 fn is_limited(alloc: Global, history: &History) -> bool {
-    matches!(
-        find_serial(alloc, history, 1),
-        Err(InterleavingFault::TooManyStages)
-    ) && matches!(
-        find_points(alloc, history, 1),
-        Err(InterleavingFault::TooManyStages)
-    ) && matches!(find_serial(alloc, history, 2), Ok(Some(_)))
-        && matches!(find_points(alloc, history, 2), Ok(Some(_)))
+    let limit = Some(InterleavingFault::TooManyStages);
+    find_serial(alloc, history, 1).err() == limit
+        && find_points(alloc, history, 1).err() == limit
+        && are_found(alloc, history)
 }
 
 #[test]
 fn limit(rt: HostRuntime) {
-    let history = history_of(rt.alloc(), 4, &TWO_WRITES).expect(&rt, "in place");
+    let history = history_of(rt.alloc(), 4, TWO_WRITES).expect(&rt, "in place");
     assert!(rt; is_limited(rt.alloc(), &history));
 }
 
@@ -147,16 +148,15 @@ fn found_told<A: Allocator + Copy>(
     history: &History<A>,
 ) -> Result<Option<String>, Fail> {
     match find_serial(alloc, history, 100) {
-        Ok(Some(ids)) => Ok(Some(format!(in ample; "{:?}", ids.as_slice())?)),
+        Ok(Some(ids)) => shown(ample, &ids.as_slice()),
         Ok(None) => Err("no order")?,
-        Err(InterleavingFault::OutOfMemory) => Ok(None),
-        Err(fault) => Err(fault)?,
+        Err(fault) => unless_memory(fault, fault == InterleavingFault::OutOfMemory),
     }
 }
 
 impl Trial for Starved {
     fn answer<A: Allocator + Copy>(&self, alloc: A, ample: Global) -> Result<Option<String>, Fail> {
-        match history_of(alloc, 4, &STALE_READ) {
+        match history_of(alloc, 4, STALE_READ) {
             Some(history) => found_told(alloc, ample, &history),
             None => Ok(None),
         }

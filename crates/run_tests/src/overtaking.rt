@@ -15,7 +15,7 @@ struct Overtaking {
     refusal: &'static str,
 }
 
-const RUNS: [Overtaking; 6] = [
+const RUNS: &[Overtaking] = &[
     // A swap is answered, and a later read of another process misses it.
     Overtaking {
         run: Row {
@@ -280,7 +280,7 @@ fn is_overtaken(alloc: Global, row: &Overtaking) -> bool {
 
 #[test]
 fn no_order_keeps_the_time_of_what_is_overtaken(rt: HostRuntime) {
-    for row in RUNS.as_slice() {
+    for row in RUNS {
         assert!(rt; is_overtaken(rt.alloc(), row));
     }
 }

@@ -1,6 +1,5 @@
 //! Tests of the parts, from shapes to reports and workloads.
 mod bases;
-mod demands;
 mod documents;
 mod frames;
 mod growths;

@@ -43,7 +43,7 @@ end
 
 /// The rest of the reports of the small workload's seeded plays, by seed, where one frame of five is lost and one of
 /// five can be taken again.
-const SEEDED: [&str; 10] = [
+const SEEDED: &[&str] = &[
     "history 6
        0  p1    #0       call    read x
        0  p1    #0       answer  value 0
@@ -186,7 +186,7 @@ budget = 400
 ";
 
 /// The report of the seeded play of `THREE` by each front end.
-const BY_FRONT: [(&str, &str); 3] = [
+const BY_FRONT: &[(&str, &str)] = &[
     (
         "front = \"linear\"\n",
         "awreg report 2
@@ -324,7 +324,7 @@ fn each_seeded_play_has_its_report(rt: HostRuntime) {
 #[test]
 fn each_front_end_has_its_report(rt: HostRuntime) {
     let seeded = Command::Play { fair: false };
-    for (front, report) in &BY_FRONT {
+    for (front, report) in BY_FRONT {
         assert!(rt; has_report(rt.alloc(), seeded, (front, THREE), report));
     }
 }
@@ -334,7 +334,7 @@ const FRONT_ALONE: &str = "front = \"linear\"\n";
 const WITHOUT_SCRIPTS: &str = "front = \"linear\"\nregisters = [\"x\"]\n";
 
 /// The two parts of a document, and the line that it is refused with.
-const REFUSED: [(&str, &str, &str); 11] = [
+const REFUSED: &[(&str, &str, &str)] = &[
     ("", "", "missing front\n"),
     (FRONT_ALONE, "", "missing registers\n"),
     (FRONT_ALONE, "registers = [\"x", "toml\n"),
@@ -361,7 +361,7 @@ fn is_refused(alloc: Global, document: (&str, &str), line: &str) -> bool {
 
 #[test]
 fn documents_are_refused(rt: HostRuntime) {
-    for (head, tail, line) in &REFUSED {
+    for (head, tail, line) in REFUSED {
         assert!(rt; is_refused(rt.alloc(), (head, tail), line));
     }
 }

@@ -7,22 +7,12 @@ use std::alloc::{AllocError, Global};
 pub(crate) const SMALL: &str =
     "front = \"local-write\"\nregisters = [\"x\"]\nscripts = [[\"write x 5\", \"read x\"], [\"read x\"]]\n";
 
-/// Whether a play is finished, with as many events or as many as there are.
-fn is_finished(made: Result<Play<LocalWrite>, AllocError>, events: Option<u32>) -> bool {
+/// After how many events a play is finished. None where it isn't.
+fn finished_after(made: Result<Play<LocalWrite>, AllocError>) -> Option<u32> {
     match made {
-        Ok(play) => play.finished && play.world.events() == events.unwrap_or(play.world.events()),
-        Err(_) => false,
+        Ok(play) => play.finished.then_some(play.world.events()),
+        Err(_) => None,
     }
-}
-
-fn plays_fair(alloc: Global, work: &Workload) -> bool {
-    is_finished(play_fair::<LocalWrite, _>(alloc, work), Some(7))
-}
-
-#[test]
-fn a_fair_play_takes_turns(rt: HostRuntime) {
-    let work = Workload::from_toml(rt.alloc(), SMALL).expect(&rt, "a workload");
-    assert!(rt; plays_fair(rt.alloc(), &work));
 }
 
 /// A source of words of a user's own, which gives 0 each time.
@@ -37,15 +27,29 @@ impl Words for Noughts {
     }
 }
 
-fn plays_noughts(alloc: Global, work: &Workload) -> bool {
-    is_finished(
-        play_seeded::<LocalWrite, _, _>(alloc, work, Noughts {}),
-        None,
-    )
+/// Whether the fair play of a workload is finished after seven events, or its play by noughts after some number.
+fn is_finished(alloc: Global, work: &Workload, fair: bool) -> bool {
+    if fair {
+        finished_after(play_fair(alloc, work)) == Some(7)
+    } else {
+        finished_after(play_seeded(alloc, work, Noughts {})).is_some()
+    }
+}
+
+/// Whether the small workload is read, and its fair play, or its play by noughts, is finished so.
+fn is_small_finished(alloc: Global, fair: bool) -> bool {
+    match Workload::from_toml(alloc, SMALL) {
+        Ok(work) => is_finished(alloc, &work, fair),
+        Err(_) => false,
+    }
+}
+
+#[test]
+fn a_fair_play_takes_turns(rt: HostRuntime) {
+    assert!(rt; is_small_finished(rt.alloc(), true));
 }
 
 #[test]
 fn words_of_a_users_own_make_a_play(rt: HostRuntime) {
-    let work = Workload::from_toml(rt.alloc(), SMALL).expect(&rt, "a workload");
-    assert!(rt; plays_noughts(rt.alloc(), &work));
+    assert!(rt; is_small_finished(rt.alloc(), false));
 }

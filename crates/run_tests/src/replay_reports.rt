@@ -32,7 +32,7 @@ pub(crate) fn has_report(
 fn each_run_has_its_report(rt: HostRuntime) {
     let (alloc, replay) = (rt.alloc(), Command::Replay);
     assert!(rt; has_report(alloc, replay, (ONE_PROCESS_SCHEDULE, ""), ONE_PROCESS_NOW));
-    for row in ROWS.as_slice() {
+    for row in ROWS {
         assert!(rt;
             has_report(alloc, replay, (row.schedule, ""), row.report),
             "{}",
@@ -43,7 +43,7 @@ fn each_run_has_its_report(rt: HostRuntime) {
 
 #[test]
 fn a_replay_with_each_growth_refused(rt: HostRuntime) {
-    for row in ROWS.as_slice() {
+    for row in ROWS {
         demand_each_growth(&rt, rt.alloc(), Command::Replay, row.schedule, row.report);
     }
 }

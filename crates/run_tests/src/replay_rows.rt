@@ -6,7 +6,7 @@ pub(crate) struct Row {
     pub(crate) report: &'static str,
 }
 
-pub(crate) const ROWS: [Row; 14] = [
+pub(crate) const ROWS: &[Row] = &[
     // A write that the other process acknowledges.
     Row {
         schedule: "processes 2

@@ -20,7 +20,7 @@ const IDLE: &str = "processes 1\nregisters x\nfront linear\n";
 const BUSY: &str = "processes 2\nregisters x\nfront linear\ncall 0 write x 5\n";
 
 /// The two parts of a schedule, and the line that it is refused with.
-const REFUSED: [(&str, &str, &str); 9] = [
+const REFUSED: &[(&str, &str, &str)] = &[
     (IDLE, "call 1 read x\n", "event 0: no process\n"),
     (IDLE, "take 0 0 0\n", "event 0: no frame\n"),
     (IDLE, "take 0 1 0\n", "event 0: no process\n"),
@@ -34,7 +34,7 @@ const REFUSED: [(&str, &str, &str); 9] = [
 
 #[test]
 fn events_are_refused(rt: HostRuntime) {
-    for (head, event, line) in &REFUSED {
+    for (head, event, line) in REFUSED {
         let given = Given::Refused(line);
         assert!(rt; gives(rt.alloc(), Command::Replay, (head, event), given));
     }

@@ -1,4 +1,5 @@
 //! Worlds brought to rest: a lost write, as worked by hand, and each growth refused.
+use crate::answers::{shown, unless_memory};
 use crate::macros::{call, take, tick};
 use crate::values::WRITE_FIVE;
 use refusing::{Trial, refusals};
@@ -13,7 +14,7 @@ const WRITE: Event = call!(0, WRITE_FIVE);
 
 /// The events that bring two processes to rest where the first one's cast was lost, as worked by hand: the cast is put
 /// again, accepted and counted, and then its acknowledgement.
-const TWO: [Event; 6] = [
+const TWO: &[Event] = &[
     tick!(0),
     take!(0, 1, 1),
     take!(1, 0, 0),
@@ -23,7 +24,7 @@ const TWO: [Event; 6] = [
 ];
 
 /// The events that bring three processes to rest where the first one's cast was lost.
-const THREE: [Event; 15] = [
+const THREE: &[Event] = &[
     tick!(0),
     take!(0, 1, 1),
     take!(1, 0, 0),
@@ -55,7 +56,7 @@ fn settles(world: &mut World<Linear>, events: &[Event]) -> bool {
 
 /// Whether the write of the first of the shape's processes is settled by just these events.
 fn settles_by(alloc: Global, shape: Shape, events: &[Event]) -> bool {
-    match World::<Linear>::run(alloc, shape, [WRITE].as_slice()) {
+    match World::<Linear>::run(alloc, shape, &[WRITE]) {
         Ok(mut world) => settles(&mut world, events),
         Err(_) => false,
     }
@@ -63,16 +64,16 @@ fn settles_by(alloc: Global, shape: Shape, events: &[Event]) -> bool {
 
 #[test]
 fn a_lost_write_is_settled_as_worked_by_hand(rt: HostRuntime) {
-    for (processes, events) in [(2, TWO.as_slice()), (3, THREE.as_slice())] {
+    for (processes, events) in [(2, TWO), (3, THREE)] {
         let shape = Shape::new(processes, 1).expect(&rt, "a shape");
         assert!(rt; settles_by(rt.alloc(), shape, events), "{processes}");
     }
 }
 
-/// A linear run of a number of processes, brought to rest.
+/// A linear run of a write, brought to rest.
 #[derive(Clone, Copy)]
 struct Rests {
-    processes: u32,
+    shape: Shape,
 }
 
 /// The events of a world at rest. None where memory is refused, and the world has stopped.
@@ -81,19 +82,21 @@ fn rested<A: Allocator + Copy>(
     world: &mut World<Linear, A>,
 ) -> Result<Option<String>, Fail> {
     match settle(world) {
-        Ok(count) => Ok(Some(format!(in ample; "{count} {:?}", world.accepted())?)),
-        Err(SettleFault::OutOfMemory) if settle(world) == Err(SettleFault::Failed) => Ok(None),
-        Err(fault) => Err(fault)?,
+        Ok(count) => shown(ample, &(count, world.accepted())),
+        Err(fault) => {
+            let refused = fault == SettleFault::OutOfMemory;
+            unless_memory(fault, refused && settle(world) == Err(SettleFault::Failed))
+        }
     }
 }
 
 impl Trial for Rests {
     fn answer<A: Allocator + Copy>(&self, alloc: A, ample: Global) -> Result<Option<String>, Fail> {
-        let shape = Shape::new(self.processes, 1)?;
-        match World::<Linear, A>::run(alloc, shape, [WRITE].as_slice()) {
+        match World::<Linear, A>::run(alloc, self.shape, &[WRITE]) {
             Ok(mut world) => rested(ample, &mut world),
-            Err(RunFault { at: _, fault }) if fault == WorldFault::OutOfMemory => Ok(None),
-            Err(fault) => Err(fault)?,
+            Err(RunFault { at: _, fault }) => {
+                unless_memory(fault, fault == WorldFault::OutOfMemory)
+            }
         }
     }
 }
@@ -101,7 +104,8 @@ impl Trial for Rests {
 #[test]
 fn each_growth_of_a_rest_is_refused(rt: HostRuntime) -> Result<(), Fail> {
     for processes in 2..=3 {
-        assert!(rt; refusals(&Rests { processes }, rt.alloc())? > 4);
+        let shape = Shape::new(processes, 1)?;
+        assert!(rt; refusals(&Rests { shape }, rt.alloc())? > 4);
     }
     Ok(())
 }

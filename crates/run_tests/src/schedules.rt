@@ -16,7 +16,7 @@ const SCHEDULE: &str =
     "# a schedule é\n\nprocesses 2\nregisters x y\n#\nfront local-write\ncall 0 write y 5\n\ncall 1 read x\ntake 0 1 4294967295\ntick 255";
 
 /// The events of `SCHEDULE`.
-const EVENTS: [Event; 4] = [
+const EVENTS: &[Event] = &[
     call!(
         0,
         Op::Write {
@@ -35,7 +35,7 @@ fn is_the_schedule(schedule: &Schedule) -> bool {
         && schedule.shape.registers() == 2
         && schedule.names.number("y") == Some(1)
         && schedule.front == Front::LocalWrite
-        && schedule.events.as_slice() == EVENTS.as_slice()
+        && schedule.events.as_slice() == EVENTS
 }
 
 #[test]
@@ -45,7 +45,7 @@ fn a_schedule_is_read(rt: HostRuntime) {
 }
 
 /// A text whose header is wrong, the line of the fault and its cause.
-const HEADERS: [(&str, u64, Why); 20] = [
+const HEADERS: &[(&str, u64, Why)] = &[
     ("", 1, Why::End),
     ("\n", 2, Why::End),
     ("#\n# é", 3, Why::End),
@@ -70,13 +70,13 @@ const HEADERS: [(&str, u64, Why); 20] = [
 
 #[test]
 fn a_header_is_refused_at_its_line(rt: HostRuntime) {
-    for (text, line, why) in &HEADERS {
+    for (text, line, why) in HEADERS {
         assert!(rt; is_judged(rt.alloc(), text, *line, *why), "{text}");
     }
 }
 
 /// A line that is no event, and why it is none.
-const NO_EVENTS: [(&str, Why); 14] = [
+const NO_EVENTS: &[(&str, Why)] = &[
     ("call 256 read zz", Why::Range),
     ("call 0 write zz 18446744073709551616", Why::Name),
     ("call 0 write x 18446744073709551616", Why::Range),
@@ -103,7 +103,7 @@ fn is_no_event(alloc: Global, line: &str, why: Why) -> bool {
 
 #[test]
 fn an_event_is_refused_at_its_line(rt: HostRuntime) {
-    for (line, why) in &NO_EVENTS {
+    for (line, why) in NO_EVENTS {
         assert!(rt; is_no_event(rt.alloc(), line, *why), "{line}");
     }
 }

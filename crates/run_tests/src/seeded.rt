@@ -9,8 +9,8 @@ use std::alloc::{AllocError, Global};
 
 const PROCESSES: u8 = 3;
 
-/// A cast that was delivered nowhere: its time, its process and the number of its operation there.
-type Lost = (u64, u8, u32);
+/// A cast that was delivered nowhere: its time and its operation.
+type Lost = (u64, OpId);
 
 fn is_finished(history: &[Entry], id: OpId) -> bool {
     for entry in history {
@@ -41,84 +41,65 @@ fn is_read(reads: &[CopyRead], id: OpId) -> bool {
     false
 }
 
-/// Whether the operation is finished, and was delivered nowhere.
-fn is_lost<F: FrontEnd>(world: &World<F>, id: OpId) -> bool {
-    is_finished(world.history().entries(), id) && !is_delivered(world.order(), id)
+/// How many updates the process of an operation called before it.
+fn updates_before(history: &[Entry], before: OpId) -> u64 {
+    let mut count = 0u64;
+    for entry in history {
+        if let Entry::Called { at: _, id, op } = *entry
+            && id.process == before.process
+            && id.number < before.number
+            && op.updates()
+        {
+            count = count.wrapping_add(1);
+        }
+    }
+    count
 }
 
-/// The times of the casts that a process made, from what it put for another.
-fn add_times(times: &mut Vec<u64>, frames: &[Frame]) -> Result<(), AllocError> {
-    let mut next = 0u64;
+/// The time of the update that a process cast after `before` others, from what it put for another. 0 where it cast
+/// none.
+fn time_of(frames: &[Frame], before: u64) -> u64 {
+    let (mut next, mut casts) = (0u64, 0u64);
     for frame in frames {
         if let Frame::Numbered { number, body } = *frame
             && number == next
         {
             next = next.wrapping_add(1);
-            if let Body::Cast { time, op: _ } = body {
-                times.push(time)?;
+            if let Body::Cast { time, op } = body
+                && op.updates()
+            {
+                if casts == before {
+                    return time;
+                }
+                casts = casts.wrapping_add(1);
             }
         }
     }
-    Ok(())
+    0
 }
 
-/// The finished updates of one process that were delivered nowhere, each with its time. Updates are the only casts that
-/// can be finished so.
-fn add_lost<F: FrontEnd>(
-    lost: &mut Vec<Lost>,
-    world: &World<F>,
-    process: u8,
-    times: &[u64],
-) -> Result<(), AllocError> {
-    let mut casts = 0usize;
-    for entry in world.history().entries() {
+/// The time of an update, from what its process put for another.
+fn cast_time<F: FrontEnd>(world: &World<F>, id: OpId) -> u64 {
+    let other = if id.process == 0 { 1 } else { 0 };
+    match world.wire(id.process, other) {
+        Some(frames) => time_of(frames, updates_before(world.history().entries(), id)),
+        None => 0,
+    }
+}
+
+/// The finished updates that were delivered nowhere. Updates are the only casts that can be finished so.
+fn add_lost<F: FrontEnd>(lost: &mut Vec<Lost>, world: &World<F>) -> Result<(), AllocError> {
+    let (history, order) = (world.history().entries(), world.order());
+    for entry in history {
         if let Entry::Called { at: _, id, op } = *entry
-            && id.process == process
             && op.updates()
+            && is_finished(history, id)
+            && !is_delivered(order, id)
         {
-            if is_lost(world, id) {
-                lost.push((times.get(casts).copied().unwrap_or(0), process, id.number))?;
-            }
-            casts = casts.wrapping_add(1);
-        }
-    }
-    Ok(())
-}
-
-/// The finished updates of one process that were delivered nowhere, each with its time, which is that of a frame that
-/// the process put for another.
-fn add_lost_of<F: FrontEnd>(
-    lost: &mut Vec<Lost>,
-    alloc: Global,
-    world: &World<F>,
-    process: u8,
-    frames: &[Frame],
-) -> Result<(), AllocError> {
-    let mut times = Vec::new(alloc);
-    add_times(&mut times, frames)?;
-    add_lost(lost, world, process, times.as_slice())
-}
-
-fn add_all_lost<F: FrontEnd>(
-    lost: &mut Vec<Lost>,
-    alloc: Global,
-    world: &World<F>,
-) -> Result<(), AllocError> {
-    for process in 0..PROCESSES {
-        let other = if process == 0 { 1 } else { 0 };
-        if let Some(frames) = world.wire(process, other) {
-            add_lost_of(lost, alloc, world, process, frames)?;
+            lost.push((cast_time(world, id), id))?;
         }
     }
     lost.sort()
-}
-
-fn add_ids(ids: &mut Vec<OpId>, lost: &[Lost]) -> Result<(), AllocError> {
-    for (_time, process, number) in lost {
-        let (process, number) = (*process, *number);
-        ids.push(OpId { process, number })?;
-    }
-    Ok(())
 }
 
 /// The casts that were delivered nowhere, by time.
@@ -128,56 +109,45 @@ fn add_behind<F: FrontEnd>(
     world: &World<F>,
 ) -> Result<(), AllocError> {
     let mut lost = Vec::new(alloc);
-    add_all_lost(&mut lost, alloc, world)?;
-    add_ids(ids, lost.as_slice())
+    add_lost(&mut lost, world)?;
+    for (_time, id) in lost.as_slice() {
+        ids.push(*id)?;
+    }
+    Ok(())
 }
 
-/// The reads of one process at a place.
-fn add_reads_of(
-    ids: &mut Vec<OpId>,
-    reads: &[CopyRead],
-    place: u64,
-    process: u8,
-) -> Result<(), AllocError> {
-    for read in reads {
-        if read.place == place && read.id.process == process {
-            ids.push(read.id)?;
+/// The reads at a place, by process.
+fn add_reads(ids: &mut Vec<OpId>, reads: &[CopyRead], place: u64) -> Result<(), AllocError> {
+    for process in 0..PROCESSES {
+        for read in reads {
+            if read.place == place && read.id.process == process {
+                ids.push(read.id)?;
+            }
         }
     }
     Ok(())
 }
 
-fn add_reads(ids: &mut Vec<OpId>, reads: &[CopyRead], place: u64) -> Result<(), AllocError> {
-    for process in 0..PROCESSES {
-        add_reads_of(ids, reads, place, process)?;
-    }
-    Ok(())
-}
-
+/// The reads at each place, each place's before its cast, where that is of an update or a finished operation.
 fn add_placed<F: FrontEnd>(ids: &mut Vec<OpId>, world: &World<F>) -> Result<(), AllocError> {
-    let (history, order, reads) = (world.history().entries(), world.order(), world.reads());
-    for (place, first) in order.iter().enumerate() {
-        add_reads(ids, reads, place as u64)?;
+    let (history, reads) = (world.history().entries(), world.reads());
+    let mut place = 0u64;
+    for first in world.order() {
+        add_reads(ids, reads, place)?;
         if first.op.updates() || is_finished(history, first.id) {
             ids.push(first.id)?;
         }
+        place = place.wrapping_add(1);
     }
-    add_reads(ids, reads, order.len() as u64)
-}
-
-fn add_plain<F: FrontEnd>(
-    ids: &mut Vec<OpId>,
-    alloc: Global,
-    world: &World<F>,
-) -> Result<(), AllocError> {
-    add_placed(ids, world)?;
-    add_behind(ids, alloc, world)
+    add_reads(ids, reads, place)
 }
 
 /// Whether these are the plain list of the witness.
 fn are_plain<F: FrontEnd>(alloc: Global, world: &World<F>, ids: &[OpId]) -> bool {
     let mut plain = Vec::new(alloc);
-    add_plain(&mut plain, alloc, world).is_ok() && plain.as_slice() == ids
+    add_placed(&mut plain, world).is_ok()
+        && add_behind(&mut plain, alloc, world).is_ok()
+        && plain.as_slice() == ids
 }
 
 /// Whether the witness is the plain list and a serial order.
@@ -206,10 +176,6 @@ fn take_of<F: FrontEnd>(world: &World<F>, process: u8, word: u64) -> Event {
     }
 }
 
-fn swap_of(value: u64) -> Op {
-    Op::Swap { register: 0, value }
-}
-
 fn event_of<F: FrontEnd>(world: &World<F>, word: u64) -> Event {
     let process = (word % 3) as u8;
     let op = match word / 3 % 16 {
@@ -218,7 +184,10 @@ fn event_of<F: FrontEnd>(world: &World<F>, word: u64) -> Event {
             register: 0,
             value: word / 48 % 1024,
         },
-        2 => swap_of(word / 48 % 1024),
+        2 => Op::Swap {
+            register: 0,
+            value: word / 48 % 1024,
+        },
         3 | 4 => READ,
         _ => return take_of(world, process, word),
     };
@@ -237,16 +206,13 @@ fn play_on<F: FrontEnd>(world: &mut World<F>, seed: u64) {
     }
 }
 
-/// A run of pseudo-random events.
-fn played<F: FrontEnd>(alloc: Global, shape: Shape, seed: u64) -> Result<World<F>, AllocError> {
-    let mut world = World::new(alloc, shape)?;
-    play_on(&mut world, seed);
-    Ok(world)
-}
-
+/// Whether the witness of a run of pseudo-random events is right.
 fn agrees<F: FrontEnd>(alloc: Global, shape: Shape, seed: u64) -> bool {
-    match played::<F>(alloc, shape, seed) {
-        Ok(world) => is_right(alloc, &world),
+    match World::<F>::new(alloc, shape) {
+        Ok(mut world) => {
+            play_on(&mut world, seed);
+            is_right(alloc, &world)
+        }
         Err(_) => false,
     }
 }
@@ -266,36 +232,57 @@ fn the_witness_is_the_plain_list(rt: HostRuntime) {
 }
 
 /// Whether one of these ids is neither of a delivered cast nor of a read from a copy.
-fn are_some_lost<F: FrontEnd>(world: &World<F>, ids: &[OpId]) -> bool {
+fn are_some_lost(order: &[First], reads: &[CopyRead], ids: &[OpId]) -> bool {
     for id in ids {
-        if !is_delivered(world.order(), *id) && !is_read(world.reads(), *id) {
+        if !is_delivered(order, *id) && !is_read(reads, *id) {
             return true;
         }
     }
     false
 }
 
-/// Whether some cast is lost, and how many reads are from a copy.
-fn lost_and_reads<F: FrontEnd>(world: &World<F>) -> Result<(bool, usize), AllocError> {
-    let ids = world.witness()?;
-    Ok((are_some_lost(world, ids.as_slice()), world.reads().len()))
+/// What some run was seen to have.
+#[derive(Clone, Copy)]
+struct Seen {
+    /// A lost cast.
+    lost: bool,
+    /// More than three reads from a copy.
+    reads: bool,
 }
 
-/// Whether some cast of the run of this seed is lost, and how many reads are from a copy.
-fn lost_and_reads_of(alloc: Global, shape: Shape, seed: u64) -> Result<(bool, usize), AllocError> {
-    let world = played::<LocalWrite>(alloc, shape, seed)?;
-    lost_and_reads(&world)
+/// Looks at what a world has. Tells whether there is memory for its witness.
+fn look(seen: &mut Seen, world: &World<LocalWrite>) -> bool {
+    match world.witness() {
+        Ok(ids) => {
+            let (order, reads) = (world.order(), world.reads());
+            seen.lost = seen.lost || are_some_lost(order, reads, ids.as_slice());
+            seen.reads = seen.reads || reads.len() > 3;
+            true
+        }
+        Err(_) => false,
+    }
+}
+
+/// Looks at the run of this seed. Tells whether there is memory for it.
+fn look_at(seen: &mut Seen, alloc: Global, shape: Shape, seed: u64) -> bool {
+    match World::new(alloc, shape) {
+        Ok(mut world) => {
+            play_on(&mut world, seed);
+            look(seen, &world)
+        }
+        Err(_) => false,
+    }
 }
 
 #[test]
 fn some_casts_are_lost_and_some_reads_share_a_place(rt: HostRuntime) {
     let shape = Shape::new(3, 1).expect(&rt, "a shape");
-    let mut lost = false;
-    let mut reads = 0;
+    let mut seen = Seen {
+        lost: false,
+        reads: false,
+    };
     for seed in 0..40 {
-        let (is_lost, count) = lost_and_reads_of(rt.alloc(), shape, seed).expect(&rt, "memory");
-        lost = lost || is_lost;
-        reads = count.max(reads);
+        assert!(rt; look_at(&mut seen, rt.alloc(), shape, seed));
     }
-    assert!(rt; lost && reads > 3);
+    assert!(rt; seen.lost && seen.reads);
 }

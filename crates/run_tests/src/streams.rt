@@ -49,7 +49,7 @@ impl Write for FailingWriter<'_> {
 
 /// How a read fails: its error, how many times it comes, and the line that is told. Where no line is, the command reads
 /// on.
-const READ_FAULTS: [(ErrorKind, u32, &str); 4] = [
+const READ_FAULTS: &[(ErrorKind, u32, &str)] = &[
     (ErrorKind::Other, u32::MAX, "input: read\n"),
     (ErrorKind::Other, 1, "input: read\n"),
     (ErrorKind::Interrupted, 1, ""),
@@ -108,7 +108,7 @@ fn is_each_read_told(alloc: Global, command: Command, input: &str, output: &str)
     let Some(reads) = reads_of(alloc, command, input, output) else {
         return false;
     };
-    for fault in &READ_FAULTS {
+    for fault in READ_FAULTS {
         for before in 0..reads {
             if !is_read_told(alloc, command, (input, output), before, fault) {
                 return false;
@@ -287,16 +287,6 @@ fn a_check_with_failing_streams(rt: HostRuntime) {
 
 #[test]
 fn an_input_without_end(rt: HostRuntime) {
-    let alloc = rt.alloc();
-    let (mut output, mut errors) = (Vec::new(alloc), Vec::new(alloc));
-    let status = run_text(
-        alloc,
-        alloc,
-        Command::Check,
-        &mut Endless {},
-        &mut output,
-        &mut errors,
-    );
-    let done = (status, output.as_slice(), errors.as_slice());
-    assert!(rt; is_given(done, Given::Refused("input: too long\n")));
+    let given = Given::Refused("input: too long\n");
+    assert!(rt; gives_from(rt.alloc(), Command::Check, &mut Endless {}, given));
 }

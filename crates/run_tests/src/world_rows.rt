@@ -44,7 +44,7 @@ pub(crate) struct Row {
     pub(crate) wires: &'static [(u8, u8, &'static [Frame])],
 }
 
-pub(crate) const LINEAR: [Row; 2] = [
+pub(crate) const LINEAR: &[Row] = &[
     // A tick puts the frames again.
     Row {
         processes: 2,
@@ -111,7 +111,7 @@ pub(crate) const LINEAR: [Row; 2] = [
     },
 ];
 
-pub(crate) const LOCAL_READ: [Row; 1] = [
+pub(crate) const LOCAL_READ: &[Row] = &[
     // A local read may answer an older value.
     Row {
         processes: 3,
@@ -148,7 +148,7 @@ pub(crate) const LOCAL_READ: [Row; 1] = [
     },
 ];
 
-pub(crate) const LOCAL_WRITE: [Row; 2] = [
+pub(crate) const LOCAL_WRITE: &[Row] = &[
     // A finished write that nobody delivered stands last.
     Row {
         processes: 2,

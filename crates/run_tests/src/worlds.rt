@@ -4,7 +4,7 @@ use crate::values::WRITE_FIVE;
 use crate::world_rows::{LINEAR, LOCAL_READ, LOCAL_WRITE, Row};
 use reg_base::{OpId, Shape};
 use reg_frames::Frame;
-use reg_front::{FrontEnd, Linear, LocalRead, LocalWrite};
+use reg_front::{Front, FrontEnd, Linear, LocalRead, LocalWrite};
 use reg_history::Point;
 use reg_process::Process;
 use reg_world::{Event, World};
@@ -93,40 +93,46 @@ fn has_points(world: &World<Linear>, ids: &[Point]) -> bool {
     }
 }
 
-/// The world of a row.
-fn world_of<F: FrontEnd>(alloc: Global, row: &Row) -> Option<World<F>> {
-    let shape = Shape::new(row.processes, 1).ok()?;
-    World::run(alloc, shape, row.events).ok()
-}
-
-fn is_right<F: FrontEnd>(alloc: Global, row: &Row) -> bool {
-    match world_of::<F>(alloc, row) {
-        Some(world) => tells(&world, row),
-        None => false,
+fn is_right<F: FrontEnd>(alloc: Global, shape: Shape, row: &Row) -> bool {
+    match World::<F>::run(alloc, shape, row.events) {
+        Ok(world) => tells(&world, row),
+        Err(_) => false,
     }
 }
 
-fn has_its_points(alloc: Global, row: &Row) -> bool {
-    match world_of::<Linear>(alloc, row) {
-        Some(world) => has_points(&world, row.points),
-        None => false,
+fn is_linear_right(alloc: Global, shape: Shape, row: &Row) -> bool {
+    match World::<Linear>::run(alloc, shape, row.events) {
+        Ok(world) => tells(&world, row) && has_points(&world, row.points),
+        Err(_) => false,
+    }
+}
+
+/// Whether a world tells after the events of a row what the row says.
+fn is_front_right(alloc: Global, front: Front, row: &Row) -> bool {
+    let Ok(shape) = Shape::new(row.processes, 1) else {
+        return false;
+    };
+    match front {
+        Front::Linear => is_linear_right(alloc, shape, row),
+        Front::LocalRead => is_right::<LocalRead>(alloc, shape, row),
+        Front::LocalWrite => is_right::<LocalWrite>(alloc, shape, row),
     }
 }
 
 #[test]
 fn linear_runs(rt: HostRuntime) {
-    for row in LINEAR.as_slice() {
-        assert!(rt; is_right::<Linear>(rt.alloc(), row) && has_its_points(rt.alloc(), row));
+    for row in LINEAR {
+        assert!(rt; is_front_right(rt.alloc(), Front::Linear, row));
     }
 }
 
 #[test]
 fn local_runs(rt: HostRuntime) {
-    for row in LOCAL_READ.as_slice() {
-        assert!(rt; is_right::<LocalRead>(rt.alloc(), row));
+    for row in LOCAL_READ {
+        assert!(rt; is_front_right(rt.alloc(), Front::LocalRead, row));
     }
-    for row in LOCAL_WRITE.as_slice() {
-        assert!(rt; is_right::<LocalWrite>(rt.alloc(), row));
+    for row in LOCAL_WRITE {
+        assert!(rt; is_front_right(rt.alloc(), Front::LocalWrite, row));
     }
 }
 

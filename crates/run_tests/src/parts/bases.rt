@@ -7,7 +7,7 @@ use reg_base::{
 use std::alloc::Global;
 
 /// How many processes and registers are asked for, and why there is no such shape.
-const SHAPES: [(u32, u32, Option<ShapeFault>); 6] = [
+const SHAPES: &[(u32, u32, Option<ShapeFault>)] = &[
     (0, 0, Some(ShapeFault::NoProcess)),
     (65, 0, Some(ShapeFault::TooManyProcesses)),
     (64, 0, Some(ShapeFault::NoRegister)),
@@ -18,7 +18,7 @@ const SHAPES: [(u32, u32, Option<ShapeFault>); 6] = [
 
 #[test]
 fn shapes_within_the_limits(rt: HostRuntime) {
-    for (processes, registers, fault) in &SHAPES {
+    for (processes, registers, fault) in SHAPES {
         assert!(rt;
             Shape::new(*processes, *registers).err() == *fault,
             "{processes} {registers}"
@@ -29,7 +29,7 @@ fn shapes_within_the_limits(rt: HostRuntime) {
 const LAST: u64 = 281_474_976_710_656;
 
 /// A time that is received, or none at a tick; the answer, and the clock's time then.
-const CLOCK_AT_ITS_END: [(Option<u64>, Result<u64, ClockFull>, u64); 7] = [
+const CLOCK_AT_ITS_END: &[(Option<u64>, Result<u64, ClockFull>, u64)] = &[
     (None, Ok(1), 1),
     (Some(0), Ok(2), 2),
     (Some(LAST - 2), Ok(LAST - 1), LAST - 1),
@@ -42,7 +42,7 @@ const CLOCK_AT_ITS_END: [(Option<u64>, Result<u64, ClockFull>, u64); 7] = [
 #[test]
 fn a_clock_at_its_end(rt: HostRuntime) {
     let mut clock = Clock::new();
-    for (time, told, now) in &CLOCK_AT_ITS_END {
+    for (time, told, now) in CLOCK_AT_ITS_END {
         let answer = match time {
             Some(time) => clock.receive(*time),
             None => clock.tick(),
@@ -62,7 +62,7 @@ const OUTSIDE: Op = Op::Write {
 };
 
 /// An operation on a memory of one register, what it answers, and the value that the register then has.
-const ONE_MEMORY: [(Op, Option<Answer>, u64); 8] = [
+const ONE_MEMORY: &[(Op, Option<Answer>, u64)] = &[
     (READ, Some(Answer::Value(0)), 0),
     (WRITE_FIVE, Some(Answer::Done), 5),
     (READ, Some(Answer::Value(5)), 5),
@@ -75,7 +75,7 @@ const ONE_MEMORY: [(Op, Option<Answer>, u64); 8] = [
 
 /// Whether the operations are applied so, one after another.
 fn applies_all(registers: &mut Registers) -> bool {
-    for (op, answer, value) in &ONE_MEMORY {
+    for (op, answer, value) in ONE_MEMORY {
         if registers.apply(op) != *answer || registers.get(0) != Some(*value) {
             return false;
         }
@@ -90,7 +90,7 @@ fn one_memory(rt: HostRuntime) {
 }
 
 /// Words, and why they are no names.
-const NAMES: [(&[&str], Option<NamesFault>); 6] = [
+const NAMES: &[(&[&str], Option<NamesFault>)] = &[
     (&[], Some(NamesFault::NoName)),
     (&["x", "a1", "x"], Some(NamesFault::BadName { place: 1 })),
     (
@@ -114,7 +114,7 @@ fn add_all(names: &mut Vec<String>, alloc: Global, words: &[&str]) -> Result<(),
 
 #[test]
 fn names_and_their_faults(rt: HostRuntime) {
-    for (words, fault) in &NAMES {
+    for (words, fault) in NAMES {
         let mut names = Vec::new(rt.alloc());
         let added = add_all(&mut names, rt.alloc(), words).is_ok();
         assert!(rt; Names::new(names).err() == *fault && added);
@@ -134,14 +134,14 @@ fn add_many(names: &mut Vec<String>, alloc: Global, count: u32) -> Result<(), Ou
 }
 
 /// How many names there are, and why there may not be that many.
-const COUNTS: [(u32, Option<NamesFault>); 2] = [
+const COUNTS: &[(u32, Option<NamesFault>)] = &[
     (4096, None),
     (4097, Some(NamesFault::TooManyNames)),
 ];
 
 #[test]
 fn names_within_the_limits(rt: HostRuntime) {
-    for (count, fault) in &COUNTS {
+    for (count, fault) in COUNTS {
         let mut names = Vec::new(rt.alloc());
         let added = add_many(&mut names, rt.alloc(), *count).is_ok();
         assert!(rt; Names::new(names).err() == *fault && added, "{count}");

@@ -1,10 +1,11 @@
 //! Workloads that are read, and that are refused.
-use crate::parts::demands::demand;
+use crate::demands::demand;
 use crate::plays::SMALL;
+use crate::values::{READ, WRITE_FIVE};
+use reg_base::Op;
 use reg_front::Front;
 use reg_inputs::{Key, Workload, WorkloadFault};
-use std::alloc::{AllocError, Global};
-use std::process::Abort;
+use std::alloc::Global;
 
 const MOST: &str =
     "front = \"linear\"\nregisters = [\"x\", \"yy\"]\nscripts = [[], []]\nseed = 9223372036854775807\nloss = 100\nrepeat = 99\nbudget = 1048576\n";
@@ -12,82 +13,105 @@ const MOST: &str =
 const LEAST: &str =
     "budget = 1\nscripts = [[\"write b 18446744073709551615\"]]\nregisters = [\"a\", \"b\"]\nfront = \"local-read\"\nrepeat = 100\nloss = 0x0a\n";
 
-/// Documents, and what they say: the front end, the names, the numbers, and the script of each process.
-const READ: [(&str, &str); 3] = [
+/// What a document says.
+struct Said {
+    front: Front,
+    /// The names of the first two registers, and how many registers have one.
+    names: (Option<&'static str>, Option<&'static str>, usize),
+    /// The seed, the loss, the repeat and the budget.
+    numbers: (u64, u32, u32, u32),
+    /// The script of each process.
+    scripts: &'static [&'static [Op]],
+    /// How many processes and registers there are.
+    shape: (u32, u32),
+}
+
+/// Documents, and what they say.
+const SAID: &[(&str, Said)] = &[
     (
         SMALL,
-        "LocalWrite, Some(\"x\") None of 1, seed 0, loss 0, repeat 0, budget 100000
-[Write { register: 0, value: 5 }, Read { register: 0 }]
-[Read { register: 0 }]
-2 processes, 1 registers
-",
+        Said {
+            front: Front::LocalWrite,
+            names: (Some("x"), None, 1),
+            numbers: (0, 0, 0, 100_000),
+            scripts: &[&[WRITE_FIVE, READ], &[READ]],
+            shape: (2, 1),
+        },
     ),
     (
         MOST,
-        "Linear, Some(\"x\") Some(\"yy\") of 2, seed 9223372036854775807, loss 100, repeat 99, budget 1048576
-[]
-[]
-2 processes, 2 registers
-",
+        Said {
+            front: Front::Linear,
+            names: (Some("x"), Some("yy"), 2),
+            numbers: (9_223_372_036_854_775_807, 100, 99, 1_048_576),
+            scripts: &[&[], &[]],
+            shape: (2, 2),
+        },
     ),
     (
         LEAST,
-        "LocalRead, Some(\"a\") Some(\"b\") of 2, seed 0, loss 10, repeat 100, budget 1
-[Write { register: 1, value: 18446744073709551615 }]
-1 processes, 2 registers
-",
+        Said {
+            front: Front::LocalRead,
+            names: (Some("a"), Some("b"), 2),
+            numbers: (0, 10, 100, 1),
+            scripts: &[&[Op::Write {
+                register: 1,
+                value: 18_446_744_073_709_551_615,
+            }]],
+            shape: (1, 2),
+        },
     ),
 ];
 
-fn push_head(text: &mut String, work: &Workload) -> Result<(), AllocError> {
-    let (first, second) = (work.names.name(0), work.names.name(1));
-    let count = work.names.count();
-    write!(text, "{:?}, {first:?} {second:?} of {count}, ", work.front)?;
-    write!(
-        text,
-        "seed {}, loss {}, repeat {}, budget {}\n",
-        work.seed, work.loss, work.repeat, work.budget
-    )
-}
-
-fn push_work(text: &mut String, work: &Workload) -> Result<(), AllocError> {
-    push_head(text, work)?;
-    for script in &work.scripts {
-        write!(text, "{:?}\n", script.as_slice())?;
+/// Whether these are the scripts.
+fn are_scripts(scripts: &[Vec<Op>], told: &[&[Op]]) -> bool {
+    for (process, script) in scripts.iter().enumerate() {
+        if told.get(process) != Some(&script.as_slice()) {
+            return false;
+        }
     }
-    let (processes, registers) = (work.shape.processes(), work.shape.registers());
-    write!(text, "{processes} processes, {registers} registers\n")
+    scripts.len() == told.len()
 }
 
-fn is_told(alloc: Global, work: &Workload, told: &str) -> bool {
-    let mut text = String::new(alloc);
-    push_work(&mut text, work).is_ok() && text.as_str() == told
+/// Whether the workload is what its document says.
+fn is_said(work: &Workload, said: &Said) -> bool {
+    let (names, shape) = (&work.names, work.shape);
+    work.front == said.front
+        && (names.name(0), names.name(1), names.count()) == said.names
+        && (work.seed, work.loss, work.repeat, work.budget) == said.numbers
+        && are_scripts(work.scripts.as_slice(), said.scripts)
+        && (shape.processes(), shape.registers()) == said.shape
 }
 
 /// Whether the document is read, and says this.
-fn says(alloc: Global, document: &str, told: &str) -> bool {
+fn says(alloc: Global, document: &str, said: &Said) -> bool {
     match Workload::from_toml(alloc, document) {
-        Ok(work) => is_told(alloc, &work, told),
+        Ok(work) => is_said(&work, said),
         Err(_) => false,
     }
 }
 
 #[test]
 fn documents_are_read(rt: HostRuntime) {
-    for (document, told) in &READ {
-        demand(&rt, document, says(rt.alloc(), document, told));
+    for (document, said) in SAID {
+        demand(&rt, document, says(rt.alloc(), document, said));
     }
 }
 
 /// A part of a document, and the fault.
 type Refused = (&'static str, WorkloadFault);
 
-/// Demands the fault of each part, with one text before it and another after it.
-fn all_refused(rt: &(impl AllocGlobal + Abort), before: &str, rows: &[Refused], behind: &str) {
-    for (part, fault) in rows {
-        let text = format!(in rt.alloc(); "{before}{part}{behind}").expect(rt, "memory");
-        let found = Workload::from_toml(rt.alloc(), text.as_str()).err();
-        demand(rt, part, found == Some(*fault));
+/// Whether a document is refused with this fault.
+fn is_refused(alloc: Global, document: &str, fault: WorkloadFault) -> bool {
+    Workload::from_toml(alloc, document).err() == Some(fault)
+}
+
+/// Whether a part of a document is refused with this fault, with one text before it and another after it.
+fn is_part_refused(alloc: Global, before: &str, row: &Refused, behind: &str) -> bool {
+    let (part, fault) = row;
+    match format!(in alloc; "{before}{part}{behind}") {
+        Ok(text) => is_refused(alloc, text.as_str(), *fault),
+        Err(_) => false,
     }
 }
 
@@ -109,7 +133,7 @@ macro_rules! range {
     };
 }
 
-const DOCUMENTS: [Refused; 10] = [
+const DOCUMENTS: &[Refused] = &[
     ("", missing!(Key::Front)),
     ("front = \"linear", WorkloadFault::Toml),
     (
@@ -125,7 +149,7 @@ const DOCUMENTS: [Refused; 10] = [
     ("front = \"linear\"\nloss = 101", missing!(Key::Registers)),
 ];
 
-const REGISTERS: [Refused; 11] = [
+const REGISTERS: &[Refused] = &[
     ("\"x\"", kind!(Key::Registers)),
     ("[\"x\", 1]", kind!(Key::Registers)),
     ("[\"X\", [\"y\"]]", kind!(Key::Registers)),
@@ -139,7 +163,7 @@ const REGISTERS: [Refused; 11] = [
     ("[\"x\"]", missing!(Key::Scripts)),
 ];
 
-const SCRIPTS: [Refused; 12] = [
+const SCRIPTS: &[Refused] = &[
     ("[]", range!(Key::Scripts)),
     ("7", kind!(Key::Scripts)),
     ("[\"read x\"]", kind!(Key::Scripts)),
@@ -190,7 +214,7 @@ const SCRIPTS: [Refused; 12] = [
     ),
 ];
 
-const NUMBERS: [Refused; 15] = [
+const NUMBERS: &[Refused] = &[
     ("seed = -1", range!(Key::Seed)),
     ("seed = 1.0", kind!(Key::Seed)),
     ("seed = \"1\"", kind!(Key::Seed)),
@@ -212,24 +236,26 @@ const NUMBERS: [Refused; 15] = [
 ];
 
 /// What stands before each kind of parts, the parts, and what stands after each.
-const REFUSED: [(&str, &[Refused], &str); 4] = [
-    ("", &DOCUMENTS, ""),
-    ("front = \"linear\"\nregisters = ", &REGISTERS, "\n"),
+const REFUSED: &[(&str, &[Refused], &str)] = &[
+    ("", DOCUMENTS, ""),
+    ("front = \"linear\"\nregisters = ", REGISTERS, "\n"),
     (
         "front = \"linear\"\nregisters = [\"x\"]\nscripts = ",
-        &SCRIPTS,
+        SCRIPTS,
         "\n",
     ),
     (
         "front = \"linear\"\nregisters = [\"x\"]\nscripts = [[\"none\"]]\n",
-        &NUMBERS,
+        NUMBERS,
         "\n",
     ),
 ];
 
 #[test]
 fn documents_are_refused(rt: HostRuntime) {
-    for (before, rows, behind) in &REFUSED {
-        all_refused(&rt, before, rows, behind);
+    for (before, rows, behind) in REFUSED {
+        for row in *rows {
+            demand(&rt, row.0, is_part_refused(rt.alloc(), before, row, behind));
+        }
     }
 }

@@ -1,4 +1,5 @@
 //! Each growth of the parts refused in turn: the answer is out of memory, or the one with ample memory.
+use crate::answers::{shown, unless_memory};
 use crate::macros::{ack, cast, id, point};
 use crate::parts::traces::step_of;
 use crate::report_texts::{NO_POINTS, NO_POINTS_NOW, ONE_PROCESS, ONE_PROCESS_NOW};
@@ -24,7 +25,7 @@ const ACK: Frame = ack!(1, 3);
 
 const AHEAD: Frame = ack!(5, 9);
 
-const STEPS: [Step; 9] = [
+const STEPS: &[Step] = &[
     Step::Call { op: WRITE_FIVE },
     Step::Tick,
     Step::Call { op: READ },
@@ -55,8 +56,8 @@ const STEPS: [Step; 9] = [
 ];
 
 fn has_stopped<A: Allocator + Copy>(process: &mut Process<LocalWrite, A>) -> bool {
-    for step in &STEPS {
-        if !matches!(step_of(process, step), Err(ProcessFault::Failed)) {
+    for step in STEPS {
+        if step_of(process, step).err() != Some(ProcessFault::Failed) {
             return false;
         }
     }
@@ -64,9 +65,8 @@ fn has_stopped<A: Allocator + Copy>(process: &mut Process<LocalWrite, A>) -> boo
 }
 
 fn push_out<A: Allocator + Copy>(text: &mut String, out: &Outcome<A>) -> Result<(), AllocError> {
-    let frames = out.frames.as_slice();
-    let delivered = out.delivered.as_slice();
-    write!(text, "{frames:?} {delivered:?} {:?}\n", out.reply)
+    let told = (out.frames.as_slice(), out.delivered.as_slice(), out.reply);
+    write!(text, "{told:?}\n")
 }
 
 /// What an event gives, and whether memory is refused at it; the process has stopped then.
@@ -78,7 +78,6 @@ fn push_told<A: Allocator + Copy>(
     match step_of(process, step) {
         Ok(out) => (push_out(text, &out), false),
         Err(ProcessFault::OutOfMemory) if has_stopped(process) => (Ok(()), true),
-        Err(ProcessFault::OutOfMemory) => (text.push_str("goes on\n"), false),
         Err(fault) => (write!(text, "{fault:?}\n"), false),
     }
 }
@@ -89,7 +88,7 @@ fn all_told<A: Allocator + Copy>(
     process: &mut Process<LocalWrite, A>,
 ) -> Result<Option<String>, Fail> {
     let mut text = String::new(ample);
-    for step in &STEPS {
+    for step in STEPS {
         let (told, wants_memory) = push_told(&mut text, process, step);
         told?;
         if wants_memory {
@@ -99,21 +98,12 @@ fn all_told<A: Allocator + Copy>(
     Ok(Some(text))
 }
 
-fn followed<A: Allocator + Copy>(
-    alloc: A,
-    ample: Global,
-    shape: Shape,
-) -> Result<Option<String>, Fail> {
-    match Process::<LocalWrite, A>::new(alloc, shape, 0) {
-        Ok(mut process) => all_told(ample, &mut process),
-        Err(ProcessFault::OutOfMemory) => Ok(None),
-        Err(fault) => Err(fault)?,
-    }
-}
-
 impl Trial for Events {
     fn answer<A: Allocator + Copy>(&self, alloc: A, ample: Global) -> Result<Option<String>, Fail> {
-        followed(alloc, ample, Shape::new(2, 1)?)
+        match Process::<LocalWrite, A>::new(alloc, Shape::new(2, 1)?, 0) {
+            Ok(mut process) => all_told(ample, &mut process),
+            Err(fault) => unless_memory(fault, fault == ProcessFault::OutOfMemory),
+        }
     }
 }
 
@@ -131,15 +121,6 @@ struct Judged {
     now: &'static str,
 }
 
-/// Whether the report is written as this text. None where memory is refused.
-fn is_written<A: Allocator + Copy>(alloc: A, report: &Report<A>, now: &str) -> Option<bool> {
-    let mut out = Vec::new(alloc);
-    match write_report(&mut out, report) {
-        Ok(()) => Some(out.as_slice() == now.as_bytes()),
-        Err(_) => None,
-    }
-}
-
 /// What both checks say of a report, which has the points of a stale read, and whether it is written as this text. None
 /// where memory is refused to one of them.
 fn told<A: Allocator + Copy>(
@@ -151,25 +132,25 @@ fn told<A: Allocator + Copy>(
     let history = report.history();
     let serial = check_serial(alloc, history, report.order());
     let points = check_points(alloc, history, STALE.as_slice());
-    let written = is_written(alloc, report, now);
-    if [serial, points].contains(&Err(CheckFault::OutOfMemory)) || written.is_none() {
+    let mut out = Vec::new(alloc);
+    let written = write_report(&mut out, report).is_ok();
+    if !written || [serial, points].contains(&Err(CheckFault::OutOfMemory)) {
         return Ok(None);
     }
-    Ok(Some(format!(in ample; "{serial:?} {points:?} {written:?}\n")?))
+    shown(ample, &(serial, points, out.as_slice() == now.as_bytes()))
 }
 
 impl Trial for Judged {
     fn answer<A: Allocator + Copy>(&self, alloc: A, ample: Global) -> Result<Option<String>, Fail> {
         match read_report(alloc, self.text) {
             Ok(report) => told(alloc, ample, &report, self.now),
-            Err(ReadFault::OutOfMemory) => Ok(None),
-            Err(fault) => Err(fault)?,
+            Err(fault) => unless_memory(fault, fault == ReadFault::OutOfMemory),
         }
     }
 }
 
 /// Reports, and how each is written in version 2.
-const JUDGED: [Judged; 3] = [
+const JUDGED: &[Judged] = &[
     Judged {
         text: ONE_PROCESS,
         now: ONE_PROCESS_NOW,
@@ -187,7 +168,7 @@ const JUDGED: [Judged; 3] = [
 #[test]
 fn each_growth_is_refused(rt: HostRuntime) -> Result<(), Fail> {
     assert!(rt; refusals(&Events, rt.alloc())? > 10);
-    for judged in &JUDGED {
+    for judged in JUDGED {
         assert!(rt; refusals(judged, rt.alloc())? > 6);
     }
     Ok(())

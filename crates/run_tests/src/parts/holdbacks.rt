@@ -21,7 +21,7 @@ type Row = (
 );
 
 /// The queue of process 1 of three: a cast waits until the third process is heard past it.
-const OF_THREE: [Row; 5] = [
+const OF_THREE: &[Row] = &[
     (stamp!(1, 0), Some(WRITE_FIVE), Ok(()), None),
     (stamp!(2, 2), None, Ok(()), Some((stamp!(1, 0), WRITE_FIVE))),
     (stamp!(2, 2), None, Err(HoldFault::Stale), None),
@@ -30,7 +30,7 @@ const OF_THREE: [Row; 5] = [
 ];
 
 /// The queue of process 1 of two, with a cast of its own at time 1.
-const BEHIND_ITS_OWN: [Row; 2] = [
+const BEHIND_ITS_OWN: &[Row] = &[
     (
         stamp!(1, 0),
         Some(WRITE_FIVE),
@@ -54,7 +54,7 @@ fn answers(held: &mut Holdback, rows: &[Row]) -> bool {
 fn a_cast_waits_until_all_are_heard(rt: HostRuntime) {
     let shape = Shape::new(3, 1).expect(&rt, "a shape");
     let mut held = Holdback::new(rt.alloc(), 1, shape).expect(&rt, "memory");
-    assert!(rt; answers(&mut held, OF_THREE.as_slice()));
+    assert!(rt; answers(&mut held, OF_THREE));
 }
 
 #[test]
@@ -62,5 +62,5 @@ fn an_own_cast_waits_behind_an_earlier_one(rt: HostRuntime) {
     let shape = Shape::new(2, 1).expect(&rt, "a shape");
     let mut held = Holdback::new(rt.alloc(), 1, shape).expect(&rt, "memory");
     let cast = held.cast(stamp!(1, 1), WRITE_FIVE).is_ok();
-    assert!(rt; cast && answers(&mut held, BEHIND_ITS_OWN.as_slice()));
+    assert!(rt; cast && answers(&mut held, BEHIND_ITS_OWN));
 }

@@ -1,7 +1,6 @@
 //! Worked examples of both ends of a link, and of the links of one process together.
 use reg_frames::{Body, Frame};
 use reg_links::{Ahead, Inbox, LinkFault, Outbox, Outboxes};
-use std::process::Abort;
 
 /// The last number of a frame.
 const LAST_NUMBER: u64 = 281_474_976_710_655;
@@ -70,7 +69,7 @@ macro_rules! frame {
 }
 
 /// A use of the links from process 1 of 3, and what is then pending to each process.
-const OF_THREE: [(Use, [u64; 3]); 16] = [
+const OF_THREE: &[(Use, [u64; 3])] = &[
     (queue!(TWO, 0), [1, 0, 1]),
     (queue!(THREE, 1), [2, 0, 2]),
     (got!(0, 3, Err(Ahead)), [2, 0, 2]),
@@ -90,7 +89,7 @@ const OF_THREE: [(Use, [u64; 3]); 16] = [
 ];
 
 /// A use of one link alone, and what is then pending.
-const OF_TWO: [(Use, u64); 9] = [
+const OF_TWO: &[(Use, u64)] = &[
     (queue!(TWO, 0), 1),
     (queue!(THREE, 1), 2),
     (resend!(1, 1, frame!(1, THREE)), 2),
@@ -128,48 +127,47 @@ fn outbox_keeps_what_is_not_acknowledged(rt: HostRuntime) {
     }
 }
 
-/// Whether the links answer so.
-fn answers(rt: &impl Abort, out: &mut Outboxes, step: &Use) -> bool {
-    assert!(rt; out.processes() == 3);
-    match *step {
-        Use::Queue { body, told } => out.queue(1, body) == Ok(told),
-        Use::Got { from, count, told } => from < 3 && out.got(from, count) == told,
-        Use::Resend { to, place, told } => to < 3 && out.resend(to, place) == told,
-    }
+/// Whether the links of three processes answer so.
+fn answers(out: &mut Outboxes, step: &Use) -> bool {
+    out.processes() == 3
+        && match *step {
+            Use::Queue { body, told } => out.queue(1, body) == Ok(told),
+            Use::Got { from, count, told } => from < 3 && out.got(from, count) == told,
+            Use::Resend { to, place, told } => to < 3 && out.resend(to, place) == told,
+        }
 }
 
-/// What is pending to each of three processes.
-fn pending(rt: &impl Abort, out: &Outboxes) -> [u64; 3] {
-    assert!(rt; out.processes() == 3);
-    [out.pending(0), out.pending(1), out.pending(2)]
+/// Whether this is pending to each of three processes.
+fn has_pending(out: &Outboxes, pending: &[u64; 3]) -> bool {
+    out.processes() == 3 && [out.pending(0), out.pending(1), out.pending(2)] == *pending
 }
 
-/// Demands the answers of the links, one after another.
-fn demand_of_three(rt: &impl Abort, out: &mut Outboxes) {
-    for (row, (step, left)) in OF_THREE.iter().enumerate() {
-        assert!(rt;
-            answers(rt, out, step) && pending(rt, out) == *left,
-            "{row}"
-        );
+/// Whether the links answer so, row by row.
+fn keeps(out: &mut Outboxes) -> bool {
+    for (step, pending) in OF_THREE {
+        if !answers(out, step) || !has_pending(out, pending) {
+            return false;
+        }
     }
+    true
 }
 
 #[test]
 fn links_keep_what_is_not_acknowledged_by_all(rt: HostRuntime) {
     let mut out = Outboxes::new(rt.alloc(), 3).expect(&rt, "memory");
-    demand_of_three(&rt, &mut out);
+    assert!(rt; keeps(&mut out));
 }
 
 #[test]
 fn numbers_end(rt: HostRuntime) {
     let mut out = Outbox::starting(rt.alloc(), LAST_NUMBER).expect(&rt, "the last number");
-    for answer in &AT_THE_END {
+    for answer in AT_THE_END {
         assert!(rt; out.queue(TWO) == *answer && out.pending() == 1);
     }
 }
 
 /// What is answered to a body with the last number, and to one more.
-const AT_THE_END: [Result<Frame, LinkFault>; 2] = [
+const AT_THE_END: &[Result<Frame, LinkFault>] = &[
     Ok(Frame::Numbered {
         number: LAST_NUMBER,
         body: TWO,
@@ -178,7 +176,7 @@ const AT_THE_END: [Result<Frame, LinkFault>; 2] = [
 ];
 
 /// The number of a body, what is accepted of it, and the number that is expected then.
-const TAKEN: [(u64, Option<Body>, u64); 5] = [
+const TAKEN: &[(u64, Option<Body>, u64)] = &[
     (1, None, 0),
     (0, Some(TWO), 1),
     (0, None, 1),
@@ -189,9 +187,8 @@ const TAKEN: [(u64, Option<Body>, u64); 5] = [
 #[test]
 fn inbox_accepts_in_order(rt: HostRuntime) {
     let mut inbox = Inbox::new();
-    for (number, accepted, expected) in &TAKEN {
-        assert!(rt; inbox.take(*number, TWO) == *accepted);
-        assert!(rt; inbox.expected() == *expected);
+    for (number, accepted, expected) in TAKEN {
+        assert!(rt; inbox.take(*number, TWO) == *accepted && inbox.expected() == *expected);
     }
 }
 

@@ -5,36 +5,24 @@ use crate::values::{READ, WRITE_FIVE};
 use reg_base::{Answer, OpId, Shape};
 use reg_history::{CheckFault, Entry, History, HistoryFault, Point, check_points, check_serial};
 use std::alloc::Global;
-use std::process::Abort;
 
 /// A write at a process, and then a read of it, which isn't answered yet.
-const UNFINISHED: [Entry; 3] = [
+const UNFINISHED: &[Entry] = &[
     called!(0, 0, 0, WRITE_FIVE),
     answered!(0, 0, 0, Answer::Done),
     called!(1, 0, 1, READ),
 ];
 
 /// A write at a process, and then a read of it, which is answered.
-const FINISHED: [Entry; 4] = [
+const FINISHED: &[Entry] = &[
     called!(0, 0, 0, WRITE_FIVE),
     answered!(0, 0, 0, Answer::Done),
     called!(1, 0, 1, READ),
     answered!(3, 0, 1, Answer::Value(5)),
 ];
 
-/// Orders of the stale read, and what is said of each.
-const ORDERS: [(&[OpId], Result<(), CheckFault>); 4] = [
-    (&[id!(1, 0), id!(0, 0)], Ok(())),
-    (
-        &[id!(0, 0), id!(1, 0)],
-        Err(CheckFault::Answer { place: 1 }),
-    ),
-    (&[id!(1, 0)], Err(CheckFault::Missing)),
-    (&[id!(1, 0), id!(0, 0), id!(0, 0)], Err(CheckFault::Twice)),
-];
-
 /// Points of the stale read, and what is said of each.
-const POINTS: [(&[Point], Result<(), CheckFault>); 3] = [
+const POINTS: &[(&[Point], Result<(), CheckFault>)] = &[
     (
         &[point!(1, 5), point!(0, 4)],
         Err(CheckFault::Falling { place: 1 }),
@@ -49,50 +37,54 @@ const POINTS: [(&[Point], Result<(), CheckFault>); 3] = [
     ),
 ];
 
-/// An order, and what is said of it.
-type Ordered = (&'static [OpId], Result<(), CheckFault>);
-
-/// Histories, and orders of each.
-const JUDGED: [(&[Entry], &[Ordered]); 3] = [
-    (&STALE_READ, &ORDERS),
+/// Histories, an order of each, and what is said of it.
+const JUDGED: &[(&[Entry], &[OpId], Result<(), CheckFault>)] = &[
+    (STALE_READ, &[id!(1, 0), id!(0, 0)], Ok(())),
     (
-        &UNFINISHED,
-        &[
-            (&[id!(0, 0), id!(0, 1)], Err(CheckFault::Unknown)),
-            (&[id!(0, 0)], Ok(())),
-        ],
+        STALE_READ,
+        &[id!(0, 0), id!(1, 0)],
+        Err(CheckFault::Answer { place: 1 }),
+    ),
+    (STALE_READ, &[id!(1, 0)], Err(CheckFault::Missing)),
+    (
+        STALE_READ,
+        &[id!(1, 0), id!(0, 0), id!(0, 0)],
+        Err(CheckFault::Twice),
     ),
     (
-        &FINISHED,
-        &[
-            (&[id!(0, 0), id!(0, 1)], Ok(())),
-            (&[id!(0, 1), id!(0, 0)], Err(CheckFault::OwnOrder)),
-        ],
+        UNFINISHED,
+        &[id!(0, 0), id!(0, 1)],
+        Err(CheckFault::Unknown),
     ),
+    (UNFINISHED, &[id!(0, 0)], Ok(())),
+    (FINISHED, &[id!(0, 0), id!(0, 1)], Ok(())),
+    (FINISHED, &[id!(0, 1), id!(0, 0)], Err(CheckFault::OwnOrder)),
 ];
 
-/// Whether this is said of the orders of a history.
-fn are_judged(alloc: Global, history: &History, orders: &[Ordered]) -> bool {
-    for (order, said) in orders {
-        if check_serial(alloc, history, order) != *said {
-            return false;
-        }
+/// Whether this is said of an order of a history.
+fn is_judged(
+    alloc: Global,
+    entries: &[Entry],
+    order: &[OpId],
+    said: Result<(), CheckFault>,
+) -> bool {
+    match history_of(alloc, 3, entries) {
+        Some(history) => check_serial(alloc, &history, order) == said,
+        None => false,
     }
-    true
 }
 
 #[test]
 fn a_stale_read_is_serial(rt: HostRuntime) {
-    for (entries, orders) in &JUDGED {
-        let history = history_of(rt.alloc(), 3, entries).expect(&rt, "in place");
-        assert!(rt; are_judged(rt.alloc(), &history, orders));
+    for (entries, order, said) in JUDGED {
+        assert!(rt; is_judged(rt.alloc(), entries, order, *said));
     }
 }
 
 #[test]
 fn a_stale_read_has_no_points(rt: HostRuntime) {
-    let history = history_of(rt.alloc(), 3, &STALE_READ).expect(&rt, "in place");
-    for (points, said) in &POINTS {
+    let history = history_of(rt.alloc(), 3, STALE_READ).expect(&rt, "in place");
+    for (points, said) in POINTS {
         assert!(rt;
             check_points(rt.alloc(), &history, points) == *said,
             "{points:?}"
@@ -100,26 +92,25 @@ fn a_stale_read_has_no_points(rt: HostRuntime) {
     }
 }
 
-/// Demands that an answer is out of place before its call, and in place after it.
-fn demand_places(rt: &impl Abort, history: &mut History) {
+/// Whether an answer is out of place before its call, and in place after it.
+fn keeps_places(history: &mut History) -> bool {
     let done = answered!(0, 0, 0, Answer::Done);
-    assert!(rt; history.push(done) == Err(HistoryFault::OutOfPlace));
-    assert!(rt; history.reserve(2).is_ok());
-    assert!(rt; history.push(called!(0, 0, 0, WRITE_FIVE)) == Ok(()));
-    assert!(rt; history.push(done) == Ok(()));
-    assert!(rt; history.entries().len() == 2);
+    history.push(done) == Err(HistoryFault::OutOfPlace)
+        && history.reserve(2).is_ok()
+        && history.push(called!(0, 0, 0, WRITE_FIVE)) == Ok(())
+        && history.push(done) == Ok(())
+        && history.entries().len() == 2
 }
 
 #[test]
 fn entries_in_place(rt: HostRuntime) {
     let shape = Shape::new(1, 1).expect(&rt, "a shape");
     let mut history = History::new(rt.alloc(), shape).expect(&rt, "memory");
-    demand_places(&rt, &mut history);
-    assert!(rt; history.shape() == shape);
+    assert!(rt; keeps_places(&mut history) && history.shape() == shape);
 }
 
 /// What is wrong with an order, and what is shown of it.
-const SHOWN: [(CheckFault, &str); 8] = [
+const SHOWN: &[(CheckFault, &str)] = &[
     (CheckFault::Unknown, "unknown"),
     (CheckFault::Twice, "twice"),
     (CheckFault::Missing, "missing"),
@@ -132,13 +123,15 @@ const SHOWN: [(CheckFault, &str); 8] = [
 
 /// Whether a fault shows these words.
 fn shows(alloc: Global, fault: CheckFault, words: &str) -> bool {
-    let mut text = String::new(alloc);
-    write!(text, "{fault}").is_ok() && text.as_str() == words
+    match format!(in alloc; "{fault}") {
+        Ok(text) => text.as_str() == words,
+        Err(_) => false,
+    }
 }
 
 #[test]
 fn each_fault_is_shown_in_its_words(rt: HostRuntime) {
-    for (fault, words) in &SHOWN {
+    for (fault, words) in SHOWN {
         assert!(rt; shows(rt.alloc(), *fault, words));
     }
 }

@@ -70,84 +70,84 @@ macro_rules! cast {
     };
 }
 
-const AT_ONCE: [Row; 7] = [
+const AT_ONCE: &[Row] = &[
     (
         0,
         call_write!(5),
-        "casts at 1 of p0, puts #0 cast 1 write x 5 to p1, done at place 0, clock 1, pending 1, unsettled 1, delivered 0, free, x 0",
+        "casts at 1 of p0, puts #0 cast 1 write x 5 to p1, Done at place 0, clock 1, pending 1, unsettled 1, delivered 0, busy false, x 0",
     ),
     (
         0,
         Step::Tick,
-        "puts #0 cast 1 write x 5 to p1, clock 1, pending 1, unsettled 1, delivered 0, free, x 0",
+        "puts #0 cast 1 write x 5 to p1, clock 1, pending 1, unsettled 1, delivered 0, busy false, x 0",
     ),
     (
         0,
         call!(READ),
-        "clock 1, pending 1, unsettled 1, delivered 0, busy, x 0",
+        "clock 1, pending 1, unsettled 1, delivered 0, busy true, x 0",
     ),
     (
         0,
         call_write!(5),
-        "Busy, clock 1, pending 1, unsettled 1, delivered 0, busy, x 0",
+        "Busy, clock 1, pending 1, unsettled 1, delivered 0, busy true, x 0",
     ),
     (
         0,
         call!(BEYOND),
-        "Busy, clock 1, pending 1, unsettled 1, delivered 0, busy, x 0",
+        "Busy, clock 1, pending 1, unsettled 1, delivered 0, busy true, x 0",
     ),
     (
         0,
         take!(1, 0, ack!(2)),
-        "puts got 1 to p1, delivers write x 5 at 1 of p0, value 5 at place 1, clock 3, pending 1, unsettled 0, delivered 1, free, x 5",
+        "puts got 1 to p1, delivers write x 5 at 1 of p0, Value(5) at place 1, clock 3, pending 1, unsettled 0, delivered 1, busy false, x 5",
     ),
     (
         0,
         got!(1, 1),
-        "clock 3, pending 0, unsettled 0, delivered 1, free, x 5",
+        "clock 3, pending 0, unsettled 0, delivered 1, busy false, x 5",
     ),
 ];
 
-const WAITING: [Row; 4] = [
+const WAITING: &[Row] = &[
     (
         0,
         call_write!(5),
-        "casts at 1 of p0, puts #0 cast 1 write x 5 to p1, clock 1, pending 1, unsettled 1, delivered 0, busy, x 0",
+        "casts at 1 of p0, puts #0 cast 1 write x 5 to p1, clock 1, pending 1, unsettled 1, delivered 0, busy true, x 0",
     ),
     (
         1,
         take!(0, 0, cast!(1, WRITE_FIVE)),
-        "puts got 1 to p0, puts #0 ack 2 to p0, delivers write x 5 at 1 of p0, clock 2, pending 1, unsettled 0, delivered 1, free, x 5",
+        "puts got 1 to p0, puts #0 ack 2 to p0, delivers write x 5 at 1 of p0, clock 2, pending 1, unsettled 0, delivered 1, busy false, x 5",
     ),
     (
         0,
         take!(1, 0, ack!(2)),
-        "puts got 1 to p1, delivers write x 5 at 1 of p0, done at place 0, clock 3, pending 1, unsettled 0, delivered 1, free, x 5",
+        "puts got 1 to p1, delivers write x 5 at 1 of p0, Done at place 0, clock 3, pending 1, unsettled 0, delivered 1, busy false, x 5",
     ),
     // The same frame again is dropped, and changes nothing.
     (
         1,
         take!(0, 0, cast!(1, WRITE_FIVE)),
-        "puts got 1 to p0, clock 2, pending 1, unsettled 0, delivered 1, free, x 5",
+        "puts got 1 to p0, clock 2, pending 1, unsettled 0, delivered 1, busy false, x 5",
     ),
 ];
 
-const TO_ALL: [Row; 1] = [(
+const TO_ALL: &[Row] = &[(
     1,
     take!(2, 0, cast!(1, WRITE_FIVE)),
-    "puts #0 ack 2 to p0, puts got 1 to p2, puts #0 ack 2 to p2, clock 2, pending 2, unsettled 0, delivered 0, free, x 0",
+    "puts #0 ack 2 to p0, puts got 1 to p2, puts #0 ack 2 to p2, clock 2, pending 2, unsettled 0, delivered 0, busy false, x 0",
 )];
 
-const HELD_READ: [Row; 3] = [
+const HELD_READ: &[Row] = &[
     (
         0,
         call_write!(1),
-        "casts at 1 of p0, puts #0 cast 1 write x 1 to p1, done at place 0, clock 1, pending 1, unsettled 1, delivered 0, free, x 0",
+        "casts at 1 of p0, puts #0 cast 1 write x 1 to p1, Done at place 0, clock 1, pending 1, unsettled 1, delivered 0, busy false, x 0",
     ),
     (
         0,
         call!(READ),
-        "clock 1, pending 1, unsettled 1, delivered 0, busy, x 0",
+        "clock 1, pending 1, unsettled 1, delivered 0, busy true, x 0",
     ),
     (
         0,
@@ -162,94 +162,94 @@ const HELD_READ: [Row; 3] = [
                 }
             )
         ),
-        "puts got 1 to p1, puts #1 ack 2 to p1, delivers write x 1 at 1 of p0, delivers write x 2 at 1 of p1, value 1 at place 1, clock 2, pending 2, unsettled 0, delivered 2, free, x 2",
+        "puts got 1 to p1, puts #1 ack 2 to p1, delivers write x 1 at 1 of p0, delivers write x 2 at 1 of p1, Value(1) at place 1, clock 2, pending 2, unsettled 0, delivered 2, busy false, x 2",
     ),
 ];
 
-const SWAP: [Row; 3] = [
+const SWAP: &[Row] = &[
     (
         0,
         call_write!(5),
-        "casts at 1 of p0, puts #0 cast 1 write x 5 to p1, done at place 0, clock 1, pending 1, unsettled 1, delivered 0, free, x 0",
+        "casts at 1 of p0, puts #0 cast 1 write x 5 to p1, Done at place 0, clock 1, pending 1, unsettled 1, delivered 0, busy false, x 0",
     ),
     (
         0,
         call!(SWAP_SIX),
-        "casts at 2 of p0, puts #1 cast 2 swap x 6 to p1, clock 2, pending 2, unsettled 2, delivered 0, busy, x 0",
+        "casts at 2 of p0, puts #1 cast 2 swap x 6 to p1, clock 2, pending 2, unsettled 2, delivered 0, busy true, x 0",
     ),
     // It acknowledged the swap too, so both are delivered.
     (
         0,
         take!(1, 0, ack!(3)),
-        "puts got 1 to p1, delivers write x 5 at 1 of p0, delivers swap x 6 at 2 of p0, value 5 at place 1, clock 4, pending 2, unsettled 0, delivered 2, free, x 6",
+        "puts got 1 to p1, delivers write x 5 at 1 of p0, delivers swap x 6 at 2 of p0, Value(5) at place 1, clock 4, pending 2, unsettled 0, delivered 2, busy false, x 6",
     ),
 ];
 
-const REFUSED: [Row; 8] = [
+const REFUSED: &[Row] = &[
     (
         1,
         got!(0, 1),
-        "Ahead, clock 0, pending 0, unsettled 0, delivered 0, free, x 0",
+        "Ahead, clock 0, pending 0, unsettled 0, delivered 0, busy false, x 0",
     ),
     (
         1,
         take!(0, 0, cast!(5, BEYOND)),
-        "NoRegister, clock 0, pending 0, unsettled 0, delivered 0, free, x 0",
+        "NoRegister, clock 0, pending 0, unsettled 0, delivered 0, busy false, x 0",
     ),
     (
         1,
         take!(1, 0, ack!(5)),
-        "NoProcess, clock 0, pending 0, unsettled 0, delivered 0, free, x 0",
+        "NoProcess, clock 0, pending 0, unsettled 0, delivered 0, busy false, x 0",
     ),
     (
         1,
         take!(2, 0, ack!(5)),
-        "NoProcess, clock 0, pending 0, unsettled 0, delivered 0, free, x 0",
+        "NoProcess, clock 0, pending 0, unsettled 0, delivered 0, busy false, x 0",
     ),
     (
         1,
         call!(BEYOND),
-        "NoRegister, clock 0, pending 0, unsettled 0, delivered 0, free, x 0",
+        "NoRegister, clock 0, pending 0, unsettled 0, delivered 0, busy false, x 0",
     ),
     (
         1,
         take!(0, 0, ack!(5)),
-        "puts got 1 to p0, clock 6, pending 0, unsettled 0, delivered 0, free, x 0",
+        "puts got 1 to p0, clock 6, pending 0, unsettled 0, delivered 0, busy false, x 0",
     ),
     (
         1,
         take!(0, 1, ack!(5)),
-        "Stale, clock 6, pending 0, unsettled 0, delivered 0, free, x 0",
+        "Stale, clock 6, pending 0, unsettled 0, delivered 0, busy false, x 0",
     ),
     (
         1,
         take!(0, 1, ack!(6)),
-        "puts got 2 to p0, clock 7, pending 0, unsettled 0, delivered 0, free, x 0",
+        "puts got 2 to p0, clock 7, pending 0, unsettled 0, delivered 0, busy false, x 0",
     ),
 ];
 
-const OUT_OF_TURN: [Row; 1] = [(
+const OUT_OF_TURN: &[Row] = &[(
     1,
     take!(0, 1, cast!(1, BEYOND)),
-    "puts got 0 to p0, clock 0, pending 0, unsettled 0, delivered 0, free, x 0",
+    "puts got 0 to p0, clock 0, pending 0, unsettled 0, delivered 0, busy false, x 0",
 )];
 
-const LAST_TIME: [Row; 4] = [
+const LAST_TIME: &[Row] = &[
     (
         1,
         take!(0, 0, cast!(281_474_976_710_655, WRITE_FIVE)),
-        "puts got 1 to p0, puts #0 ack 281474976710656 to p0, delivers write x 5 at 281474976710655 of p0, clock 281474976710656, pending 1, unsettled 0, delivered 1, free, x 5",
+        "puts got 1 to p0, puts #0 ack 281474976710656 to p0, delivers write x 5 at 281474976710655 of p0, clock 281474976710656, pending 1, unsettled 0, delivered 1, busy false, x 5",
     ),
     (
         1,
         call!(READ),
-        "value 5 at place 1, clock 281474976710656, pending 1, unsettled 0, delivered 1, free, x 5",
+        "Value(5) at place 1, clock 281474976710656, pending 1, unsettled 0, delivered 1, busy false, x 5",
     ),
     (1, call_write!(5), "ClockFull"),
     (1, call!(READ), "Failed"),
 ];
 
-const PAST_LAST_TIME: [Row; 2] = [
+const PAST_LAST_TIME: &[Row] = &[
     (
         1,
         take!(0, 0, cast!(281_474_976_710_656, WRITE_FIVE)),
@@ -259,7 +259,7 @@ const PAST_LAST_TIME: [Row; 2] = [
 ];
 
 /// A process that has stopped, beside one that runs.
-const STOPPED: [Row; 9] = [
+const STOPPED: &[Row] = &[
     (1, take!(0, 0, ack!(281_474_976_710_656)), "ClockFull"),
     (1, call!(READ), "Failed"),
     (1, take!(0, 0, ack!(1)), "Failed"),
@@ -268,80 +268,76 @@ const STOPPED: [Row; 9] = [
     (
         0,
         call!(READ),
-        "value 0 at place 0, clock 0, pending 0, unsettled 0, delivered 0, free, x 0",
+        "Value(0) at place 0, clock 0, pending 0, unsettled 0, delivered 0, busy false, x 0",
     ),
     (
         0,
         call_write!(5),
-        "casts at 1 of p0, puts #0 cast 1 write x 5 to p1, clock 1, pending 1, unsettled 1, delivered 0, busy, x 0",
+        "casts at 1 of p0, puts #0 cast 1 write x 5 to p1, clock 1, pending 1, unsettled 1, delivered 0, busy true, x 0",
     ),
     (
         0,
         Step::Tick,
-        "puts #0 cast 1 write x 5 to p1, clock 1, pending 1, unsettled 1, delivered 0, busy, x 0",
+        "puts #0 cast 1 write x 5 to p1, clock 1, pending 1, unsettled 1, delivered 0, busy true, x 0",
     ),
     (1, take!(0, 0, cast!(1, WRITE_FIVE)), "Failed"),
 ];
 
-const EACH_LACKS: [Row; 7] = [
+const EACH_LACKS: &[Row] = &[
     (
         1,
         call_write!(5),
-        "casts at 1 of p1, puts #0 cast 1 write x 5 to p0, puts #0 cast 1 write x 5 to p2, done at place 0, clock 1, pending 2, unsettled 1, delivered 0, free, x 0",
+        "casts at 1 of p1, puts #0 cast 1 write x 5 to p0, puts #0 cast 1 write x 5 to p2, Done at place 0, clock 1, pending 2, unsettled 1, delivered 0, busy false, x 0",
     ),
     (
         1,
         call_write!(6),
-        "casts at 2 of p1, puts #1 cast 2 write x 6 to p0, puts #1 cast 2 write x 6 to p2, done at place 0, clock 2, pending 4, unsettled 2, delivered 0, free, x 0",
+        "casts at 2 of p1, puts #1 cast 2 write x 6 to p0, puts #1 cast 2 write x 6 to p2, Done at place 0, clock 2, pending 4, unsettled 2, delivered 0, busy false, x 0",
     ),
     (
         1,
         got!(0, 2),
-        "clock 2, pending 2, unsettled 2, delivered 0, free, x 0",
+        "clock 2, pending 2, unsettled 2, delivered 0, busy false, x 0",
     ),
     (
         1,
         got!(2, 1),
-        "clock 2, pending 1, unsettled 2, delivered 0, free, x 0",
+        "clock 2, pending 1, unsettled 2, delivered 0, busy false, x 0",
     ),
     (
         1,
         Step::Tick,
-        "puts #1 cast 2 write x 6 to p2, clock 2, pending 1, unsettled 2, delivered 0, free, x 0",
+        "puts #1 cast 2 write x 6 to p2, clock 2, pending 1, unsettled 2, delivered 0, busy false, x 0",
     ),
     (
         1,
         call!(READ),
-        "clock 2, pending 1, unsettled 2, delivered 0, busy, x 0",
+        "clock 2, pending 1, unsettled 2, delivered 0, busy true, x 0",
     ),
     (
         1,
         got!(0, 3),
-        "Ahead, clock 2, pending 1, unsettled 2, delivered 0, busy, x 0",
+        "Ahead, clock 2, pending 1, unsettled 2, delivered 0, busy true, x 0",
     ),
 ];
 
 #[test]
 fn two_processes_step_by_step(rt: HostRuntime) {
-    for rows in [AT_ONCE.as_slice(), HELD_READ.as_slice(), SWAP.as_slice()] {
-        follow::<LocalWrite>(&rt, 2, rows);
-    }
-    for rows in [
-        REFUSED.as_slice(),
-        OUT_OF_TURN.as_slice(),
-        LAST_TIME.as_slice(),
-        PAST_LAST_TIME.as_slice(),
-        STOPPED.as_slice(),
-    ] {
-        follow::<LocalRead>(&rt, 2, rows);
-    }
-    follow::<Linear>(&rt, 2, WAITING.as_slice());
+    follow::<LocalWrite>(&rt, 2, AT_ONCE);
+    follow::<LocalWrite>(&rt, 2, HELD_READ);
+    follow::<LocalWrite>(&rt, 2, SWAP);
+    follow::<LocalRead>(&rt, 2, REFUSED);
+    follow::<LocalRead>(&rt, 2, OUT_OF_TURN);
+    follow::<LocalRead>(&rt, 2, LAST_TIME);
+    follow::<LocalRead>(&rt, 2, PAST_LAST_TIME);
+    follow::<LocalRead>(&rt, 2, STOPPED);
+    follow::<Linear>(&rt, 2, WAITING);
 }
 
 #[test]
 fn three_processes_step_by_step(rt: HostRuntime) {
-    follow::<Linear>(&rt, 3, TO_ALL.as_slice());
-    follow::<LocalWrite>(&rt, 3, EACH_LACKS.as_slice());
+    follow::<Linear>(&rt, 3, TO_ALL);
+    follow::<LocalWrite>(&rt, 3, EACH_LACKS);
 }
 
 #[test]

@@ -2,16 +2,15 @@
 use refusing::Refusing;
 use std::alloc::Global;
 
-/// Whether a byte is pushed exactly where memory is expected, and whether the refusal is then still to come as
-/// expected.
+/// Whether a byte is pushed where memory is expected, and there alone, and the refusal is then still to come, or not.
 fn pushes(
     heap: &Refusing<Global>,
     list: &mut Vec<u8, &Refusing<Global>>,
     byte: u8,
-    told: (bool, bool),
+    is_there: bool,
+    waits: bool,
 ) -> bool {
-    let is_there = list.push(byte).is_ok();
-    (is_there, heap.is_waiting()) == told
+    list.push(byte).is_ok() == is_there && heap.is_waiting() == waits
 }
 
 /// Whether the second list's first growth alone is refused.
@@ -20,9 +19,9 @@ fn refuses_the_second(
     first: &mut Vec<u8, &Refusing<Global>>,
     second: &mut Vec<u8, &Refusing<Global>>,
 ) -> bool {
-    pushes(heap, first, 1, (true, true))
-        && pushes(heap, second, 2, (false, false))
-        && pushes(heap, second, 3, (true, false))
+    pushes(heap, first, 1, true, true)
+        && pushes(heap, second, 2, false, false)
+        && pushes(heap, second, 3, true, false)
         && first.as_slice() == [1].as_slice()
         && second.as_slice() == [3].as_slice()
 }

@@ -1,11 +1,11 @@
 //! Names as a line has them.
-use crate::parts::demands::demand;
+use crate::demands::demand;
 use reg_base::Names;
 use reg_text::{Lines, TextFault, Why, read_names};
 use std::alloc::Global;
 
 /// A first line that isn't one of names, and why.
-const NO_NAMES: [(&str, Why); 11] = [
+const NO_NAMES: &[(&str, Why)] = &[
     ("", Why::End),
     ("register x", Why::Form),
     ("registers", Why::Form),
@@ -29,7 +29,7 @@ pub(crate) fn names_of(alloc: Global, text: &str) -> Result<Names, TextFault> {
 fn names_of_their_line(rt: HostRuntime) {
     let names = names_of(rt.alloc(), "registers x y").expect(&rt, "names");
     assert!(rt; names.number("x") == Some(0) && names.number("y") == Some(1));
-    for (text, why) in &NO_NAMES {
+    for (text, why) in NO_NAMES {
         let fault = TextFault::Line { line: 1, why: *why };
         demand(&rt, text, names_of(rt.alloc(), text).err() == Some(fault));
     }

@@ -1,9 +1,9 @@
 //! What steps of processes give, a line for each.
-use crate::parts::demands::demand;
-use reg_base::{Answer, Delivered, Op, Shape, Stamp};
+use crate::demands::demand;
+use reg_base::{Delivered, Op, Shape};
 use reg_frames::{Body, Frame};
 use reg_front::FrontEnd;
-use reg_process::{Outcome, Process, ProcessFault, Put, Reply, Step};
+use reg_process::{Outcome, Process, ProcessFault, Put, Step};
 use reg_text::OpLine;
 use std::alloc::{AllocError, Allocator, Global};
 use std::process::Abort;
@@ -49,26 +49,14 @@ fn push_casts(text: &mut String, casts: &[Delivered]) -> Result<(), AllocError> 
     Ok(())
 }
 
-fn push_reply(text: &mut String, reply: Reply) -> Result<(), AllocError> {
-    let place = reply.place;
-    match reply.answer {
-        Answer::Done => write!(text, "done at place {place}, "),
-        Answer::Value(value) => write!(text, "value {value} at place {place}, "),
-    }
-}
-
-fn push_cast(text: &mut String, stamp: Stamp) -> Result<(), AllocError> {
-    write!(text, "casts at {} of p{}, ", stamp.time, stamp.process)
-}
-
 fn push_told(text: &mut String, out: &Outcome) -> Result<(), AllocError> {
     if let Some(stamp) = out.cast {
-        push_cast(text, stamp)?;
+        write!(text, "casts at {} of p{}, ", stamp.time, stamp.process)?;
     }
     push_puts(text, out.frames.as_slice())?;
     push_casts(text, out.delivered.as_slice())?;
     match out.reply {
-        Some(reply) => push_reply(text, reply),
+        Some(reply) => write!(text, "{:?} at place {}, ", reply.answer, reply.place),
         None => Ok(()),
     }
 }
@@ -85,42 +73,15 @@ pub(crate) fn step_of<F: FrontEnd, A: Allocator + Copy>(
     }
 }
 
-/// Why a step is refused, with a comma where the process goes on.
-fn push_fault(text: &mut String, fault: &ProcessFault) -> Result<(), AllocError> {
-    match fault {
-        ProcessFault::ClockFull | ProcessFault::Failed => write!(text, "{fault:?}"),
-        _ => write!(text, "{fault:?}, "),
-    }
-}
-
-/// What a step gives, or why it is refused.
-fn push_made(text: &mut String, made: &Result<Outcome, ProcessFault>) -> Result<(), AllocError> {
-    match made {
-        Ok(out) => push_told(text, out),
-        Err(fault) => push_fault(text, fault),
-    }
-}
-
-/// Whether the process has stopped at the step.
-fn has_stopped(made: &Result<Outcome, ProcessFault>) -> bool {
-    matches!(made, Err(ProcessFault::ClockFull | ProcessFault::Failed))
-}
-
-fn push_counts<F: FrontEnd>(text: &mut String, process: &Process<F>) -> Result<(), AllocError> {
-    let (clock, pending) = (process.clock(), process.pending());
-    let (unsettled, delivered) = (process.unsettled(), process.delivered_count());
-    write!(
-        text,
-        "clock {clock}, pending {pending}, unsettled {unsettled}, delivered {delivered}, "
-    )
-}
-
 /// What the process answers.
 fn push_state<F: FrontEnd>(text: &mut String, process: &Process<F>) -> Result<(), AllocError> {
-    push_counts(text, process)?;
-    let word = if process.busy() { "busy" } else { "free" };
-    let x = process.registers().get(0).unwrap_or(0);
-    write!(text, "{word}, x {x}")
+    let (clock, pending) = (process.clock(), process.pending());
+    let (unsettled, delivered) = (process.unsettled(), process.delivered_count());
+    let (busy, x) = (process.busy(), process.registers().get(0).unwrap_or(0));
+    write!(
+        text,
+        "clock {clock}, pending {pending}, unsettled {unsettled}, delivered {delivered}, busy {busy}, x {x}"
+    )
 }
 
 /// What the step gives, or why it is refused, and then what the process answers where it hasn't stopped.
@@ -129,11 +90,14 @@ fn push_line<F: FrontEnd>(
     process: &mut Process<F>,
     step: &Step,
 ) -> Result<(), AllocError> {
-    let made = step_of(process, step);
-    push_made(text, &made)?;
-    if has_stopped(&made) {
-        return Ok(());
-    }
+    let pushed = match step_of(process, step) {
+        Ok(out) => push_told(text, &out),
+        Err(fault @ (ProcessFault::ClockFull | ProcessFault::Failed)) => {
+            return write!(text, "{fault:?}");
+        }
+        Err(fault) => write!(text, "{fault:?}, "),
+    };
+    pushed?;
     push_state(text, process)
 }
 
