@@ -2,8 +2,7 @@
 use crate::given::tells;
 use crate::shown::{DATA, WRITE};
 use crate::values::shown;
-use reg_page::head::HEAD;
-use reg_page::tail::TAIL;
+use reg_page::{texts_after, texts_before};
 use reg_show::Showing;
 use serde_json::Value;
 use std::alloc::Global;
@@ -203,19 +202,6 @@ fn a_json_reader_reads_the_comments(rt: HostRuntime) {
     }
 }
 
-// The proof of a function goes through all texts that it names once for each text and for each step. So long texts are
-// named by functions of one step.
-
-/// The page before its data, in parts.
-fn head() -> &'static [&'static str] {
-    &HEAD
-}
-
-/// The page after its data, in parts.
-fn tail() -> &'static [&'static str] {
-    &TAIL
-}
-
 /// What stands after these texts, with which the bytes begin.
 fn behind<'b>(bytes: &'b [u8], texts: &[&str]) -> Option<&'b [u8]> {
     let mut rest = bytes;
@@ -227,12 +213,12 @@ fn behind<'b>(bytes: &'b [u8], texts: &[&str]) -> Option<&'b [u8]> {
 
 /// What stands after the head of a page.
 fn behind_head(page: &[u8]) -> &[u8] {
-    behind(page, head()).unwrap_or(&[])
+    behind(page, texts_before()).unwrap_or(&[])
 }
 
 /// Whether these are the tail of a page.
 fn is_tail(bytes: &[u8]) -> bool {
-    matches!(behind(bytes, tail()), Some([]))
+    matches!(behind(bytes, texts_after()), Some([]))
 }
 
 /// Whether the page is its head, the data without its last line feed, and its tail.
