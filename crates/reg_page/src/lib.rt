@@ -1,5 +1,6 @@
 //! The page of a run: what stands before its data, and what stands after.
 #![tactic(auto)]
+
 ghost use Rattle.std.specs.Prelude.{◌≡◌, flat_map};
 ghost use Rattle.reg_page.specs.declared.head.TheConstants.{HEAD as HEAD_TEXTS};
 ghost use Rattle.reg_page.specs.declared.tail.TheConstants.{TAIL as TAIL_TEXTS};
