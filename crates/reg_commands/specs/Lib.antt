@@ -5,3 +5,4 @@ pub mod Replays
 pub mod Plays
 pub mod Answers
 pub mod NoPoints
+pub mod Kinds

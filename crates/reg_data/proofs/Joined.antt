@@ -3,8 +3,7 @@ use Rattle.std.proofs.Common.{ℕ, zero, suc, ◌≡◌, ◌+◌, ◌<◌, ◌�
 use Rattle.std.specs.Prelude.{flat_map}
 use Rattle.reg_text.specs.declared.writing.Sink.{Sink}
 use Rattle.reg_text.specs.Writing.{Puts}
-use Rattle.std.specs.Borrow.{Bor}
-use Rattle.reg_data.specs.Json.{comma_at, joined, lines_text, list_text, one_text}
+use Rattle.reg_data.specs.Json.{comma_at, joined, lines_text, list_text}
 use Rattle.reg_data.proofs.Behind.{◌▸◌, as_text}
 
 abbrev behind_comma : List ℕ → List ℕ
@@ -51,20 +50,3 @@ line_by f x = f x ++ 10 ∷ []
 pub puts_lines : {S X : Type 0} (held : S → Option (List ℕ)) (a b c e : Sink S) (f : X → List ℕ) (xs : List X) (i : ℕ) → length xs ≤ i
     → Puts held a b (91 ∷ 10 ∷ []) → Puts held b c (joined (map (line_by f) (take i xs))) → Puts held c e (codes "]") → Puts held a e (lines_text f xs)
 puts_lines held a b c e f xs i l p q r = p ▸ (as_text (ap (λ t. joined (map (line_by f) t)) (all_taken xs i l)) q ▸ r)
-
--- one more text
-one_text_more : (texts : List (Bor (List ℕ))) (i : ℕ) (d : Bor (List ℕ)) → i < length texts → one_text (take (i + 1) texts) ≡ one_text (take i texts) ++ (get_or texts i d).now
-one_text_more [] i d l = absurd (omega (arith, l))
-one_text_more (t ∷ ts) zero d l = append-nil t.now
-one_text_more (t ∷ ts) (suc i) d l =
-    let k : suc i + 1 ≡ suc (i + 1) = omega arith in
-    ap (λ n. one_text (take n (t ∷ ts))) k
-    ∙ (ap (λ rest. t.now ++ rest) (one_text_more ts i d (omega (arith, l))) ∙ sym (append_assoc t.now (one_text (take i ts)) (get_or ts i d).now))
-
-pub puts_text : {S : Type 0} (held : S → Option (List ℕ)) (a b c : Sink S) (texts : List (Bor (List ℕ))) (i : ℕ) (d : Bor (List ℕ)) → i < length texts
-    → Puts held a b (one_text (take i texts)) → Puts held b c (get_or texts i d).now → Puts held a c (one_text (take (i + 1) texts))
-puts_text held a b c texts i d l p q = as_text (sym (one_text_more texts i d l)) (p ▸ q)
-
--- all of them are put
-pub puts_texts : {S : Type 0} (held : S → Option (List ℕ)) (a b : Sink S) (texts : List (Bor (List ℕ))) (i : ℕ) → length texts ≤ i → Puts held a b (one_text (take i texts)) → Puts held a b (one_text texts)
-puts_texts held a b texts i l p = as_text (ap one_text (all_taken texts i l)) p

@@ -1,6 +1,5 @@
 -- The parts of a JSON text.
 use Rattle.std.specs.Prelude.{ℕ, suc, zero, List, [], ◌∷◌, ◌++◌, flat_map, map, codes}
-use Rattle.std.specs.Borrow.{Bor}
 use Rattle.std.specs.Fmt.{decimal}
 
 -- the parts, with a comma before each but the first
@@ -28,7 +27,3 @@ numbers_text numbers = list_text decimal numbers
 -- a string, of a text that has neither a quote nor a backslash nor a control character
 abbrev pub quoted : List ℕ → List ℕ
 quoted text = 34 ∷ (text ++ 34 ∷ [])
-
--- texts one after another
-abbrev pub one_text : List (Bor (List ℕ)) → List ℕ
-one_text texts = flat_map (λ text. text.now) texts

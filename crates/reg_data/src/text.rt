@@ -3,7 +3,7 @@ ghost use Rattle.std.specs.Prelude.{◌++◌, MatchResult};
 ghost use Rattle.std.specs.Io.KnownBytes.{Appends};
 ghost use Rattle.reg_text.specs.Writing.{AppendsPart, Puts};
 ghost use Rattle.reg_data.specs.Data.{data_text, head_text, order_text, points_part, run_text};
-ghost use Rattle.reg_data.specs.Json.{list_text, one_text, quoted};
+ghost use Rattle.reg_data.specs.Json.{list_text, quoted};
 ghost use Rattle.std.specs.Prelude.{option_map};
 
 use crate::data::Data;
@@ -78,40 +78,31 @@ fn put_orders<A: Allocator + Copy, W: Write>(sink: &mut Sink<'_, W>, run: &Data<
     sink.put(b"}");
 }
 
-/// Puts texts one after another.
-fn put_texts<W: Write>(sink: &mut Sink<'_, W>, texts: &[&str])
-    ensures { Puts W.contents sink.old sink.new (one_text texts.now) }
-{
-    for text in texts {
-        sink.put(text.as_bytes());
-    }
-}
-
-/// Puts the data between texts.
+/// Puts the data between two texts.
 fn put_between<A: Allocator + Copy, W: Write>(
     sink: &mut Sink<'_, W>,
-    head: &[&str],
+    head: &str,
     run: &Data<A>,
-    tail: &[&str],
+    tail: &str,
 )
-    ensures { Puts W.contents sink.old sink.new (one_text head.now ++ (data_text run.now ++ one_text tail.now)) }
+    ensures { Puts W.contents sink.old sink.new (head.now ++ (data_text run.now ++ tail.now)) }
 {
-    put_texts(sink, head);
+    sink.put(head.as_bytes());
     put_head(sink, run);
     put_run(sink, run);
     put_orders(sink, run);
-    put_texts(sink, tail);
+    sink.put(tail.as_bytes());
 }
 
-/// Writes the data of a run between the texts of its head and those of its tail, all of it or, where the writer fails,
-/// a first part.
+/// Writes the data of a run between the texts of a head and of a tail, all of it or, where the writer fails, a first
+/// part.
 pub fn write_data<A: Allocator + Copy, W: Write>(
     writer: &mut W,
-    head: &[&str],
+    head: &str,
     run: &Data<A>,
-    tail: &[&str],
+    tail: &str,
 ) -> Result<(), Unwritten>
-    ensures { MatchResult result (λ _. Appends (W.contents writer.old) (W.contents writer.new) (one_text head.now ++ (data_text run.now ++ one_text tail.now))) (λ _. AppendsPart (W.contents writer.old) (W.contents writer.new) (one_text head.now ++ (data_text run.now ++ one_text tail.now))) }
+    ensures { MatchResult result (λ _. Appends (W.contents writer.old) (W.contents writer.new) (head.now ++ (data_text run.now ++ tail.now))) (λ _. AppendsPart (W.contents writer.old) (W.contents writer.new) (head.now ++ (data_text run.now ++ tail.now))) }
 {
     let mut sink = Sink::new(writer);
     put_between(&mut sink, head, run, tail);

@@ -88,7 +88,7 @@ impl RefusedLine<'_> {
 }
 
 /// What explains the fault that a command tells of a text.
-pub fn explain_fault<A: Allocator + Copy>(
+pub(crate) fn explain_fault<A: Allocator + Copy>(
     alloc: A,
     global: Global,
     command: Command,
@@ -118,7 +118,7 @@ pub fn explain_fault<A: Allocator + Copy>(
 }
 
 /// What explains the first verdict on a report that is no.
-pub fn explain_verdicts<A: Allocator + Copy>(
+pub(crate) fn explain_verdicts<A: Allocator + Copy>(
     alloc: A,
     text: &[u8],
     report: &Report<A>,

@@ -1,20 +1,25 @@
-//! Why a text is refused: the place in it that doesn't fit, and what was expected there. It promises nothing but that
-//! it is safe, so it has a crate of its own: what promises the first line of an answer, with its must-fail edits, is
-//! proved without it.
+//! What is wrong with a text, or what an accepted one is. The first line of an answer is exact. What stands after it, the
+//! place that doesn't fit and what was expected there, has no clause but that it is safe.
+//!
+//! Two things more have no clause: that a status is the same where the error stream fails, and that the table of a
+//! workload alone is kept in the global heap.
 #![tactic(auto)]
 
+mod asking;
 mod documents;
 mod entries;
 mod events;
 mod explaining;
 mod facts;
+mod first_lines;
 mod forms;
 mod lines_at;
 mod orders;
+mod refusals;
 mod report_lines;
 mod saying;
 mod scanning;
 mod toml_places;
 mod wanting;
 
-pub use explaining::{explain_fault, explain_verdicts};
+pub use asking::why_text;

@@ -1,8 +1,3 @@
-pub mod OperationsCounted
-pub mod Operations
-pub mod WhyTold
-pub mod Asked
-pub mod WhySent
 pub mod Accepted
 pub mod Written
 pub mod Ascii

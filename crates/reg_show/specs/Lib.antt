@@ -1,7 +1,3 @@
-pub mod Kinds
-pub mod FirstLines
-pub mod Tellings
-pub mod TextFaults
 pub mod Seeds
 pub mod Schedules
 pub mod Shorts

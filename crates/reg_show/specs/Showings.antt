@@ -1,5 +1,5 @@
 -- What is shown of a text, and what a fault says of it.
-use Rattle.std.specs.Prelude.{ℕ, ◌≡◌, ◌⊎◌, List, [], ◌∷◌, flat_map, None}
+use Rattle.std.specs.Prelude.{ℕ, ◌≡◌, ◌⊎◌, List, [], ◌∷◌, None}
 use Rattle.reg_commands.specs.declared.command.Command.TheVariants.{Replay}
 use Rattle.reg_commands.specs.Answers.{Blames as BlamesCommand}
 use Rattle.reg_show.specs.declared.commands.TheConstants.{MOST_DRAWN}
@@ -21,7 +21,7 @@ abbrev pub ShowsText : Showing → (List ℕ → Type 0) → List ℕ → Type 0
 ShowsText Trace Wrote text = TellsRun Wrote text
 ShowsText Draw Wrote text = DrawsRun text
 ShowsText Data Wrote text = ShowsData [] (10 ∷ []) Wrote text
-ShowsText Page Wrote text = ShowsData (flat_map (λ part. part.now) HEAD) (flat_map (λ part. part.now) TAIL) Wrote text
+ShowsText Page Wrote text = ShowsData HEAD.now TAIL.now Wrote text
 ShowsText Rest Wrote text = RestsRun Wrote text
 
 -- what a fault says of it: what the command that reads the same says by it

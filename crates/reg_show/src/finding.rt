@@ -9,11 +9,10 @@ ghost use Rattle.reg_show.specs.Finding.{BlamesFind, Finds, FindsAny, HasNone, I
 ghost use Rattle.reg_show.specs.Faults.{show_line};
 ghost use Rattle.reg_show.specs.declared.faults.ShowFault.{ShowFault as AnyFault};
 
-use crate::asking::send;
 use crate::faults::{ShowFault, write_show_fault};
 use reg_base::OpId;
 use reg_checkers::ids_of_points;
-use reg_commands::{Fault, read_input, read_report_text, write_out};
+use reg_commands::{Fault, read_input, read_report_text, write_answer, write_out};
 use reg_history::{Point, Report};
 use reg_outcomes::{MOST_STAGES, OrderKind, find_points, find_serial};
 use std::alloc::Allocator;
@@ -87,7 +86,7 @@ fn write_none<W: Write>(writer: &mut W, kind: OrderKind) -> Result<(), Fault>
         OrderKind::Serial => "no serial order\n",
         OrderKind::Points => "no point order\n",
     };
-    send(writer, text.as_bytes())
+    write_answer(writer, text.as_bytes())
 }
 
 /// Reads a report, looks for an order of its history, and writes the report with it, or that there is none. The answer

@@ -1,23 +1,19 @@
 //! Runs shown: the schedule of a play, what happened event by event, drawings, data and pages; the table of many plays,
-//! and all outcomes; an order of a report's history; and what is wrong with a text.
+//! and all outcomes; and an order of a report's history.
 //!
 //! Two things have no clause: that a command whose error stream fails has the same status, and that the table of a
 //! workload alone is kept in the global heap.
 #![tactic(auto)]
 
 mod answering;
-mod asking;
 mod commands;
 mod counting;
 mod every;
 mod faults;
 mod finding;
-mod first_lines;
-mod kinds;
 mod one_outcome;
 mod paging;
 mod players;
-mod refusals;
 mod resting;
 mod running;
 mod scheduling;
@@ -27,7 +23,6 @@ mod shortening;
 mod showing;
 mod telling;
 
-pub use asking::why_text;
 pub use counting::show_outcomes;
 pub use every::show_all_outcomes;
 pub use finding::find_order;

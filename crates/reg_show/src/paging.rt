@@ -5,7 +5,6 @@ ghost use Rattle.reg_text.specs.Writing.{AppendsPart};
 ghost use Rattle.reg_inputs.specs.Schedules.{IsPlan, Spells};
 ghost use Rattle.reg_commands.specs.Replays.{start_of, BlamesRun, PointsOf, ShowsPoints};
 ghost use Rattle.reg_data.specs.Data.{data_text};
-ghost use Rattle.reg_data.specs.Json.{one_text};
 ghost use Rattle.reg_checkers.specs.declared.entries.Point.{Point as AnyPoint};
 ghost use Rattle.reg_data.specs.Notes.{notes_of};
 ghost use Rattle.reg_show.specs.Pages.{HasData, ShowsData};
@@ -113,11 +112,11 @@ fn data_of_text<A: Allocator + Copy>(
 /// Writes the data of a run between the texts of a head and of a tail, to the last byte.
 fn send_data<A: Allocator + Copy, W: Write>(
     writer: &mut W,
-    head: &[&str],
+    head: &str,
     told: &Data<A>,
-    tail: &[&str],
+    tail: &str,
 ) -> Result<(), Fault>
-    ensures { MatchResult result (λ _. Appends (W.contents writer.old) (W.contents writer.new) (one_text head.now ++ (data_text told.now ++ one_text tail.now))) (λ f. (f ≡ Fault.Output) × AppendsPart (W.contents writer.old) (W.contents writer.new) (one_text head.now ++ (data_text told.now ++ one_text tail.now))) }
+    ensures { MatchResult result (λ _. Appends (W.contents writer.old) (W.contents writer.new) (head.now ++ (data_text told.now ++ tail.now))) (λ f. (f ≡ Fault.Output) × AppendsPart (W.contents writer.old) (W.contents writer.new) (head.now ++ (data_text told.now ++ tail.now))) }
 {
     if write_data(writer, head, told, tail).is_err() || writer.flush().is_err() {
         return Err(Fault::Output);
@@ -129,14 +128,14 @@ fn send_data<A: Allocator + Copy, W: Write>(
 pub(crate) fn write_run<A: Allocator + Copy, W: Write>(
     alloc: A,
     text: &str,
-    head: &[&str],
-    tail: &[&str],
+    head: &str,
+    tail: &str,
     writer: &mut W,
 ) -> Result<(), ShowFault>
-    ensures ok { IfOk result (λ _. ShowsData (one_text head.now) (one_text tail.now) (Appends (W.contents writer.old) (W.contents writer.new)) text.now) }
+    ensures ok { IfOk result (λ _. ShowsData head.now tail.now (Appends (W.contents writer.old) (W.contents writer.new)) text.now) }
     ensures why { IfErr result (λ f. BlamesDrawn MOST_TOLD f text.now) }
     ensures silent { IfErr result (λ f. f ≢ ShowFault.Command Fault.Output → writer.new ≡ writer.old) }
-    ensures part { IsErrOf result (ShowFault.Command Fault.Output) → ShowsData (one_text head.now) (one_text tail.now) (AppendsPart (W.contents writer.old) (W.contents writer.new)) text.now }
+    ensures part { IsErrOf result (ShowFault.Command Fault.Output) → ShowsData head.now tail.now (AppendsPart (W.contents writer.old) (W.contents writer.new)) text.now }
 {
     let schedule = schedule_to_show(alloc, text)?;
     let told = data_of_text(alloc, schedule, text)?;

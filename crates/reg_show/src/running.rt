@@ -11,14 +11,13 @@ ghost use Rattle.reg_show.specs.Showings.{Blames, BlamesText, IsPlayed, Shows, S
 use crate::answering::{TextCommand, run_command};
 use crate::commands::{draw, trace};
 use crate::faults::ShowFault;
-use crate::kinds::{Kind, kind_of};
 use crate::paging::write_run;
 use crate::players::Player;
 use crate::resting::rest;
 use crate::scheduling::FullSchedule;
 use crate::showing::Showing;
-use reg_commands::Fault;
-use reg_page::{texts_after, texts_before};
+use reg_commands::{Fault, Kind, kind_of};
+use reg_page::{HEAD, TAIL};
 use std::alloc::{AllocError, Allocator, Global};
 use std::io::{Read, Write};
 use std::str;
@@ -34,7 +33,7 @@ fn write_page<A: Allocator + Copy, W: Write>(
     ensures silent { IfErr result (λ f. f ≢ ShowFault.Command Fault.Output → writer.new ≡ writer.old) }
     ensures part { IsErrOf result (ShowFault.Command Fault.Output) → ShowsText Showing.Page (AppendsPart (W.contents writer.old) (W.contents writer.new)) text.now }
 {
-    write_run(alloc, text, texts_before(), texts_after(), writer)
+    write_run(alloc, text, HEAD, TAIL, writer)
 }
 
 /// Shows what a schedule says.
@@ -52,7 +51,7 @@ fn show<A: Allocator + Copy, W: Write>(
     match showing {
         Showing::Trace => Ok(trace(alloc, text, writer)?),
         Showing::Draw => draw(alloc, text, writer),
-        Showing::Data => write_run(alloc, text, &[], &["\n"], writer),
+        Showing::Data => write_run(alloc, text, "", "\n", writer),
         Showing::Page => write_page(alloc, text, writer),
         Showing::Rest => rest(alloc, text, writer),
     }

@@ -23,7 +23,7 @@ use Rattle.reg_verify.specs.declared.faults.VerifyFault.{VerifyFault}
 use Rattle.reg_verify.specs.declared.faults.VerifyFault.TheVariants.{Command as VerifyCommand}
 use Rattle.reg_show_cli.specs.declared.words.Asked.{Asked}
 use Rattle.reg_show_cli.specs.declared.words.Asked.TheVariants.{AllOutcomes, Find, Help, Outcome, Outcomes, Schedule, ShortSchedule, Show, Verify, Version, Why}
-use Rattle.reg_show.specs.Tellings.{Answers, AnswersAny, Halts}
+use Rattle.reg_reasons.specs.Tellings.{Answers, AnswersAny, Halts}
 
 -- Status 0: what was asked for was shown of the input, the input is accepted and that was written, or the text of the
 -- help or of the version was written. `Wrote` says how a text was written.

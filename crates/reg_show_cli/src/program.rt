@@ -14,9 +14,10 @@ use crate::asking::ask;
 use crate::words::{Asked, HELP, VERSION};
 use reg_args::{WordsFault, tell, words_of};
 use reg_commands::{Fault, write_fault};
+use reg_reasons::why_text;
 use reg_show::{
     find_order, show_all_outcomes, show_outcome, show_outcomes, show_schedule, show_short_schedule,
-    show_text, why_text,
+    show_text,
 };
 use reg_text::write_bytes;
 use reg_verify::verify_text;

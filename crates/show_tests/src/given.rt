@@ -1,8 +1,9 @@
 //! What is done with a text, and what is to be given for it.
 use reg_outcomes::OrderKind;
+use reg_reasons::why_text;
 use reg_show::{
     Player, Showing, find_order, show_all_outcomes, show_outcome, show_schedule,
-    show_short_schedule, show_text, why_text,
+    show_short_schedule, show_text,
 };
 use reg_verify::verify_text;
 use std::alloc::Global;

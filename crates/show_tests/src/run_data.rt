@@ -2,7 +2,7 @@
 use crate::given::tells;
 use crate::shown::{DATA, WRITE};
 use crate::values::shown;
-use reg_page::{texts_after, texts_before};
+use reg_page::{HEAD, TAIL};
 use reg_show::Showing;
 use serde_json::Value;
 use std::alloc::Global;
@@ -202,29 +202,13 @@ fn a_json_reader_reads_the_comments(rt: HostRuntime) {
     }
 }
 
-/// What stands after these texts, with which the bytes begin.
-fn behind<'b>(bytes: &'b [u8], texts: &[&str]) -> Option<&'b [u8]> {
-    let mut rest = bytes;
-    for text in texts {
-        rest = rest.strip_prefix(text.as_bytes())?;
-    }
-    Some(rest)
-}
-
-/// What stands after the head of a page.
-fn behind_head(page: &[u8]) -> &[u8] {
-    behind(page, texts_before()).unwrap_or(&[])
-}
-
-/// Whether these are the tail of a page.
-fn is_tail(bytes: &[u8]) -> bool {
-    matches!(behind(bytes, texts_after()), Some([]))
-}
-
 /// Whether the page is its head, the data without its last line feed, and its tail.
 fn is_page(page: &[u8], data_text: &str) -> bool {
-    let data = behind_head(page);
-    is_tail(behind(data, &[data_text.trim_end()]).unwrap_or(&[]))
+    let behind_head = page.strip_prefix(HEAD.as_bytes()).unwrap_or(&[]);
+    let behind_data = behind_head
+        .strip_prefix(data_text.trim_end().as_bytes())
+        .unwrap_or(&[]);
+    behind_data == TAIL.as_bytes()
 }
 
 /// Whether the page of a text has this data.

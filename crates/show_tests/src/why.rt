@@ -3,7 +3,7 @@
 use crate::given::{Task, answer_of, goes_out_in_part, tells};
 use crate::{why_reports, why_schedules, why_workloads};
 use refusing::{Trial, refusals};
-use reg_show::why_text;
+use reg_reasons::why_text;
 use std::alloc::{Allocator, Global};
 use std::process::Abort;
 use std::test::Fail;

@@ -1,0 +1,4 @@
+pub mod OperationsCounted
+pub mod Operations
+pub mod WhyTold
+pub mod Asked

@@ -1,0 +1,5 @@
+use Rattle.std.proofs.Common.{rules}
+use Rattle.reg_reasons.proofs.refusals.joined.Goals as goal
+
+pub returns : goal.returns
+returns g c = search rules

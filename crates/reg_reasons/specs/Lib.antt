@@ -1,0 +1,3 @@
+pub mod FirstLines
+pub mod Tellings
+pub mod TextFaults

@@ -1,5 +1,0 @@
-use Rattle.std.proofs.Common.{rules}
-use Rattle.reg_show.proofs.refusals.accepted.Goals as goal
-
-pub returns : goal.returns
-returns g c = search rules
