@@ -45,17 +45,6 @@ fn finds(
     }
 }
 
-#[test]
-fn a_stale_read_comes_first(rt: HostRuntime) {
-    assert!(rt; finds(rt.alloc(), STALE_READ, Some(&[id!(1, 0), id!(0, 0)]), None));
-}
-
-/// The write stands before the read in each point order, and the read's answer says that it doesn't.
-#[test]
-fn a_stale_read_has_no_points(rt: HostRuntime) {
-    assert!(rt; finds(rt.alloc(), STALE_READ, Some(&[id!(1, 0), id!(0, 0)]), None));
-}
-
 const OVERLAPPING: &[Entry] = &[
     called!(0, 0, 0, WRITE_FIVE),
     called!(1, 1, 0, READ),
@@ -63,32 +52,12 @@ const OVERLAPPING: &[Entry] = &[
     answered!(3, 0, 0, Answer::Done),
 ];
 
-/// The write is called before the read is answered, so the read may come first. Its point is its call, and the write's
-/// is that event too, since no point falls.
-#[test]
-fn an_overlapping_pair(rt: HostRuntime) {
-    let (order, points) = ([id!(1, 0), id!(0, 0)], [point!(1, 1), point!(0, 1)]);
-    assert!(rt; finds(rt.alloc(), OVERLAPPING, Some(&order), Some(&points)));
-}
-
-#[test]
-fn no_operations(rt: HostRuntime) {
-    assert!(rt; finds(rt.alloc(), &[], Some(&[]), Some(&[])));
-}
-
 const UNFINISHED: &[Entry] = &[
     called!(0, 0, 0, WRITE_FIVE),
     called!(1, 1, 0, READ),
     answered!(2, 1, 0, Answer::Value(5)),
     called!(3, 2, 0, READ),
 ];
-
-/// An unfinished write is placed where its value was read, and an unfinished read nowhere.
-#[test]
-fn unfinished_operations(rt: HostRuntime) {
-    let (order, points) = ([id!(0, 0), id!(1, 0)], [point!(0, 0), point!(1, 1)]);
-    assert!(rt; finds(rt.alloc(), UNFINISHED, Some(&order), Some(&points)));
-}
 
 const OPPOSITE: &[Entry] = &[
     called!(0, 0, 0, write_of!(1)),
@@ -105,10 +74,40 @@ const OPPOSITE: &[Entry] = &[
     answered!(11, 3, 1, Answer::Value(1)),
 ];
 
-/// Two processes read two writes in opposite orders.
+/// A history, its serial order and its points, where it has any.
+type Row = (
+    &'static [Entry],
+    Option<&'static [OpId]>,
+    Option<&'static [Point]>,
+);
+
+const FOUND: &[Row] = &[
+    // The write stands before the read in each point order, and the read's answer says that it doesn't.
+    (STALE_READ, Some(&[id!(1, 0), id!(0, 0)]), None),
+    // The write is called before the read is answered, so the read may come first. Its point is its call, and the
+    // write's is that event too, since no point falls.
+    (
+        OVERLAPPING,
+        Some(&[id!(1, 0), id!(0, 0)]),
+        Some(&[point!(1, 1), point!(0, 1)]),
+    ),
+    // No operation.
+    (&[], Some(&[]), Some(&[])),
+    // An unfinished write is placed where its value was read, and an unfinished read nowhere.
+    (
+        UNFINISHED,
+        Some(&[id!(0, 0), id!(1, 0)]),
+        Some(&[point!(0, 0), point!(1, 1)]),
+    ),
+    // Two processes read two writes in opposite orders.
+    (OPPOSITE, None, None),
+];
+
 #[test]
-fn opposite_orders(rt: HostRuntime) {
-    assert!(rt; finds(rt.alloc(), OPPOSITE, None, None));
+fn orders_worked_by_hand(rt: HostRuntime) {
+    for (entries, order, points) in FOUND {
+        assert!(rt; finds(rt.alloc(), entries, *order, *points));
+    }
 }
 
 const TWO_WRITES: &[Entry] = &[
