@@ -85,6 +85,10 @@ module _ {K : Type 0} (read : K → List ToldValue) where
   new k [] = inl refl
   new k (x ∷ xs) = new_at (by k x) k x xs refl (new k xs)
 
+  -- one key was put where there was none
+  pub put_first : (k : K) (told : List ToldValue) (old now : List K) → read k ≡ told → old ≡ [] → now ≡ insert_key by old k → map read now ≡ told ∷ []
+  put_first k told old now same none is = ap (map read) (is ∙ ap (λ ks. insert_key by ks k) none) ∙ ap (λ t. t ∷ []) same
+
   -- one key was put
   pub grows_put : (k : K) (told : List ToldValue) (old now : List K) → read k ≡ told → now ≡ insert_key by old k → Grows (λ y. y ≡ told) (map read old) (map read now)
   grows_put k told old now same is = subst (λ l. Grows (λ y. y ≡ told) (map read old) (map read l)) (sym is) (record {

@@ -71,13 +71,7 @@ fn stage_placed<A: Allocator + Copy>(
     requires number { slice_index stage.now.next.items process < u32.MAX }
     ensures { IfOk result (λ s. stage_of s ≡ placed_after process op (stage_of stage.now)) }
 {
-    let mut next = Vec::from_slice(alloc, stage.next.as_slice())?;
-    let mut memory = Vec::from_slice(alloc, stage.memory.as_slice())?;
-    let number = next[usize::from(process)];
-    next[usize::from(process)] = number + 1;
-    op.apply_to(&mut memory);
-    let told = Vec::new(alloc);
-    Ok(Stage { next, memory, told })
+    stage.after_and_told(alloc, process, op, Vec::new(alloc))
 }
 
 /// The next operation of a process, None where it has none or that may not come next.

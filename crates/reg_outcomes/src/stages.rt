@@ -1,6 +1,6 @@
 //! Where interleaved scripts stand.
-ghost use Rattle.std.specs.Prelude.{◌≡◌, ◌<◌, ◌≤◌, length, slice_get, slice_index, map, IfOk, OnOk, insert};
-ghost use Rattle.reg_base.specs.Memory.{register_of};
+ghost use Rattle.std.specs.Prelude.{◌≡◌, ◌+◌, ◌<◌, ◌≤◌, length, slice_get, slice_index, slice_set, map, IfOk, OnOk, insert};
+ghost use Rattle.reg_base.specs.Memory.{after, register_of};
 ghost use Rattle.reg_outcomes.specs.declared.told.ToldValue.{ToldValue as AnyValue};
 ghost use Rattle.reg_outcomes.specs.Interleavings.{first_stage, script_of, stage_after, told_after, told_behind};
 ghost use Rattle.reg_outcomes.specs.Layers.{stage_of};
@@ -81,6 +81,28 @@ impl<A: Allocator + Copy> Stage<A> {
         scripts[usize::from(process)].get(number as usize).copied()
     }
 
+    /// The stage after a process did this operation, its next one, where this is told.
+    pub(crate) fn after_and_told(
+        &self,
+        alloc: A,
+        process: u8,
+        op: Op,
+        told: Vec<ToldValue, A>,
+    ) -> Result<Stage<A>, AllocError>
+        requires process { process < length self.now.next.items }
+        requires register { register_of op < length self.now.memory.items }
+        requires number { slice_index self.now.next.items process < u32.MAX }
+        ensures next { IfOk result (λ s. s.next.items ≡ slice_set self.now.next.items process (slice_index self.now.next.items process + 1)) }
+        ensures memory { IfOk result (λ s. s.memory.items ≡ after op self.now.memory.items) }
+        ensures told { IfOk result (λ s. s.told.items ≡ told.items) }
+    {
+        let mut next = Vec::from_slice(alloc, self.next.as_slice())?;
+        let mut memory = Vec::from_slice(alloc, self.memory.as_slice())?;
+        next[usize::from(process)] += 1;
+        op.apply_to(&mut memory);
+        Ok(Stage { next, memory, told })
+    }
+
     /// The stage after a process did this operation, its next one.
     pub(crate) fn after(&self, alloc: A, process: u8, op: Op) -> Result<Stage<A>, AllocError>
         requires process { process < length self.now.next.items }
@@ -88,13 +110,10 @@ impl<A: Allocator + Copy> Stage<A> {
         requires number { slice_index self.now.next.items process < u32.MAX }
         ensures { IfOk result (λ s. stage_of s ≡ stage_after process op (stage_of self.now)) }
     {
-        let mut next = Vec::from_slice(alloc, self.next.as_slice())?;
-        let mut memory = Vec::from_slice(alloc, self.memory.as_slice())?;
+        let number = self.next[usize::from(process)];
+        let answer = op.answer_on(&self.memory);
         let mut told = Vec::from_slice(alloc, self.told.as_slice())?;
-        let number = next[usize::from(process)];
-        next[usize::from(process)] = number + 1;
-        let answer = op.apply_to(&mut memory);
         tell(&mut told, OpId { process, number }, answer)?;
-        Ok(Stage { next, memory, told })
+        self.after_and_told(alloc, process, op, told)
     }
 }

@@ -4,7 +4,7 @@ ghost use Rattle.reg_base.specs.declared.limits.TheConstants.{MOST_EVENTS, MOST_
 ghost use Rattle.reg_process.specs.declared.events.Event.TheVariants.{Call};
 ghost use Rattle.reg_runs.specs.Rest.{Settles, most_to_rest};
 ghost use Rattle.reg_runs.specs.RestParts.{IsGoingOn};
-ghost use Rattle.reg_world.specs.Worlds.{Accepts, refusal, run_in};
+ghost use Rattle.reg_world.specs.Worlds.{Accepts, new_world, refusal, run_in};
 ghost use Rattle.reg_outcomes.specs.Finishing.{HasRoom};
 ghost use Rattle.reg_outcomes.specs.Interleavings.{ArePlayable, IsInterleaving};
 ghost use Rattle.reg_outcomes.specs.Showing.{IsRunOf, IsTurnsFault};
@@ -107,6 +107,32 @@ fn take_turn<F: FrontEnd, A: Allocator + Copy, W: WireStore<A>>(
     come_to_rest(world)
 }
 
+/// Takes the turns of an outcome, one after another, in a world in which nothing happened yet.
+fn take_turns<F: FrontEnd, A: Allocator + Copy, W: WireStore<A>>(
+    alloc: A,
+    registers: u16,
+    scripts: &[Vec<Op, A>],
+    outcome: &Outcome<A>,
+    world: &mut World<F, A, W>,
+) -> Result<(), TurnsFault>
+    requires new { world.old ≡ new_world (record { processes = length scripts.now; registers = registers }) }
+    requires playable { ArePlayable (map (λ v. v.items) scripts.now) registers }
+    requires outcome { IsInterleaving (map (λ v. v.items) scripts.now) registers outcome.now }
+    requires room { HasRoom (map (λ v. v.items) scripts.now) }
+    ensures { MatchResult result (λ _. IsRunOf F.start (map (λ v. v.items) scripts.now) registers outcome.now world.new) (λ fault. fault ≡ TurnsFault.OutOfMemory) }
+{
+    let mut stage = Stage::first(alloc, scripts.len(), registers)?;
+    for turn in 0..outcome.turns.len() {
+        let process = outcome.turns[turn];
+        let Some(op) = stage.next_op(scripts, process) else {
+            unreachable!()
+        };
+        take_turn(world, process, op)?;
+        stage = stage.after(alloc, process, op)?;
+    }
+    Ok(())
+}
+
 /// A run that has an outcome of scripts, one for each process: the operations are called in the order of the outcome's
 /// turns, and any lawful front end answers them what the outcome tells. After each turn `settle` brings the world to
 /// rest, which no clause says.
@@ -134,14 +160,6 @@ pub fn run_outcome<F: FrontEnd, A: Allocator + Copy, W: WireStore<A>>(
         return Err(TurnsFault::TooManyEvents);
     }
     let mut world = World::new(alloc, shape)?;
-    let mut stage = Stage::first(alloc, scripts.len(), registers)?;
-    for turn in 0..outcome.turns.len() {
-        let process = outcome.turns[turn];
-        let Some(op) = stage.next_op(scripts, process) else {
-            unreachable!()
-        };
-        take_turn(&mut world, process, op)?;
-        stage = stage.after(alloc, process, op)?;
-    }
+    take_turns(alloc, registers, scripts, outcome, &mut world)?;
     Ok(world)
 }

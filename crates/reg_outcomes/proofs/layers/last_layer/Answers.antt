@@ -3,7 +3,7 @@ use Rattle.std.proofs.Common.{◌≡◌, ◌+◌, ◌<◌, ℕ, List, [], ◌∷
 use Rattle.std.proofs.lemmas.List.{length-map}
 use Rattle.std.proofs.lemmas.Result.{err_from_is_err_and}
 use Rattle.reg_outcomes.specs.Interleavings.{Stage, first_stage}
-use Rattle.reg_outcomes.specs.Layers.{IsLayer, entries_of, reached, stage_cmp, stage_of}
+use Rattle.reg_outcomes.specs.Layers.{IsLayer, entries_of, operation_count, reached, stage_cmp, stage_of}
 use Rattle.reg_outcomes.proofs.Comparing.{stages_exact, stages_total}
 use Rattle.reg_outcomes.proofs.Entries.{apart}
 use Rattle.reg_outcomes.proofs.Layering.{few_stages, first_is, is_fault, narrow_at_first, narrow_at_next, next_is, none_wider}
@@ -26,6 +26,9 @@ loop-turn-init g c =
       counted = first_counted scripts c.args.registers;
       few = omega (arith, some);
     }
+
+pub next_layer-requires-clause-few : goal.next_layer-requires-clause-few
+next_layer-requires-clause-few g c = let same = length-map c.args.scripts.now (λ v. v.items) in let few = c.requires.playable.few in omega (arith, same, few)
 
 pub next_layer-requires-clause-ready : goal.next_layer-requires-clause-ready
 next_layer-requires-clause-ready g c = λ f h. ready (map (λ v. v.items) c.args.scripts.now) c.args.registers f.1 f.0 c.requires.playable (c.loop-turn.invariant.is.each f h).0
@@ -64,6 +67,13 @@ loop-turn-preserved g c =
           (apart stage_of (λ v. v.items) stage_cmp stages_total stages_exact c.in_ok-layer-2.layer.entries c.len.ensures.ordered) (omega (arith, same, count));
       few = omega (arith, narrow, few, count);
     }
+
+pub returns-clause-layer : goal.returns-clause-layer
+returns-clause-layer g c =
+    let scripts = map (λ v. v.items) c.args.scripts.now in
+    let count = c.count_operations-turn-end.ensures in
+    let all : c.loop-turn._turn ≡ operation_count scripts = omega (arith, count) in
+    subst (λ (n : ℕ). IsLayer scripts c.args.registers n (entries_of c.loop-turn.layer)) all c.loop-turn.invariant.is
 
 pub returns-clause-stages : goal.returns-clause-stages
 returns-clause-stages g c = all_counted (map (λ v. v.items) c.args.scripts.now) c.args.registers c.loop-turn._turn c.loop-turn.stages (let count = c.count_operations-turn-end.ensures in omega (arith, count)) c.loop-turn.invariant.counted
