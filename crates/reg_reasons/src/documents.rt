@@ -1,10 +1,10 @@
 //! Why a text is no workload.
 use crate::forms::{FRONTS, OP};
-use crate::lines_at::{kept_at, line_of_place};
+use crate::lines_at::{bytes_of, kept_at, line_of_place};
 use crate::saying::Notes;
 use crate::scanning::{after, misfit_of, place_of, token_of};
 use crate::toml_places::{Item, item_place, key_place, open_array};
-use crate::wanting::{NAME_FORM, NAME_TAKEN, Range};
+use crate::wanting::{NAME_FORM, NAME_TAKEN, Range, Rules};
 use reg_base::is_name;
 use reg_base::limits::{
     LAST_SEED, MOST_EVENTS, MOST_ODDS, MOST_OPERATIONS, MOST_PROCESSES, MOST_REGISTERS,
@@ -71,10 +71,12 @@ fn put_error<A: Allocator + Copy>(
     text: &[u8],
     error: &Error,
 ) -> Result<(), AllocError> {
-    let place = error.span().ok_or(AllocError)?.start;
-    notes.put_text_place(text, place);
+    let Some(span) = error.span() else {
+        return Err(AllocError);
+    };
+    notes.put_text_place(text, span.start);
     notes.put(&[error.message(), "\n"]);
-    if let Some(opened) = open_array(text, place) {
+    if let Some(opened) = open_array(text, span.start) {
         let (line, _) = line_of_place(text, opened);
         notes.put_with("an array of line {} is still open here\n", &[line.number]);
     }
@@ -83,7 +85,7 @@ fn put_error<A: Allocator + Copy>(
 
 /// Puts what a text is, where its first word begins a line of a schedule or of a report, or is written like one.
 fn put_hint<A: Allocator + Copy>(notes: &mut Notes<'_, A>, text: &[u8]) {
-    let line = kept_at(text, 0).map_or(b"".as_slice(), |line| line.bytes);
+    let line = bytes_of(kept_at(text, 0));
     let word = token_of(line);
     let is_key = line.contains(&b'=');
     if !is_key && notes.near(word, OF_A_SCHEDULE).is_some() {
@@ -93,30 +95,61 @@ fn put_hint<A: Allocator + Copy>(notes: &mut Notes<'_, A>, text: &[u8]) {
     }
 }
 
+/// The items of an array, and none of what is no array or not there.
+fn items_of(value: Option<&Value>) -> &[Value] {
+    match value {
+        Some(Value::Array(values)) => values.as_slice(),
+        _ => &[],
+    }
+}
+
+/// The bytes of a text, and none of what is no text.
+fn text_of(value: &Value) -> &[u8] {
+    value.as_str().unwrap_or("").as_bytes()
+}
+
+/// Whether a name is one of these texts.
+fn is_there(values: &[Value], name: &str) -> bool {
+    for value in values {
+        if value.as_str() == Some(name) {
+            return true;
+        }
+    }
+    false
+}
+
 fn put_kind<A: Allocator + Copy>(notes: &mut Notes<'_, A>, value: &Value) {
     notes.put(&[" is of the kind ", value.type_str()]);
 }
 
-/// Puts which item of an array is no text.
-fn put_odd_item<A: Allocator + Copy>(notes: &mut Notes<'_, A>, values: &[Value]) {
+/// The first item that is no text, and its place.
+fn odd_item(values: &[Value]) -> Option<(usize, &Value)> {
     for (place, value) in values.iter().enumerate() {
         if !value.is_str() {
-            notes.put_with(": item {}", &[place as u64]);
-            return put_kind(notes, value);
+            return Some((place, value));
         }
+    }
+    None
+}
+
+/// Puts which register is no text.
+fn put_odd_item<A: Allocator + Copy>(notes: &mut Notes<'_, A>, values: &[Value]) {
+    if let Some((item, value)) = odd_item(values) {
+        notes.put_with(": item {}", &[item as u64]);
+        put_kind(notes, value);
     }
 }
 
 /// Puts which script is no array of texts.
 fn put_odd_script<A: Allocator + Copy>(notes: &mut Notes<'_, A>, values: &[Value]) {
-    for (place, value) in values.iter().enumerate() {
-        let Some(items) = value.as_array() else {
-            notes.put_with(": script {}", &[place as u64]);
+    for (script, value) in values.iter().enumerate() {
+        let Value::Array(items) = value else {
+            notes.put_with(": script {}", &[script as u64]);
             return put_kind(notes, value);
         };
-        if items.iter().any(|item| !item.is_str()) {
-            notes.put_with(": of script {}", &[place as u64]);
-            return put_odd_item(notes, items.as_slice());
+        if let Some((item, value)) = odd_item(items.as_slice()) {
+            notes.put_with(": of script {}: item {}", &[script as u64, item as u64]);
+            return put_kind(notes, value);
         }
     }
 }
@@ -198,9 +231,9 @@ impl<'a> Document<'a> {
         };
         self.put_place(notes, None, key);
         notes.put(&[key.name(), " is ", kind_of_key(key)]);
-        match (key, value.as_array()) {
-            (Key::Registers, Some(values)) => put_odd_item(notes, values.as_slice()),
-            (Key::Scripts, Some(values)) => put_odd_script(notes, values.as_slice()),
+        match (key, value) {
+            (Key::Registers, Value::Array(values)) => put_odd_item(notes, values.as_slice()),
+            (Key::Scripts, Value::Array(values)) => put_odd_script(notes, values.as_slice()),
             _ => {
                 notes.put(&[", and this"]);
                 put_kind(notes, value);
@@ -213,8 +246,7 @@ impl<'a> Document<'a> {
     fn explain_names<A: Allocator + Copy>(&self, notes: &mut Notes<'_, A>, values: &[Value]) {
         for (outer, value) in values.iter().enumerate() {
             let name = value.as_str().unwrap_or("");
-            let earlier = values.get(..outer).unwrap_or(&[]);
-            let is_double = earlier.iter().any(|other| other.as_str() == Some(name));
+            let is_double = is_there(values.get(..outer).unwrap_or(&[]), name);
             if is_double || !is_name(name) {
                 let place = self.item_place(Key::Registers, Item { outer, inner: None });
                 self.put_place(notes, place, Key::Registers);
@@ -224,49 +256,58 @@ impl<'a> Document<'a> {
         }
     }
 
-    fn explain_range<A: Allocator + Copy>(&self, notes: &mut Notes<'_, A>, key: Key) {
-        let Some(value) = self.table.get(key.name()) else {
-            return;
-        };
-        let values = match value.as_array() {
-            Some(values) => values.as_slice(),
-            None => &[],
-        };
+    /// Puts how many items a key's array has.
+    fn explain_count<A: Allocator + Copy>(&self, notes: &mut Notes<'_, A>, key: Key) {
+        let values = items_of(self.table.get(key.name()));
         let count = values.len() as u64;
         if key == Key::Registers && count > 0 && count <= MOST_REGISTERS as u64 {
             return self.explain_names(notes, values);
         }
         self.put_place(notes, None, key);
-        match key {
-            Key::Front => {
-                notes.put_wanted_words(FRONTS, value.as_str().unwrap_or("").as_bytes());
-            }
-            Key::Registers | Key::Scripts => put_count(notes, key, count),
-            _ => {
-                let number = value.as_integer().unwrap_or(0);
-                let words = if number < 0 { "-{}" } else { "{}" };
-                notes.put_with(words, &[number.unsigned_abs()]);
-                notes.put_out_of_range(range_of(key));
-            }
+        put_count(notes, key, count);
+        notes.put(&["\n"]);
+    }
+
+    /// Puts why a key's value isn't one of those that it may be.
+    fn explain_value<A: Allocator + Copy>(
+        &self,
+        notes: &mut Notes<'_, A>,
+        key: Key,
+        value: &Value,
+    ) {
+        self.put_place(notes, None, key);
+        if key == Key::Front {
+            notes.put_wanted_words(FRONTS, text_of(value));
+        } else {
+            let number = value.as_integer().unwrap_or(0);
+            let words = if number < 0 { "-{}" } else { "{}" };
+            notes.put_with(words, &[number.unsigned_abs()]);
+            notes.put_out_of_range(range_of(key));
         }
         notes.put(&["\n"]);
     }
 
+    fn explain_range<A: Allocator + Copy>(&self, notes: &mut Notes<'_, A>, key: Key) {
+        match (key, self.table.get(key.name())) {
+            (Key::Registers | Key::Scripts, _) => self.explain_count(notes, key),
+            (_, Some(value)) => self.explain_value(notes, key, value),
+            (_, None) => {}
+        }
+    }
+
     /// The names of the registers.
     fn names<A: Allocator + Copy>(&self, alloc: A) -> Result<Vec<&'a [u8], A>, AllocError> {
-        let mut names = Vec::new(alloc);
-        if let Some(values) = self.table.get("registers").and_then(|v| v.as_array()) {
-            for value in values {
-                names.push(value.as_str().unwrap_or("").as_bytes())?;
-            }
-        }
-        Ok(names)
+        let values = items_of(self.table.get("registers"));
+        values.iter().map(|value| text_of(value)).collect(alloc)
     }
 
     /// The text of an operation.
-    fn op(&self, process: usize, place: usize) -> Option<&'a str> {
-        let script = self.table.get("scripts")?.get(process)?;
-        script.get(place)?.as_str()
+    fn op(&self, process: usize, place: usize) -> &'a [u8] {
+        let script = items_of(self.table.get("scripts")).get(process);
+        match items_of(script).get(place) {
+            Some(value) => text_of(value),
+            None => b"",
+        }
     }
 
     /// Puts the place at which an operation doesn't fit: `at` bytes after its first one.
@@ -277,16 +318,35 @@ impl<'a> Document<'a> {
         op: &[u8],
         at: usize,
     ) {
-        let place = self.item_place(Key::Scripts, item).map(|place| {
-            let first = place.saturating_add(1);
-            let is_there = after(self.text, first).starts_with(op);
-            if is_there {
-                first.saturating_add(at)
-            } else {
-                place
+        let mut place = self.item_place(Key::Scripts, item);
+        if let Some(quote) = place {
+            let first = quote.saturating_add(1);
+            if after(self.text, first).starts_with(op) {
+                place = Some(first.saturating_add(at));
             }
-        });
+        }
         self.put_place(notes, place, Key::Scripts);
+    }
+
+    /// Puts where an operation doesn't fit, and why: its form goes before its number and its register.
+    fn put_op_misfit<'x, A: Allocator + Copy>(
+        &self,
+        notes: &mut Notes<'_, A>,
+        item: Item,
+        op: &'x [u8],
+        names: &'x [&'x [u8]],
+    ) {
+        for is_strict in [false, true] {
+            let rules = Rules {
+                names,
+                is_older: false,
+                is_strict,
+            };
+            if let Some(misfit) = misfit_of(op, OP, rules) {
+                self.put_op_place(notes, item, op, misfit.at);
+                return notes.put_misfit(names, misfit);
+            }
+        }
     }
 
     fn explain_script<A: Allocator + Copy>(
@@ -296,17 +356,12 @@ impl<'a> Document<'a> {
         place: usize,
     ) -> Result<(), AllocError> {
         let names = self.names(notes.alloc)?;
-        let op = self.op(process, place).unwrap_or("").as_bytes();
+        let op = self.op(process, place);
         let item = Item {
             outer: process,
             inner: Some(place),
         };
-        let by_form = misfit_of(op, OP, names.as_slice(), false);
-        let misfit = by_form.or_else(|| misfit_of(op, OP, names.as_slice(), true));
-        if let Some(misfit) = misfit {
-            self.put_op_place(notes, item, op, misfit.at);
-            notes.put_misfit(names.as_slice(), misfit);
-        }
+        self.put_op_misfit(notes, item, op, names.as_slice());
         Ok(())
     }
 

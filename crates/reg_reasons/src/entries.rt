@@ -21,13 +21,16 @@ fn columns_of(line: &[u8]) -> Option<Columns> {
     let (at, later) = right_field(line, 8, b"  p")?;
     let (process, others) = left_field(later, 3, b"  #")?;
     let (number, tail) = left_field(others, 6, b"  ")?;
-    let op = skip(tail, b"call    ");
+    let (is_call, is_done) = match skip(tail, b"call    ") {
+        Some(op) => (true, op.starts_with(b"write ")),
+        None => (false, tail.ends_with(b"done")),
+    };
     Some(Columns {
         at,
         process,
         number,
-        is_call: op.is_some(),
-        is_done: op.map_or(tail.ends_with(b"done"), |op| op.starts_with(b"write ")),
+        is_call,
+        is_done,
     })
 }
 
@@ -53,7 +56,9 @@ fn stands_before(text: &[u8], number: u64, process: u64) -> Before {
             Part::Processes => before.processes = number_on(line),
             Part::Entry => {
                 before.last = columns_of(line);
-                if before.last.is_some_and(|last| last.process == process) {
+                if let Some(last) = before.last
+                    && last.process == process
+                {
                     before.own = before.last;
                 }
             }
@@ -88,7 +93,10 @@ fn why_no_call(entry: Columns, before: Before) -> (&'static str, [u64; 3]) {
 /// Why an answer may not come here: a text, and the numbers in it.
 fn why_no_answer(entry: Columns, before: Before) -> (&'static str, [u64; 3]) {
     let process = entry.process;
-    let last = before.last.map_or(0, |last| last.at);
+    let last = match before.last {
+        Some(last) => last.at,
+        None => 0,
+    };
     match before.own {
         Some(own) if own.is_call && own.number != entry.number => {
             ("process {} runs p{} #{}\n", [process, process, own.number])

@@ -1,12 +1,12 @@
 //! Why an event is refused: what the world is like just before it.
-use crate::forms::HEAD;
-use crate::lines_at::kept_at;
+use crate::forms::HEAD_LINES;
+use crate::lines_at::{Line, kept_at};
 use crate::saying::Notes;
 use reg_base::Shape;
 use reg_base::limits::{MOST_EVENTS, MOST_OPERATIONS};
 use reg_front::{Front, FrontEnd, Linear, LocalRead, LocalWrite};
 use reg_history::Entry;
-use reg_inputs::parse_schedule;
+use reg_inputs::{Schedule, parse_schedule};
 use reg_world::{Event, PackedWires, World, WorldFault};
 use std::alloc::{AllocError, Allocator};
 
@@ -43,14 +43,14 @@ fn put_frames<A: Allocator + Copy>(notes: &mut Notes<'_, A>, from: u8, to: u8, c
 
 /// Puts the last call of a process, which is not answered.
 fn put_running<A: Allocator + Copy>(notes: &mut Notes<'_, A>, entries: &[Entry], process: u8) {
-    let call = entries.iter().rev().find_map(|entry| match *entry {
-        Entry::Called { at, id, .. } if id.process == process => Some((id.number, at)),
-        _ => None,
-    });
-    if let Some((number, at)) = call {
-        let process = process as u64;
-        let text = "process {} runs p{} #{}, called at event {}\n";
-        notes.put_with(text, &[process, process, number as u64, at as u64]);
+    for entry in entries.iter().rev() {
+        if let Entry::Called { at, id, .. } = *entry
+            && id.process == process
+        {
+            let process = process as u64;
+            let text = "process {} runs p{} #{}, called at event {}\n";
+            return notes.put_with(text, &[process, process, id.number as u64, at as u64]);
+        }
     }
 }
 
@@ -75,29 +75,26 @@ impl RefusedEvent<'_> {
         }
     }
 
-    /// Puts why a world refuses it.
-    fn put_refusal<F: FrontEnd, A: Allocator + Copy>(
+    /// Puts why a world refuses it, whose history has these entries, and that has this many frames on its wire.
+    fn put_refusal<A: Allocator + Copy>(
         &self,
         notes: &mut Notes<'_, A>,
-        world: &World<F, A, PackedWires<A>>,
+        frames: Option<usize>,
+        entries: &[Entry],
     ) {
         let (_, process) = self.word();
-        match (self.event, self.fault) {
-            (_, WorldFault::NoProcess) => {
-                put_processes(notes, process, self.shape.processes());
-            }
-            (Event::Take { from, to, .. }, WorldFault::NoFrame) => {
-                match world.frame_count(from, to) {
-                    Some(count) => put_frames(notes, from, to, count),
-                    None => notes.put(&["no wire goes from a process to itself\n"]),
-                }
-            }
-            (_, WorldFault::Busy) => put_running(notes, world.history().entries(), process),
-            (_, WorldFault::TooManyOperations) => {
+        match (self.fault, self.event) {
+            (WorldFault::NoProcess, _) => put_processes(notes, process, self.shape.processes()),
+            (WorldFault::NoFrame, Event::Take { from, to, .. }) => match frames {
+                Some(count) => put_frames(notes, from, to, count),
+                None => notes.put(&["no wire goes from a process to itself\n"]),
+            },
+            (WorldFault::Busy, _) => put_running(notes, entries, process),
+            (WorldFault::TooManyOperations, _) => {
                 let text = "a process calls at most {} operations\n";
                 notes.put_with(text, &[MOST_OPERATIONS as u64]);
             }
-            (_, WorldFault::TooManyEvents) => {
+            (WorldFault::TooManyEvents, _) => {
                 notes.put_with("a run has at most {} events\n", &[MOST_EVENTS as u64]);
             }
             _ => {}
@@ -111,7 +108,11 @@ impl RefusedEvent<'_> {
     ) -> Result<(), AllocError> {
         match World::<F, A, PackedWires<A>>::run(notes.alloc, self.shape, self.before) {
             Ok(world) => {
-                self.put_refusal(notes, &world);
+                let frames = match self.event {
+                    Event::Take { from, to, .. } => world.frame_count(from, to),
+                    _ => None,
+                };
+                self.put_refusal(notes, frames, world.history().entries());
                 Ok(())
             }
             Err(_) => Err(AllocError),
@@ -119,22 +120,19 @@ impl RefusedEvent<'_> {
     }
 }
 
-/// Puts the line of a refused event and why it is refused.
-pub fn explain_event<A: Allocator + Copy>(
+/// Puts the line of the event at a place of a schedule, and why it is refused.
+fn explain_in<A: Allocator + Copy>(
     notes: &mut Notes<'_, A>,
-    text: &str,
+    schedule: &Schedule<A>,
+    line: Line<'_>,
     at: usize,
     fault: WorldFault,
 ) -> Result<(), AllocError> {
-    let schedule = parse_schedule(notes.alloc, text).map_err(|_| AllocError)?;
-    let shape = schedule.shape;
-    let line = kept_at(text.as_bytes(), at.saturating_add(HEAD.len()));
-    let events = schedule.events.as_slice().split_at_checked(at);
-    let (Some(line), Some((before, [event, ..]))) = (line, events) else {
+    let Some((before, [event, ..])) = schedule.events.as_slice().split_at_checked(at) else {
         return Ok(());
     };
     let refused = RefusedEvent {
-        shape,
+        shape: schedule.shape,
         before,
         event: *event,
         fault,
@@ -145,5 +143,21 @@ pub fn explain_event<A: Allocator + Copy>(
         Front::Linear => refused.explain::<Linear, A>(notes),
         Front::LocalRead => refused.explain::<LocalRead, A>(notes),
         Front::LocalWrite => refused.explain::<LocalWrite, A>(notes),
+    }
+}
+
+/// Puts the line of a refused event and why it is refused.
+pub fn explain_event<A: Allocator + Copy>(
+    notes: &mut Notes<'_, A>,
+    text: &str,
+    at: usize,
+    fault: WorldFault,
+) -> Result<(), AllocError> {
+    let Some(line) = kept_at(text.as_bytes(), at.saturating_add(HEAD_LINES)) else {
+        return Ok(());
+    };
+    match parse_schedule(notes.alloc, text) {
+        Ok(schedule) => explain_in(notes, &schedule, line, at, fault),
+        Err(_) => Err(AllocError),
     }
 }

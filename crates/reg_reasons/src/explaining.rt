@@ -4,16 +4,19 @@ use crate::documents::explain_workload;
 use crate::entries::explain_entry;
 use crate::events::explain_event;
 use crate::forms::{EVENT_LINE, HEAD};
-use crate::lines_at::{Line, kept_at, kept_before, line_at, names_on};
-use crate::orders::RefusedList;
-use crate::report_lines::{Part, walk_to};
+use crate::lines_at::{Line, bytes_of, kept_at, kept_before, line_at, parts_between};
+use crate::orders::explain_list;
+use crate::report_lines::{Part, Walk, number_on, walk_to};
 use crate::saying::Notes;
 use crate::scanning::misfit_of;
-use crate::wanting::Form;
+use crate::wanting::{Form, Rules};
 use reg_base::limits::MOST_EVENTS;
 use reg_commands::{Command, Fault, Verdict, Verdicts};
 use reg_history::{ReadWhy, Report};
 use std::alloc::{AllocError, Allocator, Global};
+
+/// The line of a report that tells its registers, or how many they are.
+const LINE_OF_REGISTERS: u64 = 4;
 
 const TOO_EARLY: &str = "the text ends before a line that it needs: ";
 
@@ -32,14 +35,44 @@ impl RefusedLine<'_> {
         notes: &mut Notes<'_, A>,
         line: Line<'_>,
         form: Form,
-        names: &[&[u8]],
+        rules: Rules<'_>,
     ) -> bool {
-        let misfit = misfit_of(line.bytes, form, names, self.why != ReadWhy::Form);
-        notes.put_place(line, misfit.map_or(0, |misfit| misfit.at));
-        if let Some(misfit) = misfit {
-            notes.put_misfit(names, misfit);
+        match misfit_of(line.bytes, form, rules) {
+            Some(misfit) => {
+                notes.put_place(line, misfit.at);
+                notes.put_misfit(rules.names, misfit);
+                true
+            }
+            None => {
+                notes.put_place(line, 0);
+                false
+            }
         }
-        misfit.is_some()
+    }
+
+    /// The rules of a text with these names, of this version.
+    fn rules<'a>(&self, names: &'a [&'a [u8]], is_older: bool) -> Rules<'a> {
+        Rules {
+            names,
+            is_older,
+            is_strict: self.why != ReadWhy::Form,
+        }
+    }
+
+    /// Puts why this line of a schedule is refused.
+    fn put_of_schedule<A: Allocator + Copy>(
+        &self,
+        notes: &mut Notes<'_, A>,
+        line: Line<'_>,
+        form: Form,
+    ) -> Result<(), AllocError> {
+        let named = bytes_of(kept_at(self.text, 1));
+        let names = parts_between(notes.alloc, named, b' ', 1, named.len())?;
+        if !self.put_misfit(notes, line, form, self.rules(names.as_slice(), false)) {
+            let words = "a schedule has at most {} events\n";
+            notes.put_with(words, &[MOST_EVENTS as u64]);
+        }
+        Ok(())
     }
 
     fn explain_in_schedule<A: Allocator + Copy>(
@@ -48,15 +81,48 @@ impl RefusedLine<'_> {
     ) -> Result<(), AllocError> {
         let place = kept_before(self.text, self.number);
         let (wanted, form) = HEAD.get(place).copied().unwrap_or(("an event", EVENT_LINE));
-        let Some(line) = line_at(self.text, self.number) else {
-            notes.put(&[TOO_EARLY, wanted, "\n"]);
-            return Ok(());
-        };
-        let named = kept_at(self.text, 1).map_or(b"".as_slice(), |line| line.bytes);
-        let names = names_on(notes.alloc, named)?;
-        if !self.put_misfit(notes, line, form, names.as_slice()) {
-            let words = "a schedule has at most {} events\n";
-            notes.put_with(words, &[MOST_EVENTS as u64]);
+        match line_at(self.text, self.number) {
+            Some(line) => self.put_of_schedule(notes, line, form),
+            None => {
+                notes.put(&[TOO_EARLY, wanted, "\n"]);
+                Ok(())
+            }
+        }
+    }
+
+    /// The names that a report has given its registers before the line.
+    fn names_of_report<A: Allocator + Copy>(
+        &self,
+        alloc: A,
+        is_older: bool,
+    ) -> Result<Vec<&[u8], A>, AllocError> {
+        let line = bytes_of(line_at(self.text, LINE_OF_REGISTERS));
+        if is_older {
+            parts_between(alloc, line, b' ', 1, line.len())
+        } else {
+            let count = number_on(line).min(self.number);
+            parts_between(
+                alloc,
+                self.text,
+                b'\n',
+                LINE_OF_REGISTERS as usize,
+                count as usize,
+            )
+        }
+    }
+
+    /// Puts why this line of a report is refused.
+    fn put_of_report<A: Allocator + Copy>(
+        &self,
+        notes: &mut Notes<'_, A>,
+        line: Line<'_>,
+        walk: Walk,
+        form: Form,
+    ) -> Result<(), AllocError> {
+        let names = self.names_of_report(notes.alloc, walk.is_older)?;
+        let rules = self.rules(names.as_slice(), walk.is_older);
+        if self.put_misfit(notes, line, form, rules) {
+            notes.put(&[walk.miscounted(line.bytes)]);
         }
         Ok(())
     }
@@ -65,7 +131,7 @@ impl RefusedLine<'_> {
         &self,
         notes: &mut Notes<'_, A>,
     ) -> Result<(), AllocError> {
-        let (walk, names) = walk_to(notes.alloc, self.text, self.number)?;
+        let walk = walk_to(self.text, self.number);
         let (wanted, form) = walk.layout();
         match (self.why, line_at(self.text, self.number)) {
             (ReadWhy::End, Some(line)) => {
@@ -76,14 +142,36 @@ impl RefusedLine<'_> {
                 notes.put_place(line, 0);
                 explain_entry(notes, self.text, line);
             }
-            (_, Some(line)) => {
-                if self.put_misfit(notes, line, form, names.as_slice()) {
-                    notes.put(&[walk.miscounted(line.bytes)]);
-                }
-            }
+            (_, Some(line)) => return self.put_of_report(notes, line, walk, form),
             (_, None) => notes.put(&[TOO_EARLY, wanted, "\n"]),
         }
         Ok(())
+    }
+}
+
+/// Puts what explains the fault that a command tells of a text.
+fn explain<A: Allocator + Copy>(
+    notes: &mut Notes<'_, A>,
+    global: Global,
+    command: Command,
+    text: &str,
+    fault: Fault,
+) -> Result<(), AllocError> {
+    match fault {
+        Fault::Line { line, why } => {
+            let refused = RefusedLine {
+                text: text.as_bytes(),
+                number: line,
+                why,
+            };
+            match command {
+                Command::Check => refused.explain_in_report(notes),
+                _ => refused.explain_in_schedule(notes),
+            }
+        }
+        Fault::Event { at, fault } => explain_event(notes, text, at, fault),
+        Fault::Workload { fault } => explain_workload(notes, global, text, fault),
+        _ => Ok(()),
     }
 }
 
@@ -97,23 +185,7 @@ pub(crate) fn explain_fault<A: Allocator + Copy>(
 ) -> Result<Vec<u8, A>, AllocError> {
     let mut bytes = Vec::new(alloc);
     let mut notes = Notes::new(alloc, &mut bytes);
-    let told = match fault {
-        Fault::Line { line, why } => {
-            let refused = RefusedLine {
-                text: text.as_bytes(),
-                number: line,
-                why,
-            };
-            match command {
-                Command::Check => refused.explain_in_report(&mut notes),
-                _ => refused.explain_in_schedule(&mut notes),
-            }
-        }
-        Fault::Event { at, fault } => explain_event(&mut notes, text, at, fault),
-        Fault::Workload { fault } => explain_workload(&mut notes, global, text, fault),
-        _ => Ok(()),
-    };
-    told.and(notes.finish())?;
+    explain(&mut notes, global, command, text, fault).and(notes.finish())?;
     Ok(bytes)
 }
 
@@ -125,13 +197,18 @@ pub(crate) fn explain_verdicts<A: Allocator + Copy>(
     verdicts: Verdicts,
 ) -> Result<Vec<u8, A>, AllocError> {
     let mut bytes = Vec::new(alloc);
-    let (part, reason) = match (verdicts.serial, verdicts.points) {
-        (Verdict::No(reason), _) => (Part::Id, reason),
-        (_, Some(Verdict::No(reason))) => (Part::Point, reason),
-        _ => return Ok(bytes),
-    };
     let mut notes = Notes::new(alloc, &mut bytes);
-    let list = RefusedList::new(alloc, text, report, part)?;
-    list.explain(&mut notes, reason).and(notes.finish())?;
+    let told = match (verdicts.serial, verdicts.points) {
+        (Verdict::No(reason), _) => explain_list(&mut notes, text, report, Part::Id, reason),
+        (_, Some(Verdict::No(reason))) => explain_list(
+            &mut notes,
+            text,
+            report,
+            Part::Point,
+            reason,
+        ),
+        _ => Ok(()),
+    };
+    told.and(notes.finish())?;
     Ok(bytes)
 }

@@ -28,18 +28,24 @@ pub struct Facts<A: Allocator + Copy> {
 }
 
 impl<A: Allocator + Copy> Facts<A> {
-    /// The facts of a report, the first entry of which stands on this line.
-    pub fn new(alloc: A, report: &Report<A>, first: u64) -> Result<Facts<A>, AllocError> {
-        let mut facts = Facts {
+    /// No facts.
+    pub fn new(alloc: A) -> Facts<A> {
+        Facts {
             rows: Vec::new(alloc),
-        };
+        }
+    }
+
+    /// Adds those of a report, the first entry of which stands on this line.
+    pub fn add(&mut self, alloc: A, report: &Report<A>, first: u64) -> Result<(), AllocError> {
         for _ in 0..report.history().shape().processes() {
-            facts.rows.push(Vec::new(alloc))?;
+            self.rows.push(Vec::new(alloc))?;
         }
-        for (place, entry) in report.history().entries().iter().enumerate() {
-            facts.note(*entry, first.saturating_add(place as u64))?;
+        let mut line = first;
+        for entry in report.history().entries() {
+            self.note(*entry, line)?;
+            line = line.saturating_add(1);
         }
-        Ok(facts)
+        Ok(())
     }
 
     /// Notes an entry that stands on this line.
@@ -75,10 +81,14 @@ impl<A: Allocator + Copy> Facts<A> {
         row.get(id.number as usize).copied()
     }
 
-    /// Notes that an operation stands on this line, where it stands on none before.
-    pub fn stand(&mut self, id: OpId, line: u64) {
-        if let Some(fact) = self.at_mut(id) {
-            fact.stands = fact.stands.or(Some(line));
+    /// Notes that these operations stand on the lines from this one on, those aside that stand on one before.
+    pub fn stand(&mut self, ids: &[OpId], first: u64) {
+        let mut line = first;
+        for id in ids {
+            if let Some(fact) = self.at_mut(*id) {
+                fact.stands = fact.stands.or(Some(line));
+            }
+            line = line.saturating_add(1);
         }
     }
 }

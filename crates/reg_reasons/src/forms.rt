@@ -1,22 +1,10 @@
 //! The forms of the lines of schedules and of reports.
-use crate::wanting::{Form, Range, Step};
+use crate::wanting::{Form, Quantity, Range, Rules, Step};
 use reg_base::limits::{LAST_EVENT, MOST_OPERATIONS, MOST_PROCESSES, MOST_REGISTERS};
 use reg_history::{MOST_ENTRIES, MOST_IDS, OLDER_PROCESSES, OLDER_REGISTERS};
 
 /// The names of the front ends.
 pub const FRONTS: &[&str] = &["linear", "local-read", "local-write"];
-
-/// What a number is, what joins that and its bounds, and these.
-macro_rules! range {
-    ($what:literal $verb:literal $least:literal, $most:expr) => {
-        Range {
-            what: $what,
-            verb: $verb,
-            least: $least,
-            most: $most as u64,
-        }
-    };
-}
 
 /// One of these words.
 macro_rules! word {
@@ -50,98 +38,75 @@ macro_rules! signs {
 
 /// A word, a number after it, and the end of the line.
 macro_rules! count {
-    ($word:literal, $range:expr) => {
+    ($word:literal, $what:ident) => {
         &[
             word!($word),
             Step::Space,
-            Step::Number($range),
+            Step::Number(Quantity::$what),
             Step::End,
         ]
     };
 }
 
-/// A line of names, no more than this.
-macro_rules! names {
-    ($most:expr) => {
-        &[word!("registers"), Step::Space, Step::Names($most as u64)]
-    };
-}
-
-/// The line of an entry, of a process in this range.
-macro_rules! entry {
-    ($range:expr) => {
-        &[
-            Step::Right,
-            Step::Number(EVENT),
-            signs!(b"  p", "two spaces and p"),
-            Step::Left {
-                places: 3,
-                words: "a process at the left of 3 places",
-                range: $range,
-            },
-            signs!(b"  #", "two spaces and #"),
-            Step::Left {
-                places: 6,
-                words: "a number at the left of 6 places",
-                range: OPERATION,
-            },
-            signs!(b"  ", "two spaces"),
-            choice!("call" => ENTRY_CALL, "answer" => ENTRY_ANSWER),
-        ]
-    };
-}
-
-/// An operation by its process, in this range, and its number, and these parts after it.
+/// An operation by its process and its number, and these parts after it.
 macro_rules! id {
-    ($range:expr, $($step:expr),*) => {
+    ($($step:expr),*) => {
         &[
             signs!(b"p", "p and a process, as in p0 #0"),
-            Step::Number($range),
+            Step::Number(Quantity::ReportProcess),
             Step::Space,
             signs!(b"#", "# and a number, as in p0 #0"),
-            Step::Number(OPERATION),
+            Step::Number(Quantity::Operation),
             $($step),*
         ]
     };
 }
 
-/// The point of an operation of a process in this range.
-macro_rules! point {
-    ($range:expr) => {
-        id!(
-            $range,
-            Step::Space,
-            word!("at"),
-            Step::Space,
-            Step::Number(EVENT),
-            Step::End
-        )
-    };
+const LAST_OPERATION: u64 = (MOST_OPERATIONS - 1) as u64;
+
+impl Rules<'_> {
+    /// The range of a number of a line.
+    pub fn range(&self, what: Quantity) -> Range {
+        let processes = if self.is_older {
+            OLDER_PROCESSES
+        } else {
+            MOST_PROCESSES as u32
+        };
+        let last_process = processes.saturating_sub(1) as u64;
+        let (what, verb, least, most) = match what {
+            Quantity::Process => ("a process", "is a number", 0, 255),
+            Quantity::ReportProcess => ("a process", "is a number", 0, last_process),
+            Quantity::Operation => ("the number of an operation", "is", 0, LAST_OPERATION),
+            Quantity::Event => ("an event", "is a number", 0, LAST_EVENT as u64),
+            Quantity::Frame => ("the place of a frame", "is a number", 0, u32::MAX as u64),
+            Quantity::Value => ("a value", "is a number", 0, u64::MAX),
+            Quantity::ProcessCount => ("the number of processes", "is", 1, processes as u64),
+            Quantity::RegisterCount => ("the number of registers", "is", 1, MOST_REGISTERS as u64),
+            Quantity::EntryCount => (
+                "the number of lines of a history",
+                "is",
+                0,
+                MOST_ENTRIES as u64,
+            ),
+            Quantity::IdCount => ("the number of lines", "is", 0, MOST_IDS as u64),
+        };
+        Range {
+            what,
+            verb,
+            least,
+            most,
+        }
+    }
+
+    /// The most names that stand on a line.
+    pub fn most_names(&self) -> u64 {
+        if self.is_older {
+            OLDER_REGISTERS as u64
+        } else {
+            MOST_REGISTERS as u64
+        }
+    }
 }
-
-const PROCESS: Range = range!("a process" "is a number" 0, 255);
-
-const IN_REPORT: Range = range!("a process" "is a number" 0, MOST_PROCESSES - 1);
-
-const IN_OLDER_REPORT: Range = range!("a process" "is a number" 0, OLDER_PROCESSES - 1);
-
-const OPERATION: Range = range!("the number of an operation" "is" 0, MOST_OPERATIONS - 1);
-
-const EVENT: Range = range!("an event" "is a number" 0, LAST_EVENT);
-
-const FRAME: Range = range!("the place of a frame" "is a number" 0, 4_294_967_295);
-
-const VALUE: Range = range!("a value" "is a number" 0, 18_446_744_073_709_551_615);
-
-const PROCESS_COUNT: Range = range!("the number of processes" "is" 1, MOST_PROCESSES);
-
-const OLDER_PROCESS_COUNT: Range = range!("the number of processes" "is" 1, OLDER_PROCESSES);
-
-const REGISTER_COUNT: Range = range!("the number of registers" "is" 1, MOST_REGISTERS);
-
-const ENTRY_COUNT: Range = range!("the number of lines of a history" "is" 0, MOST_ENTRIES);
-
-const ID_COUNT: Range = range!("the number of lines" "is" 0, MOST_IDS);
 
 const OPS: Step = choice!("read" => READ, "write" => WRITE, "swap" => WRITE);
 
@@ -151,7 +116,7 @@ const WRITE: Form = &[
     Step::Space,
     Step::Register,
     Step::Space,
-    Step::Number(VALUE),
+    Step::Number(Quantity::Value),
     Step::End,
 ];
 
@@ -165,7 +130,11 @@ pub const HEAD: &[(&str, Form)] = &[
     ("front and one of linear, local-read and local-write", FRONT),
 ];
 
-const NAMES: Form = names!(MOST_REGISTERS);
+/// How many lines stand before the events.
+pub const HEAD_LINES: usize = HEAD.len();
+
+/// A line of names.
+pub const NAMES: Form = &[word!("registers"), Step::Space, Step::Names];
 
 const FRONT: Form = &[
     word!("front"),
@@ -180,21 +149,26 @@ const FRONT: Form = &[
 /// The line of an event.
 pub const EVENT_LINE: Form = &[choice!("call" => CALL, "take" => TAKE, "tick" => TICK)];
 
-const CALL: Form = &[Step::Space, Step::Number(PROCESS), Step::Space, OPS];
+const CALL: Form = &[
+    Step::Space,
+    Step::Number(Quantity::Process),
+    Step::Space,
+    OPS,
+];
 
-const TICK: Form = &[Step::Space, Step::Number(PROCESS), Step::End];
+const TICK: Form = &[Step::Space, Step::Number(Quantity::Process), Step::End];
 
 const TAKE: Form = &[
     Step::Space,
-    Step::Number(PROCESS),
+    Step::Number(Quantity::Process),
     Step::Space,
-    Step::Number(PROCESS),
+    Step::Number(Quantity::Process),
     Step::Space,
-    Step::Number(FRAME),
+    Step::Number(Quantity::Frame),
     Step::End,
 ];
 
-/// The first line of a report. Of its other lines, what is `OLDER` is of version 1.
+/// The first line of a report.
 pub const VERSION: Form = &[
     word!("awreg"),
     Step::Space,
@@ -206,33 +180,46 @@ pub const VERSION: Form = &[
 
 pub const REPORT_FRONT: Form = &[word!("front"), Step::Space, Step::FrontEnd, Step::End];
 
-pub const PROCESSES: Form = count!("processes", PROCESS_COUNT);
+pub const PROCESSES: Form = count!("processes", ProcessCount);
 
-pub const OLDER_PROCESSES_LINE: Form = count!("processes", OLDER_PROCESS_COUNT);
-
-pub const REGISTERS: Form = count!("registers", REGISTER_COUNT);
-
-pub const OLDER_NAMES: Form = names!(OLDER_REGISTERS);
+pub const REGISTERS: Form = count!("registers", RegisterCount);
 
 pub const NAME: Form = &[Step::Name, Step::End];
 
-pub const HISTORY: Form = count!("history", ENTRY_COUNT);
+pub const HISTORY: Form = count!("history", EntryCount);
 
-pub const ENTRY: Form = entry!(IN_REPORT);
+pub const ENTRY: Form = &[
+    Step::Right,
+    Step::Number(Quantity::Event),
+    signs!(b"  p", "two spaces and p"),
+    Step::Left {
+        places: 3,
+        words: "a process at the left of 3 places",
+        what: Quantity::ReportProcess,
+    },
+    signs!(b"  #", "two spaces and #"),
+    Step::Left {
+        places: 6,
+        words: "a number at the left of 6 places",
+        what: Quantity::Operation,
+    },
+    signs!(b"  ", "two spaces"),
+    choice!("call" => ENTRY_CALL, "answer" => ENTRY_ANSWER),
+];
 
-pub const OLDER_ENTRY: Form = entry!(IN_OLDER_REPORT);
+pub const ORDER: Form = count!("order", IdCount);
 
-pub const ORDER: Form = count!("order", ID_COUNT);
-
-pub const ID: Form = id!(IN_REPORT, Step::End);
-
-pub const OLDER_ID: Form = id!(IN_OLDER_REPORT, Step::End);
+pub const ID: Form = id!(Step::End);
 
 pub const TAIL: Form = &[choice!("points" => POINTS, "end" => END)];
 
-pub const POINT: Form = point!(IN_REPORT);
-
-pub const OLDER_POINT: Form = point!(IN_OLDER_REPORT);
+pub const POINT: Form = id!(
+    Step::Space,
+    word!("at"),
+    Step::Space,
+    Step::Number(Quantity::Event),
+    Step::End
+);
 
 pub const LAST_LINE: Form = &[word!("end"), Step::End];
 
@@ -245,8 +232,8 @@ const ENTRY_ANSWER: Form = &[
     choice!("done" => END, "value" => ANSWER_VALUE),
 ];
 
-const ANSWER_VALUE: Form = &[Step::Space, Step::Number(VALUE), Step::End];
+const ANSWER_VALUE: Form = &[Step::Space, Step::Number(Quantity::Value), Step::End];
 
-const POINTS: Form = &[Step::Space, Step::Number(ID_COUNT), Step::End];
+const POINTS: Form = &[Step::Space, Step::Number(Quantity::IdCount), Step::End];
 
 const END: Form = &[Step::End];

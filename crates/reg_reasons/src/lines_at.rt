@@ -1,6 +1,5 @@
 //! Single lines of a text.
-use crate::scanning::front_of;
-use reg_text::{Lines, skip};
+use reg_text::Lines;
 use std::alloc::{AllocError, Allocator};
 
 /// A line of a text, with no line feed, and its number, the first being 1.
@@ -20,6 +19,14 @@ fn nth(mut lines: Lines<'_>, place: u64) -> Option<Line<'_>> {
         number: lines.number(),
         bytes,
     })
+}
+
+/// The bytes of a line, and none where it isn't there.
+pub fn bytes_of(line: Option<Line<'_>>) -> &[u8] {
+    match line {
+        Some(line) => line.bytes,
+        None => b"",
+    }
 }
 
 /// The line of this number.
@@ -45,19 +52,29 @@ pub fn kept_before(text: &[u8], number: u64) -> usize {
 
 /// The line in which a place of a text stands, and the place there.
 pub fn line_of_place(text: &[u8], place: usize) -> (Line<'_>, usize) {
-    let before = front_of(text, place);
-    let feeds = before.iter().filter(|b| **b == b'\n').count();
-    let column = before.iter().rev().take_while(|b| **b != b'\n').count();
-    let number = (feeds as u64).saturating_add(1);
-    let bytes = line_at(text, number).map_or(b"".as_slice(), |line| line.bytes);
-    (Line { number, bytes }, column)
+    let mut column = place.min(text.len());
+    let mut number = 1u64;
+    for bytes in text.split(|b| *b == b'\n') {
+        if column <= bytes.len() {
+            return (Line { number, bytes }, column);
+        }
+        column = column.saturating_sub(bytes.len()).saturating_sub(1);
+        number = number.saturating_add(1);
+    }
+    (Line { number, bytes: b"" }, 0)
 }
 
-/// The names on a line of registers, with a space before each.
-pub fn names_on<A: Allocator + Copy>(alloc: A, line: &[u8]) -> Result<Vec<&[u8], A>, AllocError> {
-    let names = skip(line, b"registers").unwrap_or(line);
-    names
-        .split(|b| *b == b' ')
-        .filter(|name| !name.is_empty())
+/// What stands between bytes of this kind, after the first `skipped` parts, and of these no more than `most`.
+pub fn parts_between<A: Allocator + Copy>(
+    alloc: A,
+    bytes: &[u8],
+    joint: u8,
+    skipped: usize,
+    most: usize,
+) -> Result<Vec<&[u8], A>, AllocError> {
+    bytes
+        .split(|b| *b == joint)
+        .skip(skipped)
+        .take(most)
         .collect(alloc)
 }

@@ -3,7 +3,7 @@ use crate::facts::{Fact, Facts};
 use crate::lines_at::line_at;
 use crate::report_lines::{Part, first_line};
 use crate::saying::Notes;
-use reg_base::{OpId, Registers};
+use reg_base::{Answer, OpId, Registers};
 use reg_commands::Reason;
 use reg_history::{Entry, Report};
 use reg_text::{put_answer, put_op};
@@ -18,42 +18,17 @@ fn numbers_of(id: OpId, third: u64, fourth: u64) -> [u64; 4] {
 }
 
 /// A list of a report that is refused, its order or its points, with what the history says of its operations.
-#[derive(Drop)]
-pub struct RefusedList<'a, A: Allocator + Copy> {
+#[derive(Clone, Copy)]
+struct RefusedList<'a, A: Allocator + Copy> {
     text: &'a [u8],
     report: &'a Report<A>,
-    facts: Facts<A>,
-    ids: Vec<OpId, A>,
+    facts: &'a Facts<A>,
+    ids: &'a [OpId],
     /// The line of the first of them.
     first: u64,
 }
 
-impl<'a, A: Allocator + Copy> RefusedList<'a, A> {
-    /// The order of a report that this text spells, or where the part is that of points, its points.
-    pub fn new(
-        alloc: A,
-        text: &'a [u8],
-        report: &'a Report<A>,
-        part: Part,
-    ) -> Result<RefusedList<'a, A>, AllocError> {
-        let ids: Vec<OpId, A> = match (part, report.points()) {
-            (Part::Point, Some(points)) => points.iter().map(|point| point.id).collect(alloc),
-            _ => report.order().to_vec(alloc),
-        }?;
-        let first = first_line(text, part);
-        let mut facts = Facts::new(alloc, report, first_line(text, Part::Entry))?;
-        for (place, id) in ids.iter().enumerate() {
-            facts.stand(*id, first.saturating_add(place as u64));
-        }
-        Ok(RefusedList {
-            text,
-            report,
-            facts,
-            ids,
-            first,
-        })
-    }
-
+impl<A: Allocator + Copy> RefusedList<'_, A> {
     /// The line of a place.
     fn line(&self, place: usize) -> u64 {
         self.first.saturating_add(place as u64)
@@ -84,12 +59,10 @@ impl<'a, A: Allocator + Copy> RefusedList<'a, A> {
     fn twice(&self) -> Option<Told> {
         for (place, id) in self.ids.iter().enumerate() {
             let line = self.line(place);
-            let first = self
-                .facts
-                .at(*id)
-                .and_then(|fact| fact.stands)
-                .unwrap_or(line);
-            if first < line {
+            if let Some(fact) = self.facts.at(*id)
+                && let Some(first) = fact.stands
+                && first < line
+            {
                 let text = "p{} #{} stands on line {} too\n";
                 return Some((line, text, numbers_of(*id, first, 0)));
             }
@@ -158,25 +131,31 @@ impl<'a, A: Allocator + Copy> RefusedList<'a, A> {
         notes.put_with(text, &numbers);
     }
 
-    /// The memory just before a place.
-    fn memory_before(&self, alloc: A, place: usize) -> Result<Registers<A>, AllocError> {
+    /// What memory answers at a place.
+    fn answer_at(&self, alloc: A, place: usize) -> Result<Option<Answer>, AllocError> {
         let mut memory = Registers::new(alloc, self.report.names().count() as u16)?;
-        for id in self.ids.iter().take(place) {
+        let mut answer = None;
+        for id in self.ids.iter().take(place.saturating_add(1)) {
             if let Some(fact) = self.facts.at(*id) {
-                memory.apply(&fact.op);
+                answer = memory.apply(&fact.op);
             }
         }
-        Ok(memory)
+        Ok(answer)
     }
 
-    /// Puts what memory answers at a place, and what the report says.
-    fn put_wrong(&self, notes: &mut Notes<'_, A>, place: usize) -> Result<(), AllocError> {
-        let Some((id, fact)) = self.fact(place) else {
-            return Ok(());
-        };
-        let answer = self.memory_before(notes.alloc, place)?.apply(&fact.op);
-        let numbers = numbers_of(id, 0, 0);
-        self.put_told(notes, (self.line(place), "p{} #{} is ", numbers));
+    /// Puts the line of a place with this operation, what memory answers there, and what the report says.
+    fn put_wrong(
+        &self,
+        notes: &mut Notes<'_, A>,
+        place: usize,
+        id: OpId,
+        fact: Fact,
+        answer: Option<Answer>,
+    ) {
+        self.put_told(
+            notes,
+            (self.line(place), "p{} #{} is ", numbers_of(id, 0, 0)),
+        );
         put_op(&mut notes.sink, self.report.names(), fact.op);
         if let (Some(answer), Some(given)) = (answer, fact.answered) {
             notes.put(&[": memory answers "]);
@@ -186,17 +165,25 @@ impl<'a, A: Allocator + Copy> RefusedList<'a, A> {
             notes.put_with(" on line {}", &[given.line]);
         }
         notes.put(&["\n"]);
+    }
+
+    /// Puts why the answer of the operation at a place is wrong.
+    fn explain_answer(&self, notes: &mut Notes<'_, A>, place: usize) -> Result<(), AllocError> {
+        if let Some((id, fact)) = self.fact(place) {
+            let answer = self.answer_at(notes.alloc, place)?;
+            self.put_wrong(notes, place, id, fact, answer);
+        }
         Ok(())
     }
 
     /// Puts why it is refused.
-    pub fn explain(&self, notes: &mut Notes<'_, A>, reason: Reason) -> Result<(), AllocError> {
+    fn explain(&self, notes: &mut Notes<'_, A>, reason: Reason) -> Result<(), AllocError> {
         let told = match reason {
             Reason::Unknown => self.unknown(),
             Reason::Twice => self.twice(),
             Reason::Missing => self.missing(),
             Reason::OwnOrder => self.own_order(),
-            Reason::Answer { place } => return self.put_wrong(notes, place),
+            Reason::Answer { place } => return self.explain_answer(notes, place),
             Reason::Outside { place } => self.outside(place),
             Reason::Falling { place } => self.falling(place),
         };
@@ -205,4 +192,39 @@ impl<'a, A: Allocator + Copy> RefusedList<'a, A> {
         }
         Ok(())
     }
+}
+
+/// The operations of a report's order, or where the part is that of points, of its points.
+fn ids_of<A: Allocator + Copy>(
+    alloc: A,
+    report: &Report<A>,
+    part: Part,
+) -> Result<Vec<OpId, A>, AllocError> {
+    match (part, report.points()) {
+        (Part::Point, Some(points)) => points.iter().map(|point| point.id).collect(alloc),
+        _ => report.order().to_vec(alloc),
+    }
+}
+
+/// Puts why the order of a report that this text spells, or where the part is that of points, its points are refused.
+pub fn explain_list<A: Allocator + Copy>(
+    notes: &mut Notes<'_, A>,
+    text: &[u8],
+    report: &Report<A>,
+    part: Part,
+    reason: Reason,
+) -> Result<(), AllocError> {
+    let first = first_line(text, part);
+    let ids = ids_of(notes.alloc, report, part)?;
+    let mut facts = Facts::new(notes.alloc);
+    facts.add(notes.alloc, report, first_line(text, Part::Entry))?;
+    facts.stand(&ids, first);
+    let list = RefusedList {
+        text,
+        report,
+        facts: &facts,
+        ids: &ids,
+        first,
+    };
+    list.explain(notes, reason)
 }

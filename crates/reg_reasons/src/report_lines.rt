@@ -2,13 +2,11 @@
 ghost use Rattle.std.specs.Iterator.{item_count};
 
 use crate::forms::{
-    ENTRY, HISTORY, ID, LAST_LINE, NAME, NOTHING, OLDER_ENTRY, OLDER_ID, OLDER_NAMES, OLDER_POINT,
-    OLDER_PROCESSES_LINE, ORDER, POINT, PROCESSES, REGISTERS, REPORT_FRONT, TAIL, VERSION,
+    ENTRY, HISTORY, ID, LAST_LINE, NAME, NAMES, NOTHING, ORDER, POINT, PROCESSES, REGISTERS,
+    REPORT_FRONT, TAIL, VERSION,
 };
-use crate::lines_at::names_on;
 use crate::wanting::Form;
 use reg_text::{Lines, cut_at, numeral};
-use std::alloc::{AllocError, Allocator};
 
 /// What stands on a line of a report.
 #[derive(Clone, Copy, PartialEq, Eq)]
@@ -34,13 +32,15 @@ pub struct Walk {
     pub part: Part,
     left: u64,
     /// Whether it is a report of version 1.
-    is_older: bool,
+    pub is_older: bool,
 }
 
 /// The number after the first word of a line, and 0 where none is there.
 pub fn number_on(line: &[u8]) -> u64 {
-    let digits = cut_at(line, b' ').map_or(b"".as_slice(), |(_, digits)| digits);
-    numeral(digits).unwrap_or(0)
+    match cut_at(line, b' ') {
+        Some((_, digits)) => numeral(digits).unwrap_or(0),
+        None => 0,
+    }
 }
 
 impl Walk {
@@ -76,34 +76,24 @@ impl Walk {
 
     /// What the next line is, and its form.
     pub fn layout(self) -> (&'static str, Form) {
-        let (words, form, older) = match self.part {
-            Part::Version => ("awreg report 2", VERSION, VERSION),
-            Part::Front => (
-                "front and a word, as in front linear",
-                REPORT_FRONT,
-                REPORT_FRONT,
-            ),
-            Part::Processes => (
-                "processes and a number, as in processes 2",
-                PROCESSES,
-                OLDER_PROCESSES_LINE,
-            ),
-            Part::Registers => (
-                "registers and their number, as in registers 1",
-                REGISTERS,
-                OLDER_NAMES,
-            ),
-            Part::Name => ("the name of a register", NAME, NAME),
-            Part::History => ("history and a number, as in history 4", HISTORY, HISTORY),
-            Part::Entry => ("a line of the history", ENTRY, OLDER_ENTRY),
-            Part::Order => ("order and a number, as in order 2", ORDER, ORDER),
-            Part::Id => ("an operation of the order, as in p0 #0", ID, OLDER_ID),
-            Part::Tail => ("end, or points and a number, as in points 2", TAIL, TAIL),
-            Part::Point => ("a point, as in p0 #0 at 3", POINT, OLDER_POINT),
-            Part::End => ("end", LAST_LINE, LAST_LINE),
-            Part::After => ("nothing", NOTHING, NOTHING),
-        };
-        (words, if self.is_older { older } else { form })
+        match self.part {
+            Part::Version => ("awreg report 2", VERSION),
+            Part::Front => ("front and a word, as in front linear", REPORT_FRONT),
+            Part::Processes => ("processes and a number, as in processes 2", PROCESSES),
+            Part::Registers => {
+                let form = if self.is_older { NAMES } else { REGISTERS };
+                ("registers and their number, as in registers 1", form)
+            }
+            Part::Name => ("the name of a register", NAME),
+            Part::History => ("history and a number, as in history 4", HISTORY),
+            Part::Entry => ("a line of the history", ENTRY),
+            Part::Order => ("order and a number, as in order 2", ORDER),
+            Part::Id => ("an operation of the order, as in p0 #0", ID),
+            Part::Tail => ("end, or points and a number, as in points 2", TAIL),
+            Part::Point => ("a point, as in p0 #0 at 3", POINT),
+            Part::End => ("end", LAST_LINE),
+            Part::After => ("nothing", NOTHING),
+        }
     }
 
     /// What is told of a line beside what was wanted: more or fewer lines stand there than a count before announces.
@@ -175,22 +165,11 @@ pub fn first_line(text: &[u8], part: Part) -> u64 {
     number
 }
 
-/// Where one is in a report before the line of this number, and the names that it has given its registers.
-pub fn walk_to<A: Allocator + Copy>(
-    alloc: A,
-    text: &[u8],
-    number: u64,
-) -> Result<(Walk, Vec<&[u8], A>), AllocError> {
-    let mut names = Vec::new(alloc);
+/// Where one is in a report before the line of this number.
+pub fn walk_to(text: &[u8], number: u64) -> Walk {
     let mut lines = ReportLines::new(text);
     for _ in 1..number {
-        match lines.next() {
-            Some((walk, line)) if walk.part == Part::Name => names.push(line)?,
-            Some((walk, line)) if walk.part == Part::Registers && walk.is_older => {
-                names = names_on(alloc, line)?;
-            }
-            _ => {}
-        }
+        lines.next();
     }
-    Ok((lines.walk, names))
+    lines.walk
 }

@@ -2,7 +2,7 @@
 use crate::lines_at::{Line, line_of_place};
 use crate::scanning::{after, front_of, token_of};
 use crate::wanting::{Misfit, Range, Wanted};
-use reg_text::{Sink, is_numeral, put_number, skip, spaces_before};
+use reg_text::{Sink, cut_at, is_numeral, put_number, skip, spaces_before};
 use std::alloc::{AllocError, Allocator};
 use strsim::generic_levenshtein;
 
@@ -12,6 +12,9 @@ const MARK: &[u8] = &[0xEF, 0xBB, 0xBF];
 /// No word that is wanted is longer.
 const LONGEST_WORD: usize = 16;
 
+/// As many spaces as the longest number has places.
+const SPACES: &[u8] = b"                    ";
+
 /// Lines of more bytes are shown in part.
 const LONGEST_SHOWN: usize = 96;
 
@@ -20,6 +23,15 @@ const SHOWN_BEFORE: usize = 60;
 
 /// The most names that are listed.
 const MOST_LISTED: usize = 10;
+
+/// How signs are spoken of that are not shown.
+const UNSHOWN: &[(&[u8], &str)] = &[
+    (b"  ", "{} spaces"),
+    (b" ", "a space"),
+    (b"\t", "a tab"),
+    (b"\r", "a carriage return"),
+    (b"\xC2\xA0", "a no-break space"),
+];
 
 /// The printed signs at the start, as many as are shown.
 fn shown_token(found: &[u8]) -> &[u8] {
@@ -41,6 +53,33 @@ fn shown_part(line: &[u8], at: usize) -> (&[u8], usize) {
     let cut = rest.iter().take_while(|b| goes_on(**b)).count();
     let part = front_of(after(rest, cut), LONGEST_SHOWN);
     (part, start.saturating_add(cut))
+}
+
+/// What is shown of what stands at a place: the printed signs there, or one character that is not ASCII.
+fn shown_sign(found: &[u8]) -> &[u8] {
+    match found {
+        [0xC2, 0xA0, ..] => b"",
+        [0x80..=0xFF, more @ ..] => {
+            let count = more.iter().take_while(|b| goes_on(**b)).count();
+            front_of(found, count.saturating_add(1))
+        }
+        _ => shown_token(found),
+    }
+}
+
+/// What is told of what stands at a place, after what is shown of it; with the number of its spaces.
+fn told_of(found: &[u8]) -> &'static str {
+    for (signs, text) in UNSHOWN {
+        if found.starts_with(signs) {
+            return text;
+        }
+    }
+    match found {
+        [] => "the end of the line",
+        [b'!'..=b'~', ..] => "",
+        [0x80..=0xFF, ..] => ", which is not ASCII",
+        _ => "a control character",
+    }
 }
 
 /// What is told of a text. Where memory is refused, `finish` says so.
@@ -79,13 +118,15 @@ impl<'a, A: Allocator + Copy> Notes<'a, A> {
 
     /// Puts a text with these numbers in the places of its `{}`.
     pub fn put_with(&mut self, text: &str, numbers: &[u64]) {
-        for (place, part) in text.split("{}").enumerate() {
-            if place > 0 {
-                let number = numbers.get(place - 1).copied().unwrap_or(0);
-                put_number(&mut self.sink, "", number);
+        let mut rest = text.as_bytes();
+        for number in numbers {
+            if let Some((before, later)) = cut_at(rest, b'{') {
+                self.sink.put(before);
+                put_number(&mut self.sink, "", *number);
+                rest = after(later, 1);
             }
-            self.sink.put(part.as_bytes());
         }
+        self.sink.put(rest);
     }
 
     /// Puts what was found in marks of quotation, and texts after it.
@@ -114,16 +155,16 @@ impl<'a, A: Allocator + Copy> Notes<'a, A> {
 
     /// Puts a mark below a line of this number, after these of its bytes.
     fn put_mark(&mut self, number: u64, before: &[u8]) {
-        for _ in 0..=number.checked_ilog10().unwrap_or(0) {
-            self.put(&[" "]);
-        }
+        let places = number.checked_ilog10().unwrap_or(0).saturating_add(1);
+        self.sink.put(front_of(SPACES, places as usize));
         self.put(&[" | "]);
         for byte in before {
-            if *byte == b'\t' {
-                self.put(&["\t"]);
-            } else if !goes_on(*byte) {
-                self.put(&[" "]);
-            }
+            let sign = match *byte {
+                b'\t' => "\t",
+                byte if goes_on(byte) => "",
+                _ => " ",
+            };
+            self.put(&[sign]);
         }
         self.put(&["^\n"]);
     }
@@ -136,12 +177,15 @@ impl<'a, A: Allocator + Copy> Notes<'a, A> {
 
     /// Puts words as a list: `a`, `a or b`, `a, b or c`.
     pub fn put_words(&mut self, words: &[&str]) {
-        for (place, word) in words.iter().enumerate() {
-            if place > 0 {
-                let is_last = words.len().saturating_sub(place) == 1;
-                self.put(&[if is_last { " or " } else { ", " }]);
-            }
-            self.put(&[word]);
+        let mut left = words.len();
+        for word in words {
+            left = left.saturating_sub(1);
+            let joint = match left {
+                0 => "",
+                1 => " or ",
+                _ => ", ",
+            };
+            self.put(&[word, joint]);
         }
     }
 
@@ -153,23 +197,12 @@ impl<'a, A: Allocator + Copy> Notes<'a, A> {
 
     /// Puts what stands at a place, after what was expected there.
     fn put_found(&mut self, found: &[u8]) {
-        let token = shown_token(found);
+        let shown = shown_sign(found);
         self.put(&[", found "]);
-        match found {
-            [] => self.put(&["the end of the line"]),
-            [b'\t', ..] => self.put(&["a tab"]),
-            [b'\r', ..] => self.put(&["a carriage return"]),
-            [b' ', b' ', ..] => self.put_with("{} spaces", &[spaces_before(found) as u64]),
-            [b' ', ..] => self.put(&["a space"]),
-            [0xC2, 0xA0, ..] => self.put(&["a no-break space"]),
-            [first, more @ ..] if *first >= 0x80 => {
-                let more = more.iter().take_while(|b| goes_on(**b)).count();
-                let character = front_of(found, more.saturating_add(1));
-                self.put_quoted(character, &[", which is not ASCII"]);
-            }
-            _ if token.is_empty() => self.put(&["a control character"]),
-            _ => self.put_quoted(token, &[]),
+        if !shown.is_empty() {
+            self.put_quoted(shown, &[]);
         }
+        self.put_with(told_of(found), &[spaces_before(found) as u64]);
     }
 
     /// The word that is next to the one that was found: the same but for capital letters, or one or two edits away.
@@ -237,15 +270,21 @@ impl<'a, A: Allocator + Copy> Notes<'a, A> {
 
     /// Puts that no register has a name, and the names that they have, or the first of them.
     fn put_unknown_register(&mut self, token: &[u8], names: &[&[u8]]) {
-        let words = match names {
-            [_] => ": the register is ",
-            _ => ": the registers are ",
-        };
+        let is_one = names.len() == 1;
         self.put(&["no register "]);
-        self.put_quoted(token, &[words]);
-        for (place, name) in names.iter().take(MOST_LISTED).enumerate() {
-            self.put(&[if place > 0 { ", " } else { "" }]);
+        self.put_quoted(
+            token,
+            &[if is_one {
+                ": the register is "
+            } else {
+                ": the registers are "
+            }],
+        );
+        let mut joint = "";
+        for name in names.get(..MOST_LISTED).unwrap_or(names) {
+            self.put(&[joint]);
             self.sink.put(name);
+            joint = ", ";
         }
         let more = names.len().saturating_sub(MOST_LISTED);
         if more > 0 {
@@ -256,23 +295,14 @@ impl<'a, A: Allocator + Copy> Notes<'a, A> {
     /// Puts what was wanted and what was found.
     fn put_wanted(&mut self, names: &[&[u8]], wanted: Wanted, found: &[u8]) {
         let token = shown_token(found);
-        let is_comment = after(found, spaces_before(found)).starts_with(b"#");
         match wanted {
             Wanted::Words(words) => self.put_wanted_words(words, found),
             Wanted::Number(range) => self.put_wanted_number(range, found),
             Wanted::Text(words) => self.put_expected(words, found),
-            Wanted::Space => self.put_expected("one space", found),
-            Wanted::Register if token.is_empty() => self.put_expected("a register", found),
             Wanted::Register => self.put_unknown_register(token, names),
-            Wanted::Name(_) if token.is_empty() => self.put_expected("a name", found),
             Wanted::Name(fault) => self.put_quoted(token, &[fault]),
-            Wanted::Fewer(most) => {
-                self.put_with("there are no more registers than {}", &[most]);
-            }
-            Wanted::End if is_comment => self.put(&["a comment stands on a line of its own"]),
-            Wanted::End => self.put_expected("the end of the line", found),
-            Wanted::NoValue => self.put(&["a read takes no value"]),
-            Wanted::Missing(what) => self.put(&[what, " is missing"]),
+            Wanted::Fewer(most) => self.put_with("there are no more registers than {}", &[most]),
+            Wanted::Told(what, told) => self.put(&[what, told]),
         }
     }
 

@@ -1,6 +1,6 @@
 //! A line, part by part, up to the first place that doesn't fit. It judges nothing: the readers have refused the line,
 //! and it says where.
-use crate::wanting::{Form, Misfit, NAME_FORM, NAME_TAKEN, Range, Step, Wanted};
+use crate::wanting::{Form, Misfit, NAME_FORM, NAME_TAKEN, Quantity, Rules, Step, Wanted};
 use reg_base::is_name;
 use reg_history::LONGEST_FRONT;
 use reg_text::{are_front_letters, in_front, is_numeral, numeral_within, skip, spaces_before};
@@ -11,6 +11,8 @@ const MOST_EMPTY: usize = 8;
 
 /// How many places the number of an event has.
 const EVENT_PLACES: usize = 8;
+
+const MISSING: &str = " is missing";
 
 /// The first bytes, or all where there are fewer.
 pub fn front_of(bytes: &[u8], count: usize) -> &[u8] {
@@ -33,9 +35,22 @@ pub fn place_of(words: &[&str], word: &[u8]) -> Option<usize> {
     words.iter().position(|it| it.as_bytes() == word)
 }
 
+/// Whether a name is one of these.
+fn is_among(names: &[&[u8]], token: &[u8]) -> bool {
+    for name in names {
+        if *name == token {
+            return true;
+        }
+    }
+    false
+}
+
 /// Whether the bytes are a register's name.
 fn is_register(bytes: &[u8]) -> bool {
-    str::from_utf8(bytes).is_ok_and(|name| is_name(name))
+    match str::from_utf8(bytes) {
+        Ok(name) => is_name(name),
+        Err(_) => false,
+    }
 }
 
 /// Whether a number ends the first column, of 8 places.
@@ -55,8 +70,7 @@ fn has_left_number(bytes: &[u8], places: usize) -> bool {
 struct Scan<'a> {
     line: &'a [u8],
     rest: &'a [u8],
-    /// Whether numbers and names are looked at too, and not the form alone.
-    is_strict: bool,
+    rules: Rules<'a>,
 }
 
 impl<'a> Scan<'a> {
@@ -65,56 +79,69 @@ impl<'a> Scan<'a> {
         front_of(self.line, self.line.len().saturating_sub(self.rest.len()))
     }
 
-    /// Whether `most` names stand before on the line: a space stands before each of them, and before the next one.
-    fn is_full(&self, most: u64) -> bool {
-        let spaces = self.before().iter().filter(|b| **b == b' ').count();
-        spaces as u64 > most
+    /// Whether as many names as there may be stand before on the line: a space stands before each of them, and before
+    /// the next one.
+    fn is_full(&self) -> bool {
+        let mut spaces = 0u64;
+        for byte in self.before() {
+            if *byte == b' ' {
+                spaces = spaces.saturating_add(1);
+            }
+        }
+        spaces > self.rules.most_names()
     }
 
-    fn is_number(&self, token: &[u8], range: Range) -> bool {
-        if self.is_strict {
-            numeral_within(token, range.most).is_some_and(|number| number >= range.least)
-        } else {
-            is_numeral(token)
+    fn is_number(&self, token: &[u8], what: Quantity) -> bool {
+        if !self.rules.is_strict {
+            return is_numeral(token);
+        }
+        let range = self.rules.range(what);
+        match numeral_within(token, range.most) {
+            Some(number) => number >= range.least,
+            None => false,
         }
     }
 
     /// Whether a name is well spelled, and none of the names that stand before on the line, after its first word.
     fn is_new_name(&self, token: &[u8]) -> bool {
-        let mut names = self.before().split(|b| *b == b' ').skip(1);
-        !self.is_strict || is_register(token) && !names.any(|name| name == token)
+        if !self.rules.is_strict {
+            return true;
+        }
+        for name in self.before().split(|b| *b == b' ').skip(1) {
+            if name == token {
+                return false;
+            }
+        }
+        is_register(token)
     }
 
     /// Whether a word, a number or a name fits a part.
-    fn fits(&self, token: &[u8], step: Step, names: &[&[u8]]) -> bool {
+    fn fits(&self, token: &[u8], step: Step) -> bool {
         match step {
             Step::Word { words, .. } => place_of(words, token).is_some(),
-            Step::Number(range) => self.is_number(token, range),
+            Step::Number(what) => self.is_number(token, what),
             Step::FrontEnd => token.len() <= LONGEST_FRONT && are_front_letters(token),
-            Step::Register => !self.is_strict || names.iter().any(|name| *name == token),
+            Step::Register => !self.rules.is_strict || is_among(self.rules.names, token),
             Step::Name => self.is_new_name(token),
-            Step::Names(most) => self.is_new_name(token) && !self.is_full(most),
+            Step::Names => self.is_new_name(token) && !self.is_full(),
             _ => false,
         }
     }
 
     /// How many bytes a part takes, where it fits.
-    fn taken(&self, step: Step, names: &[&[u8]]) -> Option<usize> {
+    fn taken(&self, step: Step) -> Option<usize> {
         let rest = self.rest;
         let token = token_of(rest);
         let (fits, count) = match step {
             Step::Space => (spaces_before(rest) == 1, 1),
             Step::Signs { signs, .. } => (rest.starts_with(signs), signs.len()),
             Step::Right => (has_right_number(rest), spaces_before(rest)),
-            Step::Left { places, range, .. } => {
-                let fits = !self.is_strict || self.is_number(token, range);
+            Step::Left { places, what, .. } => {
+                let fits = !self.rules.is_strict || self.is_number(token, what);
                 (fits && has_left_number(rest, places), places)
             }
             Step::End | Step::NoValue => (rest.is_empty(), 0),
-            _ => (
-                !token.is_empty() && self.fits(token, step, names),
-                token.len(),
-            ),
+            _ => (!token.is_empty() && self.fits(token, step), token.len()),
         };
         fits.then_some(count)
     }
@@ -122,90 +149,95 @@ impl<'a> Scan<'a> {
     /// What is wanted in the place of a part that doesn't fit.
     fn wanted(&self, step: Step) -> Wanted {
         let rest = self.rest;
+        let token = token_of(rest);
         match step {
             Step::Word { words, .. } => Wanted::Words(words),
-            Step::Space => Wanted::Space,
+            Step::Space => Wanted::Text("one space"),
             Step::Signs { words, .. } => Wanted::Text(words),
-            Step::Number(range) => Wanted::Number(range),
+            Step::Number(what) => Wanted::Number(self.rules.range(what)),
             Step::Right => Wanted::Text("an event at the right of 8 places"),
-            Step::Left { places, range, .. } if has_left_number(rest, places) => {
-                Wanted::Number(range)
+            Step::Left { places, what, .. } if has_left_number(rest, places) => {
+                Wanted::Number(self.rules.range(what))
             }
             Step::Left { words, .. } => Wanted::Text(words),
             Step::FrontEnd => Wanted::Text("1 to 16 letters a to z and hyphens"),
+            Step::Names if self.is_full() => Wanted::Fewer(self.rules.most_names()),
+            Step::Register if token.is_empty() => Wanted::Text("a register"),
             Step::Register => Wanted::Register,
-            Step::Names(most) if self.is_full(most) => Wanted::Fewer(most),
-            Step::Name | Step::Names(_) if is_register(token_of(rest)) => Wanted::Name(NAME_TAKEN),
-            Step::Name | Step::Names(_) => Wanted::Name(NAME_FORM),
-            Step::NoValue if starts_value(rest) => Wanted::NoValue,
-            Step::NoValue | Step::End => Wanted::End,
+            Step::Name | Step::Names if token.is_empty() => Wanted::Text("a name"),
+            Step::Name | Step::Names if is_register(token) => Wanted::Name(NAME_TAKEN),
+            Step::Name | Step::Names => Wanted::Name(NAME_FORM),
+            Step::NoValue if starts_value(rest) => Wanted::Told("a read takes no value", ""),
+            Step::NoValue | Step::End if starts_comment(rest) => {
+                Wanted::Told("a comment stands on a line of its own", "")
+            }
+            Step::NoValue | Step::End => Wanted::Text("the end of the line"),
         }
     }
 
-    /// What doesn't fit where this is wanted, before these parts. What is too much after one space is marked, and not
-    /// the space.
-    fn misfit(&self, wanted: Wanted, later: Form) -> Misfit<'a> {
-        let (wanted, is_after_space) = match wanted {
-            Wanted::Space if self.rest.is_empty() => (missing(later), false),
-            Wanted::Space => (wanted, spaces_before(self.rest) > 1),
-            Wanted::NoValue => (wanted, true),
-            _ => (wanted, false),
+    /// What doesn't fit of this part, before these others. What is too much after one space is marked, and not the
+    /// space.
+    fn misfit(&self, step: Step, later: Form) -> Misfit<'a> {
+        let rest = self.rest;
+        let (wanted, is_after_space) = match step {
+            Step::Space if rest.is_empty() => (self.missing(later), false),
+            Step::Space => (self.wanted(step), spaces_before(rest) > 1),
+            Step::NoValue => (self.wanted(step), starts_value(rest)),
+            _ => (self.wanted(step), false),
         };
+        let before = self.before().len();
         Misfit {
-            at: self
-                .before()
-                .len()
-                .saturating_add(usize::from(is_after_space)),
-            found: self.rest,
+            at: before.saturating_add(usize::from(is_after_space)),
+            found: rest,
             wanted,
         }
     }
+
+    /// What is missing where the line ends in the place of a space and these parts.
+    fn missing(&self, later: Form) -> Wanted {
+        match later.first().copied() {
+            Some(Step::Number(what)) => Wanted::Told(self.rules.range(what).what, MISSING),
+            Some(Step::Register) => Wanted::Told("a register", MISSING),
+            Some(Step::Names) => Wanted::Told("a name", MISSING),
+            Some(Step::Word { words, .. }) => Wanted::Words(words),
+            _ => Wanted::Text("one space"),
+        }
+    }
+}
+
+/// Whether a comment begins here, after spaces or none.
+fn starts_comment(bytes: &[u8]) -> bool {
+    after(bytes, spaces_before(bytes)).starts_with(b"#")
 }
 
 /// Whether one space and a number stand at the start.
 fn starts_value(bytes: &[u8]) -> bool {
-    skip(bytes, b" ").is_some_and(|value| is_numeral(token_of(value)))
-}
-
-/// What is missing where the line ends in the place of a space and these parts.
-fn missing(later: Form) -> Wanted {
-    match later.first().copied() {
-        Some(Step::Number(range)) => Wanted::Missing(range.what),
-        Some(Step::Register) => Wanted::Missing("a register"),
-        Some(Step::Names(_)) => Wanted::Missing("a name"),
-        Some(Step::Word { words, .. }) => Wanted::Words(words),
-        _ => Wanted::Space,
+    match skip(bytes, b" ") {
+        Some(value) => is_numeral(token_of(value)),
+        None => false,
     }
 }
 
 /// The first place of a line that doesn't fit a form.
-pub fn misfit_of<'a>(
-    line: &'a [u8],
-    form: Form,
-    names: &[&[u8]],
-    is_strict: bool,
-) -> Option<Misfit<'a>> {
+pub fn misfit_of<'a>(line: &'a [u8], form: Form, rules: Rules<'a>) -> Option<Misfit<'a>> {
     let mut scan = Scan {
         line,
         rest: line,
-        is_strict,
+        rules,
     };
     let mut steps = form;
     for _ in 0..line.len().saturating_add(MOST_EMPTY) {
         let (step, later) = steps.split_first()?;
-        let Some(count) = scan.taken(*step, names) else {
-            return Some(scan.misfit(scan.wanted(*step), later));
+        let Some(count) = scan.taken(*step) else {
+            return Some(scan.misfit(*step, later));
         };
         steps = match *step {
             Step::Word { words, forms } => {
-                let place = place_of(words, token_of(scan.rest));
-                place
-                    .and_then(|place| forms.get(place))
-                    .copied()
-                    .unwrap_or(later)
+                let place = place_of(words, token_of(scan.rest)).unwrap_or(0);
+                forms.get(place).copied().unwrap_or(later)
             }
             // After a name, the parts after the first word of the line go on again.
-            Step::Names(_) if count < scan.rest.len() => form.get(1..).unwrap_or(later),
+            Step::Names if count < scan.rest.len() => form.get(1..).unwrap_or(later),
             _ => later,
         };
         scan.rest = after(scan.rest, count);

@@ -1,5 +1,21 @@
 //! What is wanted at a place of a line.
 
+/// What a number of a line is.
+#[derive(Clone, Copy)]
+pub enum Quantity {
+    Process,
+    /// A process of a report, which has fewer than a number in one byte can tell.
+    ReportProcess,
+    Operation,
+    Event,
+    Frame,
+    Value,
+    ProcessCount,
+    RegisterCount,
+    EntryCount,
+    IdCount,
+}
+
 /// A number that is wanted.
 #[derive(Clone, Copy)]
 pub struct Range {
@@ -29,14 +45,14 @@ pub enum Step {
         signs: &'static [u8],
         words: &'static str,
     },
-    Number(Range),
+    Number(Quantity),
     /// The spaces before a number that ends a column of 8 places.
     Right,
     /// A number that begins a column of `places` places, of which `words` speaks.
     Left {
         places: usize,
         words: &'static str,
-        range: Range,
+        what: Quantity,
     },
     /// The name of a front end.
     FrontEnd,
@@ -44,12 +60,23 @@ pub enum Step {
     Register,
     /// The name of a register.
     Name,
-    /// The names of registers, with a space before each, no more than this, and the end of the line.
-    Names(u64),
+    /// The names of registers, with a space before each, and the end of the line.
+    Names,
     /// The end of the line.
     End,
     /// The end of the line of a read.
     NoValue,
+}
+
+/// By what the lines of a text are judged.
+#[derive(Clone, Copy)]
+pub struct Rules<'a> {
+    /// The names of its registers.
+    pub names: &'a [&'a [u8]],
+    /// Whether it is a report of version 1.
+    pub is_older: bool,
+    /// Whether numbers and names are looked at too, and not the form alone.
+    pub is_strict: bool,
 }
 
 /// What is wanted at a place of a line.
@@ -57,23 +84,17 @@ pub enum Step {
 pub enum Wanted {
     /// One of these words.
     Words(&'static [&'static str]),
-    /// One space.
-    Space,
     /// What these words say.
     Text(&'static str),
     Number(Range),
-    /// A register that the text has named.
+    /// A register that the text has named, in the place of this one.
     Register,
     /// The name of a register. What is told of the one that stands there, which is misspelt or taken.
     Name(&'static str),
     /// No more names than this.
     Fewer(u64),
-    /// The end of the line.
-    End,
-    /// The end of the line of a read, where a value stands.
-    NoValue,
-    /// More of the line, which ends: this.
-    Missing(&'static str),
+    /// What these two texts say, of which the first may say what the other is told of.
+    Told(&'static str, &'static str),
 }
 
 /// What is told of a name that is none.
