@@ -1,8 +1,8 @@
 //! A space-time diagram of a run, as SVG.
 use crate::layout::{BELOW, LEADING, Label, Layout, NUMBERS, TITLE, TOP};
-use crate::legend::{HEAD, Legend, ROW, show_tips};
+use crate::legend::{Legend, ROW, show_head};
 use crate::shapes::{Diamond, Node, Span, Spot, Stub, Way};
-use crate::words::{cast_text, frame_text};
+use crate::words::{CastText, IdText, TakeText};
 use reg_base::{Delivered, Names};
 use reg_checkers::Point;
 use reg_frames::{Body, Frame};
@@ -77,17 +77,17 @@ impl<A: Allocator + Copy> Drawing<'_, A> {
             f,
             "<svg xmlns=\"http://www.w3.org/2000/svg\" class=\"awshow\" width=\"{width}\" height=\"{height}\" viewBox=\"0 0 {width} {height}\" role=\"img\">"
         )?;
-        f.write_str(HEAD)?;
-        show_tips(f)?;
+        show_head(f)?;
         writeln!(
             f,
-            "</defs>\n<rect class=\"page\" width=\"{width}\" height=\"{height}\"/>"
-        )?;
-        let title = self.title.as_str();
-        writeln!(
-            f,
-            "<text class=\"name\" x=\"10\" y=\"{TITLE}\">{title}</text>"
+            "<rect class=\"page\" width=\"{width}\" height=\"{height}\"/>"
         )
+    }
+
+    /// Shows the title.
+    fn show_title<W: fmt::Write>(&self, f: &mut fmt::Formatter<W>) -> fmt::Result {
+        let (at, title) = (Spot { x: 10, y: TITLE }, self.title.as_str());
+        writeln!(f, "<text class=\"name\" {at}>{title}</text>")
     }
 
     /// Shows the events' numbers, with a line each.
@@ -98,9 +98,10 @@ impl<A: Allocator + Copy> Drawing<'_, A> {
                 from: Spot { x: *x, y: TOP },
                 to: Spot { x: *x, y: bottom },
             };
+            let at = Spot { x: *x, y: NUMBERS };
             writeln!(
                 f,
-                "<line class=\"event\" {span}/>\n<text class=\"soft\" x=\"{x}\" y=\"{NUMBERS}\" text-anchor=\"middle\">{number}</text>"
+                "<line class=\"event\" {span}/>\n<text class=\"soft\" {at} text-anchor=\"middle\">{number}</text>"
             )?;
         }
         Ok(())
@@ -114,10 +115,13 @@ impl<A: Allocator + Copy> Drawing<'_, A> {
                 from: Spot { x: 40, y: *y },
                 to: Spot { x: right, y: *y },
             };
-            let base = y.saturating_add(4);
+            let base = Spot {
+                x: 10,
+                y: y.saturating_add(4),
+            };
             writeln!(
                 f,
-                "<line class=\"line\" {span}/>\n<text class=\"name\" x=\"10\" y=\"{base}\">p{process}</text>"
+                "<line class=\"line\" {span}/>\n<text class=\"name\" {base}>p{process}</text>"
             )?;
         }
         Ok(())
@@ -135,24 +139,22 @@ impl<A: Allocator + Copy> Drawing<'_, A> {
         arrow: &Arrow,
         frame: Frame,
     ) -> fmt::Result {
-        let Arrow {
-            from,
-            to,
-            place,
-            puts,
-            takes,
-        } = *arrow;
-        let class = class_of(frame);
         let span = Span {
-            from: self.spot(puts, from),
-            to: self.spot(takes, to),
+            from: self.spot(arrow.puts, arrow.from),
+            to: self.spot(arrow.takes, arrow.to),
         };
         let bent = self.seems_to_meet(span, arrow);
-        let way = Way { span, bent };
-        let words = frame_text(self.names, from, frame);
+        let (class, way) = (class_of(frame), Way { span, bent });
+        let take = TakeText {
+            names: self.names,
+            from: arrow.from,
+            to: arrow.to,
+            place: arrow.place as usize,
+            frame,
+        };
         writeln!(
             f,
-            "<path class=\"{class}\" d=\"{way}\" marker-end=\"url(#{class})\"><title>take {from} {to} {place}: {words}</title></path>"
+            "<path class=\"{class}\" d=\"{way}\" marker-end=\"url(#{class})\"><title>{take}</title></path>"
         )
     }
 
@@ -200,12 +202,14 @@ impl<A: Allocator + Copy> Drawing<'_, A> {
             class: class_of(sent.frame),
             span,
         };
-        let (to, place) = (sent.to, sent.place);
-        let words = frame_text(self.names, process, sent.frame);
-        writeln!(
-            f,
-            "<g><title>never taken: take {process} {to} {place}: {words}</title>{stub}</g>"
-        )
+        let take = TakeText {
+            names: self.names,
+            from: process,
+            to: sent.to,
+            place: sent.place,
+            frame: sent.frame,
+        };
+        writeln!(f, "<g><title>never taken: {take}</title>{stub}</g>")
     }
 
     /// Shows a stub for each frame that is never taken.
@@ -244,15 +248,21 @@ impl<A: Allocator + Copy> Drawing<'_, A> {
         text: &str,
     ) -> fmt::Result {
         let Spot { x, y } = self.spot(bar.call as usize, bar.id.process);
-        let (top, base) = (y.saturating_sub(28), y.saturating_sub(34));
         let (end, class) = self.end_of(bar);
         let wide = end.saturating_sub(x).max(8);
-        let (process, number) = (bar.id.process, bar.id.number);
+        let id = IdText { id: bar.id };
+        let corner = Spot {
+            x,
+            y: y.saturating_sub(28),
+        };
+        let base = Spot {
+            x,
+            y: y.saturating_sub(34),
+        };
         writeln!(
             f,
-            "<rect class=\"{class}\" x=\"{x}\" y=\"{top}\" width=\"{wide}\" height=\"8\" rx=\"2\"><title>p{process} #{number}</title></rect>"
-        )?;
-        writeln!(f, "<text x=\"{x}\" y=\"{base}\">{text}</text>")
+            "<rect class=\"{class}\" {corner} width=\"{wide}\" height=\"8\" rx=\"2\"><title>{id}</title></rect>\n<text {base}>{text}</text>"
+        )
     }
 
     /// Shows a bar for each operation.
@@ -266,16 +276,16 @@ impl<A: Allocator + Copy> Drawing<'_, A> {
     /// Shows where each operation takes effect.
     fn show_points<W: fmt::Write>(&self, f: &mut fmt::Formatter<W>) -> fmt::Result {
         for point in self.points {
-            let (process, number, at) = (point.id.process, point.id.number, point.at);
+            let (id, at) = (IdText { id: point.id }, point.at);
             let diamond = Diamond {
                 middle: Spot {
                     x: self.x(at as usize),
-                    y: self.y(process).saturating_sub(24),
+                    y: self.y(point.id.process).saturating_sub(24),
                 },
             };
             writeln!(
                 f,
-                "<path class=\"point\" d=\"{diamond}\"><title>p{process} #{number} at {at}</title></path>"
+                "<path class=\"point\" d=\"{diamond}\"><title>{id} at {at}</title></path>"
             )?;
         }
         Ok(())
@@ -288,12 +298,17 @@ impl<A: Allocator + Copy> Drawing<'_, A> {
         at: Spot,
         delivered: &[Delivered],
     ) -> fmt::Result {
-        let left = at.x.saturating_sub(3);
-        let mut base = at.y.saturating_add(BELOW).saturating_sub(4);
+        let mut base = Spot {
+            x: at.x.saturating_sub(3),
+            y: at.y.saturating_add(BELOW).saturating_sub(4),
+        };
         for cast in delivered {
-            let cast = cast_text(self.names, *cast);
-            writeln!(f, "<text x=\"{left}\" y=\"{base}\">{cast}</text>")?;
-            base = base.saturating_add(LEADING);
+            let cast = CastText {
+                names: self.names,
+                cast: *cast,
+            };
+            writeln!(f, "<text {base}>{cast}</text>")?;
+            base.y = base.y.saturating_add(LEADING);
         }
         Ok(())
     }
@@ -336,6 +351,7 @@ impl<A: Allocator + Copy> fmt::Display for Drawing<'_, A> {
     fn fmt<W: fmt::Write>(&self, f: &mut fmt::Formatter<W>) -> fmt::Result {
         let legend = self.layout.bottom.saturating_add(28);
         self.show_page(f)?;
+        self.show_title(f)?;
         self.show_events(f)?;
         self.show_processes(f)?;
         self.show_run(f)?;

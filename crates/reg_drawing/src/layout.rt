@@ -1,5 +1,5 @@
 //! Where the parts of a drawing stand.
-use crate::words::{AnswerText, cast_text};
+use crate::words::{AnswerText, CastText};
 use reg_base::Names;
 use reg_text::{OpLine, name_of_op};
 use reg_trace::{Bar, Filled, GAP, Moment, TracedRun};
@@ -76,7 +76,7 @@ fn longest<A: Allocator + Copy>(
 ) -> Result<usize, AllocError> {
     let mut most = 0;
     for cast in &moment.delivered {
-        let cast = cast_text(names, *cast);
+        let cast = CastText { names, cast: *cast };
         let text = format!(in alloc; "{cast}")?;
         most = most.max(text.len());
     }

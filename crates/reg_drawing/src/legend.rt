@@ -4,7 +4,7 @@ use crate::shapes::{Diamond, Node, Soft, Span, Spot, Stub};
 use std::fmt;
 
 /// The title and the colours, on light and on dark pages.
-pub(crate) const HEAD: &str = "\
+const HEAD: &str = "\
 <title>Space-time diagram of a run</title>
 <style>
 .awshow{font:12px ui-monospace,'DejaVu Sans Mono',Menlo,Consolas,monospace;font-variant-ligatures:none}
@@ -48,14 +48,21 @@ pub(crate) const HEAD: &str = "\
 ";
 
 /// Shows how arrows end.
-pub(crate) fn show_tips<W: fmt::Write>(f: &mut fmt::Formatter<W>) -> fmt::Result {
-    for class in ["cast", "ack", "count"] {
+fn show_tips<W: fmt::Write>(f: &mut fmt::Formatter<W>) -> fmt::Result {
+    for class in &["cast", "ack", "count"] {
         writeln!(
             f,
             "<marker id=\"{class}\" viewBox=\"0 0 8 8\" refX=\"16\" refY=\"4\" markerWidth=\"8\" markerHeight=\"8\" markerUnits=\"userSpaceOnUse\" orient=\"auto\"><path class=\"{class}-tip\" d=\"M0 0L8 4L0 8Z\"/></marker>"
         )?;
     }
     Ok(())
+}
+
+/// Shows the head: the title, the colours, and how arrows end.
+pub(crate) fn show_head<W: fmt::Write>(f: &mut fmt::Formatter<W>) -> fmt::Result {
+    f.write_str(HEAD)?;
+    show_tips(f)?;
+    f.write_str("</defs>\n")
 }
 
 /// A sign whose meaning is told.
@@ -198,7 +205,7 @@ impl Legend {
     pub(crate) fn rows(&self, width: u32) -> u32 {
         let mut rows = 1u32;
         let mut x = BESIDE;
-        for (is_there, sign, words) in self.signs() {
+        for &(is_there, sign, words) in &self.signs() {
             if is_there {
                 if is_over(x, sign, words, width) {
                     rows = rows.saturating_add(1);
@@ -218,7 +225,7 @@ impl Legend {
         width: u32,
     ) -> fmt::Result {
         let mut at = Spot { x: BESIDE, y };
-        for (is_there, sign, words) in self.signs() {
+        for &(is_there, sign, words) in &self.signs() {
             if is_there {
                 if is_over(at.x, sign, words, width) {
                     at = Spot {

@@ -10,10 +10,13 @@ use std::alloc::{AllocError, Allocator};
 
 /// The place of the reply of an operation that is answered.
 fn place_of<A: Allocator + Copy>(moments: &[Moment<A>], bar: &Bar) -> Option<u64> {
-    let end = bar.end?;
-    let moment = moments.get(end.at as usize)?;
-    let reply = moment.reply?;
-    Some(reply.place)
+    if let Some(end) = bar.end
+        && let Some(moment) = moments.get(end.at as usize)
+        && let Some(reply) = moment.reply
+    {
+        return Some(reply.place);
+    }
+    None
 }
 
 /// The texts of the bars.

@@ -31,6 +31,13 @@ impl Spot {
     }
 }
 
+impl fmt::Display for Spot {
+    fn fmt<W: fmt::Write>(&self, f: &mut fmt::Formatter<W>) -> fmt::Result {
+        let Spot { x, y } = *self;
+        write!(f, "x=\"{x}\" y=\"{y}\"")
+    }
+}
+
 /// From where to where a line goes.
 #[derive(Clone, Copy)]
 pub struct Span {
@@ -135,10 +142,14 @@ pub struct Node {
 impl fmt::Display for Node {
     fn fmt<W: fmt::Write>(&self, f: &mut fmt::Formatter<W>) -> fmt::Result {
         let Spot { x, y } = self.middle;
-        let (base, clock) = (y.saturating_add(3), self.clock);
+        let base = Spot {
+            x,
+            y: y.saturating_add(3),
+        };
+        let clock = self.clock;
         write!(
             f,
-            "<g><circle class=\"dot\" cx=\"{x}\" cy=\"{y}\" r=\"8\"/><text class=\"clock\" x=\"{x}\" y=\"{base}\">{clock}</text>"
+            "<g><circle class=\"dot\" cx=\"{x}\" cy=\"{y}\" r=\"8\"/><text class=\"clock\" {base}>{clock}</text>"
         )
     }
 }
@@ -152,8 +163,7 @@ pub struct Soft<'a> {
 
 impl fmt::Display for Soft<'_> {
     fn fmt<W: fmt::Write>(&self, f: &mut fmt::Formatter<W>) -> fmt::Result {
-        let Spot { x, y } = self.at;
-        let words = self.words;
-        write!(f, "<text class=\"soft\" x=\"{x}\" y=\"{y}\">{words}</text>")
+        let (at, words) = (self.at, self.words);
+        write!(f, "<text class=\"soft\" {at}>{words}</text>")
     }
 }

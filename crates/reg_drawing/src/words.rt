@@ -1,5 +1,5 @@
 //! Casts, frames and answers in the words of a trace, for the texts of a drawing.
-use reg_base::{Answer, Names};
+use reg_base::{Answer, Names, OpId};
 use reg_frames::Frame;
 use reg_process::Delivered;
 use reg_text::{Sink, put_answer};
@@ -64,34 +64,38 @@ impl<A: Allocator + Copy> fmt::Display for CastText<'_, A> {
     }
 }
 
-/// The text of a cast, under these names.
-pub fn cast_text<A: Allocator + Copy>(names: &Names<A>, cast: Delivered) -> CastText<'_, A> {
-    CastText { names, cast }
-}
-
-/// Shows a frame in words.
+/// Shows the take of a frame, in the words of a schedule and of a trace.
 #[derive(Drop)]
-pub struct FrameText<'a, A: Allocator + Copy> {
+pub struct TakeText<'a, A: Allocator + Copy> {
     pub names: &'a Names<A>,
     /// The process that put it.
     pub from: u8,
+    pub to: u8,
+    /// Its place on its wire.
+    pub place: usize,
     pub frame: Frame,
 }
 
-impl<A: Allocator + Copy> fmt::Display for FrameText<'_, A> {
+impl<A: Allocator + Copy> fmt::Display for TakeText<'_, A> {
     fn fmt<W: fmt::Write>(&self, formatter: &mut fmt::Formatter<W>) -> fmt::Result {
+        let (from, to, place) = (self.from, self.to, self.place);
+        write!(formatter, "take {from} {to} {place}: ")?;
         let mut letters = Letters { formatter };
         let mut sink = Sink::new(&mut letters);
-        put_frame(&mut sink, self.names, self.from, self.frame);
+        put_frame(&mut sink, self.names, from, self.frame);
         shown(&sink)
     }
 }
 
-/// The words of a frame that this process put, under these names.
-pub fn frame_text<A: Allocator + Copy>(
-    names: &Names<A>,
-    from: u8,
-    frame: Frame,
-) -> FrameText<'_, A> {
-    FrameText { names, from, frame }
+/// Shows an operation by its process and its number.
+#[derive(Clone, Copy)]
+pub struct IdText {
+    pub id: OpId,
+}
+
+impl fmt::Display for IdText {
+    fn fmt<W: fmt::Write>(&self, f: &mut fmt::Formatter<W>) -> fmt::Result {
+        let OpId { process, number } = self.id;
+        write!(f, "p{process} #{number}")
+    }
 }

@@ -12,9 +12,6 @@ const MARK: &[u8] = &[0xEF, 0xBB, 0xBF];
 /// No word that is wanted is longer.
 const LONGEST_WORD: usize = 16;
 
-/// As many spaces as the longest number has places.
-const SPACES: &[u8] = b"                    ";
-
 /// Lines of more bytes are shown in part.
 const LONGEST_SHOWN: usize = 96;
 
@@ -155,8 +152,9 @@ impl<'a, A: Allocator + Copy> Notes<'a, A> {
 
     /// Puts a mark below a line of this number, after these of its bytes.
     fn put_mark(&mut self, number: u64, before: &[u8]) {
-        let places = number.checked_ilog10().unwrap_or(0).saturating_add(1);
-        self.sink.put(front_of(SPACES, places as usize));
+        for _ in 0..=number.checked_ilog10().unwrap_or(0) {
+            self.put(&[" "]);
+        }
         self.put(&[" | "]);
         for byte in before {
             let sign = match *byte {
