@@ -17,7 +17,11 @@ use Rattle.reg_records.specs.Records.{FailsAt, NothingLeft, mentions}
 use Rattle.reg_verify.specs.declared.recorded.Recorded.{Recorded}
 use Rattle.reg_verify.specs.Adding.{IsAdded}
 use Rattle.reg_verify.specs.Logs.{AreLogs, log_of, order_of}
-use Rattle.reg_verify.specs.Verifies.{FailsFirst}
+use Rattle.reg_verify.specs.Verifies.{FailsFirst, line_at}
+use Rattle.reg_verify.specs.Judging.{BlamesSteps}
+use Rattle.reg_verify.specs.declared.faults.VerifyFault.{VerifyFault}
+use Rattle.reg_verify.specs.declared.faults.VerifyFault.TheVariants.{Command, Unfaithful}
+use Rattle.reg_commands.specs.declared.faults.Fault.TheVariants.{OutOfMemory}
 
 -- as many of the processes are p as steps are its
 as_long : (p : ℕ) (steps : List Recorded) → length (filter (λ q. q == p) (order_of steps)) ≡ length (filter (λ (r : Recorded). r.process == p) steps)
@@ -50,6 +54,14 @@ fails_first start shape steps logs place split fails = record { logs = logs; spl
     within (inl e) = absurd (fails.left (e ∙ sym same) (nothing_left shape.processes steps logs split))
     within (inr (inl lt)) = lt
     within (inr (inr gt)) = let le = fails.within in absurd (omega (arith, le, same, gt))
+
+-- what is blamed where these processes and logs are no run
+pub blames : (start : Op → ℕ → Start) (shape : Extent) (steps : List Recorded) (order : List ℕ) (logs : List (List LogEntry)) (f : VerifyFault) → AreLogs shape.processes steps logs → order ≡ order_of steps
+    → (f ≡ Command OutOfMemory) ⊎ ((place : ℕ) × (f ≡ Unfaithful (line_at place)) × FailsAt start shape order logs place) → BlamesSteps start shape steps f
+blames start shape steps order logs f split same (inl e) = subst (λ (g : VerifyFault). BlamesSteps start shape steps g) (sym e) refl
+blames start shape steps order logs f split same (inr (place, e, fails)) =
+    let first = fails_first start shape steps logs place split (subst (λ (o : List ℕ). FailsAt start shape o logs place) same fails) in
+    subst (λ (g : VerifyFault). BlamesSteps start shape steps g) (sym e) (place, refl, first)
 
 module _ {A : Type 0} where
   items : Vec LogEntry A → List LogEntry

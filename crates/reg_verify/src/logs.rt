@@ -8,10 +8,7 @@ use reg_records::LogEntry;
 use std::alloc::{AllocError, Allocator};
 
 /// The processes of the steps, in order.
-pub(crate) fn order_of<A: Allocator + Copy>(
-    alloc: A,
-    steps: &[Recorded],
-) -> Result<Vec<u8, A>, AllocError>
+fn order_of<A: Allocator + Copy>(alloc: A, steps: &[Recorded]) -> Result<Vec<u8, A>, AllocError>
     ensures { IfOk result (λ v. v.items ≡ order_of_steps steps.now) }
 {
     let mut order = Vec::new(alloc);
@@ -50,7 +47,7 @@ fn add<A: Allocator + Copy>(
 }
 
 /// The log of each process. The steps of further processes are in none.
-pub(crate) fn logs_of<A: Allocator + Copy>(
+fn logs_of<A: Allocator + Copy>(
     alloc: A,
     processes: u32,
     steps: &[Recorded],
@@ -64,4 +61,18 @@ pub(crate) fn logs_of<A: Allocator + Copy>(
         }
     }
     Ok(logs)
+}
+
+/// The processes of the steps, in order, and the log of each process.
+pub(crate) fn part<A: Allocator + Copy>(
+    alloc: A,
+    processes: u32,
+    steps: &[Recorded],
+) -> Result<(Vec<u8, A>, Vec<Vec<LogEntry, A>, A>), AllocError>
+    ensures order { IfOk result (λ p. p.0.items ≡ order_of_steps steps.now) }
+    ensures logs { IfOk result (λ p. AreLogs processes steps.now (map (λ l. l.items) p.1.items)) }
+{
+    let order = order_of(alloc, steps)?;
+    let logs = logs_of(alloc, processes, steps)?;
+    Ok((order, logs))
 }

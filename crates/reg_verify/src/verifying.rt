@@ -1,25 +1,26 @@
 //! The command that judges a record and prints the report of its run.
-ghost use Rattle.std.specs.Prelude.{◌≡◌, ◌≢◌, ◌≤◌, ◌++◌, ◌∷◌, [], codes, IfOk, IfErr, IfSome, IsErrOf, MatchResult, OnOk, length, string_bytes};
+ghost use Rattle.std.specs.Prelude.{ℕ, ◌≡◌, ◌≢◌, ◌≤◌, ◌⊎◌, ◌++◌, ◌∷◌, [], codes, IfOk, IfErr, IfSome, IsErrOf, MatchResult, OnOk, length, map, string_bytes};
 ghost use Rattle.std.specs.Fmt.{decimal};
 ghost use Rattle.std.specs.Io.KnownBytes.{Appends};
 ghost use Rattle.reg_base.specs.declared.limits.TheConstants.{LONGEST_INPUT, MOST_EVENTS};
 ghost use Rattle.reg_text.specs.Writing.{AppendsPart, Puts};
 ghost use Rattle.reg_commands.specs.NoPoints.{HasNoPoints};
 ghost use Rattle.reg_commands.specs.Replays.{ShowsPoints, start_of};
+ghost use Rattle.reg_records.specs.Records.{FailsAt, IsFaithful};
 ghost use Rattle.reg_verify.specs.Judging.{BlamesSteps};
 ghost use Rattle.reg_verify.specs.RecordLines.{Account, IsAccount, SpellsAccount};
-ghost use Rattle.reg_verify.specs.Verifies.{BlamesAccount, BlamesText, IsReportOfAccount, Runs, ShowsAccount, Verifies, verify_line};
+ghost use Rattle.reg_verify.specs.Verifies.{BlamesAccount, BlamesText, IsReportOfAccount, Runs, ShowsAccount, Verifies, line_at, verify_line};
 ghost use Rattle.reg_verify.specs.declared.faults.VerifyFault.{VerifyFault as AnyFault};
 
 use crate::faults::VerifyFault;
-use crate::logs::{logs_of, order_of};
+use crate::logs::part;
 use crate::record_text::{Record, RecordFault, parse_record};
 use crate::recorded::Recorded;
 use reg_base::Shape;
 use reg_commands::{Fault, read_input, report_run, report_run_with_points, write_fault, write_out};
 use reg_front::{Front, FrontEnd, Linear, LocalRead, LocalWrite, RealTime};
 use reg_history::{ReadWhy, Report};
-use reg_records::{CloseFault, play};
+use reg_records::{CloseFault, LogEntry, play};
 use reg_text::{Sink, Unwritten, put_number};
 use reg_world::{PackedWires, World};
 use std::alloc::Allocator;
@@ -44,6 +45,30 @@ fn read_record_text<A: Allocator + Copy>(alloc: A, text: &str) -> Result<Record<
     }
 }
 
+/// The run that these logs are in this order, or the line of the first step with which they are none.
+fn run_logs<F: FrontEnd, A: Allocator + Copy>(
+    alloc: A,
+    shape: Shape,
+    order: &[u8],
+    logs: &[Vec<LogEntry, A>],
+) -> Result<World<F, A, PackedWires<A>>, VerifyFault>
+    requires logs { length logs.now ≡ shape.processes }
+    requires few { length order.now ≤ MOST_EVENTS }
+    ensures ran { IfOk result (λ w. IsFaithful F.start shape order.now (map (λ v. v.items) logs.now) w) }
+    ensures why { IfErr result (λ f. (f ≡ VerifyFault.Command Fault.OutOfMemory) ⊎ ((place : ℕ) × (f ≡ VerifyFault.Unfaithful (line_at place)) × FailsAt F.start shape order.now (map (λ v. v.items) logs.now) place)) }
+{
+    match play(alloc, shape, order, logs) {
+        Ok(world) => Ok(world),
+        Err(CloseFault::Unfaithful { place }) => Err(VerifyFault::Unfaithful {
+            line: place + FIRST_STEP,
+        }),
+        Err(CloseFault::Mismatch { .. }) => unreachable!(),
+        Err(CloseFault::OutOfMemory) => Err(VerifyFault::Command {
+            fault: Fault::OutOfMemory,
+        }),
+    }
+}
+
 /// The run of a record's steps.
 fn run_steps<F: FrontEnd, A: Allocator + Copy>(
     alloc: A,
@@ -54,20 +79,10 @@ fn run_steps<F: FrontEnd, A: Allocator + Copy>(
     ensures ran { IfOk result (λ w. Runs F.start shape steps.items w) }
     ensures why { IfErr result (λ f. BlamesSteps F.start shape steps.items f) }
 {
-    let order = order_of(alloc, &steps)?;
-    let logs = logs_of(alloc, shape.processes(), &steps)?;
+    let (order, logs) = part(alloc, shape.processes(), &steps)?;
     // The run doesn't need the steps, which take as much memory as the logs.
     drop(steps);
-    match play(alloc, shape, &order, &logs) {
-        Ok(world) => Ok(world),
-        Err(CloseFault::Unfaithful { place }) => Err(VerifyFault::Unfaithful {
-            line: place + FIRST_STEP,
-        }),
-        Err(CloseFault::Mismatch { .. }) => unreachable!(),
-        Err(CloseFault::OutOfMemory) => Err(VerifyFault::Command {
-            fault: Fault::OutOfMemory,
-        }),
-    }
+    run_logs::<F, A>(alloc, shape, &order, &logs)
 }
 
 /// The report of a record, with no points.

@@ -1,6 +1,6 @@
 use Rattle.std.proofs.Common.{sym, subst, rules, arith, inr, refl, ◌≡◌, ◌+◌, List, [], ◌∷◌, ◌++◌}
 use Rattle.reg_text.proofs.Numbered.{asked_on, goes_on}
-use Rattle.reg_text.proofs.Turns.{Gathered, gathers_one, gathers_none, gathers_more}
+use Rattle.reg_text.proofs.Turns.{Gathered, gathers_one, gathers_none, gathers_more, all_gathered}
 use Rattle.reg_verify.specs.declared.recorded.Recorded.{Recorded}
 use Rattle.reg_verify.specs.RecordLines.{recorded_text, RecordedFits}
 use Rattle.reg_verify.proofs.record_text.read_steps.Goals as goal
@@ -64,3 +64,23 @@ returns-in-Some-next-clause-whole g c = λ ys fit few e.
     let last = c.loop-place-test.false in
     absurd (gathers_more (recorded_text c.args.names.now) (λ _ x. RecordedFits c.args.names.now x) c.args.lines.now.left c.loop-place.lines.left c.loop-place.steps.items c.loop-place._place c.loop-place.invariant.gathered
     c.in-Some-next.line.now _ c.in-Some-next.ensures.line ys fit (omega (arith, few, last)) e)
+
+pub returns-in_default-clause-read : goal.returns-in_default-clause-read
+returns-in_default-clause-read g c =
+    let told = c.loop-place.invariant.gathered in
+    let all = all_gathered (recorded_text c.args.names.now) (λ _ x. RecordedFits c.args.names.now x) c.args.lines.now.left c.loop-place.lines.left c.loop-place.steps.items c.loop-place._place c.loop-place.invariant.gathered c.in_default.ensures.line in
+    (all.0, told.fit, omega (arith, told.count))
+
+pub returns-in_default-clause-whole : goal.returns-in_default-clause-whole
+returns-in_default-clause-whole g c = λ ys fit few e.
+    (all_gathered (recorded_text c.args.names.now) (λ _ x. RecordedFits c.args.names.now x) c.args.lines.now.left c.loop-place.lines.left c.loop-place.steps.items c.loop-place._place c.loop-place.invariant.gathered c.in_default.ensures.line).1 ys fit e
+
+pub returns-in-None-clause-read : goal.returns-in-None-clause-read
+returns-in-None-clause-read g c =
+    let told = c.loop-place.invariant.gathered in
+    let all = all_gathered (recorded_text c.args.names.now) (λ _ x. RecordedFits c.args.names.now x) c.args.lines.now.left c.loop-place.lines.left c.loop-place.steps.items c.loop-place._place c.loop-place.invariant.gathered c.in-None.ensures.line in
+    (all.0, told.fit, omega (arith, told.count))
+
+pub returns-in-None-clause-whole : goal.returns-in-None-clause-whole
+returns-in-None-clause-whole g c = λ ys fit few e.
+    (all_gathered (recorded_text c.args.names.now) (λ _ x. RecordedFits c.args.names.now x) c.args.lines.now.left c.loop-place.lines.left c.loop-place.steps.items c.loop-place._place c.loop-place.invariant.gathered c.in-None.ensures.line).1 ys fit e
