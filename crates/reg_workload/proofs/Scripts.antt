@@ -19,7 +19,7 @@ use Rattle.reg_world.specs.Worlds.{run_in}
 use Rattle.reg_process.proofs.Again.{replicate_at}
 use Rattle.reg_world.proofs.witness.Promised.{settled}
 use Rattle.reg_world.proofs.one_order.Settled.{none_on_link}
-use Rattle.reg_workload.specs.Plays.{call_at, calls_of, script_of, Playing, next_at, next_op, calls_next, IsFinished, IsPlay, FollowsScript}
+use Rattle.reg_workload.specs.Plays.{call_at, calls_of, script_of, Playing, next_at, next_op, calls_next, makes, IsFinished, IsPlay, FollowsScript}
 use Rattle.reg_workload.specs.PlayParts.{Follows, IsPlayable, ArePlayable, IsPlaying, AllStill}
 use Rattle.reg_workload.specs.FairParts.{AtRest}
 
@@ -77,6 +77,9 @@ passes start s m e good is none =
           };
       playable = λ p l. subst (λ r. IsPlayable r (script_of s.scripts p)) (sym (ap Made.registers is)) (good.playable p l);
     }
+
+pub is_made : (start : Op → ℕ → Start) (s t : Playing) (e : Event) (m : Made) → m ≡ with_event start s.made e → s ≡ t → record s { made = m } ≡ makes start t e
+is_made start s t e m is same = rw is (ap (λ r. makes start r e) same)
 
 call_same : (p : ℕ) (op : Op) → call_at p (Call p op) ≡ op ∷ []
 call_same p op = ap (λ b. cond b (op ∷ []) []) (eq-eqb p p refl)
@@ -160,18 +163,23 @@ next_in items vs s q place n dn dv op d e good l p b k o =
     let at : n ≡ next_at s q = b ∙ get_or_default s.next place dn 0 ln ∙ ap (λ i. slice_index_or s.next i 0) p in
     (at, o ∙ ap (λ x. slice_index_or x n d) script ∙ ap (λ i. slice_index_or (script_of s.scripts q) i d) at ∙ get_or_default (script_of s.scripts q) (next_at s q) d (Read 0) k)
 
--- the number of that operation is within the script
-pub number_in : {V : Type 0} (items : V → List Op) (vs : List V) (s : Playing) (q place n dn : ℕ) (dv : V) → s.scripts ≡ map items vs → IsPlaying s → q < s.made.processes → place ≡ q
-    → n ≡ slice_index_or s.next place dn → next_at s q < length (script_of s.scripts q) → n < length (items (slice_index_or vs place dv))
-number_in items vs s q place n dn dv e good l p b k =
+-- how many operations a process has called, and how many its script has
+pub left_in : {V : Type 0} (items : V → List Op) (vs : List V) (s : Playing) (q place n dn : ℕ) (dv : V) → s.scripts ≡ map items vs → IsPlaying s → q < s.made.processes → place ≡ q
+    → n ≡ slice_index_or s.next place dn → (n ≡ next_at s q) × (length (items (slice_index_or vs place dv)) ≡ length (script_of s.scripts q))
+left_in items vs s q place n dn dv e good l p b =
     let z : length s.scripts ≡ length vs = ap length e ∙ length-map vs items in
     let g = good.scripts in let h = good.next in
     let lv : place < length vs = omega (arith, z, g, l, p) in
     let ln : place < length s.next = omega (arith, h, l, p) in
     let script : items (slice_index_or vs place dv) ≡ script_of s.scripts q =
     sym (get_or-map items vs place dv [] lv) ∙ ap (λ (xs : List (List Op)). slice_index_or xs place []) (sym e) ∙ ap (λ i. slice_index_or s.scripts i []) p in
-    let at : n ≡ next_at s q = b ∙ get_or_default s.next place dn 0 ln ∙ ap (λ i. slice_index_or s.next i 0) p in
-    let same = ap length script in
+    (b ∙ get_or_default s.next place dn 0 ln ∙ ap (λ i. slice_index_or s.next i 0) p, ap length script)
+
+-- the number of that operation is within the script
+pub number_in : {V : Type 0} (items : V → List Op) (vs : List V) (s : Playing) (q place n dn : ℕ) (dv : V) → s.scripts ≡ map items vs → IsPlaying s → q < s.made.processes → place ≡ q
+    → n ≡ slice_index_or s.next place dn → next_at s q < length (script_of s.scripts q) → n < length (items (slice_index_or vs place dv))
+number_in items vs s q place n dn dv e good l p b k =
+    let (at, same) = left_in items vs s q place n dn dv e good l p b in
     omega (arith, at, same, k)
 
 pub number_few : (s : Playing) (q place n dn : ℕ) → IsPlaying s → q < s.made.processes → place ≡ q → n ≡ slice_index_or s.next place dn → next_at s q < length (script_of s.scripts q) → n < MOST_OPERATIONS

@@ -1,4 +1,4 @@
-use Rattle.std.proofs.Common.{rules, arith, ◌≡◌, ◌<◌, ◌∙◌, false, length, slice_index_or, map, refl, ap, sym, subst}
+use Rattle.std.proofs.Common.{rules, arith, ◌≡◌, ◌<◌, ◌∙◌, ◌+◌, [], ◌∷◌, false, length, length-append, slice_index_or, map, refl, ap, sym, subst}
 use Rattle.std.proofs.lemmas.List.{length-map}
 use Rattle.reg_base.specs.declared.limits.TheConstants.{MOST_EVENTS}
 use Rattle.reg_process.specs.declared.events.Event.TheVariants.{Call}
@@ -86,3 +86,32 @@ returns-clause-value g c =
 
 pub returns-clause-accepts : goal.returns-clause-accepts
 returns-clause-accepts g c = (c.index-op.result.now, subst (λ (m : Made). Accepts g.F.FrontEnd.start m (Call c.args.process c.index-op.result.now) c.make.new.world) (ap Playing.made c.self.view_is) c.in_ok-make.ensures.made)
+
+pub returns-in_err-make-clause-same : goal.returns-in_err-make-clause-same
+returns-in_err-make-clause-same g c = ap Playing.scripts c.self.view_is
+
+pub returns-in_err-make-clause-processes : goal.returns-in_err-make-clause-processes
+returns-in_err-make-clause-processes g c = c.in_err-make.ensures.processes ∙ ap (λ (s : Playing). s.made.processes) c.self.view_is
+
+pub returns-in_err-make-clause-registers : goal.returns-in_err-make-clause-registers
+returns-in_err-make-clause-registers g c = c.in_err-make.ensures.registers ∙ ap (λ (s : Playing). s.made.registers) c.self.view_is
+
+pub returns-clause-same : goal.returns-clause-same
+returns-clause-same g c = ap Playing.scripts c.self.view_is
+
+pub returns-clause-processes : goal.returns-clause-processes
+returns-clause-processes g c = c.in_ok-make.ensures.processes ∙ ap (λ (s : Playing). s.made.processes) c.self.view_is
+
+pub returns-clause-registers : goal.returns-clause-registers
+returns-clause-registers g c = c.in_ok-make.ensures.registers ∙ ap (λ (s : Playing). s.made.registers) c.self.view_is
+
+pub returns-clause-going : goal.returns-clause-going
+returns-clause-going g c = ap Made.failed c.in_ok-make.ensures.made.after ∙ (ap (λ (s : Playing). s.made.failed) c.self.view_is ∙ c.requires.going)
+
+pub returns-clause-more : goal.returns-clause-more
+returns-clause-more g c =
+    ap (λ (m : Made). length m.accepted) c.in_ok-make.ensures.made.after
+    ∙ (length-append c.self.inside.world.accepted (Call c.args.process c.index-op.result.now ∷ []) ∙ ap (λ (s : Playing). length s.made.accepted + 1) c.self.view_is)
+
+pub returns-clause-cursors : goal.returns-clause-cursors
+returns-clause-cursors g c = ap Playing.cursors c.self.view_is
