@@ -1,5 +1,5 @@
 //! Why a text is no workload.
-use crate::forms::{FRONTS, OP};
+use crate::forms::{FRONTS, KEYS, OP};
 use crate::lines_at::{bytes_of, kept_at, line_of_place};
 use crate::saying::Notes;
 use crate::scanning::{after, misfit_of, place_of, token_of};
@@ -13,17 +13,6 @@ use reg_inputs::{Key, WorkloadFault};
 use std::alloc::{AllocError, Allocator, Global};
 use toml::de::Error;
 use toml::{Table, Value, table_from_str};
-
-/// The keys of a workload.
-const KEYS: &[&str] = &[
-    "front",
-    "registers",
-    "scripts",
-    "seed",
-    "loss",
-    "repeat",
-    "budget",
-];
 
 /// The words with which lines of a schedule begin.
 const OF_A_SCHEDULE: &[&str] = &["processes", "registers", "front", "call", "take", "tick"];

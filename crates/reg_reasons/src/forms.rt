@@ -1,10 +1,21 @@
-//! The forms of the lines of schedules and of reports.
+//! The forms of the lines of schedules and of reports, and the keys of workloads.
 use crate::wanting::{Form, Quantity, Range, Rules, Step};
 use reg_base::limits::{LAST_EVENT, MOST_OPERATIONS, MOST_PROCESSES, MOST_REGISTERS};
 use reg_history::{MOST_ENTRIES, MOST_IDS, OLDER_PROCESSES, OLDER_REGISTERS};
 
 /// The names of the front ends.
 pub const FRONTS: &[&str] = &["linear", "local-read", "local-write"];
+
+/// The keys of a workload.
+pub const KEYS: &[&str] = &[
+    "front",
+    "registers",
+    "scripts",
+    "seed",
+    "loss",
+    "repeat",
+    "budget",
+];
 
 /// One of these words.
 macro_rules! word {
