@@ -227,7 +227,9 @@ pub fn misfit_of<'a>(line: &'a [u8], form: Form, rules: Rules<'a>) -> Option<Mis
     };
     let mut steps = form;
     for _ in 0..line.len().saturating_add(MOST_EMPTY) {
-        let (step, later) = steps.split_first()?;
+        let [step, later @ ..] = steps else {
+            return None;
+        };
         let Some(count) = scan.taken(*step) else {
             return Some(scan.misfit(*step, later));
         };
