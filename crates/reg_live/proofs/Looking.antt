@@ -1,5 +1,5 @@
 -- A look at all links of a station, one after another.
-use Rattle.std.proofs.Common.{◌≡◌, ◌∙◌, ◌<◌, ◌≤◌, ◌+◌, ◌⊎◌, inl, inr, ℕ, Bool, true, false, List, length, min, Option, Some, refl, sym, subst, arith}
+use Rattle.std.proofs.Common.{◌≡◌, ◌∙◌, ◌<◌, ◌≤◌, ◌+◌, ◌⊎◌, inl, inr, ℕ, Bool, true, false, List, length, min, Option, Some, refl, sym, ap, subst, arith}
 use Rattle.std.specs.Prelude.{slice_get, slice_set, ◌||◌}
 use Rattle.std.proofs.lemmas.Bool.{cases_order}
 use Rattle.std.proofs.lemmas.List.{length-set}
@@ -84,6 +84,12 @@ looked_more firsts old now n due ticks mail b c so at is tick = record { each = 
         go : (due ≡ true) ⊎ (ticks ≡ true) → IsCause firsts old
         go (inl before) = so.cause before
         go (inr now_due) = (n, b, mail, sym (so.rest n (omega arith)) ∙ at, sym tick ∙ now_due)
+
+-- the same, where the first frame is told by another name
+pub looked_next : (firsts : ℕ → Option ℕ) (old now : List Beat) (n : ℕ) (due ticks mail : Bool) (first : Option ℕ) (b c : Beat) → LookedBelow firsts old now n due → first ≡ firsts n → slice_get now n ≡ Some b
+    → c ≡ watched b first mail → ticks ≡ ticks_at b first mail → LookedBelow firsts old (slice_set now n c) (n + 1) (due || ticks)
+looked_next firsts old now n due ticks mail first b c so same at is tick =
+    looked_more firsts old now n due ticks mail b c so at (is ∙ ap (λ (f : Option ℕ). watched b f mail) same) (tick ∙ ap (λ (f : Option ℕ). ticks_at b f mail) same)
 
 -- all of them
 pub looked_all : (firsts : ℕ → Option ℕ) (old now : List Beat) (n : ℕ) (due : Bool) → LookedBelow firsts old now n due → min (length old) MOST_PROCESSES ≤ n → AreLooked firsts old now due
