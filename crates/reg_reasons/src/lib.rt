@@ -1,5 +1,5 @@
-//! What is wrong with a text, or what an accepted one is. The first line of an answer is exact. What stands after it, the
-//! place that doesn't fit and what was expected there, has no clause but that it is safe.
+//! What is wrong with a text, or what an accepted one is. The first line of an answer is exact. What stands after it,
+//! the place that doesn't fit and what was expected there, has no clause but that it is safe.
 //!
 //! Two things more have no clause: that a status is the same where the error stream fails, and that the table of a
 //! workload alone is kept in the global heap.
