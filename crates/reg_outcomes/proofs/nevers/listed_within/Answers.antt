@@ -1,4 +1,4 @@
-use Rattle.std.proofs.Common.{◌≡◌, List, ◌++◌, ap, sym, ◌∙◌, subst, arith, append-nil}
+use Rattle.std.proofs.Common.{List, ◌++◌, ap, sym, ◌∙◌, arith, append-nil}
 use Rattle.std.specs.Prelude.{Vec}
 use Rattle.reg_outcomes.specs.declared.told.ToldValue.{ToldValue}
 use Rattle.reg_outcomes.proofs.Stepping.{one_behind}

@@ -1,4 +1,4 @@
-use Rattle.std.proofs.Common.{◌≡◌, List, ◌++◌, map, ap, sym, ◌∙◌, append-nil}
+use Rattle.std.proofs.Common.{List, ◌++◌, map, ap, ◌∙◌}
 use Rattle.std.specs.Prelude.{Vec}
 use Rattle.reg_outcomes.specs.declared.tallies.Tally.{Tally}
 use Rattle.reg_outcomes.specs.declared.told.ToldValue.{ToldValue}
