@@ -1,5 +1,5 @@
 -- The short form of a workload's play, and its schedule.
-use Rattle.std.proofs.Common.{ℕ, ◌≡◌, ◌<◌, Bool, List, length, take, Some, ap, ◌∙◌, subst}
+use Rattle.std.proofs.Common.{ℕ, ◌≡◌, ◌⊎◌, inl, inr, ◌<◌, Bool, List, length, take, Some, refl, ap, sym, ◌∙◌, subst}
 use Rattle.std.specs.Prelude.{slice_get}
 use Rattle.reg_base.specs.declared.memory.Op.{Op}
 use Rattle.reg_base.specs.Shape.{Extent}
@@ -7,14 +7,17 @@ use Rattle.reg_front.specs.declared.named.Front.{Front}
 use Rattle.reg_front.specs.declared.starts.Start.{Start}
 use Rattle.reg_checkers.specs.declared.entries.Entry.{Entry}
 use Rattle.reg_commands.specs.Plays.{IsPlayBy}
+use Rattle.reg_commands.specs.declared.faults.Fault.TheVariants.{OutOfMemory}
 use Rattle.reg_inputs.specs.Loads.{IsLoad, Load}
 use Rattle.reg_inputs.specs.Schedules.{Plan}
 use Rattle.reg_inputs.specs.ScheduleText.{schedule_text}
 use Rattle.reg_process.specs.declared.events.Event.{Event}
 use Rattle.reg_world.specs.World.{whole}
 use Rattle.reg_world.specs.Worlds.{Made, after_events, run_in}
-use Rattle.reg_show.specs.Shorts.{IsLongPlay, IsShort, IsShortPlay, KeepsAnswers, SendsEvents, ShowsShort, Shortens, plan_with, up_to_end, up_to_last_answer}
+use Rattle.reg_show.specs.Shorts.{IsLongPlay, IsShort, IsShortPlay, KeepsAnswers, LacksShort, SendsEvents, ShowsShort, Shortens, plan_with, up_to_end, up_to_last_answer}
 use Rattle.reg_show.specs.ToldRuns.{EventHasBits}
+use Rattle.reg_show.specs.declared.faults.ShowFault.{ShowFault}
+use Rattle.reg_show.specs.declared.faults.ShowFault.TheVariants.{Command, TooManyToShorten}
 use Rattle.reg_show.specs.declared.short_schedules.TheConstants.{MOST_SHORTENED}
 use Rattle.reg_show.proofs.Accepted.{made_schedule}
 use Rattle.reg_show.proofs.Beginnings.{beginning_keeps}
@@ -45,6 +48,11 @@ short_of_play fair start work made is_finished shape entries events short same_s
 -- the play is too long
 pub long_play : (fair : Bool) (start : Op → ℕ → Start) (work : Load) (made : Made) (is_finished : Bool) (events : List Event) → events ≡ up_to_end made → IsPlayBy fair start work made is_finished → MOST_SHORTENED < length events → IsLongPlay fair start work
 long_play fair start work made is_finished events same played many = record { made = made; is_finished = is_finished; played = played; many = subst (λ (l : List Event). MOST_SHORTENED < length l) same many }
+
+-- why there is no short form
+pub lacks_short : (fair : Bool) (start : Op → ℕ → Start) (work : Load) (made : Made) (is_finished : Bool) (events : List Event) → events ≡ up_to_end made → IsPlayBy fair start work made is_finished → (f : ShowFault) → (f ≡ Command OutOfMemory) ⊎ ((f ≡ TooManyToShorten) × (MOST_SHORTENED < length events)) → LacksShort fair start work f
+lacks_short fair start work made is_finished events same played f (inl refused) = subst (λ x. LacksShort fair start work x) (sym refused) refl
+lacks_short fair start work made is_finished events same played f (inr long) = subst (λ x. LacksShort fair start work x) (sym long.0) (long_play fair start work made is_finished events same played long.1)
 
 -- the schedule of events that are all accepted
 pub sends_events : (start : Op → ℕ → Start) (work : Load) (Wrote : List ℕ → Type 0) (shape : Extent) (names : List (List ℕ)) (front : Front) (events short : List Event) → shape ≡ work.shape → names ≡ work.names → front ≡ work.front → events ≡ short

@@ -1,6 +1,6 @@
 -- What was shown where the text of all outcomes was sent.
 use Rattle.std.proofs.Common.{ℕ, ◌≡◌, List, length, Option, Result, Ok, Err, subst}
-use Rattle.std.specs.Prelude.{IfOk, IsErrOf, MatchResult}
+use Rattle.std.specs.Prelude.{IfErr, IfOk, IsErrOf, MatchResult}
 use Rattle.std.specs.List.{sum_by}
 use Rattle.reg_base.specs.declared.memory.Op.{Op}
 use Rattle.reg_outcomes.specs.declared.told.ToldValue.{ToldValue}
@@ -15,6 +15,14 @@ if_sent P Q (Err e) to h = tt
 
 pub if_in_part : {X E R : Type 0} (P : Type 0) (Q : E → Type 0) (r : Result X E) (e : E) → (Q e → R) → MatchResult r (λ _. P) Q → IsErrOf r e → R
 if_in_part P Q r e to h is = to (subst (λ x. MatchResult x (λ _. P) Q) is h)
+
+pub if_ok : {X E : Type 0} (P Q : X → Type 0) (r : Result X E) → ((x : X) → P x → Q x) → IfOk r P → IfOk r Q
+if_ok P Q (Ok x) to h = to x h
+if_ok P Q (Err e) to h = tt
+
+pub if_err : {X E : Type 0} (P Q : E → Type 0) (r : Result X E) → ((e : E) → P e → Q e) → IfErr r P → IfErr r Q
+if_err P Q (Ok x) to h = tt
+if_err P Q (Err e) to h = to e h
 
 module _ (given scripts : List (List Op)) (held registers : ℕ) (same : given ≡ scripts) (as_many : held ≡ registers) where
   -- what is found of the scripts, written

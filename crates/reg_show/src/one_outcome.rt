@@ -111,10 +111,7 @@ impl TextCommand for OneOutcome {
         text: &str,
         writer: &mut W,
     ) -> Result<(), ShowFault> {
-        let work = match read_workload(alloc, global, text) {
-            Ok(work) => work,
-            Err(fault) => return Err(ShowFault::Command { fault }),
-        };
+        let work = read_workload(alloc, global, text)?;
         let all = outcomes_of(alloc, &work)?;
         match all.list.get(self.number as usize - 1) {
             Some(outcome) => write_run_of(alloc, &work, outcome, writer),

@@ -1,5 +1,5 @@
 //! The command that prints the schedule of the short form of a play.
-ghost use Rattle.std.specs.Prelude.{◌≡◌, ◌≢◌, ◌≤◌, ◌⊎◌, IfOk, IfErr, IfSome, IsErrOf, false, length};
+ghost use Rattle.std.specs.Prelude.{◌≡◌, ◌≢◌, ◌<◌, ◌≤◌, ◌⊎◌, IfOk, IfErr, IfSome, IsErrOf, false, length, take};
 ghost use Rattle.std.specs.Io.KnownBytes.{Appends};
 ghost use Rattle.reg_base.specs.declared.limits.TheConstants.{LONGEST_INPUT};
 ghost use Rattle.reg_text.specs.Writing.{AppendsPart};
@@ -7,7 +7,7 @@ ghost use Rattle.reg_commands.specs.Replays.{start_of};
 ghost use Rattle.reg_commands.specs.declared.command.Command.TheVariants.{Play};
 ghost use Rattle.reg_show.specs.Faults.{show_line};
 ghost use Rattle.reg_show.specs.Seeds.{IsSeed, seed_of};
-ghost use Rattle.reg_show.specs.Shorts.{BlamesShort, IsShortPlay, LacksShort, ShowsShort, WritesShort};
+ghost use Rattle.reg_show.specs.Shorts.{BlamesShort, IsShortPlay, KeepsAnswers, LacksShort, Shortens, ShowsShort, WritesShort, up_to_last_answer};
 ghost use Rattle.reg_show.specs.declared.faults.ShowFault.{ShowFault as AnyFault};
 
 use crate::answering::{TextCommand, run_command};
@@ -16,6 +16,8 @@ use crate::players::Player;
 use crate::scheduling::{events_have_bits, send};
 use crate::seeding::read_seeded;
 use crate::shortening::{shorten, up_to_last};
+use reg_base::Shape;
+use reg_checkers::Entry;
 use reg_commands::{Fault, play_by};
 use reg_front::{Front, FrontEnd, Linear, LocalRead, LocalWrite};
 use reg_workload::Workload;
@@ -25,6 +27,23 @@ use std::io::{Read, Write};
 
 /// The most events up to the last answer of a play that is shortened.
 pub const MOST_SHORTENED: usize = 2_000;
+
+/// The events of a run up to its last answer, without those that no answer needs, where they are not too many.
+fn short_form<F: FrontEnd, A: Allocator + Copy>(
+    alloc: A,
+    shape: Shape,
+    entries: &[Entry],
+    accepted: &[Event],
+) -> Result<Vec<Event, A>, ShowFault>
+    ensures short { IfOk result (λ v. Shortens (KeepsAnswers F.start shape entries.now) (length (take (up_to_last_answer entries.now) accepted.now)) (take (up_to_last_answer entries.now) accepted.now) v.items) }
+    ensures why { IfErr result (λ f. (f ≡ ShowFault.Command Fault.OutOfMemory) ⊎ ((f ≡ ShowFault.TooManyToShorten) × (MOST_SHORTENED < length (take (up_to_last_answer entries.now) accepted.now)))) }
+{
+    let events = up_to_last(entries, accepted);
+    if events.len() > MOST_SHORTENED {
+        return Err(ShowFault::TooManyToShorten);
+    }
+    Ok(shorten::<F, A>(alloc, shape, entries, events)?)
+}
 
 /// The events of the short form of a workload's play.
 fn short_play<F: FrontEnd, A: Allocator + Copy>(
@@ -37,11 +56,7 @@ fn short_play<F: FrontEnd, A: Allocator + Copy>(
 {
     let play = play_by::<F, A, PackedWires<A>>(alloc, work, fair)?;
     let entries = play.world.history().entries();
-    let events = up_to_last(entries, play.world.accepted());
-    if events.len() > MOST_SHORTENED {
-        return Err(ShowFault::TooManyToShorten);
-    }
-    Ok(shorten::<F, A>(alloc, work.shape, entries, events)?)
+    short_form::<F, A>(alloc, work.shape, entries, play.world.accepted())
 }
 
 /// Plays a workload, and writes the schedule of the play's short form.
