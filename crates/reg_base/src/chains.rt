@@ -1,4 +1,4 @@
-//! Chains of names: a name is found without a look at the names of other chains.
+//! Chains of names, so that a name is looked for in one chain alone.
 ghost use Rattle.std.specs.Prelude.{◌≡◌, ◌≢◌, ◌<◌, ◌≤◌, ◌↔◌, ℕ, length, get_or, set, Some, None, IfSome, IfNone, IsTrue, slice_get, MatchResult};
 ghost use Rattle.reg_base.specs.Names.{texts, first_repeat as first_repeat_of};
 ghost use Rattle.reg_base.specs.Chains.{chain, AreChains};
@@ -55,7 +55,7 @@ impl Chains {
         self.heads[chain] = place;
     }
 
-    /// The place of a name.
+    /// The place of a name, None where no place has it. The chains have to be those of these names.
     pub fn find<A: Allocator>(&self, names: &[String<A>], name: &[u8]) -> Option<u16>
         requires chains { AreChains (texts names.now) self.now.heads self.now.earlier }
         requires few { length names.now ≤ MOST_REGISTERS }

@@ -35,7 +35,7 @@ impl Clock {
         Clock { time: 0 }
     }
 
-    /// The time now.
+    /// The time that the clock shows, at most `limits::LAST_TIME`.
     pub fn now(&self) -> u64
         ensures value { result ≡ self.now }
         ensures in_range { result ≤ LAST_TIME }
@@ -43,7 +43,7 @@ impl Clock {
         self.time
     }
 
-    /// Goes on by one.
+    /// Goes on by one, and gives the new time. `ClockFull` comes exactly at `limits::LAST_TIME`, and the clock stays.
     pub fn tick(&mut self) -> Result<u64, ClockFull>
         ensures answer { OkIff result (self.old < LAST_TIME) (self.old + 1) }
         ensures after { self.new ≡ (if is_ok result then self.old + 1 else self.old) }
@@ -55,7 +55,8 @@ impl Clock {
         Ok(self.time)
     }
 
-    /// Goes past its own time and the given one.
+    /// Goes on to one more than the later of its own time and the given one, and gives the new time. `ClockFull` comes
+    /// exactly where the later one is not below `limits::LAST_TIME`, and the clock stays.
     pub fn receive(&mut self, time: u64) -> Result<u64, ClockFull>
         ensures answer { OkIff result (max self.old time < LAST_TIME) (max self.old time + 1) }
         ensures after { self.new ≡ (if is_ok result then max self.old time + 1 else self.old) }

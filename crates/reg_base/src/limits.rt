@@ -19,11 +19,11 @@ pub const LAST_EVENT: u32 = 1_048_575;
 pub const MOST_OPERATIONS: u32 = 65_535;
 /// The most frames that a tick puts again on one link.
 pub const MOST_RESENT: u64 = 16;
-/// The most bytes of a text that the program reads.
+/// The most bytes of a text that a program reads.
 pub const LONGEST_INPUT: usize = 268_435_456;
 /// The last seed of a workload: the greatest integer that a TOML document can write.
 pub const LAST_SEED: u64 = 9_223_372_036_854_775_807;
 /// The most frames of a hundred that a workload can have lost, or taken again.
 pub const MOST_ODDS: u32 = 100;
-/// The events that a workload has at most where it says nothing of them.
+/// The most events of a play, where its workload says nothing of them.
 pub const USUAL_BUDGET: u32 = 100_000;

@@ -168,7 +168,8 @@ impl<A: Allocator + Copy> Registers<A> {
         op.answer_on(&self.values)
     }
 
-    /// Applies an operation and answers it. None comes only for a register past the last, and nothing has changed then.
+    /// Applies an operation and answers it. None comes exactly for a register past the last, and nothing has changed
+    /// then.
     pub fn apply(&mut self, op: &Op) -> Option<Answer>
         ensures answer { SomeIff result (register_of op.now < length self.old) (answer_of op.now self.old) }
         ensures memory { self.new ≡ after op.now self.old }

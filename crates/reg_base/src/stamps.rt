@@ -5,8 +5,8 @@ ghost use Rattle.reg_base.specs.Stamp.{stamp_cmp};
 use crate::memory::Op;
 use std::cmp::Ordering;
 
-/// The time of a cast at the clock of the process that made it. Stamps are ordered by time, and equal times by process
-/// (Lamport 1978, the total order of events).
+/// The time of a cast at the clock of the process that made it, and that process. Stamps are totally ordered: by time,
+/// and equal times by process.
 #[derive(Clone, Copy, Debug, PartialEq, Eq, PartialOrd, Ord)]
 pub struct Stamp {
     /// The time of the caster's clock.
@@ -16,8 +16,7 @@ pub struct Stamp {
 }
 
 impl Stamp {
-    /// How the stamp compares with another one: by time, and equal times by process. The comparison operators answer
-    /// the same.
+    /// How the stamp compares with another one: by time, and equal times by process.
     pub fn order(&self, other: &Stamp) -> Ordering
         ensures { result ≡ stamp_cmp self.now other.now }
     {
@@ -28,7 +27,7 @@ impl Stamp {
 /// A cast that a process delivers: its stamp and its operation.
 #[derive(Clone, Copy, Debug, PartialEq, Eq)]
 pub struct Delivered {
-    /// The stamp, which no other cast has.
+    /// The stamp of the cast.
     pub stamp: Stamp,
     /// The operation that was cast.
     pub op: Op,

@@ -12,8 +12,8 @@ pub trait Words {
         ensures { (result, self.new) ≡ next_word self.old };
 }
 
-/// Whether something happens that does so `below` times in a hundred: whether the next word, modulo 100, is below that
-/// number.
+/// Takes the next word, and says whether it is below `below`, modulo 100. So `below` is the odds in a hundred that
+/// something happens. At 0 it never does.
 pub fn happens<R: Words>(words: &mut R, below: u32) -> bool
     ensures value { result ≡ says below (R.next_word words.old).0 }
     ensures words { words.new ≡ (R.next_word words.old).1 }
