@@ -50,7 +50,8 @@ fn next_kept<'a>(text: &'a [u8], number: &mut u64) -> Option<(&'a [u8], &'a [u8]
     None
 }
 
-/// The lines that are left, all or without the skipped ones, and the number of the last one.
+/// A cursor over the lines of a text: the lines to come, and the number of the one that was asked for last. A line ends
+/// at a line feed, and the last one there or at the end of the text.
 #[derive(Drop)]
 pub struct Lines<'a> {
     rest: &'a [u8],
@@ -67,7 +68,7 @@ impl<'a> Model for Lines<'a> {
 }
 
 impl<'a> Lines<'a> {
-    /// All lines of the text.
+    /// A cursor over all lines of the text, of which none was asked for.
     pub fn new(text: &'a [u8]) -> Lines<'a>
         ensures lines { (result.left ≡ lines_of text.now) × (result.all ≡ lines_of text.now) }
         ensures number { (result.number ≡ 0) × (result.skips ≡ false) }
@@ -79,7 +80,8 @@ impl<'a> Lines<'a> {
         }
     }
 
-    /// The lines of the text that are neither empty nor begin with `#`.
+    /// A cursor over the lines of the text that are neither empty nor begin with `#`. The others are skipped, but
+    /// counted. None was asked for.
     pub fn skipping(text: &'a [u8]) -> Lines<'a>
         ensures lines { (result.left ≡ kept (lines_of text.now)) × (result.all ≡ lines_of text.now) }
         ensures number { (result.number ≡ 0) × (result.skips ≡ true) }
@@ -91,7 +93,7 @@ impl<'a> Lines<'a> {
         }
     }
 
-    /// The number of the line that was asked for last, the first being 1.
+    /// The number of the line that was asked for last, the first being 1. It is 0 where none was.
     pub fn number(&self) -> u64
         ensures { result ≡ self.now.number }
     {
@@ -108,7 +110,8 @@ impl<'a> Lines<'a> {
         }
     }
 
-    /// The next line, with no line feed. The end has the number after the last line's.
+    /// The next line, with no line feed, and None at the end. The end, asked for once, has the number after the last
+    /// line's.
     #[inline]
     pub fn next(&mut self) -> Option<&'a [u8]>
         ensures line { MatchOption result (self.old.left ≡ []) (λ line. self.old.left ≡ line.now ∷ self.new.left) }

@@ -22,7 +22,8 @@ pub enum Why {
 /// Why a text is refused.
 #[derive(Clone, Copy, Debug, PartialEq, Eq, Error)]
 pub enum TextFault {
-    /// This line is the first that is wrong. Lines are counted from 1.
+    /// This line is the first that is wrong. Lines are counted from 1, and a text that ends too early is wrong at the
+    /// line after its last one.
     #[error("line {line}: {why}")]
     Line { line: u64, why: Why },
     /// There was no memory to keep what was read.

@@ -69,7 +69,7 @@ pub(crate) fn digit(byte: u8) -> Option<u64>
     }
 }
 
-/// The number that a numeral of no needless zero stands for.
+/// The number of 64 bits that the bytes spell in decimal, with no sign and no needless zero. None for other bytes.
 #[inline]
 pub fn numeral(bytes: &[u8]) -> Option<u64>
     ensures read { IfSome result (λ n. (bytes.now ≡ decimal n) × (n < 2 ^ 64)) }
@@ -96,7 +96,8 @@ pub fn spaces_before(bytes: &[u8]) -> usize
     bytes.iter().take_while(|b| **b == b' ').count()
 }
 
-/// A number at the right of its column.
+/// The number of 64 bits at the right of its column, which the bytes are. All before it is spaces. None for other
+/// bytes.
 pub fn right_column(bytes: &[u8]) -> Option<u64>
     ensures read { IfSome result (λ n. (bytes.now ≡ to_right (length bytes.now) (decimal n)) × (n < 2 ^ 64)) }
     ensures whole { (n : ℕ) → n < 2 ^ 64 → bytes.now ≡ to_right (length bytes.now) (decimal n) → result ≡ Some n }
@@ -119,7 +120,7 @@ pub fn is_blank(bytes: &[u8]) -> bool
     bytes.iter().all(|b| *b == b' ')
 }
 
-/// A number at the left of its column.
+/// The number of 64 bits at the left of its column, which the bytes are. All after it is spaces. None for other bytes.
 pub fn left_column(bytes: &[u8]) -> Option<u64>
     ensures read { IfSome result (λ n. (bytes.now ≡ to_left (length bytes.now) (decimal n)) × (n < 2 ^ 64)) }
     ensures whole { (n : ℕ) → n < 2 ^ 64 → bytes.now ≡ to_left (length bytes.now) (decimal n) → result ≡ Some n }
@@ -132,7 +133,7 @@ pub fn left_column(bytes: &[u8]) -> Option<u64>
     }
 }
 
-/// The first bytes, and the rest.
+/// The first `places` bytes, and the rest. None where there are fewer.
 pub fn cut(bytes: &[u8], places: usize) -> Option<(&[u8], &[u8])>
     ensures read { IfSome result (λ p. (bytes.now ≡ p.0.now ++ p.1.now) × (length p.0.now ≡ places)) }
     ensures whole { (front rest : List ℕ) → bytes.now ≡ front ++ rest → length front ≡ places → IsSomeAnd result (λ p. (p.0.now ≡ front) × (p.1.now ≡ rest)) }
@@ -140,7 +141,7 @@ pub fn cut(bytes: &[u8], places: usize) -> Option<(&[u8], &[u8])>
     bytes.split_at_checked(places)
 }
 
-/// What stands after the mark.
+/// What stands after the mark, None where the bytes don't begin with it.
 pub fn skip<'a>(bytes: &'a [u8], mark: &[u8]) -> Option<&'a [u8]>
     ensures read { IfSome result (λ r. bytes.now ≡ mark.now ++ r.now) }
     ensures whole { (rest : List ℕ) → bytes.now ≡ mark.now ++ rest → IsSomeAnd result (λ r. r.now ≡ rest) }
@@ -148,7 +149,8 @@ pub fn skip<'a>(bytes: &'a [u8], mark: &[u8]) -> Option<&'a [u8]>
     bytes.strip_prefix(mark)
 }
 
-/// A number at the left of its column, a mark, and the rest.
+/// The number of 64 bits at the left of a column of `places` bytes, and what stands after the mark that follows. None
+/// where the bytes don't begin so. No clause says that a number wider than its column is refused.
 pub fn left_field<'a>(bytes: &'a [u8], places: usize, mark: &[u8]) -> Option<(u64, &'a [u8])>
     ensures read { IfSome result (λ p. (bytes.now ≡ to_left places (decimal p.0) ++ (mark.now ++ p.1.now)) × (p.0 < 2 ^ 64)) }
     ensures whole { (n : ℕ) (rest : List ℕ) → n < 2 ^ 64 → length (decimal n) ≤ places → bytes.now ≡ to_left places (decimal n) ++ (mark.now ++ rest) → IsSomeAnd result (λ p. (p.0 ≡ n) × (p.1.now ≡ rest)) }
@@ -157,7 +159,8 @@ pub fn left_field<'a>(bytes: &'a [u8], places: usize, mark: &[u8]) -> Option<(u6
     left_column(digits).zip(skip(after, mark))
 }
 
-/// A number at the right of its column, a mark, and the rest.
+/// The number of 64 bits at the right of a column of `places` bytes, and what stands after the mark that follows. None
+/// where the bytes don't begin so. No clause says that a number wider than its column is refused.
 pub fn right_field<'a>(bytes: &'a [u8], places: usize, mark: &[u8]) -> Option<(u64, &'a [u8])>
     ensures read { IfSome result (λ p. (bytes.now ≡ to_right places (decimal p.0) ++ (mark.now ++ p.1.now)) × (p.0 < 2 ^ 64)) }
     ensures whole { (n : ℕ) (rest : List ℕ) → n < 2 ^ 64 → length (decimal n) ≤ places → bytes.now ≡ to_right places (decimal n) ++ (mark.now ++ rest) → IsSomeAnd result (λ p. (p.0 ≡ n) × (p.1.now ≡ rest)) }
@@ -173,7 +176,7 @@ fn place_of(bytes: &[u8], mark: u8) -> Option<usize>
     bytes.iter().position(|b| *b == mark)
 }
 
-/// What stands before the first mark, and what after it.
+/// What stands before the first mark, and what after it. None where there is no mark.
 pub fn cut_at(bytes: &[u8], mark: u8) -> Option<(&[u8], &[u8])>
     ensures read { MatchOption result (Lacks mark bytes.now) (λ p. (bytes.now ≡ p.0.now ++ mark ∷ p.1.now) × Lacks mark p.0.now) }
     ensures whole { (front rest : List ℕ) → Lacks mark front → bytes.now ≡ front ++ mark ∷ rest → IsSomeAnd result (λ p. (p.0.now ≡ front) × (p.1.now ≡ rest)) }

@@ -20,7 +20,7 @@ fn are_digits(bytes: &[u8]) -> bool
     bytes.iter().all(|b| b.is_ascii_digit())
 }
 
-/// Whether the bytes are digits that do not begin with a needless zero.
+/// Whether the bytes are a numeral: `0`, or one or more digits that do not begin with 0. It can be of any length.
 pub fn is_numeral(bytes: &[u8]) -> bool
     ensures { result ≡ is_numeral_of bytes.now }
 {
@@ -42,21 +42,21 @@ fn are_word_bytes(bytes: &[u8]) -> bool
     bytes.iter().all(|b| b.is_ascii() && *b != b' ')
 }
 
-/// Whether the bytes are a word of ASCII signs other than spaces.
+/// Whether the bytes are a word: one or more ASCII bytes, none of them a space.
 pub fn is_word(bytes: &[u8]) -> bool
     ensures { result ≡ is_word_of bytes.now }
 {
     !bytes.is_empty() && are_word_bytes(bytes)
 }
 
-/// None where the form is not kept.
+/// None exactly where the form is not kept, as `good` says.
 pub fn form(good: bool) -> Option<()>
     ensures { IsSome result ↔ IsTrue good }
 {
     if good { Some(()) } else { None }
 }
 
-/// Range for a numeral, Form for anything else.
+/// Why bytes are no number within a limit, where they are none: Range for a numeral, Form for anything else.
 pub fn why_number(bytes: &[u8]) -> Why
     ensures form { result ≡ (if is_numeral_of bytes.now then Why.Range else Why.Form) }
     ensures number { (n : ℕ) → n < 2 ^ 64 → bytes.now ≡ decimal n → result ≡ Why.Range }
@@ -68,7 +68,7 @@ pub fn why_number(bytes: &[u8]) -> Why
     }
 }
 
-/// The bytes before the spaces at the end, and all of them where a space stands elsewhere.
+/// The bytes without the spaces at their end. Where a space stands elsewhere too, all bytes.
 pub fn in_front(bytes: &[u8]) -> &[u8]
     ensures front { (front : List ℕ) → Lacks 32 front → bytes.now ≡ to_left (length bytes.now) front → result.now ≡ front }
     ensures only { (result.now ≡ bytes.now) ⊎ (Lacks 32 result.now × (bytes.now ≡ to_left (length bytes.now) result.now)) }
@@ -79,7 +79,7 @@ pub fn in_front(bytes: &[u8]) -> &[u8]
     }
 }
 
-/// Whether the bytes are a number up to the limit.
+/// Whether the bytes spell a number up to the limit in decimal, with no sign and no needless zero.
 pub fn within(bytes: &[u8], limit: u64) -> bool
     ensures { IsTrue result ↔ ((n : ℕ) × ((n ≤ limit) × (bytes.now ≡ decimal n))) }
 {
@@ -107,7 +107,8 @@ fn valued_form<A: Allocator + Copy>(text: &[u8], names: &Names<A>) -> Option<Why
     }
 }
 
-/// Why the text is no operation: Name where the register is not known, else Range. None where its form is not kept.
+/// Why a text is no operation, where it is none: for a read Name, since its register is not known; for a write or a
+/// swap Name where its register is not known, else Range. None where the text has the form of no operation.
 pub fn op_form<A: Allocator + Copy>(text: &[u8], names: &Names<A>) -> Option<Why>
     ensures form { IfSome result (λ why. HasOpForm text.now × ((why ≡ Why.Range) ⊎ (why ≡ Why.Name))) }
     ensures whole { HasOpForm text.now → IsSome result }

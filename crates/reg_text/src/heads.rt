@@ -16,7 +16,11 @@ use crate::numbers::numeral_within;
 use std::alloc::{AllocError, Allocator};
 use std::str;
 
-/// A line that is wanted as it is.
+/// Asks for the next line, which has to be this text.
+///
+/// # Errors
+///
+/// A fault of this line: End where the text ends before it, and Form where it is another one.
 pub fn expect_line(lines: &mut Lines<'_>, text: &[u8]) -> Result<(), TextFault>
     ensures read { OnOk result (lines.old.left ≡ text.now ∷ lines.new.left) }
     ensures whole { (rest : List (List ℕ)) → lines.old.left ≡ text.now ∷ rest → MatchResult result (λ _. lines.new.left ≡ rest) (λ _. ⊥) }
@@ -37,7 +41,12 @@ pub fn expect_line(lines: &mut Lines<'_>, text: &[u8]) -> Result<(), TextFault>
     }
 }
 
-/// The number of a line that begins with the mark.
+/// Asks for the next line, which has to be the mark and a number up to the limit, and gives the number.
+///
+/// # Errors
+///
+/// A fault of this line: End where the text ends before it, Range where the mark and a numeral beyond the limit stand
+/// there, and Form for anything else.
 pub fn read_count(lines: &mut Lines<'_>, mark: &[u8], limit: u64) -> Result<u64, TextFault>
     ensures read { IfOk result (λ n. (lines.old.left ≡ (mark.now ++ decimal n) ∷ lines.new.left) × (n ≤ limit)) }
     ensures whole { (n : ℕ) (rest : List (List ℕ)) → n ≤ limit → lines.old.left ≡ (mark.now ++ decimal n) ∷ rest → MatchResult result (λ m. (m ≡ n) × (lines.new.left ≡ rest)) (λ _. ⊥) }
@@ -59,7 +68,11 @@ pub fn read_count(lines: &mut Lines<'_>, mark: &[u8], limit: u64) -> Result<u64,
     Ok(number)
 }
 
-/// The bytes as a text of its own.
+/// A copy of the bytes as a text, None where they are not UTF-8.
+///
+/// # Errors
+///
+/// There was no memory for the copy.
 pub fn owned<A: Allocator + Copy>(alloc: A, word: &[u8]) -> Result<Option<String<A>>, AllocError>
     ensures { IfOk result (λ o. MatchOption o (¬ IsUtf8 word.now) (λ s. string_bytes s ≡ word.now)) }
 {
@@ -75,7 +88,7 @@ fn is_letter(b: u8) -> bool
     b.is_ascii_lowercase() || b == b'-'
 }
 
-/// Whether all are letters a to z or hyphens.
+/// Whether all bytes, if there are any, are letters a to z or hyphens.
 pub fn are_front_letters(word: &[u8]) -> bool
     ensures { result ≡ list_all is_front_letter word.now }
 {

@@ -1,7 +1,7 @@
 //! What the texts of the project share: a cursor over lines, numerals, columns, names, and operations as text.
 //!
 //! Each reader has two clauses: `read` says that what it read is spelled so, and `whole` that all that is spelled so
-//! is read, with its value. So a text has one meaning, and no other text has it.
+//! is read, with its value. So what a reader takes has one meaning, and is the only spelling of it.
 #![tactic(auto)]
 
 mod cursor;

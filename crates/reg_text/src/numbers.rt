@@ -4,7 +4,8 @@ ghost use Rattle.std.specs.Fmt.{decimal};
 
 use crate::fields::{cut_at, digit, numeral};
 
-/// A number within a limit, which is the whole of the bytes.
+/// The number that the bytes spell in decimal, with no sign and no needless zero. None where they spell none up to the
+/// limit.
 #[inline]
 pub fn numeral_within(bytes: &[u8], limit: u64) -> Option<u64>
     ensures read { IfSome result (λ n. (bytes.now ≡ decimal n) × (n ≤ limit)) }
@@ -32,7 +33,8 @@ fn field(bytes: &[u8], mark: u8) -> Option<(u64, &[u8])>
     Some((number, rest))
 }
 
-/// A number within a limit, a mark, and the rest.
+/// The number before the first mark, and what stands after it. The mark is a byte below the digits. None where no
+/// number up to the limit stands there, in decimal, with no sign and no needless zero.
 #[inline]
 pub fn field_within(bytes: &[u8], limit: u64, mark: u8) -> Option<(u64, &[u8])>
     requires { mark < 48 }

@@ -45,7 +45,7 @@ pub fn read_op<A: Allocator + Copy>(text: &[u8], names: &Names<A>) -> Option<Op>
     Some(Op::Swap { register, value })
 }
 
-/// The name of a register, and nothing where there is none.
+/// The name of a register, the empty text past the last.
 pub fn name_at<A: Allocator + Copy>(names: &Names<A>, register: u16) -> &str
     ensures { result.now ≡ name_of_register names.now register }
 {
@@ -55,7 +55,7 @@ pub fn name_at<A: Allocator + Copy>(names: &Names<A>, register: u16) -> &str
     }
 }
 
-/// The name of the register that an operation names.
+/// The name of the register that an operation names, the empty text past the last.
 pub fn name_of_op<A: Allocator + Copy>(names: &Names<A>, op: Op) -> &str
     ensures { op_line result.now op ≡ op_text names.now op }
 {
@@ -75,7 +75,7 @@ fn put_valued<W: Write>(sink: &mut Sink<'_, W>, name: &str, value: u64)
     sink.put(digits.format(value).as_bytes());
 }
 
-/// Puts the text of an operation.
+/// Puts the text of an operation, in which a register past the last has an empty name.
 pub fn put_op<A: Allocator + Copy, W: Write>(sink: &mut Sink<'_, W>, names: &Names<A>, op: Op)
     ensures { Puts W.contents sink.old sink.new (op_text names.now op) }
 {
@@ -101,6 +101,7 @@ pub fn put_op<A: Allocator + Copy, W: Write>(sink: &mut Sink<'_, W>, names: &Nam
 pub struct OpLine<'a> {
     /// The register's name.
     pub name: &'a str,
+    /// The operation, whose register's number is not shown.
     pub op: Op,
 }
 
@@ -117,7 +118,7 @@ impl fmt::Display for OpLine<'_> {
     }
 }
 
-/// Puts an answer.
+/// Puts an answer: `done`, or `value` and the value in decimal.
 pub fn put_answer<W: Write>(sink: &mut Sink<'_, W>, answer: Answer)
     ensures { Puts W.contents sink.old sink.new (answer_text answer) }
 {

@@ -21,11 +21,13 @@ use std::alloc::Allocator;
 /// Why words are refused.
 #[derive(Clone, Copy, Debug, PartialEq, Eq)]
 pub enum WordsFault {
+    /// What is wrong with them.
     Why(Why),
+    /// There was no memory to keep them.
     OutOfMemory,
 }
 
-/// The word after a space, and the rest.
+/// The word after a space, and the rest. None where the text doesn't begin with a space.
 pub fn next_word(text: &[u8]) -> Option<(&[u8], &[u8])>
     ensures read { IfSome result (λ p. text.now ≡ 32 ∷ (p.0.now ++ p.1.now)) }
     ensures whole { (word after : List ℕ) → Lacks 32 word → Starts 32 after → text.now ≡ 32 ∷ (word ++ after) → IsSomeAnd result (λ p. (p.0.now ≡ word) × (p.1.now ≡ after)) }
@@ -109,7 +111,14 @@ fn why_names(text: &[u8], why: Why) -> Why
     why
 }
 
-/// The names of their line, no more than the limit.
+/// Asks for the next line, which has to be `registers` and the names, each after a space and no more than the limit,
+/// and gives the names.
+///
+/// # Errors
+///
+/// A fault of this line: End where the text ends before it; Form where it isn't `registers` and one word or more, each
+/// after a space; Name where the words up to the limit are refused as names; Range where these are names, and there
+/// are more. `OutOfMemory` where there was no memory for the names.
 pub fn read_names<A: Allocator + Copy>(
     alloc: A,
     lines: &mut Lines<'_>,

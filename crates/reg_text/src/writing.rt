@@ -7,11 +7,15 @@ ghost use Rattle.reg_text.specs.Writing.{AppendsPart, Puts};
 use itoa::Buffer;
 use std::io::{ErrorKind, Write};
 
-/// The writer failed, and what it was given went out in part.
+/// The writer failed, and a first part of what it was given went out.
 #[derive(Clone, Copy, Debug, PartialEq, Eq)]
 pub struct Unwritten;
 
-/// Writes these bytes. Where the writer fails, what went out is a first part of them. A write that was interrupted is
+/// Writes these bytes.
+///
+/// # Errors
+///
+/// `Unwritten` where the writer failed, and then a first part of the bytes went out. No clause says which writes are
 /// made again.
 pub fn write_bytes<W: Write>(writer: &mut W, bytes: &[u8]) -> Result<(), Unwritten>
     ensures { MatchResult result (λ _. Appends (W.contents writer.old) (W.contents writer.new) bytes.now) (λ _. AppendsPart (W.contents writer.old) (W.contents writer.new) bytes.now) }
@@ -75,7 +79,7 @@ impl<'a, W: Write> Sink<'a, W> {
     }
 }
 
-/// Puts words, and a number after them.
+/// Puts words, and after them a number in decimal.
 pub fn put_number<W: Write>(sink: &mut Sink<'_, W>, words: &str, number: u64)
     ensures { Puts W.contents sink.old sink.new (words.now ++ decimal number) }
 {
