@@ -1,7 +1,8 @@
 //! Why bytes are no frame, or a frame has no bytes.
 use thiserror::Error;
 
-/// Why bytes are no frame: the first of these tests that fails. `encode` answers the last two alone.
+/// Why bytes are no frame: the first of these that applies, except that Size comes before a Body or an Op whose byte is
+/// missing. `decode` answers all but the last, and `encode` the last two alone.
 #[derive(Clone, Copy, Debug, PartialEq, Eq, Error)]
 pub enum FrameFault {
     /// There are fewer than 12 bytes.
@@ -25,7 +26,8 @@ pub enum FrameFault {
     /// There are more or fewer bytes than the form has.
     #[error("size")]
     Size,
-    /// A number, count, time or register is out of its range.
+    /// A number is not below `limits::FRAME_NUMBERS`, a count is above it, a time is not from 1 to `limits::LAST_TIME`,
+    /// or a register is not below `limits::MOST_REGISTERS`.
     #[error("range")]
     Range,
     /// There was no memory for the bytes.

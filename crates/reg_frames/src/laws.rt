@@ -1,4 +1,4 @@
-//! Laws of the spelling. Each is a function that does nothing: its contract is the law.
+//! What holds of the spelling of frames. A function that does nothing: its contract is the law.
 ghost use Rattle.std.specs.Prelude.{◌≡◌, ℕ, List};
 ghost use Rattle.reg_frames.specs.declared.bodies.Frame.{Frame};
 ghost use Rattle.reg_frames.specs.Spelling.{Spells};

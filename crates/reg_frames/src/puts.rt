@@ -1,7 +1,7 @@
 //! Frames on their way out.
 use crate::bodies::Frame;
 
-/// A frame, and the process that it is put for.
+/// A frame, and the number of the process that it is put for.
 #[derive(Clone, Copy, Debug, PartialEq, Eq)]
 pub struct Put {
     pub to: u8,

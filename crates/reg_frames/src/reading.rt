@@ -256,7 +256,7 @@ fn frame(bytes: &[u8]) -> Result<Frame, FrameFault>
     Err(FrameFault::Version)
 }
 
-/// The frame that the bytes spell, or the first fault of the fixed row of tests. Takes no memory.
+/// The frame that the bytes spell, or else the first fault, in the order that `FrameFault` tells. It takes no memory.
 pub fn decode(bytes: &[u8]) -> Result<Frame, FrameFault>
     // What is read is spelled so.
     ensures read { IfOk result (λ f. Spells f bytes.now) }

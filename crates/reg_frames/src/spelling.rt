@@ -133,7 +133,8 @@ fn spell<A: Allocator + Copy>(alloc: A, frame: Frame) -> Result<Vec<u8, A>, Allo
     Ok(bytes)
 }
 
-/// The one spelling of a frame. `Range` comes exactly where a field is out of its range.
+/// The bytes of a frame, of which there is one spelling. `Range` comes exactly where a field is out of its range, and
+/// else only `OutOfMemory`.
 pub fn encode<A: Allocator + Copy>(alloc: A, frame: &Frame) -> Result<Vec<u8, A>, FrameFault>
     ensures { MatchResult result (λ v. Spells frame.now v.items) (λ fault. Refuses frame.now fault) }
 {
