@@ -113,7 +113,8 @@ impl<A: Allocator + Copy> Outboxes<A> {
         self.first + self.bodies.len() as u64
     }
 
-    /// Queues a body for every process but the own one, and gives its number. After a refusal nothing has changed.
+    /// Queues a body for every process but the own one, and gives its number. `NumberFull` comes exactly where no
+    /// number is left. After a refusal nothing has changed.
     pub fn queue(&mut self, me: u8, body: Body) -> Result<u64, LinkFault>
         requires { me < length self.old.counts }
         ensures answer { MatchResult result (λ number. (full_fault self.old ≡ None) × IsQueued self.old me body number self.new) (λ fault. (full_fault self.old ≡ refusal_of fault) × (self.new ≡ self.old)) }
@@ -132,8 +133,8 @@ impl<A: Allocator + Copy> Outboxes<A> {
         Ok(number)
     }
 
-    /// Notes that a process has acknowledged `count` bodies. A count not above an earlier one changes nothing, nor does
-    /// one that is ahead.
+    /// Notes that a process has acknowledged `count` bodies. A count not above an earlier one changes no link. `Ahead`
+    /// comes exactly for a count above the number of the next body, and nothing has changed then.
     pub fn got(&mut self, from: u8, count: u64) -> Result<(), Ahead>
         requires { from < length self.old.counts }
         ensures answer { OkIff result (count ≤ next_of (link_to self.old from)) tt }
@@ -179,7 +180,7 @@ impl<A: Allocator + Copy> Outboxes<A> {
         self.first + self.bodies.len() as u64 - self.counts[to as usize]
     }
 
-    /// The frame of the i-th body that a process has not acknowledged, from 0.
+    /// The frame of the i-th body that a process has not acknowledged, from 0. None past the last.
     pub fn resend(&self, to: u8, i: u64) -> Option<Frame>
         requires { to < length self.now.counts }
         ensures { result ≡ option_map (λ body. Numbered ((link_to self.now to).first + i) body) (slice_get (link_to self.now to).pending i) }

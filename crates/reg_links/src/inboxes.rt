@@ -30,7 +30,7 @@ impl Inbox {
         Inbox { expected: 0 }
     }
 
-    /// An inbox that expects the given number. None where that is past the last count.
+    /// An inbox that expects the given number. None exactly where that is above `limits::FRAME_NUMBERS`.
     pub fn starting(expected: u64) -> Option<Inbox>
         ensures { SomeIff result (expected ≤ FRAME_NUMBERS) expected }
     {
@@ -48,7 +48,8 @@ impl Inbox {
         self.expected
     }
 
-    /// Accepts the body with the number expected, and then expects the next. Another number changes nothing.
+    /// Accepts the body with the number expected, gives it, and then expects the next. Another number, or one that is
+    /// not below `limits::FRAME_NUMBERS`, gives None and changes nothing.
     pub fn take(&mut self, number: u64, body: Body) -> Option<Body>
         ensures answer { SomeIff result (number ≡ self.old × self.old < FRAME_NUMBERS) body }
         ensures after { self.new ≡ (if is_some result then self.old + 1 else self.old) }

@@ -1,4 +1,4 @@
-//! Numbered links: each data frame from one process to another carries the next number, and is accepted once, in order.
+//! Numbered links: each body from one process to another has the next number, and is accepted at most once, in order.
 #![tactic(auto)]
 
 mod fanout;

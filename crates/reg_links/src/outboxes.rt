@@ -10,10 +10,10 @@ use std::collections::VecDeque;
 use std::marker::Model;
 use thiserror::Error;
 
-/// Why a body is not queued.
+/// Why a body is not queued: the first of these that applies.
 #[derive(Clone, Copy, Debug, PartialEq, Eq, Error)]
 pub enum LinkFault {
-    /// All numbers are used up.
+    /// All `limits::FRAME_NUMBERS` numbers are used up.
     #[error("number full")]
     NumberFull,
     /// Memory was refused.
@@ -21,7 +21,7 @@ pub enum LinkFault {
     OutOfMemory,
 }
 
-/// A count above the number of the next body: more was acknowledged than was queued.
+/// A count is above the number of the next body: more was acknowledged than was queued.
 #[derive(Clone, Copy, Debug, PartialEq, Eq, Error)]
 #[error("ahead")]
 pub struct Ahead;
@@ -45,7 +45,7 @@ impl<A: Allocator + Copy> Model for Outbox<A> {
 }
 
 impl<A: Allocator + Copy> Outbox<A> {
-    /// An outbox to which nothing was queued. It takes no memory yet.
+    /// An outbox to which nothing was queued.
     pub fn new(alloc: A) -> Outbox<A>
         ensures { result ≡ record { first = 0; pending = [] } }
     {
@@ -55,7 +55,8 @@ impl<A: Allocator + Copy> Outbox<A> {
         }
     }
 
-    /// An outbox with nothing pending and the given next number. None where that is past the last count.
+    /// An outbox with nothing pending and the given next number. None exactly where that is above
+    /// `limits::FRAME_NUMBERS`.
     pub fn starting(alloc: A, next: u64) -> Option<Outbox<A>>
         ensures { SomeIff result (next ≤ FRAME_NUMBERS) (record { first = next; pending = [] }) }
     {
@@ -68,7 +69,8 @@ impl<A: Allocator + Copy> Outbox<A> {
         })
     }
 
-    /// Queues a body under the next number, and gives its frame. After a refusal nothing has changed.
+    /// Queues a body under the next number, and gives its frame. `NumberFull` comes exactly where no number is left.
+    /// After a refusal nothing has changed.
     pub fn queue(&mut self, body: Body) -> Result<Frame, LinkFault>
         ensures { MatchResult result (λ frame. (queue_fault self.old ≡ None) × (frame ≡ Numbered (next_of self.old) body) × (self.new ≡ with_queued self.old body)) (λ fault. (queue_fault self.old ≡ refusal_of fault) × (self.new ≡ self.old)) }
     {
@@ -82,8 +84,8 @@ impl<A: Allocator + Copy> Outbox<A> {
         }
     }
 
-    /// Drops what lies below a count of accepted frames. A count not above an earlier one changes nothing, nor does one
-    /// that is ahead.
+    /// Drops the bodies below a count of accepted frames. A count not above an earlier one changes nothing. `Ahead`
+    /// comes exactly for a count above the number of the next body, and nothing has changed then.
     pub fn got(&mut self, count: u64) -> Result<(), Ahead>
         ensures answer { OkIff result (count ≤ next_of self.old) tt }
         ensures after { self.new ≡ (if is_ok result then acknowledged self.old count else self.old) }
@@ -106,7 +108,7 @@ impl<A: Allocator + Copy> Outbox<A> {
         self.bodies.len() as u64
     }
 
-    /// The frame of the i-th body that is not acknowledged, from 0.
+    /// The frame of the i-th body that is not acknowledged, from 0. None past the last.
     pub fn resend(&self, i: u64) -> Option<Frame>
         ensures { result ≡ option_map (λ body. Numbered (self.now.first + i) body) (slice_get self.now.pending i) }
     {
