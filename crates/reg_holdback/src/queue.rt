@@ -10,13 +10,13 @@ use std::collections::BTreeMap;
 use std::marker::Model;
 use thiserror::Error;
 
-/// Why a body is refused.
+/// Why a body is refused: the first of these that applies.
 #[derive(Clone, Copy, Debug, PartialEq, Eq, Error)]
 pub enum HoldFault {
     /// Its sender is the process itself, or out of range.
     #[error("no process")]
     NoProcess,
-    /// Its time is not above that of the last body from its sender.
+    /// Its time is not above that of the last body from its sender, which is 0 where there was none.
     #[error("stale")]
     Stale,
     /// Memory was refused.
@@ -25,7 +25,7 @@ pub enum HoldFault {
 }
 
 /// The casts that one process holds back until every other process is known to have passed their stamps, so that all
-/// processes deliver in one order (totally ordered multicast, after Lamport 1978).
+/// processes deliver in one order: totally ordered multicast.
 #[derive(Drop)]
 pub struct Holdback<A: Allocator + Copy = Global> {
     me: u8,
@@ -95,7 +95,7 @@ fn casts<A: Allocator + Copy, B: Allocator + Copy>(
 }
 
 impl<A: Allocator + Copy> Holdback<A> {
-    /// A queue that holds nothing and has heard of no process. The own process is one of the shape.
+    /// A queue that holds nothing and has heard of no process. The own process has to be one of the shape.
     pub fn new(alloc: A, me: u8, shape: Shape) -> Result<Holdback<A>, AllocError>
         requires { me < shape.processes }
         ensures { IfOk result (λ h. h ≡ record { me = me; seen = replicate shape.processes 0; held = [] }) }
@@ -109,7 +109,7 @@ impl<A: Allocator + Copy> Holdback<A> {
         })
     }
 
-    /// Holds an own cast, later than every own cast that is held. After a refusal nothing has changed.
+    /// Holds an own cast, which has to be later than every own cast that is held. After a refusal nothing has changed.
     pub fn cast(&mut self, stamp: Stamp, op: Op) -> Result<(), AllocError>
         requires own { stamp.process ≡ self.old.me }
         requires latest { IsLatestOwn self.old stamp }
@@ -119,8 +119,8 @@ impl<A: Allocator + Copy> Holdback<A> {
         Ok(())
     }
 
-    /// Takes in the time of a body of another process, and holds its cast, if it carries one. After a refusal nothing
-    /// has changed.
+    /// Takes in the time of a body of another process, and holds its cast, if it carries one. `NoProcess` and `Stale`
+    /// come exactly where they apply. A body without a cast takes no memory. After a refusal nothing has changed.
     pub fn receive(&mut self, stamp: Stamp, op: Option<Op>) -> Result<(), HoldFault>
         ensures exact { MatchResult result (λ _. (receive_fault self.old stamp ≡ None) × (self.new ≡ received self.old stamp op)) (λ fault. (receive_fault self.old stamp ≡ refusal_of fault) × (self.new ≡ self.old)) }
 
@@ -145,8 +145,9 @@ impl<A: Allocator + Copy> Holdback<A> {
         Ok(())
     }
 
-    /// Lets the cast go that is ready: clear, so that every other process is known to have passed its stamp, and least
-    /// among those held. None comes exactly where no held cast is clear. It takes no memory.
+    /// Takes out the cast that is ready, and gives it. Ready is the held cast with the least stamp, where it is clear:
+    /// every other process is known to have passed its stamp. None comes exactly where no held cast is clear, and
+    /// nothing has changed then. It takes no memory.
     pub fn pop(&mut self) -> Option<(Stamp, Op)>
         ensures answer { option_map cast_of result ≡ ready_of self.old }
         ensures after { MatchOption result (self.new ≡ self.old) (λ _. self.new ≡ without_first self.old) }
