@@ -10,27 +10,29 @@ ghost use Rattle.reg_front.specs.Keeps.{linear_keeps, linear_casts, local_read_k
 use crate::starts::Start;
 use reg_base::Op;
 
-/// Decides how each operation starts. Every front end that keeps `lawful` gives sequential consistency (Lamport 1979,
-/// Attiya and Welch 1994).
+/// Decides how each operation starts. Every front end keeps `lawful`, by which the histories of its runs are
+/// sequentially consistent.
 pub trait FrontEnd {
+    /// How each operation starts, by the number of own casts on their way.
     ghost start: { Op → ℕ → Start };
 
     /// How an operation starts where `unsettled` own casts are not yet delivered at the process that calls it.
     fn start(op: &Op, unsettled: u32) -> Start
         ensures { result ≡ start op.now unsettled };
 
-    /// What changes the memory is cast, and answered at once only where its answer is Done whatever the memory is, so
-    /// that a swap runs until its delivery. What isn't cast looks at once where no own cast is on its way, and else
-    /// waits.
+    /// What may change the memory is cast. It is answered at once only where its answer is Done on every memory, so a
+    /// swap runs until its delivery. What isn't cast is answered from the copy: at once where no own cast is on its
+    /// way, and else once every own cast is delivered.
     ghost lawful: { (op : Op) (unsettled : ℕ) → MayStart op unsettled (start op unsettled) };
 }
 
-/// A front end that casts every operation, so that its histories are linearizable too (Herlihy and Wing 1990).
+/// A front end that casts every operation, so that the histories of its runs are linearizable too.
 pub trait RealTime: FrontEnd {
+    /// Every operation is cast, and runs until its delivery.
     ghost casts_all: { (op : Op) (unsettled : ℕ) → Self.start op unsettled ≡ Cast };
 }
 
-/// Casts every operation and waits for its delivery (Lamport 1978, the replicated state machine).
+/// Casts every operation, which runs until its delivery: the replicated state machine.
 pub struct Linear;
 
 impl FrontEnd for Linear {
@@ -47,7 +49,8 @@ impl RealTime for Linear {
     ghost casts_all = { linear_casts };
 }
 
-/// Casts its writes and swaps, and reads its own copy (Attiya and Welch 1994).
+/// Casts writes and swaps, which run until their delivery. A read waits until every own cast is delivered, and is
+/// answered from the own copy.
 pub struct LocalRead;
 
 impl FrontEnd for LocalRead {
@@ -63,7 +66,8 @@ impl FrontEnd for LocalRead {
     ghost lawful = { local_read_keeps };
 }
 
-/// Answers its writes at once, and casts its swaps; a read waits for the own writes before it (Attiya and Welch 1994).
+/// Casts writes and answers them at once, and casts swaps, which run until their delivery. A read waits until every own
+/// cast is delivered, and is answered from the own copy.
 pub struct LocalWrite;
 
 impl FrontEnd for LocalWrite {

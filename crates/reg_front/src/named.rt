@@ -6,11 +6,11 @@ ghost use Rattle.reg_front.specs.Table.{front_name};
 /// The front ends that texts can name.
 #[derive(Clone, Copy, Debug, PartialEq, Eq)]
 pub enum Front {
-    /// Casts every operation.
+    /// `linear`: every operation is cast, and runs until its delivery.
     Linear,
-    /// Casts its writes and swaps, and reads its own copy.
+    /// `local-read`: writes and swaps are cast, and run until their delivery; reads are answered from the own copy.
     LocalRead,
-    /// Answers its writes at once, and casts its swaps.
+    /// `local-write`: writes and swaps are cast, and writes are answered at once; reads are answered from the own copy.
     LocalWrite,
 }
 
