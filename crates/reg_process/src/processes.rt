@@ -23,9 +23,8 @@ use reg_front::FrontEnd;
 use std::alloc::{AllocError, Allocator, Global};
 use std::marker::{Model, PhantomData};
 
-/// One process of a run in which all run the front end F: a clock, a copy of the registers, a hold-back queue, the
-/// bodies that some other process has not acknowledged, and an inbox for each. The clock, and the order of delivery,
-/// are those of Lamport 1978.
+/// One process of a run in which all run the front end F: a logical clock, a copy of the registers, a hold-back queue,
+/// the bodies that some other process has not acknowledged, and an inbox for each other process.
 #[derive(Drop)]
 pub struct Process<F: FrontEnd, A: Allocator + Copy = Global> {
     core: Core<A>,
@@ -43,7 +42,8 @@ impl<F: FrontEnd, A: Allocator + Copy> Model for Process<F, A> {
 }
 
 impl<F: FrontEnd, A: Allocator + Copy> Process<F, A> {
-    /// A process that did nothing yet. It is refused where the shape doesn't have it, or where memory is refused.
+    /// A process that did nothing yet. `NoProcess` comes exactly where the shape doesn't have it, and else only
+    /// `OutOfMemory`.
     pub fn new(alloc: A, shape: Shape, me: u8) -> Result<Process<F, A>, ProcessFault>
         ensures made { IfOk result (λ p. (me < shape.processes) × (p ≡ record { failed = false; state = state_of (first_parts me shape.processes shape.registers); room = 0 })) }
         ensures fault { IfErr result (λ fault. NewRefused shape.processes me fault) }
@@ -62,7 +62,7 @@ impl<F: FrontEnd, A: Allocator + Copy> Process<F, A> {
         })
     }
 
-    /// The time of the clock. Every body queued raised it, so no link has used up more numbers.
+    /// The time of the clock. On no link is the number of the next body above it.
     pub fn clock(&self) -> u64
         ensures value { result ≡ self.now.state.clock }
         ensures numbers { (r : ℕ) → next_of (peer_at self.now.state r) ≤ result }
@@ -77,7 +77,7 @@ impl<F: FrontEnd, A: Allocator + Copy> Process<F, A> {
         self.core.delivered_count()
     }
 
-    /// How many of its own casts are not delivered here.
+    /// How many of its own casts it has not delivered.
     pub fn unsettled(&self) -> u32
         ensures { result ≡ unsettled self.now.state }
     {
@@ -91,7 +91,7 @@ impl<F: FrontEnd, A: Allocator + Copy> Process<F, A> {
         self.core.busy()
     }
 
-    /// How many data frames are not acknowledged, over all links.
+    /// How many bodies are not acknowledged, over all links: one counts for each process that hasn't acknowledged it.
     pub fn pending(&self) -> u64
         ensures { result ≡ pending_of self.now.state.peers }
     {
@@ -140,8 +140,8 @@ impl<F: FrontEnd, A: Allocator + Copy> Process<F, A> {
         self.spare.keep(frames);
     }
 
-    /// Puts the first unacknowledged data frames of every link again. The clock stays as it is. It takes no memory
-    /// where there are none.
+    /// Puts unacknowledged data frames again: on each link the first `limits::MOST_RESENT`. The process stays as it is.
+    /// `Failed` and `OutOfMemory` are the only faults. It takes no memory where there is no such frame.
     pub fn tick(&mut self) -> Result<Outcome<A>, ProcessFault>
         ensures ticked { MatchResult result (λ o. Steps F.start self.old Tick o.frames.items o.cast o.delivered.items o.reply self.new) (λ fault. Refused F.start self.old Tick fault self.new) }
         ensures memory { IsErrOf result ProcessFault.OutOfMemory → puts (resent self.old.state) (length self.old.state.peers) ≢ [] }
@@ -157,9 +157,11 @@ impl<F: FrontEnd, A: Allocator + Copy> Process<F, A> {
     }
 
     /// Takes a frame that another process put for it. A data frame out of turn is dropped and answered by the count of
-    /// those accepted; an expected one is accepted, and what is clear then is delivered. A count takes no memory. Where
-    /// the kept list has room for the answer, neither does a dropped frame, nor an acknowledgement that makes no cast
-    /// clear.
+    /// those accepted. An expected one is accepted and answered so too; its cast is held back and acknowledged to all
+    /// others; and what is clear then is delivered. A count drops the bodies that its sender has accepted.
+    ///
+    /// A count takes no memory. Where the kept list has room for the answer, neither does a dropped frame, nor an
+    /// acknowledgement that makes no cast clear.
     // (in line: it runs at each take, and a frame handed on by a call would be copied once more)
     #[inline(always)]
     pub fn take(&mut self, from: u8, frame: &Frame) -> Result<Outcome<A>, ProcessFault>
@@ -203,7 +205,7 @@ impl<F: FrontEnd, A: Allocator + Copy> Process<F, A> {
         }
     }
 
-    /// Makes a step: a call, a take or a tick, with the faults of each.
+    /// Makes a step: a call, a take or a tick, with the faults of each. No clause says when it takes memory.
     // (in line: it is made at each event, and an outcome handed back by a further call would be copied once more)
     #[inline(always)]
     pub fn step(&mut self, step: &Step) -> Result<Outcome<A>, ProcessFault>

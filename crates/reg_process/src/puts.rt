@@ -195,7 +195,7 @@ fn pending_to<A: Allocator + Copy>(outboxes: &Outboxes<A>, to: u8, me: u8) -> u6
     outboxes.pending(to)
 }
 
-/// How many bodies are not acknowledged.
+/// How many bodies the other processes have not acknowledged, over all links.
 pub fn pending_in<A: Allocator + Copy>(outboxes: &Outboxes<A>, me: u8) -> u64
     requires { length (outs_of me outboxes.now) ≤ MOST_PROCESSES }
     ensures { result ≡ pending_in_all (outs_of me outboxes.now) }
@@ -207,7 +207,7 @@ pub fn pending_in<A: Allocator + Copy>(outboxes: &Outboxes<A>, me: u8) -> u64
     total
 }
 
-/// Inboxes that expect number 0.
+/// As many inboxes as `count` says, each of which expects number 0.
 pub fn new_inboxes<A: Allocator + Copy>(alloc: A, count: u32) -> Result<Vec<Inbox, A>, AllocError>
     ensures { IfOk result (λ v. v.items ≡ replicate count 0) }
 {
@@ -218,7 +218,7 @@ pub fn new_inboxes<A: Allocator + Copy>(alloc: A, count: u32) -> Result<Vec<Inbo
     Ok(all)
 }
 
-/// Outboxes with nothing queued.
+/// Outboxes to `count` processes, the own one among them, with nothing queued.
 pub fn new_outboxes<A: Allocator + Copy>(
     alloc: A,
     me: u8,

@@ -6,8 +6,8 @@ use reg_frames::Frame;
 #[derive(Clone, Copy, Debug, PartialEq, Eq)]
 pub struct Reply {
     pub answer: Answer,
-    /// How many casts the process had delivered before the one that the answer comes with, or before the look at its
-    /// copy.
+    /// How many casts the process had delivered before the own cast at whose delivery the answer comes, or before the
+    /// look at its copy, or before the call of a write that is answered at once.
     pub place: u64,
 }
 
@@ -18,6 +18,6 @@ pub enum Step {
     Call { op: Op },
     /// It takes a frame that another process put for it.
     Take { from: u8, frame: Frame },
-    /// It puts what isn't acknowledged again.
+    /// It puts unacknowledged data frames again: on each link the first `limits::MOST_RESENT`.
     Tick,
 }

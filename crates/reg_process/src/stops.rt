@@ -4,7 +4,7 @@ ghost use Rattle.reg_process.specs.Faults.{is_stop as is_stop_of};
 
 use crate::faults::ProcessFault;
 
-/// Whether a fault stops a process for good.
+/// Whether a fault stops a process for good: `ClockFull` and `OutOfMemory` do.
 pub fn is_stop(fault: ProcessFault) -> bool
     ensures { result ≡ is_stop_of fault }
 {
