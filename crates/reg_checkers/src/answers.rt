@@ -22,7 +22,7 @@ fn is_wrong<A: Allocator + Copy>(values: &mut Registers<A>, fact: Fact) -> bool
     }
 }
 
-/// The first place whose answer is not that of the memory after the operations before it.
+/// The first place whose answer is not that of the memory after the operations before it, None where there is none.
 pub fn first_wrong<A: Allocator + Copy>(
     alloc: A,
     shape: Shape,

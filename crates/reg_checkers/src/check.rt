@@ -112,9 +112,14 @@ fn judge_points<A: Allocator + Copy>(
     check_places(points, &facts)
 }
 
-/// Whether the ids are a serial order of the history (sequential consistency, Lamport 1979): every finished operation
-/// once, and besides only called writes and swaps; each process's own order; each answer that of one memory. The fault
-/// is the first in the order of `CheckFault` that holds, at its first place.
+/// Checks that the ids are a serial order of the history, as sequential consistency asks for: every finished operation
+/// once, and besides only called writes and swaps, each at most once; each process's own order; each answer that of one
+/// memory, all 0 at first.
+///
+/// # Errors
+///
+/// The first fault in the order of `CheckFault` that holds, at its first place. `Outside` and `Falling` never come, and
+/// `OutOfMemory` says nothing of the order.
 pub fn check_serial<A: Allocator + Copy>(
     alloc: A,
     history: &History<A>,
@@ -125,9 +130,14 @@ pub fn check_serial<A: Allocator + Copy>(
     judge_serial(alloc, history.shape(), history.entries(), ids)
 }
 
-/// Whether the points are a point order of the history (linearizability, Herlihy and Wing 1990): their ids are a
-/// selection with the answers of one memory, each point is between its call and its answer, and the points never fall.
-/// The fault is the first in the order of `CheckFault` that holds, at its first place.
+/// Checks that the points are a point order of the history, as linearizability asks for: every finished operation once,
+/// and besides only called writes and swaps, each at most once; each answer that of one memory, all 0 at first; each
+/// point not before the call and not after the answer; and no point below the one before it.
+///
+/// # Errors
+///
+/// The first fault in the order of `CheckFault` that holds, at its first place. `OwnOrder` never comes: where the own
+/// order is broken, another fault holds. `OutOfMemory` says nothing of the order.
 pub fn check_points<A: Allocator + Copy>(
     alloc: A,
     history: &History<A>,

@@ -11,18 +11,19 @@ ghost use Rattle.reg_checkers.specs.History.{IsAt, IsCalled, IsAnswered, IsHisto
 ghost use Rattle.reg_checkers.specs.Orders.{IsSerial, IsPointOrder};
 ghost use Rattle.reg_checkers.specs.Checks.{IsSerialFault, IsPointFault};
 
-/// In a point order an operation that was answered before another's call stands before it.
+/// In a point order an operation that was answered at an event before another's call stands before it.
 pub fn point_order_respects_time()
     ensures { (registers : ℕ) (h : List Entry) (ps : List Point) → IsPointOrder registers h ps → (i j : ℕ) (p q : Point) → IsAt ps i p → IsAt ps j q
         → (s t : ℕ) (answer : Answer) (op : Op) → IsAnswered h p.id s answer → IsCalled h q.id t op → s < t → i < j }
 {}
 
-/// A point order is a serial order.
+/// The operations of a point order of a history are a serial order of it.
 pub fn point_order_is_serial()
     ensures { (n registers : ℕ) (h : List Entry) (ps : List Point) → IsHistory n registers h → IsPointOrder registers h ps → IsSerial registers h (map (λ p. p.id) ps) }
 {}
 
-/// Where a check names a fault, the order is none: so it says yes exactly for orders.
+/// Where a fault other than `OutOfMemory` holds, the ids are no serial order, and the points no point order. So a check
+/// that has memory enough says yes exactly for orders.
 pub fn fault_is_no_order()
     ensures serial { (n registers : ℕ) (h : List Entry) → IsHistory n registers h → (ids : List OpId) (f : CheckFault) → f ≢ OutOfMemory → IsSerialFault registers h ids f → ¬ IsSerial registers h ids }
     ensures points { (n registers : ℕ) (h : List Entry) → IsHistory n registers h → (ps : List Point) (f : CheckFault) → f ≢ OutOfMemory → IsPointFault registers h ps f → ¬ IsPointOrder registers h ps }

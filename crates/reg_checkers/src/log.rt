@@ -1,4 +1,4 @@
-//! The history of a run: what was called and answered, and when.
+//! The history of a run: what was called and answered, and at which events.
 ghost use Rattle.std.specs.Prelude.{◌≡◌, ◌≤◌, [], MatchResult, IfOk, OnOk, OnErr};
 ghost use Rattle.reg_checkers.specs.Log.{IsLog, Grows, Refuses};
 
@@ -9,7 +9,7 @@ use reg_base::Shape;
 use std::alloc::{AllocError, Allocator, Global};
 use std::marker::Model;
 
-/// A history of calls and answers (Herlihy and Wing 1990), each in place after those before it.
+/// A history of calls and answers, each in place after those before it.
 #[derive(Drop)]
 pub struct History<A: Allocator + Copy = Global> {
     shape: Shape,
@@ -61,7 +61,8 @@ impl<A: Allocator + Copy> History<A> {
         self.entries.as_slice()
     }
 
-    /// Makes room: the next n entries in place are accepted. The entries stay.
+    /// Makes room: memory is not refused to the next `n` entries in place. The entries stay, and after a refusal all
+    /// is as it was.
     pub fn reserve(&mut self, n: u32) -> Result<(), AllocError>
         ensures shape { self.new.shape ≡ self.old.shape }
         ensures entries { self.new.entries ≡ self.old.entries }

@@ -91,7 +91,7 @@ pub fn has_missing<A: Allocator + Copy>(rows: &[Vec<Fact, A>], entries: &[Entry]
     false
 }
 
-/// The facts of the ids, if each may stand in an order.
+/// The facts of the ids, None where one may not stand in an order.
 pub fn resolve<A: Allocator + Copy>(
     alloc: A,
     rows: &[Vec<Fact, A>],

@@ -39,7 +39,7 @@ fn is_beside(point: Point, fact: Fact) -> bool
     }
 }
 
-/// The first place whose point is outside.
+/// The first place whose point is before the call or after the answer, None where there is none.
 pub fn first_outside(points: &[Point], facts: &[Fact]) -> Option<usize>
     requires { length facts.now ≡ length points.now }
     ensures { MatchOption result ((k : ℕ) → ¬ IsOutsideFact points.now facts.now k) (λ k. IsFirst (IsOutsideFact points.now facts.now) k) }
@@ -52,7 +52,7 @@ pub fn first_outside(points: &[Point], facts: &[Fact]) -> Option<usize>
     None
 }
 
-/// The first place whose point is below the one before it.
+/// The first place whose point is below the one before it, None where there is none.
 pub fn first_falling(points: &[Point]) -> Option<usize>
     ensures { MatchOption result ((k : ℕ) → ¬ IsFalling points.now k) (λ k. IsFirst (IsFalling points.now) k) }
 {

@@ -9,7 +9,7 @@ use crate::facts::{Fact, Given};
 use reg_base::{OpId, Shape};
 use std::alloc::{AllocError, Allocator};
 
-/// The fact of an operation.
+/// The fact of an operation, None where the table has none.
 pub fn fact_of<A: Allocator + Copy>(rows: &[Vec<Fact, A>], id: OpId) -> Option<Fact>
     ensures { result ≡ cell rows.now id }
 {
