@@ -1,4 +1,5 @@
-//! Histories, the two checkers of their orders, and reports: the text of a history, its order and its points.
+//! Histories, the two checkers of their orders, and reports: a history with its order and its points, read from a text
+//! and written as one.
 #![tactic(auto)]
 
 mod blocks;

@@ -29,7 +29,7 @@ use reg_text::{
 };
 use std::alloc::Allocator;
 
-/// Whether the word names a front end: 1 to 16 letters a to z or hyphens.
+/// Whether the word can name a front end: 1 to 16 letters a to z or hyphens.
 pub fn is_front(word: &[u8]) -> bool
     ensures { result ≡ is_front_of word.now }
 {
@@ -229,7 +229,7 @@ fn read_tail<A: Allocator + Copy>(
     Ok(Some(points))
 }
 
-/// The lists of a report: its order, and its points, if it has any. The last line is after them.
+/// The lists of a report, its order and its points, if it has any; and its last line, after which none is left.
 pub fn read_lists<A: Allocator + Copy>(
     alloc: A,
     lines: &mut Lines<'_>,

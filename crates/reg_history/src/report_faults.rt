@@ -15,23 +15,24 @@ pub enum ReportFault {
     /// There are not as many names as the history has registers.
     #[error("names")]
     Names,
-    /// An id, a point or the length of a list is beyond the limits of a report.
+    /// The history or a list is too long for a report, or an id or a point is beyond its limits.
     #[error("range")]
     Range,
 }
 
-/// What is wrong with a line of a report: the first of these that applies.
+/// What is wrong with a line of a report. The form of a whole line is judged first, then its fields from left to right,
+/// and last the place of an entry.
 #[derive(Clone, Copy, Debug, PartialEq, Eq, Error)]
 pub enum ReadWhy {
     /// The line is spelled otherwise than lines of its kind are.
     Form,
-    /// A number, or how many names there are, is beyond its limit.
+    /// A number, or how many names there are, is out of range.
     Range,
     /// A name is misspelt, repeated or not known.
     Name,
     /// The entry may not come after those before it.
     Place,
-    /// The text ends before this line, or goes on after its last one.
+    /// The text ends before this line, or this line stands after the last one of a report.
     End,
 }
 
@@ -64,7 +65,8 @@ impl fmt::Display for ReadWhy {
 /// Why a text is no report.
 #[derive(Clone, Copy, Debug, PartialEq, Eq, Error)]
 pub enum ReadFault {
-    /// This line is the first that is wrong. Lines are counted from 1.
+    /// This line is the first that is wrong. Lines are counted from 1. Where the text ends too early, it is the line
+    /// after its last one.
     #[error("line {line}: {why}")]
     Line { line: u64, why: ReadWhy },
     /// There was no memory to keep what was read.
@@ -75,10 +77,10 @@ pub enum ReadFault {
 /// Why a report was not written.
 #[derive(Clone, Copy, Debug, PartialEq, Eq, Error)]
 pub enum WriteFault {
-    /// The writer failed. How much it took before is not known.
+    /// The writer failed. It took a first part of the text; how long a part is not told.
     #[error("write")]
     Write,
-    /// There was no memory.
+    /// There was no memory. `write_report` never gives this.
     #[error("out of memory")]
     OutOfMemory,
 }

@@ -24,7 +24,9 @@ use std::alloc::{Allocator, Global};
 use std::io::Write;
 use std::marker::Model;
 
-/// A history with an order of its operations, and points where there are any.
+/// A history with the name of a front end, a name for each register, a list of operations as its order, and points or
+/// none. That the list is a serial order, or the points a point order, is not promised: `check_serial` and
+/// `check_points` judge it.
 #[derive(Drop)]
 pub struct Report<A: Allocator + Copy = Global> {
     front: String<A>,
@@ -114,13 +116,13 @@ fn parts_fault<A: Allocator + Copy>(
 }
 
 impl<A: Allocator + Copy> Report<A> {
-    /// A report of these parts. It takes no memory.
+    /// A report of these parts.
     ///
     /// # Errors
     ///
     /// `Front` where `front` isn't one word of 1 to 16 letters a to z or hyphens; else `Names` where there are not as
-    /// many names as the history has registers; else `Range` where an id or a point of the lists, or the length of
-    /// one, is beyond the limits of a report.
+    /// many names as the history has registers; else `Range` where the history has more than `MOST_ENTRIES` entries, a
+    /// list more than `MOST_IDS` elements, or an id or a point is beyond the limits of a report.
     pub fn new(
         front: String<A>,
         names: Names<A>,
@@ -149,11 +151,11 @@ impl<A: Allocator + Copy> Report<A> {
         })
     }
 
-    /// The report with this order, and these points or none, in place of its own. It takes no memory.
+    /// The report with this order, and these points or none, in place of its own.
     ///
     /// # Errors
     ///
-    /// `Range` where an id or a point of the lists, or the length of one, is beyond the limits of a report.
+    /// `Range` where a list has more than `MOST_IDS` elements, or an id or a point is beyond the limits of a report.
     pub fn with_lists(
         self,
         order: Vec<OpId, A>,
@@ -203,7 +205,7 @@ impl<A: Allocator + Copy> Report<A> {
         self.order.as_slice()
     }
 
-    /// The points, where the report has any.
+    /// The points, None where the report has no list of them.
     pub fn points(&self) -> Option<&[Point]>
         ensures { option_map (λ p. p.now) result ≡ self.now.points }
     {

@@ -9,7 +9,7 @@ use reg_base::limits::{MOST_PROCESSES, MOST_REGISTERS};
 /// A version of the text of a report. Version 2 is written, and both are read.
 #[derive(Clone, Copy, Debug, PartialEq, Eq)]
 pub enum Version {
-    /// All names stand on one line, and there are fewer processes and registers.
+    /// All names stand on one line. There are at most `OLDER_PROCESSES` processes and `OLDER_REGISTERS` registers.
     One,
     /// Each name stands on a line of its own.
     Two,
