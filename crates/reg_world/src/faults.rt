@@ -20,7 +20,7 @@ pub enum WorldFault {
     NoRegister,
     /// The process called all the operations that it may call.
     TooManyOperations,
-    /// There is no such frame.
+    /// There is no such frame. From a process to itself there is none.
     NoFrame,
     /// There was no memory: the world has stopped.
     OutOfMemory,
@@ -59,7 +59,7 @@ impl fmt::Display for WorldFault {
 #[derive(Clone, Copy, Debug, PartialEq, Eq, Error)]
 #[error("event {at}: {fault}")]
 pub struct RunFault {
-    /// The index of the first event that was refused.
+    /// The index of the first event that was refused, from 0. It is 0 too where memory was refused before any event.
     pub at: usize,
     /// Why that event was refused.
     pub fault: WorldFault,

@@ -26,8 +26,9 @@ pub fn witness_is_serial()
 {}
 
 /// In the order by rising key an operation that may change the memory stands after each that was answered before its
-/// call, except those that the front end may answer before their delivery. Where it answers none so, there is no
-/// exception; and where every operation is cast, each operation stands after those that were answered before its call.
+/// call, except those that the front end may answer before their delivery. Where the front end answers no operation
+/// before its delivery, there is no exception. Where every operation is cast, each operation stands after those that
+/// were answered before its call.
 pub fn witness_keeps_updates()
     ensures updates { (start : Op → ℕ → Start) (n registers : ℕ) (events : List Event) (ids : List OpId) → KeepsLaws start → IsWitness (run_of registers (whole start n registers events)) ids → KeepsUpdates start (whole start n registers events).history ids }
     ensures all_updates { (start : Op → ℕ → Start) (n registers : ℕ) (events : List Event) (ids : List OpId) → KeepsLaws start → AnswersNothingFirst start → IsWitness (run_of registers (whole start n registers events)) ids → KeepsAllUpdates (whole start n registers events).history ids }
@@ -40,8 +41,8 @@ pub fn serial_order_keeps_own_time()
     ensures { (n registers : ℕ) (h : List Entry) (ids : List OpId) → IsHistory n registers h → IsSerial registers h ids → KeepsOwnTime h ids }
 {}
 
-/// Which operations a front end never answers before their delivery: a lawful one none whose answer tells of the
-/// memory, such as a read or a swap; and two of the three named front ends none at all.
+/// Which operations a front end never answers before their delivery: a lawful one those whose answers tell of the
+/// memory, such as reads and swaps; and `linear` and `local-read` all.
 pub fn what_waits()
     ensures tells { (start : Op → ℕ → Start) → KeepsLaws start → (op : Op) → ¬ (IsBlind op) → WaitsForDelivery start op }
     ensures read { (start : Op → ℕ → Start) → KeepsLaws start → (register : ℕ) → WaitsForDelivery start (Read register) }
@@ -50,7 +51,8 @@ pub fn what_waits()
     ensures local_read { AnswersNothingFirst local_read }
 {}
 
-/// Where every operation is cast, the first deliveries of the kept casts are a point order of the history.
+/// Where every operation is cast, the first deliveries of the casts that are updates or finished are a point order of
+/// the history.
 pub fn points_are_a_point_order()
     ensures { (start : Op → ℕ → Start) (n registers : ℕ) (events : List Event) (points : List Point) → CastsAll start → ArePoints (run_of registers (whole start n registers events)) points → IsPointOrder registers (whole start n registers events).history points }
 {}
@@ -63,8 +65,9 @@ pub fn history_in_place()
     ensures again { (start : Op → ℕ → Start) (n registers : ℕ) (events : List Event) → whole start n registers (whole start n registers events).accepted ≡ whole start n registers events }
 {}
 
-/// What any two processes delivered is one a prefix of the other, and the order is the longest. A cast that a
-/// process hasn't delivered, made already or later, stands above all that it has.
+/// Each process delivers casts that were made, in the order of their stamps. Of what any two processes delivered, one
+/// is a prefix of the other, and the order of first deliveries is the longest. A cast that a process hasn't delivered,
+/// made already or later, has a stamp above all that it has delivered.
 pub fn one_order()
     ensures agree { (start : Op → ℕ → Start) (n registers : ℕ) (events : List Event) → KeepsLaws start → DeliveriesAgree n (whole start n registers events).nodes }
     ensures rise { (start : Op → ℕ → Start) (n registers : ℕ) (events : List Event) → KeepsLaws start → DeliveriesRise n (whole start n registers events).nodes }
@@ -76,16 +79,17 @@ pub fn one_order()
     ensures casts { (start : Op → ℕ → Start) (n registers : ℕ) (events : List Event) → KeepsLaws start → CastsRight n (whole start n registers events) }
 {}
 
-/// Each reply is the memory's after the first casts of the order, as many as its place says; the reads are exactly
-/// the finished operations that made no cast. Where nothing is pending, all is delivered, no process is busy and all
-/// copies are equal.
+/// Each reply is the memory's after the first casts of the order, as many as its place says. The reads are exactly the
+/// finished operations that made no cast. Where no frame is left unacknowledged, each process has delivered all casts,
+/// none is busy, and all copies are equal.
 pub fn one_memory()
     ensures replies { (start : Op → ℕ → Start) (n registers : ℕ) (events : List Event) → KeepsLaws start → RepliesRight start n registers (whole start n registers events) }
     ensures reads { (start : Op → ℕ → Start) (n registers : ℕ) (events : List Event) → KeepsLaws start → ReadsRight (whole start n registers events) }
     ensures quiescent { (start : Op → ℕ → Start) (n registers : ℕ) (events : List Event) → KeepsLaws start → AllAcknowledged n (whole start n registers events).nodes → IsQuiescent n (whole start n registers events).nodes }
 {}
 
-/// No frame on a wire is refused by its receiver, and no clock is full.
+/// No frame on a wire is refused by its receiver. Each clock has a time left for a cast, and each link a number for a
+/// frame.
 pub fn none_refused()
     ensures { (start : Op → ℕ → Start) (n registers : ℕ) (events : List Event) → KeepsLaws start → NoRefusal n registers (whole start n registers events).nodes }
 {}

@@ -43,6 +43,7 @@ impl<F: FrontEnd, A: Allocator + Copy, W: WireStore<A>> Member<F, A, W> {
         }
     }
 
+    /// The process.
     pub(crate) fn process(&self) -> &Process<F, A>
         ensures failed { result.now.failed ≡ self.now.failed }
         ensures state { result.now.state ≡ self.now.state }

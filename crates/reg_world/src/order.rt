@@ -7,7 +7,7 @@ pub struct First {
     pub stamp: Stamp,
     pub id: OpId,
     pub op: Op,
-    /// The number of the event that first delivered it.
+    /// The number of the event that first delivered it, from 0.
     pub at: u32,
 }
 
@@ -15,6 +15,6 @@ pub struct First {
 #[derive(Clone, Copy, Debug, PartialEq, Eq)]
 pub struct CopyRead {
     pub id: OpId,
-    /// How many casts the copy had delivered.
+    /// How many casts the copy had delivered when it was read.
     pub place: u64,
 }

@@ -79,7 +79,7 @@ impl<A: Allocator + Copy> Tables<A> {
         Ok(true)
     }
 
-    /// The slot of a frame that is kept whole.
+    /// The slot of a frame that is kept whole. It fails too where there are too many of these frames for a word.
     fn other(&mut self, frame: &Frame) -> Result<Slot, AllocError>
         ensures room { IfOk result HasRoom }
         ensures says { IfOk result (λ slot. Says self.new slot frame.now) }
@@ -123,9 +123,11 @@ impl<A: Allocator + Copy> Tables<A> {
     }
 }
 
-/// All frames that a process ever put for each process, each as one word. The bodies are kept once, by their numbers,
-/// and a frame that is none of the bodies under its number is kept whole. Most frames go to all others, so words that
-/// stand on several wires at the same place are kept once, up to the first that differs.
+/// All frames that a process ever put for each process, each as a word of four bytes. How much memory they take is not
+/// promised.
+// (the bodies are kept once, by their numbers, and a frame that is none of the bodies under its number is kept whole;
+// most frames go to all others, so words that stand on several wires at the same place are kept once, up to the first
+// that differs)
 #[derive(Drop)]
 pub struct PackedWires<A: Allocator + Copy = Global> {
     tables: Tables<A>,

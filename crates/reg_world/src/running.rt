@@ -120,6 +120,10 @@ fn run_ahead<F: FrontEnd, A: Allocator + Copy, W: WireStore<A>>(
 
 impl<F: FrontEnd, A: Allocator + Copy, W: WireStore<A>> World<F, A, W> {
     /// A world in which nothing happened yet.
+    ///
+    /// # Errors
+    ///
+    /// Memory was refused.
     pub fn new(alloc: A, shape: Shape) -> Result<World<F, A, W>, AllocError>
         ensures { IfOk result (λ w. w ≡ new_world shape) }
     {
@@ -133,9 +137,12 @@ impl<F: FrontEnd, A: Allocator + Copy, W: WireStore<A>> World<F, A, W> {
         })
     }
 
-    /// Makes an event. It is refused by the first fault that applies, and then nothing has changed; or because memory
-    /// is refused, and then the world has stopped for good, with the events, history, order and reads of the steps
-    /// before. The history grows by the event's own call, and by an answer where the event gives one.
+    /// Makes an event. The history grows by the event's own call, and by an answer where the event gives one.
+    ///
+    /// # Errors
+    ///
+    /// The first fault of `WorldFault` that applies, and then nothing has changed; or `OutOfMemory`, and then the world
+    /// has stopped for good, with the events, history, order and reads of the steps before.
     pub fn step(&mut self, event: &Event) -> Result<(), WorldFault>
         ensures made { MatchResult result (λ _. Accepts F.start self.old event.now self.new) (λ fault. Refuses F.start self.old event.now fault self.new) }
         ensures history { MatchResult result (λ _. (reply : Option Reply) × Grows (length self.old.accepted) self.old.history event.now reply self.new.history) (λ _. self.new.history ≡ self.old.history) }
@@ -145,7 +152,13 @@ impl<F: FrontEnd, A: Allocator + Copy, W: WireStore<A>> World<F, A, W> {
         Ok(())
     }
 
-    /// Makes an event as `step` does, and gives the reply of it: its answer is the one that the history grows by.
+    /// Makes an event, and gives the reply that it brings, or None. The history grows by the event's own call, and by
+    /// the answer of the reply.
+    ///
+    /// # Errors
+    ///
+    /// The first fault of `WorldFault` that applies, and then nothing has changed; or `OutOfMemory`, and then the world
+    /// has stopped for good, with the events, history, order and reads of the steps before.
     pub fn step_reply(&mut self, event: &Event) -> Result<Option<Reply>, WorldFault>
         ensures made { MatchResult result (λ reply. Accepts F.start self.old event.now self.new × (reply ≡ reply_in F.start self.old event.now)) (λ fault. Refuses F.start self.old event.now fault self.new) }
         ensures history { MatchResult result (λ reply. Grows (length self.old.accepted) self.old.history event.now reply self.new.history) (λ _. self.new.history ≡ self.old.history) }
@@ -164,8 +177,12 @@ impl<F: FrontEnd, A: Allocator + Copy, W: WireStore<A>> World<F, A, W> {
         }
     }
 
-    /// Makes these events, one after another, in a new world. The first one that is refused ends the run. Where memory
-    /// is refused before the first event, that one is told.
+    /// Makes these events, one after another, in a new world.
+    ///
+    /// # Errors
+    ///
+    /// The first event that is refused, and why. `OutOfMemory` with 0 may also say that memory was refused before any
+    /// event.
     pub fn run(alloc: A, shape: Shape, events: &[Event]) -> Result<World<F, A, W>, RunFault>
         ensures world { MatchResult result (λ w. w ≡ after_events F.start shape events.now) (λ f. RunRefuses F.start shape events.now f.at f.fault) }
         ensures history { IfOk result (λ w. Makes events.now w.history) }
@@ -178,8 +195,13 @@ impl<F: FrontEnd, A: Allocator + Copy, W: WireStore<A>> World<F, A, W> {
         World::run_owned(alloc, shape, events)
     }
 
-    /// Runs events as `run` does, and keeps the list itself as that of the accepted events, so that it takes no memory
-    /// for a copy.
+    /// Makes the events of a list that it takes over, one after another, in a new world.
+    ///
+    /// # Errors
+    ///
+    /// The first event that is refused, and why. `OutOfMemory` with 0 may also say that memory was refused before any
+    /// event.
+    // (the list itself becomes that of the accepted events, so that none is copied)
     pub fn run_owned(
         alloc: A,
         shape: Shape,
@@ -216,7 +238,7 @@ impl<F: FrontEnd, A: Allocator + Copy, W: WireStore<A>> World<F, A, W> {
         self.book.accepted().len() as u32
     }
 
-    /// The events accepted so far. The run that the other answers tell of is that of these events.
+    /// The events accepted so far, in order. The run that the world tells of is the run of these events.
     pub fn accepted(&self) -> &[Event]
         ensures value { result.now ≡ self.now.accepted }
         ensures all { (run_in F.start self.now).accepted ≡ self.now.accepted }
@@ -224,7 +246,7 @@ impl<F: FrontEnd, A: Allocator + Copy, W: WireStore<A>> World<F, A, W> {
         self.book.accepted()
     }
 
-    /// The calls and answers, each with the number of its event.
+    /// The calls and answers, each with the number of its event, from 0.
     pub fn history(&self) -> &History<A>
         ensures shape { result.now.shape ≡ record { processes = self.now.processes; registers = self.now.registers } }
         ensures value { result.now.entries ≡ self.now.history }
@@ -244,7 +266,8 @@ impl<F: FrontEnd, A: Allocator + Copy, W: WireStore<A>> World<F, A, W> {
         self.book.into_history()
     }
 
-    /// Each cast's first delivery anywhere, in order of delivery: the one order of casts.
+    /// Each cast's first delivery anywhere, in order of delivery, which is the order of stamps: the one order of casts.
+    /// What a process has delivered is a prefix of it.
     pub fn order(&self) -> &[First]
         ensures value { result.now ≡ (run_in F.start self.now).order }
         ensures agree { DeliveriesAgree self.now.processes (run_in F.start self.now).nodes }
@@ -266,7 +289,9 @@ impl<F: FrontEnd, A: Allocator + Copy, W: WireStore<A>> World<F, A, W> {
         self.book.reads()
     }
 
-    /// A process, None where there is no such one. Nothing is claimed of it once the world has stopped.
+    /// A process of the run, None where there is no such one. Nothing is claimed of it once the world has stopped.
+    /// Where no process of the run has a frame that is not acknowledged, each has delivered all casts, none is busy,
+    /// and all copies are equal.
     pub fn process(&self, process: u8) -> Option<&Process<F, A>>
         ensures process { MatchOption result (self.now.processes ≤ process) (λ p. IsProcess F.start self.now process p.now) }
         ensures quiescent { AllAcknowledged self.now.processes (run_in F.start self.now).nodes → IsQuiescent self.now.processes (run_in F.start self.now).nodes }
@@ -277,8 +302,8 @@ impl<F: FrontEnd, A: Allocator + Copy, W: WireStore<A>> World<F, A, W> {
         }
     }
 
-    /// How many frames were ever put from one process to another, None where these are no two processes. Nothing is
-    /// claimed of it once the world has stopped.
+    /// How many frames were ever put from one process to another, None where one of them isn't there or both are the
+    /// same. Nothing is claimed of the number once the world has stopped.
     pub fn frame_count(&self, from: u8, to: u8) -> Option<usize>
         ensures { MatchOption result (IsNoWire self.now from to) (λ count. HasFrames F.start self.now from to count) }
     {
@@ -295,7 +320,8 @@ impl<F: FrontEnd, A: Allocator + Copy, W: WireStore<A>> World<F, A, W> {
     }
 
     /// The frame at this place, from 0, of all frames ever put from one process to another. None where there is no such
-    /// place, or where these are no two processes. Nothing is claimed of it once the world has stopped.
+    /// place, or where one of the processes isn't there or both are the same. Nothing is claimed of the frame once the
+    /// world has stopped.
     pub fn frame_at(&self, from: u8, to: u8, number: u32) -> Option<Frame>
         ensures { IsFrameAt F.start self.now from to number result }
     {
@@ -311,11 +337,17 @@ impl<F: FrontEnd, A: Allocator + Copy, W: WireStore<A>> World<F, A, W> {
         }
     }
 
-    /// The operations that are finished, and the updates that some process has delivered, in one order: the reads from
-    /// a copy and the casts by place, and after them the finished casts that were delivered nowhere. It is a serial
-    /// order of the history (Lamport 1979), in which an operation that may change the memory stands after each that was
-    /// answered before its call, except those that the front end may answer before their delivery. Where it answers
-    /// none so, there is no exception.
+    /// The operations that are finished, and the updates that some process has delivered, in one order. Delivered casts
+    /// stand as in `order`, a read from a copy stands before the cast at its place there, and the finished casts that
+    /// were delivered nowhere stand last, by stamp.
+    ///
+    /// It is a serial order of the history: the history is sequentially consistent. An operation that may change the
+    /// memory stands after each that was answered before its call, except those that the front end may answer before
+    /// their delivery. Where the front end answers no operation before its delivery, there is no exception.
+    ///
+    /// # Errors
+    ///
+    /// Memory was refused.
     pub fn witness(&self) -> Result<Vec<OpId, A>, AllocError>
         ensures keyed { IfOk result (λ ids. IsWitness (run_of self.now.registers (run_in F.start self.now)) ids.items) }
         ensures serial { IfOk result (λ ids. IsSerial self.now.registers (run_in F.start self.now).history ids.items) }
@@ -330,8 +362,15 @@ impl<F: FrontEnd, A: Allocator + Copy, W: WireStore<A>> World<F, A, W> {
         )
     }
 
-    /// The history, and the operations of `witness`: a serial order of it (Lamport 1979), which keeps the same real
-    /// time. To believe this takes the definitions of histories and their orders alone, and none of a run.
+    /// The history, and the operations of `witness`, a serial order of it: the history is sequentially consistent. An
+    /// operation that may change the memory stands after each that was answered before its call, except those that the
+    /// front end may answer before their delivery. Where the front end answers no operation before its delivery, there
+    /// is no exception. To believe this takes the definitions of histories, of their orders and of the front end, and
+    /// none of a run.
+    ///
+    /// # Errors
+    ///
+    /// Memory was refused.
     pub fn serial_order(&self) -> Result<(&History<A>, Vec<OpId, A>), AllocError>
         ensures shape { IfOk result (λ r. r.0.now.shape ≡ record { processes = self.now.processes; registers = self.now.registers }) }
         ensures value { IfOk result (λ r. r.0.now.entries ≡ self.now.history) }
@@ -350,8 +389,8 @@ impl<F: FrontEnd, A: Allocator + Copy, W: WireStore<A>> World<F, A, W> {
 }
 
 impl<F: FrontEnd, A: Allocator + Copy> World<F, A, Wires<A>> {
-    /// All frames ever put from one process to another, None where these are no two processes. Nothing is claimed of
-    /// them once the world has stopped.
+    /// All frames ever put from one process to another, None where one of the processes isn't there or both are the
+    /// same. Nothing is claimed of the frames once the world has stopped.
     pub fn wire(&self, from: u8, to: u8) -> Option<&[Frame]>
         ensures { MatchOption result (IsNoWire self.now from to) (λ frames. IsWire F.start self.now from to frames.now) }
     {
@@ -369,8 +408,13 @@ impl<F: FrontEnd, A: Allocator + Copy> World<F, A, Wires<A>> {
 }
 
 impl<F: RealTime, A: Allocator + Copy, W: WireStore<A>> World<F, A, W> {
-    /// The casts that are updates or finished, each at the event of its first delivery. They are a point order of the
-    /// history (Herlihy and Wing 1990): each operation takes effect between its call and its answer.
+    /// The delivered casts that are updates or finished, each at the event of its first delivery. They are a point
+    /// order of the history: the history is linearizable. Each takes effect between its call and its answer, if it is
+    /// answered.
+    ///
+    /// # Errors
+    ///
+    /// Memory was refused.
     pub fn points(&self) -> Result<Vec<Point, A>, AllocError>
         ensures first { IfOk result (λ points. ArePoints (run_of self.now.registers (run_in F.start self.now)) points.items) }
         ensures ordered { IfOk result (λ points. IsPointOrder self.now.registers (run_in F.start self.now).history points.items) }
@@ -378,9 +422,13 @@ impl<F: RealTime, A: Allocator + Copy, W: WireStore<A>> World<F, A, W> {
         points_of(self.alloc, self.book.order(), self.book.callers())
     }
 
-    /// The history, and `points`: a linearization of it (Herlihy and Wing 1990), which gives each operation a point
-    /// between its call and its answer. To believe this takes the definitions of histories and their orders alone, and
-    /// none of a run.
+    /// The history, and `points`, a linearization of it: the history is linearizable. Each operation there has a point
+    /// between its call and its answer, if it is answered. To believe this takes the definitions of histories and their
+    /// orders alone, and none of a run.
+    ///
+    /// # Errors
+    ///
+    /// Memory was refused.
     pub fn linearization(&self) -> Result<(&History<A>, Vec<Point, A>), AllocError>
         ensures shape { IfOk result (λ r. r.0.now.shape ≡ record { processes = self.now.processes; registers = self.now.registers }) }
         ensures value { IfOk result (λ r. r.0.now.entries ≡ self.now.history) }

@@ -15,8 +15,9 @@ impl Item for Frame {
     }
 }
 
-/// All frames that a process ever put for each process. Most go to all others, so frames that stand on several wires at
-/// the same place are kept once, up to the first that differs.
+/// All frames that a process ever put for each process, as slices.
+// (most frames go to all others, so those that stand on several wires at the same place are kept once, up to the first
+// that differs)
 #[derive(Drop)]
 pub struct Wires<A: Allocator + Copy = Global> {
     strips: Strips<Frame, A>,

@@ -20,7 +20,8 @@ pub trait WireStore<A: Allocator + Copy>: Drop {
     fn count(&self, to: u8) -> usize
         ensures { result ≡ length (slice_index_or (wires self.now) to []) };
 
-    /// The frame at this place, from 0, of all frames ever put for a process.
+    /// The frame at this place, from 0, of all frames ever put for a process. None where there is no such place or
+    /// process.
     fn frame_at(&self, to: u8, number: u32) -> Option<Frame>
         ensures { result ≡ slice_get (slice_index_or (wires self.now) to []) number };
 
