@@ -5,10 +5,11 @@ use thiserror::Error;
 /// none applies.
 #[derive(Clone, Copy, Debug, PartialEq, Eq, Error)]
 pub enum CloseFault {
-    /// The order and the logs are no run from this place on.
+    /// The order and the logs are no run from this place of the order on, counted from 0. The place after the last says
+    /// that some log has an entry left.
     #[error("unfaithful {place}")]
     Unfaithful { place: u64 },
-    /// The receipts of this process aren't its finished operations.
+    /// This process is the first whose receipts aren't just its finished operations, in order.
     #[error("mismatch {process}")]
     Mismatch { process: u8 },
     /// There was no memory.

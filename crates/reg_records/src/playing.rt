@@ -91,8 +91,9 @@ fn unfaithful(place: usize) -> CloseFault
     }
 }
 
-/// The run of a record, as `verify` has it, where no caller says what it was told. Where it is Ok the steps are a run
-/// that gives the replies written down, and where it is `Unfaithful` they are none.
+/// The run of a record without receipts: the order names the processes of its steps, and the k-th mention of a process
+/// stands for the k-th entry of its log. Where it is Ok the steps are a run that gives the replies written down, each
+/// frame being taken from its wire.
 ///
 /// # Errors
 ///

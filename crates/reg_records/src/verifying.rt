@@ -13,7 +13,7 @@ use std::alloc::Allocator;
 
 /// The run of a record: the order names the processes of its steps, and the k-th mention of a process stands for the
 /// k-th entry of its log. Where it is Ok the steps are a run that gives the replies written down, each frame being
-/// taken from its wire, and the receipts are just the finished operations of each process.
+/// taken from its wire, and the receipts of each process are just its finished operations, in order.
 ///
 /// # Errors
 ///
@@ -33,11 +33,12 @@ pub fn verify<F: FrontEnd, A: Allocator + Copy>(
     verify_in(alloc, shape, order, logs, receipts)
 }
 
-/// Checks records as `verify` does, in a world that keeps its wires in a store of the caller's choice.
+/// The run of a record, checked as by `verify`, in a world that keeps its wires in a store of the caller's choice.
 ///
 /// # Errors
 ///
-/// Those of `verify`.
+/// `Unfaithful` with the first place from which the order and the logs are no run, `Mismatch` with the first process
+/// whose receipts aren't its finished operations, and `OutOfMemory`.
 pub fn verify_in<F: FrontEnd, A: Allocator + Copy, W: WireStore<A>>(
     alloc: A,
     shape: Shape,
