@@ -28,9 +28,9 @@ pub fn rests_at_no_distance()
     ensures { (start : Op → ℕ → Start) (n registers : ℕ) (events : List Event) → AllAcknowledged n (whole start n registers events).nodes ↔ distance n (whole start n registers events).nodes ≡ 0 }
 {}
 
-/// Two runs in which each process makes the same steps have the same witness, whatever came when. So the runs of the
-/// same logs, in whatever orders of their entries, have one witness: the order of all operations is decided by what
-/// each process wrote down.
+/// Two runs in which each process makes the same steps have the same witness, the order that `World::witness` gives,
+/// whatever came when. So the runs of the same logs, in whatever orders of their entries, have one witness: it is
+/// decided by what each process wrote down.
 pub fn one_witness()
     ensures steps { (start : Op → ℕ → Start) (n registers : ℕ) (a b : List Event) (ids others : List OpId) → KeepsLaws start → HaveSameSteps start n registers a b → IsWitness (run_of registers (whole start n registers a)) ids → IsWitness (run_of registers (whole start n registers b)) others → ids ≡ others }
     ensures logs { (start : Op → ℕ → Start) (shape : Extent) (logs : List (List LogEntry)) (order other : List ℕ) (u v : Made) (ids others : List OpId) → KeepsLaws start → IsFaithful start shape order logs u → IsFaithful start shape other logs v → IsWitness (run_of u.registers (run_in start u)) ids → IsWitness (run_of v.registers (run_in start v)) others → ids ≡ others }

@@ -1,4 +1,5 @@
-//! Laws of whole runs: any run can come to rest, and which real time no order can keep.
+//! Bringing a world to rest, and laws of whole runs: which runs can come to rest, and which real time no order can
+//! keep.
 #![tactic(auto)]
 
 mod faults;

@@ -1,5 +1,6 @@
-//! Laws of single runs, one for each pair of operations whose real time a front end doesn't keep. Each is a function
-//! that does nothing: its contract is the law. The operations are named by process and number.
+//! Laws of single runs, in which a front end doesn't keep the real time of two operations. An operation overtakes one
+//! that was answered before its call, if every serial order of the history has it before that one. Each law is a
+//! function that does nothing: its contract is the law. The operations are named by process and number.
 ghost use Rattle.std.specs.Prelude.{ℕ, List};
 ghost use Rattle.reg_base.specs.declared.memory.OpId.{OpId};
 ghost use Rattle.reg_front.specs.Table.{local_read, local_write};

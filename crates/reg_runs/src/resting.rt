@@ -209,16 +209,18 @@ fn next_link<F: FrontEnd, A: Allocator + Copy, W: WireStore<A>>(
 }
 
 /// Brings a world to rest, and tells by how many events: ticks and takes, each an ordinary event of `World::step`,
-/// until no frame is left unacknowledged. Then all copies are equal and no operation waits. No frame that was put
-/// before is taken: what was lost stays lost. There are at most three events for each frame that has to be
-/// acknowledged, now or later. In which order they come no clause says: a process that has unacknowledged frames puts
-/// the first ones again; these are taken, link by link, and then the count that answers the last of a link.
+/// until no frame is left unacknowledged. Then each process has delivered all casts, no operation runs, and all copies
+/// are equal. No frame that was put before is taken: what was lost stays lost. There are at most three events for each
+/// frame that has to be acknowledged, now or later. In which order they come is not promised.
 ///
 /// # Errors
 ///
-/// `TooManyEvents`: the world has all the events that it may have, and is not at rest. `OutOfMemory`: an event took
-/// memory that was refused, and the world has stopped, with what it told before. `Failed`: it had stopped before, and
-/// nothing has changed.
+/// `TooManyEvents`: with the ticks and takes made so far the world has all the events that it may have, and is not at
+/// rest. It comes only where there was no room for three events for each of those frames. `OutOfMemory`: memory was
+/// refused for an event, and the world has stopped, with the ticks and takes made so far. `Failed`: it had stopped
+/// before, and nothing has changed.
+// (a process that has unacknowledged frames puts the first ones again; these are taken, link by link, and then the
+// count that answers the last of a link)
 pub fn settle<F: FrontEnd, A: Allocator + Copy, W: WireStore<A>>(
     world: &mut World<F, A, W>,
 ) -> Result<u32, SettleFault>
