@@ -3,8 +3,8 @@ use crate::keys::Key;
 use std::fmt;
 use thiserror::Error;
 
-/// Why a workload is refused. The first that applies is told: each key is judged in turn, and the operations last. Its
-/// text is its line on standard error.
+/// Why a workload is refused: the first fault of its document. Unknown keys are judged first, then each key in the
+/// order of `Key`, and the operations last. `OutOfMemory` may stand in place of any other, and where none applies.
 #[derive(Clone, Copy, Debug, PartialEq, Eq, Error)]
 pub enum WorkloadFault {
     /// The text is no TOML document.
@@ -13,11 +13,11 @@ pub enum WorkloadFault {
     UnknownKey,
     /// A key that each workload has is not there.
     Missing { key: Key },
-    /// The value of a key is of another kind.
+    /// The value of a key, or an element of it, is of another kind.
     Kind { key: Key },
-    /// The value of a key is of its kind, and beyond its range.
+    /// The value of a key is of its kind, but not one that the key may have.
     Range { key: Key },
-    /// This place of the script of this process has no operation on a known register.
+    /// This place, from 0, of the script of this process is the first that has no operation on a known register.
     Script { process: u8, place: u32 },
     /// There was no memory to keep what was read.
     OutOfMemory,

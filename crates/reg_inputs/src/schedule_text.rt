@@ -16,7 +16,7 @@ use reg_text::{Sink, Unwritten, name_at, put_number, put_op};
 use std::alloc::Allocator;
 use std::io::Write;
 
-/// Puts the event that takes the frame at this place of a wire.
+/// Puts the event that takes the frame at this place, from 0, of a wire, without a line feed.
 pub fn put_take<W: Write>(sink: &mut Sink<'_, W>, from: u8, to: u8, place: usize)
     ensures { Puts W.contents sink.old sink.new (codes "take " ++ (decimal from ++ 32 ∷ (decimal to ++ 32 ∷ decimal place))) }
 {
@@ -25,7 +25,7 @@ pub fn put_take<W: Write>(sink: &mut Sink<'_, W>, from: u8, to: u8, place: usize
     put_number(sink, " ", place as u64);
 }
 
-/// Puts an event in the words of a schedule.
+/// Puts an event in the words of a schedule, without a line feed.
 pub fn put_event<A: Allocator + Copy, W: Write>(
     sink: &mut Sink<'_, W>,
     names: &Names<A>,
@@ -130,7 +130,11 @@ fn put_schedule<A: Allocator + Copy, W: Write>(
     put_events(sink, names, events);
 }
 
-/// Writes the text of the schedule that has these parts, all of it or, where the writer fails, a first part.
+/// Writes the text of the schedule that has these parts. That they are within the limits of a schedule is not checked.
+///
+/// # Errors
+///
+/// `Unwritten` where the writer failed: what went out before is a first part of the text.
 pub fn write_schedule<A: Allocator + Copy, W: Write>(
     writer: &mut W,
     shape: Shape,

@@ -23,7 +23,7 @@ use std::marker::Model;
 /// Why a schedule is refused: the first line that is wrong, or `OutOfMemory`.
 pub type ScheduleFault = TextFault;
 
-/// A shape, a name for each register, a front end and the events of a run.
+/// A shape, names for its registers, a front end and a list of events.
 #[derive(Drop)]
 pub struct Schedule<A: Allocator + Copy = Global> {
     pub shape: Shape,
@@ -110,7 +110,8 @@ fn read_plan<A: Allocator + Copy>(
     })
 }
 
-/// The schedule that the text spells. Lines that are empty or begin with `#` are passed over, and counted.
+/// The schedule that the text spells. Lines that are empty or begin with `#` are passed over, and counted. The register
+/// of a call has to have a name; whether there is such a process or frame is left to the world to judge.
 ///
 /// # Errors
 ///

@@ -23,15 +23,15 @@ pub struct Workload<A: Allocator + Copy = Global> {
     pub shape: Shape,
     pub names: Names<A>,
     pub front: Front,
-    /// The operations that each process calls, in order.
+    /// The operations that each process calls, in order, each on a register of the shape.
     pub scripts: Vec<Vec<Op, A>, A>,
-    /// The seed of a seeded play.
+    /// The seed of a seeded play, at most `limits::LAST_SEED`.
     pub seed: u64,
-    /// The odds, of a hundred, that a frame that is chosen is lost.
+    /// The odds, of a hundred, that a frame that is chosen is lost: 0 to 100.
     pub loss: u32,
-    /// The odds, of a hundred, that a frame that is taken can be taken again.
+    /// The odds, of a hundred, that a frame that is taken can be taken again: 0 to 100.
     pub repeat: u32,
-    /// The most events of a play.
+    /// The most events of a play: 1 to `limits::MOST_EVENTS`.
     pub budget: u32,
 }
 
@@ -76,7 +76,8 @@ fn workload_of<A: Allocator + Copy>(alloc: A, table: &Table) -> Result<Workload<
 }
 
 impl<A: Allocator + Copy> Workload<A> {
-    /// The workload that a table says.
+    /// The workload that a table says. A seed or odds that are not there are 0, and a budget that is not there is
+    /// `limits::USUAL_BUDGET`.
     ///
     /// # Errors
     ///
@@ -92,11 +93,12 @@ impl<A: Allocator + Copy> Workload<A> {
     }
 }
 
-/// The table of a TOML document. `toml` keeps it in the global heap.
+/// The table of a TOML document.
 ///
 /// # Errors
 ///
-/// The text is no document, or memory was refused.
+/// `Toml` where the text is no TOML document, or `OutOfMemory`.
+// (the kit's `toml` keeps a table in the global heap alone)
 pub fn read_table(alloc: Global, text: &str) -> Result<Table, WorkloadFault>
     ensures read { IfOk result (λ t. parse_document text.now ≡ Some (table_view t)) }
     ensures refused { IfErr result (λ e. (e ≡ OutOfMemory) ⊎ ((e ≡ Toml) × (parse_document text.now ≡ None))) }
@@ -114,11 +116,13 @@ pub fn read_table(alloc: Global, text: &str) -> Result<Table, WorkloadFault>
 }
 
 impl Workload {
-    /// The workload that a TOML document says.
+    /// The workload that a TOML document says. A seed or odds that are not there are 0, and a budget that is not there
+    /// is `limits::USUAL_BUDGET`.
     ///
     /// # Errors
     ///
-    /// The text is no document, or the first fault of its table, or `OutOfMemory`.
+    /// `Toml` where the text is no TOML document, else the first fault of its table as `from_table` judges it; or
+    /// `OutOfMemory`.
     pub fn from_toml(alloc: Global, text: &str) -> Result<Workload, WorkloadFault>
         ensures read { IfOk result (λ w. (ms : Members) × (parse_document text.now ≡ Some ms) × Says ms w × IsLoad w) }
         ensures whole { (ms : Members) (l : Load) → parse_document text.now ≡ Some ms → Says ms l → IsLoad l → MatchResult result (λ w. w ≡ l) (λ e. e ≡ OutOfMemory) }
