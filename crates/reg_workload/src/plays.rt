@@ -37,7 +37,8 @@ pub fn play_fair<F: FrontEnd, A: Allocator + Copy>(
     play_fair_in(alloc, work)
 }
 
-/// `play_fair`, in a world that keeps its wires in a store of the caller's choice.
+/// Plays a workload in rounds of calls and takes, by the rules of `play_fair`, in a world that keeps its wires in a
+/// store of the caller's choice.
 ///
 /// # Errors
 ///
@@ -61,7 +62,7 @@ pub fn play_fair_in<F: FrontEnd, A: Allocator + Copy, W: WireStore<A>>(
 /// tick for each process with frames to put again. The next word, modulo their number, says which of them it is. A
 /// frame is lost where the next word, modulo 100, is below `loss`; else it is taken, and can be taken again where the
 /// word after that, modulo 100, is below `repeat`. Where nothing can happen the play ends. Without loss, a play of
-/// fewer events than the budget is finished.
+/// fewer events than the budget is finished. The words are those of `words`; the workload's seed is not used.
 ///
 /// # Errors
 ///
@@ -78,7 +79,8 @@ pub fn play_seeded<F: FrontEnd, R: Words + Drop, A: Allocator + Copy>(
     play_seeded_in(alloc, work, words)
 }
 
-/// `play_seeded`, in a world that keeps its wires in a store of the caller's choice.
+/// Plays a workload in turns that the words decide, by the rules of `play_seeded`, in a world that keeps its wires in a
+/// store of the caller's choice.
 ///
 /// # Errors
 ///
