@@ -10,12 +10,13 @@ use reg_front::Linear;
 use reg_process::Reply;
 use reg_world::{Event, World, WorldFault};
 
-/// Calls an operation where nothing was called yet. Then the history is this call, with the answer if one came: that
-/// follows from what `step_reply` says of histories, without the definition of a run.
+/// Calls an operation where nothing was called yet, and gives its reply, or None if none came. Then the history is this
+/// call, with the answer if one came. To believe this takes no definition of a run.
 ///
 /// # Errors
 ///
-/// Those of `World::step_reply`, each where it comes there.
+/// The first fault of `WorldFault` that applies, and then nothing has changed; or `OutOfMemory`, and then the world has
+/// stopped for good, with what it accepted before.
 pub fn call_first(
     world: &mut World<Linear>,
     process: u8,

@@ -12,12 +12,13 @@ use reg_front::FrontEnd;
 use reg_live::{Gate, LiveFault, Pass, Receipt};
 use std::sync::Wait;
 
-/// Reads a register at a place of the journal that is not below the floor. With the place after the answer that another
-/// thread was told as the floor, the read is called after that answer.
+/// Calls a read of a register at a place of the journal that is not below the floor, and waits for its answer. Where
+/// the floor is the place after another operation's answer, the read is called after that answer.
 ///
 /// # Errors
 ///
-/// Those of `Pass::perform_after`.
+/// `NoRegister` only for a register past the last, and `Behind` only with a `length` below the floor. When the other
+/// faults come is not promised. Nothing has changed; but where it is `Failed`, the read may count as called.
 pub fn read_from<F: FrontEnd, G: Gate + Drop, R: Wait>(
     rt: &R,
     pass: &mut Pass<F, G>,

@@ -1,4 +1,4 @@
-//! Shared registers over totally ordered broadcast: what a program of one's own needs, in one place. `docs/LIBRARY.md`
+//! Shared registers over totally ordered multicast: what a program of one's own needs, in one place. `docs/LIBRARY.md`
 //! is the tour. Except for three short names of operations, a shape made from names, the first call of a world and a
 //! read from a floor, all of it is what the crates below offer, under their own contracts.
 #![tactic(auto)]

@@ -10,8 +10,8 @@ use reg_base::{Names, Shape, ShapeFault};
 ///
 /// # Errors
 ///
-/// Those of `Shape::new`. There is a name, and there are no more than registers may be, so only the processes can be
-/// refused.
+/// `NoProcess` for 0 processes, and `TooManyProcesses` for more than `limits::MOST_PROCESSES`. There is a name, and no
+/// more than registers may be, so there is no other fault.
 pub fn shape_for(processes: u32, names: &Names) -> Result<Shape, ShapeFault>
     ensures shape { result ≡ shape_of processes (length names.now) }
     ensures some { result ≢ Err NoRegister }
