@@ -6,7 +6,7 @@ use crate::memory::Op;
 use std::cmp::Ordering;
 
 /// The time of a cast at the clock of the process that made it, and that process. Stamps are totally ordered: by time,
-/// and equal times by process.
+/// and equal times by process (Lamport 1978).
 #[derive(Clone, Copy, Debug, PartialEq, Eq, PartialOrd, Ord)]
 pub struct Stamp {
     /// The time of the caster's clock.

@@ -112,9 +112,9 @@ fn judge_points<A: Allocator + Copy>(
     check_places(points, &facts)
 }
 
-/// Checks that the ids are a serial order of the history, as sequential consistency asks for: every finished operation
-/// once, and besides only called writes and swaps, each at most once; each process's own order; each answer that of one
-/// memory, all 0 at first.
+/// Checks that the ids are a serial order of the history, as sequential consistency asks for (Lamport 1979): every
+/// finished operation once, and besides only called writes and swaps, each at most once; each process's own order; each
+/// answer that of one memory, all 0 at first.
 ///
 /// # Errors
 ///
@@ -130,9 +130,9 @@ pub fn check_serial<A: Allocator + Copy>(
     judge_serial(alloc, history.shape(), history.entries(), ids)
 }
 
-/// Checks that the points are a point order of the history, as linearizability asks for: every finished operation once,
-/// and besides only called writes and swaps, each at most once; each answer that of one memory, all 0 at first; each
-/// point not before the call and not after the answer; and no point below the one before it.
+/// Checks that the points are a point order of the history, as linearizability asks for (Herlihy and Wing 1990): every
+/// finished operation once, and besides only called writes and swaps, each at most once; each answer that of one
+/// memory, all 0 at first; each point not before the call and not after the answer; and no point below the one before.
 ///
 /// # Errors
 ///

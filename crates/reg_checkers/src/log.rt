@@ -9,7 +9,7 @@ use reg_base::Shape;
 use std::alloc::{AllocError, Allocator, Global};
 use std::marker::Model;
 
-/// A history of calls and answers, each in place after those before it.
+/// A history of calls and answers (Herlihy and Wing 1990), each in place after those before it.
 #[derive(Drop)]
 pub struct History<A: Allocator + Copy = Global> {
     shape: Shape,

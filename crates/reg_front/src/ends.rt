@@ -11,7 +11,7 @@ use crate::starts::Start;
 use reg_base::Op;
 
 /// Decides how each operation starts. Every front end keeps `lawful`, by which the histories of its runs are
-/// sequentially consistent.
+/// sequentially consistent (Lamport 1979, Attiya and Welch 1994).
 pub trait FrontEnd {
     /// How each operation starts, by the number of own casts on their way.
     ghost start: { Op → ℕ → Start };
@@ -26,13 +26,14 @@ pub trait FrontEnd {
     ghost lawful: { (op : Op) (unsettled : ℕ) → MayStart op unsettled (start op unsettled) };
 }
 
-/// A front end that casts every operation, so that the histories of its runs are linearizable too.
+/// A front end that casts every operation, so that the histories of its runs are linearizable too (Herlihy and Wing
+/// 1990).
 pub trait RealTime: FrontEnd {
     /// Every operation is cast, and runs until its delivery.
     ghost casts_all: { (op : Op) (unsettled : ℕ) → Self.start op unsettled ≡ Cast };
 }
 
-/// Casts every operation, which runs until its delivery: the replicated state machine.
+/// Casts every operation, which runs until its delivery (Lamport 1978, the replicated state machine).
 pub struct Linear;
 
 impl FrontEnd for Linear {
@@ -50,7 +51,7 @@ impl RealTime for Linear {
 }
 
 /// Casts writes and swaps, which run until their delivery. A read waits until every own cast is delivered, and is
-/// answered from the own copy.
+/// answered from the own copy (Attiya and Welch 1994).
 pub struct LocalRead;
 
 impl FrontEnd for LocalRead {
@@ -67,7 +68,7 @@ impl FrontEnd for LocalRead {
 }
 
 /// Casts writes and answers them at once, and casts swaps, which run until their delivery. A read waits until every own
-/// cast is delivered, and is answered from the own copy.
+/// cast is delivered, and is answered from the own copy (Attiya and Welch 1994).
 pub struct LocalWrite;
 
 impl FrontEnd for LocalWrite {

@@ -25,7 +25,7 @@ pub enum HoldFault {
 }
 
 /// The casts that one process holds back until every other process is known to have passed their stamps, so that all
-/// processes deliver in one order: totally ordered multicast.
+/// processes deliver in one order: totally ordered multicast (after Lamport 1978).
 #[derive(Drop)]
 pub struct Holdback<A: Allocator + Copy = Global> {
     me: u8,

@@ -24,7 +24,8 @@ use std::alloc::{AllocError, Allocator, Global};
 use std::marker::{Model, PhantomData};
 
 /// One process of a run in which all run the front end F: a logical clock, a copy of the registers, a hold-back queue,
-/// the bodies that some other process has not acknowledged, and an inbox for each other process.
+/// the bodies that some other process has not acknowledged, and an inbox for each other process. The clock, and the
+/// order of delivery, are those of Lamport 1978.
 #[derive(Drop)]
 pub struct Process<F: FrontEnd, A: Allocator + Copy = Global> {
     core: Core<A>,

@@ -10,7 +10,7 @@ use rand_pcg::Lcg64Xsh32;
 use reg_base::Words;
 use std::marker::Model;
 
-/// The words of the generator PCG32, from a seed.
+/// The words of the generator PCG32 (O'Neill 2014), from a seed.
 #[derive(Drop)]
 pub struct SeedWords {
     generator: Lcg64Xsh32,

@@ -341,9 +341,10 @@ impl<F: FrontEnd, A: Allocator + Copy, W: WireStore<A>> World<F, A, W> {
     /// stand as in `order`, a read from a copy stands before the cast at its place there, and the finished casts that
     /// were delivered nowhere stand last, by stamp.
     ///
-    /// It is a serial order of the history: the history is sequentially consistent. An operation that may change the
-    /// memory stands after each that was answered before its call, except those that the front end may answer before
-    /// their delivery. Where the front end answers no operation before its delivery, there is no exception.
+    /// It is a serial order of the history: the history is sequentially consistent (Lamport 1979). An operation that
+    /// may change the memory stands after each that was answered before its call, except those that the front end may
+    /// answer before their delivery. Where the front end answers no operation before its delivery, there is no
+    /// exception.
     ///
     /// # Errors
     ///
@@ -409,8 +410,8 @@ impl<F: FrontEnd, A: Allocator + Copy> World<F, A, Wires<A>> {
 
 impl<F: RealTime, A: Allocator + Copy, W: WireStore<A>> World<F, A, W> {
     /// The delivered casts that are updates or finished, each at the event of its first delivery. They are a point
-    /// order of the history: the history is linearizable. Each takes effect between its call and its answer, if it is
-    /// answered.
+    /// order of the history: the history is linearizable (Herlihy and Wing 1990). Each takes effect between its call
+    /// and its answer, if it is answered.
     ///
     /// # Errors
     ///
