@@ -1,4 +1,3 @@
-pub mod Pushed
 pub mod Putting
 pub mod Sharing
 pub mod Packing

@@ -1,7 +1,7 @@
 use Rattle.std.proofs.Common.{◌≡◌, ◌∙◌, replicate, ap, arith}
 use Rattle.std.proofs.lemmas.List.{replicate_more}
 use Rattle.reg_world.specs.Sharing.{no_items}
-use Rattle.reg_world.proofs.Pushed.{one_more}
+use Rattle.reg_world.proofs.lists.Pushed.{one_more}
 use Rattle.reg_world.proofs.strips.new_lines.Goals as goal
 
 pub loop-i-init : goal.loop-i-init
