@@ -2,7 +2,7 @@
 use reg_outcomes::OrderKind;
 use reg_reasons::why_text;
 use reg_show::{
-    Player, Showing, find_order, show_all_outcomes, show_outcome, show_schedule,
+    Player, Showing, find_order, show_all_outcomes, show_outcome, show_outcomes, show_schedule,
     show_short_schedule, show_text,
 };
 use reg_verify::verify_text;
@@ -21,6 +21,8 @@ pub(crate) type Row = (&'static str, Given<'static>);
 pub(crate) enum Task {
     /// All outcomes of a workload are told.
     AllOutcomes,
+    /// One play of a workload is counted.
+    OnePlay,
     /// The schedule of a run with the outcome of this number, which isn't 0, is written.
     Outcome { number: u32 },
     /// An order of a report's history is found.
@@ -49,6 +51,7 @@ fn run<W: Write>(
     let input = &mut input;
     match task {
         Task::AllOutcomes => show_all_outcomes(alloc, alloc, input, output, errors),
+        Task::OnePlay => show_outcomes(alloc, alloc, 1, None, input, output, errors),
         Task::Outcome { number: 0 } => 255,
         Task::Outcome { number } => show_outcome(alloc, alloc, number, input, output, errors),
         Task::Order { kind } => find_order(alloc, kind, input, output, errors),

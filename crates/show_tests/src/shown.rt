@@ -152,12 +152,13 @@ fn what_is_shown_to_a_writer_that_is_full_goes_out_in_part(rt: HostRuntime) {
 const EARLY: &str = "processes 2\nregisters x\nfront linear\ntake 0 1 0\n";
 
 /// Texts that can't be shown so, and the fault of each.
-const REFUSED: [(Task, &str, &str); 5] = [
+const REFUSED: [(Task, &str, &str); 6] = [
     (TRACE, "", "line 1: end\n"),
     (DRAW, "processes 0\n", "line 1: range\n"),
     (TRACE, EARLY, "event 0: no frame\n"),
     (DRAW, EARLY, "event 0: no frame\n"),
     (Task::Schedule, EARLY, "toml\n"),
+    (Task::OnePlay, EARLY, "toml\n"),
 ];
 
 #[test]
