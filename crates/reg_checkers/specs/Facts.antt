@@ -1,4 +1,5 @@
--- The facts of operations, by which the passes of a check speak. They carry a proof: no promise speaks of them.
+-- The facts of operations, by which the passes of a check speak. They carry proofs, of crates above too: no other
+-- promise speaks of them.
 use Rattle.std.specs.Prelude.{ℕ, ◌≡◌, ◌≢◌, ◌<◌, ◌⊎◌, List, map, take, Some, MatchOption}
 use Rattle.std.specs.List.{AllZip}
 use Rattle.reg_base.specs.declared.memory.OpId.{OpId}

@@ -1,5 +1,5 @@
--- Tables of facts: a row for each process, and in it a fact for each number. They carry a proof: no promise speaks of
--- them.
+-- Tables of facts: a row for each process, and in it a fact for each number. They carry proofs, of crates above too: no
+-- other promise speaks of them.
 use Rattle.std.specs.Prelude.{ℕ, ◌≡◌, ◌≢◌, ◌⊎◌, ◌↔◌, true, List, slice_get, Option, Some, IsSome, option_and_then, Vec}
 use Rattle.reg_base.specs.declared.memory.OpId.{OpId}
 use Rattle.reg_checkers.specs.declared.facts.Fact.{Fact}

@@ -15,6 +15,8 @@ mod table;
 
 pub use check::{check_points, check_serial};
 pub use entries::{Entry, Point};
+pub use facts::{Fact, Given};
 pub use faults::{CheckFault, HistoryFault};
 pub use log::History;
 pub use points::ids_of_points;
+pub use table::{fact_of, table_of};

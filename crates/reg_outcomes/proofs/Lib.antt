@@ -14,7 +14,7 @@ pub mod ByProcess
 pub mod Numbering
 pub mod Collecting
 pub mod Placed
-pub mod Tabling
+pub mod NextAnswers
 pub mod Serial
 pub mod Pointing
 pub mod Naming

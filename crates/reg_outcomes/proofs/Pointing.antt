@@ -26,7 +26,7 @@ use Rattle.reg_outcomes.specs.declared.kinds.OrderKind.TheVariants.{Serial, Poin
 use Rattle.reg_outcomes.specs.Finding.{IsFindFault, Next, Nothing, Places}
 use Rattle.reg_outcomes.specs.Interleavings.{Stage}
 use Rattle.reg_outcomes.specs.Placing.{ArePointsOf, IsOrder, KeepsRealTime}
-use Rattle.reg_outcomes.specs.Tables.{Sought}
+use Rattle.reg_outcomes.specs.Sought.{Sought}
 
 -- what is placed for a point order is placed for a serial order too
 places_serially : (n registers : ℕ) (h : List Entry) (ids : List OpId) (s : Stage) → Places Points n registers h ids s → Places Serial n registers h ids s

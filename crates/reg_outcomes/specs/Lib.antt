@@ -9,7 +9,7 @@ pub mod Placing
 pub mod Nevers
 pub mod Combining
 pub mod AllText
-pub mod Tables
+pub mod Sought
 pub mod PlayTables
 pub mod Counts
 pub mod TableText

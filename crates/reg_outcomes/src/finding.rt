@@ -6,7 +6,9 @@ ghost use Rattle.reg_base.specs.declared.memory.OpId.{OpId as AnyId};
 ghost use Rattle.reg_base.specs.Memory.{register_of};
 ghost use Rattle.reg_base.specs.Order.{In};
 ghost use Rattle.reg_base.specs.declared.limits.TheConstants.{LAST_EVENT, MOST_OPERATIONS};
+ghost use Rattle.reg_checkers.specs.declared.entries.Entry.{Entry};
 ghost use Rattle.reg_checkers.specs.declared.entries.Point.{Point as AnyPoint};
+ghost use Rattle.reg_checkers.specs.Facts.{IsFactOf};
 ghost use Rattle.reg_checkers.specs.History.{IsAt, IsCalled, IsHistory, WasCalled};
 ghost use Rattle.reg_checkers.specs.Orders.{IsPointOrder, IsSerial};
 ghost use Rattle.reg_outcomes.specs.Interleavings.{Stage as AnyStage};
@@ -15,22 +17,21 @@ ghost use Rattle.reg_outcomes.specs.Layers.{Adds, IsAfterSome, IsSomeOf, Refuses
 ghost use Rattle.reg_outcomes.specs.Placing.{ArePointsOf, HasRoomFor, IsOrder, IsOrderBy, IsPlaced, IsPlacing, IsSearched, ids_along};
 
 use crate::faults::InterleavingFault;
-use crate::finder::Finder;
+use crate::finder::{Finder, next_number};
 use crate::kinds::OrderKind;
 use crate::layers::{GrowingLayer, Layer, first_layer};
 use crate::stages::Stage;
-use crate::tables::Invocation;
 use reg_base::{Answer, Op, OpId};
-use reg_checkers::{History, Point};
+use reg_checkers::{Fact, History, Point};
 use std::alloc::{AllocError, Allocator, Global};
 
 /// Whether an operation may come where the memory gives it this answer.
-fn may_come<A: Allocator + Copy>(finder: &Finder<'_, A>, id: OpId, op: Op, answer: Answer) -> bool
-    ensures { IsTrue result ↔ MayCome finder.now.entries id op answer }
+fn may_come(fact: Fact, answer: Answer) -> bool
+    ensures { (n registers : ℕ) (h : List Entry) (id : AnyId) → IsHistory n registers h → IsFactOf h id fact → (IsTrue result ↔ MayCome h id fact.op answer) }
 {
-    match finder.response(id) {
+    match fact.answered {
         Some(given) => given.answer == answer,
-        None => op.updates(),
+        None => fact.op.updates(),
     }
 }
 
@@ -39,24 +40,16 @@ fn may_follow<A: Allocator + Copy>(
     finder: &Finder<'_, A>,
     next: &[u32],
     id: OpId,
-    call: Invocation,
+    fact: Fact,
 ) -> bool
     requires history { IsHistory finder.now.shape.processes finder.now.shape.registers finder.now.entries }
-    requires called { IsCalled finder.now.entries id call.at call.op }
+    requires called { IsCalled finder.now.entries id fact.called fact.op }
     ensures { IsTrue result ↔ MayFollow finder.now.kind finder.now.entries next.now id }
 {
     match finder.kind() {
         OrderKind::Serial => true,
-        OrderKind::Points => finder.are_placed_before(next, call.at),
+        OrderKind::Points => finder.are_placed_before(next, fact.called),
     }
-}
-
-/// The number of a process's next operation.
-fn next_number(next: &[u32], process: u8) -> u32
-    requires { process < length next.now }
-    ensures { result ≡ slice_index next.now process }
-{
-    next[usize::from(process)]
 }
 
 /// The stage after a process did this operation, its next one.
@@ -87,17 +80,17 @@ fn placeable<A: Allocator + Copy>(
 {
     let number = next_number(&stage.next, process);
     let id = OpId { process, number };
-    let Some(call) = finder.invocation(id) else {
+    let Some(fact) = finder.fact(id) else {
         return None;
     };
-    let answer = call.op.answer_on(&stage.memory);
-    if !may_follow(finder, &stage.next, id, call) {
+    let answer = fact.op.answer_on(&stage.memory);
+    if !may_follow(finder, &stage.next, id, fact) {
         return None;
     }
-    if !may_come(finder, id, call.op, answer) {
+    if !may_come(fact, answer) {
         return None;
     }
-    Some(call.op)
+    Some(fact.op)
 }
 
 impl<A: Allocator + Copy> GrowingLayer<A> {
@@ -270,8 +263,8 @@ fn event_of_call<A: Allocator + Copy>(finder: &Finder<'_, A>, id: OpId) -> u32
     requires { WasCalled finder.now.entries id }
     ensures { (op : AnyOp) × IsCalled finder.now.entries id result op }
 {
-    match finder.invocation(id) {
-        Some(call) => call.at,
+    match finder.fact(id) {
+        Some(fact) => fact.called,
         None => unreachable!(),
     }
 }

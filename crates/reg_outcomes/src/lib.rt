@@ -17,7 +17,6 @@ mod rows;
 mod scripts;
 mod stages;
 mod table_text;
-mod tables;
 mod tallies;
 mod timing;
 mod told;

@@ -10,7 +10,6 @@ mod documents;
 mod entries;
 mod events;
 mod explaining;
-mod facts;
 mod first_lines;
 mod forms;
 mod lines_at;

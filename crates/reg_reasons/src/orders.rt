@@ -1,9 +1,9 @@
 //! Why the order of a report, or its points, are refused.
-use crate::facts::{Fact, Facts};
 use crate::lines_at::line_at;
 use crate::report_lines::{Part, first_line};
 use crate::saying::Notes;
 use reg_base::{Answer, OpId, Registers};
+use reg_checkers::{Fact, fact_of, table_of};
 use reg_commands::Reason;
 use reg_history::{Entry, Report};
 use reg_text::{put_answer, put_op};
@@ -18,14 +18,28 @@ fn numbers_of(id: OpId, third: u64, fourth: u64) -> [u64; 4] {
 }
 
 /// A list of a report that is refused, its order or its points, with what the history says of its operations.
-#[derive(Clone, Copy)]
+#[derive(Drop)]
 struct RefusedList<'a, A: Allocator + Copy> {
     text: &'a [u8],
     report: &'a Report<A>,
-    facts: &'a Facts<A>,
-    ids: &'a [OpId],
+    /// The facts of all operations, by process and number.
+    facts: Vec<Vec<Fact, A>, A>,
+    ids: Vec<OpId, A>,
     /// The line of the first of them.
     first: u64,
+}
+
+/// Marks that an operation stands in a list. False where it is marked, or the history has no call of it.
+fn mark<A: Allocator + Copy>(facts: &mut [Vec<Fact, A>], id: OpId) -> bool {
+    let Some(row) = facts.get_mut(usize::from(id.process)) else {
+        return false;
+    };
+    let Some(fact) = row.get_mut(id.number as usize) else {
+        return false;
+    };
+    let is_first = !fact.stands;
+    fact.stands = true;
+    is_first
 }
 
 impl<A: Allocator + Copy> RefusedList<'_, A> {
@@ -34,16 +48,21 @@ impl<A: Allocator + Copy> RefusedList<'_, A> {
         self.first.saturating_add(place as u64)
     }
 
+    /// The line of the entry at a place of the history.
+    fn entry_line(&self, place: usize) -> u64 {
+        first_line(self.text, Part::Entry).saturating_add(place as u64)
+    }
+
     /// The operation at a place, and what the history says of it.
     fn fact(&self, place: usize) -> Option<(OpId, Fact)> {
         let id = self.ids.get(place).copied()?;
-        Some((id, self.facts.at(id)?))
+        Some((id, fact_of(&self.facts, id)?))
     }
 
     /// The first operation that may stand in no order.
     fn unknown(&self) -> Option<Told> {
         for (place, id) in self.ids.iter().enumerate() {
-            let text = match self.facts.at(*id) {
+            let text = match fact_of(&self.facts, *id) {
                 None => "the history has no call of p{} #{}\n",
                 Some(fact) if fact.answered.is_none() && !fact.op.updates() => {
                     "p{} #{} is a read that is not answered\n"
@@ -56,29 +75,31 @@ impl<A: Allocator + Copy> RefusedList<'_, A> {
     }
 
     /// The first operation that stands there before.
-    fn twice(&self) -> Option<Told> {
+    fn twice(&mut self) -> Option<Told> {
+        let mut repeated = None;
         for (place, id) in self.ids.iter().enumerate() {
-            let line = self.line(place);
-            if let Some(fact) = self.facts.at(*id)
-                && let Some(first) = fact.stands
-                && first < line
-            {
-                let text = "p{} #{} stands on line {} too\n";
-                return Some((line, text, numbers_of(*id, first, 0)));
+            if !mark(&mut self.facts, *id) {
+                repeated = Some((place, *id));
+                break;
             }
         }
-        None
+        let (place, id) = repeated?;
+        let first = self.ids.iter().position(|it| *it == id)?;
+        let text = "p{} #{} stands on line {} too\n";
+        Some((self.line(place), text, numbers_of(id, self.line(first), 0)))
     }
 
     /// The first answered operation that doesn't stand there.
-    fn missing(&self) -> Option<Told> {
-        for entry in self.report.history().entries() {
+    fn missing(&mut self) -> Option<Told> {
+        for id in &self.ids {
+            mark(&mut self.facts, *id);
+        }
+        for (place, entry) in self.report.history().entries().iter().enumerate() {
             if let Entry::Answered { id, .. } = *entry
-                && let Some(fact) = self.facts.at(id)
-                && let (Some(given), None) = (fact.answered, fact.stands)
+                && mark(&mut self.facts, id)
             {
                 let text = "p{} #{} is answered here, and doesn't stand in the order\n";
-                return Some((given.line, text, numbers_of(id, 0, 0)));
+                return Some((self.entry_line(place), text, numbers_of(id, 0, 0)));
             }
         }
         None
@@ -136,48 +157,49 @@ impl<A: Allocator + Copy> RefusedList<'_, A> {
         let mut memory = Registers::new(alloc, self.report.names().count() as u16)?;
         let mut answer = None;
         for id in self.ids.iter().take(place.saturating_add(1)) {
-            if let Some(fact) = self.facts.at(*id) {
+            if let Some(fact) = fact_of(&self.facts, *id) {
                 answer = memory.apply(&fact.op);
             }
         }
         Ok(answer)
     }
 
-    /// Puts the line of a place with this operation, what memory answers there, and what the report says.
-    fn put_wrong(
-        &self,
-        notes: &mut Notes<'_, A>,
-        place: usize,
-        id: OpId,
-        fact: Fact,
-        answer: Option<Answer>,
-    ) {
-        self.put_told(
-            notes,
-            (self.line(place), "p{} #{} is ", numbers_of(id, 0, 0)),
-        );
-        put_op(&mut notes.sink, self.report.names(), fact.op);
-        if let (Some(answer), Some(given)) = (answer, fact.answered) {
-            notes.put(&[": memory answers "]);
-            put_answer(&mut notes.sink, answer);
-            notes.put(&[" there, and the report says "]);
-            put_answer(&mut notes.sink, given.answer);
-            notes.put_with(" on line {}", &[given.line]);
+    /// Puts what memory answers, and what the report says of this operation.
+    fn put_answers(&self, notes: &mut Notes<'_, A>, id: OpId, answer: Answer) {
+        for (place, entry) in self.report.history().entries().iter().enumerate() {
+            if let Entry::Answered {
+                id: answered,
+                answer: given,
+                ..
+            } = *entry
+                && answered == id
+            {
+                notes.put(&[": memory answers "]);
+                put_answer(&mut notes.sink, answer);
+                notes.put(&[" there, and the report says "]);
+                put_answer(&mut notes.sink, given);
+                notes.put_with(" on line {}", &[self.entry_line(place)]);
+            }
         }
-        notes.put(&["\n"]);
     }
 
     /// Puts why the answer of the operation at a place is wrong.
     fn explain_answer(&self, notes: &mut Notes<'_, A>, place: usize) -> Result<(), AllocError> {
-        if let Some((id, fact)) = self.fact(place) {
-            let answer = self.answer_at(notes.alloc, place)?;
-            self.put_wrong(notes, place, id, fact, answer);
+        let Some((id, fact)) = self.fact(place) else {
+            return Ok(());
+        };
+        let told = (self.line(place), "p{} #{} is ", numbers_of(id, 0, 0));
+        self.put_told(notes, told);
+        put_op(&mut notes.sink, self.report.names(), fact.op);
+        if let Some(answer) = self.answer_at(notes.alloc, place)? {
+            self.put_answers(notes, id, answer);
         }
+        notes.put(&["\n"]);
         Ok(())
     }
 
     /// Puts why it is refused.
-    fn explain(&self, notes: &mut Notes<'_, A>, reason: Reason) -> Result<(), AllocError> {
+    fn explain(&mut self, notes: &mut Notes<'_, A>, reason: Reason) -> Result<(), AllocError> {
         let told = match reason {
             Reason::Unknown => self.unknown(),
             Reason::Twice => self.twice(),
@@ -214,17 +236,13 @@ pub fn explain_list<A: Allocator + Copy>(
     part: Part,
     reason: Reason,
 ) -> Result<(), AllocError> {
-    let first = first_line(text, part);
-    let ids = ids_of(notes.alloc, report, part)?;
-    let mut facts = Facts::new(notes.alloc);
-    facts.add(notes.alloc, report, first_line(text, Part::Entry))?;
-    facts.stand(&ids, first);
-    let list = RefusedList {
+    let history = report.history();
+    let mut list = RefusedList {
         text,
         report,
-        facts: &facts,
-        ids: &ids,
-        first,
+        facts: table_of(notes.alloc, history.shape(), history.entries())?,
+        ids: ids_of(notes.alloc, report, part)?,
+        first: first_line(text, part),
     };
     list.explain(notes, reason)
 }

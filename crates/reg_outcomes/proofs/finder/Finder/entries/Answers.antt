@@ -1,6 +1,6 @@
 use Rattle.std.proofs.Common.{subst}
 use Rattle.reg_checkers.specs.History.{IsHistory}
-use Rattle.reg_outcomes.specs.Tables.{Sought}
+use Rattle.reg_outcomes.specs.Sought.{Sought}
 use Rattle.reg_outcomes.proofs.finder.Finder.entries.Goals as goal
 
 pub returns-clause-in_place : goal.returns-clause-in_place

@@ -1,11 +1,28 @@
-use Rattle.std.proofs.Common.{MatchBool, subst}
-use Rattle.reg_outcomes.specs.Placing.{IsComplete}
-use Rattle.reg_outcomes.specs.Tables.{Sought, lists_of}
-use Rattle.reg_outcomes.proofs.Tabling.{complete_tested}
+use Rattle.std.proofs.Common.{◌≡◌, ℕ, ap, sym, ◌∙◌, arith}
+use Rattle.std.specs.Prelude.{slice_index}
+use Rattle.reg_base.specs.Shape.{Extent}
+use Rattle.reg_checkers.specs.Progress.{op_of}
+use Rattle.reg_outcomes.proofs.NextAnswers.{complete, has_answer, has_none, incomplete, none_more}
 use Rattle.reg_outcomes.proofs.finder.Finder.is_complete.Goals as goal
+
+pub returns-then-is_some : goal.returns-then-is_some
+returns-then-is_some g c =
+    let h = c.args.self.now.entries in
+    let next = c.args.next.now in
+    let p = c.loop-process.process in
+    incomplete h next p (has_answer h (op_of p (slice_index next p)) c.next_answer.result c.next_answer.ensures (sym c.is_some.ensures ∙ c.if-is_some.true))
+
+pub loop-process-preserved : goal.loop-process-preserved
+loop-process-preserved g c =
+    let h = c.args.self.now.entries in
+    let next = c.args.next.now in
+    let p = c.loop-process.process in
+    none_more h next p c.loop-process.invariant (has_none h (op_of p (slice_index next p)) c.next_answer.result c.next_answer.ensures (sym c.is_some.ensures ∙ c.if-is_some.false))
 
 pub returns : goal.returns
 returns g c =
-    let i = c.self.inside in
-    subst (λ (s : Sought). MatchBool c.has_no_more.result (IsComplete s.entries c.args.next.now) (¬ IsComplete s.entries c.args.next.now)) c.self.view_is
-    (complete_tested i.history.now.shape.processes i.history.now.entries (lists_of i.table.invocations.items) (lists_of i.table.responses.items) c.self.invariant.1 c.args.next.now c.has_no_more.result c.has_no_more.ensures)
+    let s = c.args.self.now in
+    let e = c.processes-processes.ensures.value in
+    let same : c.shape.result.processes ≡ s.shape.processes = ap (λ (x : Extent). x.processes) c.shape.ensures in
+    let end = c.loop-process-test.false in
+    complete s.shape.processes s.shape.registers s.entries c.requires c.args.next.now (λ p lt. c.loop-process.invariant p (omega (arith, lt, e, same, end)))
