@@ -2,7 +2,6 @@ pub mod Entries
 pub mod Casts
 pub mod Nearer
 pub mod Taking
-pub mod Few
 pub mod Own
 pub mod Going
 pub mod Making

@@ -17,6 +17,7 @@ use Rattle.reg_world.proofs.lists.Bodies.{place_in}
 use Rattle.reg_world.proofs.one_order.Worlds.{Inv}
 use Rattle.reg_world.proofs.one_order.NodeEvents.{put_same, put_other}
 use Rattle.reg_world.proofs.one_order.NodeLaws.{inv_of}
+use Rattle.reg_records.proofs.Few.{numbered_many}
 use Rattle.reg_runs.specs.declared.faults.SettleFault.{SettleFault}
 use Rattle.reg_runs.specs.Rest.{distance, put_for}
 use Rattle.reg_runs.specs.RestParts.{nodes_in, link_in, pending_in, distance_in, IsGoingOn, Misses, Halts, IsAgain, Passing, Passes}
@@ -25,10 +26,6 @@ use Rattle.reg_runs.proofs.Nearer.{pending_within}
 use Rattle.reg_runs.proofs.Taking.{Took, Counted, took, counted}
 use Rattle.reg_runs.proofs.Going.{at_behind, moves_none, moves_both, later_none, later_both, later_one, halts_here, halts_both}
 use Rattle.reg_runs.proofs.Making.{stepped, takes}
-
-numbered_many : (i : ℕ) (bs : List Body) → length (numbered_from i bs) ≡ length bs
-numbered_many i [] = refl
-numbered_many i (b ∷ bs) = ap suc (numbered_many (i + 1) bs)
 
 numbered_at : (i : ℕ) (bs : List Body) (j : ℕ) → j < length bs → (b : Body) × (slice_get (numbered_from i bs) j ≡ Some (Numbered (i + j) b))
 numbered_at i [] j l = absurd (omega (arith, l))

@@ -1,5 +1,5 @@
 use Rattle.std.proofs.Common.{arith}
-use Rattle.reg_runs.proofs.Few.{wires_fit}
+use Rattle.reg_records.proofs.Few.{wires_fit}
 use Rattle.reg_runs.proofs.resting.frame_count.Goals as goal
 
 pub overflow_cast-result : goal.overflow_cast-result
