@@ -28,10 +28,6 @@ rows_are (Some p) name rows n r =
     let rows_is : rows ≡ p.1 = cc in
     sym (λ i. Some (name_is i, rows_is i))
 
-pub no_rows : (o : Option (Text × List Row)) → None ≡ option_map (λ p. p.0) o → o ≡ None
-no_rows None n = refl
-no_rows (Some p) n = cc
-
 -- what `get_flag` says
 pub flag_is : (t : Option Text) (r fair : Bool) → (t ≡ None → r ≡ false) → (t ≡ Some (codes "true") → r ≡ true) → (t ≡ Some (codes "false") → r ≡ false)
     → flag_of t ≡ Some fair → r ≡ fair

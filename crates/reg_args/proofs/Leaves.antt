@@ -179,8 +179,3 @@ pub plain_stray : (name word : Text) (words : List Text) → is_flag word ≡ fa
 unfolding walk_fault
 plain_stray name word words flag = first_fails _ _ _ _ _
     (stray_turn (plain_leaf name) refl (λ x rest next h. help_short (104 == x) (plain_leaf name).rules rest [] next h) word [] refl flag)
-
-pub fair_stray : (name word : Text) (words : List Text) → is_flag word ≡ false → level_fault (fair_leaf name) [] nothing_held (word ∷ words) false [] ≡ UnknownArgument ∷ []
-unfolding walk_fault
-fair_stray name word words flag = first_fails _ _ _ _ _
-    (stray_turn (fair_leaf name) refl (λ x rest next h. help_short (104 == x) (fair_leaf name).rules rest [] next h) word [] refl flag)

@@ -76,15 +76,6 @@ goes_on names heads earlier name place turn before ok seeks other_name inside at
                 at_least (inr (inr y)) = y
         turns (inr v) = omega (arith, v.0, seeks.turns)
 
--- at the first place the search is over
-pub not_there : (names : List (List ℕ)) (name : List ℕ) (place turn : ℕ) → Seeks names name place turn → slice_get names place ≢ Some name → place ≡ 0 → (other : ℕ) → slice_get names other ≢ Some name
-not_there names name place turn seeks other_name first other e = by (cases_order other place)
-  where
-    by : (other ≡ place) ⊎ ((other < place) ⊎ (place < other)) → ⊥
-    by (inl same) = other_name (subst (λ (k : ℕ). slice_get names k ≡ Some name) same e)
-    by (inr (inl below)) = omega (arith, below, first)
-    by (inr (inr above)) = seeks.behind other above e
-
 -- one more name changes nothing below
 kept : (names : List (List ℕ)) (name : List ℕ) (c end place : ℕ) → end ≤ length names → IsLastBelow names c end place → IsLastBelow (names ++ name ∷ []) c end place
 kept names name c end place le last = (behind, here last.1)

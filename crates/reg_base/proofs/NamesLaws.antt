@@ -1,11 +1,11 @@
 -- Lemmas on the places of names.
-use Rattle.std.proofs.Common.{◌≡◌, ◌≢◌, ◌↔◌, ℕ, ◌+◌, ◌<◌, ◌≤◌, not, nat_eq, nat_lt, suc, zero, Bool, true, false, ◌||◌, cond, List, [], ◌∷◌, ◌++◌, length, take, drop, get_or, map, Option, Some, None, slice_get, String, string_bytes, refl, ap, sym, ◌∙◌, subst, arith, append_assoc, add-one}
+use Rattle.std.proofs.Common.{◌≡◌, ◌≢◌, ◌↔◌, ℕ, ◌+◌, ◌<◌, ◌≤◌, not, nat_eq, nat_lt, suc, zero, Bool, true, false, cond, List, [], ◌∷◌, ◌++◌, length, take, drop, get_or, map, Option, Some, None, slice_get, String, string_bytes, refl, ap, sym, ◌∙◌, subst, arith, append_assoc, add-one}
 use Rattle.std.specs.List.{position_from, list_any, IsDistinct, AllByRecursion}
 use Rattle.std.specs.Str.{bytes_eq}
 use Rattle.std.proofs.lemmas.Cmp.{nat_list_eq_equiv}
 use Rattle.std.proofs.lemmas.Map.Keys.{IsDistinct-push, IsDistinct-head, IsDistinct-tail}
 use Rattle.std.proofs.lemmas.Slice.Eq.{bytes_eq-Decides}
-use Rattle.std.proofs.lemmas.List.{take_more, length-take-le, get_or-map, take-map, length-map}
+use Rattle.std.proofs.lemmas.List.{take_more, length-take-le, length-map}
 use Rattle.std.proofs.Math.Seq.{drop-cons}
 use Rattle.std.specs.Prelude.{IsTrue, IfSome, IfNone, option_map}
 use Rattle.std.proofs.lemmas.Option.{same_Some, slice_get-map, slice_get-get_or}
@@ -18,10 +18,6 @@ use Rattle.std.proofs.lemmas.Option.{slice_get_within}
 pub position_from_map : {X Y : Type 0} (f : X → Y) (p : Y → Bool) (i : ℕ) (xs : List X) → position_from p i (map f xs) ≡ position_from (λ x. p (f x)) i xs
 position_from_map f p i [] = refl
 position_from_map f p i (x ∷ xs) = ap (cond (p (f x)) (Some i)) (position_from_map f p (i + 1) xs)
-
-pub list_any_map : {X Y : Type 0} (f : X → Y) (p : Y → Bool) (xs : List X) → list_any p (map f xs) ≡ list_any (λ x. p (f x)) xs
-list_any_map f p [] = refl
-list_any_map f p (x ∷ xs) = ap (λ b. p (f x) || b) (list_any_map f p xs)
 
 append-nil : (xs : List (List ℕ)) → xs ++ [] ≡ xs
 append-nil [] = refl
@@ -59,15 +55,6 @@ repeat_here ns i l h =
     ap (repeat_after (take i ns)) (drop-cons ns i [] l)
     ∙ ap (λ b. cond b (Some (length (take i ns))) (repeat_after (take i ns ++ get_or ns i [] ∷ []) (drop (suc i) ns))) h
     ∙ ap Some (length-take-le i ns (omega arith))
-
--- what a search among the earlier names says of the texts
-pub stood : {A : Type 0} (names : List (String A)) (i : ℕ) (n : String A) (s : List ℕ) (b : Bool) → i < length names → n ≡ get_or names i n → s ≡ string_bytes n → b ≡ list_any (λ m. bytes_eq s (string_bytes m)) (take i names) → list_any (bytes_eq (get_or (texts names) i [])) (take i (texts names)) ≡ b
-stood names i n s b l e t h =
-    let same : get_or (texts names) i [] ≡ s = get_or-map string_bytes names i n [] l ∙ ap string_bytes (sym e) ∙ sym t in
-    ap (λ x. list_any (bytes_eq x) (take i (texts names))) same
-    ∙ ap (list_any (bytes_eq s)) (take-map string_bytes i names)
-    ∙ list_any_map string_bytes (bytes_eq s) (take i names)
-    ∙ sym h
 
 holds_at : {X : Type 0} (P : X → Type 0) (xs : List X) (i : ℕ) (x : X) → AllByRecursion P xs → slice_get xs i ≡ Some x → P x
 holds_at P [] i x a h = absurd (cc)

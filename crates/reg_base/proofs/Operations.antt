@@ -29,15 +29,6 @@ write_fits register value = ([], refl)
 pub swap_fits : (register value old : ℕ) → Fits (Swap register value) (Value old)
 swap_fits register value old = (with_value register old, ap Value (sym (value_there register old)))
 
-pub read_misfits : (register : ℕ) → Fits (Read register) Done → ⊥
-read_misfits register h = let e = h.1 in let bad : ⊥ = cc in bad
-
-pub write_misfits : (register value answer : ℕ) → Fits (Write register value) (Value answer) → ⊥
-write_misfits register value answer h = let e = h.1 in let bad : ⊥ = cc in bad
-
-pub swap_misfits : (register value : ℕ) → Fits (Swap register value) Done → ⊥
-swap_misfits register value h = let e = h.1 in let bad : ⊥ = cc in bad
-
 -- a swap's answer tells of the memory
 pub swap_tells : (register value : ℕ) → IsBlind (Swap register value) → ⊥
 swap_tells register value blind =

@@ -1,6 +1,5 @@
 -- The points of a run are at events that a run may have.
-use Rattle.std.proofs.Common.{◌≡◌, ℕ, suc, zero, ◌≤◌, List, Some, Result, Ok, Err, ap, subst, arith}
-use Rattle.std.specs.Prelude.{IfOk}
+use Rattle.std.proofs.Common.{◌≡◌, ℕ, suc, zero, ◌≤◌, List, ap, subst, arith}
 use Rattle.reg_base.specs.declared.limits.TheConstants.{LAST_EVENT}
 use Rattle.reg_checkers.specs.declared.entries.Point.{Point}
 use Rattle.reg_checkers.specs.History.{IsAt}
@@ -9,8 +8,7 @@ use Rattle.reg_world.specs.declared.order.First.{First}
 use Rattle.reg_world.specs.Keys.{Keeps, ArePoints}
 use Rattle.reg_world.specs.Keys.Keeps.{Nothing, Takes, Leaves}
 use Rattle.reg_world.specs.Runs.{Run}
-use Rattle.reg_checkers.specs.Orders.{IsPointOrder}
-use Rattle.reg_commands.specs.Replays.{AreAtEvents, PointsStand}
+use Rattle.reg_commands.specs.Replays.{AreAtEvents}
 
 -- what is kept stood there
 kept_stood : {X : Type 0} {P : X → Type 0} {xs ys : List X} → Keeps P xs ys → (k : ℕ) (y : X) → IsAt ys k y → (i : ℕ) × IsAt xs i y
@@ -26,8 +24,3 @@ points_at_events r ps (cs, keeps, made) firsts k p here =
     let low : from.0.at ≤ LAST_EVENT = firsts there.0 from.0 there.1 in
     let same : from.0.at ≡ p.at = ap (λ (q : Point). q.at) from.2 in
     omega arith
-
-pub points_stand : {V E : Type 0} (items : V → List Point) (r : Run) (answer : Result V E) → IfOk answer (λ v. ArePoints r (items v)) → IfOk answer (λ v. IsPointOrder r.registers r.history (items v)) → ((k : ℕ) (f : First) → IsAt r.order k f → f.at ≤ LAST_EVENT)
-    → IfOk answer (λ v. PointsStand r.registers r.history (Some (items v)))
-points_stand items r (Ok v) are order firsts = (order, points_at_events r (items v) are firsts)
-points_stand items r (Err e) are order firsts = tt

@@ -10,10 +10,6 @@ use Rattle.reg_data.specs.Notes.{comment_of, past_space}
 abbrev feeds : ℕ → Bool
 feeds b = b == 10
 
-no_lines : lines_of [] ≡ []
-unfolding lines_of
-no_lines = refl
-
 cut_more : (b : ℕ) (bs : List ℕ) (t : Bool) → (b == 10) ≡ t → position_or_len feeds (b ∷ bs) < length (b ∷ bs)
     → (position_or_len feeds bs < length bs → lines_of bs ≡ before_first feeds bs ∷ lines_of (after_first feeds bs))
     → lines_of (b ∷ bs) ≡ before_first feeds (b ∷ bs) ∷ lines_of (after_first feeds (b ∷ bs))

@@ -56,9 +56,6 @@ both (x ∷ xs) ys h k =
     let b = both_true (is_plain x) (list_all is_plain xs) h in
     rw (b.0) (both xs ys b.1 k)
 
-abbrev together : List (List ℕ) → List ℕ
-together pieces = flat_map (λ piece. piece) pieces
-
 infixr 5 ◌⊳◌
 -- one plain text after another
 ◌⊳◌ : {xs ys : List ℕ} → IsPlainText xs → IsPlainText ys → IsPlainText (xs ++ ys)

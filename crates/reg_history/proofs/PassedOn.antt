@@ -1,5 +1,5 @@
 -- What a question mark passes on.
-use Rattle.std.proofs.Common.{◌≡◌, ◌∙◌, Result, Ok, Err, ap}
+use Rattle.std.proofs.Common.{◌≡◌, ◌∙◌, Result, Ok, Err}
 use Rattle.std.specs.Result.{IfOk, IsErrAnd, MatchResult}
 use Rattle.reg_history.specs.declared.report_faults.ReadFault.{ReadFault}
 use Rattle.reg_history.specs.declared.report_faults.ReadFault.TheVariants.{OutOfMemory}
@@ -13,8 +13,3 @@ memory_passed_on (Err f) P fault h e = h ∙ e
 pub nothing_read : {T : Type 0} (r : Result T ReadFault) (P : T → Type 0) (fault : ReadFault) → IsErrAnd r (λ f. f ≡ fault) → IfOk r P
 nothing_read (Ok x) P fault h = absurd h
 nothing_read (Err f) P fault h = tt
-
--- the fault that is passed on is the one that was told
-pub fault_passed_on : {T U : Type 0} (r : Result T ReadFault) (fault told : ReadFault) → IsErrAnd r (λ f. f ≡ fault) → ◌≡◌ {A = Result U ReadFault} (Err fault) (Err told) → r ≡ Err told
-fault_passed_on (Ok x) fault told h e = absurd h
-fault_passed_on {U = U} (Err f) fault told h e = let same : fault ≡ told = cc in ap Err (h ∙ same)

@@ -86,9 +86,6 @@ some_scripts vs b e f = rw (list_all-map is_script view vs, e, f)
 pub few_scripts : (vs : List Value) (b c : Bool) → c ≡ (ltb 0 (length vs) && leb (length vs) MOST_PROCESSES) → c ≡ true → b ≡ list_all (λ v. is_short (view v)) vs → b ≡ are_few (map view vs)
 few_scripts vs b c t good f = rw (list_all-map is_short view vs, length-view vs, ← t, good) f
 
-pub not_few_scripts : (vs : List Value) (c : Bool) → c ≡ (ltb 0 (length vs) && leb (length vs) MOST_PROCESSES) → c ≡ false → false ≡ are_few (map view vs)
-not_few_scripts vs c t bad = rw (length-view vs, ← t, bad)
-
 within : (n : ℕ) → leb n 65535 ≡ true → n ≤ 65535
 within n e = grind (arith, nat_tests)
 

@@ -4,12 +4,11 @@ use Rattle.std.specs.Prelude.{Option, Some, None, slice_index, slice_index_or, s
 use Rattle.reg_frames.specs.declared.bodies.Frame.{Frame}
 use Rattle.reg_frames.specs.declared.bodies.Frame.TheVariants.{Numbered}
 use Rattle.std.proofs.lemmas.Bool.{cases_eq}
-use Rattle.std.proofs.lemmas.List.{drop-append-le}
 use Rattle.std.proofs.lemmas.Option.{slice_get_past, slice_get_read}
 use Rattle.reg_frames.specs.declared.bodies.Body.{Body}
 use Rattle.reg_base.specs.declared.limits.TheConstants.{FRAME_NUMBERS}
-use Rattle.reg_links.specs.Link.{Unacknowledged, next_of, with_queued, acknowledged}
-use Rattle.reg_links.specs.Sending.{Sending, next_all, link_at, link_to, IsQueued, IsCounted}
+use Rattle.reg_links.specs.Link.{Unacknowledged, next_of, acknowledged}
+use Rattle.reg_links.specs.Sending.{Sending, next_all, link_at, link_to, IsCounted}
 use Rattle.reg_links.specs.Bounds.{InStep, least_from}
 use Rattle.reg_links.proofs.LinkLaws.{drop_on, get_drop}
 use Rattle.reg_links.proofs.Leasts.{least_top, least_low, least_within, least_up, least_stays}
@@ -53,18 +52,6 @@ acknowledged_at s c n a b =
     let k : (c - s.first) + (n - c) ≡ n - s.first = omega (arith, a, b) in
     ap (λ (o : Unacknowledged). record o { pending = drop (n - s.first) s.bodies }) (ap (λ f. record { first = f; pending = [] }) m)
     ∙ ap (λ bs. record { first = max c n; pending = bs }) (sym (drop_on (c - s.first) (n - c) s.bodies ∙ ap (λ k. drop k s.bodies) k))
-
--- a count that is not above the one before
-pub not_counted : (s : Sending) → InStep s → (from n : ℕ) → from < length s.counts → n ≤ slice_index s.counts from → IsCounted s from n s
-not_counted s good from n l le =
-    let c = slice_index s.counts from in
-    let m : c ≡ max c n = omega (arith, le) in
-    let z : 0 ≡ n - c = omega (arith, le) in
-    record {
-      next = refl;
-      link = ap (λ f. record { first = f; pending = drop (c - s.first) s.bodies }) m ∙ ap (λ k. record { first = max c n; pending = drop k (drop (c - s.first) s.bodies) }) z;
-      others = λ r k ne. refl;
-    }
 
 module _ (s : Sending) (good : InStep s) (from n : ℕ) (l : from < length s.counts) (more : slice_index s.counts from < n) (queued : n ≤ next_all s) where
   abbrev counts : List ℕ
@@ -151,37 +138,6 @@ module _ (s : Sending) (good : InStep s) (me : ℕ) (body : Body) (l : me < leng
         next = omega (arith, g, room);
         counts = λ r. let z = good.counts r in omega (arith, g, z);
         first = good.first ∙ sym (least_within (next_all s) (next_all (with_body s body)) s.counts me l (good.counts me) (omega (arith, g)));
-      }
-
-  body_on : (r : ℕ) → r < length s.counts → link_to (with_body s body) r ≡ with_queued (link_to s r) body
-  body_on r k =
-      let c = slice_index s.counts r in
-      let a = first_low s good r k in
-      let b = good.counts r in
-      ap (λ bs. record { first = c; pending = bs }) (drop-append-le (c - s.first) s.bodies (body ∷ []) (omega (arith, a, b)))
-
-  none_left : (bs : List Body) (k : ℕ) → length bs ≤ k → drop k bs ≡ []
-  none_left [] zero le = refl
-  none_left [] (suc k) le = refl
-  none_left (b ∷ bs) zero le = absurd (omega arith)
-  none_left (b ∷ bs) (suc k) le = none_left bs k (omega arith)
-
-  pub all_queued : (new : Sending) (number : ℕ) → number ≡ next_all s → IsCounted (with_body s body) me (number + 1) new → IsQueued s me body number new
-  all_queued new number e h =
-      let g = grown in
-      let c = slice_index s.counts me in
-      let a = first_low s good me l in
-      let b = good.counts me in
-      let m : max c (number + 1) ≡ number + 1 = omega (arith, e, b) in
-      let d = length-drop (c - s.first) (s.bodies ++ body ∷ []) in
-      record {
-        numbered = e;
-        next = let z = h.next in omega (arith, z, g, e);
-        links = λ r k ne. h.others r k ne ∙ body_on r k;
-        own =
-            h.link
-            ∙ ap (λ f. record { first = f; pending = drop (number + 1 - c) (drop (c - s.first) (s.bodies ++ body ∷ [])) }) m
-            ∙ ap (λ bs. record { first = number + 1; pending = bs }) (none_left (drop (c - s.first) (s.bodies ++ body ∷ [])) (number + 1 - c) (omega (arith, d, g, e, a, b)));
       }
 
 pub nothing_queued : (n : ℕ) → InStep (record { first = 0; bodies = []; counts = replicate n 0 })

@@ -20,14 +20,6 @@ pub record LookedBelow (firsts : ℕ → Option ℕ) (old now : List Beat) (n : 
   pub len : length now ≡ length old
   pub cause : due ≡ true → IsCause firsts old
 
-pub looked_none : (firsts : ℕ → Option ℕ) (old : List Beat) → LookedBelow firsts old old 0 false
-looked_none firsts old = record {
-  each = λ p before lt at. absurd (omega arith);
-  rest = λ p le. refl;
-  len = refl;
-  cause = λ is. absurd (let bad : ⊥ = cc in bad);
-}
-
 or_left : (a b : Bool) → a ≡ true → (a || b) ≡ true
 or_left true b is = refl
 or_left false b is = absurd (let bad : ⊥ = cc in bad)

@@ -59,13 +59,6 @@ place_step order n x old new updates here places id =
     subst (λ (l : List OpId). IsPlaceOf l id (get id_cmp new id)) (sym (take_at order n x here))
     (place_next (take n order) x old new (subst (λ (m : ℕ). Updates id_cmp old new x (Some m)) many updates) places id)
 
-pub in_time_none : (ids : List OpId) → IsInTime [] ids 0
-in_time_none ids = record {
-  above = λ k i at a answer h g. absurd cc;
-  tight = inl refl;
-  kept = λ k l i j s t a b answer op h g lt x y. absurd cc;
-}
-
 module _ (es : List Entry) (ids : List OpId) (distinct : IsDistinct ids) (place : OpId → Option ℕ) (places : (id : OpId) → IsPlaceOf ids id (place id)) (bound : ℕ) (told : IsInTime es ids bound) where
   -- an id that stands at a place has that place
   is_placed : (id : OpId) (i : ℕ) (o : Option ℕ) → IsAt ids i id → IsPlaceOf ids id o → o ≡ Some i

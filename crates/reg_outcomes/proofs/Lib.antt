@@ -2,7 +2,6 @@ pub mod Elements
 pub mod ToldOrder
 pub mod TellingHistory
 pub mod Playable
-pub mod Telling
 pub mod Playing
 pub mod Adding
 pub mod Comparing

@@ -1,6 +1,6 @@
 -- Operations of a history, placed one after another: one layer after another.
 use Rattle.std.proofs.Common.{◌≡◌, ◌↔◌, IsTrue, Bool, inl, inr, ℕ, ◌+◌, ◌<◌, ◌≤◌, List, [], ◌∷◌, ◌++◌, length, take, replicate, refl, ap, ap₂, sym, ◌∙◌, subst, arith, length-append, length-set}
-use Rattle.std.specs.Prelude.{◌-◌, ◌^◌, slice_index, slice_set}
+use Rattle.std.specs.Prelude.{◌-◌, slice_index, slice_set}
 use Rattle.std.proofs.lemmas.List.{length-map, length-replicate}
 use Rattle.reg_base.specs.declared.limits.TheConstants.{MOST_OPERATIONS}
 use Rattle.reg_base.specs.declared.memory.Answer.{Answer}
@@ -17,7 +17,7 @@ use Rattle.reg_world.proofs.lists.Members.{map_append}
 use Rattle.reg_outcomes.specs.declared.faults.InterleavingFault.{InterleavingFault}
 use Rattle.reg_outcomes.specs.declared.faults.InterleavingFault.TheVariants.{TooManyStages, OutOfMemory}
 use Rattle.reg_outcomes.specs.declared.kinds.OrderKind.{OrderKind}
-use Rattle.reg_outcomes.specs.declared.kinds.OrderKind.TheVariants.{Serial, Points}
+use Rattle.reg_outcomes.specs.declared.kinds.OrderKind.TheVariants.{Points}
 use Rattle.reg_outcomes.specs.Finding.{ArePlacedBefore, IsFindFault, MayCome, MayFollow, Next, Nothing, Places, placed_after}
 use Rattle.reg_outcomes.specs.Interleavings.{Stage, first_stage}
 use Rattle.reg_outcomes.specs.Layers.{Adds, IsAfterSome, IsFirstOf, IsSomeOf, Refuses}
@@ -145,9 +145,6 @@ module _ (kind : OrderKind) (n registers : ℕ) (h : List Entry) where
         let come = subst (λ (o : Op). MayCome h (op_of p (slice_index s.next p)) o (answer_of o s.memory)) same step.comes in
         subst (λ m. MayCome h (op_of p m) op answer) (sym is) (subst (λ (x : Answer). MayCome h (op_of p (slice_index s.next p)) op x) (sym given) come)
 
-    pub follows_here : (p number : ℕ) (s to : Stage) → number ≡ slice_index s.next p → IsPlaced kind h p s to → MayFollow kind h s.next (op_of p number)
-    follows_here p number s to is step = subst (λ m. MayFollow kind h s.next (op_of p m)) (sym is) step.follows
-
     -- what leads to the one next stage is the one step
     pub placing_is : (p : ℕ) (from to : Stage × List ℕ) (later : Stage) → IsPlaced kind h p from.0 later → IsPlacing kind h p from to → to ≡ (later, from.1 ++ p ∷ [])
     placing_is p from to later placed step = ap₂ (λ (s : Stage) (t : List ℕ). (s, t)) (placed_once p from.0 to.0 later step.placed placed) step.turns
@@ -172,13 +169,7 @@ module _ (kind : OrderKind) (h : List Entry) (p number : ℕ) (s : Stage) (is : 
   pub not_placed : (¬ WasCalled h (op_of p number)) → (to : Stage) → IsPlaced kind h p s to → ⊥
   not_placed none to step = none (subst (λ m. WasCalled h (op_of p m)) (sym is) (step.at, step.op, step.called))
 
-pub number_small : (m : ℕ) → m < MOST_OPERATIONS → m < 2 ^ 32 - 1
-number_small m lt = omega (arith, lt)
-
 -- whether an operation may follow, by its call
-pub follows_serially : (kind : OrderKind) (h : List Entry) (next : List ℕ) (id : OpId) → kind ≡ Serial → MayFollow kind h next id
-follows_serially kind h next id e = subst (λ k. MayFollow k h next id) (sym e) tt
-
 pub follows_by_call : (kind : OrderKind) (n registers : ℕ) (h : List Entry) → IsHistory n registers h → (next : List ℕ) (id : OpId) (at : ℕ) (op : Op) → kind ≡ Points → IsCalled h id at op → (b : Bool) → IsTrue b ↔ ArePlacedBefore h next at → IsTrue b ↔ MayFollow kind h next id
 follows_by_call kind n registers h good next id at op e called b test = (
   λ t. subst (λ k. MayFollow k h next id) (sym e) (λ s o call. subst (ArePlacedBefore h next) (call_is n registers h good id at s op o called call).0 (test.0 t)),

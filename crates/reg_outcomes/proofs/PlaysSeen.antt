@@ -50,10 +50,6 @@ told_by shape made entries outcome is p h = is ∙ ap₂ outcome_of p h
 pub linear_by : (shape : Extent) (made : Made) (entries : List Entry) (b : Bool) → shape.registers ≡ made.registers → entries ≡ made.history → (b ≡ true) ↔ IsLinearizable shape.registers entries → (b ≡ true) ↔ IsLinearizable made.registers made.history
 linear_by shape made entries b r h told = subst (λ (n : ℕ). (b ≡ true) ↔ IsLinearizable n made.history) r (subst (λ (es : List Entry). (b ≡ true) ↔ IsLinearizable shape.registers es) h told)
 
-pub fault_by : (shape : Extent) (made : Made) (entries : List Entry) (fault : InterleavingFault) → shape ≡ record { processes = made.processes; registers = made.registers } → entries ≡ made.history → IsFindFault Points shape.processes shape.registers entries MOST_STAGES fault → IsFindFault Points made.processes made.registers made.history MOST_STAGES fault
-fault_by shape made entries fault s h told =
-    subst (λ (e : Extent). IsFindFault Points e.processes e.registers made.history MOST_STAGES fault) s (subst (λ (es : List Entry). IsFindFault Points shape.processes shape.registers es MOST_STAGES fault) h told)
-
 -- a play is finished where each operation of its scripts is answered
 module _ (start : Op → ℕ → Start) (laws : KeepsLaws start) (shape : Extent) (scripts : List (List Op)) (budget : ℕ) (made : Made) (done : Bool) (play : IsPlay start shape scripts budget made done) where
   abbrev IsDoneAmong : ℕ → Type 0
@@ -136,10 +132,7 @@ pub plays_fault : (start : Op → ℕ → Start) (work : Load) (plays k : ℕ) �
 plays_fault start work plays k lt TooManyStages wider = (k, lt, wider)
 plays_fault start work plays k lt OutOfMemory h = tt
 
--- no play, and one play more
-pub none_seen : (start : Op → ℕ → Start) (work : Load) → AreSeen start work 0 []
-none_seen start work = record { count = refl; each = λ k s h. absurd cc }
-
+-- one play more
 pub seen_next : (start : Op → ℕ → Start) (work : Load) (n : ℕ) (seen : List Seen) (s : Seen) → AreSeen start work n seen → IsSeen start work (seed_at work n) s → AreSeen start work (n + 1) (seen ++ s ∷ [])
 seen_next start work n seen s known here = record {
   count = (let c = known.count in let l = length-append seen (s ∷ []) in omega (arith, c, l));

@@ -236,10 +236,6 @@ not_true : (b : Bool) → not b ≡ true → b ≡ false
 not_true true h = absurd (cc)
 not_true false h = refl
 
-or_false : (a b : Bool) → (a || b) ≡ false → (a ≡ false) × (b ≡ false)
-or_false true b h = absurd (cc)
-or_false false b h = (refl, h)
-
 module _ (start : Op → ℕ → Start) (f : Bool) (s : State) (room : ℕ) (from : ℕ) (frame : Frame) (runs : f ≡ false) where
   module _ (peer : is_peer s from ≡ true) (s' : State) (room' : ℕ) where
     take_faults : process_fault start (record { failed = f; state = s; room = room }) (Take from frame) ≡ frame_fault s from frame

@@ -1,5 +1,5 @@
 -- One delivery, by the parts of a process.
-use Rattle.std.proofs.Common.{◌≡◌, ℕ, zero, suc, ◌+◌, ◌-◌, ◌<◌, ◌≤◌, Bool, true, false, List, [], ◌∷◌, length, Option, Some, None, refl, sym, ap, ◌∙◌, subst, inl, inr, arith}
+use Rattle.std.proofs.Common.{◌≡◌, ℕ, zero, suc, ◌+◌, ◌-◌, ◌<◌, Bool, true, false, List, [], ◌∷◌, length, Option, Some, None, refl, sym, ap, ◌∙◌, subst, inl, inr, arith}
 use Rattle.std.specs.List.{filter}
 use Rattle.std.specs.Prelude.{cond, ◌==◌, slice_index, slice_index_or, count_by}
 use Rattle.std.proofs.lemmas.Bool.{eq-eqb, false≢true}
@@ -68,9 +68,6 @@ module _ (p : Parts) (good : Good p) (c : Delivered) (rest : List Delivered) (le
 
   pub left_is : left ≡ count_by (is_from p.me) rest
   left_is = let z = counted in omega (arith, less, z)
-
-  pub cast_well : (c.stamp.time ≤ p.clock) × (register_of c.op < length p.copy)
-  cast_well = good.held c (subst (λ (l : List Delivered). In c l) (sym held) (inl refl))
 
   runs : (r : Option Running) → RunsWell (length p.copy) p.unsettled r → RunsWell (length (after c.op p.copy)) left (still (reply_by p.copy p.delivered left c r) r)
   runs None h = tt

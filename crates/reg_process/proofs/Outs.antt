@@ -33,14 +33,6 @@ other_out me s r ne = ap (λ b. cond b nothing (link_to s r)) (ne_eqb r me ne)
 pub link_is : (me : ℕ) (s : Sending) (r : ℕ) → r < length s.counts → (r ≡ me → ⊥) → slice_index_or (outs_of me s) r nothing ≡ link_to s r
 link_is me s r l ne = out_at me s r l ∙ other_out me s r ne
 
--- two lists of the same links
-same_outs : (me : ℕ) (s t : Sending) (n : ℕ) → length s.counts ≡ n → length t.counts ≡ n → ((r : ℕ) → r < n → out_to me t r ≡ out_to me s r) → outs_of me t ≡ outs_of me s
-same_outs me s t n a b h =
-    let x = length-outs me s in
-    let y = length-outs me t in
-    ext_get_or nothing (outs_of me t) (outs_of me s) (omega (arith, x, y, a, b)) (λ r l.
-    out_at me t r (omega (arith, y, l)) ∙ h r (omega (arith, y, b, l)) ∙ sym (out_at me s r (omega (arith, y, a, b, l))))
-
 -- nothing was queued
 pub no_outs : (me n : ℕ) → outs_of me (record { first = 0; bodies = []; counts = replicate n 0 }) ≡ replicate n nothing
 no_outs me n =
@@ -91,10 +83,6 @@ module _ (me : ℕ) (body : Body) (old new : Sending) (number : ℕ) (queued : I
   pub outs_grown : IsGrown (outs_of me old) (outs_of me new)
   outs_grown i = let e = ap (λ (os : List Unacknowledged). next_of (slice_index_or os i nothing)) outs_queued in let g = queued_grown 0 me body (outs_of me old) i in omega (arith, e, g)
 
--- nothing changed
-pub none_grown : (os : List Unacknowledged) → IsGrown os os
-none_grown os i = omega arith
-
 -- one process has no other
 pub none_queued : (me : ℕ) (body : Body) (s : Sending) → me < length s.counts → length s.counts ≡ 1 → outs_of me s ≡ queue_outs 0 me body (outs_of me s)
 none_queued me body s m n =
@@ -102,12 +90,6 @@ none_queued me body s m n =
     all_queued 0 me body (outs_of me s) (outs_of me s) refl (λ i l.
     let e : 0 + i ≡ me = omega (arith, y, l, m, n) in
     sym (ap (λ b. cond b (slice_index_or (outs_of me s) i nothing) (with_queued (slice_index_or (outs_of me s) i nothing) body)) (eq-eqb (0 + i) me e)))
-
-pub none_numbered : (me number : ℕ) (s : Sending) → me < length s.counts → length s.counts ≡ 1 → IsNumbered me number s
-none_numbered me number s m n r l ne = absurd (ne (omega (arith, l, m, n)))
-
-pub all_numbered : (me number : ℕ) (s : Sending) → number ≡ next_all s → ((r : ℕ) → r < length s.counts → next_of (link_to s r) ≡ next_all s) → IsNumbered me number s
-all_numbered me number s e h r l ne = let a = h r l in omega (arith, a, e)
 
 -- another process has numbers left, and so all have
 pub not_all_used : (me : ℕ) (s : Sending) → me < length s.counts → (length s.counts ≡ 1 → ⊥) → HasNumbers (outs_of me s) → ((r : ℕ) → r < length s.counts → next_of (link_to s r) ≡ next_all s) → next_all s < FRAME_NUMBERS

@@ -1,20 +1,16 @@
 -- Delivery one cast after another, as code does it, against delivery at once.
-use Rattle.std.proofs.Common.{◌≡◌, true, false, List, [], ◌∷◌, ◌++◌, refl, sym, ap, ◌∙◌, subst, inl, inr}
+use Rattle.std.proofs.Common.{◌≡◌, true, false, List, [], ◌∷◌, refl, sym, ap, ◌∙◌, subst, inl, inr}
 use Rattle.std.specs.List.{filter}
 use Rattle.std.proofs.lemmas.Bool.{cond-true, false≢true, false_from_ne_true}
 use Rattle.reg_base.specs.declared.stamps.Delivered.{Delivered}
 use Rattle.reg_base.specs.Order.{In, Rising}
-use Rattle.reg_process.specs.Process.{State, is_clear, clear_casts, delivered_state}
-use Rattle.reg_base.proofs.Lists.{DownIn, front_filter, none_kept}
+use Rattle.reg_process.specs.Process.{State, is_clear, clear_casts}
+use Rattle.reg_base.proofs.Lists.{DownIn, none_kept}
 use Rattle.reg_process.proofs.Peers.{Decides-clear, clear_below}
 
 -- to be clear is closed below
 pub clear_downwards : (s : State) (xs : List Delivered) → DownIn (λ c. is_clear s c.stamp) xs
 clear_downwards s xs a b i j h e = (Decides-clear s a.stamp).1 (clear_below s a.stamp b.stamp h ((Decides-clear s b.stamp).0 e))
-
--- what is delivered stands in front of what is left
-pub delivered_front : (s : State) → Rising s.held → clear_casts s ++ (delivered_state s).held ≡ s.held
-delivered_front s r = front_filter (λ c. is_clear s c.stamp) s.held r (clear_downwards s s.held)
 
 -- where the first isn't clear, none is: the loop ends
 pub none_clear : (s : State) (c : Delivered) (rest : List Delivered) → s.held ≡ c ∷ rest → Rising s.held → is_clear s c.stamp ≡ false → clear_casts s ≡ []

@@ -15,10 +15,6 @@ grown_at me body r o = go (r == me)
     go true = omega arith
     go false = let z = length-append o.pending (body ∷ []) in omega (arith, z)
 
-pub length-queued : (r me : ℕ) (body : Body) (outs : List Unacknowledged) → length (queue_outs r me body outs) ≡ length outs
-length-queued r me body [] = refl
-length-queued r me body (o ∷ os) = ap suc (length-queued (suc r) me body os)
-
 pub queued_grown : (r me : ℕ) (body : Body) (outs : List Unacknowledged) → IsGrown outs (queue_outs r me body outs)
 queued_grown r me body [] i = omega arith
 queued_grown r me body (o ∷ os) zero = grown_at me body r o

@@ -1,13 +1,12 @@
 -- Answers that were written, and what stops before one.
-use Rattle.std.proofs.Common.{ℕ, ◌≡◌, Bool, false, List, Option, Some, None, subst, ◌∙◌}
+use Rattle.std.proofs.Common.{ℕ, false, List, Option, Some, None}
 use Rattle.std.specs.Prelude.{IfSome}
 use Rattle.reg_commands.specs.declared.faults.Fault.{Fault}
 use Rattle.reg_commands.specs.declared.faults.Fault.TheVariants.{Unread, TooLong, NotText, Output, Line, Event, Workload, OutOfMemory}
 use Rattle.reg_commands.specs.Answers.{Blames}
 use Rattle.reg_commands.specs.declared.command.Command.{Command}
 use Rattle.reg_commands.specs.declared.command.Command.TheVariants.{Replay, Play}
-use Rattle.reg_commands.specs.Kinds.{kind_of}
-use Rattle.reg_reasons.specs.Tellings.{Answers, Halts, Tells}
+use Rattle.reg_reasons.specs.Tellings.{Halts}
 
 -- a fault that every command can tell of the input is none of a text
 pub halts_all : (fault : Fault) (xs : List ℕ) → ((command : Command) → Blames command fault xs) → Halts fault xs
@@ -23,12 +22,3 @@ halts_all OutOfMemory xs blamed = tt
 pub halts_input : (fault : Fault) (input : Option (List ℕ)) → IfSome input (λ xs. (command : Command) → Blames command fault xs) → IfSome input (Halts fault)
 halts_input fault None blamed = tt
 halts_input fault (Some xs) blamed = halts_all fault xs blamed
-
--- what holds of a text that was read holds of the input
-pub of_input : (P : List ℕ → Type 0) (input : Option (List ℕ)) (read text : List ℕ) → IfSome input (λ xs. read ≡ xs) → text ≡ read → P text → IfSome input P
-of_input P None read text e same p = tt
-of_input P (Some xs) read text e same p = subst P (same ∙ e) p
-
--- the answer of a text that was written
-pub answered : (is_accepted : Bool) (Wrote : List ℕ → Type 0) (text answer written : List ℕ) → Tells (kind_of text) is_accepted answer text → written ≡ answer → Wrote written → Answers is_accepted Wrote text
-answered is_accepted Wrote text answer written told same wrote = (answer, told, subst Wrote same wrote)

@@ -1,69 +1,25 @@
 -- What an answer says of a text, by the fault that it tells and by what was read.
-use Rattle.std.proofs.Common.{ℕ, ◌≡◌, ◌≢◌, Bool, true, false, List, [], ◌∷◌, ◌++◌, length, codes, inl, Result, Ok, Err, sym, ap, subst, ◌∙◌}
+use Rattle.std.proofs.Common.{ℕ, ◌≡◌, Bool, true, false, List, [], ◌∷◌, ◌++◌, length, codes, inl, Result, Ok, Err, sym, ap, subst, ◌∙◌}
 use Rattle.std.specs.Prelude.{IfOk, sum_by}
 use Rattle.reg_front.specs.Table.{front_name}
 use Rattle.reg_history.specs.Reports.{Contents, IsReport, SpellsReport}
 use Rattle.reg_inputs.specs.Loads.{Load}
 use Rattle.reg_inputs.specs.Schedules.{Plan, IsPlan, Spells}
-use Rattle.reg_commands.specs.FaultLines.{fault_line}
 use Rattle.reg_commands.specs.Verdicts.{Judges, all_yes}
 use Rattle.reg_commands.specs.declared.verdicts.Verdicts.{Verdicts}
-use Rattle.reg_commands.specs.declared.faults.Fault.{Fault}
-use Rattle.reg_commands.specs.declared.faults.Fault.TheVariants.{Unread, TooLong, NotText, Output, Line, Event, Workload, OutOfMemory}
-use Rattle.reg_commands.specs.Answers.{Blames}
 use Rattle.reg_commands.specs.Plays.{Holds}
-use Rattle.reg_commands.specs.Replays.{BlamesRun, start_of, run_by}
-use Rattle.reg_commands.specs.declared.command.Command.{Command}
-use Rattle.reg_commands.specs.declared.command.Command.TheVariants.{Replay}
+use Rattle.reg_commands.specs.Replays.{start_of, run_by}
 use Rattle.reg_reasons.specs.FirstLines.{subject_text}
-use Rattle.reg_reasons.specs.TextFaults.{is_of_text}
 use Rattle.reg_commands.specs.Kinds.{command_of}
-use Rattle.reg_reasons.specs.Tellings.{Agrees, Halts, IsWhy, Refuses, Tells, yes_text}
+use Rattle.reg_reasons.specs.Tellings.{Agrees, Refuses, Tells, yes_text}
 use Rattle.reg_commands.specs.declared.kinds.Kind.{Kind}
 use Rattle.reg_commands.specs.declared.kinds.Kind.TheVariants.{Report, Schedule, Workload as WorkloadKind}
-
--- a fault of the text is told
-pub whys : (command : Command) (fault : Fault) (text : List ℕ) → is_of_text fault ≡ true → Blames command fault text → IsWhy command fault text
-whys command Unread text e blamed = absurd cc
-whys command TooLong text e blamed = absurd cc
-whys command NotText text e blamed = absurd cc
-whys command Output text e blamed = absurd cc
-whys command (Line line why) text e blamed = blamed
-whys command (Event at fault) text e blamed = blamed
-whys command (Workload fault) text e blamed = blamed
-whys command OutOfMemory text e blamed = absurd cc
-
--- another one stops before the answer
-pub halts : (command : Command) (fault : Fault) (text : List ℕ) → is_of_text fault ≡ false → Blames command fault text → Halts fault text
-halts command Unread text e blamed = tt
-halts command TooLong text e blamed = blamed
-halts command NotText text e blamed = blamed
-halts command Output text e blamed = tt
-halts command (Line line why) text e blamed = absurd cc
-halts command (Event at fault) text e blamed = absurd cc
-halts command (Workload fault) text e blamed = absurd cc
-halts command OutOfMemory text e blamed = tt
-
--- the answer begins with the line of such a fault
-pub refuses : (command : Command) (fault : Fault) (answer text : List ℕ) → is_of_text fault ≡ true → Blames command fault text → (rest : List ℕ) × (answer ≡ fault_line fault ++ rest) → Refuses command answer text
-refuses command fault answer text e blamed begun = record { fault = fault; why = whys command fault text e blamed; rest = begun.0; begins = begun.1 }
 
 -- a refused text of each kind
 pub tells_refused : (kind : Kind) (is_accepted : Bool) (answer text : List ℕ) → is_accepted ≡ false → Refuses (command_of kind) answer text → Tells kind is_accepted answer text
 tells_refused Report is_accepted answer text e told = subst (λ b. Tells Report b answer text) (sym e) (inl told)
 tells_refused Schedule is_accepted answer text e told = subst (λ b. Tells Schedule b answer text) (sym e) told
 tells_refused WorkloadKind is_accepted answer text e told = subst (λ b. Tells WorkloadKind b answer text) (sym e) told
-
--- what a fault of a run says of the text
-pub run_blamed : (p : Plan) (text : List ℕ) (fault : Fault) → IsPlan p → Spells text p → BlamesRun (start_of p.front) p fault → Blames Replay fault text × (fault ≢ Output)
-run_blamed p text Unread good read blamed = absurd blamed
-run_blamed p text TooLong good read blamed = absurd blamed
-run_blamed p text NotText good read blamed = absurd blamed
-run_blamed p text Output good read blamed = absurd blamed
-run_blamed p text (Line line why) good read blamed = absurd blamed
-run_blamed p text (Event at fault) good read blamed = (record { plan = p; good = good; read = read; first = blamed }, λ e. absurd cc)
-run_blamed p text (Workload fault) good read blamed = absurd blamed
-run_blamed p text OutOfMemory good read blamed = (tt, λ e. absurd cc)
 
 -- an accepted schedule
 pub tells_schedule : (p : Plan) (is_accepted : Bool) (answer text : List ℕ) (processes registers : ℕ) (front : List ℕ) (count : ℕ) → IsPlan p → Spells text p → (run_by (start_of p.front) p).accepted ≡ p.events

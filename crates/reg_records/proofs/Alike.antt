@@ -44,9 +44,6 @@ alike_same start u v e = record {
   run = ap (λ (w : Made). unlisted (run_in start w)) e;
 }
 
-pub alike_back : (start : Op → ℕ → Start) (u v : Made) → AreAlike start u v → AreAlike start v u
-alike_back start u v a = record { processes = sym a.processes; registers = sym a.registers; history = sym a.history; count = sym a.count; run = sym a.run }
-
 -- the run with one more event
 next_run : (start : Op → ℕ → Start) (w : Made) (e : Event) (m : ℕ × Step) → move_of w.processes w.registers (run_in start w) e ≡ Some m → run_in start (with_event start w e) ≡ moved start (run_in start w) e (Some m)
 next_run start w e m h = one_more start w.processes w.registers w.accepted e ∙ ap (moved start (run_in start w) e) h

@@ -1,5 +1,5 @@
 -- Receipts checked along a history.
-use Rattle.std.proofs.Common.{◌≡◌, ◌⊎◌, inl, inr, ℕ, suc, ◌+◌, ◌<◌, ◌≤◌, List, [], length, map, take, Option, Some, None, refl, ap, sym, ◌∙◌, subst, arith, ◌↔◌}
+use Rattle.std.proofs.Common.{◌≡◌, ◌⊎◌, inl, inr, ℕ, suc, ◌+◌, ◌<◌, ◌≤◌, List, length, map, take, Option, Some, None, refl, ap, sym, ◌∙◌, subst, arith, ◌↔◌}
 use Rattle.std.proofs.lemmas.Bool.{cases_order, cases_eq}
 use Rattle.reg_base.specs.declared.memory.Op.{Op}
 use Rattle.reg_base.specs.declared.memory.OpId.{OpId}
@@ -23,14 +23,6 @@ use Rattle.reg_records.specs.Telling.{receipt_by, IsNextReceipt, IsAfter, IsOthe
 
 receipt_more : (es ys : List Entry) (e : Entry) (id : OpId) (r : Receipt) → IsOneMore es e ys → IsReceipt es id r → IsReceipt ys id r
 receipt_more es ys e id r more h = record { id_is = h.id_is; call = more.old (Called r.called id r.op) h.call; answer_of = more.old (Answered r.answered id r.answer) h.answer_of }
-
--- nothing is told of no entries
-pub told_none : (p : ℕ) (receipts : List Receipt) → IsToldIn [] p receipts (record { done = 0; running = None })
-told_none p receipts = record {
-  progress = record { calls = λ n. ((λ lt. absurd (omega arith)), (λ (t, o, (k, at)). absurd cc)); state = λ id same (t, o, (k, at)). absurd cc };
-  within = omega arith;
-  each = λ k r lt at. absurd (omega arith);
-}
 
 -- the call that runs has the number of the next finished operation
 pending_is : (es : List Entry) (p done : ℕ) (call : Pending) → IsProgressOf es p (progress_of done (Some call)) → IsCalled es (op_of p done) call.at call.op × (¬ IsFinished es (op_of p done))

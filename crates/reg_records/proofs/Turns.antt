@@ -1,5 +1,5 @@
 -- One more mention of a record, and its end.
-use Rattle.std.proofs.Common.{◌≡◌, ℕ, zero, suc, ◌<◌, Bool, true, false, List, length, take, Some, None, IsTrue, rules, refl, ap, sym, ◌∙◌, subst, arith}
+use Rattle.std.proofs.Common.{◌≡◌, ℕ, zero, suc, ◌<◌, Bool, true, false, List, length, take, Some, IsTrue, rules, refl, ap, sym, ◌∙◌, subst, arith}
 use Rattle.std.specs.Prelude.{slice_index}
 use Rattle.std.proofs.lemmas.Option.{same_Some}
 use Rattle.reg_base.specs.declared.memory.Op.{Op}
@@ -14,7 +14,7 @@ use Rattle.reg_world.specs.declared.faults.WorldFault.TheVariants.{Failed, TooMa
 use Rattle.reg_world.specs.Worlds.{Made, run_in, reply_in, refusal, Accepts, Refuses}
 use Rattle.reg_records.specs.declared.entries.LogEntry.{LogEntry}
 use Rattle.reg_records.specs.Records.{Plays, FailsAt, NothingLeft, entry_of, mentions}
-use Rattle.reg_records.specs.Playing.{IsEventOf, Moves, NoEvent, IsMade, IsTurn, AreTallied}
+use Rattle.reg_records.specs.Playing.{IsEventOf, Moves, IsMade, IsTurn, AreTallied}
 use Rattle.reg_records.proofs.Steps.{moves, no_move, same_reply}
 use Rattle.reg_records.proofs.Alike.{no_turn}
 
@@ -39,9 +39,6 @@ stands_is logs order counts place p q entry e lt tallied is =
     subst (λ (r : ℕ). entry_of logs r (mentions r (take place order)) ≡ Some entry) e (ap (entry_of logs p) (sym (tallied p lt)) ∙ sym is)
 
 module _ (start : Op → ℕ → Start) (w : Made) (p : ℕ) (entry : LogEntry) (going : w.failed ≡ false) where
-  -- no event at all
-  pub none_made : (new : Made) → NoEvent start w p entry.step → IsMade start w p entry false new
-  none_made new none e is = none e is.move
 
   -- an event whose reply is the entry's, or another
   pub reply_made : (e : Event) (new : Made) (same : Bool) → IsEventOf (run_in start w).nodes p entry.step e → Accepts start w e new
@@ -73,12 +70,6 @@ module _ (start : Op → ℕ → Start) (order : List ℕ) (logs : List (List Lo
           let same : t.entry ≡ entry = same_Some t.entry entry (sym t.stands ∙ (ap (λ (q : ℕ). entry_of logs q (mentions q (take place order))) process ∙ stands)) in
           let move : Moves start w p entry.step t.event = t.move ∙ (ap (λ (q : ℕ). Some (q, t.entry.step)) process ∙ ap (λ (x : LogEntry). Some (p, x.step)) same) in
           none t.event (record { move = move; reply = t.reply ∙ ap (λ (x : LogEntry). x.reply) same })
-
-  -- the mention has no entry
-  pub no_entry : (p : ℕ) (new : Made) → IsAt order place p → entry_of logs p (mentions p (take place order)) ≡ None → IsTurn start order logs place w false new
-  no_entry p new mention none next t =
-      let process : t.process ≡ p = same_Some t.process p (sym t.mention ∙ mention) in
-      let stands : None ≡ Some t.entry = sym none ∙ (ap (λ (q : ℕ). entry_of logs q (mentions q (take place order))) (sym process) ∙ t.stands) in absurd cc
 
 -- the first place that can't be played
 pub fails_in : (start : Op → ℕ → Start) (shape : Extent) (order : List ℕ) (logs : List (List LogEntry)) (place : ℕ) (u new : Made) → place < length order → Plays start shape order logs place u → IsTurn start order logs place u false new → FailsAt start shape order logs place

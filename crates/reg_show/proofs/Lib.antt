@@ -4,7 +4,6 @@ pub mod Ascii
 pub mod Sending
 pub mod Told
 pub mod Rested
-pub mod Reseeded
 pub mod Turned
 pub mod Shown
 pub mod Reordering

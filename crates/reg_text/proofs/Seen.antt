@@ -71,10 +71,6 @@ all_seen all now i t some e =
     let whole : all ≡ names_text t.words = t.text ∙ ap (λ l. names_text t.words ++ l) e ∙ append-nil (names_text t.words) in
     (t.words, ((some_words t.words all whole some, t.good), whole))
 
-pub over : (all now : List ℕ) (i : ℕ) → Seen all now i → i ≡ length all → now ≡ []
-over all [] i t e = refl
-over all (b ∷ now) i t e = absurd (omega (arith, t.short, e))
-
 -- words are no empty text
 pub no_words : (text : List ℕ) (ws : List (List ℕ)) → (length text == 0) ≡ true → 0 < length ws → text ≡ names_text ws → ⊥
 no_words text [] none some e = omega (arith, some)

@@ -1,5 +1,5 @@
 -- Bytes that go out one part after another.
-use Rattle.std.proofs.Common.{ℕ, Bool, true, false, ◌≡◌, List, [], ◌++◌, Option, Some, None, Result, Ok, Err, refl, sym, ap, ◌∙◌, append_assoc, append-nil, subst, take, drop}
+use Rattle.std.proofs.Common.{ℕ, Bool, true, false, ◌≡◌, List, [], ◌++◌, Option, Some, None, Result, Ok, Err, sym, ap, ◌∙◌, append_assoc, append-nil, subst, take, drop}
 use Rattle.std.specs.Prelude.{MatchResult}
 use Rattle.std.specs.Io.KnownBytes.{Appends, Keeps}
 use Rattle.std.proofs.lemmas.List.{take-append-drop}
@@ -48,14 +48,6 @@ keeps_two (Some x) None c h k = absurd h
 keeps_two (Some x) (Some y) None h k = absurd k
 keeps_two (Some x) (Some y) (Some z) h k = k ∙ h
 
-keeps_none : (a : Option (List ℕ)) → Keeps a a
-keeps_none None = tt
-keeps_none (Some x) = refl
-
-appends_none : (a : Option (List ℕ)) → Appends a a []
-appends_none None = tt
-appends_none (Some x) = sym (append-nil x)
-
 sends_two : (f g h : Bool) (a b c : Option (List ℕ)) (xs ys : List ℕ) → Sends f g a b xs → Sends g h b c ys → Sends f h a c (xs ++ ys)
 sends_two false false false a b c xs ys s t = appends_two a b c xs ys s t
 sends_two false false true a b c xs ys s t = part_behind a b c xs ys s t
@@ -64,14 +56,6 @@ sends_two false true true a b c xs ys s t = let p = part_of_first a b xs ys s in
 sends_two true false h a b c xs ys s t = absurd s
 sends_two true true false a b c xs ys s t = absurd t
 sends_two true true true a b c xs ys s t = keeps_two a b c s t
-
-sends_none : (f : Bool) (a : Option (List ℕ)) → Sends f f a a []
-sends_none false a = appends_none a
-sends_none true a = keeps_none a
-
--- nothing was put
-pub puts_none : {X : Type 0} (contents : X → Option (List ℕ)) (a : Sink X) → Puts contents a a []
-puts_none contents a = record { same = refl; sent = sends_none a.failed (contents a.writer.now) }
 
 -- one thing was put after another
 pub puts_two : {X : Type 0} (contents : X → Option (List ℕ)) (a b c : Sink X) (xs ys : List ℕ) → Puts contents a b xs → Puts contents b c ys → Puts contents a c (xs ++ ys)

@@ -34,12 +34,6 @@ cut_word rest w a word after read whole lacks (inl e) same =
     absurd (not_lacking 32 w a (subst P (sym plain ∙ read.0) lacks))
 cut_word rest w a word after read whole lacks (inr s) same = (whole word s.0 lacks (same ∙ ap (λ l. word ++ l) s.1)).0
 
-pub last_word : (rest word after : List ℕ) → Lacks 32 rest → Starts 32 after → rest ≡ word ++ after → (rest ≡ word) × ([] ≡ after)
-last_word rest word after lacks (inl e) same = (same ∙ ap (λ l. word ++ l) e ∙ append-nil word, sym e)
-last_word rest word after lacks (inr s) same =
-    let P : List ℕ → Type 0 = λ l. Lacks 32 l in
-    absurd (not_lacking 32 word s.0 (subst P (same ∙ ap (λ l. word ++ l) s.1) lacks))
-
 pub starts : (ns : List (List ℕ)) → Starts 32 (names_text ns)
 starts [] = inl refl
 starts (n ∷ ns) = inr (n ++ names_text ns, refl)

@@ -1,8 +1,8 @@
 -- What an event did, by what its world answers before and after it.
-use Rattle.std.proofs.Common.{ℕ, zero, suc, ◌≡◌, ◌+◌, ◌<◌, ◌≤◌, ◌⊎◌, inl, inr, Bool, true, false, List, [], ◌∷◌, ◌++◌, length, drop, take, map, get_or, set, append_assoc, append-nil, Option, None, refl, sym, ap, ap₂, ◌∙◌, arith, drop-cons}
+use Rattle.std.proofs.Common.{ℕ, zero, suc, ◌≡◌, ◌+◌, ◌<◌, ◌≤◌, ◌⊎◌, inl, inr, List, [], ◌∷◌, ◌++◌, length, drop, take, map, get_or, set, append_assoc, append-nil, Option, refl, sym, ap, ap₂, ◌∙◌, arith, drop-cons}
 use Rattle.std.proofs.lemmas.List.{get_or-set_same, get_or-set_other, drop_all}
-use Rattle.std.specs.Prelude.{slice_index, cond, ◌==◌, ◌&&◌, not, nat_lt, slice_get}
-use Rattle.std.proofs.lemmas.Bool.{cases_eq, cases_order, ne_eqb, eq-eqb, lt-ltb, le-ltb}
+use Rattle.std.specs.Prelude.{slice_index, cond, ◌==◌}
+use Rattle.std.proofs.lemmas.Bool.{cases_eq, cases_order, eq-eqb}
 use Rattle.reg_base.specs.declared.stamps.Delivered.{Delivered}
 use Rattle.reg_base.specs.declared.memory.Op.{Op}
 use Rattle.reg_frames.specs.declared.bodies.Frame.{Frame}
@@ -11,8 +11,6 @@ use Rattle.reg_process.specs.declared.steps.Reply.{Reply}
 use Rattle.reg_process.specs.Known.{IsNoPeer}
 use Rattle.reg_process.specs.Process.{State}
 use Rattle.reg_process.specs.declared.events.Event.{Event}
-use Rattle.reg_process.specs.declared.events.Event.TheVariants.{Take}
-use Rattle.reg_world.specs.Nodes.{Nodes}
 use Rattle.reg_world.specs.World.{delivered_of}
 use Rattle.reg_world.specs.Histories.{process_of}
 use Rattle.reg_world.specs.Worlds.{Made, run_in, with_event, reply_in}
@@ -21,25 +19,6 @@ use Rattle.reg_trace.specs.declared.waits.Wait.{Wait}
 use Rattle.reg_trace.specs.Waits.{waits_of}
 use Rattle.reg_trace.specs.Moments.{Fact, expected_by, frame_taken, out_of_turn, placed, puts_since, moment_between, moment_of, moments_from}
 
-pub placed_end : (to place : ℕ) (frames : List Frame) → length frames ≤ place → placed to place (drop place frames) ≡ []
-placed_end to place frames h = ap (placed to place) (none place frames h)
-  where
-    none : (n : ℕ) (xs : List Frame) → length xs ≤ n → drop n xs ≡ []
-    none zero [] h = refl
-    none zero (x ∷ xs) h = absurd (omega (arith, h))
-    none (suc n) [] h = refl
-    none (suc n) (x ∷ xs) h = none n xs (omega (arith, h))
-
-pub placed_next : (to place : ℕ) (frames : List Frame) (d : Frame) → place < length frames → placed to place (drop place frames) ≡ record { to = to; place = place; frame = get_or frames place d } ∷ placed to (place + 1) (drop (place + 1) frames)
-placed_next to place frames d h = ap (placed to place) (cut place frames h)
-  where
-    cut : (n : ℕ) (xs : List Frame) → n < length xs → drop n xs ≡ get_or xs n d ∷ drop (n + 1) xs
-    cut n [] h = absurd (omega (arith, h))
-    cut zero (x ∷ xs) h = refl
-    cut (suc n) (x ∷ xs) h =
-        let k : suc n + 1 ≡ suc (n + 1) = omega arith in
-        cut n xs (omega (arith, h)) ∙ ap (λ m. get_or xs n d ∷ drop m (x ∷ xs)) (sym k)
-
 pub puts_same : (p : ℕ) (f g : ℕ → ℕ) (wire : ℕ → List Frame) (n : ℕ) → ((to : ℕ) → to < n → (to ≡ p → ⊥) → f to ≡ g to) → puts_since p f wire n ≡ puts_since p g wire n
 puts_same p f g wire zero h = refl
 puts_same p f g wire (suc n) h = ap₂ (λ (a b : List Sent). a ++ b) (puts_same p f g wire n (λ to l ne. h to (omega (arith, l)) ne)) (one (cases_eq n p))
@@ -47,44 +26,6 @@ puts_same p f g wire (suc n) h = ap₂ (λ (a b : List Sent). a ++ b) (puts_same
     one : (n ≡ p) ⊎ (n ≡ p → ⊥) → cond (n == p) [] (placed n (f n) (drop (f n) (wire n))) ≡ cond (n == p) [] (placed n (g n) (drop (g n) (wire n)))
     one (inl e) = rw (eq-eqb n p e) refl
     one (inr ne) = ap (λ k. cond (n == p) [] (placed n k (drop k (wire n)))) (h n (omega arith) ne)
-
--- the frames of one more receiver
-pub puts_next : (p : ℕ) (lengths : ℕ → ℕ) (wire : ℕ → List Frame) (to : ℕ) → (to ≡ p → ⊥) → puts_since p lengths wire (to + 1) ≡ puts_since p lengths wire to ++ placed to (lengths to) (drop (lengths to) (wire to))
-puts_next p lengths wire to ne =
-    let k : to + 1 ≡ suc to = omega arith in
-    ap (puts_since p lengths wire) k ∙ ap (λ b. puts_since p lengths wire to ++ cond b [] (placed to (lengths to) (drop (lengths to) (wire to)))) (ne_eqb to p ne)
-
-pub puts_own : (p : ℕ) (lengths : ℕ → ℕ) (wire : ℕ → List Frame) (to : ℕ) → to ≡ p → puts_since p lengths wire (to + 1) ≡ puts_since p lengths wire to
-puts_own p lengths wire to e =
-    let k : to + 1 ≡ suc to = omega arith in
-    ap (puts_since p lengths wire) k ∙ (ap (λ b. puts_since p lengths wire to ++ cond b [] (placed to (lengths to) (drop (lengths to) (wire to)))) (eq-eqb to p e) ∙ append-none (puts_since p lengths wire to))
-  where
-    append-none : (l : List Sent) → l ++ [] ≡ l
-    append-none [] = refl
-    append-none (x ∷ l) = ap (λ t. x ∷ t) (append-none l)
-
--- the frame of a take, from the wire that it names
-pub frame_there : (n : ℕ) (w : Nodes) (from to place : ℕ) (frames : List Frame) (o : Option Frame) → from < n → to < n → (from ≡ to → ⊥) → frames ≡ (w from).wire to → o ≡ slice_get frames place → o ≡ frame_taken n w (Take from to place)
-frame_there n w from to place frames o a b ne same is =
-    let test : (nat_lt from n && (nat_lt to n && not (from == to))) ≡ true = rw (lt-ltb from n a, lt-ltb to n b, ne_eqb from to ne) refl in
-    is ∙ (ap (λ (l : List Frame). slice_get l place) same ∙ sym (ap (λ t. cond t (slice_get ((w from).wire to) place) None) test))
-
-pub frame_nowhere : (n : ℕ) (w : Nodes) (from to place : ℕ) → (n ≤ from) ⊎ ((n ≤ to) ⊎ (from ≡ to)) → None ≡ frame_taken n w (Take from to place)
-frame_nowhere n w from to place h = sym (ap (λ t. cond t (slice_get ((w from).wire to) place) None) (test h))
-  where
-    test : (n ≤ from) ⊎ ((n ≤ to) ⊎ (from ≡ to)) → (nat_lt from n && (nat_lt to n && not (from == to))) ≡ false
-    test (inl a) = rw (le-ltb from n a) refl
-    test (inr (inl b)) = rw (le-ltb to n b) (both (nat_lt from n))
-      where
-        both : (x : Bool) → (x && false) ≡ false
-        both true = refl
-        both false = refl
-    test (inr (inr e)) = rw (eq-eqb from to e) (last (nat_lt from n) (nat_lt to n))
-      where
-        last : (x y : Bool) → (x && (y && false)) ≡ false
-        last true true = refl
-        last true false = refl
-        last false y = refl
 
 -- all other processes are peers
 pub is_peer : (s : State) (n from to : ℕ) → length s.peers ≡ n → s.me ≡ to → from < n → (from ≡ to → ⊥) → IsNoPeer s from → ⊥

@@ -4,7 +4,7 @@ use Rattle.std.specs.Prelude.{slice_get, option_and_then}
 use Rattle.std.specs.List.{filter}
 use Rattle.std.proofs.lemmas.Bool.{cases_eq, cases_order, ne_eqb}
 use Rattle.std.proofs.lemmas.Bool.Decides.{eqb_tells}
-use Rattle.std.proofs.lemmas.List.{length-map, map-append, take_all}
+use Rattle.std.proofs.lemmas.List.{length-map, map-append}
 use Rattle.std.proofs.lemmas.List.Elements.{filter_more}
 use Rattle.std.proofs.lemmas.List.Sums.{length-filter}
 use Rattle.std.proofs.lemmas.Option.{slice_get_past}
@@ -138,7 +138,3 @@ module _ (n : ℕ) (steps : List Recorded) (i : ℕ) (d : Recorded) (logs : List
         let other : (get_or steps i d).process ≡ p → ⊥ = λ e. omega (arith, e, is, past, less) in
         split.each p less ∙ ap Some (sym (one_more_step p steps i d false lt (ne_eqb (get_or steps i d).process p other) ∙ append-nil (log_of p (take i steps))));
   }
-
--- all steps are in their logs
-pub logs_all : (n : ℕ) (steps : List Recorded) (i : ℕ) (logs : List (List LogEntry)) → length steps ≤ i → AreLogs n (take i steps) logs → AreLogs n steps logs
-logs_all n steps i logs le split = subst (λ (s : List Recorded). AreLogs n s logs) (take_all i steps le) split

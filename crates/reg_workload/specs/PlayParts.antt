@@ -1,5 +1,5 @@
 -- Conditions of a play under way, and its choices. They carry a proof: no promise speaks of them.
-use Rattle.std.specs.Prelude.{ℕ, ◌≡◌, ◌<◌, ◌≤◌, false, ◌+◌, List, [], length, take, Some, None, slice_get}
+use Rattle.std.specs.Prelude.{ℕ, ◌≡◌, ◌<◌, ◌≤◌, false, ◌+◌, List, length, take, Some, None, slice_get}
 use Rattle.reg_base.specs.declared.limits.TheConstants.{MOST_PROCESSES, MOST_OPERATIONS}
 use Rattle.reg_base.specs.declared.memory.Op.{Op}
 use Rattle.reg_base.specs.Memory.{register_of}
@@ -60,14 +60,6 @@ IsChoice start s (PutAgain p) = p < s.made.processes
 
 abbrev pub AreChoices : (Op → ℕ → Start) → Playing → List Choice → Type 0
 AreChoices start s choices = (k : ℕ) (c : Choice) → slice_get choices k ≡ Some c → IsChoice start s c
-
--- where there is no choice, these processes may not call
-abbrev pub NoCall : (Op → ℕ → Start) → Playing → ℕ → List Choice → Type 0
-NoCall start s n choices = choices ≡ [] → (p : ℕ) → p < n → IsReadyToCall start s p → ⊥
-
--- where there is no choice, these processes have nothing to put again
-abbrev pub NoTick : (Op → ℕ → Start) → Playing → ℕ → List Choice → Type 0
-NoTick start s n choices = choices ≡ [] → (p : ℕ) → p < n → pending_of ((run_in start s.made).nodes p).state.peers ≡ 0
 
 -- one turn of a play: one event more at most, and without loss one more
 pub record Turns (loss : ℕ) (old new : Playing) : Type 0 where

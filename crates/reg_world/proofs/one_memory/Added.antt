@@ -18,8 +18,8 @@ use Rattle.reg_world.specs.declared.order.First.{First}
 use Rattle.reg_world.specs.declared.order.CopyRead.{CopyRead}
 use Rattle.reg_world.specs.Nodes.{unseen}
 use Rattle.reg_world.specs.Runs.{Cast}
-use Rattle.reg_world.specs.World.{Replied, calls_in, answers_in, replies_in, casts_in, has_cast, reads_in, id_of, first_of, delivered_of}
-use Rattle.reg_world.proofs.run.Traced.{Called as PastCall, Answered as PastAnswer, Past, called_in, answered_in, casts_of, firsts, plain}
+use Rattle.reg_world.specs.World.{Replied, calls_in, answers_in, replies_in, casts_in, has_cast, reads_in, id_of, delivered_of}
+use Rattle.reg_world.proofs.run.Traced.{Called as PastCall, Answered as PastAnswer, Past, called_in, answered_in, casts_of, plain}
 use Rattle.reg_base.proofs.Lists.{in_filter}
 use Rattle.reg_world.proofs.lists.Bodies.{place_last}
 use Rattle.reg_world.proofs.one_memory.Replicas.{any_found, any_finds}
@@ -129,10 +129,6 @@ id_found (x ∷ xs) c h =
       | inl q ↦ absurd (false≢true (sym e ∙ and_from _ _ (eq-eqb x.stamp.time c.stamp.time (ap (λ (z : Cast). z.stamp.time) (sym q))) (eq-eqb x.stamp.process c.stamp.process (ap (λ (z : Cast). z.stamp.process) (sym q)))))
       | inr i ↦ let r = id_found xs c i in (r.0, inr r.1, r.2, r.3)
     ])
-
-pub plain_firsts : (casts : List Cast) (at : ℕ) (ds : List Delivered) → map plain (map (first_of casts at) ds) ≡ firsts at ds
-plain_firsts casts at [] = refl
-plain_firsts casts at (d ∷ ds) = ap (λ l. record { cast = d; at = at } ∷ l) (plain_firsts casts at ds)
 
 pub plain_casts : (fs : List First) → casts_of (map plain fs) ≡ map delivered_of fs
 plain_casts [] = refl

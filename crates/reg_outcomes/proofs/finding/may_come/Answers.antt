@@ -1,4 +1,4 @@
-use Rattle.std.proofs.Common.{◌≡◌, ◌↔◌, IsTrue, MatchOption, Option, inl, inr, rules, sym, ◌∙◌, subst}
+use Rattle.std.proofs.Common.{◌≡◌, ◌↔◌, IsTrue, Option, inl, inr, rules, sym, ◌∙◌, subst}
 use Rattle.reg_checkers.specs.History.{IsAnswered, IsFinished}
 use Rattle.reg_checkers.specs.declared.facts.Given.{Given}
 use Rattle.reg_checkers.proofs.Histories.{answer_is}

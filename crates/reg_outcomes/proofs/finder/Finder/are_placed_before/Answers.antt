@@ -1,4 +1,4 @@
-use Rattle.std.proofs.Common.{◌≡◌, ℕ, ◌<◌, ◌≤◌, refl, ap, arith}
+use Rattle.std.proofs.Common.{◌≡◌, ◌<◌, refl, ap, arith}
 use Rattle.std.specs.Prelude.{slice_index}
 use Rattle.reg_base.specs.Shape.{Extent}
 use Rattle.reg_checkers.specs.Progress.{op_of}
