@@ -19,11 +19,11 @@ use Rattle.reg_process.specs.declared.events.Event.TheVariants.{Call, Take, Tick
 use Rattle.reg_inputs.specs.Schedules.{Plan, IsPlan, EventFits, event_text, plan_lines}
 use Rattle.reg_inputs.specs.ScheduleText.{IsScheduleText}
 
-names_lack : (ns : List (List ℕ)) → ((r : ℕ) → r < length ns → is_name (slice_index_or ns r []) ≡ true) → Lacks 10 (names_text ns)
+pub names_lack : (ns : List (List ℕ)) → ((r : ℕ) → r < length ns → is_name (slice_index_or ns r []) ≡ true) → Lacks 10 (names_text ns)
 names_lack [] h = refl
 names_lack (n ∷ ns) h = joined 10 (32 ∷ n) (names_text ns) (joined 10 (32 ∷ []) n refl (name_lacks 10 n (omega arith) (h 0 (omega arith)))) (names_lack ns (λ r l. h (suc r) (omega arith)))
 
-front_lacks : (f : Front) → Lacks 10 (codes "front " ++ front_name f)
+pub front_lacks : (f : Front) → Lacks 10 (codes "front " ++ front_name f)
 front_lacks Linear = refl
 front_lacks LocalRead = refl
 front_lacks LocalWrite = refl

@@ -3,7 +3,6 @@ use Rattle.std.proofs.Common.{◌≡◌, ℕ, ◌<◌, cond, List, [], ◌∷◌
 use Rattle.std.specs.Prelude.{◌==◌, ◌&&◌, not, nat_lt, slice_get}
 use Rattle.std.specs.Option.{is_some}
 use Rattle.std.proofs.lemmas.Bool.{cond_both, cond-true, cond-false, eq-eqb, ne_eqb}
-use Rattle.std.proofs.lemmas.Grind.{flat_map-append}
 use Rattle.std.proofs.lemmas.Option.{same_Some, none-some}
 use Rattle.reg_base.specs.declared.limits.TheConstants.{MOST_OPERATIONS}
 use Rattle.reg_base.specs.declared.memory.Op.{Op}
@@ -35,6 +34,7 @@ use Rattle.reg_workload.specs.Plays.{call_at, calls_of}
 use Rattle.reg_outcomes.specs.Finishing.{UsesUp}
 use Rattle.reg_outcomes.specs.Interleavings.{script_of}
 use Rattle.reg_outcomes.proofs.Stepping.{has_script}
+use Rattle.reg_workload.proofs.Scripts.{calls_more}
 
 -- Each operation that was called is that of its process's script with its number, and each operation of a script is finished.
 pub record HasScripts (scripts : List (List Op)) (registers : ℕ) (h : List Entry) : Type 0 where
@@ -79,9 +79,6 @@ past_calls : (at : ℕ) (st : Step) (cast : Option Stamp) → ops_called (called
 past_calls at (CallStep op) cast = refl
 past_calls at (TakeStep from frame) cast = refl
 past_calls at TickStep cast = refl
-
-calls_more : (p : ℕ) (es : List Event) (e : Event) → calls_of p (es ++ e ∷ []) ≡ calls_of p es ++ call_at p e
-calls_more p es e = flat_map-append (call_at p) es (e ∷ []) ∙ ap (λ l. calls_of p es ++ l) (append-nil (call_at p e))
 
 module _ (start : Op → ℕ → Start) (n registers : ℕ) where
   abbrev pub IsNoted : List Event → Type 0

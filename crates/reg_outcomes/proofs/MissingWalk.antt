@@ -29,7 +29,7 @@ use Rattle.reg_outcomes.proofs.Stepping.{has_script}
 take_next : {X : Type 0} (xs : List X) (k : ℕ) (x : X) → IsAt xs k x → take (suc k) xs ≡ take k xs ++ x ∷ []
 take_next xs k x at = let one : suc k ≡ k + 1 = omega arith in ap (λ n. take n xs) one ∙ take_at xs k x at
 
-length_of_script : (scripts : List (List Op)) (p : ℕ) → slice_index (map length scripts) p ≡ length (script_of scripts p)
+pub length_of_script : (scripts : List (List Op)) (p : ℕ) → slice_index (map length scripts) p ≡ length (script_of scripts p)
 length_of_script [] p = refl
 length_of_script (s ∷ ss) zero = refl
 length_of_script (s ∷ ss) (suc p) = length_of_script ss p

@@ -70,7 +70,7 @@ module _ (n registers : ℕ) (h : List Entry) (good : IsHistory n registers h) w
 
 -- a process with its number below one more has it below, or it is the last
 below_more : (p m : ℕ) → p < m + 1 → (p < m) ⊎ (p ≡ m)
-below_more p m lt = elim (cases_eq p m) [ | inl e ↦ inr e | inr ne ↦ inl (omega (arith, lt, ne)) ]
+below_more p m lt = elim (cases_eq p m) [ inl e ↦ inr e | inr ne ↦ inl (omega (arith, lt, ne)) ]
 
 -- the answer to an operation, as a table tells of it
 abbrev pub IsAnswerTo : List Entry → OpId → Option Given → Type 0
@@ -87,13 +87,13 @@ module _ (h : List Entry) (id : OpId) where
 
 module _ (h : List Entry) (next : List ℕ) (m : ℕ) where
   pub none_more : ((p : ℕ) → p < m → ¬ IsFinished h (op_of p (slice_index next p))) → ¬ IsFinished h (op_of m (slice_index next m)) → (p : ℕ) → p < m + 1 → ¬ IsFinished h (op_of p (slice_index next p))
-  none_more before last p lt = elim (below_more p m lt) [ | inl less ↦ before p less | inr e ↦ subst (λ q. ¬ IsFinished h (op_of q (slice_index next q))) (sym e) last ]
+  none_more before last p lt = elim (below_more p m lt) [ inl less ↦ before p less | inr e ↦ subst (λ q. ¬ IsFinished h (op_of q (slice_index next q))) (sym e) last ]
 
   abbrev NoneBefore : ℕ → ℕ → Type 0
   NoneBefore at p = (s : ℕ) (a : Answer) → IsAnswered h (op_of p (slice_index next p)) s a → at ≤ s
 
   pub none_before_more : (at : ℕ) → ((p : ℕ) → p < m → NoneBefore at p) → NoneBefore at m → (p : ℕ) → p < m + 1 → NoneBefore at p
-  none_before_more at before last p lt = elim (below_more p m lt) [ | inl less ↦ before p less | inr e ↦ subst (NoneBefore at) (sym e) last ]
+  none_before_more at before last p lt = elim (below_more p m lt) [ inl less ↦ before p less | inr e ↦ subst (NoneBefore at) (sym e) last ]
 
 module _ (h : List Entry) (next : List ℕ) (p : ℕ) where
   pub incomplete : IsFinished h (op_of p (slice_index next p)) → ¬ IsComplete h next

@@ -1,16 +1,11 @@
 -- What one entry more, and one process more, tells.
-use Rattle.std.proofs.Common.{◌≡◌, ℕ, zero, suc, ◌+◌, List, [], ◌∷◌, ◌++◌, refl, sym, ap, ◌∙◌, arith, append-nil}
+use Rattle.std.proofs.Common.{◌≡◌, ℕ, ◌+◌, List, [], ◌∷◌, ◌++◌, refl, sym, ap, ◌∙◌, arith, append-nil}
 use Rattle.std.specs.List.{flat_map, range_with_len}
 use Rattle.std.proofs.lemmas.Grind.{flat_map-append}
 use Rattle.reg_checkers.specs.declared.entries.Entry.{Entry}
 use Rattle.reg_outcomes.specs.declared.told.ToldValue.{ToldValue}
 use Rattle.reg_outcomes.specs.Told.{told_of, outcome_of}
-
-range_more : (a n j : ℕ) → a + n ≡ j → range_with_len a (n + 1) ≡ range_with_len a n ++ j ∷ []
-range_more a zero j e = let q : a ≡ j = omega arith in ap (λ z. z ∷ []) q
-range_more a (suc n) j e =
-    let q : suc n + 1 ≡ suc (n + 1) = omega arith in
-    ap (range_with_len a) q ∙ ap (λ l. a ∷ l) (range_more (a + 1) n j (omega arith))
+use Rattle.reg_workload.proofs.InOrder.{range_more}
 
 -- no process, and one process more
 pub outcome_none : (es : List Entry) → [] ≡ outcome_of 0 es

@@ -18,6 +18,7 @@ use Rattle.reg_workload.specs.Plays.{call_at, calls_of}
 use Rattle.reg_outcomes.specs.Interleavings.{script_of}
 use Rattle.reg_outcomes.specs.Showing.{caller_in, callers}
 use Rattle.reg_outcomes.proofs.TurningMoves.{IsQuiet}
+use Rattle.reg_outcomes.proofs.MissingWalk.{length_of_script}
 
 pub later_quiet : (passed : ℕ → ℕ → ℕ) (e : Event) → IsLater passed e → IsQuiet e
 later_quiet passed (Call p op) h = h
@@ -84,13 +85,8 @@ take_none (x ∷ xs) zero e = refl
 take_none (x ∷ xs) (suc k) e = absurd (omega (arith, e))
 
 -- or all were
-pub script_length : (scripts : List (List Op)) (p : ℕ) → slice_index (map length scripts) p ≡ length (script_of scripts p)
-script_length [] p = refl
-script_length (s ∷ ss) zero = refl
-script_length (s ∷ ss) (suc p) = script_length ss p
-
 pub all_called : (scripts : List (List Op)) (next : List ℕ) (p : ℕ) → next ≡ map length scripts → take (slice_index next p) (script_of scripts p) ≡ script_of scripts p
-all_called scripts next p e = ap (λ l. take (slice_index l p) (script_of scripts p)) e ∙ ap (λ k. take k (script_of scripts p)) (script_length scripts p) ∙ take-length (script_of scripts p)
+all_called scripts next p e = ap (λ l. take (slice_index l p) (script_of scripts p)) e ∙ ap (λ k. take k (script_of scripts p)) (length_of_script scripts p) ∙ take-length (script_of scripts p)
 
 pub none_pending : (n : ℕ) → pending_of (replicate n no_peer) ≡ 0
 none_pending zero = refl

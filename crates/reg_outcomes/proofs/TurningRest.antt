@@ -1,11 +1,10 @@
 -- A run at rest: each process delivered the whole order, and its copy is the memory after it.
-use Rattle.std.proofs.Common.{◌≡◌, ℕ, ◌+◌, ◌<◌, List, [], ◌∷◌, ◌++◌, length, map, replicate, refl, sym, ap, ◌∙◌, subst, inl, arith}
-use Rattle.std.proofs.lemmas.List.{append-nil}
+use Rattle.std.proofs.Common.{◌≡◌, ℕ, ◌+◌, ◌<◌, List, [], ◌∷◌, length, map, replicate, refl, sym, ap, ◌∙◌, subst, inl, arith}
 use Rattle.reg_base.specs.declared.memory.Op.{Op}
 use Rattle.reg_base.specs.declared.stamps.Delivered.{Delivered}
 use Rattle.reg_base.specs.Memory.{memory, memory_after}
 use Rattle.reg_base.specs.Order.{In, Rising}
-use Rattle.reg_base.proofs.Lists.{in_left, in_right}
+use Rattle.reg_base.proofs.Lists.{in_left}
 use Rattle.reg_base.proofs.Orders.{below_irrefl}
 use Rattle.reg_front.specs.declared.starts.Start.{Start}
 use Rattle.reg_front.specs.Fronts.{KeepsLaws}
@@ -17,22 +16,16 @@ use Rattle.reg_world.specs.Laws.{IsMade, AllAcknowledged, IsQuiescent}
 use Rattle.reg_world.specs.World.{World, delivered_of, whole}
 use Rattle.reg_world.specs.Promises.{OrderIsLongest, OrderIsRight}
 use Rattle.reg_world.proofs.lists.Members.{in_at, map_in}
-use Rattle.reg_world.proofs.one_order.Firsts.{rising_cut}
 use Rattle.reg_world.proofs.one_order.Local.{held_above}
 use Rattle.reg_world.proofs.one_order.NodeLaws.{inv_of}
 use Rattle.reg_world.proofs.one_order.Wholes.{whole_replicas}
 use Rattle.reg_world.proofs.one_order.Worlds.{Inv, delivered_made, held_made}
 use Rattle.reg_world.proofs.witness.Promised.{rests, longest, order_right}
+use Rattle.reg_world.proofs.one_order.Settled.{same_deliveries}
 
 pub none_in : {X : Type 0} (xs : List X) → ((x : X) → In x xs → ⊥) → xs ≡ []
 none_in [] h = refl
 none_in (x ∷ xs) h = absurd (h x (inl refl))
-
--- a front that has all is all
-front_is_all : (xs ys rest : List Delivered) → Rising ys → xs ++ rest ≡ ys → ((c : Delivered) → In c ys → In c xs) → xs ≡ ys
-front_is_all xs ys [] r e h = sym (append-nil xs) ∙ e
-front_is_all xs ys (z ∷ rest) r e h =
-    absurd (below_irrefl z.stamp (rising_cut xs (z ∷ rest) z z (subst Rising (sym e) r) (h z (subst (In z) e (in_right z xs (z ∷ rest) (inl refl)))) (inl refl)))
 
 pub order_ops : (fs : List First) → ops_of (map delivered_of fs) ≡ map (λ (f : First). f.op) fs
 order_ops [] = refl
@@ -73,7 +66,7 @@ module _ (start : Op → ℕ → Start) (n registers : ℕ) (laws : KeepsLaws st
         Q.full p c l (subst (IsMade n w.nodes) (sym f.2) made)
 
     pub all_there : (p : ℕ) → p < n → (w.nodes p).deliveries ≡ map delivered_of w.order
-    all_there p l = let front = L.each p l in front_is_all (w.nodes p).deliveries (map delivered_of w.order) front.0 (order_rises p l) front.1 (ordered_there p l)
+    all_there p l = let front = L.each p l in same_deliveries (w.nodes p).deliveries (map delivered_of w.order) front.0 (order_rises p l) front.1 (ordered_there p l)
 
     pub copy_is : (p : ℕ) → p < n → (w.nodes p).state.copy ≡ memory registers (map (λ (f : First). f.op) w.order)
     copy_is p l =

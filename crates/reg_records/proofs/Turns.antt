@@ -39,7 +39,6 @@ stands_is logs order counts place p q entry e lt tallied is =
     subst (λ (r : ℕ). entry_of logs r (mentions r (take place order)) ≡ Some entry) e (ap (entry_of logs p) (sym (tallied p lt)) ∙ sym is)
 
 module _ (start : Op → ℕ → Start) (w : Made) (p : ℕ) (entry : LogEntry) (going : w.failed ≡ false) where
-
   -- an event whose reply is the entry's, or another
   pub reply_made : (e : Event) (new : Made) (same : Bool) → IsEventOf (run_in start w).nodes p entry.step e → Accepts start w e new
       → ((IsTrue same → reply_in start w e ≡ entry.reply) × (reply_in start w e ≡ entry.reply → IsTrue same)) → IsMade start w p entry same new

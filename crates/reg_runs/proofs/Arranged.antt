@@ -14,8 +14,8 @@ use Rattle.reg_checkers.specs.Orders.{IsDistinct, KeepsOwnOrder}
 use Rattle.reg_checkers.proofs.Places.{IsAt-map}
 use Rattle.reg_world.proofs.lists.Members.{in_at}
 use Rattle.reg_world.proofs.lists.Rises.{in_kept, kept_in}
-use Rattle.reg_world.proofs.one_memory.Replicas.{any_found}
 use Rattle.reg_runs.proofs.Search.{Fact, is_id, same_answer, is_told, is_finished, is_own_before, may_come, without, none_legal, always_before}
+use Rattle.reg_process.proofs.Deliver.{any_found}
 
 abbrev pub ids_of : List Fact → List OpId
 ids_of xs = map (λ f. f.id) xs

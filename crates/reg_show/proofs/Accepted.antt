@@ -8,12 +8,9 @@ use Rattle.reg_process.specs.declared.steps.Step.TheVariants.{Call as CallStep}
 use Rattle.reg_world.specs.Nodes.{Nodes, step_of}
 use Rattle.std.specs.Option.{is_some}
 use Rattle.reg_base.specs.declared.memory.Op.{Op}
-use Rattle.reg_base.specs.declared.memory.Op.TheVariants.{Read, Write, Swap}
 use Rattle.reg_base.specs.Memory.{register_of}
 use Rattle.reg_front.specs.declared.starts.Start.{Start}
 use Rattle.reg_process.specs.declared.steps.Step.{Step}
-use Rattle.reg_text.specs.Ops.{OpFits}
-use Rattle.reg_text.specs.Reading.{HasValue}
 use Rattle.reg_inputs.specs.Loads.{Load, IsLoad}
 use Rattle.reg_process.specs.declared.events.Event.{Event}
 use Rattle.reg_process.specs.declared.events.Event.TheVariants.{Call, Take, Tick}
@@ -30,6 +27,7 @@ use Rattle.reg_show.specs.ToldRuns.{EventHasBits}
 use Rattle.reg_trace.proofs.Moving.{first_moved}
 use Rattle.reg_inputs.proofs.ReadBack.{schedule_spelled}
 use Rattle.reg_world.proofs.run.Along.{few_events, move_is}
+use Rattle.reg_text.proofs.Spelling.{op_fits}
 
 call_known : (n registers : ℕ) (w : Nodes) (p : ℕ) (op : Op) (m : ℕ × Step) → step_of n registers w (Call p op) ≡ Some m → register_of op < registers
 call_known n registers w p op m =
@@ -61,11 +59,6 @@ all_known start n registers (x ∷ es) w all zero e h =
     let first = first_moved start n registers x es w (move_of n registers w x) refl all in
     subst (IsKnown registers) (same_Some x e h) (moved_known n registers w x first.0 first.1)
 all_known start n registers (x ∷ es) w all (suc k) e h = all_known start n registers es (happens start n registers w x) (first_moved start n registers x es w (move_of n registers w x) refl all).2 k e h
-
-op_fits : (names : List (List ℕ)) (op : Op) → register_of op < length names → HasValue op → OpFits names op
-op_fits names (Read r) known value = known
-op_fits names (Write r v) known value = (known, value)
-op_fits names (Swap r v) known value = (known, value)
 
 pub event_fits : (names : List (List ℕ)) (registers : ℕ) (e : Event) → registers ≡ length names → IsKnown registers e → EventHasBits e → EventFits names e
 event_fits names registers (Call p op) same known bits = (bits.0, op_fits names op (omega (arith, known, same)) bits.1)

@@ -1,23 +1,21 @@
 -- The text of a record is read as that record.
-use Rattle.std.proofs.Common.{ℕ, suc, ◌≡◌, ◌<◌, ◌^◌, List, [], ◌∷◌, ◌++◌, length, map, true, codes, Option, None, Some, refl, sym, ap, ◌∙◌, arith, append-nil}
-use Rattle.std.specs.Prelude.{slice_get, slice_index_or}
+use Rattle.std.proofs.Common.{ℕ, suc, ◌≡◌, ◌<◌, ◌^◌, List, [], ◌∷◌, ◌++◌, map, codes, Option, None, Some, refl, sym, ap, ◌∙◌, arith, append-nil}
+use Rattle.std.specs.Prelude.{slice_get}
 use Rattle.std.specs.Fmt.{decimal}
-use Rattle.reg_base.specs.Names.{is_name, names_fault}
+use Rattle.reg_base.specs.Names.{names_fault}
 use Rattle.reg_base.specs.declared.memory.Answer.{Answer}
 use Rattle.reg_base.specs.declared.memory.Answer.TheVariants.{Done, Value}
-use Rattle.reg_front.specs.declared.named.Front.{Front}
-use Rattle.reg_front.specs.declared.named.Front.TheVariants.{Linear, LocalRead, LocalWrite}
-use Rattle.reg_front.specs.Table.{front_name}
 use Rattle.reg_process.specs.declared.steps.Reply.{Reply}
 use Rattle.reg_text.specs.Lines.{lines_of}
 use Rattle.reg_text.specs.Parts.{Lacks}
 use Rattle.reg_text.specs.Words.{names_text}
 use Rattle.reg_text.proofs.Joining.{joined, number}
-use Rattle.reg_text.proofs.NamesLack.{name_lacks, well_spelt}
+use Rattle.reg_text.proofs.NamesLack.{well_spelt}
 use Rattle.reg_text.proofs.Split.{AllLack, lines_text, none_left}
 use Rattle.reg_verify.specs.declared.recorded.Recorded.{Recorded}
 use Rattle.reg_verify.specs.RecordLines.{Account, AnswerFits, IsAccount, IsFitting, RecordedFits, SpellsAccount, account_lines, account_text, answer_text, recorded_text, reply_text, step_text, told_text}
 use Rattle.reg_verify.proofs.Signs.{clear_step}
+use Rattle.reg_inputs.proofs.ReadBack.{names_lack, front_lacks}
 
 answer_lacks : (answer : Answer) (place : ℕ) → AnswerFits answer → place < 2 ^ 64 → Lacks 10 (answer_text answer place)
 answer_lacks Done place fits small = joined 10 (codes "done ") (decimal place) refl (number place small)
@@ -37,15 +35,6 @@ recorded_lacks names r ok fits =
 steps_lack : (names : List (List ℕ)) (steps : List Recorded) → names_fault names ≡ None → ((k : ℕ) (r : Recorded) → slice_get steps k ≡ Some r → RecordedFits names r) → AllLack (map (recorded_text names) steps)
 steps_lack names [] ok fit = tt
 steps_lack names (r ∷ steps) ok fit = (recorded_lacks names r ok (fit 0 r refl), steps_lack names steps ok (λ k x h. fit (suc k) x h))
-
-names_lack : (ns : List (List ℕ)) → ((r : ℕ) → r < length ns → is_name (slice_index_or ns r []) ≡ true) → Lacks 10 (names_text ns)
-names_lack [] h = refl
-names_lack (n ∷ ns) h = joined 10 (32 ∷ n) (names_text ns) (joined 10 (32 ∷ []) n refl (name_lacks 10 n (omega arith) (h 0 (omega arith)))) (names_lack ns (λ r l. h (suc r) (omega arith)))
-
-front_lacks : (f : Front) → Lacks 10 (codes "front " ++ front_name f)
-front_lacks Linear = refl
-front_lacks LocalRead = refl
-front_lacks LocalWrite = refl
 
 lines_lack : (a : Account) → IsAccount a → AllLack (account_lines a)
 lines_lack a good = (

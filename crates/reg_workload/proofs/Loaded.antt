@@ -9,7 +9,7 @@ use Rattle.reg_inputs.specs.Loads.{Load, IsLoad}
 use Rattle.reg_workload.specs.Plays.{script_of}
 use Rattle.reg_workload.specs.PlayParts.{ArePlayable}
 
-op_known : (names : List (List ℕ)) (op : Op) → OpFits names op → register_of op < length names
+pub op_known : (names : List (List ℕ)) (op : Op) → OpFits names op → register_of op < length names
 op_known names (Read register) fits = fits
 op_known names (Write register value) fits = fits.0
 op_known names (Swap register value) fits = fits.0

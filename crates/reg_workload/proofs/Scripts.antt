@@ -24,7 +24,7 @@ use Rattle.reg_workload.specs.PlayParts.{Follows, IsPlayable, ArePlayable, IsPla
 use Rattle.reg_workload.specs.FairParts.{AtRest}
 
 -- one event more
-calls_more : (p : ℕ) (es : List Event) (e : Event) → calls_of p (es ++ e ∷ []) ≡ calls_of p es ++ call_at p e
+pub calls_more : (p : ℕ) (es : List Event) (e : Event) → calls_of p (es ++ e ∷ []) ≡ calls_of p es ++ call_at p e
 calls_more p es e = flat_map-append (call_at p) es (e ∷ []) ∙ ap (λ l. calls_of p es ++ l) (append-nil (call_at p e))
 
 pub begins : (shape : Extent) (m : Made) (scripts : List (List Op)) (next : List ℕ) (n : ℕ) (cursors : List (List ℕ)) → m ≡ new_world shape → shape.processes ≤ MOST_PROCESSES → length scripts ≡ shape.processes → n ≡ shape.processes → next ≡ replicate n 0 → length cursors ≡ n → ArePlayable shape.registers scripts → IsPlaying (record { made = m; scripts = scripts; next = next; cursors = cursors })

@@ -35,7 +35,6 @@ use Rattle.reg_base.proofs.Lists.{in_right}
 use Rattle.reg_world.proofs.lists.Members.{in_at, in_map, map_in}
 use Rattle.reg_world.proofs.lists.Bodies.{place_in, place_within, place_first}
 use Rattle.reg_base.proofs.Orders.{Decides-below, below_trans, below_irrefl, same_stamp}
-use Rattle.reg_world.proofs.one_memory.Replicas.{any_found}
 use Rattle.reg_world.proofs.one_order.NodeEvents.{put_same, put_other}
 use Rattle.reg_world.proofs.one_order.Allowed.{calls_made}
 use Rattle.reg_world.proofs.one_memory.Added.{cast_found, cast_finds}
@@ -44,6 +43,7 @@ use Rattle.reg_world.proofs.witness.Premises.{is_run}
 use Rattle.reg_world.proofs.code.Tallied.{at_or, OwnLater, fresh, casts_rise}
 use Rattle.reg_world.proofs.run.Along.{one_more}
 use Rattle.reg_world.proofs.one_order.NodeLaws.{deliveries_made}
+use Rattle.reg_process.proofs.Deliver.{any_found}
 
 same_bool : (a b : Bool) → (a ≡ true → b ≡ true) → (b ≡ true → a ≡ true) → a ≡ b
 same_bool true b f g = sym (f refl)

@@ -1,8 +1,8 @@
 -- What an event adds to a history.
-use Rattle.std.proofs.Common.{◌≡◌, ℕ, zero, suc, Bool, true, false, List, [], ◌∷◌, ◌++◌, length, Option, Some, None, refl, sym, subst, arith}
+use Rattle.std.proofs.Common.{◌≡◌, ℕ, zero, suc, Bool, true, false, List, [], ◌∷◌, ◌++◌, length, Option, Some, None, refl, sym, subst}
 use Rattle.std.specs.Prelude.{◌-◌, cond, slice_get}
-use Rattle.std.proofs.lemmas.List.{append-nil, take-append-le, take_at}
-use Rattle.std.proofs.lemmas.Option.{same_Some, none-some, slice_get_within}
+use Rattle.std.proofs.lemmas.List.{append-nil, take_at}
+use Rattle.std.proofs.lemmas.Option.{same_Some, none-some}
 use Rattle.reg_frames.specs.declared.bodies.Frame.{Frame}
 use Rattle.reg_process.specs.declared.steps.Reply.{Reply}
 use Rattle.reg_process.specs.declared.steps.Step.{Step}
@@ -18,6 +18,7 @@ use Rattle.reg_world.specs.Pages.{calls_after, entries_after}
 use Rattle.reg_world.specs.Tallies.{Tally}
 use Rattle.reg_world.specs.World.{op_id, answers_in}
 use Rattle.reg_world.proofs.lists.Bodies.{place_last}
+use Rattle.reg_world.proofs.code.Entering.{history_front}
 
 -- the last entry was in place after those before it
 last_in_place : (n registers : ℕ) (es : List Entry) (x : Entry) → IsHistory n registers (es ++ x ∷ []) → IsInPlace n registers es x
@@ -28,11 +29,6 @@ at_first : (xs ys : List Entry) (k : ℕ) (x : Entry) → IsAt xs k x → IsAt (
 at_first [] ys k x h = absurd (none-some x h)
 at_first (y ∷ xs) ys zero x h = h
 at_first (y ∷ xs) ys (suc k) x h = at_first xs ys k x h
-
-history_before : (n registers : ℕ) (xs ys : List Entry) → IsHistory n registers (xs ++ ys) → IsHistory n registers xs
-history_before n registers xs ys good k x at =
-    let less = slice_get_within xs k x at in
-    subst (λ (l : List Entry). IsInPlace n registers l x) (take-append-le k xs ys (omega (arith, less))) (good k x (at_first xs ys k x at))
 
 -- the step is that of the event, by this process
 abbrev pub IsStepOf : Event → ℕ × Step → Type 0
@@ -68,7 +64,7 @@ module _ (n registers at : ℕ) (es : List Entry) (t : Tally) (answer : Option R
   grows_by (Call q op) m is good = subst (λ (z : ℕ × Step). IsHistory n registers (entries_after es at z.0 t z.1 answer) → Grows at es (Call q op) answer (entries_after es at z.0 t z.1 answer)) (sym is)
       (λ here.
       let mid = es ++ Called at (op_id q t.calls) op ∷ [] in
-      let x = last_in_place n registers es (Called at (op_id q t.calls) op) (history_before n registers mid (answers_in at (op_id q (calls_after (CallStep op) t.calls - 1)) answer) here) in
+      let x = last_in_place n registers es (Called at (op_id q t.calls) op) (history_front n registers mid (answers_in at (op_id q (calls_after (CallStep op) t.calls - 1)) answer) here) in
       (mid, (op_id q t.calls, refl, x.next, refl), adds_answer n registers at q (calls_after (CallStep op) t.calls - 1) mid answer here)) good
   grows_by (Take from to number) m is good = subst (λ (z : ℕ × Step). IsHistory n registers (entries_after es at z.0 t z.1 answer) → Grows at es (Take from to number) answer (entries_after es at z.0 t z.1 answer)) (sym is.1)
       (λ here. (es ++ [], append-nil es, adds_answer n registers at to (t.calls - 1) (es ++ []) answer here)) good

@@ -1,5 +1,5 @@
 -- What a step adds to what is told of a run and to the past of a process, in both forms.
-use Rattle.std.proofs.Common.{◌≡◌, ℕ, ◌<◌, ◌≤◌, true, false, List, [], ◌∷◌, ◌++◌, length, map, Option, Some, None, refl, sym, ap, ◌∙◌, inl, inr, arith}
+use Rattle.std.proofs.Common.{◌≡◌, ℕ, ◌<◌, ◌≤◌, true, false, List, [], ◌∷◌, ◌++◌, length, Option, Some, None, refl, sym, ap, ◌∙◌, inl, inr, arith}
 use Rattle.std.specs.Prelude.{slice_get, not, ◌==◌, ◌&&◌}
 use Rattle.std.specs.List.{list_any}
 use Rattle.std.proofs.lemmas.Bool.{cond_both, eqb-true, eq-eqb, and_parts, and_from, false≢true}
@@ -18,12 +18,12 @@ use Rattle.reg_world.specs.declared.order.First.{First}
 use Rattle.reg_world.specs.declared.order.CopyRead.{CopyRead}
 use Rattle.reg_world.specs.Nodes.{unseen}
 use Rattle.reg_world.specs.Runs.{Cast}
-use Rattle.reg_world.specs.World.{Replied, calls_in, answers_in, replies_in, casts_in, has_cast, reads_in, id_of, delivered_of}
-use Rattle.reg_world.proofs.run.Traced.{Called as PastCall, Answered as PastAnswer, Past, called_in, answered_in, casts_of, plain}
+use Rattle.reg_world.specs.World.{Replied, calls_in, answers_in, replies_in, casts_in, has_cast, reads_in, id_of}
+use Rattle.reg_world.proofs.run.Traced.{Called as PastCall, Answered as PastAnswer, Past, called_in, answered_in}
 use Rattle.reg_base.proofs.Lists.{in_filter}
 use Rattle.reg_world.proofs.lists.Bodies.{place_last}
-use Rattle.reg_world.proofs.one_memory.Replicas.{any_found, any_finds}
 use Rattle.reg_base.proofs.Orders.{same_stamp}
+use Rattle.reg_process.proofs.Deliver.{any_found, any_finds}
 
 abbrev pub cast_of_first : First → Cast
 cast_of_first f = record { stamp = f.stamp; id = f.id; op = f.op }
@@ -129,10 +129,6 @@ id_found (x ∷ xs) c h =
       | inl q ↦ absurd (false≢true (sym e ∙ and_from _ _ (eq-eqb x.stamp.time c.stamp.time (ap (λ (z : Cast). z.stamp.time) (sym q))) (eq-eqb x.stamp.process c.stamp.process (ap (λ (z : Cast). z.stamp.process) (sym q)))))
       | inr i ↦ let r = id_found xs c i in (r.0, inr r.1, r.2, r.3)
     ])
-
-pub plain_casts : (fs : List First) → casts_of (map plain fs) ≡ map delivered_of fs
-plain_casts [] = refl
-plain_casts (f ∷ fs) = ap (λ l. delivered_of f ∷ l) (plain_casts fs)
 
 pub new_read : (casts : List Cast) (at number : ℕ) (op : Op) (id0 : OpId) (o : Option Reply) (q : CopyRead) → In q (reads_in casts id0 o) → (q.id ≡ id0) × (has_cast casts id0 ≡ false) × ((a : PastAnswer) × In a (answered_in at number op o) × (a.number ≡ number) × (a.reply.place ≡ q.place))
 new_read casts at number op id0 None q h = absurd h

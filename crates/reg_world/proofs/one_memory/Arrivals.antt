@@ -30,7 +30,6 @@ use Rattle.reg_world.proofs.run.Traced.{Called as PastCall, Past, pasts_after, t
 use Rattle.reg_base.proofs.Lists.{in_left, in_right, in_filter}
 use Rattle.reg_world.proofs.lists.Bodies.{place_in, place_back, place_split, place_within}
 use Rattle.reg_world.proofs.one_order.NodeEvents.{put_same}
-use Rattle.reg_world.proofs.one_memory.Replicas.{any_finds}
 use Rattle.reg_world.proofs.lists.Members.{in_at, at_in, in_map, map_in, from_end}
 use Rattle.reg_world.proofs.one_memory.Added.{IsPastCall}
 use Rattle.reg_world.proofs.one_memory.Kept.{Kept, kept, kept_moved, call_of}
@@ -39,6 +38,7 @@ use Rattle.reg_world.proofs.witness.Promised.{order_right}
 use Rattle.reg_world.proofs.witness.Premises.{V, J, G, no_cast}
 use Rattle.reg_world.proofs.run.Along.{move_is, one_more}
 use Rattle.reg_world.proofs.run.Begun.{again, again_moved}
+use Rattle.reg_process.proofs.Deliver.{any_finds}
 
 -- reads, in order of their answers
 abbrev InOrder : World → Type 0

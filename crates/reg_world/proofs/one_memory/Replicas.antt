@@ -1,8 +1,8 @@
 -- The copy is the memory after the list of deliveries, and each reply is what the memory answers after so many casts of it.
-use Rattle.std.proofs.Common.{◌≡◌, ℕ, ◌+◌, ◌≤◌, max, Bool, true, List, [], ◌∷◌, ◌++◌, length, take, replicate, Option, Some, None, refl, sym, ap, ◌∙◌, subst, inl, inr, arith, append_assoc, length-append}
+use Rattle.std.proofs.Common.{◌≡◌, ℕ, ◌+◌, ◌≤◌, max, List, [], ◌∷◌, ◌++◌, length, take, replicate, Option, Some, None, refl, sym, ap, ◌∙◌, subst, inl, inr, arith, append_assoc, length-append}
 use Rattle.std.specs.Prelude.{◌==◌, ◌&&◌, count_by}
 use Rattle.std.specs.List.{list_any}
-use Rattle.std.proofs.lemmas.Bool.{cond_both, or_cases, or_left, or_right, and_parts, and_from, false≢true}
+use Rattle.std.proofs.lemmas.Bool.{cond_both, and_parts, and_from}
 use Rattle.std.proofs.lemmas.List.{append-nil, take_at, take-append-le}
 use Rattle.reg_base.specs.declared.stamps.Stamp.{Stamp}
 use Rattle.reg_base.specs.declared.memory.Op.{Op}
@@ -24,6 +24,7 @@ use Rattle.reg_front.specs.Fronts.{MayStart, KeepsLaws}
 use Rattle.reg_base.proofs.Orders.{Decides-below, Decides-at_most, below_trans, below_at_most}
 use Rattle.reg_base.proofs.Lists.{in_cases, DownIn, front_filter}
 use Rattle.reg_world.proofs.one_order.Firsts.{rising_end}
+use Rattle.reg_process.proofs.Deliver.{any_found, any_finds}
 
 -- the reply is the memory's, after the first casts of the list of deliveries
 abbrev pub IsRight : ℕ → List Delivered → Said → Type 0
@@ -59,18 +60,6 @@ reply_right registers s deliveries cs rest ds op copy count e =
       (let z = ap length all in let v = length-append (deliveries ++ cs) rest in omega (arith, z, v, place)),
       ap (answer_of op) (sym (ap (λ l. memory_after (ops_of l) (replicate registers 0)) taken ∙ memory)),
     )
-
-pub any_found : {X : Type 0} (f : X → Bool) (xs : List X) → list_any f xs ≡ true → (d : X) × In d xs × (f d ≡ true)
-any_found f [] h = absurd (false≢true h)
-any_found f (x ∷ xs) h = elim (or_cases (f x) (list_any f xs) h) [
-  | inl e ↦ (x, inl refl, e)
-  | inr e ↦ let r = any_found f xs e in (r.0, inr r.1, r.2)
-]
-
-pub any_finds : {X : Type 0} (f : X → Bool) (d : X) (xs : List X) → In d xs → f d ≡ true → list_any f xs ≡ true
-any_finds f d [] h e = absurd h
-any_finds f d (x ∷ xs) (inl q) e = or_left (f x) (list_any f xs) (ap f (sym q) ∙ e)
-any_finds f d (x ∷ xs) (inr q) e = or_right (f x) (list_any f xs) (any_finds f d xs q e)
 
 pub before_down : (stamp : Stamp) (ds : List Delivered) → DownIn (λ c. below c.stamp stamp) ds
 before_down stamp ds a b i j h e = (Decides-below a.stamp stamp).1 (below_trans a.stamp b.stamp stamp h ((Decides-below b.stamp stamp).0 e))

@@ -15,8 +15,9 @@ use Rattle.reg_world.proofs.run.Traced.{Called, Answered, Past, cast_of, Stands}
 use Rattle.reg_base.proofs.Orders.{Decides-below, Decides-at_most, below_irrefl}
 use Rattle.reg_base.proofs.Lists.{in_left, in_right, in_cases, in_filter, filter_in, rising_filter, front_filter}
 use Rattle.reg_world.proofs.lists.Bodies.{place_first, place_split, place_within}
-use Rattle.reg_world.proofs.one_memory.Replicas.{any_found, any_finds, before_down, own_down}
-use Rattle.reg_world.proofs.one_order.Settled.{Runs, count_parts, count_cons}
+use Rattle.reg_world.proofs.one_memory.Replicas.{before_down, own_down}
+use Rattle.reg_world.proofs.one_order.Settled.{Runs, count_parts}
+use Rattle.reg_process.proofs.Deliver.{any_found, any_finds, count_cons}
 
 -- what runs is the last call
 abbrev pub RunsAs : ℕ → List Called → Option Running → Type 0

@@ -1,17 +1,16 @@
 -- The laws of a run.
-use Rattle.std.proofs.Common.{◌≡◌, ℕ, zero, suc, ◌+◌, ◌<◌, ◌≤◌, List, [], ◌∷◌, ◌++◌, length, drop, replicate, Option, Some, None, refl, sym, ap, ◌∙◌, subst, inl, inr, arith, append_assoc}
+use Rattle.std.proofs.Common.{◌≡◌, ℕ, zero, suc, ◌+◌, ◌<◌, ◌≤◌, List, [], ◌∷◌, ◌++◌, length, drop, Option, Some, None, refl, sym, ap, ◌∙◌, subst, inl, inr, arith, append_assoc}
 use Rattle.reg_base.specs.declared.limits.TheConstants.{FRAME_NUMBERS, LAST_TIME, MOST_EVENTS}
-use Rattle.std.specs.Prelude.{slice_index_or, slice_get}
+use Rattle.std.specs.Prelude.{slice_get}
 use Rattle.std.proofs.lemmas.List.{append-nil, length-replicate}
 use Rattle.reg_base.specs.declared.memory.Op.{Op}
-use Rattle.reg_base.specs.declared.stamps.Delivered.{Delivered}
 use Rattle.reg_frames.specs.declared.bodies.Body.{Body}
 use Rattle.reg_frames.specs.declared.bodies.Frame.{Frame}
 use Rattle.reg_frames.specs.declared.bodies.Frame.TheVariants.{Numbered, Got}
 use Rattle.reg_front.specs.declared.starts.Start.{Start}
 use Rattle.reg_process.specs.declared.steps.Step.{Step}
 use Rattle.reg_process.specs.declared.events.Event.{Event}
-use Rattle.reg_base.specs.Order.{Below, In, Rising, IsPrefixOf}
+use Rattle.reg_base.specs.Order.{In, Rising, IsPrefixOf}
 use Rattle.reg_process.specs.Process.{no_peer, peer_at, time_of, next_of, step}
 use Rattle.reg_world.specs.Nodes.{Node, Nodes, put, after_step, empty, first_state}
 use Rattle.reg_world.specs.NodeParts.{nodes_after}
@@ -19,7 +18,7 @@ use Rattle.reg_world.specs.World.{World, move_of, moved, happens, run, empty_wor
 use Rattle.reg_world.proofs.run.Traced.{count_after}
 use Rattle.reg_world.proofs.run.Along.{moves, run_parts, along, few_events}
 use Rattle.reg_world.specs.Laws.{DeliveriesAgree, DeliveriesRise, UndeliveredAbove, DeliveriesMade, NoRefusal, IsAhead, IsStale, IsFull}
-use Rattle.reg_base.proofs.Lists.{in_left, in_right, in_cases}
+use Rattle.reg_base.proofs.Lists.{in_left, in_cases}
 use Rattle.reg_world.proofs.one_order.Worlds.{Inv, one_order, delivered_made, clear_is_delivered}
 use Rattle.reg_checkers.proofs.Places.{element_at}
 use Rattle.reg_world.proofs.lists.Bodies.{place_within}
@@ -29,11 +28,8 @@ use Rattle.reg_process.proofs.Peers.{clear_down}
 use Rattle.reg_world.proofs.one_order.Acts.{put_cases, inv_act}
 use Rattle.reg_world.proofs.one_order.NodeEvents.{next_is}
 use Rattle.reg_world.proofs.one_order.Runs.{StepKept, step_ok}
-
-replicate_at : {X : Type 0} (n i : ℕ) (x : X) → slice_index_or (replicate n x) i x ≡ x
-replicate_at zero i x = refl
-replicate_at (suc n) zero x = refl
-replicate_at (suc n) (suc i) x = replicate_at n i x
+use Rattle.reg_process.proofs.Again.{replicate_at}
+use Rattle.reg_world.proofs.one_order.Firsts.{rising_cut}
 
 pub empty_inv : (n registers : ℕ) → Inv n registers 0 (empty n registers)
 empty_inv n registers = record {
@@ -125,11 +121,6 @@ run_deliveries start n registers (e ∷ es) w q =
     let b = run_deliveries start n registers es (happens start n registers w e) q in
     (a.0 ++ b.0, sym (append_assoc (w.nodes q).deliveries a.0 b.0) ∙ (ap (λ f. f ++ b.0) a.1 ∙ b.1))
 
-rising_parts : (xs ys : List Delivered) (x y : Delivered) → Rising (xs ++ ys) → In x xs → In y ys → Below x.stamp y.stamp
-rising_parts [] ys x y r i j = absurd i
-rising_parts (z ∷ xs) ys x y r (inl e) j = subst (λ (c : Delivered). Below c.stamp y.stamp) (sym e) (r.0 y (in_right y xs ys j))
-rising_parts (z ∷ xs) ys x y r (inr i) j = rising_parts xs ys x y r.1 i j
-
 pub undelivered_later : (start : Op → ℕ → Start) (n registers : ℕ) (events more : List Event) → UndeliveredAbove n (whole start n registers events).nodes (whole start n registers (events ++ more)).nodes
 undelivered_later start n registers events more q c d l m ne h =
     let w1 = (whole start n registers events).nodes in
@@ -147,7 +138,7 @@ undelivered_later start n registers events more q c d l m ne h =
           let c2 = clear_is_delivered n registers (length longer.accepted) w2 I q l c m clear in
           elim (in_cases c (w1 q).deliveries grown.0 (subst (In c) (sym f2) c2)) [
             | inl i ↦ absurd (ne i)
-            | inr i ↦ rising_parts (w1 q).deliveries grown.0 d c (subst Rising (sym f2) (I.local q l).deliveries_rise) h i
+            | inr i ↦ rising_cut (w1 q).deliveries grown.0 d c (subst Rising (sym f2) (I.local q l).deliveries_rise) h i
           ]
     ]
 

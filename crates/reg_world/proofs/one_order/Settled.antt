@@ -4,7 +4,6 @@ use Rattle.std.specs.Prelude.{cond, ◌==◌, ◌&&◌, count_by, slice_index_or
 use Rattle.std.specs.List.{filter, list_any}
 use Rattle.std.proofs.lemmas.Bool.{cond_both, cases_Bool, eqb-false, eq-eqb, and_from, false≢true}
 use Rattle.std.proofs.lemmas.List.{append-nil}
-use Rattle.std.proofs.lemmas.List.Sums.{sum_by-cons}
 use Rattle.reg_base.specs.declared.memory.Op.{Op}
 use Rattle.reg_base.specs.declared.stamps.Delivered.{Delivered}
 use Rattle.reg_frames.specs.declared.bodies.Body.{Body}
@@ -16,7 +15,7 @@ use Rattle.reg_front.specs.declared.starts.Start.TheVariants.{Cast as Casts, Cas
 use Rattle.reg_process.specs.declared.steps.Step.{Step}
 use Rattle.reg_process.specs.declared.steps.Step.TheVariants.{Call, Take, Tick}
 use Rattle.reg_process.specs.declared.events.Event.{Event}
-use Rattle.reg_base.specs.Order.{below, In, Rising, insert}
+use Rattle.reg_base.specs.Order.{In, Rising, insert}
 use Rattle.reg_base.specs.Memory.{memory_after}
 use Rattle.reg_process.specs.Process.{Peer, no_peer, pending_of, State, Running, Own, Held, is_clear, is_own, peer_at, stamp_at, cast_at, clear_casts, casts_before, up_to_own, reply_after, reply_of, still, delivered_state, called, taken, accepted, accepts, queues, cast_made, quiet, got_frames, unsettled, ops_of}
 use Rattle.reg_front.specs.Fronts.{MayStart, KeepsLaws}
@@ -29,21 +28,19 @@ use Rattle.reg_world.proofs.one_order.Local.{held_above}
 use Rattle.reg_world.proofs.one_order.Worlds.{Inv, held_made, delivered_made, one_order}
 use Rattle.reg_world.proofs.one_order.Acts.{put_cases}
 use Rattle.reg_world.proofs.one_order.Firsts.{rising_cut}
-use Rattle.reg_world.proofs.one_memory.Replicas.{any_finds}
 use Rattle.reg_world.proofs.one_order.Wholes.{whole_replicas}
 use Rattle.reg_world.proofs.one_order.Answered.{all_delivered}
 use Rattle.reg_world.specs.World.{move_of, whole}
 use Rattle.reg_world.proofs.one_order.NodeLaws.{inv_of}
 use Rattle.reg_world.proofs.run.Along.{along}
+use Rattle.reg_process.proofs.Deliver.{any_finds, count_cons}
+use Rattle.reg_process.proofs.Sends.{count_insert}
 
 -- what runs has its cast among the held, or waits for one
 abbrev pub Runs : State → Option Running → Type 0
 Runs s None = Unit {0}
 Runs s (Some (Own stamp op)) = In (record { stamp = stamp; op = op }) s.held
 Runs s (Some (Held op)) = 0 < unsettled s
-
-pub count_cons : (f : Delivered → Bool) (x : Delivered) (xs : List Delivered) → count_by f (x ∷ xs) ≡ cond (f x) 1 0 + count_by f xs
-count_cons f x xs = sum_by-cons (λ x. cond (f x) 1 0) x xs
 
 pub count_parts : (f p : Delivered → Bool) (xs : List Delivered) → count_by f (filter p xs) + count_by f (filter (λ c. not (p c)) xs) ≡ count_by f xs
 count_parts f p [] = refl
@@ -52,14 +49,6 @@ count_parts f p (x ∷ xs) = go (p x) (count_parts f p xs)
     go : (b : Bool) → count_by f (filter p xs) + count_by f (filter (λ c. not (p c)) xs) ≡ count_by f xs → count_by f (cond b (x ∷ filter p xs) (filter p xs)) + count_by f (cond (not b) (x ∷ filter (λ c. not (p c)) xs) (filter (λ c. not (p c)) xs)) ≡ count_by f (x ∷ xs)
     go true e = let a = count_cons f x (filter p xs) in let b = count_cons f x xs in omega (arith, a, b, e)
     go false e = let a = count_cons f x (filter (λ c. not (p c)) xs) in let b = count_cons f x xs in omega (arith, a, b, e)
-
-pub count_insert : (f : Delivered → Bool) (c : Delivered) (xs : List Delivered) → count_by f (insert c xs) ≡ count_by f (c ∷ xs)
-count_insert f c [] = refl
-count_insert f c (x ∷ xs) = go (below c.stamp x.stamp) (count_insert f c xs)
-  where
-    go : (b : Bool) → count_by f (insert c xs) ≡ count_by f (c ∷ xs) → count_by f (cond b (c ∷ x ∷ xs) (x ∷ insert c xs)) ≡ count_by f (c ∷ x ∷ xs)
-    go true e = refl
-    go false e = let a = count_cons f x (insert c xs) in let b = count_cons f c xs in let d = count_cons f c (x ∷ xs) in let g = count_cons f x xs in omega (arith, a, b, d, g, e)
 
 still_runs : (s : State) (running : Option Running) → Runs s running → Runs (delivered_state s) (still (reply_of s (clear_casts s) running) running)
 still_runs s None h = tt
@@ -136,7 +125,7 @@ not_running s None h e = refl
 not_running s (Some (Own stamp op)) h e = absurd (subst (In (record { stamp = stamp; op = op })) e h)
 not_running s (Some (Held op)) h e = absurd (let z = ap (count_by (is_own s)) e in omega (arith, h, z))
 
-same_deliveries : (xs ys rest : List Delivered) → Rising ys → xs ++ rest ≡ ys → ((c : Delivered) → In c ys → In c xs) → xs ≡ ys
+pub same_deliveries : (xs ys rest : List Delivered) → Rising ys → xs ++ rest ≡ ys → ((c : Delivered) → In c ys → In c xs) → xs ≡ ys
 same_deliveries xs ys [] r e h = sym (append-nil xs) ∙ e
 same_deliveries xs ys (z ∷ rest) r e h =
     absurd (below_irrefl z.stamp (rising_cut xs (z ∷ rest) z z (subst Rising (sym e) r) (h z (subst (In z) e (in_right z xs (z ∷ rest) (inl refl)))) (inl refl)))

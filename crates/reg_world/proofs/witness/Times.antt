@@ -30,7 +30,6 @@ use Rattle.reg_world.proofs.one_order.Wholes.{whole_inv}
 use Rattle.reg_base.proofs.Lists.{in_left, in_right, in_cases, in_filter, filter_in, insert_new}
 use Rattle.std.proofs.lemmas.Option.{same_Some, none-some}
 use Rattle.reg_world.proofs.lists.Bodies.{place_back, place_last, place_split, place_within}
-use Rattle.reg_world.proofs.one_memory.Replicas.{any_found}
 use Rattle.reg_world.proofs.one_order.Settled.{IsRunning, Runs, longer, whole_runs}
 use Rattle.reg_world.proofs.one_order.NodeEvents.{put_same}
 use Rattle.reg_world.proofs.one_order.Firsts.{Ordered, ordered_after, WorldInv}
@@ -40,6 +39,7 @@ use Rattle.reg_world.proofs.one_memory.History.{PastsOk, whole_pasts}
 use Rattle.reg_world.proofs.one_memory.Standing.{RunsAs, PastOk}
 use Rattle.reg_world.specs.World.{move_of, whole}
 use Rattle.reg_world.proofs.run.Along.{along}
+use Rattle.reg_process.proofs.Deliver.{any_found}
 
 pub laws_of : (start : Op → ℕ → Start) → CastsAll start → KeepsLaws start
 laws_of start all op u = subst (MayStart op u) (sym (all op u)) tt
