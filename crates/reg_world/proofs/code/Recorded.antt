@@ -1,5 +1,5 @@
 -- What an event adds to a history.
-use Rattle.std.proofs.Common.{◌≡◌, ℕ, zero, suc, Bool, true, false, List, [], ◌∷◌, ◌++◌, length, Option, Some, None, refl, sym, subst}
+use Rattle.std.proofs.Common.{◌≡◌, ℕ, Bool, true, false, List, [], ◌∷◌, ◌++◌, length, Option, Some, None, refl, sym, subst}
 use Rattle.std.specs.Prelude.{◌-◌, cond, slice_get}
 use Rattle.std.proofs.lemmas.List.{append-nil, take_at}
 use Rattle.std.proofs.lemmas.Option.{same_Some, none-some}
@@ -9,7 +9,7 @@ use Rattle.reg_process.specs.declared.steps.Step.{Step}
 use Rattle.reg_process.specs.declared.steps.Step.TheVariants.{Call as CallStep, Take as TakeStep, Tick as TickStep}
 use Rattle.reg_checkers.specs.declared.entries.Entry.{Entry}
 use Rattle.reg_checkers.specs.declared.entries.Entry.TheVariants.{Called, Answered}
-use Rattle.reg_checkers.specs.History.{IsAt, IsInPlace, IsHistory}
+use Rattle.reg_checkers.specs.History.{IsInPlace, IsHistory}
 use Rattle.reg_process.specs.declared.events.Event.{Event}
 use Rattle.reg_process.specs.declared.events.Event.TheVariants.{Call, Take, Tick}
 use Rattle.reg_world.specs.Histories.{AddsAnswer, Grows}
@@ -24,11 +24,6 @@ use Rattle.reg_world.proofs.code.Entering.{history_front}
 last_in_place : (n registers : ℕ) (es : List Entry) (x : Entry) → IsHistory n registers (es ++ x ∷ []) → IsInPlace n registers es x
 last_in_place n registers es x good =
     subst (λ (l : List Entry). IsInPlace n registers l x) (take_at es (x ∷ []) (length es) refl) (good (length es) x (place_last es x))
-
-at_first : (xs ys : List Entry) (k : ℕ) (x : Entry) → IsAt xs k x → IsAt (xs ++ ys) k x
-at_first [] ys k x h = absurd (none-some x h)
-at_first (y ∷ xs) ys zero x h = h
-at_first (y ∷ xs) ys (suc k) x h = at_first xs ys k x h
 
 -- the step is that of the event, by this process
 abbrev pub IsStepOf : Event → ℕ × Step → Type 0
