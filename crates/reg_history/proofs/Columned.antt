@@ -1,7 +1,7 @@
 -- A number in front of a mark, with the spaces that fill its column.
 use Rattle.std.proofs.Common.{ℕ, zero, suc, ◌≡◌, ◌+◌, ◌-◌, ◌≤◌, List, ◌∷◌, ◌++◌, length, take, drop, min, replicate, refl, sym, ap, ◌∙◌, append_assoc, arith}
 use Rattle.reg_text.specs.Columns.{to_right, to_left}
-use Rattle.std.proofs.lemmas.List.{take-append-drop, length-append, length-replicate, length-drop, take_all}
+use Rattle.std.proofs.lemmas.List.{take-append-drop, length-append, length-replicate}
 
 drop_spaces : (k m : ℕ) (rest : List ℕ) → drop k (replicate (k + m) 32 ++ rest) ≡ replicate m 32 ++ rest
 drop_spaces zero m rest = ap (λ j. replicate j 32 ++ rest) (omega arith)
@@ -44,7 +44,3 @@ pub reaches : (places : ℕ) (marked : List ℕ) → marked ≡ replicate places
 reaches places marked e =
     let long : length marked ≡ places + length (drop places marked) = ap length e ∙ length-append (replicate places 32) (drop places marked) ∙ ap (λ n. n + length (drop places marked)) (length-replicate places 32) in
     omega (arith, long)
-
--- a slice to the end
-pub past : (l : List ℕ) (k : ℕ) → take (length l - k) (drop k l) ≡ drop k l
-past l k = take_all (length l - k) (drop k l) (omega (arith, length-drop k l))

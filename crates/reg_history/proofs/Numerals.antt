@@ -8,7 +8,8 @@ use Rattle.reg_text.specs.Parts.{Lacks}
 use Rattle.reg_history.specs.LineForms.{FitsColumn}
 use Rattle.reg_text.proofs.NamesLack.{both_true}
 use Rattle.reg_text.proofs.Formed.{numeral_lacks}
-use Rattle.reg_text.proofs.Spaces.{is_space, split_spaces, past_spaces, past}
+use Rattle.reg_text.proofs.Spaces.{is_space, split_spaces, past_spaces}
+use Rattle.reg_text.proofs.Parts.{rest_of}
 
 pub behind_only : (bs : List ℕ) (k : ℕ) → k ≤ length bs → k ≡ prefix_len is_space bs → bs ≡ to_right (length bs) (take (length bs - k) (drop k bs))
 behind_only bs k within spaces =
@@ -16,7 +17,7 @@ behind_only bs k within spaces =
     let same : k ≡ length bs - length (drop k bs) = omega (arith, within, length-drop k bs) in
     let whole : bs ≡ to_right (length bs) (drop k bs) = cut ∙ ap (λ m. replicate m 32 ++ drop k bs) same in
     let P : List ℕ → Type 0 = λ l. bs ≡ to_right (length bs) l in
-    subst P (sym (past bs k)) whole
+    subst P (sym (rest_of bs k)) whole
 
 some_digits : (ds : List ℕ) → is_numeral ds ≡ true → 0 < length ds
 some_digits [] h = absurd (cc)
@@ -34,7 +35,7 @@ behind_whole bs digits k spaces h e =
     let some = some_digits digits h in
     let plain = plain_first digits some (numeral_lacks 32 digits (omega arith) h) in
     let found : drop k bs ≡ digits = rw spaces (subst P (sym e) (past_spaces (length bs - length digits) digits some plain)) in
-    past bs k ∙ found
+    rest_of bs k ∙ found
 
 pub length_left : (places : ℕ) (ds : List ℕ) → length ds ≤ places → length (to_left places ds) ≡ places
 length_left places ds short = omega (arith, short, length-append ds (replicate (places - length ds) 32), length-replicate {A = ℕ} (places - length ds) 32)

@@ -55,10 +55,10 @@ module _ (processes : ℕ) (some : 0 < processes) (few : processes ≤ MOST_PROC
   two_begun : (names : List (List ℕ)) → names_fault names ≡ None → IsBegun (processes_line processes ∷ registers_line names ∷ [])
   two_begun names spelt = (plan_of processes names Linear, is_plan processes names Linear some few spelt, drop 2 (plan_lines (plan_of processes names Linear)), refl)
 
-same_why : (n : ℕ) (a b : Why) → Line n a ≡ Line n b → a ≡ b
+pub same_why : (n : ℕ) (a b : Why) → Line n a ≡ Line n b → a ≡ b
 same_why n a b e = cc
 
-no_memory : {A : Type 0} (n : ℕ) (a : Why) → Line n a ≡ OutOfMemory → A
+pub no_memory : {A : Type 0} (n : ℕ) (a : Why) → Line n a ≡ OutOfMemory → A
 no_memory n a e = absurd (cc)
 
 -- the line that a reader stops at, with the reason

@@ -1,5 +1,5 @@
 -- The history of every run has a serial order.
-use Rattle.std.proofs.Common.{◌≡◌, ℕ, zero, suc, ◌<◌, List, [], ◌∷◌, ◌++◌, map, length, refl, sym, subst, inl, inr, arith, length-append}
+use Rattle.std.proofs.Common.{ℕ, zero, suc, ◌<◌, List, [], ◌∷◌, ◌++◌, map, sym, subst, inl, inr, arith}
 use Rattle.std.specs.Cmp.{IsTotalOrder}
 use Rattle.std.proofs.lemmas.Bool.{cases_eq}
 use Rattle.std.proofs.lemmas.Cmp.{nat_cmp_total, on_total, then_total}
@@ -21,10 +21,7 @@ use Rattle.reg_world.proofs.lists.Bodies.{place_first}
 use Rattle.reg_world.proofs.witness.Premises.{R, is_run}
 use Rattle.reg_world.proofs.witness.Serial.{witness_serial}
 use Rattle.reg_outcomes.proofs.MissingSort.{sorted_list}
-
-length-listed : {X : Type 0} (f : ℕ → X) (n : ℕ) → length (listed f n) ≡ n
-length-listed f zero = refl
-length-listed f (suc n) = let l = length-append (listed f n) (f n ∷ []) in let rest = length-listed f n in omega (arith, l, rest)
+use Rattle.reg_world.proofs.code.Sending.{length-listed}
 
 at_listed : {X : Type 0} (f : ℕ → X) (n p : ℕ) → p < n → IsAt (listed f n) p (f p)
 at_listed f zero p lt = absurd (omega arith)

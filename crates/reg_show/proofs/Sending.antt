@@ -1,20 +1,15 @@
 -- What went out where the output failed.
-use Rattle.std.proofs.Common.{ℕ, ◌≡◌, ◌∙◌, true, false, List, [], Option, Some, None, Result, Ok, Err, sym, subst, append-nil}
+use Rattle.std.proofs.Common.{ℕ, ◌≡◌, true, false, List, [], Option, Result, Ok, Err, sym, subst, append-nil}
 use Rattle.std.specs.Prelude.{MatchResult}
 use Rattle.std.specs.Result.{is_err}
 use Rattle.std.specs.Io.KnownBytes.{Appends, Keeps}
 use Rattle.reg_text.specs.declared.writing.Unwritten.{Unwritten}
 use Rattle.reg_text.specs.Writing.{AppendsPart}
+use Rattle.reg_text.proofs.Sent.{appends_kept}
 
 -- all of the text went out, or a first part of it
 abbrev pub GoesOut : Result Unit Unwritten → Option (List ℕ) → Option (List ℕ) → List ℕ → Type 0
 GoesOut r old new text = MatchResult r (λ _. Appends old new text) (λ _. AppendsPart old new text)
-
-appends_kept : (a b c : Option (List ℕ)) (text : List ℕ) → Appends a b text → Keeps b c → Appends a c text
-appends_kept None b c text h k = tt
-appends_kept (Some x) None c text h k = absurd h
-appends_kept (Some x) (Some y) None text h k = absurd k
-appends_kept (Some x) (Some y) (Some z) text h k = k ∙ h
 
 -- the writer failed
 pub writing_failed : {X : Type 0} (held : X → Option (List ℕ)) (r : Result Unit Unwritten) (a b c : X) (text : List ℕ) → c ≡ b → is_err r ≡ true → GoesOut r (held a) (held b) text → AppendsPart (held a) (held c) text

@@ -9,7 +9,8 @@ use Rattle.std.proofs.Math.Seq.{take-append_seam, drop-append_seam}
 use Rattle.std.proofs.lemmas.Str.Parse.{digit_from_value}
 use Rattle.std.proofs.lemmas.Fmt.{digits_decimal}
 use Rattle.reg_text.proofs.Decimals.{own}
-use Rattle.reg_text.proofs.Spaces.{is_space, past}
+use Rattle.reg_text.proofs.Spaces.{is_space}
+use Rattle.reg_text.proofs.Parts.{rest_of}
 
 abbrev pub no_blank : ℕ → Bool
 no_blank b = not (b == 32)
@@ -36,7 +37,7 @@ past_digits (d ∷ ds) m h =
 pub left_read : (bs : List ℕ) (k n : ℕ) → k ≤ length bs → list_all is_space (take (length bs - k) (drop k bs)) ≡ true → take k bs ≡ decimal n → bs ≡ to_left (length bs) (decimal n)
 left_read bs k n fits blank digits =
     let P : List ℕ → Type 0 = λ l. list_all is_space l ≡ true in
-    let after : drop k bs ≡ replicate (length (drop k bs)) 32 = blank_is (drop k bs) (subst P (past bs k) blank) in
+    let after : drop k bs ≡ replicate (length (drop k bs)) 32 = blank_is (drop k bs) (subst P (rest_of bs k) blank) in
     let long : length (decimal n) ≡ k = ap length (sym digits) ∙ length-take-le k bs fits in
     let rest : length (drop k bs) ≡ length bs - length (decimal n) = length-drop k bs ∙ ap (λ m. length bs - m) (sym long) in
     sym (take-append-drop k bs) ∙ ap (λ l. l ++ drop k bs) digits ∙ ap (λ l. decimal n ++ l) (after ∙ ap (λ m. replicate m 32) rest)
@@ -49,7 +50,7 @@ left_found bs k m n small count e =
     let long : k ≡ length ds = count ∙ ap (prefix_len no_blank) e ∙ past_digits ds m (digits_decimal own n small) in
     let front : take k bs ≡ ds = ap (λ l. take k l) e ∙ ap (λ j. take j all) long ∙ take-append_seam ds (replicate m 32) in
     let back : drop k bs ≡ replicate m 32 = ap (λ l. drop k l) e ∙ ap (λ j. drop j all) long ∙ drop-append_seam ds (replicate m 32) in
-    (front, ap (list_all is_space) (past bs k ∙ back) ∙ all_blank m)
+    (front, ap (list_all is_space) (rest_of bs k ∙ back) ∙ all_blank m)
 
 pub column_read_left : (r : Option ℕ) (bs : List ℕ) (k : ℕ) → k ≤ length bs → list_all is_space (take (length bs - k) (drop k bs)) ≡ true → IfSome r (λ n. (take k bs ≡ decimal n) × (n < 2 ^ 64))
     → IfSome r (λ n. (bs ≡ to_left (length bs) (decimal n)) × (n < 2 ^ 64))

@@ -12,7 +12,7 @@ appends_two (Some x) None c xs ys h k = absurd h
 appends_two (Some x) (Some y) None xs ys h k = absurd k
 appends_two (Some x) (Some y) (Some z) xs ys h k = k ∙ ap (λ l. l ++ ys) h ∙ append_assoc x xs ys
 
-appends_kept : (a b c : Option (List ℕ)) (xs : List ℕ) → Appends a b xs → Keeps b c → Appends a c xs
+pub appends_kept : (a b c : Option (List ℕ)) (xs : List ℕ) → Appends a b xs → Keeps b c → Appends a c xs
 appends_kept None b c xs h k = tt
 appends_kept (Some x) None c xs h k = absurd h
 appends_kept (Some x) (Some y) None xs h k = absurd k

@@ -3,8 +3,9 @@ use Rattle.std.proofs.Common.{ℕ, zero, suc, ◌≡◌, ◌+◌, ◌-◌, ◌<�
 use Rattle.std.specs.List.{prefix_len}
 use Rattle.std.specs.Fmt.{decimal}
 use Rattle.reg_text.specs.Columns.{to_right}
-use Rattle.std.proofs.lemmas.List.{length-append, length-replicate, length-drop, take_all}
+use Rattle.std.proofs.lemmas.List.{length-append, length-replicate}
 use Rattle.reg_text.proofs.Decimals.{plain_decimal, first_is}
+use Rattle.reg_text.proofs.Parts.{rest_of}
 
 abbrev pub is_space : ℕ → Bool
 is_space b = b == 32
@@ -44,11 +45,7 @@ right_whole bs k n small spaces e =
     let P : List ℕ → Type 0 = λ l. drop (prefix_len is_space l) l ≡ decimal n in
     rw spaces (subst P (sym e) (past_spaces (length bs - length (decimal n)) (decimal n) (plain_decimal n small).0 (no_space n small)))
 
--- what stands past the spaces, as a slice to the end
-pub past : (bs : List ℕ) (k : ℕ) → take (length bs - k) (drop k bs) ≡ drop k bs
-past bs k = take_all (length bs - k) (drop k bs) (omega (arith, length-drop k bs))
-
 pub column_read : (r : Option ℕ) (bs : List ℕ) (k : ℕ) → k ≡ prefix_len is_space bs → IfSome r (λ n. (take (length bs - k) (drop k bs) ≡ decimal n) × (n < 2 ^ 64))
     → IfSome r (λ n. (bs ≡ to_right (length bs) (decimal n)) × (n < 2 ^ 64))
 column_read None bs k spaces h = tt
-column_read (Some n) bs k spaces h = (right_read bs k n spaces (sym (past bs k) ∙ h.0), h.1)
+column_read (Some n) bs k spaces h = (right_read bs k n spaces (sym (rest_of bs k) ∙ h.0), h.1)

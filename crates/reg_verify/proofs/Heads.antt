@@ -16,6 +16,7 @@ use Rattle.reg_text.specs.declared.faults.Why.TheVariants.{Form, Range, Name, En
 use Rattle.reg_inputs.specs.LineForms.{is_front_form}
 use Rattle.reg_verify.specs.RecordLines.{Account, IsAccount, account_lines}
 use Rattle.reg_verify.specs.Refusals.{IsBegun, IsFirstWrong}
+use Rattle.reg_inputs.proofs.Heads.{no_memory, same_why}
 
 -- a record with no steps
 abbrev account_of : Front → ℕ → List (List ℕ) → Account
@@ -65,12 +66,6 @@ two_begun front = begun front 1 2 one_name (lit< tt) (lit≤ tt) one_is_spelt (f
 
 three_begun : (front : Front) (processes : ℕ) → 0 < processes → processes ≤ MOST_PROCESSES → IsBegun (first_line ∷ front_line front ∷ processes_line processes ∷ [])
 three_begun front processes some few = begun front processes 3 one_name some few one_is_spelt (first_line ∷ front_line front ∷ processes_line processes ∷ []) refl
-
-same_why : (n : ℕ) (a b : Why) → Line n a ≡ Line n b → a ≡ b
-same_why n a b e = cc
-
-no_memory : {A : Type 0} (n : ℕ) (a : Why) → Line n a ≡ OutOfMemory → A
-no_memory n a e = absurd (cc)
 
 -- the line that a reader stops at, with the reason
 abbrev pub Refused : List (List ℕ) → List (List ℕ) → Why → Type 0

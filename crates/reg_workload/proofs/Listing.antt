@@ -15,12 +15,7 @@ use Rattle.reg_front.specs.declared.starts.Start.{Start}
 use Rattle.reg_workload.specs.declared.choices.Choice.{Choice}
 use Rattle.reg_workload.specs.Plays.{Playing, may_call, next_frame, next_at, script_of, pending_at}
 use Rattle.reg_workload.specs.PlayParts.{IsReadyToCall, IsChoice, AreChoices, AllStill}
-
--- what stands in a part, and after it
-pub part_at : {X : Type 0} (xs ys : List X) (k : ℕ) (c : X) → slice_get xs k ≡ Some c → slice_get (xs ++ ys) k ≡ Some c
-part_at [] ys k c e = absurd (cc)
-part_at (x ∷ xs) ys zero c e = e
-part_at (x ∷ xs) ys (suc k) c e = part_at xs ys k c e
+use Rattle.reg_world.proofs.lists.Bodies.{place_first}
 
 pub behind_at : {X : Type 0} (xs ys : List X) (k : ℕ) → slice_get (xs ++ ys) (length xs + k) ≡ slice_get ys k
 behind_at [] ys k = let z : 0 + k ≡ k = omega arith in ap (slice_get ys) z
@@ -37,7 +32,7 @@ first_at : {X : Type 0} (f : ℕ → List X) (m n k : ℕ) (c : X) → m ≤ n �
 first_at f m zero k c l e = let z : zero ≡ m = omega (arith, l) in ap (λ j. slice_get (flat_map f (range_with_len 0 j)) k) z ∙ e
 first_at f m (suc n) k c l e = elim (cases_lt n m) [
   | inl less ↦ let z : suc n ≡ m = omega (arith, l, less) in ap (λ j. slice_get (flat_map f (range_with_len 0 j)) k) z ∙ e
-  | inr other ↦ ap (λ xs. slice_get xs k) (flat_suc f n) ∙ part_at (flat_map f (range_with_len 0 n)) (f n) k c (first_at f m n k c (omega (arith, other)) e)
+  | inr other ↦ ap (λ xs. slice_get xs k) (flat_suc f n) ∙ place_first (flat_map f (range_with_len 0 n)) (f n) k c (first_at f m n k c (omega (arith, other)) e)
 ]
 
 -- a choice of one process stands after those of the processes before it
@@ -61,14 +56,14 @@ module _ (start : Op → ℕ → Start) (s : Playing) where
   -- calls come first, then takes, then ticks
   pub at_call : (k : ℕ) (c : Choice) → slice_get (call_choices start s s.made.processes) k ≡ Some c → slice_get (choices_of start s) k ≡ Some c
   unfolding choices_of
-  at_call k c e = part_at (call_choices start s s.made.processes ++ take_choices start s s.made.processes) (tick_choices start s s.made.processes) k c (part_at (call_choices start s s.made.processes) (take_choices start s s.made.processes) k c e)
+  at_call k c e = place_first (call_choices start s s.made.processes ++ take_choices start s s.made.processes) (tick_choices start s s.made.processes) k c (place_first (call_choices start s s.made.processes) (take_choices start s s.made.processes) k c e)
 
   pub at_take : (j k : ℕ) (c : Choice) → k ≡ length (call_choices start s s.made.processes) + j → slice_get (take_choices start s s.made.processes) j ≡ Some c → slice_get (choices_of start s) k ≡ Some c
   unfolding choices_of
   at_take j k c e at =
       let calls = call_choices start s s.made.processes in
       let takes = take_choices start s s.made.processes in
-      part_at (calls ++ takes) (tick_choices start s s.made.processes) k c (ap (slice_get (calls ++ takes)) e ∙ (behind_at calls takes j ∙ at))
+      place_first (calls ++ takes) (tick_choices start s s.made.processes) k c (ap (slice_get (calls ++ takes)) e ∙ (behind_at calls takes j ∙ at))
 
   pub at_tick : (i j k : ℕ) (o : Option Choice) → k ≡ length (call_choices start s s.made.processes) + j → j ≡ length (take_choices start s s.made.processes) + i → slice_get (tick_choices start s s.made.processes) i ≡ o → slice_get (choices_of start s) k ≡ o
   unfolding choices_of

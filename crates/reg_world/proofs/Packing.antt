@@ -3,7 +3,6 @@ use Rattle.std.proofs.Common.{◌≡◌, ℕ, zero, suc, ◌<◌, List, [], ◌�
 use Rattle.std.specs.Prelude.{slice_get, option_map, OnOk, OnErr}
 use Rattle.std.proofs.lemmas.Bool.{cases_eq}
 use Rattle.std.proofs.lemmas.List.{get_or-take, map-set, map_push, get_or-map, get_or-set_same, get_or-set_other, length-map}
-use Rattle.std.proofs.lemmas.Option.{same_Some}
 use Rattle.reg_base.specs.Order.{In}
 use Rattle.reg_base.proofs.Lists.{in_cases}
 use Rattle.reg_frames.specs.declared.bodies.Body.TheVariants.{Ack}
@@ -91,11 +90,6 @@ pub got_mapped : {X Y : Type 0} (f : X → Y) (xs : List X) (n : ℕ) → slice_
 got_mapped f [] n = refl
 got_mapped f (x ∷ xs) zero = refl
 got_mapped f (x ∷ xs) (suc n) = got_mapped f xs n
-
-pub in_got : {X : Type 0} (xs : List X) (n : ℕ) (x : X) → slice_get xs n ≡ Some x → In x xs
-in_got [] n x e = absurd cc
-in_got (y ∷ xs) zero x e = inl (sym (same_Some y x e))
-in_got (y ∷ xs) (suc n) x e = inr (in_got xs n x e)
 
 pub frame_found : (k : Kept) (strips : List (List Slot)) (wires : List (List Frame)) (r to number : ℕ) (strip : List Slot) (s : Slot) (f : Frame) → frames_on k strips ≡ wires → r ≡ to → strip ≡ get_or strips r []
     → Some s ≡ slice_get strip number → f ≡ frame_of k s → Some f ≡ slice_get (get_or wires to []) number

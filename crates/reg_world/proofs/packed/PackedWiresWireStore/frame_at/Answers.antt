@@ -1,14 +1,15 @@
 use Rattle.std.proofs.Common.{[], get_or, refl, sym, ap, ◌∙◌, subst}
 use Rattle.std.specs.Prelude.{slice_get}
 use Rattle.reg_world.specs.Packed.{frame_of, IsKept}
-use Rattle.reg_world.proofs.Packing.{in_got, frame_found, none_found}
+use Rattle.reg_world.proofs.Packing.{frame_found, none_found}
 use Rattle.reg_world.proofs.packed.PackedWiresWireStore.frame_at.Goals as goal
+use Rattle.reg_world.proofs.lists.Bodies.{place_in}
 
 pub frame-requires : goal.frame-requires
 frame-requires g c =
     let strip = get_or c.self.inside.strips c.from.result [] in
     let word = c.in-Some.word in
-    subst (IsKept c.self.inside.tables) (sym c.unpack.ensures) (c.self.invariant c.from.result word (in_got strip c.args.number word (sym {b = slice_get strip c.args.number} c.in-Some.ensures)))
+    subst (IsKept c.self.inside.tables) (sym c.unpack.ensures) (c.self.invariant c.from.result word (place_in strip c.args.number word (sym {b = slice_get strip c.args.number} c.in-Some.ensures)))
 
 pub returns-in-Some : goal.returns-in-Some
 returns-in-Some g c =
