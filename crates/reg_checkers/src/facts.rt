@@ -17,6 +17,6 @@ pub struct Fact {
     pub called: u32,
     /// None while it runs.
     pub answered: Option<Given>,
-    /// Whether the operation stands in the order that is checked.
+    /// Whether the operation is marked as standing in an order.
     pub stands: bool,
 }

@@ -102,7 +102,11 @@ fn empty_rows<A: Allocator + Copy>(
     Ok(rows)
 }
 
-/// The facts of all operations of a history.
+/// The facts of all operations of a history, by process and number. None is marked as standing in an order.
+///
+/// # Errors
+///
+/// Memory was refused.
 pub fn table_of<A: Allocator + Copy>(
     alloc: A,
     shape: Shape,
