@@ -2,6 +2,7 @@
 use crate::clusters::Cluster;
 use crate::couriers::Courier;
 use crate::gates::Gate;
+use crate::halts::halt;
 use crate::pacers::Pacer;
 use crate::roads::Road;
 use reg_front::FrontEnd;
@@ -14,7 +15,7 @@ use std::time::Clock;
 /// A thread of a cluster. It is joined only after Stop (`Halted::join`).
 #[derive(Drop)]
 pub(crate) struct Worker<T> {
-    handle: JoinHandle<T>,
+    pub(crate) handle: JoinHandle<T>,
 }
 
 /// Starts a courier over the road.
@@ -53,54 +54,37 @@ pub(crate) fn pace<
     }
 }
 
-/// Starts each courier. Those that were started are in the list, also where one could not be.
-pub(crate) fn carry_all<
-    F: FrontEnd + Send + Sync + 'static,
-    G: Gate + Drop + Send + Sync + 'static,
-    P: Road + Drop + Send + Sync + 'static,
-    R: Threads + Wait + Copy + Send + Sync + 'static,
->(
-    rt: R,
-    handles: &mut Vec<Worker<Courier<F, G>>>,
-    couriers: Vec<Courier<F, G>>,
-    road: &Arc<P>,
-) -> Result<(), AllocError> {
-    for courier in couriers {
-        handles.reserve(1)?;
-        handles.push_reserved(carry(rt, courier, Arc::try_clone(road)?)?);
-    }
-    Ok(())
+/// The threads of a cluster that is being started. They can't be let go: they become those of a running cluster, or are
+/// disbanded.
+pub(crate) struct Crew<F: FrontEnd, G> {
+    pub(crate) couriers: Vec<Worker<Courier<F, G>>>,
+    pub(crate) pacer: Worker<Pacer<F, G>>,
 }
 
-/// A token: Stop was sent to all threads of a cluster, so that they end.
-#[derive(Drop)]
-pub(crate) struct Halted(());
-
-/// Sends Stop until memory is there for it.
-pub(crate) fn halt<F: FrontEnd, G: Gate, R: Wait>(rt: &R, cluster: &Cluster<F, G>) -> Halted {
-    for _ in rt.forever() {
-        if cluster.stop(rt).is_ok() {
-            break;
-        }
-    }
-    Halted(())
-}
-
-impl Halted {
-    /// Waits until a thread is done.
-    pub(crate) fn join<T, R: Threads + Wait>(&self, rt: &R, worker: Worker<T>) -> T {
-        let Worker { handle } = worker;
-        handle.join(rt)
-    }
-
-    /// Waits until the couriers are done.
-    pub(crate) fn join_all<F: FrontEnd, G: Gate + Drop, R: Threads + Wait>(
-        &self,
-        rt: &R,
-        couriers: Vec<Worker<Courier<F, G>>>,
-    ) {
+impl<F: FrontEnd + Send + Sync + 'static, G: Gate + Drop + Send + Sync + 'static> Crew<F, G> {
+    /// Starts each courier. Those that were started belong to the crew, also where one could not be.
+    pub(crate) fn start<
+        P: Road + Drop + Send + Sync + 'static,
+        R: Threads + Wait + Copy + Send + Sync + 'static,
+    >(
+        &mut self,
+        rt: R,
+        couriers: Vec<Courier<F, G>>,
+        road: &Arc<P>,
+    ) -> Result<(), AllocError> {
         for courier in couriers {
-            drop(self.join(rt, courier));
+            self.couriers.reserve(1)?;
+            self.couriers
+                .push_reserved(carry(rt, courier, Arc::try_clone(road)?)?);
         }
+        Ok(())
+    }
+
+    /// Gives notice to all threads of the cluster, and waits until those of the crew are done.
+    pub(crate) fn disband<R: Threads + Wait>(self, rt: &R, cluster: &Cluster<F, G>) {
+        let Crew { couriers, pacer } = self;
+        let halted = halt(rt, cluster);
+        halted.join_all(rt, couriers);
+        drop(halted.join(rt, pacer));
     }
 }

@@ -1,5 +1,5 @@
 //! A road that loses, repeats and reorders parcels.
-ghost use Rattle.std.specs.Prelude.{◌≡◌};
+ghost use Rattle.std.specs.Prelude.{◌≡◌, IfSome, None, false};
 ghost use Rattle.reg_live.specs.Fates.{fate_of, IsSorted};
 ghost use Rattle.reg_base.specs.Words.{says};
 
@@ -45,7 +45,10 @@ pub(crate) struct Sorted {
 }
 
 /// A copy of a parcel where it is put twice. It is lost where memory is refused.
-fn copy_of(parcel: &Parcel, twice: bool) -> Option<Parcel> {
+fn copy_of(parcel: &Parcel, twice: bool) -> Option<Parcel>
+    ensures same { IfSome result (λ copy. (copy.from ≡ parcel.now.from) × (copy.to ≡ parcel.now.to) × (copy.bytes.items ≡ parcel.now.bytes.items)) }
+    ensures once { twice ≡ false → result ≡ None }
+{
     if !twice {
         return None;
     }

@@ -5,8 +5,9 @@ ghost use Rattle.reg_live.specs.Passes.{IsLived, AreOneEach, AreOwn, AreNew, Res
 use crate::closing::{Closed, close_in};
 use crate::clusters::{Cluster, Parts, set_up};
 use crate::couriers::Courier;
-use crate::crews::{Worker, carry_all, halt, pace};
+use crate::crews::{Crew, Worker, pace};
 use crate::gates::Gate;
+use crate::halts::halt;
 use crate::pacers::Pacer;
 use crate::passes::Pass;
 use crate::roads::Road;
@@ -123,18 +124,18 @@ fn run_parts<
 ) -> Result<Running<F, G>, StartFault>
     ensures { IfOk result (λ running. running ≡ cluster) }
 {
-    let pacer = pace(rt, pacer)?;
-    let mut carriers = Vec::new(alloc);
-    let started = carry_all(rt, &mut carriers, couriers, road);
-    if started.is_err() {
-        let halted = halt(&rt, &cluster);
-        halted.join_all(&rt, carriers);
-        drop(halted.join(&rt, pacer));
+    let mut crew = Crew {
+        couriers: Vec::new(alloc),
+        pacer: pace(rt, pacer)?,
+    };
+    if crew.start(rt, couriers, road).is_err() {
+        crew.disband(&rt, &cluster);
         return Err(StartFault::OutOfMemory);
     }
+    let Crew { couriers, pacer } = crew;
     Ok(Running {
         cluster,
-        couriers: carriers,
+        couriers,
         pacer,
     })
 }

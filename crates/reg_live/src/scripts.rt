@@ -1,7 +1,7 @@
 //! The scripts of a cluster, each performed by a thread of its own.
 ghost use Rattle.std.specs.Prelude.{◌≡◌, List, [], None, Ok, true, IfOk, OnOk, map, vec_len};
 ghost use Rattle.reg_base.specs.declared.memory.Op.{Op};
-ghost use Rattle.reg_live.specs.Passes.{IsLived, RespectTime, AreNew};
+ghost use Rattle.reg_live.specs.Passes.{IsLived, RespectTime, RespectUpdates, AreNew};
 ghost use Rattle.reg_live.specs.Scripts.{IsPerformed, IsBack, AreStarted, ArePerformed, ops_of};
 
 use crate::closing::Closed;
@@ -200,6 +200,7 @@ fn close_ended<F: FrontEnd, R: Threads + Wait, W: WireStore<Global>>(
 ) -> Result<Closed<F, W>, RunStop>
     ensures lived { IfOk result (λ c. IsLived F.start running (map (λ v. v.items) c.receipts.items) c.world) }
     ensures time { IfOk result (λ c. RespectTime c.world.registers c.world.history (map (λ v. v.items) c.receipts.items)) }
+    ensures updates { IfOk result (λ c. RespectUpdates F.start c.world.history (map (λ v. v.items) c.receipts.items)) }
     ensures performed { IfOk result (λ c. (scripts : List (List Op)) → ArePerformed scripts passes.items → map ops_of (map (λ v. v.items) c.receipts.items) ≡ scripts) }
 {
     match running.close_in(rt, alloc, passes) {
@@ -231,6 +232,7 @@ fn end<F: FrontEnd, R: Threads + Wait, W: WireStore<Global>>(
     ensures all { OnOk result (all ≡ true) }
     ensures lived { IfOk result (λ c. IsLived F.start running (map (λ v. v.items) c.receipts.items) c.world) }
     ensures time { IfOk result (λ c. RespectTime c.world.registers c.world.history (map (λ v. v.items) c.receipts.items)) }
+    ensures updates { IfOk result (λ c. RespectUpdates F.start c.world.history (map (λ v. v.items) c.receipts.items)) }
     ensures performed { IfOk result (λ c. (scripts : List (List Op)) → AreStarted scripts (map (λ h. (h.promise.process, h.promise.script.value.items)) callers.items) → map ops_of (map (λ v. v.items) c.receipts.items) ≡ scripts) }
 {
     let told = join_callers(rt, alloc, callers);
@@ -257,6 +259,7 @@ pub fn run_scripts<
     requires { vec_len scripts ≡ shape.processes }
     ensures lived { IfOk result (λ c. IsLived F.start shape (map (λ v. v.items) c.receipts.items) c.world) }
     ensures time { IfOk result (λ c. RespectTime c.world.registers c.world.history (map (λ v. v.items) c.receipts.items)) }
+    ensures updates { IfOk result (λ c. RespectUpdates F.start c.world.history (map (λ v. v.items) c.receipts.items)) }
     ensures performed { IfOk result (λ c. map ops_of (map (λ v. v.items) c.receipts.items) ≡ map (λ s. s.items) scripts.items) }
 {
     run_scripts_in::<F, R, Wires<Global>>(rt, alloc, shape, scripts)
@@ -275,6 +278,7 @@ pub fn run_scripts_in<
     requires { vec_len scripts ≡ shape.processes }
     ensures lived { IfOk result (λ c. IsLived F.start shape (map (λ v. v.items) c.receipts.items) c.world) }
     ensures time { IfOk result (λ c. RespectTime c.world.registers c.world.history (map (λ v. v.items) c.receipts.items)) }
+    ensures updates { IfOk result (λ c. RespectUpdates F.start c.world.history (map (λ v. v.items) c.receipts.items)) }
     ensures performed { IfOk result (λ c. map ops_of (map (λ v. v.items) c.receipts.items) ≡ map (λ s. s.items) scripts.items) }
 {
     let mut callers = Vec::new(alloc);

@@ -1,5 +1,5 @@
 //! What all threads of a cluster share.
-ghost use Rattle.std.specs.Prelude.{◌≡◌, ◌≤◌, vec_len, IfOk, IfErr};
+ghost use Rattle.std.specs.Prelude.{◌≡◌, ◌≤◌, false, is_some, vec_len, IfOk, IfErr};
 ghost use Rattle.reg_live.specs.Stations.{IsRefusal};
 
 use crate::faults::LiveFault;
@@ -68,7 +68,10 @@ impl<F: FrontEnd> Desk<F> {
 }
 
 /// Whether a section gave an answer.
-fn is_answered(made: &Result<Section, LiveFault>) -> bool {
+fn is_answered(made: &Result<Section, LiveFault>) -> bool
+    ensures made { IfOk made.now (λ section. result ≡ is_some section.reply) }
+    ensures refused { IfErr made.now (λ _. result ≡ false) }
+{
     match made {
         Ok(section) => section.reply.is_some(),
         Err(_) => false,

@@ -1,5 +1,5 @@
 -- When an event is refused. Promises cite it.
-use Rattle.std.specs.Prelude.{ℕ, ◌<◌, ◌≤◌, Bool, true, false, ◌==◌, ◌||◌, nat_lt, nat_le, max, length, Option, Some, None, if◌then◌else◌}
+use Rattle.std.specs.Prelude.{ℕ, ◌≡◌, ◌≢◌, ◌<◌, ◌≤◌, [], Bool, true, false, ◌==◌, ◌||◌, nat_lt, nat_le, max, length, Option, Some, None, if◌then◌else◌}
 use Rattle.reg_base.specs.declared.memory.Op.{Op}
 use Rattle.reg_frames.specs.declared.bodies.Body.{Body}
 use Rattle.reg_frames.specs.declared.bodies.Body.TheVariants.{Cast, Ack}
@@ -11,7 +11,8 @@ use Rattle.reg_process.specs.declared.steps.Step.{Step}
 use Rattle.reg_process.specs.declared.steps.Step.TheVariants.{Call, Take, Tick}
 use Rattle.reg_base.specs.declared.limits.TheConstants.{LAST_TIME, MOST_OPERATIONS}
 use Rattle.reg_base.specs.Memory.{register_of}
-use Rattle.reg_process.specs.Process.{State, Running, peer_at, next_of, seen_at, unsettled, time_of, clear_casts, accepts}
+use Rattle.reg_process.specs.Process.{State, Running, peer_at, next_of, seen_at, unsettled, time_of, clear_casts, accepts, resent}
+use Rattle.reg_process.specs.Puts.{puts}
 use Rattle.reg_process.specs.declared.faults.ProcessFault.{ProcessFault}
 use Rattle.reg_process.specs.declared.faults.ProcessFault.TheVariants.{NoProcess, Busy, NoRegister, TooManyOperations, Ahead, Stale, ClockFull, OutOfMemory}
 
@@ -75,6 +76,12 @@ body_memory s room from (Ack t) = (room == 0) || nat_lt 0 (length (clear_casts (
 abbrev pub takes_memory : State → ℕ → ℕ → Frame → Bool
 takes_memory s room from (Numbered number body) = if number == (peer_at s from).expected then body_memory s room from body else (room == 0)
 takes_memory s room from (Got count) = false
+
+-- Whether a step can be refused memory: a call that is cast, a frame as above, and a tick that puts a frame.
+abbrev pub StepTakesMemory : (Op → ℕ → Start) → State → ℕ → Step → Type 0
+StepTakesMemory start s room (Call op) = is_cast (start op (unsettled s)) ≡ true
+StepTakesMemory start s room (Take from frame) = takes_memory s room from frame ≡ true
+StepTakesMemory start s room Tick = puts (resent s) (length s.peers) ≢ []
 
 abbrev pub take_fault : State → ℕ → Frame → Option ProcessFault
 take_fault s from frame = if nat_le (length s.peers) from || from == s.me then Some NoProcess else frame_fault s from frame

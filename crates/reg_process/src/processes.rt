@@ -3,7 +3,7 @@ ghost use Rattle.std.specs.Prelude.{◌≡◌, ◌≢◌, ℕ, [], length, ◌<�
 ghost use Rattle.reg_process.specs.Process.{next_of, peer_at, pending_of, resent, unsettled};
 ghost use Rattle.reg_process.specs.Parts.{state_of, first_parts};
 ghost use Rattle.reg_process.specs.declared.steps.Step.TheVariants.{Call, Take, Tick};
-ghost use Rattle.reg_process.specs.Faults.{NewRefused, is_cast, takes_memory};
+ghost use Rattle.reg_process.specs.Faults.{NewRefused, StepTakesMemory, is_cast, takes_memory};
 ghost use Rattle.reg_process.specs.Events.{Steps, Refused};
 ghost use Rattle.reg_process.specs.Known.{IsNoPeer, known_of};
 ghost use Rattle.reg_process.specs.Puts.{puts};
@@ -206,11 +206,12 @@ impl<F: FrontEnd, A: Allocator + Copy> Process<F, A> {
         }
     }
 
-    /// Makes a step: a call, a take or a tick, with the faults of each. No clause says when it takes memory.
+    /// Makes a step: a call, a take or a tick, with the faults of each. It takes memory where these do.
     // (in line: it is made at each event, and an outcome handed back by a further call would be copied once more)
     #[inline(always)]
     pub fn step(&mut self, step: &Step) -> Result<Outcome<A>, ProcessFault>
-        ensures { MatchResult result (λ o. Steps F.start self.old step.now o.frames.items o.cast o.delivered.items o.reply self.new) (λ fault. Refused F.start self.old step.now fault self.new) }
+        ensures stepped { MatchResult result (λ o. Steps F.start self.old step.now o.frames.items o.cast o.delivered.items o.reply self.new) (λ fault. Refused F.start self.old step.now fault self.new) }
+        ensures memory { IsErrOf result ProcessFault.OutOfMemory → StepTakesMemory F.start self.old.state self.old.room step.now }
     {
         match *step {
             Step::Call { op } => self.call(op),

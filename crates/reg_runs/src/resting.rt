@@ -14,18 +14,6 @@ use reg_front::FrontEnd;
 use reg_world::{Event, WireStore, World, WorldFault};
 use std::alloc::Allocator;
 
-/// Whether the world has stopped. Nothing changes: there is no process of this number, so its tick is refused.
-fn has_stopped<F: FrontEnd, A: Allocator + Copy, W: WireStore<A>>(
-    world: &mut World<F, A, W>,
-) -> bool
-    ensures value { result ≡ world.old.failed }
-    ensures same { world.new ≡ world.old }
-{
-    let _shape = world.shape();
-    let none = Event::Tick { process: u8::MAX };
-    matches!(world.step(&none), Err(WorldFault::Failed))
-}
-
 /// The number of processes.
 fn processes<F: FrontEnd, A: Allocator + Copy, W: WireStore<A>>(world: &World<F, A, W>) -> u8
     ensures { result ≡ world.now.processes }
@@ -226,7 +214,7 @@ pub fn settle<F: FrontEnd, A: Allocator + Copy, W: WireStore<A>>(
 ) -> Result<u32, SettleFault>
     ensures { MatchResult result (λ count. Settles F.start world.old count world.new) (λ fault. Stops F.start world.old fault world.new) }
 {
-    if has_stopped(world) {
+    if world.has_failed() {
         return Err(SettleFault::Failed);
     }
     // (for the proof: by these getters' contracts the world is the run of its accepted events, and its history theirs)

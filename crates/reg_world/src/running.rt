@@ -230,6 +230,13 @@ impl<F: FrontEnd, A: Allocator + Copy, W: WireStore<A>> World<F, A, W> {
         self.book.history().shape()
     }
 
+    /// Whether it has stopped: it was out of memory, and refuses every event.
+    pub fn has_failed(&self) -> bool
+        ensures { result ≡ self.now.failed }
+    {
+        self.failed
+    }
+
     /// How many events were accepted.
     pub fn events(&self) -> u32
         ensures value { result ≡ length self.now.accepted }

@@ -1,5 +1,4 @@
-use Rattle.std.proofs.Common.{◌≡◌, ◌≢◌, [], List, length, subst, ◌∙◌, ap, sym}
-use Rattle.std.specs.Prelude.{OnErr}
+use Rattle.std.proofs.Common.{◌≢◌, [], List, length, subst, ◌∙◌, ap}
 use Rattle.reg_process.specs.Process.{State, resent}
 use Rattle.reg_process.specs.Parts.{Parts}
 use Rattle.reg_process.specs.Queued.{outs_of}
