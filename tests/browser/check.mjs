@@ -1,6 +1,6 @@
 // The one browser check, which tools/pages runs: the pages of all examples, and a session of the playground.
 import assert from "node:assert/strict";
-import { mkdirSync } from "node:fs";
+import { mkdirSync, readFileSync } from "node:fs";
 import { join } from "node:path";
 import { parseArgs } from "node:util";
 import { Browser } from "./driver.mjs";
@@ -13,7 +13,13 @@ import { triesOfExercises } from "./exercises.mjs";
 import { triesOfSpeed } from "./speed.mjs";
 
 const { values: asked, positionals: words } = parseArgs({ allowPositionals: true,
-  options: { shots: { type: "string", default: "" }, rounds: { type: "string", default: "20" } } });
+  options: { shots: { type: "string", default: "" }, rounds: { type: "string", default: "20" },
+    help: { type: "boolean", short: "h" } } });
+if (asked.help) {
+  const lines = readFileSync(new URL("../../tools/pages", import.meta.url), "utf8").split("\n");
+  console.log(lines.filter(line => line.startsWith("//")).map(line => line.slice(3)).join("\n"));
+  process.exit();
+}
 
 /** What a try came to: nothing, or what is wrong. The browser's errors and requests to elsewhere are wrong too. */
 async function faultOf(attempt, { browser, session, shots }) {
