@@ -1,6 +1,7 @@
 //! Each growth of runs refused in turn: the answer is out of memory, or the one with ample memory.
 use crate::answers::{shown, unless_memory};
-use crate::world_rows::{LINEAR, LOCAL_READ, LOCAL_WRITE, Row};
+use crate::world_rows::Row;
+use crate::worlds::RUNS;
 use refusing::{Trial, refusals};
 use reg_base::Shape;
 use reg_front::{Front, FrontEnd, Linear, LocalRead, LocalWrite};
@@ -128,12 +129,6 @@ impl Trial for Run {
         }
     }
 }
-
-const RUNS: &[(Front, &[Row])] = &[
-    (Front::Linear, LINEAR),
-    (Front::LocalRead, LOCAL_READ),
-    (Front::LocalWrite, LOCAL_WRITE),
-];
 
 /// Refuses each growth of a run, step by step and at once.
 fn demand(alloc: Global, front: Front, row: &Row) -> Result<(), Fail> {

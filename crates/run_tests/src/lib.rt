@@ -29,6 +29,8 @@ mod large_shapes;
 #[cfg(test)]
 mod limits;
 #[cfg(test)]
+mod local_rows;
+#[cfg(test)]
 mod macros;
 pub mod mixed;
 #[cfg(test)]

@@ -64,11 +64,14 @@ macro_rules! answered {
     };
 }
 
-/// The point of the first operation of a process.
+/// The point of an operation of a process: of its first one, where no number is told.
 macro_rules! point {
     ($process:expr, $at:expr) => {
+        point!($process, 0, $at)
+    };
+    ($process:expr, $number:expr, $at:expr) => {
         Point {
-            id: id!($process, 0),
+            id: id!($process, $number),
             at: $at,
         }
     };
@@ -95,13 +98,57 @@ macro_rules! ack {
     };
 }
 
+macro_rules! got {
+    ($count:expr) => {
+        Frame::Got { count: $count }
+    };
+}
+
+/// The first delivery of a cast of this time, at this event.
+macro_rules! first {
+    ($time:expr, $process:expr, $number:expr, $op:expr, $at:expr) => {
+        First {
+            stamp: Stamp {
+                time: $time,
+                process: $process,
+            },
+            id: id!($process, $number),
+            op: $op,
+            at: $at,
+        }
+    };
+}
+
+/// A read of a process's copy, behind this number of casts.
+macro_rules! copy_read {
+    ($process:expr, $number:expr, $place:expr) => {
+        CopyRead {
+            id: id!($process, $number),
+            place: $place,
+        }
+    };
+}
+
+macro_rules! swap_of {
+    ($value:expr) => {
+        Op::Swap {
+            register: 0,
+            value: $value,
+        }
+    };
+}
+
 pub(crate) use ack;
 pub(crate) use answered;
 pub(crate) use call;
 pub(crate) use called;
 pub(crate) use cast;
+pub(crate) use copy_read;
+pub(crate) use first;
+pub(crate) use got;
 pub(crate) use id;
 pub(crate) use point;
+pub(crate) use swap_of;
 pub(crate) use take;
 pub(crate) use tick;
 pub(crate) use write_of;

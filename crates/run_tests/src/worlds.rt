@@ -1,13 +1,14 @@
 //! Runs as worked by hand: what a world tells after its events.
-use crate::macros::{call, tick};
+use crate::local_rows::{LOCAL_READ, LOCAL_WRITE};
+use crate::macros::{call, take, tick};
 use crate::values::WRITE_FIVE;
-use crate::world_rows::{LINEAR, LOCAL_READ, LOCAL_WRITE, Row};
+use crate::world_rows::{LINEAR, Row};
 use reg_base::{OpId, Shape};
 use reg_frames::Frame;
 use reg_front::{Front, FrontEnd, Linear, LocalRead, LocalWrite};
 use reg_history::Point;
 use reg_process::Process;
-use reg_world::{Event, World};
+use reg_world::{Event, RunFault, World, WorldFault};
 use std::alloc::{Allocator, Global};
 
 fn is_copy<F: FrontEnd>(process: &Process<F>, copy: &(u64, u64, bool, u64)) -> bool {
@@ -62,17 +63,38 @@ fn has_order<F: FrontEnd>(world: &World<F>, ids: &[OpId]) -> bool {
     }
 }
 
-/// Whether the world tells what its row says, the points aside.
-fn tells<F: FrontEnd>(world: &World<F>, row: &Row) -> bool {
-    world.shape().processes() == row.processes
-        && world.accepted() == row.events
-        && world.history().entries() == row.history
-        && world.order() == row.casts
-        && world.reads() == row.reads
-        && has_witness(world, row.order)
-        && has_order(world, row.order)
-        && has_copies(world, row.copies)
-        && has_wires(world, row.wires)
+/// The part of its row that the world doesn't tell, the points aside.
+fn differing<F: FrontEnd>(world: &World<F>, row: &Row) -> Option<&'static str> {
+    if world.shape().processes() != row.processes || world.accepted() != row.events {
+        Some("events")
+    } else if world.history().entries() != row.history {
+        Some("history")
+    } else if world.order() != row.casts {
+        Some("casts")
+    } else if world.reads() != row.reads {
+        Some("reads")
+    } else if !has_witness(world, row.order) || !has_order(world, row.order) {
+        Some("order")
+    } else if !has_copies(world, row.copies) {
+        Some("copies")
+    } else if !has_wires(world, row.wires) {
+        Some("wires")
+    } else {
+        None
+    }
+}
+
+/// The part of its row that the world doesn't tell, also behind each event that it refuses.
+fn differing_behind<F: FrontEnd>(world: &mut World<F>, row: &Row) -> Option<&'static str> {
+    for (event, fault) in row.refused {
+        if world.step(event) != Err(*fault) {
+            return Some("refusals");
+        }
+        if let Some(part) = differing(world, row) {
+            return Some(part);
+        }
+    }
+    differing(world, row)
 }
 
 /// Whether the world tells its history with these as its linearization.
@@ -93,65 +115,92 @@ fn has_points(world: &World<Linear>, ids: &[Point]) -> bool {
     }
 }
 
-fn is_right<F: FrontEnd>(alloc: Global, shape: Shape, row: &Row) -> bool {
+fn differing_run<F: FrontEnd>(alloc: Global, shape: Shape, row: &Row) -> Option<&'static str> {
     match World::<F>::run(alloc, shape, row.events) {
-        Ok(world) => tells(&world, row),
-        Err(_) => false,
+        Ok(mut world) => differing_behind(&mut world, row),
+        Err(_) => Some("run"),
     }
 }
 
-fn is_linear_right(alloc: Global, shape: Shape, row: &Row) -> bool {
+fn differing_points(alloc: Global, shape: Shape, row: &Row) -> Option<&'static str> {
     match World::<Linear>::run(alloc, shape, row.events) {
-        Ok(world) => tells(&world, row) && has_points(&world, row.points),
-        Err(_) => false,
+        Ok(world) if has_points(&world, row.points) => None,
+        _ => Some("points"),
     }
 }
 
-/// Whether a world tells after the events of a row what the row says.
-fn is_front_right(alloc: Global, front: Front, row: &Row) -> bool {
+/// The part of a row that a world doesn't tell after its events.
+fn differing_front(alloc: Global, front: Front, row: &Row) -> Option<&'static str> {
     let Ok(shape) = Shape::new(row.processes, 1) else {
-        return false;
+        return Some("shape");
     };
     match front {
-        Front::Linear => is_linear_right(alloc, shape, row),
-        Front::LocalRead => is_right::<LocalRead>(alloc, shape, row),
-        Front::LocalWrite => is_right::<LocalWrite>(alloc, shape, row),
+        Front::Linear => differing_run::<Linear>(alloc, shape, row).or(differing_points(
+            alloc, shape, row,
+        )),
+        Front::LocalRead => differing_run::<LocalRead>(alloc, shape, row),
+        Front::LocalWrite => differing_run::<LocalWrite>(alloc, shape, row),
     }
 }
 
-#[test]
-fn linear_runs(rt: HostRuntime) {
-    for row in LINEAR {
-        assert!(rt; is_front_right(rt.alloc(), Front::Linear, row));
-    }
-}
+/// The runs of each front end.
+pub(crate) const RUNS: &[(Front, &[Row])] = &[
+    (Front::Linear, LINEAR),
+    (Front::LocalRead, LOCAL_READ),
+    (Front::LocalWrite, LOCAL_WRITE),
+];
 
 #[test]
-fn local_runs(rt: HostRuntime) {
-    for row in LOCAL_READ {
-        assert!(rt; is_front_right(rt.alloc(), Front::LocalRead, row));
-    }
-    for row in LOCAL_WRITE {
-        assert!(rt; is_front_right(rt.alloc(), Front::LocalWrite, row));
+fn worlds_tell_what_was_worked_by_hand(rt: HostRuntime) {
+    for (front, rows) in RUNS {
+        for row in *rows {
+            let part = differing_front(rt.alloc(), *front, row);
+            assert!(rt; part.is_none(), "{}: {part:?}", row.name);
+        }
     }
 }
 
 const CALL: Event = call!(0, WRITE_FIVE);
 
+const TAKE: Event = take!(0, 1, 0);
+
 const TICK: Event = tick!(1);
 
-/// Whether the world accepted the call, and goes on with a tick.
+/// Whether the world accepted the call and the take, and goes on with a tick.
 fn goes_on(world: &mut World<Linear>) -> bool {
-    world.accepted() == [CALL].as_slice()
+    world.accepted() == [CALL, TAKE].as_slice()
         && world.step(&TICK) == Ok(())
-        && world.accepted() == [CALL, TICK].as_slice()
+        && world.accepted() == [CALL, TAKE, TICK].as_slice()
+        && world.history().entries().len() == 1
+}
+
+/// A list of events, and the refusal of the run that keeps it.
+const OWNED: &[(&[Event], Option<RunFault>)] = &[
+    (&[CALL, TAKE], None),
+    (
+        &[CALL, CALL, TAKE],
+        Some(RunFault {
+            at: 1,
+            fault: WorldFault::Busy,
+        }),
+    ),
+];
+
+/// Whether the run that keeps this list is refused so, or goes on behind its list.
+fn runs_so(alloc: Global, shape: Shape, events: &[Event], fault: Option<RunFault>) -> bool {
+    let Ok(list) = events.to_vec(alloc) else {
+        return false;
+    };
+    match World::<Linear>::run_owned(alloc, shape, list) {
+        Ok(mut world) => fault.is_none() && goes_on(&mut world),
+        Err(refused) => fault == Some(refused),
+    }
 }
 
 #[test]
 fn a_run_goes_on_behind_its_list(rt: HostRuntime) {
     let shape = Shape::new(2, 1).expect(&rt, "a shape");
-    let events = vec![in rt.alloc(); CALL].expect(&rt, "memory");
-    let made = World::<Linear>::run_owned(rt.alloc(), shape, events);
-    let mut world = made.expect(&rt, "a world");
-    assert!(rt; goes_on(&mut world));
+    for (events, fault) in OWNED {
+        assert!(rt; runs_so(rt.alloc(), shape, events, *fault), "{fault:?}");
+    }
 }
