@@ -130,17 +130,50 @@ impl Trial for Run {
     }
 }
 
-/// Refuses each growth of a run, step by step and at once.
+/// A linear run of all events at once, and then its points.
+#[derive(Clone, Copy)]
+struct Pointed {
+    shape: Shape,
+    events: &'static [Event],
+}
+
+/// The points of a world. None where memory is refused.
+fn told_points<A: Allocator + Copy>(
+    ample: Global,
+    world: &World<Linear, A>,
+) -> Result<Option<String>, Fail> {
+    match world.points() {
+        Ok(points) => shown(ample, &points.as_slice()),
+        Err(_) => Ok(None),
+    }
+}
+
+impl Trial for Pointed {
+    fn answer<A: Allocator + Copy>(&self, alloc: A, ample: Global) -> Result<Option<String>, Fail> {
+        match World::<Linear, A>::run(alloc, self.shape, self.events) {
+            Ok(world) => told_points(ample, &world),
+            Err(RunFault { at: _, fault }) => {
+                unless_memory(fault, fault == WorldFault::OutOfMemory)
+            }
+        }
+    }
+}
+
+/// Refuses each growth of a run, step by step and at once, and of its points where it is linear.
 fn demand(alloc: Global, front: Front, row: &Row) -> Result<(), Fail> {
+    let (shape, events) = (Shape::new(row.processes, 1)?, row.events);
     let mut run = Run {
         front,
-        shape: Shape::new(row.processes, 1)?,
-        events: row.events,
+        shape,
+        events,
         at_once: false,
     };
     refusals(&run, alloc)?;
     run.at_once = true;
     refusals(&run, alloc)?;
+    if front == Front::Linear {
+        refusals(&Pointed { shape, events }, alloc)?;
+    }
     Ok(())
 }
 

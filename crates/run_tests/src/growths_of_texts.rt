@@ -1,6 +1,6 @@
 //! Each growth of what is read and played refused in turn: the answer is out of memory, or the one with ample memory.
 use crate::answers::{shown, unless_memory};
-use crate::plays::SMALL;
+use crate::plays::{LOSSY, small_with};
 use refusing::{Trial, refusals};
 use reg_front::LocalWrite;
 use reg_inputs::read_table;
@@ -42,7 +42,7 @@ fn play_told<A: Allocator + Copy>(
     )
 }
 
-/// The fair play of the small workload, or its seeded one.
+/// The fair play of the small workload, or a seeded one with loss.
 fn play<A: Allocator + Copy>(
     alloc: A,
     work: &Workload<A>,
@@ -72,7 +72,8 @@ fn played<A: Allocator + Copy>(
     ample: Global,
     fair: bool,
 ) -> Result<Option<String>, Fail> {
-    let table = read_table(ample, SMALL)?;
+    let document = small_with(ample, LOSSY)?;
+    let table = read_table(ample, document.as_str())?;
     match Workload::from_table(alloc, &table) {
         Ok(work) => work_told(alloc, ample, &work, fair),
         Err(fault) => unless_memory(fault, fault == WorkloadFault::OutOfMemory),

@@ -31,6 +31,8 @@ mod limits;
 #[cfg(test)]
 mod local_rows;
 #[cfg(test)]
+mod lossy_plays;
+#[cfg(test)]
 mod macros;
 pub mod mixed;
 #[cfg(test)]

@@ -1,8 +1,9 @@
-//! The limits of a run.
+//! The limits of a run and of a process.
 use crate::macros::{call, tick};
-use crate::values::WRITE_FIVE;
+use crate::values::{READ, WRITE_FIVE};
 use reg_base::Shape;
-use reg_front::Linear;
+use reg_front::{Linear, LocalRead};
+use reg_process::{Process, ProcessFault};
 use reg_world::{Event, World, WorldFault};
 
 /// An event, how often a world of one process accepts it, and why not once more.
@@ -28,4 +29,21 @@ fn a_run_has_so_many_operations_and_events(rt: HostRuntime) {
         let mut world = World::<Linear>::new(rt.alloc(), shape).expect(&rt, "memory");
         assert!(rt; accepts(&mut world, event, *count, *fault));
     }
+}
+
+/// Whether a new process calls 65,535 reads, and no more, and goes on.
+fn calls_enough(process: &mut Process<LocalRead>) -> bool {
+    for _read in 0..65_535u32 {
+        if process.call(READ).is_err() {
+            return false;
+        }
+    }
+    process.call(READ).err() == Some(ProcessFault::TooManyOperations) && process.tick().is_ok()
+}
+
+#[test]
+fn operations_end(rt: HostRuntime) {
+    let shape = Shape::new(1, 1).expect(&rt, "a shape");
+    let mut process = Process::<LocalRead>::new(rt.alloc(), shape, 0).expect(&rt, "a process");
+    assert!(rt; calls_enough(&mut process));
 }

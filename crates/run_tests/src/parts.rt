@@ -2,6 +2,7 @@
 mod bases;
 mod documents;
 mod frames;
+mod fronts;
 mod growths;
 mod holdbacks;
 mod links;
@@ -9,5 +10,6 @@ mod orders;
 mod processes;
 mod refusals;
 mod reports;
+mod tellings;
 mod texts;
 mod traces;

@@ -1,18 +1,18 @@
-//! Plays of a small workload.
+//! Plays of a small workload: how they end, and the words of seeds.
 use reg_front::LocalWrite;
-use reg_workload::{Play, Words, Workload, play_fair, play_seeded};
+use reg_workload::{Play, SeedWords, Words, Workload, play_fair, play_seeded};
 use std::alloc::{AllocError, Global};
 
 /// A write and a read at process 0, and a read at process 1.
 pub(crate) const SMALL: &str =
     "front = \"local-write\"\nregisters = [\"x\"]\nscripts = [[\"write x 5\", \"read x\"], [\"read x\"]]\n";
 
-/// After how many events a play is finished. None where it isn't.
-fn finished_after(made: Result<Play<LocalWrite>, AllocError>) -> Option<u32> {
-    match made {
-        Ok(play) => play.finished.then_some(play.world.events()),
-        Err(_) => None,
-    }
+/// The lines with which one frame of five is lost, and one of five can be taken again.
+pub(crate) const LOSSY: &str = "loss = 20\nrepeat = 20\n";
+
+/// The document of the small workload, with these lines more.
+pub(crate) fn small_with(alloc: Global, lines: &str) -> Result<String, AllocError> {
+    format!(in alloc; "{SMALL}{lines}")
 }
 
 /// A source of words of a user's own, which gives 0 each time.
@@ -27,29 +27,90 @@ impl Words for Noughts {
     }
 }
 
-/// Whether the fair play of a workload is finished after seven events, or its play by noughts after some number.
-fn is_finished(alloc: Global, work: &Workload, fair: bool) -> bool {
-    if fair {
-        finished_after(play_fair(alloc, work)) == Some(7)
-    } else {
-        finished_after(play_seeded(alloc, work, Noughts {})).is_some()
+/// Where a play takes its events from.
+#[derive(Clone, Copy, Debug)]
+enum Source {
+    Turns,
+    Noughts,
+    Seed(u64),
+}
+
+/// Lines of a workload beside those of the small one, where its play takes its events from, whether it is finished, and
+/// after how many events. Where a play of noughts can call, it does, and else it takes the first frame that it can.
+const ENDS: &[(&str, Source, bool, u32)] = &[
+    ("", Source::Turns, true, 7),
+    ("", Source::Noughts, true, 7),
+    ("budget = 7\n", Source::Turns, true, 7),
+    ("budget = 3\n", Source::Turns, false, 3),
+    ("budget = 3\n", Source::Noughts, false, 3),
+    ("budget = 2\n", Source::Seed(0), false, 2),
+];
+
+/// Whether a play is finished, and after how many events. None where memory is refused.
+fn end_of(made: Result<Play<LocalWrite>, AllocError>) -> Option<(bool, u32)> {
+    match made {
+        Ok(play) => Some((play.finished, play.world.events())),
+        Err(_) => None,
     }
 }
 
-/// Whether the small workload is read, and its fair play, or its play by noughts, is finished so.
-fn is_small_finished(alloc: Global, fair: bool) -> bool {
-    match Workload::from_toml(alloc, SMALL) {
-        Ok(work) => is_finished(alloc, &work, fair),
-        Err(_) => false,
+/// How the play of a workload ends.
+fn end_of_work(alloc: Global, work: &Workload, source: Source) -> Option<(bool, u32)> {
+    match source {
+        Source::Turns => end_of(play_fair(alloc, work)),
+        Source::Noughts => end_of(play_seeded(alloc, work, Noughts {})),
+        Source::Seed(seed) => end_of(play_seeded(alloc, work, SeedWords::new(seed))),
+    }
+}
+
+/// How the play of the small workload with these lines more ends.
+fn end_of_small(alloc: Global, lines: &str, source: Source) -> Option<(bool, u32)> {
+    let text = small_with(alloc, lines).ok()?;
+    match Workload::from_toml(alloc, text.as_str()) {
+        Ok(work) => end_of_work(alloc, &work, source),
+        Err(_) => None,
     }
 }
 
 #[test]
-fn a_fair_play_takes_turns(rt: HostRuntime) {
-    assert!(rt; is_small_finished(rt.alloc(), true));
+fn plays_end_as_worked_by_hand(rt: HostRuntime) {
+    for (lines, source, finished, events) in ENDS {
+        let end = end_of_small(rt.alloc(), lines, *source);
+        assert!(rt;
+            end == Some((*finished, *events)),
+            "{source:?} {lines}: {end:?}"
+        );
+    }
 }
 
+/// Seeds, and the first words of each, as another program gives them.
+const WORDS: &[(u64, [u32; 4])] = &[
+    (0, [298_703_107, 4_236_525_527, 336_081_875, 1_056_616_254]),
+    (1, [866_585_574, 2_109_535_214, 3_403_630_417, 296_513_984]),
+    (2, [663_514_024, 4_050_668_357, 535_747_897, 1_254_972_678]),
+    (
+        7,
+        [2_442_223_337, 414_063_806, 2_743_600_285, 3_524_868_804],
+    ),
+    (
+        9,
+        [3_429_093_174, 673_120_095, 3_444_530_991, 1_995_233_291],
+    ),
+    (
+        4_294_967_296,
+        [2_453_921_566, 4_255_440_720, 3_139_794_758, 1_567_179_675],
+    ),
+    (
+        9_223_372_036_854_775_807,
+        [3_391_299_319, 3_225_704_766, 1_847_434_698, 1_449_080_491],
+    ),
+];
+
 #[test]
-fn words_of_a_users_own_make_a_play(rt: HostRuntime) {
-    assert!(rt; is_small_finished(rt.alloc(), false));
+fn seeds_have_their_words(rt: HostRuntime) {
+    for (seed, words) in WORDS {
+        let mut source = SeedWords::new(*seed);
+        let drawn = [source.word(), source.word(), source.word(), source.word()];
+        assert!(rt; drawn == *words, "{seed}: {drawn:?}");
+    }
 }

@@ -40,25 +40,32 @@ fn events_are_refused(rt: HostRuntime) {
     }
 }
 
-/// Adds one read more than a process may call.
-fn add_too_many_reads(text: &mut String) -> Result<(), AllocError> {
-    for _read in 0..65_536u32 {
-        text.push_str("call 0 read x\n")?;
+/// Adds an event `count` times.
+fn add_events(text: &mut String, event: &str, count: u32) -> Result<(), AllocError> {
+    for _event in 0..count {
+        text.push_str(event)?;
     }
     Ok(())
 }
 
-/// Whether a schedule of one process with one read too many is refused at the last one.
-fn is_last_refused(alloc: Global) -> bool {
-    let given = Given::Refused("event 65535: too many operations\n");
-    let mut reads = String::new(alloc);
-    add_too_many_reads(&mut reads).is_ok()
-        && gives(alloc, Command::Replay, (IDLE, reads.as_str()), given)
+/// Whether a schedule of one process with an event `count` times is refused with this line.
+fn are_too_many(alloc: Global, event: &str, count: u32, line: &str) -> bool {
+    let given = Given::Refused(line);
+    let mut events = String::new(alloc);
+    add_events(&mut events, event, count).is_ok()
+        && gives(alloc, Command::Replay, (IDLE, events.as_str()), given)
 }
 
 #[test]
 fn a_process_calls_as_many_operations_as_it_may(rt: HostRuntime) {
-    assert!(rt; is_last_refused(rt.alloc()));
+    let line = "event 65535: too many operations\n";
+    assert!(rt; are_too_many(rt.alloc(), "call 0 read x\n", 65_536, line));
+}
+
+#[test]
+fn a_schedule_has_as_many_events_as_it_may(rt: HostRuntime) {
+    let line = "line 1048580: range\n";
+    assert!(rt; are_too_many(rt.alloc(), "tick 0\n", 1_048_577, line));
 }
 
 #[test]

@@ -5,7 +5,7 @@ use reg_base::Op;
 use reg_front::Front;
 use reg_workload::{Schedule, ScheduleFault, Why, parse_schedule};
 use reg_world::Event;
-use std::alloc::{AllocError, Global};
+use std::alloc::Global;
 
 /// Whether a text is refused at this line and for this cause.
 fn is_judged(alloc: Global, text: &str, line: u64, why: Why) -> bool {
@@ -106,20 +106,4 @@ fn an_event_is_refused_at_its_line(rt: HostRuntime) {
     for (line, why) in NO_EVENTS {
         assert!(rt; is_no_event(rt.alloc(), line, *why), "{line}");
     }
-}
-
-/// Adds a schedule of one tick more than it may have.
-fn push_ticks(text: &mut String) -> Result<(), AllocError> {
-    text.push_str("processes 1\nregisters x\nfront linear\n")?;
-    for _ in 0..1_048_577u32 {
-        text.push_str("tick 0\n")?;
-    }
-    Ok(())
-}
-
-#[test]
-fn a_schedule_has_not_too_many_events(rt: HostRuntime) {
-    let mut text = String::new(rt.alloc());
-    let pushed = push_ticks(&mut text).is_ok();
-    assert!(rt; pushed && is_judged(rt.alloc(), text.as_str(), 1_048_580, Why::Range));
 }

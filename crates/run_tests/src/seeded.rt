@@ -3,7 +3,7 @@ use crate::values::READ;
 use reg_base::{Op, OpId, Shape};
 use reg_frames::{Body, Frame};
 use reg_front::{FrontEnd, Linear, LocalRead, LocalWrite};
-use reg_history::{Entry, check_serial};
+use reg_history::{Entry, check_points, check_serial};
 use reg_world::{CopyRead, Event, First, World};
 use std::alloc::{AllocError, Global};
 
@@ -150,8 +150,16 @@ fn are_plain<F: FrontEnd>(alloc: Global, world: &World<F>, ids: &[OpId]) -> bool
         && plain.as_slice() == ids
 }
 
+/// Whether the points of a world are a point order of its history.
+pub(crate) fn are_points(alloc: Global, world: &World<Linear>) -> bool {
+    match world.points() {
+        Ok(points) => check_points(alloc, world.history(), points.as_slice()) == Ok(()),
+        Err(_) => false,
+    }
+}
+
 /// Whether the witness is the plain list and a serial order.
-fn is_right<F: FrontEnd>(alloc: Global, world: &World<F>) -> bool {
+pub(crate) fn is_right<F: FrontEnd>(alloc: Global, world: &World<F>) -> bool {
     match world.witness() {
         Ok(ids) => {
             are_plain(alloc, world, ids.as_slice())
@@ -217,8 +225,19 @@ fn agrees<F: FrontEnd>(alloc: Global, shape: Shape, seed: u64) -> bool {
     }
 }
 
+/// Whether the points of a linear run of pseudo-random events are right too.
+fn agrees_with_points(alloc: Global, shape: Shape, seed: u64) -> bool {
+    match World::<Linear>::new(alloc, shape) {
+        Ok(mut world) => {
+            play_on(&mut world, seed);
+            is_right(alloc, &world) && are_points(alloc, &world)
+        }
+        Err(_) => false,
+    }
+}
+
 fn all_agree(alloc: Global, shape: Shape, seed: u64) -> bool {
-    agrees::<Linear>(alloc, shape, seed)
+    agrees_with_points(alloc, shape, seed)
         && agrees::<LocalRead>(alloc, shape, seed)
         && agrees::<LocalWrite>(alloc, shape, seed)
 }

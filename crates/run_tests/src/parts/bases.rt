@@ -3,6 +3,7 @@ use crate::values::{READ, WRITE_FIVE};
 use reg_base::limits::{MOST_PROCESSES, MOST_REGISTERS};
 use reg_base::{
     Answer, Clock, ClockFull, Names, NamesFault, Op, OutOfMemory, Registers, Shape, ShapeFault,
+    Stamp,
 };
 use std::alloc::Global;
 
@@ -30,6 +31,7 @@ const LAST: u64 = 281_474_976_710_656;
 
 /// A time that is received, or none at a tick; the answer, and the clock's time then.
 const CLOCK_AT_ITS_END: &[(Option<u64>, Result<u64, ClockFull>, u64)] = &[
+    (Some(LAST), Err(ClockFull), 0),
     (None, Ok(1), 1),
     (Some(0), Ok(2), 2),
     (Some(LAST - 2), Ok(LAST - 1), LAST - 1),
@@ -51,10 +53,54 @@ fn a_clock_at_its_end(rt: HostRuntime) {
     }
 }
 
+/// Times and processes of stamps, each before the next.
+const STAMPS: &[(u64, u8)] = &[(1, 9), (2, 0), (2, 1), (3, 0)];
+
+#[test]
+fn stamps_by_time_and_then_by_process(rt: HostRuntime) {
+    for (place, (time, process)) in STAMPS.iter().enumerate() {
+        for (other_place, (other_time, other_process)) in STAMPS.iter().enumerate() {
+            let stamp = Stamp {
+                time: *time,
+                process: *process,
+            };
+            let other = Stamp {
+                time: *other_time,
+                process: *other_process,
+            };
+            assert!(rt;
+                (stamp < other) == (place < other_place),
+                "{stamp:?} {other:?}"
+            );
+        }
+    }
+}
+
 const SWAP: Op = Op::Swap {
     register: 0,
     value: 6,
 };
+
+/// An operation, whether it updates, and whether it can answer that it is done, and a value.
+const ANSWERS: &[(Op, bool, bool, bool)] = &[
+    (READ, false, false, true),
+    (WRITE_FIVE, true, true, false),
+    (SWAP, true, false, true),
+];
+
+#[test]
+fn operations_and_their_answers(rt: HostRuntime) {
+    for (op, updates, done, value) in ANSWERS {
+        let can = (
+            op.can_answer(&Answer::Done),
+            op.can_answer(&Answer::Value(9)),
+        );
+        assert!(rt;
+            op.updates() == *updates && op.register() == 0 && can == (*done, *value),
+            "{op:?}: {can:?}"
+        );
+    }
+}
 
 const OUTSIDE: Op = Op::Write {
     register: 1,
@@ -73,9 +119,18 @@ const ONE_MEMORY: &[(Op, Option<Answer>, u64)] = &[
     (Op::Read { register: 1 }, None, 5),
 ];
 
-/// Whether the operations are applied so, one after another.
+/// Whether an operation on an own register is answered so, before it is applied.
+fn is_answered(registers: &Registers, op: &Op, answer: Option<Answer>) -> bool {
+    let is_own = (op.register() as usize) < registers.count();
+    is_own == answer.is_some() && (!is_own || Some(registers.answer(op)) == answer)
+}
+
+/// Whether the operations are answered and applied so, one after another.
 fn applies_all(registers: &mut Registers) -> bool {
     for (op, answer, value) in ONE_MEMORY {
+        if !is_answered(registers, op, *answer) || registers.get(1).is_some() {
+            return false;
+        }
         if registers.apply(op) != *answer || registers.get(0) != Some(*value) {
             return false;
         }

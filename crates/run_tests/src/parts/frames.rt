@@ -196,3 +196,55 @@ fn the_last_numbers_times_and_counts(rt: HostRuntime) {
         assert!(rt; decode(bytes) == *read, "{bytes:?}");
     }
 }
+
+/// Whether the first bytes of a frame, of each number up to the last but one, are refused as too few.
+fn is_no_prefix_read(bytes: &[u8]) -> bool {
+    for size in 0..bytes.len() {
+        let fault = if size < 12 {
+            FrameFault::Short
+        } else {
+            FrameFault::Length
+        };
+        if decode(&bytes[..size]) != Err(fault) {
+            return false;
+        }
+    }
+    true
+}
+
+/// Whether no frame is read of the bytes, or one that is spelled so alone.
+fn is_only_spelling(alloc: Global, bytes: &[u8]) -> bool {
+    match decode(bytes) {
+        Ok(frame) => is_spelled(alloc, &frame, bytes),
+        Err(_) => true,
+    }
+}
+
+/// The first place and change of a byte with which the bytes of a frame are read as a frame that is spelled otherwise.
+fn misread_change(alloc: Global, bytes: &[u8]) -> Option<(usize, u8)> {
+    let mut copy = [0u8; 32];
+    let size = bytes.len().min(32);
+    copy[..size].copy_from_slice(&bytes[..size]);
+    for place in 0..size {
+        let before = copy[place];
+        for change in 1..=255u8 {
+            copy[place] = before ^ change;
+            if !is_only_spelling(alloc, &copy[..size]) {
+                return Some((place, change));
+            }
+        }
+        copy[place] = before;
+    }
+    None
+}
+
+#[test]
+fn prefixes_and_changed_bytes(rt: HostRuntime) {
+    for (frame, bytes) in FRAMES {
+        let misread = misread_change(rt.alloc(), bytes);
+        assert!(rt;
+            is_no_prefix_read(bytes) && misread.is_none(),
+            "{frame:?} {misread:?}"
+        );
+    }
+}

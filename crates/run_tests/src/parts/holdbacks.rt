@@ -1,7 +1,9 @@
 //! The hold-back queue, as worked by hand.
-use crate::values::WRITE_FIVE;
+use crate::values::{READ, WRITE_FIVE};
+use refusing::Refusing;
 use reg_base::{Op, Shape, Stamp};
 use reg_holdback::{HoldFault, Holdback};
+use std::alloc::Allocator;
 
 macro_rules! stamp {
     ($time:expr, $process:expr) => {
@@ -63,4 +65,39 @@ fn an_own_cast_waits_behind_an_earlier_one(rt: HostRuntime) {
     let mut held = Holdback::new(rt.alloc(), 1, shape).expect(&rt, "memory");
     let cast = held.cast(stamp!(1, 1), WRITE_FIVE).is_ok();
     assert!(rt; cast && answers(&mut held, BEHIND_ITS_OWN));
+}
+
+#[test]
+fn one_process_waits_for_none(rt: HostRuntime) {
+    let shape = Shape::new(1, 1).expect(&rt, "a shape");
+    let mut held = Holdback::new(rt.alloc(), 0, shape).expect(&rt, "memory");
+    let cast = held.cast(stamp!(1, 0), READ).is_ok();
+    let (first, second) = (held.pop(), held.pop());
+    assert!(rt; cast && first == Some((stamp!(1, 0), READ)) && second.is_none());
+}
+
+/// Whether a cast that comes is refused for want of memory, and not held, and it is held when it comes again.
+fn holds_later<A: Allocator + Copy>(held: &mut Holdback<A>) -> bool {
+    let cast = stamp!(1, 0);
+    held.receive(cast, Some(WRITE_FIVE)) == Err(HoldFault::OutOfMemory)
+        && (held.len(), held.seen(0)) == (0, Some(0))
+        && held.receive(cast, Some(WRITE_FIVE)) == Ok(())
+        && (held.len(), held.seen(0)) == (1, Some(1))
+}
+
+#[test]
+fn a_refused_growth_holds_no_cast(rt: HostRuntime) {
+    let shape = Shape::new(2, 1).expect(&rt, "a shape");
+    let heap = Refusing::new(rt.alloc(), 1);
+    let mut held = Holdback::new(&heap, 1, shape).expect(&rt, "memory for the times");
+    assert!(rt; holds_later(&mut held));
+}
+
+#[test]
+fn a_refused_growth_holds_no_own_cast(rt: HostRuntime) {
+    let shape = Shape::new(2, 1).expect(&rt, "a shape");
+    let heap = Refusing::new(rt.alloc(), 1);
+    let mut held = Holdback::new(&heap, 1, shape).expect(&rt, "memory for the times");
+    let is_refused = held.cast(stamp!(1, 1), WRITE_FIVE).is_err();
+    assert!(rt; is_refused && held.len() == 0);
 }

@@ -1,6 +1,8 @@
 //! Worked examples of both ends of a link, and of the links of one process together.
+use refusing::Refusing;
 use reg_frames::{Body, Frame};
 use reg_links::{Ahead, Inbox, LinkFault, Outbox, Outboxes};
+use std::alloc::Allocator;
 
 /// The last number of a frame.
 const LAST_NUMBER: u64 = 281_474_976_710_655;
@@ -174,6 +176,63 @@ const AT_THE_END: &[Result<Frame, LinkFault>] = &[
     }),
     Err(LinkFault::NumberFull),
 ];
+
+#[test]
+fn no_number_is_past_the_end(rt: HostRuntime) {
+    for (next, is_one) in [(LAST_NUMBER + 1, true), (LAST_NUMBER + 2, false)] {
+        let is_started = Outbox::starting(rt.alloc(), next).is_some();
+        assert!(rt;
+            is_started == is_one && Inbox::starting(next).is_some() == is_one,
+            "{next}"
+        );
+    }
+}
+
+/// Whether a body is refused for want of memory, and not queued, and it is queued when it comes again.
+fn queues_later<A: Allocator + Copy>(out: &mut Outbox<A>) -> bool {
+    out.queue(TWO) == Err(LinkFault::OutOfMemory) && out.pending() == 0 && out.queue(TWO).is_ok()
+}
+
+/// The same of the links to two others.
+fn queues_for_all_later<A: Allocator + Copy>(out: &mut Outboxes<A>) -> bool {
+    out.processes() == 3
+        && out.queue(1, TWO) == Err(LinkFault::OutOfMemory)
+        && out.next() == 0
+        && out.queue(1, TWO) == Ok(0)
+        && out.queue(1, TWO) == Ok(1)
+        && [out.pending(0), out.pending(2)] == [2, 2]
+}
+
+#[test]
+fn a_refused_body_is_not_queued(rt: HostRuntime) {
+    let heap = Refusing::new(rt.alloc(), 0);
+    let mut out = Outbox::new(&heap);
+    assert!(rt; queues_later(&mut out));
+}
+
+#[test]
+fn a_refused_body_is_queued_for_none(rt: HostRuntime) {
+    let none = Refusing::new(rt.alloc(), 0);
+    let is_refused = Outboxes::new(&none, 3).is_err();
+    let heap = Refusing::new(rt.alloc(), 1);
+    let mut out = Outboxes::new(&heap, 3).expect(&rt, "the counts");
+    assert!(rt; queues_for_all_later(&mut out) && is_refused);
+}
+
+/// Whether all that the only process queues counts as acknowledged.
+fn has_all_alone(out: &mut Outboxes) -> bool {
+    out.processes() == 1
+        && out.queue(0, TWO) == Ok(0)
+        && out.queue(0, TWO) == Ok(1)
+        && out.pending(0) == 0
+        && out.got(0, 3) == Err(Ahead)
+}
+
+#[test]
+fn one_process_has_all_that_it_queues(rt: HostRuntime) {
+    let mut out = Outboxes::new(rt.alloc(), 1).expect(&rt, "memory");
+    assert!(rt; has_all_alone(&mut out));
+}
 
 /// The number of a body, what is accepted of it, and the number that is expected then.
 const TAKEN: &[(u64, Option<Body>, u64)] = &[

@@ -321,6 +321,19 @@ const EACH_LACKS: &[Row] = &[
     ),
 ];
 
+const ALONE: &[Row] = &[
+    (
+        0,
+        call_write!(5),
+        "casts at 1 of p0, delivers write x 5 at 1 of p0, Done at place 0, clock 1, pending 0, unsettled 0, delivered 1, busy false, x 5",
+    ),
+    (
+        0,
+        Step::Tick,
+        "clock 1, pending 0, unsettled 0, delivered 1, busy false, x 5",
+    ),
+];
+
 #[test]
 fn two_processes_step_by_step(rt: HostRuntime) {
     follow::<LocalWrite>(&rt, 2, AT_ONCE);
@@ -332,6 +345,7 @@ fn two_processes_step_by_step(rt: HostRuntime) {
     follow::<LocalRead>(&rt, 2, PAST_LAST_TIME);
     follow::<LocalRead>(&rt, 2, STOPPED);
     follow::<Linear>(&rt, 2, WAITING);
+    follow::<LocalWrite>(&rt, 1, ALONE);
 }
 
 #[test]

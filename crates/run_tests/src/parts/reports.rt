@@ -258,3 +258,64 @@ fn a_report_is_read_at_its_limits(rt: HostRuntime) {
         demand(&rt, new, refusal(rt.alloc(), text, old, new).is_none());
     }
 }
+
+/// Whether the bytes are a text that is refused at a line.
+fn is_refused_at_a_line(alloc: Global, bytes: &[u8]) -> bool {
+    match std::str::from_utf8(bytes) {
+        Ok(text) => matches!(read_report(alloc, text), Err(ReadFault::Line { .. })),
+        Err(_) => false,
+    }
+}
+
+/// The fewest first bytes of a report that aren't refused at a line.
+fn least_read(alloc: Global, bytes: &[u8]) -> usize {
+    for size in 0..bytes.len() {
+        if !is_refused_at_a_line(alloc, &bytes[..size]) {
+            return size;
+        }
+    }
+    bytes.len()
+}
+
+#[test]
+fn every_shorter_text_is_refused(rt: HostRuntime) {
+    for text in [ONE_PROCESS, ONE_PROCESS_NOW] {
+        let least = least_read(rt.alloc(), text.as_bytes());
+        let refused = refusal(rt.alloc(), text, "end\n", "end");
+        assert!(rt; least + 1 == text.len() && refused.is_none(), "{least}");
+    }
+}
+
+/// Whether the bytes are no text, or one that is refused at a line or is that of the report read.
+fn is_refused_or_written_again(alloc: Global, bytes: &[u8]) -> bool {
+    match std::str::from_utf8(bytes) {
+        Ok(text) => is_refused_at_a_line(alloc, bytes) || is_written_again(alloc, text, text),
+        Err(_) => true,
+    }
+}
+
+/// The first place and change of a byte with which a report isn't refused at a line, nor written so again.
+fn misread_change(alloc: Global, bytes: &mut [u8]) -> Option<(usize, u8)> {
+    for place in 0..bytes.len() {
+        let before = bytes[place];
+        for change in 1..=255u8 {
+            bytes[place] = before ^ change;
+            if !is_refused_or_written_again(alloc, bytes) {
+                return Some((place, change));
+            }
+        }
+        bytes[place] = before;
+    }
+    None
+}
+
+#[test]
+fn every_changed_byte(rt: HostRuntime) {
+    let mut bytes = ONE_PROCESS_NOW
+        .as_bytes()
+        .to_vec(rt.alloc())
+        .expect(&rt, "memory");
+    let misread = misread_change(rt.alloc(), bytes.as_mut_slice());
+    drop(bytes);
+    assert!(rt; misread.is_none(), "{misread:?}");
+}

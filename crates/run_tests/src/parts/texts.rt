@@ -25,10 +25,17 @@ pub(crate) fn names_of(alloc: Global, text: &str) -> Result<Names, TextFault> {
     read_names(alloc, &mut lines, 256)
 }
 
+/// Whether these are the names x and y.
+fn are_x_and_y(names: &Names) -> bool {
+    names.count() == 2
+        && [names.number("x"), names.number("y"), names.number("z")] == [Some(0), Some(1), None]
+        && [names.name(0), names.name(1), names.name(2)] == [Some("x"), Some("y"), None]
+}
+
 #[test]
 fn names_of_their_line(rt: HostRuntime) {
     let names = names_of(rt.alloc(), "registers x y").expect(&rt, "names");
-    assert!(rt; names.number("x") == Some(0) && names.number("y") == Some(1));
+    assert!(rt; are_x_and_y(&names));
     for (text, why) in NO_NAMES {
         let fault = TextFault::Line { line: 1, why: *why };
         demand(&rt, text, names_of(rt.alloc(), text).err() == Some(fault));

@@ -1,0 +1,92 @@
+//! What a process tells of what it holds, of what its caller waits for, and of the other process.
+use crate::parts::traces::step_of;
+use crate::values::{READ, WRITE_FIVE};
+use reg_base::{Delivered, Shape, Stamp};
+use reg_frames::{Body, Frame};
+use reg_front::LocalWrite;
+use reg_process::{Awaited, Known, Process, Step};
+use std::alloc::Global;
+
+const WRITTEN: Delivered = Delivered {
+    stamp: Stamp {
+        time: 1,
+        process: 0,
+    },
+    op: WRITE_FIVE,
+};
+
+const BEFORE: Known = Known {
+    seen: 0,
+    expected: 0,
+    first: 0,
+    next: 1,
+};
+
+const BEHIND: Known = Known {
+    seen: 2,
+    expected: 1,
+    first: 0,
+    next: 1,
+};
+
+/// A step, what is then held and awaited, and what is known of the other process.
+type Row = (Step, &'static [Delivered], Option<Awaited>, Known);
+
+/// A write that is answered at once is held back, and a read waits for it, until the other process is heard past its
+/// stamp.
+const ROWS: &[Row] = &[
+    (Step::Call { op: WRITE_FIVE }, &[WRITTEN], None, BEFORE),
+    (
+        Step::Call { op: READ },
+        &[WRITTEN],
+        Some(Awaited::Settling { op: READ }),
+        BEFORE,
+    ),
+    (
+        Step::Take {
+            from: 1,
+            frame: Frame::Numbered {
+                number: 0,
+                body: Body::Ack { time: 2 },
+            },
+        },
+        &[],
+        None,
+        BEHIND,
+    ),
+    (
+        Step::Take {
+            from: 1,
+            frame: Frame::Got { count: 1 },
+        },
+        &[],
+        None,
+        Known { first: 1, ..BEHIND },
+    ),
+];
+
+/// Whether the process holds these casts.
+fn holds(alloc: Global, process: &Process<LocalWrite>, casts: &[Delivered]) -> bool {
+    match process.held(alloc) {
+        Ok(held) => held.as_slice() == casts,
+        Err(_) => false,
+    }
+}
+
+/// Whether the process makes the step and then tells what the row says.
+fn tells(alloc: Global, process: &mut Process<LocalWrite>, row: &Row) -> bool {
+    let (step, casts, awaited, known) = row;
+    step_of(process, step).is_ok()
+        && holds(alloc, process, casts)
+        && process.awaited() == *awaited
+        && [process.known(0), process.known(1)] == [None, Some(*known)]
+}
+
+#[test]
+fn what_is_held_and_awaited(rt: HostRuntime) {
+    let shape = Shape::new(2, 1).expect(&rt, "a shape");
+    let mut process = Process::<LocalWrite>::new(rt.alloc(), shape, 0).expect(&rt, "a process");
+    for (place, row) in ROWS.iter().enumerate() {
+        assert!(rt; tells(rt.alloc(), &mut process, row), "{place}");
+    }
+}
