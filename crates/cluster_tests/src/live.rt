@@ -1,5 +1,6 @@
 //! Tests of running clusters: passes and records worked by hand, stations that are held, that stop and that are lied
 //! to, rough roads, limits, and clusters that run.
+mod beats;
 mod calls;
 mod closes;
 mod closing;

@@ -1,15 +1,23 @@
-//! Seeded plays with loss: the witness of each beside the plain list of it, and how many are finished.
+//! Seeded plays with loss: the witness of each beside the plain list of it, and how many are finished. Each comes to rest
+//! where it ended.
 use crate::plays::{LOSSY, SMALL};
+use crate::resting::comes_to_rest;
 use crate::seeded::{are_points, is_right};
 use reg_front::{Front, FrontEnd, Linear, LocalRead, LocalWrite};
-use reg_workload::{SeedWords, Workload, play_seeded};
+use reg_workload::{Play, SeedWords, Workload, play_seeded};
 use std::alloc::Global;
 
 /// A workload that swaps at each process.
 const SWAPS: &str =
     "front = \"linear\"\nregisters = [\"x\"]\nscripts = [[\"swap x 1\", \"read x\", \"write x 2\"], [\"read x\", \"swap x 3\"], [\"swap x 4\", \"read x\"]]\n";
 
+/// A workload of three processes and two registers.
+const THREE: &str =
+    "front = \"linear\"\nregisters = [\"x\", \"y\"]\nscripts = [[\"write x 5\", \"swap y 1\", \"read x\"], [\"swap x 2\", \"write y 7\", \"read y\"], [\"read x\", \"write x 9\", \"swap y 3\"]]\n";
+
 const REPEATS: &str = "repeat = 50\n";
+
+const HALF_LOST: &str = "loss = 50\n";
 
 /// A workload, lines more of it, the front end of its plays, how many seeds play it, and the fewest plays that are
 /// finished.
@@ -22,25 +30,32 @@ const PLAYS: &[(&str, &str, Front, u64, u64)] = &[
     (SWAPS, LOSSY, Front::LocalWrite, 5, 1),
     (SWAPS, LOSSY, Front::LocalRead, 5, 1),
     (SWAPS, LOSSY, Front::Linear, 5, 1),
+    (THREE, HALF_LOST, Front::LocalWrite, 5, 0),
+    (THREE, HALF_LOST, Front::LocalRead, 5, 0),
+    (THREE, HALF_LOST, Front::Linear, 5, 0),
 ];
 
-/// Whether the play of a seed is finished. None where it has too many events, or its witness isn't the plain list and a
-/// serial order.
-fn end_of<F: FrontEnd>(alloc: Global, work: &Workload, seed: u64) -> Option<bool> {
+/// Whether a play is finished. None where it has too many events, its witness isn't the plain list and a serial order,
+/// or it doesn't come to rest.
+fn end_of<F: FrontEnd>(alloc: Global, play: Play<F>, budget: u32) -> Option<bool> {
+    let Play { world, finished } = play;
+    let mut world = world;
+    let right = world.events() <= budget && is_right(alloc, &world) && comes_to_rest(&mut world);
+    right.then_some(finished)
+}
+
+/// The same of the play of a seed.
+fn end_of_seed<F: FrontEnd>(alloc: Global, work: &Workload, seed: u64) -> Option<bool> {
     match play_seeded::<F, _, _>(alloc, work, SeedWords::new(seed)) {
-        Ok(play) if play.world.events() <= work.budget && is_right(alloc, &play.world) => {
-            Some(play.finished)
-        }
-        _ => None,
+        Ok(play) => end_of(alloc, play, work.budget),
+        Err(_) => None,
     }
 }
 
 /// The same of a linear play, whose points are looked at too.
 fn end_of_linear(alloc: Global, work: &Workload, seed: u64) -> Option<bool> {
     match play_seeded::<Linear, _, _>(alloc, work, SeedWords::new(seed)) {
-        Ok(play) if is_right(alloc, &play.world) && are_points(alloc, &play.world) => {
-            Some(play.finished)
-        }
+        Ok(play) if are_points(alloc, &play.world) => end_of(alloc, play, work.budget),
         _ => None,
     }
 }
@@ -55,8 +70,8 @@ fn finished_plays(alloc: Global, work: &Workload, front: Front, seeds: u64) -> R
     for seed in 0..seeds {
         let end = match front {
             Front::Linear => end_of_linear(alloc, work, seed),
-            Front::LocalRead => end_of::<LocalRead>(alloc, work, seed),
-            Front::LocalWrite => end_of::<LocalWrite>(alloc, work, seed),
+            Front::LocalRead => end_of_seed::<LocalRead>(alloc, work, seed),
+            Front::LocalWrite => end_of_seed::<LocalWrite>(alloc, work, seed),
         };
         match end {
             Some(finished) => count = count.wrapping_add(u64::from(finished)),

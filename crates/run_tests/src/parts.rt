@@ -1,10 +1,12 @@
 //! Tests of the parts, from shapes to reports and workloads.
 mod bases;
 mod documents;
+mod fields;
 mod frames;
 mod fronts;
 mod growths;
 mod holdbacks;
+mod large_texts;
 mod links;
 mod orders;
 mod processes;

@@ -1,12 +1,16 @@
-//! Worlds brought to rest: a lost write, as worked by hand, and each growth refused.
+//! Worlds brought to rest: a lost write, as worked by hand, runs behind each of their events, large shapes, the most
+//! events, and each growth refused.
 use crate::answers::{shown, unless_memory};
 use crate::macros::{call, take, tick};
 use crate::values::WRITE_FIVE;
+use crate::world_rows::Row;
+use crate::worlds::RUNS;
 use refusing::{Trial, refusals};
 use reg_base::Shape;
-use reg_front::Linear;
+use reg_front::{Front, FrontEnd, Linear, LocalRead, LocalWrite};
+use reg_process::Process;
 use reg_runs::{SettleFault, settle};
-use reg_world::{Event, RunFault, World, WorldFault};
+use reg_world::{Event, PackedWires, RunFault, WireStore, World, WorldFault};
 use std::alloc::{Allocator, Global};
 use std::test::Fail;
 
@@ -68,6 +72,131 @@ fn a_lost_write_is_settled_as_worked_by_hand(rt: HostRuntime) {
         let shape = Shape::new(processes, 1).expect(&rt, "a shape");
         assert!(rt; settles_by(rt.alloc(), shape, events), "{processes}");
     }
+}
+
+/// Whether a process has nothing pending, runs nothing, and has this value in its register.
+fn is_still<F: FrontEnd>(process: &Process<F>, value: Option<u64>) -> bool {
+    process.pending() == 0 && !process.busy() && process.registers().get(0) == value
+}
+
+/// Whether all processes are still, with one value in all copies of the register.
+fn are_still<F: FrontEnd, W: WireStore<Global>>(world: &World<F, Global, W>) -> bool {
+    let value = match world.process(0) {
+        Some(first) => first.registers().get(0),
+        None => return false,
+    };
+    for number in 0..u8::MAX {
+        match world.process(number) {
+            Some(process) if is_still(process, value) => {}
+            Some(_) => return false,
+            None => break,
+        }
+    }
+    true
+}
+
+/// Whether a world comes to rest.
+pub(crate) fn comes_to_rest<F: FrontEnd, W: WireStore<Global>>(
+    world: &mut World<F, Global, W>,
+) -> bool {
+    settle(world).is_ok() && are_still(world) && settle(world) == Ok(0)
+}
+
+/// Whether the run of these events comes to rest.
+fn run_rests<F: FrontEnd>(alloc: Global, shape: Shape, events: &[Event]) -> bool {
+    match World::<F>::run(alloc, shape, events) {
+        Ok(mut world) => comes_to_rest(&mut world),
+        Err(_) => false,
+    }
+}
+
+/// The fewest first events of a run behind which it doesn't come to rest.
+fn restless<F: FrontEnd>(alloc: Global, shape: Shape, events: &[Event]) -> Option<usize> {
+    for count in 0..=events.len() {
+        if !run_rests::<F>(alloc, shape, &events[..count]) {
+            return Some(count);
+        }
+    }
+    None
+}
+
+/// The same of a row.
+fn restless_row(alloc: Global, front: Front, row: &Row) -> Option<usize> {
+    let Ok(shape) = Shape::new(row.processes, 1) else {
+        return Some(0);
+    };
+    match front {
+        Front::Linear => restless::<Linear>(alloc, shape, row.events),
+        Front::LocalRead => restless::<LocalRead>(alloc, shape, row.events),
+        Front::LocalWrite => restless::<LocalWrite>(alloc, shape, row.events),
+    }
+}
+
+#[test]
+fn runs_worked_by_hand_settle_behind_each_event(rt: HostRuntime) {
+    for (front, rows) in RUNS {
+        for row in *rows {
+            let count = restless_row(rt.alloc(), *front, row);
+            assert!(rt; count.is_none(), "{}: {count:?}", row.name);
+        }
+    }
+}
+
+/// Has the first processes write. Tells whether all events are accepted.
+fn write_all(world: &mut World<Linear, Global, PackedWires<Global>>, writers: u8) -> bool {
+    for process in 0..writers {
+        if world.step(&call!(process, WRITE_FIVE)).is_err() {
+            return false;
+        }
+    }
+    true
+}
+
+/// Whether a world of the shape in which the first processes write comes to rest.
+fn rests_behind_writes(alloc: Global, shape: Shape, writers: u8) -> bool {
+    match World::<Linear, Global, PackedWires<Global>>::new(alloc, shape) {
+        Ok(mut world) => write_all(&mut world, writers) && comes_to_rest(&mut world),
+        Err(_) => false,
+    }
+}
+
+#[test]
+fn large_shapes_settle(rt: HostRuntime) {
+    for (processes, writers) in [(16, 16), (64, 1)] {
+        let shape = Shape::new(processes, 1).expect(&rt, "a shape");
+        assert!(rt;
+            rests_behind_writes(rt.alloc(), shape, writers),
+            "{processes}"
+        );
+    }
+}
+
+/// Whether a world of two accepts so many ticks, then a write, and settles so. It is full then.
+fn fills(world: &mut World<Linear>, ticks: u32, settled: Result<u32, SettleFault>) -> bool {
+    for _tick in 0..ticks {
+        if world.step(&tick!(1)).is_err() {
+            return false;
+        }
+    }
+    world.step(&WRITE).is_ok()
+        && settle(world) == settled
+        && are_still(world) == settled.is_ok()
+        && world.events() == 1_048_576
+        && world.step(&tick!(0)) == Err(WorldFault::TooManyEvents)
+}
+
+#[test]
+fn six_more_events_are_left(rt: HostRuntime) {
+    let shape = Shape::new(2, 1).expect(&rt, "a shape");
+    let mut world = World::<Linear>::new(rt.alloc(), shape).expect(&rt, "memory");
+    assert!(rt; fills(&mut world, 1_048_576 - 7, Ok(6)));
+}
+
+#[test]
+fn one_event_is_missing(rt: HostRuntime) {
+    let shape = Shape::new(2, 1).expect(&rt, "a shape");
+    let mut world = World::<Linear>::new(rt.alloc(), shape).expect(&rt, "memory");
+    assert!(rt; fills(&mut world, 1_048_576 - 6, Err(SettleFault::TooManyEvents)));
 }
 
 /// A linear run of a write, brought to rest.

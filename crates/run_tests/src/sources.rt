@@ -46,12 +46,19 @@ impl Read for Source<'_> {
     }
 }
 
-/// A reader that never ends.
+/// Gives this number of spaces.
 #[derive(Drop)]
-pub(crate) struct Endless {}
+pub(crate) struct Spaces {
+    pub(crate) left: u64,
+}
 
-impl Read for Endless {
+impl Read for Spaces {
     fn read(&mut self, buf: &mut [u8]) -> io::Result<usize> {
-        Ok(buf.len())
+        let count = buf
+            .len()
+            .min(usize::try_from(self.left).unwrap_or(usize::MAX));
+        buf[..count].fill(b' ');
+        self.left = self.left.saturating_sub(count as u64);
+        Ok(count)
     }
 }

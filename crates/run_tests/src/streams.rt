@@ -1,7 +1,8 @@
 //! Streams that fail, that never end, and memory that is refused in the midst of a command.
 use crate::commands::{Given, gives_from, is_given};
+use crate::replays::ONE_PROCESS_SCHEDULE;
 use crate::report_texts::ONE_PROCESS_NOW;
-use crate::sources::{Endless, Source, whole};
+use crate::sources::{Source, Spaces, whole};
 use refusing::Refusing;
 use reg_commands::{Command, run_text};
 use std::alloc::Global;
@@ -288,5 +289,31 @@ fn a_check_with_failing_streams(rt: HostRuntime) {
 #[test]
 fn an_input_without_end(rt: HostRuntime) {
     let given = Given::Refused("input: too long\n");
-    assert!(rt; gives_from(rt.alloc(), Command::Check, &mut Endless {}, given));
+    let mut reader = Spaces { left: u64::MAX };
+    assert!(rt; gives_from(rt.alloc(), Command::Check, &mut reader, given));
+}
+
+#[test]
+fn an_input_up_to_the_limit(rt: HostRuntime) {
+    let given = Given::Refused("line 1: form\n");
+    let mut reader = Spaces { left: 268_435_456 };
+    assert!(rt; gives_from(rt.alloc(), Command::Check, &mut reader, given));
+}
+
+/// A command, what it reads, and what it gives.
+const SLOW: &[(Command, &str, &str)] = &[
+    (Command::Replay, ONE_PROCESS_SCHEDULE, ONE_PROCESS_NOW),
+    (Command::Check, ONE_PROCESS_NOW, "serial yes\npoints yes\n"),
+];
+
+#[test]
+fn one_byte_at_a_time(rt: HostRuntime) {
+    for (command, input, output) in SLOW {
+        let mut reader = Source {
+            most: 1,
+            ..whole(input.as_bytes(), &[])
+        };
+        let given = Given::Accepted(output);
+        assert!(rt; gives_from(rt.alloc(), *command, &mut reader, given));
+    }
 }

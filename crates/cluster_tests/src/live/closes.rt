@@ -80,3 +80,12 @@ const BY_RECEIPTS: [Row; 2] = [(2, 1, &[2], false, None), (2, 1, &[2], true, Som
 fn a_pass_of_another_cluster_is_told_by_its_receipts(rt: HostRuntime) {
     demand(&rt, rt.alloc(), BY_RECEIPTS.as_slice());
 }
+
+/// The first process has a pass of another cluster, and the second one has none. Where the receipts of the pass don't
+/// fit, the first process is the lowest of both.
+const BOTH_WRONG: [Row; 2] = [(2, 2, &[1], false, Some(1)), (2, 2, &[1], true, Some(0))];
+
+#[test]
+fn receipts_of_a_lower_process_are_told_before_a_missing_pass(rt: HostRuntime) {
+    demand(&rt, rt.alloc(), BOTH_WRONG.as_slice());
+}

@@ -2,10 +2,9 @@
 use crate::values::{READ, WRITE_FIVE};
 use reg_base::limits::{MOST_PROCESSES, MOST_REGISTERS};
 use reg_base::{
-    Answer, Clock, ClockFull, Names, NamesFault, Op, OutOfMemory, Registers, Shape, ShapeFault,
-    Stamp,
+    Answer, Clock, ClockFull, Names, NamesFault, Op, Registers, Shape, ShapeFault, Stamp,
 };
-use std::alloc::Global;
+use std::alloc::{AllocError, Global};
 
 /// How many processes and registers are asked for, and why there is no such shape.
 const SHAPES: &[(u32, u32, Option<ShapeFault>)] = &[
@@ -160,7 +159,7 @@ const NAMES: &[(&[&str], Option<NamesFault>)] = &[
     (&["x", "abcdefghijklmnop"], None),
 ];
 
-fn add_all(names: &mut Vec<String>, alloc: Global, words: &[&str]) -> Result<(), OutOfMemory> {
+fn add_all(names: &mut Vec<String>, alloc: Global, words: &[&str]) -> Result<(), AllocError> {
     for word in words {
         names.push(String::from_str(alloc, word)?)?;
     }
@@ -176,13 +175,19 @@ fn names_and_their_faults(rt: HostRuntime) {
     }
 }
 
-/// Adds names of three letters, all different, as long as there are no more than 17,576.
-fn add_many(names: &mut Vec<String>, alloc: Global, count: u32) -> Result<(), OutOfMemory> {
+/// Adds a name of three letters, another for each number up to 17,575.
+pub(crate) fn push_name(text: &mut String, number: u32) -> Result<(), AllocError> {
+    for place in [number / 676, number / 26, number] {
+        text.push(char::from(b'a' + (place % 26) as u8))?;
+    }
+    Ok(())
+}
+
+/// Adds names, all different, as long as there are no more than 17,576.
+fn add_many(names: &mut Vec<String>, alloc: Global, count: u32) -> Result<(), AllocError> {
     for number in 0..count {
         let mut name = String::new(alloc);
-        for place in [number / 676, number / 26, number] {
-            name.push(char::from(b'a' + (place % 26) as u8))?;
-        }
+        push_name(&mut name, number)?;
         names.push(name)?;
     }
     Ok(())

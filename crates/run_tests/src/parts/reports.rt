@@ -48,7 +48,7 @@ fn tells_its_parts(report: &Report) -> bool {
 }
 
 /// Whether the report is written, as this text.
-fn is_written_as(alloc: Global, report: &Report, text: &str) -> bool {
+pub(crate) fn is_written_as(alloc: Global, report: &Report, text: &str) -> bool {
     let mut out = Vec::new(alloc);
     write_report(&mut out, report).is_ok() && out.as_slice() == text.as_bytes()
 }
