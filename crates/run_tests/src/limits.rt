@@ -6,10 +6,15 @@ use reg_front::{Linear, LocalRead};
 use reg_process::{Process, ProcessFault};
 use reg_world::{Event, World, WorldFault};
 
-/// An event, how often a world of one process accepts it, and why not once more.
-const LIMITS: [(Event, u32, WorldFault); 2] = [
-    (call!(0, WRITE_FIVE), 65_535, WorldFault::TooManyOperations),
-    (tick!(0), 1_048_576, WorldFault::TooManyEvents),
+/// An event, how often a world of one process accepts it, why not once more, and how many points the world has then.
+const LIMITS: [(Event, u32, WorldFault, usize); 2] = [
+    (
+        call!(0, WRITE_FIVE),
+        65_535,
+        WorldFault::TooManyOperations,
+        65_535,
+    ),
+    (tick!(0), 1_048_576, WorldFault::TooManyEvents, 0),
 ];
 
 /// Whether a world accepts the event `count` times, and then refuses it with this fault.
@@ -19,15 +24,26 @@ fn accepts(world: &mut World<Linear>, event: &Event, count: u32, fault: WorldFau
             return false;
         }
     }
-    world.step(event) == Err(fault)
+    world.step(event) == Err(fault) && world.events() == count
+}
+
+/// Whether a world has this number of points.
+fn has_points(world: &World<Linear>, count: usize) -> bool {
+    match world.points() {
+        Ok(points) => points.len() == count,
+        Err(_) => false,
+    }
 }
 
 #[test]
 fn a_run_has_so_many_operations_and_events(rt: HostRuntime) {
     let shape = Shape::new(1, 1).expect(&rt, "a shape");
-    for (event, count, fault) in &LIMITS {
+    for (event, count, fault, points) in &LIMITS {
         let mut world = World::<Linear>::new(rt.alloc(), shape).expect(&rt, "memory");
-        assert!(rt; accepts(&mut world, event, *count, *fault));
+        assert!(rt;
+            accepts(&mut world, event, *count, *fault) && has_points(&world, *points),
+            "{fault:?}"
+        );
     }
 }
 

@@ -6,34 +6,36 @@ use reg_front::{Front, FrontEnd, Linear, LocalRead, LocalWrite, Start};
 
 const SWAP: Op = swap_of!(5);
 
-/// An operation, how many own casts aren't delivered, and how it starts with each front end: linear, local-read and
+/// An operation, how many own casts aren't delivered, and how it starts with linear, with local-read and with
 /// local-write.
-const STARTS: &[(Op, u32, [Start; 3])] = &[
+const STARTS: &[(Op, u32, Start, Start, Start)] = &[
     (
         WRITE_FIVE,
         0,
-        [Start::Cast, Start::Cast, Start::CastAndAnswer],
+        Start::Cast,
+        Start::Cast,
+        Start::CastAndAnswer,
     ),
     (
         WRITE_FIVE,
         1,
-        [Start::Cast, Start::Cast, Start::CastAndAnswer],
+        Start::Cast,
+        Start::Cast,
+        Start::CastAndAnswer,
     ),
-    (READ, 0, [Start::Cast, Start::Look, Start::Look]),
-    (READ, 1, [Start::Cast, Start::Hold, Start::Hold]),
-    (SWAP, 0, [Start::Cast, Start::Cast, Start::Cast]),
-    (SWAP, 1, [Start::Cast, Start::Cast, Start::Cast]),
+    (READ, 0, Start::Cast, Start::Look, Start::Look),
+    (READ, 1, Start::Cast, Start::Hold, Start::Hold),
+    (SWAP, 0, Start::Cast, Start::Cast, Start::Cast),
+    (SWAP, 1, Start::Cast, Start::Cast, Start::Cast),
 ];
 
 #[test]
 fn operations_start_as_the_table_says(rt: HostRuntime) {
-    for (op, unsettled, starts) in STARTS {
-        let found = [
-            Linear::start(op, *unsettled),
-            LocalRead::start(op, *unsettled),
-            LocalWrite::start(op, *unsettled),
-        ];
-        assert!(rt; found == *starts, "{op:?} {unsettled}: {found:?}");
+    for (op, unsettled, linear, local_read, local_write) in STARTS {
+        let right = Linear::start(op, *unsettled) == *linear
+            && LocalRead::start(op, *unsettled) == *local_read
+            && LocalWrite::start(op, *unsettled) == *local_write;
+        assert!(rt; right, "{op:?} {unsettled}");
     }
 }
 

@@ -56,7 +56,9 @@ fn answers(held: &mut Holdback, rows: &[Row]) -> bool {
 fn a_cast_waits_until_all_are_heard(rt: HostRuntime) {
     let shape = Shape::new(3, 1).expect(&rt, "a shape");
     let mut held = Holdback::new(rt.alloc(), 1, shape).expect(&rt, "memory");
-    assert!(rt; answers(&mut held, OF_THREE));
+    let right = answers(&mut held, OF_THREE);
+    let seen = [held.seen(0), held.seen(1), held.seen(2), held.seen(3)];
+    assert!(rt; right && seen == [Some(1), None, Some(2), None]);
 }
 
 #[test]

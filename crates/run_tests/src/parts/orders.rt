@@ -21,20 +21,25 @@ const FINISHED: &[Entry] = &[
     answered!(3, 0, 1, Answer::Value(5)),
 ];
 
-/// Points of the stale read, and what is said of each.
-const POINTS: &[(&[Point], Result<(), CheckFault>)] = &[
+/// Histories, points of each, and what is said of them.
+const POINTS: &[(&[Entry], &[Point], Result<(), CheckFault>)] = &[
     (
+        STALE_READ,
         &[point!(1, 5), point!(0, 4)],
         Err(CheckFault::Falling { place: 1 }),
     ),
     (
+        STALE_READ,
         &[point!(1, 4), point!(0, 4)],
         Err(CheckFault::Outside { place: 0 }),
     ),
     (
+        STALE_READ,
         &[point!(0, 4), point!(1, 5)],
         Err(CheckFault::Answer { place: 1 }),
     ),
+    (FINISHED, &[point!(0, 0), point!(0, 1, 2)], Ok(())),
+    (FINISHED, &[point!(0, 0)], Err(CheckFault::Missing)),
 ];
 
 /// Histories, an order of each, and what is said of it.
@@ -74,19 +79,34 @@ fn is_judged(
     }
 }
 
+/// Whether this is said of points of a history.
+fn are_judged(
+    alloc: Global,
+    entries: &[Entry],
+    points: &[Point],
+    said: Result<(), CheckFault>,
+) -> bool {
+    match history_of(alloc, 3, entries) {
+        Some(history) => check_points(alloc, &history, points) == said,
+        None => false,
+    }
+}
+
 #[test]
 fn a_stale_read_is_serial(rt: HostRuntime) {
     for (entries, order, said) in JUDGED {
-        assert!(rt; is_judged(rt.alloc(), entries, order, *said));
+        assert!(rt;
+            is_judged(rt.alloc(), entries, order, *said),
+            "{order:?} {said:?}"
+        );
     }
 }
 
 #[test]
 fn a_stale_read_has_no_points(rt: HostRuntime) {
-    let history = history_of(rt.alloc(), 3, STALE_READ).expect(&rt, "in place");
-    for (points, said) in POINTS {
+    for (entries, points, said) in POINTS {
         assert!(rt;
-            check_points(rt.alloc(), &history, points) == *said,
+            are_judged(rt.alloc(), entries, points, *said),
             "{points:?}"
         );
     }
