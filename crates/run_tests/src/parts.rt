@@ -9,6 +9,7 @@ mod holdbacks;
 mod large_texts;
 mod links;
 mod orders;
+mod plain_holdback;
 mod processes;
 mod refusals;
 mod reports;

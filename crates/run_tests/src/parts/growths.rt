@@ -1,62 +1,27 @@
 //! Each growth of the parts refused in turn: the answer is out of memory, or the one with ample memory.
 use crate::answers::{shown, unless_memory};
-use crate::macros::{ack, cast, id, point};
-use crate::parts::traces::step_of;
+use crate::macros::{cast, id, point};
+use crate::parts::processes::{TABLES, Table};
+use crate::parts::traces::{Row, all_of, push_made, step_of};
 use crate::report_texts::{NO_POINTS, NO_POINTS_NOW, ONE_PROCESS, ONE_PROCESS_NOW};
-use crate::values::{READ, WRITE_FIVE};
+use crate::values::WRITE_FIVE;
 use refusing::{Trial, refusals};
 use reg_base::{OpId, Shape};
 use reg_frames::{Body, Frame};
-use reg_front::LocalWrite;
+use reg_front::{Front, FrontEnd, Linear, LocalRead, LocalWrite};
 use reg_history::{
     CheckFault, Point, ReadFault, Report, check_points, check_serial, read_report, write_report,
 };
-use reg_process::{Outcome, Process, ProcessFault, Step};
-use std::alloc::{AllocError, Allocator, Global};
+use reg_process::{Process, ProcessFault, Put};
+use std::alloc::{Allocator, Global};
 use std::test::Fail;
 
-/// Events of one process of two, as it answers each.
-#[derive(Clone, Copy)]
-struct Events;
-
-const CAST: Frame = cast!(0, 1, WRITE_FIVE);
-
-const ACK: Frame = ack!(1, 3);
-
-const AHEAD: Frame = ack!(5, 9);
-
-const STEPS: &[Step] = &[
-    Step::Call { op: WRITE_FIVE },
-    Step::Tick,
-    Step::Call { op: READ },
-    Step::Take {
-        from: 1,
-        frame: CAST,
-    },
-    Step::Take {
-        from: 1,
-        frame: CAST,
-    },
-    Step::Take {
-        from: 1,
-        frame: AHEAD,
-    },
-    Step::Take {
-        from: 1,
-        frame: ACK,
-    },
-    Step::Take {
-        from: 1,
-        frame: Frame::Got { count: 1 },
-    },
-    Step::Take {
-        from: 1,
-        frame: Frame::Got { count: 0 },
-    },
-];
-
-fn has_stopped<A: Allocator + Copy>(process: &mut Process<LocalWrite, A>) -> bool {
-    for step in STEPS {
+/// Whether a process has stopped, so that each of these steps fails.
+fn has_stopped<F: FrontEnd, A: Allocator + Copy>(
+    process: &mut Process<F, A>,
+    rows: &[Row],
+) -> bool {
+    for (_, step, _) in rows {
         if step_of(process, step).err() != Some(ProcessFault::Failed) {
             return false;
         }
@@ -64,47 +29,98 @@ fn has_stopped<A: Allocator + Copy>(process: &mut Process<LocalWrite, A>) -> boo
     true
 }
 
-fn push_out<A: Allocator + Copy>(text: &mut String, out: &Outcome<A>) -> Result<(), AllocError> {
-    let told = (out.frames.as_slice(), out.delivered.as_slice(), out.reply);
-    write!(text, "{told:?}\n")
-}
-
-/// What an event gives, and whether memory is refused at it; the process has stopped then.
-fn push_told<A: Allocator + Copy>(
-    text: &mut String,
-    process: &mut Process<LocalWrite, A>,
-    step: &Step,
-) -> (Result<(), AllocError>, bool) {
-    match step_of(process, step) {
-        Ok(out) => (push_out(text, &out), false),
-        Err(ProcessFault::OutOfMemory) if has_stopped(process) => (Ok(()), true),
-        Err(fault) => (write!(text, "{fault:?}\n"), false),
-    }
-}
-
-/// What each event gives. None where memory is refused at one of them.
-fn all_told<A: Allocator + Copy>(
+/// What processes give at each of their steps. None where memory is refused at one, and its process has stopped.
+fn all_told<F: FrontEnd, A: Allocator + Copy>(
     ample: Global,
-    process: &mut Process<LocalWrite, A>,
+    all: &mut [Process<F, A>],
+    rows: &[Row],
 ) -> Result<Option<String>, Fail> {
     let mut text = String::new(ample);
-    for step in STEPS {
-        let (told, wants_memory) = push_told(&mut text, process, step);
-        told?;
-        if wants_memory {
-            return Ok(None);
+    for (at, step, _) in rows {
+        let Some(process) = all.get_mut(*at as usize) else {
+            return Err(ProcessFault::NoProcess)?;
+        };
+        let made = step_of(process, step);
+        if matches!(made, Err(ProcessFault::OutOfMemory)) {
+            return unless_memory(ProcessFault::OutOfMemory, has_stopped(process, rows));
         }
+        push_made(&mut text, process, &made)?;
     }
     Ok(Some(text))
 }
 
-impl Trial for Events {
+/// What the new processes of a shape give at each of their steps.
+fn steps_told<F: FrontEnd, A: Allocator + Copy>(
+    alloc: A,
+    ample: Global,
+    shape: Shape,
+    rows: &[Row],
+) -> Result<Option<String>, Fail> {
+    match all_of::<F, A>(alloc, ample, shape) {
+        Ok(mut all) => all_told(ample, all.as_mut_slice(), rows),
+        Err(fault) => unless_memory(fault, fault == ProcessFault::OutOfMemory),
+    }
+}
+
+/// Steps of processes, as each is answered.
+#[derive(Clone, Copy)]
+struct Steps {
+    table: Table,
+}
+
+impl Trial for Steps {
     fn answer<A: Allocator + Copy>(&self, alloc: A, ample: Global) -> Result<Option<String>, Fail> {
-        match Process::<LocalWrite, A>::new(alloc, Shape::new(2, 1)?, 0) {
-            Ok(mut process) => all_told(ample, &mut process),
+        let (front, processes, rows) = self.table;
+        let shape = Shape::new(processes, 1)?;
+        match front {
+            Front::Linear => steps_told::<Linear, A>(alloc, ample, shape, rows),
+            Front::LocalRead => steps_told::<LocalRead, A>(alloc, ample, shape, rows),
+            Front::LocalWrite => steps_told::<LocalWrite, A>(alloc, ample, shape, rows),
+        }
+    }
+}
+
+const CAST: Frame = cast!(0, 1, WRITE_FIVE);
+
+/// A cast that is taken once, and then again a number of times, with the list of each answer given back.
+#[derive(Clone, Copy)]
+struct Again {
+    times: u32,
+}
+
+/// The last of its answers.
+fn taken_again<A: Allocator + Copy>(
+    process: &mut Process<LocalWrite, A>,
+    times: u32,
+) -> Result<Vec<Put, A>, ProcessFault> {
+    let mut answer = process.take(1, &CAST)?;
+    for _time in 0..times {
+        process.reuse(answer.frames);
+        answer = process.take(1, &CAST)?;
+    }
+    Ok(answer.frames)
+}
+
+impl Trial for Again {
+    fn answer<A: Allocator + Copy>(&self, alloc: A, ample: Global) -> Result<Option<String>, Fail> {
+        let made = match Process::new(alloc, Shape::new(2, 1)?, 0) {
+            Ok(mut process) => taken_again(&mut process, self.times),
+            Err(fault) => Err(fault),
+        };
+        match made {
+            Ok(frames) => shown(ample, &frames.as_slice()),
             Err(fault) => unless_memory(fault, fault == ProcessFault::OutOfMemory),
         }
     }
+}
+
+/// A frame out of turn is answered in the list that was given back, so that no more growths can be refused.
+#[test]
+fn a_frame_out_of_turn_uses_the_list_given_back(rt: HostRuntime) -> Result<(), Fail> {
+    let once = refusals(&Again { times: 0 }, rt.alloc())?;
+    let often = refusals(&Again { times: 5 }, rt.alloc())?;
+    assert!(rt; once == often, "{once} {often}");
+    Ok(())
 }
 
 /// Points in the real-time order of a stale read.
@@ -167,7 +183,9 @@ const JUDGED: &[Judged] = &[
 
 #[test]
 fn each_growth_is_refused(rt: HostRuntime) -> Result<(), Fail> {
-    assert!(rt; refusals(&Events, rt.alloc())? > 10);
+    for table in TABLES {
+        assert!(rt; refusals(&Steps { table: *table }, rt.alloc())? > 2);
+    }
     for judged in JUDGED {
         assert!(rt; refusals(judged, rt.alloc())? > 6);
     }

@@ -3,7 +3,7 @@ use crate::parts::traces::{Row, follow};
 use crate::values::{READ, WRITE_FIVE};
 use reg_base::{Op, Shape};
 use reg_frames::{Body, Frame};
-use reg_front::{Linear, LocalRead, LocalWrite};
+use reg_front::{Front, Linear, LocalRead, LocalWrite};
 use reg_process::{Process, ProcessFault, Put, Step};
 
 const BEYOND: Op = Op::Read { register: 1 };
@@ -334,24 +334,33 @@ const ALONE: &[Row] = &[
     ),
 ];
 
-#[test]
-fn two_processes_step_by_step(rt: HostRuntime) {
-    follow::<LocalWrite>(&rt, 2, AT_ONCE);
-    follow::<LocalWrite>(&rt, 2, HELD_READ);
-    follow::<LocalWrite>(&rt, 2, SWAP);
-    follow::<LocalRead>(&rt, 2, REFUSED);
-    follow::<LocalRead>(&rt, 2, OUT_OF_TURN);
-    follow::<LocalRead>(&rt, 2, LAST_TIME);
-    follow::<LocalRead>(&rt, 2, PAST_LAST_TIME);
-    follow::<LocalRead>(&rt, 2, STOPPED);
-    follow::<Linear>(&rt, 2, WAITING);
-    follow::<LocalWrite>(&rt, 1, ALONE);
-}
+/// A front end, how many processes there are, and their steps.
+pub(crate) type Table = (Front, u32, &'static [Row]);
+
+pub(crate) const TABLES: &[Table] = &[
+    (Front::LocalWrite, 1, ALONE),
+    (Front::LocalWrite, 2, AT_ONCE),
+    (Front::LocalWrite, 2, HELD_READ),
+    (Front::LocalWrite, 2, SWAP),
+    (Front::LocalRead, 2, REFUSED),
+    (Front::LocalRead, 2, OUT_OF_TURN),
+    (Front::LocalRead, 2, LAST_TIME),
+    (Front::LocalRead, 2, PAST_LAST_TIME),
+    (Front::LocalRead, 2, STOPPED),
+    (Front::Linear, 2, WAITING),
+    (Front::Linear, 3, TO_ALL),
+    (Front::LocalWrite, 3, EACH_LACKS),
+];
 
 #[test]
-fn three_processes_step_by_step(rt: HostRuntime) {
-    follow::<Linear>(&rt, 3, TO_ALL);
-    follow::<LocalWrite>(&rt, 3, EACH_LACKS);
+fn processes_step_by_step(rt: HostRuntime) {
+    for (front, processes, rows) in TABLES {
+        match front {
+            Front::Linear => follow::<Linear>(&rt, *processes, rows),
+            Front::LocalRead => follow::<LocalRead>(&rt, *processes, rows),
+            Front::LocalWrite => follow::<LocalWrite>(&rt, *processes, rows),
+        }
+    }
 }
 
 #[test]

@@ -49,7 +49,7 @@ fn push_casts(text: &mut String, casts: &[Delivered]) -> Result<(), AllocError> 
     Ok(())
 }
 
-fn push_told(text: &mut String, out: &Outcome) -> Result<(), AllocError> {
+fn push_told<A: Allocator + Copy>(text: &mut String, out: &Outcome<A>) -> Result<(), AllocError> {
     if let Some(stamp) = out.cast {
         write!(text, "casts at {} of p{}, ", stamp.time, stamp.process)?;
     }
@@ -74,7 +74,10 @@ pub(crate) fn step_of<F: FrontEnd, A: Allocator + Copy>(
 }
 
 /// What the process answers.
-fn push_state<F: FrontEnd>(text: &mut String, process: &Process<F>) -> Result<(), AllocError> {
+fn push_state<F: FrontEnd, A: Allocator + Copy>(
+    text: &mut String,
+    process: &Process<F, A>,
+) -> Result<(), AllocError> {
     let (clock, pending) = (process.clock(), process.pending());
     let (unsettled, delivered) = (process.unsettled(), process.delivered_count());
     let (busy, x) = (process.busy(), process.registers().get(0).unwrap_or(0));
@@ -84,14 +87,14 @@ fn push_state<F: FrontEnd>(text: &mut String, process: &Process<F>) -> Result<()
     )
 }
 
-/// What the step gives, or why it is refused, and then what the process answers where it hasn't stopped.
-fn push_line<F: FrontEnd>(
+/// What a step gave, or why it was refused, and then what the process answers where it hasn't stopped.
+pub(crate) fn push_made<F: FrontEnd, A: Allocator + Copy>(
     text: &mut String,
-    process: &mut Process<F>,
-    step: &Step,
+    process: &Process<F, A>,
+    made: &Result<Outcome<A>, ProcessFault>,
 ) -> Result<(), AllocError> {
-    let pushed = match step_of(process, step) {
-        Ok(out) => push_told(text, &out),
+    let pushed = match made {
+        Ok(out) => push_told(text, out),
         Err(fault @ (ProcessFault::ClockFull | ProcessFault::Failed)) => {
             return write!(text, "{fault:?}");
         }
@@ -104,7 +107,8 @@ fn push_line<F: FrontEnd>(
 /// Whether the step gives this line.
 fn tells<F: FrontEnd>(alloc: Global, process: &mut Process<F>, step: &Step, told: &str) -> bool {
     let mut text = String::new(alloc);
-    push_line(&mut text, process, step).is_ok() && text.as_str() == told
+    let made = step_of(process, step);
+    push_made(&mut text, process, &made).is_ok() && text.as_str() == told
 }
 
 /// Has the processes make the steps, and demands the line of each.
@@ -117,19 +121,25 @@ fn demand_rows<F: FrontEnd>(rt: &(impl Abort + AllocGlobal), all: &mut [Process<
     }
 }
 
-/// The given number of processes, of one register.
-fn all_of<F: FrontEnd>(rt: &(impl Abort + AllocGlobal), processes: u8) -> Vec<Process<F>> {
-    let shape = Shape::new(u32::from(processes), 1).expect(rt, "a shape");
-    let mut all = Vec::new(rt.alloc());
-    for me in 0..processes {
-        let process = Process::<F>::new(rt.alloc(), shape, me).expect(rt, "a process");
-        all.push(process).expect(rt, "memory");
+/// The given number of processes, of one register. They stand in a list of ample memory.
+pub(crate) fn all_of<F: FrontEnd, A: Allocator + Copy>(
+    alloc: A,
+    ample: Global,
+    shape: Shape,
+) -> Result<Vec<Process<F, A>>, ProcessFault> {
+    let mut all = Vec::new(ample);
+    for me in 0..shape.processes() as u8 {
+        let process = Process::<F, A>::new(alloc, shape, me)?;
+        if all.push(process).is_err() {
+            return Err(ProcessFault::OutOfMemory);
+        }
     }
-    all
+    Ok(all)
 }
 
 /// Has processes of one shape make the steps, and demands the line of each.
-pub(crate) fn follow<F: FrontEnd>(rt: &(impl Abort + AllocGlobal), processes: u8, rows: &[Row]) {
-    let mut all = all_of::<F>(rt, processes);
+pub(crate) fn follow<F: FrontEnd>(rt: &(impl Abort + AllocGlobal), processes: u32, rows: &[Row]) {
+    let shape = Shape::new(processes, 1).expect(rt, "a shape");
+    let mut all = all_of::<F, Global>(rt.alloc(), rt.alloc(), shape).expect(rt, "processes");
     demand_rows(rt, all.as_mut_slice(), rows);
 }
