@@ -93,8 +93,8 @@ const JUDGED: &[(&str, &[Judged])] = &[
     ),
 ];
 
-/// Whether this is said of a head with each of its rests.
-fn is_judged(alloc: Global, head: &str, rests: &[Judged]) -> bool {
+/// The first rest with which something else is said of a head.
+fn misjudged(alloc: Global, head: &str, rests: &[Judged]) -> Option<&'static str> {
     for (rest, lines) in rests {
         let given = if *lines == "serial yes\n" {
             Given::Accepted(lines)
@@ -102,16 +102,17 @@ fn is_judged(alloc: Global, head: &str, rests: &[Judged]) -> bool {
             Given::Denied(lines)
         };
         if !gives(alloc, Command::Check, (head, rest), given) {
-            return false;
+            return Some(*rest);
         }
     }
-    true
+    None
 }
 
 #[test]
 fn orders_are_judged(rt: HostRuntime) {
     for (head, rests) in JUDGED {
-        assert!(rt; is_judged(rt.alloc(), head, rests));
+        let rest = misjudged(rt.alloc(), head, rests);
+        assert!(rt; rest.is_none(), "{head}{rest:?}");
     }
 }
 
@@ -162,7 +163,10 @@ const CHANGED: &[(&str, &str, Given<'static>)] = &[
 fn reports_are_read_as_they_were_written(rt: HostRuntime) {
     for (cut, behind, given) in CHANGED {
         let front = ONE_PROCESS_NOW.strip_suffix(*cut).unwrap_or("");
-        assert!(rt; gives(rt.alloc(), Command::Check, (front, behind), *given));
+        assert!(rt;
+            gives(rt.alloc(), Command::Check, (front, behind), *given),
+            "{cut} by {behind}"
+        );
     }
 }
 

@@ -135,6 +135,10 @@ end
 fn each_example_is_answered_as_the_tutorial_says(rt: HostRuntime) {
     for example in EXAMPLES {
         let parts = (example.text, "");
-        assert!(rt; gives(rt.alloc(), example.command, parts, example.given));
+        assert!(rt;
+            gives(rt.alloc(), example.command, parts, example.given),
+            "{}",
+            example.text
+        );
     }
 }

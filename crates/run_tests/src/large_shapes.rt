@@ -72,6 +72,9 @@ const LARGEST: &[(Command, &str, &str, Given<'static>)] = &[
 #[test]
 fn the_largest_shapes_and_both_versions(rt: HostRuntime) {
     for (command, head, tail, given) in LARGEST {
-        assert!(rt; gives(rt.alloc(), *command, (head, tail), *given));
+        assert!(rt;
+            gives(rt.alloc(), *command, (head, tail), *given),
+            "{head}{tail}"
+        );
     }
 }

@@ -302,7 +302,7 @@ fn has_small_report(alloc: Global, fair: bool, lines: &str, tail: &str) -> bool 
 #[test]
 fn each_fair_play_has_its_report(rt: HostRuntime) {
     for (line, tail) in [("", FAIR), ("budget = 3\n", FAIR_THREE)] {
-        assert!(rt; has_small_report(rt.alloc(), true, line, tail));
+        assert!(rt; has_small_report(rt.alloc(), true, line, tail), "{line}");
     }
 }
 
@@ -317,7 +317,7 @@ fn has_seeded_report(alloc: Global, seed: usize, tail: &str) -> bool {
 #[test]
 fn each_seeded_play_has_its_report(rt: HostRuntime) {
     for (seed, tail) in SEEDED.iter().enumerate() {
-        assert!(rt; has_seeded_report(rt.alloc(), seed, tail));
+        assert!(rt; has_seeded_report(rt.alloc(), seed, tail), "{seed}");
     }
 }
 
@@ -325,7 +325,10 @@ fn each_seeded_play_has_its_report(rt: HostRuntime) {
 fn each_front_end_has_its_report(rt: HostRuntime) {
     let seeded = Command::Play { fair: false };
     for (front, report) in BY_FRONT {
-        assert!(rt; has_report(rt.alloc(), seeded, (front, THREE), report));
+        assert!(rt;
+            has_report(rt.alloc(), seeded, (front, THREE), report),
+            "{front}"
+        );
     }
 }
 
@@ -362,7 +365,7 @@ fn is_refused(alloc: Global, document: (&str, &str), line: &str) -> bool {
 #[test]
 fn documents_are_refused(rt: HostRuntime) {
     for (head, tail, line) in REFUSED {
-        assert!(rt; is_refused(rt.alloc(), (head, tail), line));
+        assert!(rt; is_refused(rt.alloc(), (head, tail), line), "{line}");
     }
 }
 

@@ -36,7 +36,10 @@ const REFUSED: &[(&str, &str, &str)] = &[
 fn events_are_refused(rt: HostRuntime) {
     for (head, event, line) in REFUSED {
         let given = Given::Refused(line);
-        assert!(rt; gives(rt.alloc(), Command::Replay, (head, event), given));
+        assert!(rt;
+            gives(rt.alloc(), Command::Replay, (head, event), given),
+            "{event}"
+        );
     }
 }
 

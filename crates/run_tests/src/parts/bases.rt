@@ -171,7 +171,7 @@ fn names_and_their_faults(rt: HostRuntime) {
     for (words, fault) in NAMES {
         let mut names = Vec::new(rt.alloc());
         let added = add_all(&mut names, rt.alloc(), words).is_ok();
-        assert!(rt; Names::new(names).err() == *fault && added);
+        assert!(rt; Names::new(names).err() == *fault && added, "{words:?}");
     }
 }
 

@@ -167,6 +167,8 @@ fn is_operation(alloc: Global, names: &Names, text: &str, op: Op) -> bool {
 
 /// Whether a text isn't read as an operation, for this cause.
 fn is_no_operation(names: &Names, text: &str, why: Option<Why>) -> bool {
+    // (for the proof: by this getter's contract the names have no fault)
+    let _count = names.count();
     read_op(text.as_bytes(), names).is_none() && op_form(text.as_bytes(), names) == why
 }
 

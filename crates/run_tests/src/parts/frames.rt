@@ -77,10 +77,16 @@ fn is_spelled(alloc: Global, frame: &Frame, bytes: &[u8]) -> bool {
 #[test]
 fn each_form_there_and_back(rt: HostRuntime) {
     for (frame, bytes) in FRAMES {
-        assert!(rt; decode(bytes) == Ok(*frame) && is_spelled(rt.alloc(), frame, bytes));
+        assert!(rt;
+            decode(bytes) == Ok(*frame) && is_spelled(rt.alloc(), frame, bytes),
+            "{frame:?}"
+        );
     }
     for frame in OUT_OF_RANGE {
-        assert!(rt; encode(rt.alloc(), frame).err() == Some(FrameFault::Range));
+        assert!(rt;
+            encode(rt.alloc(), frame).err() == Some(FrameFault::Range),
+            "{frame:?}"
+        );
     }
 }
 

@@ -247,7 +247,10 @@ const TAKEN: &[(u64, Option<Body>, u64)] = &[
 fn inbox_accepts_in_order(rt: HostRuntime) {
     let mut inbox = Inbox::new();
     for (number, accepted, expected) in TAKEN {
-        assert!(rt; inbox.take(*number, TWO) == *accepted && inbox.expected() == *expected);
+        assert!(rt;
+            inbox.take(*number, TWO) == *accepted && inbox.expected() == *expected,
+            "{number}, then {expected}"
+        );
     }
 }
 
