@@ -68,7 +68,8 @@ fn stamps_by_time_and_then_by_process(rt: HostRuntime) {
                 process: *other_process,
             };
             assert!(rt;
-                (stamp < other) == (place < other_place),
+                (stamp < other) == (place < other_place)
+                    && stamp.order(&other) == place.cmp(&other_place),
                 "{stamp:?} {other:?}"
             );
         }

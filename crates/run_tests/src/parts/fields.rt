@@ -156,20 +156,25 @@ const NO_OPERATIONS: &[(&str, Option<Why>)] = &[
     ("erase x", None),
 ];
 
+/// The operation that a text is.
+fn op_of(text: &str, names: &Names) -> Option<Op> {
+    // (for the proof: by this getter's contract the names have no fault)
+    let _count = names.count();
+    read_op(text.as_bytes(), names)
+}
+
 /// Whether a text is read as the operation, and the operation is spelled so.
 fn is_operation(alloc: Global, names: &Names, text: &str, op: Op) -> bool {
     let name = name_of_op(names, op);
     match format!(in alloc; "{}", OpLine { name, op }) {
-        Ok(spelled) => spelled.as_str() == text && read_op(text.as_bytes(), names) == Some(op),
+        Ok(spelled) => spelled.as_str() == text && op_of(text, names) == Some(op),
         Err(_) => false,
     }
 }
 
 /// Whether a text isn't read as an operation, for this cause.
 fn is_no_operation(names: &Names, text: &str, why: Option<Why>) -> bool {
-    // (for the proof: by this getter's contract the names have no fault)
-    let _count = names.count();
-    read_op(text.as_bytes(), names).is_none() && op_form(text.as_bytes(), names) == why
+    op_of(text, names).is_none() && op_form(text.as_bytes(), names) == why
 }
 
 #[test]
