@@ -359,7 +359,10 @@ fn every_shorter_text_is_refused(rt: HostRuntime) {
     for text in [ONE_PROCESS, ONE_PROCESS_NOW] {
         let least = least_read(rt.alloc(), text.as_bytes());
         let refused = refusal(rt.alloc(), text, "end\n", "end");
-        assert!(rt; least + 1 == text.len() && refused.is_none(), "{least}");
+        assert!(rt;
+            text.len().checked_sub(1) == Some(least) && refused.is_none(),
+            "{least}"
+        );
     }
 }
 
