@@ -7,9 +7,10 @@ ghost use Rattle.reg_commands.specs.declared.command.Command.{Command as AnyComm
 use crate::faults::Fault;
 use reg_base::limits::LONGEST_INPUT;
 use std::alloc::Allocator;
-use std::io::{ErrorKind, Read};
+use std::io::Read;
 
-/// All that the reader has left, unless it is more than the limit. It stops at the first read that fails.
+/// All that the reader has left, unless it is more than the limit. It stops at the first read that fails, at one that a
+/// signal interrupted too.
 fn read_all<A: Allocator, R: Read>(alloc: A, reader: &mut R) -> Result<Vec<u8, A>, Fault>
     ensures all { IfOk result (λ v. IfSome (R.remaining reader.old) (λ xs. v.items ≡ xs)) }
     ensures within { IfOk result (λ v. length v.items ≤ LONGEST_INPUT) }
@@ -30,11 +31,7 @@ fn read_all<A: Allocator, R: Read>(alloc: A, reader: &mut R) -> Result<Vec<u8, A
                     Err(_) => return Err(Fault::OutOfMemory),
                 }
             }
-            Err(error) => {
-                if error.kind() != ErrorKind::Interrupted {
-                    return Err(Fault::Unread);
-                }
-            }
+            Err(_) => return Err(Fault::Unread),
         }
     }
     Err(Fault::Unread)
@@ -44,7 +41,8 @@ fn read_all<A: Allocator, R: Read>(alloc: A, reader: &mut R) -> Result<Vec<u8, A
 ///
 /// # Errors
 ///
-/// `Unread` where a read failed; `TooLong`, `NotText` and `OutOfMemory`. No clause says which reads are made again.
+/// `Unread` where a read failed, for whatever cause, and then nothing more is read, which is only tested; `TooLong`,
+/// `NotText` and `OutOfMemory`.
 pub fn read_input<A: Allocator, R: Read>(alloc: A, reader: &mut R) -> Result<String<A>, Fault>
     ensures ok { IfOk result (λ s. IfSome (R.remaining reader.old) (λ xs. string_bytes s ≡ xs)) }
     ensures within { OnOk result (IfSome (R.remaining reader.old) (λ xs. length xs ≤ LONGEST_INPUT)) }

@@ -1,4 +1,7 @@
 //! A space-time diagram of a run, as SVG.
+ghost use Rattle.std.specs.Prelude.{IfOk, string_bytes};
+ghost use Rattle.reg_drawing.specs.Drawings.{IsDrawing};
+
 use crate::layout::{BELOW, LEADING, Label, Layout, NUMBERS, TITLE, TOP};
 use crate::legend::{Legend, ROW, show_head};
 use crate::shapes::{Diamond, Node, Span, Spot, Stub, Way};
@@ -6,15 +9,13 @@ use crate::words::{CastText, IdText, TakeText};
 use reg_base::{Delivered, Names};
 use reg_checkers::Point;
 use reg_frames::{Body, Frame};
-use reg_text::Unwritten;
 use reg_trace::{Arrow, Bar, Moment, Sent, is_taken};
-use std::alloc::Allocator;
+use std::alloc::{AllocError, Allocator};
 use std::fmt;
-use std::io::Write;
 
 /// What is drawn of a run.
 #[derive(Drop)]
-pub struct Drawing<'a, A: Allocator + Copy> {
+pub(crate) struct Drawing<'a, A: Allocator + Copy> {
     pub(crate) names: &'a Names<A>,
     pub(crate) moments: &'a [Moment<A>],
     pub(crate) points: &'a [Point],
@@ -70,12 +71,12 @@ impl<A: Allocator + Copy> Drawing<'_, A> {
         }
     }
 
-    /// Shows the page.
+    /// Shows the attributes of the element, its head and the page.
     fn show_page<W: fmt::Write>(&self, f: &mut fmt::Formatter<W>) -> fmt::Result {
         let (width, height) = (self.layout.width, self.height());
         writeln!(
             f,
-            "<svg xmlns=\"http://www.w3.org/2000/svg\" class=\"awshow\" width=\"{width}\" height=\"{height}\" viewBox=\"0 0 {width} {height}\" role=\"img\">"
+            "xmlns=\"http://www.w3.org/2000/svg\" class=\"awshow\" width=\"{width}\" height=\"{height}\" viewBox=\"0 0 {width} {height}\" role=\"img\">"
         )?;
         show_head(f)?;
         writeln!(
@@ -347,6 +348,7 @@ impl<A: Allocator + Copy> Drawing<'_, A> {
     }
 }
 
+/// What stands inside of the element: its attributes, and its parts.
 impl<A: Allocator + Copy> fmt::Display for Drawing<'_, A> {
     fn fmt<W: fmt::Write>(&self, f: &mut fmt::Formatter<W>) -> fmt::Result {
         let legend = self.layout.bottom.saturating_add(28);
@@ -355,18 +357,27 @@ impl<A: Allocator + Copy> fmt::Display for Drawing<'_, A> {
         self.show_events(f)?;
         self.show_processes(f)?;
         self.show_run(f)?;
-        self.legend.show(f, legend, self.layout.width)?;
-        f.write_str("</svg>\n")
+        self.legend.show(f, legend, self.layout.width)
     }
 }
 
-/// Writes a drawing.
-pub fn write_drawing<A: Allocator + Copy, W: Write>(
-    writer: &mut W,
-    drawing: &Drawing<'_, A>,
-) -> Result<(), Unwritten> {
-    if write!(writer, "{drawing}").is_err() {
-        return Err(Unwritten);
+/// The text of an element `svg` with this inside of it.
+fn element<A: Allocator + Copy>(alloc: A, inside: &str) -> Result<String<A>, AllocError>
+    ensures { IfOk result (λ s. IsDrawing (string_bytes s)) }
+{
+    format!(in alloc; "<svg {inside}</svg>\n")
+}
+
+impl<A: Allocator + Copy> Drawing<'_, A> {
+    /// The text of the drawing.
+    ///
+    /// # Errors
+    ///
+    /// Where memory is refused.
+    pub(crate) fn text(&self, alloc: A) -> Result<String<A>, AllocError>
+        ensures { IfOk result (λ s. IsDrawing (string_bytes s)) }
+    {
+        let inside = format!(in alloc; "{self}")?;
+        element(alloc, inside.as_str())
     }
-    Ok(())
 }

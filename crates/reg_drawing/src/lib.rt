@@ -8,5 +8,4 @@ mod pictures;
 mod shapes;
 mod words;
 
-pub use drawing::{Drawing, write_drawing};
 pub use pictures::draw_told;

@@ -1,4 +1,7 @@
 //! What is told of a run, as a drawing.
+ghost use Rattle.std.specs.Prelude.{IfOk, string_bytes};
+ghost use Rattle.reg_drawing.specs.Drawings.{IsDrawing};
+
 use crate::drawing::Drawing;
 use crate::layout::{Label, bar_label, lay_out, width_of};
 use crate::legend::Legend;
@@ -132,12 +135,8 @@ fn legend_of<A: Allocator + Copy>(
     legend
 }
 
-/// Draws what is told of a run, as a space-time diagram. With more than 30 events counts are left out.
-///
-/// # Errors
-///
-/// Where memory is refused.
-pub fn draw_told<A: Allocator + Copy>(
+/// What is drawn of what is told of a run.
+fn drawing_of<A: Allocator + Copy>(
     alloc: A,
     told: &TracedRun<A>,
 ) -> Result<Drawing<'_, A>, AllocError> {
@@ -164,4 +163,19 @@ pub fn draw_told<A: Allocator + Copy>(
         title,
         legend,
     })
+}
+
+/// Draws what is told of a run, as a space-time diagram: the text of an SVG element. With more than 30 events counts
+/// are left out. What stands inside of the element no clause says.
+///
+/// # Errors
+///
+/// Where memory is refused.
+pub fn draw_told<A: Allocator + Copy>(
+    alloc: A,
+    told: &TracedRun<A>,
+) -> Result<String<A>, AllocError>
+    ensures { IfOk result (λ s. IsDrawing (string_bytes s)) }
+{
+    drawing_of(alloc, told)?.text(alloc)
 }

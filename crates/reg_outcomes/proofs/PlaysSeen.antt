@@ -31,7 +31,7 @@ use Rattle.reg_outcomes.specs.declared.outcomes.TheConstants.{MOST_STAGES}
 use Rattle.reg_outcomes.specs.Finishing.{AllAnswered}
 use Rattle.reg_outcomes.proofs.Answering.{used_where_answered}
 use Rattle.reg_outcomes.specs.Finding.{IsFindFault, IsWiderSearch}
-use Rattle.reg_outcomes.specs.Outcomes.{AreSeen, IsLinearizable, IsPlayFault, IsPlaysFault, IsSeen, play_from, seed_at}
+use Rattle.reg_outcomes.specs.Outcomes.{AreSeen, HasLateWitness, IsLinearizable, IsPlayFault, IsPlaysFault, IsSeen, play_from, seed_at}
 use Rattle.reg_outcomes.specs.Timing.{IsSeenIn}
 
 pub on_ok : {T E : Type 0} {P Q : Type 0} (r : Result T E) → (P → Q) → OnOk r P → OnOk r Q
@@ -119,13 +119,14 @@ module _ (start : Op → ℕ → Start) (work : Load) (seed : ℕ) (made : Made)
   )
 
   -- one whose search is too wide
-  pub play_fault : (done : Bool) → done ≡ true → IsPlay start work.shape work.scripts work.budget made done → (fault : InterleavingFault) → IsFindFault Points made.processes made.registers made.history MOST_STAGES fault → IsPlayFault start work seed fault
-  play_fault done all play TooManyStages wide = record {
+  pub play_fault : (done : Bool) → done ≡ true → IsPlay start work.shape work.scripts work.budget made done → (fault : InterleavingFault) → IsFindFault Points made.processes made.registers made.history MOST_STAGES fault → (fault ≡ TooManyStages → HasLateWitness start made) → IsPlayFault start work seed fault
+  play_fault done all play TooManyStages wide late = record {
     finished = moved (λ m. IsPlay start work.shape work.scripts work.budget m true) (subst (λ (b : Bool). IsPlay start work.shape work.scripts work.budget made b) all play);
+    late = moved (HasLateWitness start) (late refl);
     wider = moved (λ m. IsWiderSearch Points work.shape.processes work.shape.registers m.history MOST_STAGES)
         (subst (λ (n : ℕ). IsWiderSearch Points work.shape.processes n made.history MOST_STAGES) play.registers (subst (λ (n : ℕ). IsWiderSearch Points n made.registers made.history MOST_STAGES) play.processes wide));
   }
-  play_fault done all play OutOfMemory h = tt
+  play_fault done all play OutOfMemory h late = tt
 
 -- the fault of one of so many plays is theirs
 pub plays_fault : (start : Op → ℕ → Start) (work : Load) (plays k : ℕ) → k < plays → (fault : InterleavingFault) → IsPlayFault start work (seed_at work k) fault → IsPlaysFault start work plays fault

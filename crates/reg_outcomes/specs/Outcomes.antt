@@ -3,6 +3,7 @@ use Rattle.std.specs.Prelude.{ℕ, ◌≡◌, ◌↔◌, ◌+◌, ◌<◌, ◌�
 use Rattle.rand_core.specs.Pcg32Seed.{pcg32_seed}
 use Rattle.rand_pcg.specs.Pcg.{pcg32, pcg32_of_seed}
 use Rattle.reg_base.specs.declared.memory.Op.{Op}
+use Rattle.reg_base.specs.declared.memory.OpId.{OpId}
 use Rattle.reg_front.specs.declared.starts.Start.{Start}
 use Rattle.reg_checkers.specs.declared.entries.Entry.{Entry}
 use Rattle.reg_checkers.specs.declared.entries.Point.{Point}
@@ -11,7 +12,10 @@ use Rattle.reg_checkers.specs.Orders.{IsPointOrder}
 use Rattle.reg_inputs.specs.Loads.{Load}
 use Rattle.reg_workload.specs.Plays.{IsPlay}
 use Rattle.reg_workload.specs.Seeded.{seeded_play}
-use Rattle.reg_world.specs.Worlds.{Made}
+use Rattle.reg_world.specs.Keys.{IsWitness}
+use Rattle.reg_world.specs.RealTime.{KeepsRealTime}
+use Rattle.reg_world.specs.World.{run_of}
+use Rattle.reg_world.specs.Worlds.{Made, run_in}
 use Rattle.reg_outcomes.specs.declared.faults.InterleavingFault.{InterleavingFault}
 use Rattle.reg_outcomes.specs.declared.faults.InterleavingFault.TheVariants.{TooManyStages, OutOfMemory}
 use Rattle.reg_outcomes.specs.declared.kinds.OrderKind.TheVariants.{Points}
@@ -73,10 +77,15 @@ pub record AreOutcomes (start : Op → ℕ → Start) (work : Load) (plays : ℕ
   pub rest : CountsUnfinished seen unfinished
   pub left : TellsUndrawn work.scripts work.shape.registers seen undrawn
 
--- The play from this seed is finished, and some number of its operations, placed in search of a point order, leads to
--- more stages than the most.
+-- the witness of a run doesn't keep the real time
+abbrev pub HasLateWitness : (Op → ℕ → Start) → Made → Type 0
+HasLateWitness start made = (ids : List OpId) × IsWitness (run_of made.registers (run_in start made)) ids × ¬ KeepsRealTime made.history ids
+
+-- The play from this seed is finished, its witness doesn't keep the real time, and some number of its operations, placed
+-- in search of a point order, leads to more stages than the most.
 pub record IsWiderPlay (start : Op → ℕ → Start) (work : Load) (seed : ℕ) : Type 0 where
   pub finished : IsPlay start work.shape work.scripts work.budget (play_from start work seed) true
+  pub late : HasLateWitness start (play_from start work seed)
   pub wider : IsWiderSearch Points work.shape.processes work.shape.registers (play_from start work seed).history MOST_STAGES
 
 -- why the play from this seed is not counted, and why the given number of plays is not

@@ -5,7 +5,7 @@ ghost use Rattle.reg_outcomes.specs.declared.outcomes.TheConstants.{MOST_STAGES}
 ghost use Rattle.reg_outcomes.specs.Finding.{IsFindFault};
 ghost use Rattle.reg_outcomes.specs.PlayTables.{Seen};
 ghost use Rattle.reg_outcomes.specs.Counts.{HasRoom, IsCounted};
-ghost use Rattle.reg_outcomes.specs.Outcomes.{AreOutcomes, AreSeen, IsPlayFault, IsPlaysFault, IsSeen};
+ghost use Rattle.reg_outcomes.specs.Outcomes.{AreOutcomes, AreSeen, HasLateWitness, IsPlayFault, IsPlaysFault, IsSeen};
 ghost use Rattle.reg_outcomes.specs.Timing.{IsSeenIn};
 
 use crate::faults::InterleavingFault;
@@ -43,7 +43,7 @@ fn count_finished<F: FrontEnd, A: Allocator + Copy>(
 ) -> Result<(), InterleavingFault>
     requires { HasRoom (λ v. v.items) tallies.old.told }
     ensures counted { OnOk result ((s : Seen) × IsSeenIn world.now seed s × ((plays : List Seen) → IsCounted (λ v. v.items) plays tallies.old.told tallies.old.unfinished → IsCounted (λ v. v.items) (plays ++ s ∷ []) tallies.new.told tallies.new.unfinished)) }
-    ensures refused { IfErr result (IsFindFault Points world.now.processes world.now.registers world.now.history MOST_STAGES) }
+    ensures refused { IfErr result (λ f. IsFindFault Points world.now.processes world.now.registers world.now.history MOST_STAGES f × (f ≡ InterleavingFault.TooManyStages → HasLateWitness F.start world.now)) }
 {
     let (history, order) = world.serial_order()?;
     let linearizable = is_linearizable(alloc, history, order.as_slice())?;
@@ -110,8 +110,8 @@ fn count_plays<F: FrontEnd, A: Allocator + Copy>(
 ///
 /// # Errors
 ///
-/// Whether a play is linearizable was not found, since some number of its operations, placed in search of a point
-/// order, leads to more stages than `MOST_STAGES`; or memory was refused.
+/// Whether a play is linearizable was not found, since its witness doesn't keep the real time, and some number of its
+/// operations, placed in search of a point order, leads to more stages than `MOST_STAGES`; or memory was refused.
 pub fn play_many<F: FrontEnd, A: Allocator + Copy>(
     alloc: A,
     work: &Workload<A>,

@@ -88,8 +88,8 @@ fn keeps_real_time<A: Allocator + Copy>(
 ///
 /// # Errors
 ///
-/// Some number of operations, placed in search of a point order, leads to more stages than `MOST_STAGES`, or memory was
-/// refused.
+/// The order doesn't keep the real time, and some number of operations, placed in search of a point order, leads to more
+/// stages than `MOST_STAGES`; or memory was refused.
 pub(crate) fn is_linearizable<A: Allocator + Copy>(
     alloc: A,
     history: &History<A>,
@@ -98,6 +98,7 @@ pub(crate) fn is_linearizable<A: Allocator + Copy>(
     requires { IsSerial history.now.shape.registers history.now.entries order.now }
     ensures found { IfOk result (λ is. (is ≡ true) ↔ IsLinearizable history.now.shape.registers history.now.entries) }
     ensures refused { IfErr result (IsFindFault Points history.now.shape.processes history.now.shape.registers history.now.entries MOST_STAGES) }
+    ensures late { IfErr result (λ f. f ≡ InterleavingFault.TooManyStages → ¬ KeepsRealTime history.now.entries order.now) }
 {
     if keeps_real_time(alloc, history.entries(), order)? {
         return Ok(true);

@@ -16,10 +16,10 @@ use Rattle.reg_show.specs.Runs.{TellsRun, DrawsRun, BlamesDrawn}
 use Rattle.reg_show.specs.Schedules.{WritesSchedule}
 use Rattle.reg_show.specs.Rests.{RestsRun, BlamesRest}
 
--- what was read, and but for a drawing what was written: `Wrote` says how a text was
+-- what was read, and what was written: `Wrote` says how a text was
 abbrev pub ShowsText : Showing → (List ℕ → Type 0) → List ℕ → Type 0
 ShowsText Trace Wrote text = TellsRun Wrote text
-ShowsText Draw Wrote text = DrawsRun text
+ShowsText Draw Wrote text = DrawsRun Wrote text
 ShowsText Data Wrote text = ShowsData [] (10 ∷ []) Wrote text
 ShowsText Page Wrote text = ShowsData HEAD.now TAIL.now Wrote text
 ShowsText Rest Wrote text = RestsRun Wrote text

@@ -6,15 +6,15 @@ ghost use Rattle.reg_inputs.specs.Schedules.{Plan, IsPlan, Spells};
 ghost use Rattle.reg_commands.specs.Answers.{Blames};
 ghost use Rattle.reg_commands.specs.Replays.{start_of};
 ghost use Rattle.reg_commands.specs.declared.command.Command.TheVariants.{Replay};
-ghost use Rattle.reg_show.specs.Runs.{BlamesDrawn, DrawsRun, TellsRun};
+ghost use Rattle.reg_show.specs.Runs.{BlamesDrawn, DrawsRun, IsDrawable, TellsRun};
 ghost use Rattle.reg_show.specs.ToldRuns.{IsTold};
 ghost use Rattle.reg_trace.specs.Traces.{trace_text};
 
 use crate::faults::ShowFault;
 use crate::telling::tell_schedule;
 use reg_base::Names;
-use reg_commands::{Fault, read_schedule};
-use reg_drawing::{Drawing, draw_told, write_drawing};
+use reg_commands::{Fault, read_schedule, write_answer};
+use reg_drawing::draw_told;
 use reg_trace::{Moment, TracedRun, write_trace};
 use std::alloc::Allocator;
 use std::io::Write;
@@ -64,7 +64,7 @@ pub(crate) fn trace<A: Allocator + Copy, W: Write>(
 
 /// What is told of the schedule that a text spells, where it is drawn.
 fn told_to_draw<A: Allocator + Copy>(alloc: A, text: &str) -> Result<TracedRun<A>, ShowFault>
-    ensures ok { IfOk result (λ _. DrawsRun text.now) }
+    ensures ok { IfOk result (λ _. IsDrawable text.now) }
     ensures why { IfErr result (λ f. BlamesDrawn MOST_DRAWN f text.now) }
     ensures kind { IfErr result (λ f. f ≢ ShowFault.Command Fault.Output) }
 {
@@ -75,28 +75,19 @@ fn told_to_draw<A: Allocator + Copy>(alloc: A, text: &str) -> Result<TracedRun<A
     Ok(tell_schedule(alloc, schedule)?)
 }
 
-/// Writes a drawing, and tells whether all of it went out.
-fn is_sent<A: Allocator + Copy, W: Write>(writer: &mut W, drawing: &Drawing<'_, A>) -> bool {
-    write_drawing(writer, drawing).is_ok() && writer.flush().is_ok()
-}
-
 /// Reads a schedule, and writes the space-time diagram of its run.
 pub(crate) fn draw<A: Allocator + Copy, W: Write>(
     alloc: A,
     text: &str,
     writer: &mut W,
 ) -> Result<(), ShowFault>
-    ensures ok { IfOk result (λ _. DrawsRun text.now) }
+    ensures ok { IfOk result (λ _. DrawsRun (Appends (W.contents writer.old) (W.contents writer.new)) text.now) }
     ensures why { IfErr result (λ f. BlamesDrawn MOST_DRAWN f text.now) }
     ensures silent { IfErr result (λ f. f ≢ ShowFault.Command Fault.Output → writer.new ≡ writer.old) }
-    ensures part { IsErrOf result (ShowFault.Command Fault.Output) → DrawsRun text.now }
+    ensures part { IsErrOf result (ShowFault.Command Fault.Output) → DrawsRun (AppendsPart (W.contents writer.old) (W.contents writer.new)) text.now }
 {
     let told = told_to_draw(alloc, text)?;
     let drawing = draw_told(alloc, &told)?;
-    if !is_sent(writer, &drawing) {
-        return Err(ShowFault::Command {
-            fault: Fault::Output,
-        });
-    }
+    write_answer(writer, drawing.as_str().as_bytes())?;
     Ok(())
 }

@@ -32,6 +32,8 @@ mod short_shown;
 mod show_words;
 #[cfg(test)]
 mod shown;
+#[cfg(test)]
+mod streams;
 pub mod values;
 #[cfg(test)]
 mod why;

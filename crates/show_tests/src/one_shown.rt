@@ -4,7 +4,7 @@ use crate::given::{Task, tells};
 use std::alloc::{AllocError, Global};
 
 /// One of the two has the lock. With the second outcome, the other one.
-const LOCK: &str = "registers = [\"lock\"]
+pub(crate) const LOCK: &str = "registers = [\"lock\"]
 scripts = [[\"swap lock 1\"], [\"swap lock 1\"]]
 front = \"linear\"
 ";

@@ -13,7 +13,7 @@ const POINTS: Task = Task::Order {
 };
 
 /// A write of process 0 is answered before process 1 reads, which still answers 0. The report's own order is none.
-const STALE: &str = "awreg report 1
+pub(crate) const STALE: &str = "awreg report 1
 front local-read
 processes 2
 registers x

@@ -7,7 +7,7 @@ use std::test::Fail;
 
 /// A write of the first of two processes: the second one takes it, and the first one takes the count and the
 /// acknowledgement that come back.
-const WRITE: &str = "tellwydar record 1
+pub(crate) const WRITE: &str = "tellwydar record 1
 front linear
 processes 2
 registers x
@@ -18,7 +18,7 @@ registers x
 ";
 
 /// The report of the run of `WRITE`. The write is first delivered by the second process, in event 1.
-const REPORT: &str = "awreg report 2
+pub(crate) const REPORT: &str = "awreg report 2
 front linear
 processes 2
 registers 1

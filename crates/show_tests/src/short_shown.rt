@@ -6,7 +6,7 @@ use std::alloc::{AllocError, Global};
 
 /// A workload whose fair play is `call 0 write x 5`, `take 0 1 0`, `take 1 0 0`, `take 1 0 1`, which answers the write,
 /// and `take 0 1 1`. The two takes of counts are of no use, and each of the others is.
-const LONE_WRITE: &str = "front = \"linear\"
+pub(crate) const LONE_WRITE: &str = "front = \"linear\"
 registers = [\"x\"]
 scripts = [[\"write x 5\"], []]
 ";

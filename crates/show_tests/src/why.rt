@@ -34,7 +34,7 @@ fn texts_are_told_as_worked_by_hand(rt: HostRuntime) {
 }
 
 /// A schedule of which the last event is refused, and what is told of it.
-const REFUSED: &str = "processes 1
+pub(crate) const REFUSED: &str = "processes 1
 registers x
 front linear
 call 0 read x

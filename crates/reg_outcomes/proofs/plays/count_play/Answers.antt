@@ -1,10 +1,11 @@
-use Rattle.std.proofs.Common.{sym, ◌∙◌}
+use Rattle.std.proofs.Common.{◌≡◌, sym, ◌∙◌}
 use Rattle.reg_outcomes.proofs.PlaysSeen.{finished_where_answered, is_play_from, on_ok, play_fault, seen_finished, seen_unfinished}
 use Rattle.std.proofs.lemmas.Result.{IfErr-weaker}
+use Rattle.reg_outcomes.specs.declared.faults.InterleavingFault.TheVariants.{TooManyStages}
 use Rattle.reg_outcomes.specs.declared.kinds.OrderKind.TheVariants.{Points}
 use Rattle.reg_outcomes.specs.declared.outcomes.TheConstants.{MOST_STAGES}
 use Rattle.reg_outcomes.specs.Finding.{IsFindFault}
-use Rattle.reg_outcomes.specs.Outcomes.{IsPlayFault}
+use Rattle.reg_outcomes.specs.Outcomes.{HasLateWitness, IsPlayFault}
 use Rattle.reg_outcomes.proofs.plays.count_play.Goals as goal
 
 pub returns-then-play-clause-counted : goal.returns-then-play-clause-counted
@@ -22,8 +23,8 @@ returns-then-play-clause-refused g c =
     let work = c.args.work.now in
     let made = c.in_ok-play.play.world in
     let is = is_play_from start work c.args.seed made c.new-words.result c.in_ok-play.ensures.turns c.new-words.ensures in
-    IfErr-weaker c.count_finished.result (IsFindFault Points made.processes made.registers made.history MOST_STAGES) (IsPlayFault start work c.args.seed)
-    (λ fault why. play_fault start work c.args.seed made is c.in_ok-play.play.finished c.if-play.true c.in_ok-play.ensures.play fault why) c.count_finished.ensures.refused
+    IfErr-weaker c.count_finished.result (λ fault. IsFindFault Points made.processes made.registers made.history MOST_STAGES fault × (fault ≡ TooManyStages → HasLateWitness start made)) (IsPlayFault start work c.args.seed)
+    (λ fault why. play_fault start work c.args.seed made is c.in_ok-play.play.finished c.if-play.true c.in_ok-play.ensures.play fault why.0 why.1) c.count_finished.ensures.refused
 
 pub returns-clause-counted : goal.returns-clause-counted
 returns-clause-counted g c =
