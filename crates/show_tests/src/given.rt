@@ -7,7 +7,6 @@ use reg_show::{
 };
 use reg_verify::verify_text;
 use std::alloc::Global;
-use std::io::Write;
 use std::process::Abort;
 
 /// What a command is to give: its status, its output, and the lines of its faults.
@@ -40,11 +39,11 @@ pub(crate) enum Task {
 }
 
 /// The status of a task. No command has 255, which stands for an outcome of number 0.
-fn run<W: Write>(
+fn run(
     alloc: Global,
     task: Task,
     text: &str,
-    output: &mut W,
+    output: &mut Vec<u8>,
     errors: &mut Vec<u8>,
 ) -> u8 {
     let mut input = text.as_bytes();
@@ -79,25 +78,6 @@ pub(crate) fn demand(rt: &(impl Abort + AllocGlobal), task: Task, rows: &[Row]) 
     for (text, given) in rows {
         assert!(rt; tells(rt.alloc(), task, text, *given), "{text}");
     }
-}
-
-/// Whether a first part of what is told of a text goes out where there is this much room for it, of at most 200 bytes.
-pub(crate) fn goes_out_in_part(
-    alloc: Global,
-    task: Task,
-    text: &str,
-    whole: &str,
-    room: usize,
-) -> bool {
-    let mut buffer = [0u8; 200];
-    if room > buffer.len() {
-        return false;
-    }
-    let mut writer = &mut buffer[..room];
-    let mut errors = Vec::new(alloc);
-    run(alloc, task, text, &mut writer, &mut errors) == 1
-        && errors.as_slice() == "output: write\n".as_bytes()
-        && whole.as_bytes().starts_with(&buffer[..room])
 }
 
 /// What a command wrote, as the answer of a trial. None where it told that it was out of memory, and wrote nothing.

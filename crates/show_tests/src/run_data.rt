@@ -8,7 +8,7 @@ use serde_json::Value;
 use std::alloc::Global;
 
 /// What is told of a write.
-pub(crate) const WRITE_DATA: &str = r##"{"version":1,
+const WRITE_DATA: &str = r##"{"version":1,
 "title":"",
 "processes":2,
 "registers":["x"],

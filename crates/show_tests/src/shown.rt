@@ -1,8 +1,7 @@
 //! Schedules, traces and drawings of texts, with what was worked out by hand from the rules.
 ghost use Rattle.reg_show.specs.Seeds.{IsSeed, seed_of};
 
-use crate::given::{Row, Task, demand, goes_out_in_part, tells};
-use crate::run_data::WRITE_DATA;
+use crate::given::{Row, Task, demand, tells};
 use crate::values::{scheduled, shown};
 use reg_commands::{Command, run_text};
 use reg_show::{Player, Showing};
@@ -135,18 +134,6 @@ pub(crate) const DATA: Task = Task::Show {
 #[test]
 fn traces_are_those_worked_by_hand(rt: HostRuntime) {
     demand(&rt, TRACE, TRACES.as_slice());
-}
-
-#[test]
-fn what_is_shown_to_a_writer_that_is_full_goes_out_in_part(rt: HostRuntime) {
-    for (task, whole) in [(TRACE, WRITE_TRACE), (DATA, WRITE_DATA)] {
-        for room in [0usize, 1, 99, 200] {
-            assert!(rt;
-                goes_out_in_part(rt.alloc(), task, WRITE, whole, room),
-                "{room}"
-            );
-        }
-    }
 }
 
 const EARLY: &str = "processes 2\nregisters x\nfront linear\ntake 0 1 0\n";

@@ -1,6 +1,5 @@
-//! How it is told what is wrong with a text: all of the answer, a first part where the writer fails, and nothing where
-//! there is no memory.
-use crate::given::{Task, answer_of, goes_out_in_part, tells};
+//! How it is told what is wrong with a text: all of the answer, and nothing where there is no memory.
+use crate::given::{Task, answer_of, tells};
 use crate::{why_reports, why_schedules, why_workloads};
 use refusing::{Trial, refusals};
 use reg_reasons::why_text;
@@ -22,6 +21,7 @@ fn demand_told(rt: &(impl Abort + AllocGlobal), rows: &[Row]) {
 
 #[test]
 fn texts_are_told_as_worked_by_hand(rt: HostRuntime) {
+    demand_told(&rt, &[(REFUSED, false, REFUSED_TOLD)]);
     demand_told(&rt, why_schedules::words());
     demand_told(&rt, why_schedules::spaces());
     demand_told(&rt, why_schedules::numbers());
@@ -46,16 +46,6 @@ const REFUSED_TOLD: &str = "event 1: no process
   |      ^
 there is no process 1: the process is 0
 ";
-
-#[test]
-fn an_answer_whose_writer_is_full_goes_out_in_part(rt: HostRuntime) {
-    for room in [0usize, 1, 25, 80] {
-        assert!(rt;
-            goes_out_in_part(rt.alloc(), Task::Why, REFUSED, REFUSED_TOLD, room),
-            "{room}"
-        );
-    }
-}
 
 /// What is told of a text.
 #[derive(Clone, Copy)]
