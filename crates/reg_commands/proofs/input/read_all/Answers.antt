@@ -1,4 +1,4 @@
-use Rattle.std.proofs.Common.{◌<◌, length, rules, ap, ◌∙◌}
+use Rattle.std.proofs.Common.{◌<◌, length, rules, ◌∙◌}
 use Rattle.reg_base.specs.declared.limits.TheConstants.{LONGEST_INPUT}
 use Rattle.reg_commands.proofs.Gathered.{all_read, of_each, too_long, one_more}
 use Rattle.reg_commands.proofs.input.read_all.Goals as goal
@@ -12,4 +12,5 @@ returns-then-count-len-clause-why g c =
     of_each _ (λ ys. LONGEST_INPUT < length ys) _ (too_long _ _ _ _ _ c.in-Ok.count _ c.loop.invariant.1 c.in-Ok.ensures.bytes.0 c.in-Ok.ensures.bound.1 (search rules))
 
 pub loop-preserved : goal.loop-preserved
-loop-preserved g c = ?
+loop-preserved g c =
+    one_more _ _ _ _ _ c.read.new.buf c.in-Ok.count _ c.loop.invariant c.in-Ok.ensures.bytes.0 c.in-Ok.ensures.bound.1 (search rules) (c.in-Ok-extend_from_slice.ensures.items ∙ search rules)
