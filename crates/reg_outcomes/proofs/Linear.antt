@@ -1,5 +1,5 @@
 -- A serial order that keeps the real time, and points that were looked for.
-use Rattle.std.proofs.Common.{ℕ, ◌≡◌, ◌↔◌, Bool, true, List, Option, Some, None, Vec, MatchOption, sym, ◌∙◌}
+use Rattle.std.proofs.Common.{ℕ, ◌≡◌, ◌↔◌, Bool, true, List, Option, Some, None, Result, Ok, Err, IfErr, Vec, MatchOption, sym, ◌∙◌}
 use Rattle.std.specs.Option.{is_some}
 use Rattle.std.proofs.lemmas.Bool.{false≢true}
 use Rattle.reg_base.specs.declared.memory.OpId.{OpId}
@@ -24,3 +24,8 @@ in_time_is n registers h good ids serial keeps = has_points n registers h good i
 pub found_is : {A : Type 0} (registers : ℕ) (h : List Entry) (o : Option (Vec Point A)) (b : Bool) → b ≡ is_some o → MatchOption o ((points : List Point) → ¬ IsPointOrder registers h points) (λ v. IsPointOrder registers h v.items) → (b ≡ true) ↔ IsLinearizable registers h
 found_is registers h None b is none = (λ e. absurd (false≢true (sym is ∙ e)), λ points. absurd (none points.0 points.1))
 found_is registers h (Some v) b is order = (λ e. (v.items, order), λ points. is)
+
+-- what holds of each result holds of a refused one
+pub whatever_fault : {T E : Type 0} (r : Result T E) (P : E → Type 0) (Q : Type 0) → Q → IfErr r (λ e. P e → Q)
+whatever_fault (Ok x) P Q q = tt
+whatever_fault (Err e) P Q q = λ _. q

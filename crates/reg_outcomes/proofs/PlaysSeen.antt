@@ -8,6 +8,7 @@ use Rattle.rand_pcg.specs.Lcg.{Lcg}
 use Rattle.rand_pcg.specs.Pcg.{pcg32, pcg32_of_seed}
 use Rattle.reg_base.specs.Shape.{Extent}
 use Rattle.reg_base.specs.declared.memory.Op.{Op}
+use Rattle.reg_base.specs.declared.memory.OpId.{OpId}
 use Rattle.reg_front.specs.declared.starts.Start.{Start}
 use Rattle.reg_front.specs.Fronts.{KeepsLaws}
 use Rattle.reg_checkers.specs.declared.entries.Entry.{Entry}
@@ -23,7 +24,9 @@ use Rattle.reg_inputs.specs.Loads.{Load}
 use Rattle.reg_workload.specs.Plays.{IsPlay, calls_of, script_of}
 use Rattle.reg_workload.specs.Seeded.{seeded_play}
 use Rattle.reg_world.specs.Worlds.{Made, run_in}
-use Rattle.reg_world.specs.World.{whole}
+use Rattle.reg_world.specs.Keys.{IsWitness}
+use Rattle.reg_world.specs.RealTime.{KeepsRealTime}
+use Rattle.reg_world.specs.World.{run_of, whole}
 use Rattle.reg_outcomes.specs.declared.faults.InterleavingFault.{InterleavingFault}
 use Rattle.reg_outcomes.specs.declared.faults.InterleavingFault.TheVariants.{TooManyStages, OutOfMemory}
 use Rattle.reg_outcomes.specs.declared.kinds.OrderKind.TheVariants.{Points}
@@ -127,6 +130,15 @@ module _ (start : Op → ℕ → Start) (work : Load) (seed : ℕ) (made : Made)
         (subst (λ (n : ℕ). IsWiderSearch Points work.shape.processes n made.history MOST_STAGES) play.registers (subst (λ (n : ℕ). IsWiderSearch Points n made.registers made.history MOST_STAGES) play.processes wide));
   }
   play_fault done all play OutOfMemory h late = tt
+
+-- why it isn't found whether a run is linearizable, of its history and its witness
+pub late_fault : (start : Op → ℕ → Start) (made : Made) (shape : Extent) (h : List Entry) (ids order : List OpId) (fault : InterleavingFault) → shape ≡ record { processes = made.processes; registers = made.registers } → h ≡ made.history → IsWitness (run_of made.registers (run_in start made)) ids → order ≡ ids
+    → IsFindFault Points shape.processes shape.registers h MOST_STAGES fault → (fault ≡ TooManyStages → ¬ KeepsRealTime h order)
+    → IsFindFault Points made.processes made.registers made.history MOST_STAGES fault × (fault ≡ TooManyStages → HasLateWitness start made)
+late_fault start made shape h ids order fault shaped told witness same why late = (
+  subst (λ (es : List Entry). IsFindFault Points made.processes made.registers es MOST_STAGES fault) told (subst (λ (e : Extent). IsFindFault Points e.processes e.registers h MOST_STAGES fault) shaped why),
+  λ wide. (ids, witness, λ keeps. late wide (subst (λ (es : List Entry). KeepsRealTime es order) (sym told) (subst (λ (l : List OpId). KeepsRealTime made.history l) (sym same) keeps))),
+)
 
 -- the fault of one of so many plays is theirs
 pub plays_fault : (start : Op → ℕ → Start) (work : Load) (plays k : ℕ) → k < plays → (fault : InterleavingFault) → IsPlayFault start work (seed_at work k) fault → IsPlaysFault start work plays fault
