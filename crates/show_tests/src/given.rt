@@ -39,13 +39,7 @@ pub(crate) enum Task {
 }
 
 /// The status of a task. No command has 255, which stands for an outcome of number 0.
-fn run(
-    alloc: Global,
-    task: Task,
-    text: &str,
-    output: &mut Vec<u8>,
-    errors: &mut Vec<u8>,
-) -> u8 {
+fn run(alloc: Global, task: Task, text: &str, output: &mut Vec<u8>, errors: &mut Vec<u8>) -> u8 {
     let mut input = text.as_bytes();
     let input = &mut input;
     match task {

@@ -176,7 +176,7 @@ fn reads_of(rt: &(impl Abort + AllocGlobal), row: &Row) -> u32 {
     }
 }
 
-/// Whether the failure of one read is told, and nothing is written.
+/// Whether the failure of one read is told, no other read is made after it, and nothing is written.
 fn is_read_told(rt: &(impl Abort + AllocGlobal), row: &Row, before: u32, kind: ErrorKind) -> bool {
     let (line, input, _) = *row;
     let mut reader = FailingReader {
@@ -185,7 +185,8 @@ fn is_read_told(rt: &(impl Abort + AllocGlobal), row: &Row, before: u32, kind: E
         ..reader_of(input)
     };
     let mut output = Vec::new(rt.alloc());
-    ends_so(rt, line, (&mut reader, &mut output), 1, "input: read\n") && output.is_empty()
+    let is_told = ends_so(rt, line, (&mut reader, &mut output), 1, "input: read\n");
+    is_told && output.is_empty() && reader.before == u32::MAX
 }
 
 /// Whether it is told where every read of a row's command fails in turn.

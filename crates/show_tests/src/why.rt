@@ -31,6 +31,8 @@ fn texts_are_told_as_worked_by_hand(rt: HostRuntime) {
     demand_told(&rt, why_reports::lines());
     demand_told(&rt, why_reports::places());
     demand_told(&rt, why_reports::orders());
+    demand_told(&rt, why_reports::entries());
+    demand_told(&rt, why_reports::lists());
 }
 
 /// A schedule of which the last event is refused, and what is told of it.

@@ -167,3 +167,76 @@ const ORDERS: [Row; 11] = [
 pub(crate) fn orders() -> &'static [Row] {
     &ORDERS
 }
+
+/// Further entries that are out of place, and a number of an older report.
+const ENTRIES: [Row; 6] = [
+    (
+        "awreg report 2\nfront linear\nprocesses 2\nregisters 1\nx\nhistory 2\n       0  p0    #0       call    write x 5\n       1  p0    #1       call    read x\norder 0\nend\n",
+        false,
+        "line 8: place\n8 |        1  p0    #1       call    read x\n  | ^\np0 #0, called at event 0, is not answered yet\n",
+    ),
+    (
+        "awreg report 2\nfront linear\nprocesses 2\nregisters 1\nx\nhistory 3\n       0  p0    #0       call    write x 5\n       2  p0    #0       answer  done\n       3  p0    #2       call    read x\norder 0\nend\n",
+        false,
+        "line 9: place\n9 |        3  p0    #2       call    read x\n  | ^\nthe next operation of process 0 is #1\n",
+    ),
+    (
+        "awreg report 2\nfront linear\nprocesses 2\nregisters 1\nx\nhistory 2\n       0  p0    #0       call    write x 5\n       2  p0    #1       answer  done\norder 0\nend\n",
+        false,
+        "line 8: place\n8 |        2  p0    #1       answer  done\n  | ^\nprocess 0 runs p0 #0\n",
+    ),
+    (
+        "awreg report 2\nfront linear\nprocesses 2\nregisters 1\nx\nhistory 2\n       4  p0    #0       call    write x 5\n       3  p0    #0       answer  done\norder 0\nend\n",
+        false,
+        "line 8: place\n8 |        3  p0    #0       answer  done\n  | ^\nevent 3 doesn't come after event 4, of the line before\n",
+    ),
+    (
+        "awreg report 2\nfront linear\nprocesses 2\nregisters 1\nx\nhistory 2\n       0  p0    #0       call    read x\n       2  p0    #0       answer  done\norder 0\nend\n",
+        false,
+        "line 8: place\n8 |        2  p0    #0       answer  done\n  | ^\na read and a swap are answered by a value\n",
+    ),
+    (
+        "awreg report 1\nfront linear\nprocesses 17\n",
+        false,
+        "line 3: range\n3 | processes 17\n  |           ^\n17 is out of range: the number of processes is from 1 to 16\n",
+    ),
+];
+
+/// What is told of calls and answers.
+pub(crate) fn entries() -> &'static [Row] {
+    &ENTRIES
+}
+
+/// Further orders and points that are none, and wrong counts.
+const LISTS: [Row; 5] = [
+    (
+        "awreg report 2\nfront linear\nprocesses 2\nregisters 1\nx\nhistory 1\n       0  p0    #0       call    read x\norder 1\np0 #0\nend\n",
+        false,
+        "serial no: unknown\n9 | p0 #0\n  | ^\np0 #0 is a read that is not answered\n",
+    ),
+    (
+        "awreg report 2\nfront linear\nprocesses 2\nregisters 1\nx\nhistory 4\n       0  p0    #0       call    write x 5\n       2  p0    #0       answer  done\n       3  p0    #1       call    write x 6\n       4  p0    #1       answer  done\norder 2\np0 #1\np0 #0\nend\n",
+        false,
+        "serial no: own order\n13 | p0 #0\n   | ^\np0 #0 stands after p0 #1, which its process called later\n",
+    ),
+    (
+        "awreg report 2\nfront linear\nprocesses 2\nregisters 1\nx\nhistory 1\n       2  p0    #0       call    write x 5\norder 1\np0 #0\npoints 1\np0 #0 at 1\nend\n",
+        false,
+        "points no: outside at 0\n11 | p0 #0 at 1\n   | ^\np0 #0 is called at event 2 and not answered: its point is not between them\n",
+    ),
+    (
+        "awreg report 2\nfront linear\nprocesses 2\nregisters 1\nx\nhistory 4\n       0  p0    #0       call    write x 5\n       2  p0    #0       answer  done\n       3  p1    #0       call    read x\n       5  p1    #0       answer  value 5\norder 3\np0 #0\np1 #0\npoints 2\np0 #0 at 1\np1 #0 at 4\nend\n",
+        false,
+        "line 14: form\n14 | points 2\n   |  ^\nexpected a number from 0 to 63, found \"oints\"\nfewer lines of the order stand here than its count says\n",
+    ),
+    (
+        "awreg report 2\nfront linear\nprocesses 2\nregisters 1\nx\nhistory 4\n       0  p0    #0       call    write x 5\n       2  p0    #0       answer  done\n       3  p1    #0       call    read x\n       5  p1    #0       answer  value 5\norder 2\np0 #0\np1 #0\npoints 1\np0 #0 at 1\np1 #0 at 4\nend\n",
+        false,
+        "line 16: form\n16 | p1 #0 at 4\n   | ^\nexpected end, found \"p1\"\nmore points stand here than their count says\n",
+    ),
+];
+
+/// What is told of lists of operations and of points.
+pub(crate) fn lists() -> &'static [Row] {
+    &LISTS
+}

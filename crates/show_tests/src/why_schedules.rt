@@ -2,7 +2,7 @@
 use crate::why::Row;
 
 /// Schedules that are accepted, and wrong words.
-const WORDS: [Row; 14] = [
+const WORDS: [Row; 15] = [
     (
         "processes 2\nregisters x z\nfront linear\ncall 0 write x 1\ntake 0 1 0\n",
         true,
@@ -72,6 +72,11 @@ const WORDS: [Row; 14] = [
         "processes 2\nregisters x\nfront local read\n",
         false,
         "line 3: form\n3 | front local read\n  |       ^\nexpected linear, local-read or local-write, found \"local\"\n",
+    ),
+    (
+        "processes 2\nregisters x z\nfront linear\ncall 0 rode x\n",
+        false,
+        "line 4: form\n4 | call 0 rode x\n  |        ^\nexpected read, write or swap, found \"rode\"\n",
     ),
 ];
 
@@ -234,7 +239,7 @@ pub(crate) fn numbers() -> &'static [Row] {
 }
 
 /// Wrong names of registers, and a text that ends behind them.
-const NAMES: [Row; 12] = [
+const NAMES: [Row; 14] = [
     (
         "processes 2\nregisters x z\nfront linear\ncall 1 read y\n",
         false,
@@ -294,6 +299,16 @@ const NAMES: [Row; 12] = [
         "processes 1\nregisters x\n",
         false,
         "line 3: end\nthe text ends before a line that it needs: front and one of linear, local-read and local-write\n",
+    ),
+    (
+        "processes 1\nregisters a b c d e f g h i j k l\nfront linear\ncall 0 read y\n",
+        false,
+        "line 4: name\n4 | call 0 read y\n  |             ^\nno register \"y\": the registers are a, b, c, d, e, f, g, h, i, j and 2 more\n",
+    ),
+    (
+        "processes 1\nregisters aaaaaaaaaaaaaaaa bbbbbbbbbbbbbbbb cccccccccccccccc dddddddddddddddd eeeeeeeeeeeeeeee ffffffffffffffff x1\nfront linear\n",
+        false,
+        "line 2: name\n2 | cccccccc dddddddddddddddd eeeeeeeeeeeeeeee ffffffffffffffff x1\n  |                                                             ^\n\"x1\": a register's name is 1 to 16 letters a to z\n",
     ),
 ];
 

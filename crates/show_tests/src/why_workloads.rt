@@ -2,7 +2,7 @@
 use crate::why::Row;
 
 /// A text, whether it is accepted, and what is told of it, worked out by hand.
-const ROWS: [Row; 22] = [
+const ROWS: [Row; 26] = [
     (
         "front = \"local-write\"\nregisters = [\"x\"]\nscripts = [[\"write x 5\", \"read x\"], [\"read x\"]]\n",
         true,
@@ -112,6 +112,26 @@ const ROWS: [Row; 22] = [
         "proceses 2\nregisters x\nfront linear\n",
         false,
         "toml\n1 | proceses 2\n  |          ^\nkey with no value, expected `=`\na schedule begins with processes and a number, as in processes 2\n",
+    ),
+    (
+        "front = \"linear\"\nregisters = []\nscripts = [[]]\n",
+        false,
+        "range registers\n2 | registers = []\n  | ^\na workload has 1 to 4096 registers, and here are 0\n",
+    ),
+    (
+        "front = \"linear\"\nregisters = [\"x\"]\nscripts = [[\"read x\", 3]]\n",
+        false,
+        "kind scripts\n3 | scripts = [[\"read x\", 3]]\n  | ^\nscripts is an array of arrays of strings, one for each process: of script 0: item 1 is of the kind integer\n",
+    ),
+    (
+        "front = \"linear\"\nregisters = [\"x\", # it's [one]\n  \"y2\"]\nscripts = [[]]\n",
+        false,
+        "range registers\n3 |   \"y2\"]\n  |   ^\n\"y2\": a register's name is 1 to 16 letters a to z\n",
+    ),
+    (
+        "awerg report 2\nfront linear\n",
+        false,
+        "toml\n1 | awerg report 2\n  |       ^\nkey with no value, expected `=`\na report begins with awreg report 2\n",
     ),
 ];
 
