@@ -81,8 +81,8 @@ pub record AreOutcomes (start : Op → ℕ → Start) (work : Load) (plays : ℕ
 abbrev pub HasLateWitness : (Op → ℕ → Start) → Made → Type 0
 HasLateWitness start made = (ids : List OpId) × IsWitness (run_of made.registers (run_in start made)) ids × ¬ KeepsRealTime made.history ids
 
--- The play from this seed is finished, its witness doesn't keep the real time, and some number of its operations, placed
--- in search of a point order, leads to more stages than the most.
+-- The play from this seed is finished, its witness doesn't keep the real time, and some number of its operations,
+-- placed in search of a point order, leads to more stages than the most.
 pub record IsWiderPlay (start : Op → ℕ → Start) (work : Load) (seed : ℕ) : Type 0 where
   pub finished : IsPlay start work.shape work.scripts work.budget (play_from start work seed) true
   pub late : HasLateWitness start (play_from start work seed)

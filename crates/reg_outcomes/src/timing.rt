@@ -88,8 +88,8 @@ fn keeps_real_time<A: Allocator + Copy>(
 ///
 /// # Errors
 ///
-/// The order doesn't keep the real time, and some number of operations, placed in search of a point order, leads to more
-/// stages than `MOST_STAGES`; or memory was refused.
+/// The order doesn't keep the real time, and some number of operations, placed in search of a point order, leads to
+/// more stages than `MOST_STAGES`; or memory was refused.
 pub(crate) fn is_linearizable<A: Allocator + Copy>(
     alloc: A,
     history: &History<A>,

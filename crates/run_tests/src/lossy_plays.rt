@@ -1,5 +1,5 @@
-//! Seeded plays with loss: the witness of each beside the plain list of it, and how many are finished. Each comes to rest
-//! where it ended.
+//! Seeded plays with loss: the witness of each beside the plain list of it, and how many are finished. Each comes to
+//! rest where it ended.
 use crate::plays::{LOSSY, SMALL};
 use crate::resting::comes_to_rest;
 use crate::seeded::{are_points, is_right};

@@ -1,5 +1,5 @@
-//! Every command of both programs over streams that fail: over a reader that fails at one read, over a writer that fails
-//! at one write or at its flush alone, and over one that holds what it is given until it is flushed.
+//! Every command of both programs over streams that fail: over a reader that fails at one read, over a writer that
+//! fails at one write or at its flush alone, and over one that holds what it is given until it is flushed.
 use crate::lines::words_of;
 use crate::{one_shown, orders_shown, records_judged, short_shown, shown, why};
 use reg_cli::{Asked, choose, run_text};
@@ -70,8 +70,8 @@ impl Read for FailingReader<'_> {
     }
 }
 
-/// Holds what it is given until it is flushed. It is to be given an answer, and takes at most `most` bytes of it a write.
-/// The write after the first `before` fails, and no other.
+/// Holds what it is given until it is flushed. It is to be given an answer, and takes at most `most` bytes of it a
+/// write. The write after the first `before` fails, and no other.
 #[derive(Drop)]
 struct HoldingWriter<'a> {
     /// What it is still to be given.
