@@ -4,8 +4,7 @@ ghost use Rattle.std.specs.Io.KnownBytes.{Appends};
 ghost use Rattle.reg_text.specs.Writing.{AppendsPart};
 ghost use Rattle.reg_inputs.specs.Loads.{Load};
 ghost use Rattle.reg_commands.specs.Plays.{Holds};
-ghost use Rattle.reg_commands.specs.NoPoints.{HasNoPoints};
-ghost use Rattle.reg_commands.specs.Replays.{ShowsPoints};
+ghost use Rattle.reg_commands.specs.Replays.{PointsOf};
 ghost use Rattle.reg_cli.specs.declared.stops.Stop.{Stop};
 ghost use Rattle.reg_cli.specs.declared.stops.Stop.TheVariants.{Command};
 ghost use Rattle.reg_cli.specs.Lives.{ShowsLive, IsReportOfLive, Lives, BlamesStop};
@@ -15,14 +14,12 @@ ghost use Rattle.reg_commands.specs.declared.faults.Fault.TheVariants.{Output};
 
 use crate::stop_lines::write_stop;
 use crate::stops::{Stop, stopped};
-use reg_commands::{
-    Fault, read_input, read_workload, report_run, report_run_with_points, write_out,
-};
-use reg_front::{Front, FrontEnd, Linear, LocalRead, LocalWrite, RealTime};
+use reg_commands::{Fault, read_input, read_workload, report_run, write_out};
+use reg_front::by_front;
 use reg_history::Report;
 use reg_live::run_scripts_in;
 use reg_workload::Workload;
-use reg_world::PackedWires;
+use reg_world::{NamedFront, PackedWires};
 use std::alloc::Global;
 use std::io::{Read, Write};
 use std::sync::Wait;
@@ -36,33 +33,16 @@ fn told(fault: Fault) -> Stop
     Stop::Command { fault }
 }
 
-/// The report of what threads made of a workload, with no points.
+/// The report of what threads made of a workload.
 fn report_of<
-    F: FrontEnd + Send + Sync + 'static,
+    F: NamedFront + Send + Sync + 'static,
     R: Threads + Wait + Clock + Copy + Send + Sync + 'static,
 >(rt: R, alloc: Global, work: Workload) -> Result<Report, Stop>
-    ensures shows { IfOk result (λ r. ShowsLive F.start work HasNoPoints r) }
+    ensures shows { IfOk result (λ r. ShowsLive F.start work (PointsOf F.front) r) }
     ensures why { IfErr result (λ stop. IsOfThreads stop) }
 {
     match run_scripts_in::<F, R, PackedWires>(rt, alloc, work.shape, work.scripts) {
         Ok(closed) => match report_run(alloc, work.front, work.names, closed.world) {
-            Ok(report) => Ok(report),
-            Err(fault) => Err(told(fault)),
-        },
-        Err(stop) => Err(stopped(stop)),
-    }
-}
-
-/// The report of what threads made of a workload, with its points.
-fn report_with_points<
-    F: RealTime + Send + Sync + 'static,
-    R: Threads + Wait + Clock + Copy + Send + Sync + 'static,
->(rt: R, alloc: Global, work: Workload) -> Result<Report, Stop>
-    ensures shows { IfOk result (λ r. ShowsLive F.start work (ShowsPoints F.start) r) }
-    ensures why { IfErr result (λ stop. IsOfThreads stop) }
-{
-    match run_scripts_in::<F, R, PackedWires>(rt, alloc, work.shape, work.scripts) {
-        Ok(closed) => match report_run_with_points(alloc, work.front, work.names, closed.world) {
             Ok(report) => Ok(report),
             Err(fault) => Err(told(fault)),
         },
@@ -79,11 +59,7 @@ fn perform<R: Threads + Wait + Clock + Copy + Send + Sync + 'static>(
     ensures shows { IfOk result (λ r. IsReportOfLive work r) }
     ensures why { IfErr result (λ stop. IsOfThreads stop) }
 {
-    match work.front {
-        Front::Linear => report_with_points::<Linear, R>(rt, alloc, work),
-        Front::LocalRead => report_of::<LocalRead, R>(rt, alloc, work),
-        Front::LocalWrite => report_of::<LocalWrite, R>(rt, alloc, work),
-    }
+    by_front!(work.front, report_of::<_, R>(rt, alloc, work))
 }
 
 /// The report of what threads made of the workload that a document says.

@@ -6,3 +6,4 @@ pub mod FirstRefused
 pub mod WithinReport
 pub mod AtEvents
 pub mod Parts
+pub mod Named

@@ -4,5 +4,4 @@ pub mod CheckerAnswers
 pub mod Replays
 pub mod Plays
 pub mod Answers
-pub mod NoPoints
 pub mod Kinds

@@ -5,7 +5,8 @@ use Rattle.reg_base.specs.declared.memory.Op.{Op}
 use Rattle.reg_front.specs.declared.starts.Start.{Start}
 use Rattle.reg_front.specs.declared.named.Front.{Front}
 use Rattle.reg_front.specs.declared.named.Front.TheVariants.{Linear, LocalRead, LocalWrite}
-use Rattle.reg_front.specs.Table.{linear, local_read, local_write, front_name}
+use Rattle.reg_front.specs.Table.{linear, front_name}
+pub use Rattle.reg_front.specs.Table.{start_of}
 use Rattle.reg_checkers.specs.declared.entries.Entry.{Entry}
 use Rattle.reg_checkers.specs.declared.entries.Point.{Point}
 use Rattle.reg_checkers.specs.History.{IsAt}
@@ -20,12 +21,6 @@ use Rattle.reg_world.specs.Worlds.{Made}
 use Rattle.reg_inputs.specs.Schedules.{Plan, IsPlan, Spells}
 use Rattle.reg_commands.specs.declared.faults.Fault.{Fault}
 use Rattle.reg_commands.specs.declared.faults.Fault.TheVariants.{Event as EventFault, OutOfMemory}
-
--- how the front end of a plan starts an operation
-abbrev pub start_of : Front → Op → ℕ → Start
-start_of Linear = linear
-start_of LocalRead = local_read
-start_of LocalWrite = local_write
 
 -- the run of a plan's events
 abbrev pub run_by : (Op → ℕ → Start) → Plan → World

@@ -4,19 +4,18 @@ ghost use Rattle.std.specs.Io.KnownBytes.{Appends};
 ghost use Rattle.reg_inputs.specs.declared.faults.WorkloadFault.TheVariants.{OutOfMemory};
 ghost use Rattle.reg_inputs.specs.Loads.{Load};
 ghost use Rattle.reg_commands.specs.Answers.{AnswersInPart, Blames};
-ghost use Rattle.reg_commands.specs.Replays.{ShowsPoints};
+ghost use Rattle.reg_commands.specs.Replays.{PointsOf};
 ghost use Rattle.reg_commands.specs.Plays.{Holds, RefusesDocument, IsPlayBy, ShowsPlay, IsReportOfPlay, Plays};
-ghost use Rattle.reg_commands.specs.NoPoints.{HasNoPoints};
 
 use crate::command::Command;
 use crate::faults::Fault;
-use crate::reporting::{report_run, report_run_with_points, write_out};
-use reg_front::{Front, FrontEnd, Linear, LocalRead, LocalWrite, RealTime};
+use crate::reporting::{report_run, write_out};
+use reg_front::{FrontEnd, by_front};
 use reg_history::Report;
 use reg_workload::{
     Play, SeedWords, Workload, WorkloadFault, play_fair_in, play_seeded_in, read_table,
 };
-use reg_world::{PackedWires, WireStore};
+use reg_world::{NamedFront, PackedWires, WireStore};
 use std::alloc::{AllocError, Allocator, Global};
 use std::io::Write;
 
@@ -73,34 +72,19 @@ pub fn play_by<F: FrontEnd, A: Allocator + Copy, W: WireStore<A>>(
     }
 }
 
-/// The report of a play, with no points.
-fn report_of<F: FrontEnd, A: Allocator + Copy>(
+/// The report of a play.
+fn report_of<F: NamedFront, A: Allocator + Copy>(
     alloc: A,
     work: Workload<A>,
     fair: bool,
 ) -> Result<Report<A>, Fault>
-    ensures shows { IfOk result (λ r. ShowsPlay fair F.start work HasNoPoints r) }
+    ensures shows { IfOk result (λ r. ShowsPlay fair F.start work (PointsOf F.front) r) }
     ensures why { IfErr result (λ f. f ≡ Fault.OutOfMemory) }
 {
     let Ok(play) = play_by::<F, A, PackedWires<A>>(alloc, &work, fair) else {
         return Err(Fault::OutOfMemory);
     };
     report_run(alloc, work.front, work.names, play.world)
-}
-
-/// The report of a play, with its points.
-fn report_with_points<F: RealTime, A: Allocator + Copy>(
-    alloc: A,
-    work: Workload<A>,
-    fair: bool,
-) -> Result<Report<A>, Fault>
-    ensures shows { IfOk result (λ r. ShowsPlay fair F.start work (ShowsPoints F.start) r) }
-    ensures why { IfErr result (λ f. f ≡ Fault.OutOfMemory) }
-{
-    let Ok(play) = play_by::<F, A, PackedWires<A>>(alloc, &work, fair) else {
-        return Err(Fault::OutOfMemory);
-    };
-    report_run_with_points(alloc, work.front, work.names, play.world)
 }
 
 /// The report of a play, by the front end of its workload.
@@ -112,11 +96,7 @@ fn play_workload<A: Allocator + Copy>(
     ensures ok { IfOk result (λ r. IsReportOfPlay fair work r) }
     ensures why { IfErr result (λ f. f ≡ Fault.OutOfMemory) }
 {
-    match work.front {
-        Front::Linear => report_with_points::<Linear, A>(alloc, work, fair),
-        Front::LocalRead => report_of::<LocalRead, A>(alloc, work, fair),
-        Front::LocalWrite => report_of::<LocalWrite, A>(alloc, work, fair),
-    }
+    by_front!(work.front, report_of::<_, A>(alloc, work, fair))
 }
 
 fn played<A: Allocator + Copy>(

@@ -1,19 +1,19 @@
 //! The command that runs a schedule and prints the report of the run.
-ghost use Rattle.std.specs.Prelude.{◌≡◌, ◌≢◌, None, IfOk, IfErr, IsErrOf, string_bytes};
+ghost use Rattle.std.specs.Prelude.{◌≡◌, ◌≢◌, IfOk, IfErr, IsErrOf, string_bytes};
 ghost use Rattle.std.specs.Io.KnownBytes.{Appends};
 ghost use Rattle.reg_world.specs.Worlds.{after_events};
 ghost use Rattle.reg_inputs.specs.Schedules.{Plan, IsPlan, Spells};
 ghost use Rattle.reg_commands.specs.Answers.{AnswersInPart, Blames};
-ghost use Rattle.reg_commands.specs.Replays.{start_of, Shows, ShowsPoints, IsReportOf, Replays, BlamesRun};
+ghost use Rattle.reg_commands.specs.Replays.{start_of, Shows, PointsOf, IsReportOf, Replays, BlamesRun};
 
 use crate::command::Command;
 use crate::faults::Fault;
-use crate::reporting::{report_run, report_run_with_points, write_out};
+use crate::reporting::{report_run, write_out};
 use reg_base::Names;
-use reg_front::{Front, FrontEnd, Linear, LocalRead, LocalWrite, RealTime};
+use reg_front::{Front, FrontEnd, by_front};
 use reg_history::{ReadWhy, Report};
 use reg_workload::{Schedule, ScheduleFault, parse_schedule};
-use reg_world::{PackedWires, RunFault, WireStore, World, WorldFault};
+use reg_world::{NamedFront, PackedWires, RunFault, WireStore, World, WorldFault};
 use std::alloc::Allocator;
 use std::io::Write;
 
@@ -77,14 +77,14 @@ pub fn run_events<F: FrontEnd, A: Allocator + Copy, W: WireStore<A>>(
     }
 }
 
-/// The report of a schedule's run, with no points.
-fn report_of<F: FrontEnd, A: Allocator + Copy>(
+/// The report of a schedule's run.
+fn report_of<F: NamedFront, A: Allocator + Copy>(
     alloc: A,
     schedule: Schedule<A>,
 ) -> Result<Report<A>, Fault>
     requires { IsPlan schedule }
     ensures shows { IfOk result (λ r. Shows F.start schedule r) }
-    ensures points { IfOk result (λ r. r.points ≡ None) }
+    ensures points { IfOk result (λ r. PointsOf F.front schedule r.points) }
     ensures why { IfErr result (λ f. BlamesRun F.start schedule f) }
 {
     let Ran {
@@ -95,35 +95,13 @@ fn report_of<F: FrontEnd, A: Allocator + Copy>(
     report_run(alloc, front, names, world)
 }
 
-/// The report of a schedule's run, with its points.
-fn report_with_points<F: RealTime, A: Allocator + Copy>(
-    alloc: A,
-    schedule: Schedule<A>,
-) -> Result<Report<A>, Fault>
-    requires { IsPlan schedule }
-    ensures shows { IfOk result (λ r. Shows F.start schedule r) }
-    ensures points { IfOk result (λ r. ShowsPoints F.start schedule r.points) }
-    ensures why { IfErr result (λ f. BlamesRun F.start schedule f) }
-{
-    let Ran {
-        world,
-        names,
-        front,
-    } = run_events::<F, A, PackedWires<A>>(alloc, schedule)?;
-    report_run_with_points(alloc, front, names, world)
-}
-
 /// The report of a schedule's run, by its front end.
 fn run_schedule<A: Allocator + Copy>(alloc: A, schedule: Schedule<A>) -> Result<Report<A>, Fault>
     requires { IsPlan schedule }
     ensures ok { IfOk result (λ r. IsReportOf schedule r) }
     ensures why { IfErr result (λ f. BlamesRun (start_of schedule.front) schedule f) }
 {
-    match schedule.front {
-        Front::Linear => report_with_points::<Linear, A>(alloc, schedule),
-        Front::LocalRead => report_of::<LocalRead, A>(alloc, schedule),
-        Front::LocalWrite => report_of::<LocalWrite, A>(alloc, schedule),
-    }
+    by_front!(schedule.front, report_of::<_, A>(alloc, schedule))
 }
 
 /// The report of the run of the schedule that a text spells.

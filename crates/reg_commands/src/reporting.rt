@@ -1,5 +1,5 @@
 //! The report of a run.
-ghost use Rattle.std.specs.Prelude.{◌≡◌, ◌≤◌, ℕ, Some, None, IfOk, IfErr, MatchResult, length, option_map};
+ghost use Rattle.std.specs.Prelude.{◌≡◌, ◌≤◌, ℕ, IfOk, IfErr, MatchResult, length, option_map};
 ghost use Rattle.std.specs.Io.KnownBytes.{Appends};
 ghost use Rattle.reg_base.specs.declared.limits.TheConstants.{LAST_EVENT, MOST_PROCESSES};
 ghost use Rattle.reg_front.specs.Table.{front_name};
@@ -9,16 +9,15 @@ ghost use Rattle.reg_checkers.specs.Orders.{IsSerial};
 ghost use Rattle.reg_history.specs.Reports.{Contents, report_text};
 ghost use Rattle.reg_text.specs.Writing.{AppendsPart};
 ghost use Rattle.reg_world.specs.declared.order.First.{First};
-ghost use Rattle.reg_world.specs.Keys.{ArePoints};
-ghost use Rattle.reg_world.specs.World.{run_of};
+ghost use Rattle.reg_world.specs.Fronts.{HasPoints};
 ghost use Rattle.reg_world.specs.Worlds.{run_in};
-ghost use Rattle.reg_commands.specs.Replays.{plan_in, Shows, ShowsPoints, PointsStand};
+ghost use Rattle.reg_commands.specs.Replays.{plan_in, Shows, PointsOf, PointsStand};
 
 use crate::faults::Fault;
 use reg_base::{Names, OpId};
-use reg_front::{Front, FrontEnd, RealTime};
+use reg_front::{Front, FrontEnd};
 use reg_history::{History, Point, Report, write_report};
-use reg_world::{WireStore, World};
+use reg_world::{NamedFront, WireStore, World};
 use std::alloc::{AllocError, Allocator};
 use std::io::Write;
 
@@ -77,25 +76,6 @@ fn report_world<F: FrontEnd, A: Allocator + Copy, W: WireStore<A>>(
     report(alloc, front, names, world.into_history(), order, points)
 }
 
-/// The report of what a world did, under this front end and these names, with no points.
-///
-/// # Errors
-///
-/// `OutOfMemory`, and no other.
-pub fn report_run<F: FrontEnd, A: Allocator + Copy, W: WireStore<A>>(
-    alloc: A,
-    front: Front,
-    names: Names<A>,
-    world: World<F, A, W>,
-) -> Result<Report<A>, Fault>
-    requires { world.registers ≡ length names }
-    ensures shows { IfOk result (λ r. Shows F.start (plan_in front names world) r) }
-    ensures points { IfOk result (λ r. r.points ≡ None) }
-    ensures why { IfErr result (λ f. f ≡ Fault.OutOfMemory) }
-{
-    report_world(alloc, front, names, world, None)
-}
-
 // Each first delivery is at an event that a run may have. It does nothing: its contract says so.
 fn firsts_at_events<F: FrontEnd, A: Allocator + Copy, W: WireStore<A>>(world: &World<F, A, W>)
     ensures { (k : ℕ) (f : First) → IsAt (run_in F.start world.now).order k f → f.at ≤ LAST_EVENT }
@@ -105,24 +85,26 @@ fn firsts_at_events<F: FrontEnd, A: Allocator + Copy, W: WireStore<A>>(world: &W
     world.events();
 }
 
-/// The points of a run.
-fn points_of<F: RealTime, A: Allocator + Copy, W: WireStore<A>>(
+/// The points of a run, None where its front end keeps no real time.
+fn standing_points<F: NamedFront, A: Allocator + Copy, W: WireStore<A>>(
     world: &World<F, A, W>,
-) -> Result<Vec<Point, A>, AllocError>
-    ensures first { IfOk result (λ v. ArePoints (run_of world.now.registers (run_in F.start world.now)) v.items) }
-    ensures stand { IfOk result (λ v. PointsStand world.now.registers world.now.history (Some v.items)) }
+) -> Result<Option<Vec<Point, A>>, AllocError>
+    ensures points { IfOk result (λ o. HasPoints F.front world.now (option_map (λ v. v.items) o)) }
+    ensures stand { IfOk result (λ o. PointsStand world.now.registers world.now.history (option_map (λ v. v.items) o)) }
 {
     firsts_at_events(world);
-    let (_, points) = world.linearization()?;
-    Ok(points)
+    // (for the proof: by this getter's contract the history is that of the run)
+    world.history();
+    F::points_of(world)
 }
 
-/// The report of what a world did, under this front end and these names, with its points.
+/// The report of what a world did, under this front end and these names: with its points where its front end keeps the
+/// real time.
 ///
 /// # Errors
 ///
 /// `OutOfMemory`, and no other.
-pub fn report_run_with_points<F: RealTime, A: Allocator + Copy, W: WireStore<A>>(
+pub fn report_run<F: NamedFront, A: Allocator + Copy, W: WireStore<A>>(
     alloc: A,
     front: Front,
     names: Names<A>,
@@ -130,13 +112,13 @@ pub fn report_run_with_points<F: RealTime, A: Allocator + Copy, W: WireStore<A>>
 ) -> Result<Report<A>, Fault>
     requires { world.registers ≡ length names }
     ensures shows { IfOk result (λ r. Shows F.start (plan_in front names world) r) }
-    ensures points { IfOk result (λ r. ShowsPoints F.start (plan_in front names world) r.points) }
+    ensures points { IfOk result (λ r. PointsOf F.front (plan_in front names world) r.points) }
     ensures why { IfErr result (λ f. f ≡ Fault.OutOfMemory) }
 {
-    let Ok(points) = points_of(&world) else {
+    let Ok(points) = standing_points(&world) else {
         return Err(Fault::OutOfMemory);
     };
-    report_world(alloc, front, names, world, Some(points))
+    report_world(alloc, front, names, world, points)
 }
 
 /// Writes the text of a report, all of it or, where the writer fails, a first part.

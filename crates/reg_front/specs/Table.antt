@@ -20,6 +20,12 @@ local_write (Read r) unsettled = cond (unsettled == 0) Looks Holds
 local_write (Write r v) unsettled = CastsAndAnswers
 local_write (Swap r v) unsettled = Casts
 
+-- how the front end of this name starts an operation
+abbrev pub start_of : Front → Op → ℕ → Start
+start_of Linear = linear
+start_of LocalRead = local_read
+start_of LocalWrite = local_write
+
 -- the name of a front end in texts
 abbrev pub front_name : Front → List ℕ
 front_name Linear = codes "linear"

@@ -1,6 +1,7 @@
 //! How operations start: the front ends and their laws.
 #![tactic(auto)]
 
+mod choosing;
 mod ends;
 pub mod laws;
 mod named;

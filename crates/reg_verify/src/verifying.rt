@@ -4,8 +4,7 @@ ghost use Rattle.std.specs.Fmt.{decimal};
 ghost use Rattle.std.specs.Io.KnownBytes.{Appends};
 ghost use Rattle.reg_base.specs.declared.limits.TheConstants.{LONGEST_INPUT, MOST_EVENTS};
 ghost use Rattle.reg_text.specs.Writing.{AppendsPart, Puts};
-ghost use Rattle.reg_commands.specs.NoPoints.{HasNoPoints};
-ghost use Rattle.reg_commands.specs.Replays.{ShowsPoints, start_of};
+ghost use Rattle.reg_commands.specs.Replays.{PointsOf, start_of};
 ghost use Rattle.reg_records.specs.Records.{FailsAt, IsFaithful};
 ghost use Rattle.reg_verify.specs.Judging.{BlamesSteps};
 ghost use Rattle.reg_verify.specs.RecordLines.{Account, IsAccount, SpellsAccount};
@@ -17,12 +16,12 @@ use crate::logs::part;
 use crate::record_text::{Record, RecordFault, parse_record};
 use crate::recorded::Recorded;
 use reg_base::Shape;
-use reg_commands::{Fault, read_input, report_run, report_run_with_points, write_fault, write_out};
-use reg_front::{Front, FrontEnd, Linear, LocalRead, LocalWrite, RealTime};
+use reg_commands::{Fault, read_input, report_run, write_fault, write_out};
+use reg_front::{FrontEnd, by_front};
 use reg_history::{ReadWhy, Report};
 use reg_records::{CloseFault, LogEntry, play};
 use reg_text::{Sink, Unwritten, put_number};
-use reg_world::{PackedWires, World};
+use reg_world::{NamedFront, PackedWires, World};
 use std::alloc::Allocator;
 use std::io::{Read, Write};
 
@@ -85,13 +84,13 @@ fn run_steps<F: FrontEnd, A: Allocator + Copy>(
     run_logs::<F, A>(alloc, shape, &order, &logs)
 }
 
-/// The report of a record, with no points.
-fn report_of<F: FrontEnd, A: Allocator + Copy>(
+/// The report of a record.
+fn report_of<F: NamedFront, A: Allocator + Copy>(
     alloc: A,
     account: Record<A>,
 ) -> Result<Report<A>, VerifyFault>
     requires { IsAccount account }
-    ensures shows { IfOk result (λ r. ShowsAccount F.start account HasNoPoints r) }
+    ensures shows { IfOk result (λ r. ShowsAccount F.start account (PointsOf F.front) r) }
     ensures why { IfErr result (λ f. BlamesSteps F.start account.shape account.steps f) }
 {
     let Record {
@@ -105,26 +104,6 @@ fn report_of<F: FrontEnd, A: Allocator + Copy>(
     Ok(report)
 }
 
-/// The report of a record, with its points.
-fn report_with_points<F: RealTime, A: Allocator + Copy>(
-    alloc: A,
-    account: Record<A>,
-) -> Result<Report<A>, VerifyFault>
-    requires { IsAccount account }
-    ensures shows { IfOk result (λ r. ShowsAccount F.start account (ShowsPoints F.start) r) }
-    ensures why { IfErr result (λ f. BlamesSteps F.start account.shape account.steps f) }
-{
-    let Record {
-        front,
-        shape,
-        names,
-        steps,
-    } = account;
-    let world = run_steps::<F, A>(alloc, shape, steps)?;
-    let report = report_run_with_points(alloc, front, names, world)?;
-    Ok(report)
-}
-
 /// The report of a record, by its front end.
 fn report_by_front<A: Allocator + Copy>(
     alloc: A,
@@ -134,11 +113,7 @@ fn report_by_front<A: Allocator + Copy>(
     ensures ok { IfOk result (λ r. IsReportOfAccount account r) }
     ensures why { IfErr result (λ f. BlamesSteps (start_of account.front) account.shape account.steps f) }
 {
-    match account.front {
-        Front::Linear => report_with_points::<Linear, A>(alloc, account),
-        Front::LocalRead => report_of::<LocalRead, A>(alloc, account),
-        Front::LocalWrite => report_of::<LocalWrite, A>(alloc, account),
-    }
+    by_front!(account.front, report_of::<_, A>(alloc, account))
 }
 
 /// The report of the record that a text spells. The text is let go before the run.

@@ -7,6 +7,7 @@ mod books;
 mod callers;
 mod faults;
 mod finding;
+mod fronts;
 pub mod laws;
 mod members;
 mod order;
@@ -19,6 +20,7 @@ mod witnesses;
 mod words;
 
 pub use faults::{RunFault, WorldFault};
+pub use fronts::NamedFront;
 pub use order::{CopyRead, First};
 pub use packed::PackedWires;
 pub use reg_process::Event;

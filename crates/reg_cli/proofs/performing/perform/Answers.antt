@@ -1,5 +1,5 @@
 use Rattle.std.proofs.Common.{rules}
 use Rattle.reg_cli.proofs.performing.perform.Goals as goal
 
-pub returns-in-LocalRead-clause-shows : goal.returns-in-LocalRead-clause-shows
-returns-in-LocalRead-clause-shows g c = search rules
+pub returns-in-LocalRead-by_front-clause-shows : goal.returns-in-LocalRead-by_front-clause-shows
+returns-in-LocalRead-by_front-clause-shows g c = search rules
