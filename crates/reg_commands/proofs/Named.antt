@@ -1,5 +1,5 @@
 -- What holds under a front end that has a name holds under that name.
-use Rattle.std.proofs.Common.{◌≡◌, ℕ, ◌≤◌, List, Option, Some, None, Result, Ok, Err, ap, sym, ◌∙◌, subst}
+use Rattle.std.proofs.Common.{◌≡◌, ℕ, ◌≤◌, List, Option, Some, None, Result, Ok, Err, refl, ap, sym, ◌∙◌, subst}
 use Rattle.std.specs.Prelude.{IfOk}
 use Rattle.reg_base.specs.declared.limits.TheConstants.{LAST_EVENT}
 use Rattle.reg_base.specs.declared.memory.Op.{Op}
@@ -13,12 +13,13 @@ use Rattle.reg_checkers.specs.Orders.{IsPointOrder}
 use Rattle.reg_world.specs.declared.order.First.{First}
 use Rattle.reg_world.specs.Fronts.{HasPoints}
 use Rattle.reg_world.specs.World.{run_of}
-use Rattle.reg_world.specs.Worlds.{Made, run_in}
+use Rattle.reg_world.specs.Worlds.{Made, run_in, after_events}
 use Rattle.reg_front.specs.Table.{linear, start_of}
 use Rattle.reg_history.specs.Reports.{Contents}
 use Rattle.reg_inputs.specs.Schedules.{Plan}
 use Rattle.reg_commands.specs.Replays.{plan_in, PointsOf, PointsStand}
 use Rattle.reg_commands.proofs.AtEvents.{points_at_events}
+use Rattle.reg_commands.proofs.Shown.{same_plan}
 
 -- each first delivery is at an event that a run may have
 abbrev pub FirstsAtEvents : (Op → ℕ → Start) → Made → Type 0
@@ -47,3 +48,7 @@ points_shown front asked names w (Err e) points has told = tt
 -- a run of a plan's events has the points of the plan
 pub points_planned : {E : Type 0} (front : Front) (p q : Plan) (report : Result Contents E) → p ≡ q → IfOk report (λ r. PointsOf front p r.points) → IfOk report (λ r. PointsOf front q r.points)
 points_planned front p q report same shown = subst (λ (x : Plan). IfOk report (λ r. PointsOf front x r.points)) same shown
+
+-- the points of a run of a plan's events are those of the plan
+pub points_of_plan : (start : Op → ℕ → Start) (front : Front) (p : Plan) (w : Made) (points : Option (List Point)) → w ≡ after_events start p.shape p.events → HasPoints front w points → PointsOf front p points
+points_of_plan start front p w points is has = subst (λ (q : Plan). PointsOf front q points) (same_plan start p p.front p.names w is refl refl) (points_in front p.front p.names w points has)

@@ -4,7 +4,7 @@ use crate::lines_at::{Line, kept_at};
 use crate::saying::Notes;
 use reg_base::Shape;
 use reg_base::limits::{MOST_EVENTS, MOST_OPERATIONS};
-use reg_front::{Front, FrontEnd, Linear, LocalRead, LocalWrite};
+use reg_front::{FrontEnd, by_front};
 use reg_history::Entry;
 use reg_inputs::{Schedule, parse_schedule};
 use reg_world::{Event, PackedWires, World, WorldFault};
@@ -139,11 +139,7 @@ fn explain_in<A: Allocator + Copy>(
     };
     let (word, _) = refused.word();
     notes.put_place(line, word_at(line.bytes, word));
-    match schedule.front {
-        Front::Linear => refused.explain::<Linear, A>(notes),
-        Front::LocalRead => refused.explain::<LocalRead, A>(notes),
-        Front::LocalWrite => refused.explain::<LocalWrite, A>(notes),
-    }
+    by_front!(schedule.front, refused.explain::<_, A>(notes))
 }
 
 /// Puts the line of a refused event and why it is refused.

@@ -20,7 +20,7 @@ use reg_commands::{
     Fault, Kind, Ran, Verdicts, all_yes, command_of, judge, kind_of, read_report_text,
     read_schedule, read_workload, run_events,
 };
-use reg_front::{Front, FrontEnd, Linear, LocalRead, LocalWrite};
+use reg_front::{FrontEnd, by_front};
 use reg_history::Report;
 use reg_inputs::Schedule;
 use reg_workload::Workload;
@@ -130,11 +130,7 @@ fn run_by_front<A: Allocator + Copy>(alloc: A, schedule: Schedule<A>) -> Result<
     ensures ran { IfOk result (λ _. (run_by (start_of schedule.front) schedule).accepted ≡ schedule.events) }
     ensures why { IfErr result (λ f. BlamesRun (start_of schedule.front) schedule f) }
 {
-    match schedule.front {
-        Front::Linear => run::<Linear, A>(alloc, schedule),
-        Front::LocalRead => run::<LocalRead, A>(alloc, schedule),
-        Front::LocalWrite => run::<LocalWrite, A>(alloc, schedule),
-    }
+    by_front!(schedule.front, run::<_, A>(alloc, schedule))
 }
 
 /// The answer for a schedule that was read.

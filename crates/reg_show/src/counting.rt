@@ -16,7 +16,7 @@ use crate::answering::{TextCommand, run_command};
 use crate::faults::ShowFault;
 use crate::seeding::read_seeded;
 use reg_commands::Fault;
-use reg_front::{Front, FrontEnd, Linear, LocalRead, LocalWrite};
+use reg_front::{FrontEnd, by_front};
 use reg_outcomes::{Outcomes, play_many, write_table};
 use reg_workload::Workload;
 use std::alloc::{Allocator, Global};
@@ -67,11 +67,7 @@ fn write_outcomes<A: Allocator + Copy, W: Write>(
     ensures silent { IfErr result (λ f. f ≢ ShowFault.Command Fault.Output → writer.new ≡ writer.old) }
     ensures part { IsErrOf result (ShowFault.Command Fault.Output) → ShowsOutcomes plays (start_of work.now.front) (AppendsPart (W.contents writer.old) (W.contents writer.new)) work.now }
 {
-    match work.front {
-        Front::Linear => write_plays::<Linear, A, W>(alloc, work, plays, writer),
-        Front::LocalRead => write_plays::<LocalRead, A, W>(alloc, work, plays, writer),
-        Front::LocalWrite => write_plays::<LocalWrite, A, W>(alloc, work, plays, writer),
-    }
+    by_front!(work.front, write_plays::<_, A, W>(alloc, work, plays, writer))
 }
 
 /// Shows the table of `plays` plays of the workload that the text says, from this seed on or else from its own.

@@ -17,7 +17,7 @@ use crate::answering::{TextCommand, run_command};
 use crate::faults::ShowFault;
 use crate::scheduling::{events_have_bits, send};
 use reg_commands::{Fault, read_workload};
-use reg_front::{Front, FrontEnd, Linear, LocalRead, LocalWrite};
+use reg_front::{FrontEnd, by_front};
 use reg_outcomes::{AllOutcomes, MOST_STAGES, Outcome, all_outcomes, run_outcome};
 use reg_workload::Workload;
 use reg_world::{PackedWires, World};
@@ -82,11 +82,7 @@ fn write_run_of<A: Allocator + Copy, W: Write>(
     ensures silent { IfErr result (λ f. f ≢ ShowFault.Command Fault.Output → writer.new ≡ writer.old) }
     ensures part { IsErrOf result (ShowFault.Command Fault.Output) → SendsRun (start_of work.now.front) (AppendsPart (W.contents writer.old) (W.contents writer.new)) work.now outcome.now }
 {
-    match work.front {
-        Front::Linear => write_run::<Linear, A, W>(alloc, work, outcome, writer),
-        Front::LocalRead => write_run::<LocalRead, A, W>(alloc, work, outcome, writer),
-        Front::LocalWrite => write_run::<LocalWrite, A, W>(alloc, work, outcome, writer),
-    }
+    by_front!(work.front, write_run::<_, A, W>(alloc, work, outcome, writer))
 }
 
 /// Shows the schedule of a run with the outcome of this number, counted from 1, among all outcomes that the scripts of

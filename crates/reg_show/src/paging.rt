@@ -1,11 +1,10 @@
 //! The commands that show the run of a schedule as data, and as a page that one steps through.
-ghost use Rattle.std.specs.Prelude.{◌≡◌, ◌≢◌, ◌≤◌, ◌++◌, List, None, Option, IfOk, IfErr, IsErrOf, MatchResult, length};
+ghost use Rattle.std.specs.Prelude.{◌≡◌, ◌≢◌, ◌≤◌, ◌++◌, IfOk, IfErr, IsErrOf, MatchResult, length};
 ghost use Rattle.std.specs.Io.KnownBytes.{Appends};
 ghost use Rattle.reg_text.specs.Writing.{AppendsPart};
 ghost use Rattle.reg_inputs.specs.Schedules.{IsPlan, Spells};
-ghost use Rattle.reg_commands.specs.Replays.{start_of, BlamesRun, PointsOf, ShowsPoints};
+ghost use Rattle.reg_commands.specs.Replays.{start_of, BlamesRun, PointsOf};
 ghost use Rattle.reg_data.specs.Data.{data_text};
-ghost use Rattle.reg_checkers.specs.declared.entries.Point.{Point as AnyPoint};
 ghost use Rattle.reg_data.specs.Notes.{notes_of};
 ghost use Rattle.reg_show.specs.Pages.{HasData, ShowsData};
 ghost use Rattle.reg_show.specs.Runs.{BlamesDrawn};
@@ -13,9 +12,9 @@ ghost use Rattle.reg_show.specs.Runs.{BlamesDrawn};
 use crate::faults::ShowFault;
 use reg_commands::{Fault, Ran, read_schedule, run_events};
 use reg_data::{Data, Notes, read_notes, tell_data, write_data};
-use reg_front::{Front, FrontEnd, Linear, LocalRead, LocalWrite, RealTime};
+use reg_front::by_front;
 use reg_workload::Schedule;
-use reg_world::Wires;
+use reg_world::{NamedFront, Wires};
 use std::alloc::Allocator;
 use std::io::Write;
 
@@ -35,13 +34,13 @@ fn schedule_to_show<A: Allocator + Copy>(alloc: A, text: &str) -> Result<Schedul
     Ok(schedule)
 }
 
-/// Runs a schedule whose front end has no points: all that is told of the run, with these notes.
-fn data_of_run<F: FrontEnd, A: Allocator + Copy>(
+/// Runs a schedule: all that is told of the run, with these notes.
+fn data_of_run<F: NamedFront, A: Allocator + Copy>(
     alloc: A,
     schedule: Schedule<A>,
     notes: Notes<A>,
 ) -> Result<Data<A>, Fault>
-    ensures told { let NoPoints = λ (points : Option (List AnyPoint)). points ≡ None in IfOk result (λ d. HasData F.start schedule notes NoPoints d) }
+    ensures told { IfOk result (λ d. HasData F.start schedule notes (PointsOf F.front schedule) d) }
     ensures why { IfErr result (λ f. BlamesRun F.start schedule f) }
 {
     let Ran {
@@ -49,36 +48,16 @@ fn data_of_run<F: FrontEnd, A: Allocator + Copy>(
         names,
         front,
     } = run_events::<F, A, Wires<A>>(alloc, schedule)?;
-    match tell_data(alloc, front, names, notes, &world, None) {
-        Ok(told) => Ok(told),
-        Err(_) => Err(Fault::OutOfMemory),
-    }
-}
-
-/// Runs a schedule whose front end has points: all that is told of the run, with these notes.
-fn data_with_points<F: RealTime, A: Allocator + Copy>(
-    alloc: A,
-    schedule: Schedule<A>,
-    notes: Notes<A>,
-) -> Result<Data<A>, Fault>
-    ensures told { IfOk result (λ d. HasData F.start schedule notes (ShowsPoints F.start schedule) d) }
-    ensures why { IfErr result (λ f. BlamesRun F.start schedule f) }
-{
-    let Ran {
-        world,
-        names,
-        front,
-    } = run_events::<F, A, Wires<A>>(alloc, schedule)?;
-    let Ok(points) = world.points() else {
+    let Ok(points) = F::points_of(&world) else {
         return Err(Fault::OutOfMemory);
     };
-    match tell_data(alloc, front, names, notes, &world, Some(points)) {
+    match tell_data(alloc, front, names, notes, &world, points) {
         Ok(told) => Ok(told),
         Err(_) => Err(Fault::OutOfMemory),
     }
 }
 
-/// Runs a schedule: all that is told of the run, with these notes.
+/// Runs a schedule under its front end: all that is told of the run, with these notes.
 fn data_of_schedule<A: Allocator + Copy>(
     alloc: A,
     schedule: Schedule<A>,
@@ -87,11 +66,7 @@ fn data_of_schedule<A: Allocator + Copy>(
     ensures told { IfOk result (λ d. HasData (start_of schedule.front) schedule notes (PointsOf schedule.front schedule) d) }
     ensures why { IfErr result (λ f. BlamesRun (start_of schedule.front) schedule f) }
 {
-    match schedule.front {
-        Front::Linear => data_with_points::<Linear, A>(alloc, schedule, notes),
-        Front::LocalRead => data_of_run::<LocalRead, A>(alloc, schedule, notes),
-        Front::LocalWrite => data_of_run::<LocalWrite, A>(alloc, schedule, notes),
-    }
+    by_front!(schedule.front, data_of_run::<_, A>(alloc, schedule, notes))
 }
 
 /// Runs the schedule of a text: all that is told of the run, with what the comments of the text say.

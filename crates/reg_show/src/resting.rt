@@ -8,7 +8,7 @@ ghost use Rattle.reg_show.specs.Rests.{IsRested, WritesRest, RestsRun, BlamesRes
 use crate::faults::ShowFault;
 use crate::scheduling::{events_have_bits, send};
 use reg_commands::{Fault, Ran, read_schedule, run_events};
-use reg_front::{Front, FrontEnd, Linear, LocalRead, LocalWrite};
+use reg_front::{FrontEnd, by_front};
 use reg_runs::{SettleFault, settle};
 use reg_workload::Schedule;
 use reg_world::PackedWires;
@@ -82,9 +82,5 @@ pub(crate) fn rest<A: Allocator + Copy, W: Write>(
     ensures part { IsErrOf result (ShowFault.Command Fault.Output) → RestsRun (AppendsPart (W.contents writer.old) (W.contents writer.new)) text.now }
 {
     let schedule = read_schedule(alloc, text)?;
-    match schedule.front {
-        Front::Linear => write_rest::<Linear, A, W>(alloc, schedule, writer),
-        Front::LocalRead => write_rest::<LocalRead, A, W>(alloc, schedule, writer),
-        Front::LocalWrite => write_rest::<LocalWrite, A, W>(alloc, schedule, writer),
-    }
+    by_front!(schedule.front, write_rest::<_, A, W>(alloc, schedule, writer))
 }

@@ -21,7 +21,7 @@ use crate::players::Player;
 use crate::seeding::read_seeded;
 use reg_base::{Names, Shape};
 use reg_commands::{Fault, play_by};
-use reg_front::{Front, FrontEnd, Linear, LocalRead, LocalWrite};
+use reg_front::{Front, FrontEnd, by_front};
 use reg_inputs::write_schedule;
 use reg_workload::Workload;
 use reg_world::{Event as AnyEvent, PackedWires};
@@ -90,11 +90,7 @@ fn write_workload<A: Allocator + Copy, W: Write>(
     ensures silent { IfErr result (λ f. f ≢ ShowFault.Command Fault.Output → writer.new ≡ writer.old) }
     ensures part { IsErrOf result (ShowFault.Command Fault.Output) → ShowsSchedule fair (start_of work.now.front) (AppendsPart (W.contents writer.old) (W.contents writer.new)) work.now }
 {
-    match work.front {
-        Front::Linear => write_play::<Linear, A, W>(alloc, work, fair, writer),
-        Front::LocalRead => write_play::<LocalRead, A, W>(alloc, work, fair, writer),
-        Front::LocalWrite => write_play::<LocalWrite, A, W>(alloc, work, fair, writer),
-    }
+    by_front!(work.front, write_play::<_, A, W>(alloc, work, fair, writer))
 }
 
 /// Shows the schedule of a play of the workload that the text says.

@@ -19,7 +19,7 @@ use crate::shortening::{shorten, up_to_last};
 use reg_base::Shape;
 use reg_checkers::Entry;
 use reg_commands::{Fault, play_by};
-use reg_front::{Front, FrontEnd, Linear, LocalRead, LocalWrite};
+use reg_front::{FrontEnd, by_front};
 use reg_workload::Workload;
 use reg_world::{Event, PackedWires};
 use std::alloc::{Allocator, Global};
@@ -90,11 +90,7 @@ fn write_short_of<A: Allocator + Copy, W: Write>(
     ensures silent { IfErr result (λ f. f ≢ ShowFault.Command Fault.Output → writer.new ≡ writer.old) }
     ensures part { IsErrOf result (ShowFault.Command Fault.Output) → ShowsShort fair (start_of work.now.front) (AppendsPart (W.contents writer.old) (W.contents writer.new)) work.now }
 {
-    match work.front {
-        Front::Linear => write_short::<Linear, A, W>(alloc, work, fair, writer),
-        Front::LocalRead => write_short::<LocalRead, A, W>(alloc, work, fair, writer),
-        Front::LocalWrite => write_short::<LocalWrite, A, W>(alloc, work, fair, writer),
-    }
+    by_front!(work.front, write_short::<_, A, W>(alloc, work, fair, writer))
 }
 
 /// Shows the schedule of the short form of a play of the workload that the text says.

@@ -1,71 +1,45 @@
 //! What is told of a schedule's run.
-ghost use Rattle.std.specs.Prelude.{◌≡◌, None, IfOk, IfErr, option_map};
-ghost use Rattle.reg_commands.specs.Replays.{start_of, BlamesRun, PointsOf, ShowsPoints};
+ghost use Rattle.std.specs.Prelude.{IfOk, IfErr, option_map};
+ghost use Rattle.reg_commands.specs.Replays.{start_of, BlamesRun, PointsOf};
 ghost use Rattle.reg_show.specs.ToldRuns.{IsTold};
 
 use reg_commands::{Fault, Ran, run_events};
-use reg_front::{Front, FrontEnd, Linear, LocalRead, LocalWrite, RealTime};
+use reg_front::by_front;
 use reg_trace::{TracedRun, tell_world};
 use reg_workload::Schedule;
-use reg_world::Wires;
+use reg_world::{NamedFront, Wires};
 use std::alloc::Allocator;
 
-/// Runs a schedule whose front end has no points, and tells what happened.
-fn tell_run<F: FrontEnd, A: Allocator + Copy>(
-    alloc: A,
-    schedule: Schedule<A>,
-) -> Result<TracedRun<A>, Fault>
-    ensures told { IfOk result (λ t. IsTold F.start schedule t.names t.moments.items t.history.entries) }
-    ensures points { IfOk result (λ t. t.points ≡ None) }
-    ensures why { IfErr result (λ f. BlamesRun F.start schedule f) }
-{
-    let Ran {
-        world,
-        names,
-        front,
-    } = run_events::<F, A, Wires<A>>(alloc, schedule)?;
-    let Ok(moments) = tell_world(alloc, &world) else {
-        return Err(Fault::OutOfMemory);
-    };
-    Ok(TracedRun {
-        front,
-        names,
-        moments,
-        history: world.into_history(),
-        points: None,
-    })
-}
-
-/// Runs a schedule whose front end has points, and tells what happened.
-fn tell_run_with_points<F: RealTime, A: Allocator + Copy>(
-    alloc: A,
-    schedule: Schedule<A>,
-) -> Result<TracedRun<A>, Fault>
-    ensures told { IfOk result (λ t. IsTold F.start schedule t.names t.moments.items t.history.entries) }
-    ensures points { IfOk result (λ t. ShowsPoints F.start schedule (option_map (λ v. v.items) t.points)) }
-    ensures why { IfErr result (λ f. BlamesRun F.start schedule f) }
-{
-    let Ran {
-        world,
-        names,
-        front,
-    } = run_events::<F, A, Wires<A>>(alloc, schedule)?;
-    let Ok(moments) = tell_world(alloc, &world) else {
-        return Err(Fault::OutOfMemory);
-    };
-    let Ok(points) = world.points() else {
-        return Err(Fault::OutOfMemory);
-    };
-    Ok(TracedRun {
-        front,
-        names,
-        moments,
-        history: world.into_history(),
-        points: Some(points),
-    })
-}
-
 /// Runs a schedule, and tells what happened.
+fn tell_run<F: NamedFront, A: Allocator + Copy>(
+    alloc: A,
+    schedule: Schedule<A>,
+) -> Result<TracedRun<A>, Fault>
+    ensures told { IfOk result (λ t. IsTold F.start schedule t.names t.moments.items t.history.entries) }
+    ensures points { IfOk result (λ t. PointsOf F.front schedule (option_map (λ v. v.items) t.points)) }
+    ensures why { IfErr result (λ f. BlamesRun F.start schedule f) }
+{
+    let Ran {
+        world,
+        names,
+        front,
+    } = run_events::<F, A, Wires<A>>(alloc, schedule)?;
+    let Ok(moments) = tell_world(alloc, &world) else {
+        return Err(Fault::OutOfMemory);
+    };
+    let Ok(points) = F::points_of(&world) else {
+        return Err(Fault::OutOfMemory);
+    };
+    Ok(TracedRun {
+        front,
+        names,
+        moments,
+        history: world.into_history(),
+        points,
+    })
+}
+
+/// Runs a schedule under its front end, and tells what happened.
 pub fn tell_schedule<A: Allocator + Copy>(
     alloc: A,
     schedule: Schedule<A>,
@@ -74,9 +48,5 @@ pub fn tell_schedule<A: Allocator + Copy>(
     ensures points { IfOk result (λ t. PointsOf schedule.front schedule (option_map (λ v. v.items) t.points)) }
     ensures why { IfErr result (λ f. BlamesRun (start_of schedule.front) schedule f) }
 {
-    match schedule.front {
-        Front::Linear => tell_run_with_points::<Linear, A>(alloc, schedule),
-        Front::LocalRead => tell_run::<LocalRead, A>(alloc, schedule),
-        Front::LocalWrite => tell_run::<LocalWrite, A>(alloc, schedule),
-    }
+    by_front!(schedule.front, tell_run::<_, A>(alloc, schedule))
 }
