@@ -26,7 +26,7 @@ pub use kinds::{Kind, command_of, kind_of};
 pub use output::write_answer;
 pub use playing::{play_by, read_workload};
 pub use replaying::{Ran, read_schedule, run_events};
-pub use reporting::{write_out};
+pub use reporting::{report_run, write_out};
 pub use running::run_text;
 pub use verdicts::{
     Reason, Verdict, Verdicts, all_yes, judge, put_points, put_serial, write_verdicts,
