@@ -170,7 +170,7 @@ fn reads_of(rt: &(impl Abort + AllocGlobal), row: &Row) -> u32 {
     let (line, input, status) = *row;
     let (mut reader, mut output) = (reader_of(input), Vec::new(rt.alloc()));
     if ends_so(rt, line, (&mut reader, &mut output), status, "") {
-        u32::MAX - reader.before
+        u32::MAX.saturating_sub(reader.before)
     } else {
         0
     }
@@ -221,7 +221,7 @@ fn writes_of(rt: &(impl Abort + AllocGlobal), row: &Row, answer: &[u8]) -> Optio
     let mut writer = writer_of(answer);
     let has_ended = ends_so(rt, line, (&mut input.as_bytes(), &mut writer), status, "");
     if has_ended && !writer.differs && writer.held.is_empty() {
-        Some(u32::MAX - writer.before)
+        Some(u32::MAX.saturating_sub(writer.before))
     } else {
         None
     }
