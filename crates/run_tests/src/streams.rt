@@ -48,13 +48,12 @@ impl Write for FailingWriter<'_> {
     }
 }
 
-/// How a read fails: its error, how many times it comes, and the line that is told. Where no line is, the command reads
-/// on.
-const READ_FAULTS: &[(ErrorKind, u32, &str)] = &[
-    (ErrorKind::Other, u32::MAX, "input: read\n"),
-    (ErrorKind::Other, 1, "input: read\n"),
-    (ErrorKind::Interrupted, 1, ""),
-    (ErrorKind::Interrupted, 2, ""),
+/// How a read fails: its error, and how many times it comes.
+const READ_FAULTS: &[(ErrorKind, u32)] = &[
+    (ErrorKind::Other, u32::MAX),
+    (ErrorKind::Other, 1),
+    (ErrorKind::Interrupted, 1),
+    (ErrorKind::Interrupted, 2),
 ];
 
 /// This number of reads or writes, where they are more than one and not too many to have each fail.
@@ -79,21 +78,15 @@ fn reads_of(alloc: Global, command: Command, input: &str, output: &str) -> Optio
     }
 }
 
-/// Whether a command reads on over each failure of a read, or tells the first and reads no further.
+/// Whether a command tells the first failure of a read, and reads no further.
 fn is_read_told(
     alloc: Global,
     command: Command,
-    streams: (&str, &str),
+    input: &str,
     before: u32,
-    fault: &(ErrorKind, u32, &str),
+    fault: &(ErrorKind, u32),
 ) -> bool {
-    let (input, output) = streams;
-    let (kind, times, line) = *fault;
-    let (given, left) = if line.is_empty() {
-        (Given::Accepted(output), 0)
-    } else {
-        (Given::Refused(line), times.saturating_sub(1))
-    };
+    let (kind, times) = *fault;
     let mut reader = Source {
         most: A_READ,
         before,
@@ -101,17 +94,18 @@ fn is_read_told(
         kind,
         ..whole(input.as_bytes(), &[])
     };
-    gives_from(alloc, command, &mut reader, given) && reader.times == left
+    gives_from(alloc, command, &mut reader, Given::Refused("input: read\n"))
+        && reader.times == times.saturating_sub(1)
 }
 
-/// Whether a command reads on, or tells the first failure, where every read up to the last fails in turn.
+/// Whether a command tells the failure of a read, where every read up to the last fails in turn.
 fn is_each_read_told(alloc: Global, command: Command, input: &str, output: &str) -> bool {
     let Some(reads) = reads_of(alloc, command, input, output) else {
         return false;
     };
     for fault in READ_FAULTS {
         for before in 0..reads {
-            if !is_read_told(alloc, command, (input, output), before, fault) {
+            if !is_read_told(alloc, command, input, before, fault) {
                 return false;
             }
         }
