@@ -66,12 +66,7 @@ impl<F: FrontEnd + Send + Sync + 'static, G: Gate + Drop + Send + Sync + 'static
     pub(crate) fn start<
         P: Road + Drop + Send + Sync + 'static,
         R: Threads + Wait + Copy + Send + Sync + 'static,
-    >(
-        &mut self,
-        rt: R,
-        couriers: Vec<Courier<F, G>>,
-        road: &Arc<P>,
-    ) -> Result<(), AllocError> {
+    >(&mut self, rt: R, couriers: Vec<Courier<F, G>>, road: &Arc<P>) -> Result<(), AllocError> {
         for courier in couriers {
             self.couriers.reserve(1)?;
             self.couriers

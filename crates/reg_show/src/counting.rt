@@ -67,7 +67,10 @@ fn write_outcomes<A: Allocator + Copy, W: Write>(
     ensures silent { IfErr result (λ f. f ≢ ShowFault.Command Fault.Output → writer.new ≡ writer.old) }
     ensures part { IsErrOf result (ShowFault.Command Fault.Output) → ShowsOutcomes plays (start_of work.now.front) (AppendsPart (W.contents writer.old) (W.contents writer.new)) work.now }
 {
-    by_front!(work.front, write_plays::<_, A, W>(alloc, work, plays, writer))
+    by_front!(
+        work.front,
+        write_plays::<_, A, W>(alloc, work, plays, writer)
+    )
 }
 
 /// Shows the table of `plays` plays of the workload that the text says, from this seed on or else from its own.

@@ -82,7 +82,10 @@ fn write_run_of<A: Allocator + Copy, W: Write>(
     ensures silent { IfErr result (λ f. f ≢ ShowFault.Command Fault.Output → writer.new ≡ writer.old) }
     ensures part { IsErrOf result (ShowFault.Command Fault.Output) → SendsRun (start_of work.now.front) (AppendsPart (W.contents writer.old) (W.contents writer.new)) work.now outcome.now }
 {
-    by_front!(work.front, write_run::<_, A, W>(alloc, work, outcome, writer))
+    by_front!(
+        work.front,
+        write_run::<_, A, W>(alloc, work, outcome, writer)
+    )
 }
 
 /// Shows the schedule of a run with the outcome of this number, counted from 1, among all outcomes that the scripts of

@@ -82,5 +82,8 @@ pub(crate) fn rest<A: Allocator + Copy, W: Write>(
     ensures part { IsErrOf result (ShowFault.Command Fault.Output) → RestsRun (AppendsPart (W.contents writer.old) (W.contents writer.new)) text.now }
 {
     let schedule = read_schedule(alloc, text)?;
-    by_front!(schedule.front, write_rest::<_, A, W>(alloc, schedule, writer))
+    by_front!(
+        schedule.front,
+        write_rest::<_, A, W>(alloc, schedule, writer)
+    )
 }

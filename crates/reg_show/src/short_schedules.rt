@@ -90,7 +90,10 @@ fn write_short_of<A: Allocator + Copy, W: Write>(
     ensures silent { IfErr result (λ f. f ≢ ShowFault.Command Fault.Output → writer.new ≡ writer.old) }
     ensures part { IsErrOf result (ShowFault.Command Fault.Output) → ShowsShort fair (start_of work.now.front) (AppendsPart (W.contents writer.old) (W.contents writer.new)) work.now }
 {
-    by_front!(work.front, write_short::<_, A, W>(alloc, work, fair, writer))
+    by_front!(
+        work.front,
+        write_short::<_, A, W>(alloc, work, fair, writer)
+    )
 }
 
 /// Shows the schedule of the short form of a play of the workload that the text says.
