@@ -17,15 +17,15 @@ mod reporting;
 mod running;
 mod verdicts;
 
-pub use checking::read_report_text;
+pub use checking::{check, read_report_text};
 pub use command::Command;
 pub use fault_lines::{put_fault_text, write_fault};
 pub use faults::Fault;
 pub use input::read_input;
 pub use kinds::{Kind, command_of, kind_of};
 pub use output::write_answer;
-pub use playing::{play_by, read_workload};
-pub use replaying::{Ran, read_schedule, run_events};
+pub use playing::{play_by, play_workload, read_workload};
+pub use replaying::{Ran, read_schedule, replay, run_events};
 pub use reporting::{report_run, write_out};
 pub use running::run_text;
 pub use verdicts::{

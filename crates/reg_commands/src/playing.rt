@@ -87,8 +87,12 @@ fn report_of<F: NamedFront, A: Allocator + Copy>(
     report_run(alloc, work.front, work.names, play.world)
 }
 
-/// The report of a play, by the front end of its workload.
-fn play_workload<A: Allocator + Copy>(
+/// The report of a play, under the front end of its workload.
+///
+/// # Errors
+///
+/// `OutOfMemory`, and no other.
+pub fn play_workload<A: Allocator + Copy>(
     alloc: A,
     work: Workload<A>,
     fair: bool,

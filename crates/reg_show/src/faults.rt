@@ -87,7 +87,7 @@ impl From<TurnsFault> for ShowFault {
 }
 
 /// Writes the line of a fault, all of it or, where the writer fails, a first part.
-pub(crate) fn write_show_fault<W: Write>(errors: &mut W, fault: ShowFault) -> Result<(), Unwritten>
+pub fn write_show_fault<W: Write>(errors: &mut W, fault: ShowFault) -> Result<(), Unwritten>
     ensures { MatchResult result (λ _. Appends (W.contents errors.old) (W.contents errors.new) (show_line fault)) (λ _. AppendsPart (W.contents errors.old) (W.contents errors.new) (show_line fault)) }
 {
     match fault {

@@ -25,11 +25,12 @@ mod telling;
 
 pub use counting::show_outcomes;
 pub use every::show_all_outcomes;
+pub use faults::{ShowFault, write_show_fault};
 pub use finding::find_order;
 pub use one_outcome::show_outcome;
 pub use players::Player;
 pub use reg_outcomes::MOST_PLAYS;
-pub use running::show_text;
-pub use scheduling::show_schedule;
+pub use running::{show_run, show_text};
+pub use scheduling::{show_schedule, write_play_schedule};
 pub use short_schedules::{MOST_SHORTENED, show_short_schedule};
 pub use showing::Showing;

@@ -36,8 +36,13 @@ fn write_page<A: Allocator + Copy, W: Write>(
     write_run(alloc, text, HEAD, TAIL, writer)
 }
 
-/// Shows what a schedule says.
-fn show<A: Allocator + Copy, W: Write>(
+/// Shows what the schedule says that a text spells. It writes once all of the schedule is accepted.
+///
+/// # Errors
+///
+/// What the text is refused for; `Output` where the writer failed, and then a first part of the answer went out; and
+/// `OutOfMemory`.
+pub fn show_run<A: Allocator + Copy, W: Write>(
     alloc: A,
     showing: Showing,
     text: &str,
@@ -115,10 +120,10 @@ impl TextCommand for Showing {
     ) -> Result<(), ShowFault> {
         match source(alloc, global, text)? {
             Some(schedule) => match str::from_utf8(schedule.as_slice()) {
-                Ok(played) => show(alloc, self, played, writer),
+                Ok(played) => show_run(alloc, self, played, writer),
                 Err(_) => unreachable!(),
             },
-            None => show(alloc, self, text, writer),
+            None => show_run(alloc, self, text, writer),
         }
     }
 

@@ -79,7 +79,11 @@ fn write_play<F: FrontEnd, A: Allocator + Copy, W: Write>(
 }
 
 /// Plays a workload under its front end, and writes the schedule of the play.
-fn write_workload<A: Allocator + Copy, W: Write>(
+///
+/// # Errors
+///
+/// `Output` where the writer failed, and then a first part of the schedule went out; and `OutOfMemory`.
+pub fn write_play_schedule<A: Allocator + Copy, W: Write>(
     alloc: A,
     work: &Workload<A>,
     fair: bool,
@@ -115,7 +119,7 @@ impl TextCommand for FullSchedule {
         writer: &mut W,
     ) -> Result<(), ShowFault> {
         let work = read_seeded(alloc, global, text, self.player.seed())?;
-        write_workload(alloc, &work, self.player.is_fair(), writer)
+        write_play_schedule(alloc, &work, self.player.is_fair(), writer)
     }
 
     ghost blames_input = { λ _ _ _ blamed. blamed (Play false) };

@@ -10,4 +10,4 @@ returns-in-Ok-clause-part g c = λ failed.
     let made = subst (λ o. IfSome o (λ v. IsPlayed c.args.text.now v.items × IsUtf8 v.items)) c.in-Some.is found in
     let same = c.in-Ok.ensures.cases.0 ∙ c.as_slice.ensures.value in
     let played = subst (IsPlayed c.args.text.now) (sym same) made.0 in
-    inr (c.in-Ok.played.now, played, c.show.ensures.part failed)
+    inr (c.in-Ok.played.now, played, c.show_run.ensures.part failed)
