@@ -1,0 +1,82 @@
+//! The command that judges a report from its text alone.
+ghost use Rattle.std.specs.Prelude.{◌≡◌, ◌≢◌, ◌≤◌, IfOk, IfErr, IsErrOf, OnOk, length};
+ghost use Rattle.std.specs.Io.KnownBytes.{Appends};
+ghost use Rattle.reg_base.specs.declared.limits.TheConstants.{LONGEST_INPUT};
+ghost use Rattle.reg_history.specs.Reports.{Contents, IsReport, SpellsReport};
+ghost use Rattle.reg_commands.specs.Verdicts.{Judges};
+ghost use Rattle.reg_commands.specs.Answers.{Answers, AnswersInPart, Blames, Checks};
+ghost use Rattle.reg_commands.specs.declared.command.Command.TheVariants.{Check as CheckCommand};
+
+use crate::reading::text_of;
+use crate::telling::{Ran, TextCommand, status_of};
+use reg_commands::{Fault, Verdicts, all_yes, judge, read_report_text, write_verdicts};
+use std::alloc::Allocator;
+use std::io::Write;
+
+/// What the checkers say of the report that a text spells.
+fn checked<A: Allocator + Copy>(alloc: A, text: &str) -> Result<Verdicts, Fault>
+    ensures ok { IfOk result (λ v. (r : Contents) × IsReport r × SpellsReport text.now r × Judges r v) }
+    ensures why { IfErr result (λ f. Blames CheckCommand f text.now) }
+    ensures kind { IfErr result (λ f. f ≢ Fault.Output) }
+{
+    let report = read_report_text(alloc, text)?;
+    match judge(alloc, &report) {
+        Ok(verdicts) => Ok(verdicts),
+        Err(_) => Err(Fault::OutOfMemory),
+    }
+}
+
+/// Reads a report, and writes the checkers' verdicts on it. It says yes where each of them does.
+fn write_check<A: Allocator + Copy, W: Write>(
+    alloc: A,
+    text: &str,
+    writer: &mut W,
+) -> Result<bool, Fault>
+    ensures ok { IfOk result (λ agrees. Checks agrees (Appends (W.contents writer.old) (W.contents writer.new)) text.now) }
+    ensures why { IfErr result (λ f. Blames CheckCommand f text.now) }
+    ensures silent { IfErr result (λ f. f ≢ Fault.Output → writer.new ≡ writer.old) }
+    ensures part { IsErrOf result Fault.Output → AnswersInPart CheckCommand (W.contents writer.old) (W.contents writer.new) text.now }
+{
+    let verdicts = checked(alloc, text)?;
+    write_verdicts(writer, verdicts)?;
+    Ok(all_yes(verdicts))
+}
+
+/// The same of bytes.
+fn check_bytes<A: Allocator + Copy, W: Write>(
+    alloc: A,
+    bytes: &[u8],
+    writer: &mut W,
+) -> Result<bool, Fault>
+    ensures ok { IfOk result (λ agrees. Answers CheckCommand agrees (Appends (W.contents writer.old) (W.contents writer.new)) bytes.now) }
+    ensures within { OnOk result (length bytes.now ≤ LONGEST_INPUT) }
+    ensures why { IfErr result (λ f. Blames CheckCommand f bytes.now) }
+    ensures silent { IfErr result (λ f. f ≢ Fault.Output → writer.new ≡ writer.old) }
+    ensures part { IsErrOf result Fault.Output → AnswersInPart CheckCommand (W.contents writer.old) (W.contents writer.new) bytes.now }
+{
+    let text = text_of(bytes)?;
+    write_check(alloc, text, writer)
+}
+
+/// The check of a report.
+#[derive(Clone, Copy)]
+pub(crate) struct Check;
+
+impl TextCommand for Check {
+    ghost use Rattle.reg_commands.specs.declared.command.Command.TheVariants.{Check as CheckCommand};
+    ghost use Rattle.reg_web.specs.Texts.{IsAnswer};
+
+    ghost IsAnswered = { λ _. IsAnswer CheckCommand };
+
+    fn run<A: Allocator + Copy>(self, alloc: A, text: &[u8]) -> Ran<A> {
+        let mut answer = Vec::new(alloc);
+        let mut told = Vec::new(alloc);
+        let ended = check_bytes(alloc, text, &mut answer);
+        let status = status_of(ended, &mut told);
+        Ran {
+            status,
+            answer,
+            told,
+        }
+    }
+}
