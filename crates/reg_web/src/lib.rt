@@ -2,9 +2,19 @@
 #![tactic(auto)]
 
 mod checking;
+mod faults;
+mod others;
+mod paging;
 mod reading;
 mod replaying;
+mod resting;
+mod showing;
 mod telling;
 mod texts;
+mod tracing;
 
-pub use texts::{tellwydar_check, tellwydar_replay};
+pub use texts::{
+    tellwydar_check, tellwydar_data, tellwydar_draw, tellwydar_find_points, tellwydar_find_serial,
+    tellwydar_kind, tellwydar_page, tellwydar_replay, tellwydar_rest, tellwydar_trace,
+    tellwydar_verify,
+};

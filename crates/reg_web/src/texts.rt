@@ -1,11 +1,32 @@
 //! The functions that the host calls. Each works in the room that is lent to it, and leaves in it what it did not touch.
+ghost use Rattle.std.specs.Prelude.{◌≡◌};
+ghost use Rattle.reg_commands.specs.Kinds.{kind_of as kind_of_text};
 ghost use Rattle.reg_commands.specs.declared.command.Command.{Command};
-ghost use Rattle.reg_web.specs.Texts.{Tells};
+ghost use Rattle.reg_outcomes.specs.declared.kinds.OrderKind.{OrderKind as AnyOrder};
+ghost use Rattle.reg_show.specs.declared.showing.Showing.{Showing as AnyShowing};
+ghost use Rattle.reg_web.specs.Shown.{IsFound, IsShown, IsVerdict};
+ghost use Rattle.reg_web.specs.Texts.{Fills, Tells, kind_number};
 
 use crate::checking::Check;
+use crate::others::{Find, Verify};
 use crate::replaying::Replay;
 use crate::telling::{Lengths, tell};
+use reg_commands::{Kind, kind_of};
 use reg_heap::Room;
+use reg_outcomes::OrderKind;
+use reg_show::Showing;
+
+/// What a text is meant as, by its first line that counts: 0 is a schedule, 1 a workload, 2 a report.
+#[unsafe(no_mangle)]
+pub extern "C" fn tellwydar_kind(text: &[u8]) -> u32
+    ensures { result ≡ kind_number (kind_of_text text.now) }
+{
+    match kind_of(text) {
+        Kind::Schedule => 0,
+        Kind::Workload => 1,
+        Kind::Report => 2,
+    }
+}
 
 /// Runs a schedule. The answer is the report of its run, and the status 0; or 1 with the line of a fault, or a first
 /// part of it.
@@ -35,4 +56,127 @@ pub extern "C" fn tellwydar_check(
     ensures { Tells Command.Check text.now result output.old output.new errors.old errors.new lengths.new }
 {
     tell(Check, room, text, output, errors, lengths)
+}
+
+/// Judges a record of processes that ran apart. The answer is the report of the run that it is, and the status 0; or 1
+/// with the line of a fault, or a first part of it.
+#[unsafe(no_mangle)]
+pub extern "C" fn tellwydar_verify(
+    room: &mut Room,
+    text: &[u8],
+    output: &mut [u8],
+    errors: &mut [u8],
+    lengths: &mut Lengths,
+) -> u8
+    ensures { Fills (IsVerdict text.now) result output.old output.new errors.old errors.new lengths.new }
+{
+    tell(Verify, room, text, output, errors, lengths)
+}
+
+/// Looks for a serial order of a report's history. The answer is the report with it, and the status 0; or 1 with the line that
+/// there is none, or with the line of a fault or a first part of it.
+#[unsafe(no_mangle)]
+pub extern "C" fn tellwydar_find_serial(
+    room: &mut Room,
+    text: &[u8],
+    output: &mut [u8],
+    errors: &mut [u8],
+    lengths: &mut Lengths,
+) -> u8
+    ensures { Fills (IsFound AnyOrder.Serial text.now) result output.old output.new errors.old errors.new lengths.new }
+{
+    let command = Find {
+        kind: OrderKind::Serial,
+    };
+    tell(command, room, text, output, errors, lengths)
+}
+
+/// Looks for a point order of a report's history. The answer is the report with it, and the status 0; or 1 with the line that
+/// there is none, or with the line of a fault or a first part of it.
+#[unsafe(no_mangle)]
+pub extern "C" fn tellwydar_find_points(
+    room: &mut Room,
+    text: &[u8],
+    output: &mut [u8],
+    errors: &mut [u8],
+    lengths: &mut Lengths,
+) -> u8
+    ensures { Fills (IsFound AnyOrder.Points text.now) result output.old output.new errors.old errors.new lengths.new }
+{
+    let command = Find {
+        kind: OrderKind::Points,
+    };
+    tell(command, room, text, output, errors, lengths)
+}
+
+/// Tells what happens in the run of a schedule, event by event, and the status 0; or 1 with the line of a fault, or a
+/// first part of it.
+#[unsafe(no_mangle)]
+pub extern "C" fn tellwydar_trace(
+    room: &mut Room,
+    text: &[u8],
+    output: &mut [u8],
+    errors: &mut [u8],
+    lengths: &mut Lengths,
+) -> u8
+    ensures { Fills (IsShown AnyShowing.Trace text.now) result output.old output.new errors.old errors.new lengths.new }
+{
+    tell(Showing::Trace, room, text, output, errors, lengths)
+}
+
+/// Draws the run of a schedule, and the status is 0; or 1 with the line of a fault, or a first part of it.
+#[unsafe(no_mangle)]
+pub extern "C" fn tellwydar_draw(
+    room: &mut Room,
+    text: &[u8],
+    output: &mut [u8],
+    errors: &mut [u8],
+    lengths: &mut Lengths,
+) -> u8
+    ensures { Fills (IsShown AnyShowing.Draw text.now) result output.old output.new errors.old errors.new lengths.new }
+{
+    tell(Showing::Draw, room, text, output, errors, lengths)
+}
+
+/// Tells the run of a schedule as data, and the status 0; or 1 with the line of a fault, or a first part of it.
+#[unsafe(no_mangle)]
+pub extern "C" fn tellwydar_data(
+    room: &mut Room,
+    text: &[u8],
+    output: &mut [u8],
+    errors: &mut [u8],
+    lengths: &mut Lengths,
+) -> u8
+    ensures { Fills (IsShown AnyShowing.Data text.now) result output.old output.new errors.old errors.new lengths.new }
+{
+    tell(Showing::Data, room, text, output, errors, lengths)
+}
+
+/// Makes the page of the run of a schedule, and the status is 0; or 1 with the line of a fault, or a first part of it.
+#[unsafe(no_mangle)]
+pub extern "C" fn tellwydar_page(
+    room: &mut Room,
+    text: &[u8],
+    output: &mut [u8],
+    errors: &mut [u8],
+    lengths: &mut Lengths,
+) -> u8
+    ensures { Fills (IsShown AnyShowing.Page text.now) result output.old output.new errors.old errors.new lengths.new }
+{
+    tell(Showing::Page, room, text, output, errors, lengths)
+}
+
+/// Brings the run of a schedule to rest. The answer is the schedule with the events that do, and the status 0; or 1 with
+/// the line of a fault, or a first part of it.
+#[unsafe(no_mangle)]
+pub extern "C" fn tellwydar_rest(
+    room: &mut Room,
+    text: &[u8],
+    output: &mut [u8],
+    errors: &mut [u8],
+    lengths: &mut Lengths,
+) -> u8
+    ensures { Fills (IsShown AnyShowing.Rest text.now) result output.old output.new errors.old errors.new lengths.new }
+{
+    tell(Showing::Rest, room, text, output, errors, lengths)
 }

@@ -1,0 +1,17 @@
+// @ts-check
+// Who answers the page: tools/playground. A page with no server has another file in this one's place (web/js).
+// The names of commands are those of COMMANDS in tools/playground.
+
+/** @param {string} command @param {string} text @returns {Promise<{status: number, output: string, error: string}>} */
+export async function ask(command, text) {
+  const answer = await fetch("/run/" + command, {
+    method: "POST", body: new Blob([text]), headers: { "Content-Type": "application/octet-stream" },
+  });
+  const told = await answer.json();
+  return answer.ok ? told : { status: -1, output: "", error: told.error };
+}
+
+/** A list: the examples, the exercises, or the text that the page begins with. */
+export const list = async name => (await fetch("/" + name)).json();
+
+export const NO_ANSWER = "The playground's server doesn't answer: is tools/playground still running?";

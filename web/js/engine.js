@@ -1,0 +1,125 @@
+// The proved programs as a page has them: the module, and a call of one of its functions for each command. The module
+// asks its host for nothing: all that it works in is memory of its own that is lent to it with the call. Nothing here
+// looks at a text: it goes in as bytes, and what the module told comes out as bytes.
+
+// What an instance has for all its runs, and how much of it they may have taken when one more begins. What a run took
+// isn't lent again: for that a new instance is made.
+const MEMORY_BYTES = 1 << 30;
+const SPENT_BYTES = 256 << 20;
+const OUTPUT_BYTES = 32 << 20;
+const ERROR_BYTES = 4096;
+const PAGE_BYTES = 65536;
+
+// What the module answers of a text's kind.
+const KINDS = ["schedule", "workload", "report"];
+
+const rounded = at => Math.ceil(at / 16) * 16;
+
+/** Adds to a memory, whose addresses have 64 bits; engines from before their numbers were settled take a plain one. */
+function grow(memory, bytes) {
+  const pages = Math.ceil(bytes / PAGE_BYTES);
+  try {
+    memory.grow(BigInt(pages));
+  } catch (error) {
+    if (!(error instanceof TypeError)) throw error;
+    memory.grow(pages);
+  }
+}
+
+/** An instance of the module, and where in its memory things lie. */
+class Instance {
+  constructor(module) {
+    this.exports = new WebAssembly.Instance(module).exports;
+    const { memory, __heap_base: base } = this.exports;
+    grow(memory, MEMORY_BYTES);
+    this.end = memory.buffer.byteLength;
+    this.lengths = rounded(Number(base.value));
+    this.room = this.lengths + 16;
+    this.errors = this.room + 16;
+    this.output = this.errors + ERROR_BYTES;
+    // All from here on was not lent yet.
+    this.begin = this.free = this.output + OUTPUT_BYTES;
+    this.view = new DataView(memory.buffer);
+  }
+
+  get isSpent() {
+    return this.free - this.begin > SPENT_BYTES;
+  }
+
+  bytes(at, count) {
+    return new Uint8Array(this.view.buffer, at, count);
+  }
+
+  number(at) {
+    return Number(this.view.getBigUint64(at, true));
+  }
+
+  /** Puts a text into memory that was not lent yet. */
+  place(text) {
+    const at = this.free;
+    if (at + text.length > this.end) throw new RangeError("out of memory");
+    this.bytes(at, text.length).set(text);
+    this.free = rounded(at + text.length);
+    return at;
+  }
+
+  /** Lends all that was not lent yet: where it begins, and how many bytes it has. */
+  lend() {
+    this.view.setBigUint64(this.room, BigInt(this.free), true);
+    this.view.setBigUint64(this.room + 8, BigInt(this.end - this.free), true);
+  }
+
+  run(call, text) {
+    const at = this.place(text);
+    this.lend();
+    const given = [this.room, at, text.length, this.output, OUTPUT_BYTES, this.errors, ERROR_BYTES, this.lengths];
+    const status = call(...given.map(BigInt));
+    this.free = this.number(this.room);
+    const many = this.number(this.lengths), few = this.number(this.lengths + 8);
+    if (many > OUTPUT_BYTES) throw new RangeError("too much output");
+    const error = this.bytes(this.errors, Math.min(few, ERROR_BYTES)).slice();
+    return { status, output: this.bytes(this.output, many).slice(), error };
+  }
+}
+
+export class Engine {
+  /** @param {WebAssembly.Module} module */
+  constructor(module) {
+    this.module = module;
+    this.names = new Set(WebAssembly.Module.exports(module).map(({ name }) => name));
+    this.instance = null;
+  }
+
+  /** Whether the module has a command. @param {string} command */
+  has(command) {
+    return this.names.has(nameOf(command));
+  }
+
+  /**
+   * What a command makes of a text.
+   * @param {string} command @param {Uint8Array} text
+   * @returns {{status: number, output: Uint8Array, error: Uint8Array}}
+   */
+  run(command, text) {
+    return this.within(instance => instance.run(instance.exports[nameOf(command)], text));
+  }
+
+  /** What a text is: "schedule", "workload" or "report". @param {Uint8Array} text */
+  kindOf(text) {
+    return this.within(instance =>
+      KINDS[instance.exports.tellwydar_kind(BigInt(instance.place(text)), BigInt(text.length))]);
+  }
+
+  /** Calls into an instance. One in which a call failed is used no more: after a trap it refuses all further calls. */
+  within(call) {
+    if (!this.instance || this.instance.isSpent) this.instance = new Instance(this.module);
+    try {
+      return call(this.instance);
+    } catch (error) {
+      this.instance = null;
+      throw error;
+    }
+  }
+}
+
+const nameOf = command => "tellwydar_" + command.replaceAll("-", "_");

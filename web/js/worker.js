@@ -1,0 +1,43 @@
+// Runs one command after another, off the page's own thread.
+import { Engine } from "./engine.js";
+
+// The smallest module that has a memory with 64-bit addresses.
+const WIDE = new Uint8Array([0, 97, 115, 109, 1, 0, 0, 0, 5, 3, 1, 4, 1]);
+const NARROW = "This browser's WebAssembly has no 64-bit memories, which the programs need: Chromium has them from " +
+  "version 133, Firefox from 134.";
+
+async function load() {
+  if (!WebAssembly.validate(WIDE)) throw new Error(NARROW);
+  const answer = await fetch(new URL("tellwydar.wasm", import.meta.url));
+  if (!answer.ok) throw new Error("The programs' module is not beside this page.");
+  return new Engine(await WebAssembly.compile(await answer.arrayBuffer()));
+}
+
+const engine = load();
+engine.catch(() => {}); // each command tells it
+
+const NONE = { status: 1, output: "" };
+
+/** What `awshow why` says first, as far as other commands tell it; what explains it is not in the module. */
+function why(engine, bytes, decoded) {
+  const kind = engine.kindOf(bytes);
+  if (kind === "workload") return { status: 0, output: "a workload: its plays are not in this page\n", error: "" };
+  const { status, output, error } = engine.run(kind === "report" ? "check" : "replay", bytes);
+  if (error.length) return { status, output: decoded(error), error: "" };
+  if (kind === "schedule") return { status, output: "a schedule: each of its events is accepted\n", error: "" };
+  return { status, output: status === 0 ? "a report: its order and its points hold\n" : decoded(output), error: "" };
+}
+
+async function answerOf(command, text) {
+  const bytes = new TextEncoder().encode(text), decoded = told => new TextDecoder().decode(told);
+  const ready = await engine;
+  if (command === "why") return why(ready, bytes, decoded);
+  if (!ready.has(command)) return { ...NONE, error: "not in this page: the programs themselves have it\n" };
+  const { status, output, error } = ready.run(command, bytes);
+  return { status, output: decoded(output), error: decoded(error) };
+}
+
+onmessage = async ({ data: { id, command, text } }) => {
+  const stopped = error => ({ status: -1, output: "", error: String(error?.message ?? error) });
+  postMessage({ id, answer: await answerOf(command, text).catch(stopped) });
+};
