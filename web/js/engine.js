@@ -10,6 +10,9 @@ const OUTPUT_BYTES = 32 << 20;
 const ERROR_BYTES = 4096;
 const PAGE_BYTES = 65536;
 
+// The commands that play a workload: they read it in its one layout.
+const PLAYS = new Set(["play", "play-fair", "schedule", "schedule-fair"]);
+
 // What the module answers of a text's kind.
 const KINDS = ["schedule", "workload", "report"];
 
@@ -96,11 +99,17 @@ export class Engine {
   }
 
   /**
-   * What a command makes of a text.
+   * What a command makes of a text. A workload that is played is put into its layout first.
    * @param {string} command @param {Uint8Array} text
    * @returns {{status: number, output: Uint8Array, error: Uint8Array}}
    */
   run(command, text) {
+    if (!PLAYS.has(command)) return this.call(command, text);
+    const layout = this.call("layout", text);
+    return layout.status === 0 ? this.call(command, layout.output) : layout;
+  }
+
+  call(command, text) {
     return this.within(instance => instance.run(instance.exports[nameOf(command)], text));
   }
 

@@ -4,7 +4,7 @@ import { Engine } from "./engine.js";
 // The smallest module that has a memory with 64-bit addresses.
 const WIDE = new Uint8Array([0, 97, 115, 109, 1, 0, 0, 0, 5, 3, 1, 4, 1]);
 const NARROW = "This browser's WebAssembly has no 64-bit memories, which the programs need: Chromium has them from " +
-  "version 133, Firefox from 134.";
+  "version 133.";
 
 async function load() {
   if (!WebAssembly.validate(WIDE)) throw new Error(NARROW);
@@ -16,15 +16,17 @@ async function load() {
 const engine = load();
 engine.catch(() => {}); // each command tells it
 
+// The command whose answer says whether a text is accepted.
+const JUDGES = { schedule: "replay", workload: "layout", report: "check" };
 const NONE = { status: 1, output: "" };
 
 /** What `awshow why` says first, as far as other commands tell it; what explains it is not in the module. */
 function why(engine, bytes, decoded) {
   const kind = engine.kindOf(bytes);
-  if (kind === "workload") return { status: 0, output: "a workload: its plays are not in this page\n", error: "" };
-  const { status, output, error } = engine.run(kind === "report" ? "check" : "replay", bytes);
+  const { status, output, error } = engine.run(JUDGES[kind], bytes);
   if (error.length) return { status, output: decoded(error), error: "" };
   if (kind === "schedule") return { status, output: "a schedule: each of its events is accepted\n", error: "" };
+  if (kind === "workload") return { status, output: "a workload: it can be played\n", error: "" };
   return { status, output: status === 0 ? "a report: its order and its points hold\n" : decoded(output), error: "" };
 }
 

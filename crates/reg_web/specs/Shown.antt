@@ -1,13 +1,10 @@
--- What is told of a schedule that is shown, of a record that is judged, and of an order that is looked for.
+-- What is told of a schedule that is shown, and of an order that is looked for.
 use Rattle.std.specs.Prelude.{ℕ, ◌≡◌, ◌≢◌, ◌≤◌, ◌⊎◌, List, [], Some, length}
 use Rattle.std.specs.Io.KnownBytes.{Appends}
 use Rattle.reg_base.specs.declared.limits.TheConstants.{LONGEST_INPUT}
 use Rattle.reg_text.specs.Writing.{AppendsPart}
 use Rattle.reg_outcomes.specs.declared.kinds.OrderKind.{OrderKind}
 use Rattle.reg_commands.specs.declared.faults.Fault.TheVariants.{Output}
-use Rattle.reg_verify.specs.Verifies.{BlamesAccount, Verifies, verify_line}
-use Rattle.reg_verify.specs.declared.faults.VerifyFault.{VerifyFault}
-use Rattle.reg_verify.specs.declared.faults.VerifyFault.TheVariants.{Command as VerifyCommand}
 use Rattle.reg_show.specs.Faults.{show_line}
 use Rattle.reg_show.specs.Finding.{BlamesFind, FindsAny, WritesFound, WritesNone}
 use Rattle.reg_show.specs.Showings.{BlamesText, ShowsText}
@@ -30,15 +27,6 @@ pub record IsShown (showing : Showing) (text : List ℕ) (status : ℕ) (answer 
   pub within : status ≡ 0 → length text ≤ LONGEST_INPUT
   pub shown : status ≡ 0 → ShowsText showing (Appends (Some []) (Some answer)) text
   pub refused : status ≡ 1 → (f : ShowFault) × BlamesText showing f text × (f ≢ ShowCommand Output → answer ≡ []) × (f ≡ ShowCommand Output → ShowsText showing (AppendsPart (Some []) (Some answer)) text) × AppendsPart (Some []) (Some told) (show_line f)
-  pub quiet : status ≡ 0 → told ≡ []
-
--- The status, the report and the line of a fault that the check of a record gives to a text: what is said of
--- `verify_text`.
-pub record IsVerdict (text : List ℕ) (status : ℕ) (answer told : List ℕ) : Type 0 where
-  pub range : status ≤ 1
-  pub within : status ≡ 0 → length text ≤ LONGEST_INPUT
-  pub verified : status ≡ 0 → Verifies (Appends (Some []) (Some answer)) text
-  pub refused : status ≡ 1 → (f : VerifyFault) × BlamesAccount f text × (f ≢ VerifyCommand Output → answer ≡ []) × (f ≡ VerifyCommand Output → Verifies (AppendsPart (Some []) (Some answer)) text) × AppendsPart (Some []) (Some told) (verify_line f)
   pub quiet : status ≡ 0 → told ≡ []
 
 -- The status, the report and the line of a fault that the search for an order gives to a text: what is said of

@@ -3,7 +3,7 @@
 
 mod checking;
 mod faults;
-mod others;
+mod finding;
 mod paging;
 mod reading;
 mod replaying;
@@ -16,5 +16,4 @@ mod tracing;
 pub use texts::{
     tellwydar_check, tellwydar_data, tellwydar_draw, tellwydar_find_points, tellwydar_find_serial,
     tellwydar_kind, tellwydar_page, tellwydar_replay, tellwydar_rest, tellwydar_trace,
-    tellwydar_verify,
 };

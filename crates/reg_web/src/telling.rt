@@ -34,7 +34,10 @@ pub(crate) trait TextCommand: Copy {
 }
 
 /// The status of a command: 0, or 1 where its answer is a no or it was refused, and then with the line of the fault.
-pub(crate) fn status_of<A: Allocator + Copy>(ended: Result<bool, Fault>, told: &mut Vec<u8, A>) -> u8
+pub(crate) fn status_of<A: Allocator + Copy>(
+    ended: Result<bool, Fault>,
+    told: &mut Vec<u8, A>,
+) -> u8
     ensures { MatchResult ended (λ agrees. (result ≡ (if agrees then 0 else 1)) × (told.new ≡ told.old)) (λ f. (result ≡ 1) × AppendsPart (Some told.old.items) (Some told.new.items) (fault_line f)) }
 {
     match ended {

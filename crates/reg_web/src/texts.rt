@@ -4,11 +4,11 @@ ghost use Rattle.reg_commands.specs.Kinds.{kind_of as kind_of_text};
 ghost use Rattle.reg_commands.specs.declared.command.Command.{Command};
 ghost use Rattle.reg_outcomes.specs.declared.kinds.OrderKind.{OrderKind as AnyOrder};
 ghost use Rattle.reg_show.specs.declared.showing.Showing.{Showing as AnyShowing};
-ghost use Rattle.reg_web.specs.Shown.{IsFound, IsShown, IsVerdict};
+ghost use Rattle.reg_web.specs.Shown.{IsFound, IsShown};
 ghost use Rattle.reg_web.specs.Texts.{Fills, Tells, kind_number};
 
 use crate::checking::Check;
-use crate::others::{Find, Verify};
+use crate::finding::Find;
 use crate::replaying::Replay;
 use crate::telling::{Lengths, tell};
 use reg_commands::{Kind, kind_of};
@@ -56,21 +56,6 @@ pub extern "C" fn tellwydar_check(
     ensures { Tells Command.Check text.now result output.old output.new errors.old errors.new lengths.new }
 {
     tell(Check, room, text, output, errors, lengths)
-}
-
-/// Judges a record of processes that ran apart. The answer is the report of the run that it is, and the status 0; or 1
-/// with the line of a fault, or a first part of it.
-#[unsafe(no_mangle)]
-pub extern "C" fn tellwydar_verify(
-    room: &mut Room,
-    text: &[u8],
-    output: &mut [u8],
-    errors: &mut [u8],
-    lengths: &mut Lengths,
-) -> u8
-    ensures { Fills (IsVerdict text.now) result output.old output.new errors.old errors.new lengths.new }
-{
-    tell(Verify, room, text, output, errors, lengths)
 }
 
 /// Looks for a serial order of a report's history. The answer is the report with it, and the status 0; or 1 with the line that

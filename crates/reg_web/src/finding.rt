@@ -1,32 +1,9 @@
-//! The commands whose functions ask for no allocator but the caller's: the check of a record, and the search for an order.
+//! The search for an order of a report's history.
 
 use crate::telling::{Ran, TextCommand};
 use reg_outcomes::OrderKind;
 use reg_show::find_order;
-use reg_verify::verify_text;
 use std::alloc::Allocator;
-
-/// The check of a record of processes that ran apart.
-#[derive(Clone, Copy)]
-pub(crate) struct Verify;
-
-impl TextCommand for Verify {
-    ghost use Rattle.reg_web.specs.Shown.{IsVerdict};
-
-    ghost IsAnswered = { λ _. IsVerdict };
-
-    fn run<A: Allocator + Copy>(self, alloc: A, text: &[u8]) -> Ran<A> {
-        let mut reader = text;
-        let mut answer = Vec::new(alloc);
-        let mut told = Vec::new(alloc);
-        let status = verify_text(alloc, &mut reader, &mut answer, &mut told);
-        Ran {
-            status,
-            answer,
-            told,
-        }
-    }
-}
 
 /// The search for an order of a report's history.
 #[derive(Clone, Copy)]

@@ -1,0 +1,106 @@
+// The page with no server, as tools/web laid it in a folder, in a headless Chromium: what a person does with schedules
+// and reports there. `tools/web --look` runs it; any server of files does, here Python's.
+import assert from "node:assert/strict";
+import { spawn } from "node:child_process";
+import { join } from "node:path";
+import { Browser } from "./driver.mjs";
+import { Session, example, fragment, linesOf, schedule } from "./session.mjs";
+
+const [folder, shots] = process.argv.slice(2);
+
+/** Serves the folder at any free port; gives its address and what ends it. */
+async function serve() {
+  const server = spawn("python3", ["-u", "-m", "http.server", "--bind", "127.0.0.1", "--directory", folder, "0"],
+    { stdio: ["ignore", "pipe", "ignore"] });
+  process.on("exit", () => server.kill());
+  const line = await new Promise(found => server.stdout.once("data", told => found(String(told))));
+  return { address: `http://127.0.0.1:${/ port (\d+)/.exec(line)[1]}/`, stop: () => server.kill() };
+}
+
+const { address, stop } = await serve(), browser = await Browser.start(), session = new Session(browser, address);
+await browser.size(1440, 940);
+
+/** The events of a schedule, one a line. */
+const eventsOf = text => linesOf(text).slice(3);
+
+const TRIES = {
+  async "each example of a schedule is run, and stepped to its end"() {
+    for (const name of ["one-process.sched", "two-writers.sched", "lost-frame.sched", "held-read.sched"]) {
+      await session.open(fragment(example(name)));
+      assert.match(await session.inside("#verdict"), /^a schedule: each of its events is accepted/);
+      const last = eventsOf(example(name)).length - 1;
+      assert.equal(await session.inside("#where"), `event ${last} / ${last}`);
+      await session.click("#first");
+      assert.match(await session.inside("#where"), /^start|^event 0/);
+    }
+    if (shots) await browser.picture(join(shots, "schedule.png"));
+  },
+
+  async "a run is built by clicks, and brought to rest"() {
+    await session.open(fragment(schedule(2, "linear", "call 0 write x 1")));
+    await session.click("#rest");
+    await browser.until("!document.getElementById('toast').hidden");
+    await session.shown();
+    const rested = eventsOf(await session.text());
+    assert.ok(rested.length > 1 && rested.every((line, at) => at === 0 || /^(take|tick) /.test(line)), rested.join());
+  },
+
+  async "a report is made and judged"() {
+    await session.open(fragment(example("two-writers.sched")));
+    await session.clickForOutput("#check");
+    assert.match(await session.inside("#output"), /serial[^]*yes[^]*points[^]*yes/i);
+    if (shots) await browser.picture(join(shots, "check.png"));
+  },
+
+  async "a schedule that is refused is told so, by the line"() {
+    await session.open(fragment(schedule(2, "linear", "take 0 1 0")));
+    assert.match(await session.inside("#verdict"), /^event 0: /);
+    await session.open(fragment(schedule(2, "linear", "take 0 1")));
+    assert.match(await session.inside("#verdict"), /^line 4: /);
+  },
+
+  async "a run that takes too long is ended, and the next one is answered"() {
+    const text = schedule(1, "linear", "tick 0");
+    await session.open(fragment(text));
+    const told = await browser.value(`(async () => {
+      const { ask } = await import("./playground/js/server.js");
+      const long = ask("find-serial", ${JSON.stringify(endless())}), next = ask("replay", ${JSON.stringify(text)});
+      return [(await long).error, (await next).status];
+    })()`);
+    assert.deepEqual(told, ["stopped: a run has 10 s, 1 GB and 32 MB of output", 0]);
+  },
+};
+
+/** A report whose search for an order has more stages than ten seconds reach. */
+function endless() {
+  const processes = 8, each = 12, entries = [];
+  let event = 0;
+  for (let number = 0; number < each; number++) {
+    for (let process = 0; process < processes; process++) {
+      entries.push(`${event++} p${process} #${number} call write x ${process * each + number}`);
+    }
+    for (let process = 0; process < processes; process++) entries.push(`${event++} p${process} #${number} answer done`);
+  }
+  const order = entries.filter(line => / call /.test(line)).map(line => line.split(" ").slice(1, 3).join(" "));
+  return ["awreg report 2", "front local-write", `processes ${processes}`, "registers 1", "x",
+    `history ${entries.length}`, ...entries, `order ${order.length}`, ...order, "end", ""].join("\n");
+}
+
+let wrong = 0;
+for (const [name, attempt] of Object.entries(TRIES)) {
+  const had = browser.errors.length;
+  let fault = "";
+  try {
+    await attempt();
+  } catch (error) {
+    fault = error.message;
+    if (shots) await browser.picture(join(shots, "fault.png"));
+  }
+  const faults = [fault, ...browser.errors.slice(had),
+    ...browser.requests.filter(url => !url.startsWith(address) && !/^(about|blob|data):/.test(url))].filter(it => it);
+  console.log((faults.length ? "not well: " : "well: ") + name + faults.map(it => "\n  " + it).join(""));
+  if (faults.length) wrong++;
+}
+await browser.close();
+stop();
+process.exit(wrong ? 1 : 0);
