@@ -50,8 +50,8 @@ shown : (c : ℕ) → IsByte c → nat_le 32 c ≡ true
 shown c is = let l = is.0 in grind (arith, nat_tests)
 
 has_not : (k : ℕ) (text : List ℕ) → ((c : ℕ) → IsByte c → (c == k) ≡ false) → IsPlain text → has k text ≡ false
-has_not k [] no is = refl
-has_not k (c ∷ text) no is = rw (no c is.0) (has_not k text no is.1)
+has_not k [] lacks is = refl
+has_not k (c ∷ text) lacks is = rw (lacks c is.0) (has_not k text lacks is.1)
 
 no_control : (text : List ℕ) → IsPlain text → list_any is_control text ≡ false
 no_control [] is = refl

@@ -26,13 +26,13 @@ module _ {X : Type 0} (data_of : X → Data) (text_of : X → List ℕ) where
   abbrev Each : List X → Type 0
   Each xs = (k : ℕ) (x : X) → slice_get xs k ≡ Some x → IsValueText false (data_of x) (text_of x)
 
-  later : (xs : List X) → Each xs → IsItemsText false false (items_of (map data_of xs)) (flat_map (λ l. codes ", " ++ l) (map text_of xs) ++ codes "]")
+  later : (xs : List X) → Each xs → IsItemsText false false false (items_of (map data_of xs)) (flat_map (λ l. codes ", " ++ l) (map text_of xs) ++ codes "]")
   later [] each = refl
   later (x ∷ xs) each =
       let rest : List ℕ = flat_map (λ l. codes ", " ++ l) (map text_of xs) in
       (text_of x, rest ++ codes "]", ap (λ l. codes ", " ++ l) (append_assoc (text_of x) rest (codes "]")), each zero x refl, later xs (λ k y there. each (suc k) y there))
 
-  items : (xs : List X) → Each xs → IsItemsText false true (items_of (map data_of xs)) (joined (map text_of xs) ++ codes "]")
+  items : (xs : List X) → Each xs → IsItemsText false false true (items_of (map data_of xs)) (joined (map text_of xs) ++ codes "]")
   items [] each = refl
   items (x ∷ xs) each =
       let rest : List ℕ = flat_map (λ l. codes ", " ++ l) (map text_of xs) in
@@ -47,7 +47,7 @@ module _ {X : Type 0} (data_of : X → Data) (text_of : X → List ℕ) where
   array_is xs each =
       let ds = items_of (map data_of xs) in
       let rest : List ℕ = joined (map text_of xs) ++ codes "]" in
-      (rest, refl, subst (λ (lines : Bool). IsItemsText lines true ds rest) (one_line ds) (items xs each))
+      (rest, refl, subst (λ (lines : Bool). IsItemsText false lines true ds rest) (one_line ds) (items xs each))
 
   flat : (most : ℕ) (xs : List X) → ((x : X) → depth (data_of x) ≤ most) → items_depth (items_of (map data_of xs)) ≤ most
   flat most [] each = omega arith
@@ -111,37 +111,8 @@ printed w good =
     let scripts = scripts_are w.names w.scripts good.names good.scripts in
     let seed = number_is w.seed (let l = good.seed in omega (arith, l)) in
     let last : List ℕ = key_line (codes "seed") (decimal w.seed) in
-    subst (λ (es : List Expression). IsLinesText false false es (load_text w)) (sym (lines_of w.budget (front_name w.front) w.loss w.names w.repeat w.names w.scripts w.seed)) (
-      _,
-      _,
-      refl,
-      line_is false (codes "budget") (decimal w.budget) (integer (pos w.budget)) bare.0 budget,
-      _,
-      _,
-      refl,
-      line_is true (codes "front") (quoted (front_name w.front)) (string (front_name w.front)) bare.1 front,
-      _,
-      _,
-      refl,
-      line_is true (codes "loss") (decimal w.loss) (integer (pos w.loss)) bare.2 loss,
-      _,
-      _,
-      refl,
-      line_is true (codes "registers") (names_array w.names) (texts_data w.names) bare.3 names,
-      _,
-      _,
-      refl,
-      line_is true (codes "repeat") (decimal w.repeat) (integer (pos w.repeat)) bare.4 repeat,
-      _,
-      _,
-      refl,
-      line_is true (codes "scripts") (scripts_array w.names w.scripts) (scripts_data w.names w.scripts) bare.5 scripts,
-      last,
-      [],
-      sym (append-nil last),
-      line_is true (codes "seed") (decimal w.seed) (integer (pos w.seed)) bare.6 seed,
-      refl,
-    )
+    subst (λ (es : List Expression). IsLinesText false false es (load_text w)) (sym (lines_of w.budget (front_name w.front) w.loss w.names w.repeat w.names w.scripts w.seed))
+    (_, _, refl, line_is false (codes "budget") (decimal w.budget) (integer (pos w.budget)) bare.0 budget, (_, _, refl, line_is true (codes "front") (quoted (front_name w.front)) (string (front_name w.front)) bare.1 front, (_, _, refl, line_is true (codes "loss") (decimal w.loss) (integer (pos w.loss)) bare.2 loss, (_, _, refl, line_is true (codes "registers") (names_array w.names) (texts_data w.names) bare.3 names, (_, _, refl, line_is true (codes "repeat") (decimal w.repeat) (integer (pos w.repeat)) bare.4 repeat, (_, _, refl, line_is true (codes "scripts") (scripts_array w.names w.scripts) (scripts_data w.names w.scripts) bare.5 scripts, (last, [], sym (append-nil last), line_is true (codes "seed") (decimal w.seed) (integer (pos w.seed)) bare.6 seed, refl)))))))
 
 -- what a reader of TOML asks of a table that it reads back
 
