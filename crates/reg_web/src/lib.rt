@@ -4,15 +4,23 @@
 mod checking;
 mod faults;
 mod finding;
+mod making;
 mod paging;
+mod playing;
+mod plays;
 mod reading;
 mod replaying;
 mod resting;
+mod scheduling;
 mod showing;
 mod telling;
 mod texts;
 mod tracing;
 
+pub use plays::{
+    tellwydar_layout, tellwydar_play, tellwydar_play_fair, tellwydar_schedule,
+    tellwydar_schedule_fair,
+};
 pub use texts::{
     tellwydar_check, tellwydar_data, tellwydar_draw, tellwydar_find_points, tellwydar_find_serial,
     tellwydar_kind, tellwydar_page, tellwydar_replay, tellwydar_rest, tellwydar_trace,

@@ -25,7 +25,7 @@ fn event_has_bits(event: WorldEvent)
 {}
 
 // So are those of all events. It does nothing: its contract says so.
-fn events_have_bits(events: &[WorldEvent])
+pub(crate) fn events_have_bits(events: &[WorldEvent])
     ensures { (k : ℕ) (e : Event) → slice_get events.now k ≡ Some e → EventHasBits e }
 {
     for event in events {
