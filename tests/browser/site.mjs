@@ -52,6 +52,16 @@ const TRIES = {
     if (shots) await browser.picture(join(shots, "check.png"));
   },
 
+  async "a workload is played, and its play becomes the text"() {
+    await session.open(fragment(example("three-threads.toml")));
+    assert.match(await session.inside("#verdict"), /^a workload: it can be played/);
+    const last = /event (\d+) /.exec(await session.inside("#where"))[1];
+    assert.ok(+last > 3);
+    await session.click("#as-seeded");
+    assert.equal(eventsOf(await session.text()).length, +last + 1);
+    if (shots) await browser.picture(join(shots, "play.png"));
+  },
+
   async "a schedule that is refused is told so, by the line"() {
     await session.open(fragment(schedule(2, "linear", "take 0 1 0")));
     assert.match(await session.inside("#verdict"), /^event 0: /);

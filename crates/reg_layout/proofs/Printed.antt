@@ -1,24 +1,23 @@
 -- The layout of a workload is the text of its table, and the table says the workload.
-use Rattle.std.proofs.Common.{ℕ, zero, suc, ◌≡◌, ◌+◌, ◌<◌, ◌≤◌, ◌^◌, ◌&&◌, max, Bool, true, false, List, [], ◌∷◌, ◌++◌, length, map, codes, Some, None, refl, sym, ap, subst, ◌∙◌, append-nil, arith}
-use Rattle.std.specs.Prelude.{FitsSigned, flat_map, pos, slice_get}
+use Rattle.std.proofs.Common.{ℕ, zero, suc, ◌≡◌, ◌<◌, ◌≤◌, ◌^◌, ◌&&◌, Bool, true, false, List, [], ◌∷◌, ◌++◌, map, codes, Some, None, refl, sym, ap, subst, append-nil, arith}
+use Rattle.std.specs.Prelude.{flat_map, pos, slice_get}
 use Rattle.std.specs.Fmt.{decimal}
-use Rattle.std.specs.Int.{w64}
 use Rattle.std.proofs.lemmas.List.{append_assoc}
-use Rattle.toml.specs.Data.{Data, string, integer, array, Items, no_items, item, Members, no_members, member, depth, is_sorted, has_valid_dates, items_depth, items_are_sorted, items_have_valid_dates, members_depth, members_are_sorted, members_have_valid_dates}
+use Rattle.toml.specs.Data.{Data, string, integer, array, Items, no_items, item, no_members, member, depth, is_sorted, has_valid_dates, items_depth, items_are_sorted, items_have_valid_dates, members_depth, members_are_sorted, members_have_valid_dates}
 use Rattle.toml.specs.Parse.{parse_document}
 use Rattle.toml.specs.Tables.{Expression, key_value}
 use Rattle.toml.specs.Text.{IsDocumentText, IsItemsText, IsLinesText, IsLineText, IsValueText, breaks_lines, expressions}
 use Rattle.toml.specs.View.{items_of}
 use Rattle.toml.proofs.ReadBack.{parse_document-printed}
-use Rattle.toml_writer.specs.Text.{key_text, string_text}
+use Rattle.toml_writer.specs.Text.{key_text}
 use Rattle.reg_base.specs.declared.memory.Op.{Op}
 use Rattle.reg_front.specs.Table.{front_name}
 use Rattle.reg_base.specs.Names.{names_fault}
 use Rattle.reg_text.specs.Lines.{AllFit}
-use Rattle.reg_text.specs.Ops.{OpFits, op_text}
+use Rattle.reg_text.specs.Ops.{op_text}
 use Rattle.reg_inputs.specs.Loads.{IsLoad, IsScript, Load, Says, op_data, script_data, scripts_data, texts_data}
 use Rattle.reg_layout.specs.Layout.{array_text, joined, key_line, load_text, names_array, quoted, script_array, scripts_array, table_of}
-use Rattle.reg_layout.proofs.Plain.{IsPlain, between_quotes, each_name, front_plain, op_plain}
+use Rattle.reg_layout.proofs.Plain.{between_quotes, each_name, front_plain, op_plain}
 
 -- arrays
 

@@ -1,5 +1,4 @@
-use Rattle.std.proofs.Common.{ℕ, List, map, codes, ap}
-use Rattle.reg_base.specs.declared.memory.Op.{Op}
+use Rattle.std.proofs.Common.{map, codes, ap}
 use Rattle.reg_text.proofs.Sent.{puts_as, puts_three}
 use Rattle.reg_layout.specs.Layout.{array_text, joined, script_array, scripts_array}
 use Rattle.reg_layout.proofs.Joined.{map_twice}

@@ -1,4 +1,4 @@
-use Rattle.std.proofs.Common.{◌≡◌, ◌≤◌, [], ◌∷◌, ◌++◌, length, map, ap, arith, rules, length-append}
+use Rattle.std.proofs.Common.{◌≡◌, [], ◌∷◌, ◌++◌, length, ap, arith, rules, length-append}
 use Rattle.std.proofs.lemmas.List.{map-append}
 use Rattle.reg_layout.proofs.Fits.{one_more}
 use Rattle.reg_layout.proofs.scripts.scripts_at.Goals as goal
