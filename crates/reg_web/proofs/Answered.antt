@@ -7,22 +7,15 @@ use Rattle.reg_text.specs.Writing.{AppendsPart}
 use Rattle.reg_commands.specs.declared.faults.Fault.TheVariants.{Output}
 use Rattle.reg_show.specs.Faults.{show_line}
 use Rattle.reg_show.specs.Showings.{BlamesText, ShowsText}
+use Rattle.reg_show.specs.declared.faults.ShowFault.{ShowFault}
 use Rattle.reg_show.specs.declared.faults.ShowFault.TheVariants.{Command as ShowCommand}
 use Rattle.reg_show.specs.declared.showing.Showing.{Showing}
-use Rattle.reg_web.specs.Shown.{IsShown, fault_of}
-use Rattle.reg_web.specs.declared.faults.Unshown.{Unshown}
-use Rattle.reg_web.specs.declared.faults.Unshown.TheVariants.{Command as WebCommand, TooManyToDraw, TooManyToRest}
+use Rattle.reg_web.specs.Shown.{IsShown}
 
--- the program's fault of the output is that of the page
-only_output : (f : Unshown) → fault_of f ≡ ShowCommand Output → f ≡ WebCommand Output
-only_output (WebCommand fault) same = let e : fault ≡ Output = cc in ap WebCommand e
-only_output TooManyToDraw same = absurd (cc)
-only_output TooManyToRest same = absurd (cc)
-
-pub is_shown : (showing : Showing) (text : List ℕ) (ended : Result Unit Unshown) (status : ℕ) (answer told : List ℕ)
+pub is_shown : (showing : Showing) (text : List ℕ) (ended : Result Unit ShowFault) (status : ℕ) (answer told : List ℕ)
     → IfOk ended (λ _. ShowsText showing (Appends (Some []) (Some answer)) text × (length text ≤ LONGEST_INPUT))
-    → IfErr ended (λ f. BlamesText showing (fault_of f) text × (f ≢ WebCommand Output → answer ≡ []) × (f ≡ WebCommand Output → ShowsText showing (AppendsPart (Some []) (Some answer)) text))
-    → MatchResult ended (λ _. (status ≡ 0) × (told ≡ [])) (λ f. (status ≡ 1) × AppendsPart (Some []) (Some told) (show_line (fault_of f)))
+    → IfErr ended (λ f. BlamesText showing f text × (f ≢ ShowCommand Output → answer ≡ []) × (f ≡ ShowCommand Output → ShowsText showing (AppendsPart (Some []) (Some answer)) text))
+    → MatchResult ended (λ _. (status ≡ 0) × (told ≡ [])) (λ f. (status ≡ 1) × AppendsPart (Some []) (Some told) (show_line f))
     → IsShown showing text status answer told
 is_shown showing text (Ok x) status answer told ok err s = record {
   range = omega (arith, s.0);
@@ -35,19 +28,19 @@ is_shown showing text (Err f) status answer told ok err s = record {
   range = omega (arith, s.0);
   within = λ zero. let e : ⊥ = omega (arith, s.0, zero) in absurd e;
   shown = λ zero. let e : ⊥ = omega (arith, s.0, zero) in absurd e;
-  refused = λ _. (fault_of f, err.0, (λ other. err.1 (λ same. other (ap fault_of same))), (λ same. err.2 (only_output f same)), s.1);
+  refused = λ _. (f, err.0, err.1, err.2, s.1);
   quiet = λ zero. let e : ⊥ = omega (arith, s.0, zero) in absurd e;
 }
 
 -- the same of what a command put into two lists that were empty
-pub shown_by : {X : Type 0} (items : X → List ℕ) (showing : Showing) (text : List ℕ) (ended : Result Unit Unshown) (status : ℕ) (old new told_old told_new : X) → items old ≡ [] → items told_old ≡ []
-    → IfOk ended (λ _. ShowsText showing (Appends (Some (items old)) (Some (items new))) text) → OnOk ended (length text ≤ LONGEST_INPUT) → IfErr ended (λ f. BlamesText showing (fault_of f) text)
-    → IfErr ended (λ f. f ≢ WebCommand Output → new ≡ old) → (IsErrOf ended (WebCommand Output) → ShowsText showing (AppendsPart (Some (items old)) (Some (items new))) text)
-    → MatchResult ended (λ _. (status ≡ 0) × (told_new ≡ told_old)) (λ f. (status ≡ 1) × AppendsPart (Some (items told_old)) (Some (items told_new)) (show_line (fault_of f)))
+pub shown_by : {X : Type 0} (items : X → List ℕ) (showing : Showing) (text : List ℕ) (ended : Result Unit ShowFault) (status : ℕ) (old new told_old told_new : X) → items old ≡ [] → items told_old ≡ []
+    → IfOk ended (λ _. ShowsText showing (Appends (Some (items old)) (Some (items new))) text) → OnOk ended (length text ≤ LONGEST_INPUT) → IfErr ended (λ f. BlamesText showing f text)
+    → IfErr ended (λ f. f ≢ ShowCommand Output → new ≡ old) → (IsErrOf ended (ShowCommand Output) → ShowsText showing (AppendsPart (Some (items old)) (Some (items new))) text)
+    → MatchResult ended (λ _. (status ≡ 0) × (told_new ≡ told_old)) (λ f. (status ≡ 1) × AppendsPart (Some (items told_old)) (Some (items told_new)) (show_line f))
     → IsShown showing text status (items new) (items told_new)
 shown_by items showing text (Ok x) status old new told_old told_new none quiet ok within why silent part s =
     is_shown showing text (Ok x) status (items new) (items told_new) (subst (λ (o : List ℕ). ShowsText showing (Appends (Some o) (Some (items new))) text) none ok, within) tt (s.0, ap items s.1 ∙ quiet)
 shown_by items showing text (Err f) status old new told_old told_new none quiet ok within why silent part s =
     is_shown showing text (Err f) status (items new) (items told_new) tt
     (why, (λ other. ap items (silent other) ∙ none), (λ same. subst (λ (o : List ℕ). ShowsText showing (AppendsPart (Some o) (Some (items new))) text) none (part (ap Err same))))
-    (s.0, subst (λ (o : List ℕ). AppendsPart (Some o) (Some (items told_new)) (show_line (fault_of f))) quiet s.1)
+    (s.0, subst (λ (o : List ℕ). AppendsPart (Some o) (Some (items told_new)) (show_line f)) quiet s.1)

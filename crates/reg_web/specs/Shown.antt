@@ -9,16 +9,8 @@ use Rattle.reg_show.specs.Faults.{show_line}
 use Rattle.reg_show.specs.Finding.{BlamesFind, FindsAny, WritesFound, WritesNone}
 use Rattle.reg_show.specs.Showings.{BlamesText, ShowsText}
 use Rattle.reg_show.specs.declared.faults.ShowFault.{ShowFault}
-use Rattle.reg_show.specs.declared.faults.ShowFault.TheVariants.{Command as ShowCommand, TooManyToDraw as ManyToDraw, TooManyToRest as ManyToRest}
+use Rattle.reg_show.specs.declared.faults.ShowFault.TheVariants.{Command as ShowCommand}
 use Rattle.reg_show.specs.declared.showing.Showing.{Showing}
-use Rattle.reg_web.specs.declared.faults.Unshown.{Unshown}
-use Rattle.reg_web.specs.declared.faults.Unshown.TheVariants.{Command, TooManyToDraw, TooManyToRest}
-
--- why nothing is shown, as the program tells it
-abbrev pub fault_of : Unshown → ShowFault
-fault_of (Command fault) = ShowCommand fault
-fault_of TooManyToDraw = ManyToDraw
-fault_of TooManyToRest = ManyToRest
 
 -- The status, the answer and the line of a fault that showing a schedule gives: what is said of `show_text`, of a text
 -- that is no workload's.

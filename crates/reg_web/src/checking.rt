@@ -2,47 +2,16 @@
 ghost use Rattle.std.specs.Prelude.{◌≡◌, ◌≢◌, ◌≤◌, IfOk, IfErr, IsErrOf, OnOk, length};
 ghost use Rattle.std.specs.Io.KnownBytes.{Appends};
 ghost use Rattle.reg_base.specs.declared.limits.TheConstants.{LONGEST_INPUT};
-ghost use Rattle.reg_history.specs.Reports.{Contents, IsReport, SpellsReport};
-ghost use Rattle.reg_commands.specs.Verdicts.{Judges};
-ghost use Rattle.reg_commands.specs.Answers.{Answers, AnswersInPart, Blames, Checks};
+ghost use Rattle.reg_commands.specs.Answers.{Answers, AnswersInPart, Blames};
 ghost use Rattle.reg_commands.specs.declared.command.Command.TheVariants.{Check as CheckCommand};
 
-use crate::reading::text_of;
+use crate::reading::own_text;
 use crate::telling::{Ran, TextCommand, status_of};
-use reg_commands::{Fault, Verdicts, all_yes, judge, read_report_text, write_verdicts};
+use reg_commands::{Fault, check};
 use std::alloc::Allocator;
 use std::io::Write;
 
-/// What the checkers say of the report that a text spells.
-fn checked<A: Allocator + Copy>(alloc: A, text: &str) -> Result<Verdicts, Fault>
-    ensures ok { IfOk result (λ v. (r : Contents) × IsReport r × SpellsReport text.now r × Judges r v) }
-    ensures why { IfErr result (λ f. Blames CheckCommand f text.now) }
-    ensures kind { IfErr result (λ f. f ≢ Fault.Output) }
-{
-    let report = read_report_text(alloc, text)?;
-    match judge(alloc, &report) {
-        Ok(verdicts) => Ok(verdicts),
-        Err(_) => Err(Fault::OutOfMemory),
-    }
-}
-
 /// Reads a report, and writes the checkers' verdicts on it. It says yes where each of them does.
-fn write_check<A: Allocator + Copy, W: Write>(
-    alloc: A,
-    text: &str,
-    writer: &mut W,
-) -> Result<bool, Fault>
-    ensures ok { IfOk result (λ agrees. Checks agrees (Appends (W.contents writer.old) (W.contents writer.new)) text.now) }
-    ensures why { IfErr result (λ f. Blames CheckCommand f text.now) }
-    ensures silent { IfErr result (λ f. f ≢ Fault.Output → writer.new ≡ writer.old) }
-    ensures part { IsErrOf result Fault.Output → AnswersInPart CheckCommand (W.contents writer.old) (W.contents writer.new) text.now }
-{
-    let verdicts = checked(alloc, text)?;
-    write_verdicts(writer, verdicts)?;
-    Ok(all_yes(verdicts))
-}
-
-/// The same of bytes.
 fn check_bytes<A: Allocator + Copy, W: Write>(
     alloc: A,
     bytes: &[u8],
@@ -54,8 +23,8 @@ fn check_bytes<A: Allocator + Copy, W: Write>(
     ensures silent { IfErr result (λ f. f ≢ Fault.Output → writer.new ≡ writer.old) }
     ensures part { IsErrOf result Fault.Output → AnswersInPart CheckCommand (W.contents writer.old) (W.contents writer.new) bytes.now }
 {
-    let text = text_of(bytes)?;
-    write_check(alloc, text, writer)
+    let text = own_text(alloc, bytes)?;
+    check(alloc, text, writer)
 }
 
 /// The check of a report.

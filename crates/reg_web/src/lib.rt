@@ -2,20 +2,16 @@
 #![tactic(auto)]
 
 mod checking;
-mod faults;
 mod finding;
 mod making;
-mod paging;
 mod playing;
 mod plays;
 mod reading;
 mod replaying;
-mod resting;
 mod scheduling;
 mod showing;
 mod telling;
 mod texts;
-mod tracing;
 
 pub use plays::{
     tellwydar_layout, tellwydar_play, tellwydar_play_fair, tellwydar_schedule,

@@ -5,80 +5,39 @@ ghost use Rattle.reg_base.specs.declared.limits.TheConstants.{LONGEST_INPUT};
 ghost use Rattle.reg_text.specs.Writing.{AppendsPart};
 ghost use Rattle.reg_show.specs.Faults.{show_line};
 ghost use Rattle.reg_show.specs.Showings.{BlamesText, ShowsText};
-ghost use Rattle.reg_web.specs.Shown.{fault_of};
 
-use crate::faults::{Unshown, write_unshown};
-use crate::paging::write_run;
 use crate::reading::text_of;
-use crate::resting::rest;
 use crate::telling::{Ran, TextCommand};
-use crate::tracing::{draw, trace};
 use reg_commands::Fault;
-use reg_page::{HEAD, TAIL};
-use reg_show::Showing;
+use reg_show::{ShowFault, Showing, show_run, write_show_fault};
 use std::alloc::Allocator;
 use std::io::Write;
 
-/// Writes the page of the run of a schedule.
-fn write_page<A: Allocator + Copy, W: Write>(
-    alloc: A,
-    text: &str,
-    writer: &mut W,
-) -> Result<(), Unshown>
-    ensures ok { IfOk result (λ _. ShowsText Showing.Page (Appends (W.contents writer.old) (W.contents writer.new)) text.now) }
-    ensures why { IfErr result (λ f. BlamesText Showing.Page (fault_of f) text.now) }
-    ensures silent { IfErr result (λ f. f ≢ Unshown.Command Fault.Output → writer.new ≡ writer.old) }
-    ensures part { IsErrOf result (Unshown.Command Fault.Output) → ShowsText Showing.Page (AppendsPart (W.contents writer.old) (W.contents writer.new)) text.now }
-{
-    write_run(alloc, text, HEAD, TAIL, writer)
-}
-
-/// Shows what a schedule says.
-fn show<A: Allocator + Copy, W: Write>(
-    alloc: A,
-    showing: Showing,
-    text: &str,
-    writer: &mut W,
-) -> Result<(), Unshown>
-    ensures ok { IfOk result (λ _. ShowsText showing (Appends (W.contents writer.old) (W.contents writer.new)) text.now) }
-    ensures why { IfErr result (λ f. BlamesText showing (fault_of f) text.now) }
-    ensures silent { IfErr result (λ f. f ≢ Unshown.Command Fault.Output → writer.new ≡ writer.old) }
-    ensures part { IsErrOf result (Unshown.Command Fault.Output) → ShowsText showing (AppendsPart (W.contents writer.old) (W.contents writer.new)) text.now }
-{
-    match showing {
-        Showing::Trace => Ok(trace(alloc, text, writer)?),
-        Showing::Draw => draw(alloc, text, writer),
-        Showing::Data => write_run(alloc, text, "", "\n", writer),
-        Showing::Page => write_page(alloc, text, writer),
-        Showing::Rest => rest(alloc, text, writer),
-    }
-}
-
-/// The same of bytes.
+/// Shows the run of the schedule that bytes spell.
 fn show_bytes<A: Allocator + Copy, W: Write>(
     alloc: A,
     showing: Showing,
     bytes: &[u8],
     writer: &mut W,
-) -> Result<(), Unshown>
+) -> Result<(), ShowFault>
     ensures ok { IfOk result (λ _. ShowsText showing (Appends (W.contents writer.old) (W.contents writer.new)) bytes.now) }
     ensures within { OnOk result (length bytes.now ≤ LONGEST_INPUT) }
-    ensures why { IfErr result (λ f. BlamesText showing (fault_of f) bytes.now) }
-    ensures silent { IfErr result (λ f. f ≢ Unshown.Command Fault.Output → writer.new ≡ writer.old) }
-    ensures part { IsErrOf result (Unshown.Command Fault.Output) → ShowsText showing (AppendsPart (W.contents writer.old) (W.contents writer.new)) bytes.now }
+    ensures why { IfErr result (λ f. BlamesText showing f bytes.now) }
+    ensures silent { IfErr result (λ f. f ≢ ShowFault.Command Fault.Output → writer.new ≡ writer.old) }
+    ensures part { IsErrOf result (ShowFault.Command Fault.Output) → ShowsText showing (AppendsPart (W.contents writer.old) (W.contents writer.new)) bytes.now }
 {
     let text = text_of(bytes)?;
-    show(alloc, showing, text, writer)
+    show_run(alloc, showing, text, writer)
 }
 
 /// The status of showing: 0, or 1 where it was refused, and then with the line of the fault.
-fn status_of<A: Allocator + Copy>(ended: Result<(), Unshown>, told: &mut Vec<u8, A>) -> u8
-    ensures { MatchResult ended (λ _. (result ≡ 0) × (told.new ≡ told.old)) (λ f. (result ≡ 1) × AppendsPart (Some told.old.items) (Some told.new.items) (show_line (fault_of f))) }
+fn status_of<A: Allocator + Copy>(ended: Result<(), ShowFault>, told: &mut Vec<u8, A>) -> u8
+    ensures { MatchResult ended (λ _. (result ≡ 0) × (told.new ≡ told.old)) (λ f. (result ≡ 1) × AppendsPart (Some told.old.items) (Some told.new.items) (show_line f)) }
 {
     match ended {
         Ok(()) => 0,
         Err(fault) => {
-            let _ = write_unshown(told, fault);
+            let _ = write_show_fault(told, fault);
             1
         }
     }
