@@ -11,7 +11,8 @@ use std::alloc::Allocator;
 ///
 /// # Errors
 ///
-/// `Toml` where the text is in no layout, `OutOfMemory`, or a fault that the text seems to have. No clause speaks of them.
+/// `Toml` where the text is in no layout, `OutOfMemory`, or a fault that the text seems to have. No clause speaks of
+/// them.
 pub fn read_layout<A: Allocator + Copy>(alloc: A, text: &str) -> Result<Workload<A>, WorkloadFault>
     ensures { IfOk result (λ w. Holds text.now w) }
 {

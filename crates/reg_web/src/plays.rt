@@ -1,5 +1,5 @@
-//! The functions that the host calls of workloads. Each works in the room that is lent to it, and leaves in it what it did
-//! not touch.
+//! The functions that the host calls of workloads. Each works in the room that is lent to it, and leaves in it what it
+//! did not touch.
 ghost use Rattle.std.specs.Prelude.{true, false};
 ghost use Rattle.reg_commands.specs.Plays.{Plays};
 ghost use Rattle.reg_show.specs.Schedules.{WritesSchedule};
@@ -12,8 +12,8 @@ use crate::scheduling::Schedule;
 use crate::telling::{Lengths, tell};
 use reg_heap::Room;
 
-/// Puts the workload that a text seems to say into its layout. The answer is the layout, and the status 0; or 1 with the
-/// line of a fault.
+/// Puts the workload that a text seems to say into its layout. The answer is the layout, and the status 0; or 1 with
+/// the line of a fault.
 #[unsafe(no_mangle)]
 pub extern "C" fn tellwydar_layout(
     room: &mut Room,
@@ -28,8 +28,8 @@ pub extern "C" fn tellwydar_layout(
     tell(Make { command }, room, text, output, errors, lengths)
 }
 
-/// Plays a workload that is in its layout as the words of its seed say. The answer is the report of the play, and the status 0; or 1
-/// with the line of a fault.
+/// Plays a workload that is in its layout as the words of its seed say. The answer is the report of the play, and the
+/// status 0; or 1 with the line of a fault.
 #[unsafe(no_mangle)]
 pub extern "C" fn tellwydar_play(
     room: &mut Room,
@@ -60,8 +60,8 @@ pub extern "C" fn tellwydar_play_fair(
     tell(Make { command }, room, text, output, errors, lengths)
 }
 
-/// Plays a workload that is in its layout as the words of its seed say. The answer is the schedule of the play, and the status 0; or 1
-/// with the line of a fault.
+/// Plays a workload that is in its layout as the words of its seed say. The answer is the schedule of the play, and the
+/// status 0; or 1 with the line of a fault.
 #[unsafe(no_mangle)]
 pub extern "C" fn tellwydar_schedule(
     room: &mut Room,

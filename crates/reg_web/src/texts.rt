@@ -1,4 +1,5 @@
-//! The functions that the host calls. Each works in the room that is lent to it, and leaves in it what it did not touch.
+//! The functions that the host calls. Each works in the room that is lent to it, and leaves in it what it did not
+//! touch.
 ghost use Rattle.std.specs.Prelude.{◌≡◌};
 ghost use Rattle.reg_commands.specs.Kinds.{kind_of as kind_of_text};
 ghost use Rattle.reg_commands.specs.declared.command.Command.{Command};
@@ -58,8 +59,8 @@ pub extern "C" fn tellwydar_check(
     tell(Check, room, text, output, errors, lengths)
 }
 
-/// Looks for a serial order of a report's history. The answer is the report with it, and the status 0; or 1 with the line that
-/// there is none, or with the line of a fault or a first part of it.
+/// Looks for a serial order of a report's history. The answer is the report with it, and the status 0; or 1 with the
+/// line that there is none, or with the line of a fault or a first part of it.
 #[unsafe(no_mangle)]
 pub extern "C" fn tellwydar_find_serial(
     room: &mut Room,
@@ -76,8 +77,8 @@ pub extern "C" fn tellwydar_find_serial(
     tell(command, room, text, output, errors, lengths)
 }
 
-/// Looks for a point order of a report's history. The answer is the report with it, and the status 0; or 1 with the line that
-/// there is none, or with the line of a fault or a first part of it.
+/// Looks for a point order of a report's history. The answer is the report with it, and the status 0; or 1 with the
+/// line that there is none, or with the line of a fault or a first part of it.
 #[unsafe(no_mangle)]
 pub extern "C" fn tellwydar_find_points(
     room: &mut Room,
@@ -151,8 +152,8 @@ pub extern "C" fn tellwydar_page(
     tell(Showing::Page, room, text, output, errors, lengths)
 }
 
-/// Brings the run of a schedule to rest. The answer is the schedule with the events that do, and the status 0; or 1 with
-/// the line of a fault, or a first part of it.
+/// Brings the run of a schedule to rest. The answer is the schedule with the events that do, and the status 0; or 1
+/// with the line of a fault, or a first part of it.
 #[unsafe(no_mangle)]
 pub extern "C" fn tellwydar_rest(
     room: &mut Room,
