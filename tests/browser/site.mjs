@@ -20,6 +20,9 @@ async function serve() {
 const { address, stop } = await serve(), browser = await Browser.start(), session = new Session(browser, address);
 await browser.size(1440, 940);
 
+/** The last event of the run that is shown. */
+const lastOf = async () => +/ (\d+)$/.exec(await session.inside("#where"))[1];
+
 /** The events of a schedule, one a line. */
 const eventsOf = text => linesOf(text).slice(3);
 
@@ -29,9 +32,9 @@ const TRIES = {
       await session.open(fragment(example(name)));
       assert.match(await session.inside("#verdict"), /^a schedule: each of its events is accepted/);
       const last = eventsOf(example(name)).length - 1;
+      assert.equal(await lastOf(), last);
+      for (let at = 0; at <= last; at++) await browser.press("ArrowRight");
       assert.equal(await session.inside("#where"), `event ${last} / ${last}`);
-      await session.click("#first");
-      assert.match(await session.inside("#where"), /^start|^event 0/);
     }
     if (shots) await browser.picture(join(shots, "schedule.png"));
   },
@@ -55,10 +58,12 @@ const TRIES = {
   async "a workload is played, and its play becomes the text"() {
     await session.open(fragment(example("three-threads.toml")));
     assert.match(await session.inside("#verdict"), /^a workload: it can be played/);
-    const last = /event (\d+) /.exec(await session.inside("#where"))[1];
-    assert.ok(+last > 3);
+    const last = await lastOf();
+    assert.ok(last > 3);
     await session.click("#as-seeded");
-    assert.equal(eventsOf(await session.text()).length, +last + 1);
+    await browser.until("document.getElementById('source').value.includes('processes 3\\n')");
+    await session.shown();
+    assert.equal(eventsOf(await session.text()).length, last + 1);
     if (shots) await browser.picture(join(shots, "play.png"));
   },
 
@@ -69,32 +74,17 @@ const TRIES = {
     assert.match(await session.inside("#verdict"), /^line 4: /);
   },
 
-  async "a run that takes too long is ended, and the next one is answered"() {
-    const text = schedule(1, "linear", "tick 0");
-    await session.open(fragment(text));
+  async "what is not in the page is told so, and a text of 256 MB is refused by its line"() {
     const told = await browser.value(`(async () => {
       const { ask } = await import("./playground/js/server.js");
-      const long = ask("find-serial", ${JSON.stringify(endless())}), next = ask("replay", ${JSON.stringify(text)});
-      return [(await long).error, (await next).status];
+      const answers = [ask("outcomes", ""), ask("replay", "#".repeat(1 << 28)), ask("check", ${JSON.stringify(
+        example("one-process.report"))})];
+      return (await Promise.all(answers)).map(({ output, error }) => output || error);
     })()`);
-    assert.deepEqual(told, ["stopped: a run has 10 s, 1 GB and 32 MB of output", 0]);
+    assert.match(told[0], /^not in this page/);
+    assert.deepEqual(told.slice(1), ["line 2: end\n", "serial yes\npoints yes\n"]);
   },
 };
-
-/** A report whose search for an order has more stages than ten seconds reach. */
-function endless() {
-  const processes = 8, each = 12, entries = [];
-  let event = 0;
-  for (let number = 0; number < each; number++) {
-    for (let process = 0; process < processes; process++) {
-      entries.push(`${event++} p${process} #${number} call write x ${process * each + number}`);
-    }
-    for (let process = 0; process < processes; process++) entries.push(`${event++} p${process} #${number} answer done`);
-  }
-  const order = entries.filter(line => / call /.test(line)).map(line => line.split(" ").slice(1, 3).join(" "));
-  return ["awreg report 2", "front local-write", `processes ${processes}`, "registers 1", "x",
-    `history ${entries.length}`, ...entries, `order ${order.length}`, ...order, "end", ""].join("\n");
-}
 
 let wrong = 0;
 for (const [name, attempt] of Object.entries(TRIES)) {
