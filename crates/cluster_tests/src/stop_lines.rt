@@ -1,5 +1,6 @@
 //! The line of each stop on the error stream: its text, and a line feed.
-use reg_cli::{Stop, run_live, write_stop};
+use reg_cli::{Stop, run_live};
+use reg_commands::Refusal;
 use reg_commands::Fault;
 use std::alloc::Global;
 use std::sync::Wait;
@@ -37,7 +38,7 @@ const LINES: [(Stop, &str); 7] = [
 /// Whether a stop is told by its line, and is shown so. Both texts are empty.
 fn tells(errors: &mut Vec<u8>, text: &mut String, stop: Stop, line: &str) -> bool {
     write!(text, "{stop}\n").is_ok()
-        && write_stop(errors, stop).is_ok()
+        && stop.write_line(errors).is_ok()
         && errors.as_slice() == line.as_bytes()
         && text.as_str() == line
 }

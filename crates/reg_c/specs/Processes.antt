@@ -30,7 +30,7 @@ use Rattle.reg_c.specs.declared.parts.PeerPart.TheVariants.{First, Next, Expecte
 use Rattle.reg_c.specs.declared.parts.ProcessLook.{ProcessLook}
 use Rattle.reg_c.specs.declared.parts.ProcessLook.TheVariants.{OfState, ReplyValue, ReplyPlace}
 use Rattle.reg_c.specs.Events.{no_event, no_frame, no_front, no_shape, no_world, refusal_code, reply_code}
-use Rattle.reg_c.specs.Texts.{filled}
+use Rattle.reg_commands.specs.Lent.{filled}
 use Rattle.reg_c.specs.Worlds.{reply_place, reply_value, seen}
 
 -- a process that did nothing yet

@@ -12,7 +12,6 @@ mod process_handles;
 pub mod processes;
 mod reading;
 mod rows;
-mod telling;
 mod texts;
 mod unboxed;
 mod verdicts;

@@ -11,9 +11,9 @@ ghost use Rattle.reg_c.specs.Processes.{AllFit, Calls, IsFirstProcess, IsUnspell
 
 use crate::events::{code_of_refusal, code_of_reply, operation, value_of_answer};
 use crate::parts::{ProcessLook, StatePart, of_known, peer_look, process_look};
-use crate::telling::fill;
 use crate::unboxed::Unboxed;
 use reg_base::Shape;
+use reg_commands::fill;
 use reg_frames::{FrameFault, decode, encode};
 use reg_front::{FrontEnd, Linear, LocalRead, LocalWrite};
 use reg_process::{Awaited, Known, Process, ProcessFault, Put, Reply, Step};

@@ -1,11 +1,18 @@
 //! The commands over memory that the caller lends.
-ghost use Rattle.std.specs.Prelude.{true, false};
+ghost use Rattle.std.specs.Prelude.{◌≡◌, true, false};
 ghost use Rattle.reg_commands.specs.declared.command.Command.{Command};
 ghost use Rattle.reg_c.specs.Texts.{Tells, TellsVerdict};
 
-use crate::telling::{Lengths, tell, tell_verdict};
-use reg_commands::Command;
+use reg_commands::{Command, Lengths, OverText, tell};
+use reg_verify::Verify;
 use std::alloc::Global;
+
+/// The command over a text, with the table of a document in the global heap.
+fn over(global: Global, command: Command) -> OverText
+    ensures same { result.command ≡ command }
+{
+    OverText { command, global }
+}
 
 /// Runs a schedule. The answer is the report of its run, and the status 0; or 1 with the line of a fault, or a first
 /// part of it.
@@ -19,7 +26,7 @@ pub extern "C" fn tellwydar_replay(
 ) -> u8
     ensures { Tells Command.Replay text.now result output.old output.new errors.old errors.new lengths.new }
 {
-    tell(alloc, Command::Replay, text, output, errors, lengths)
+    tell(over(alloc, Command::Replay), alloc, text).put(output, errors, lengths)
 }
 
 /// Judges a report. The answer is the checkers' verdicts, and the status 0 where each says yes; or 1 where one says no,
@@ -34,7 +41,7 @@ pub extern "C" fn tellwydar_check(
 ) -> u8
     ensures { Tells Command.Check text.now result output.old output.new errors.old errors.new lengths.new }
 {
-    tell(alloc, Command::Check, text, output, errors, lengths)
+    tell(over(alloc, Command::Check), alloc, text).put(output, errors, lengths)
 }
 
 /// Plays a workload as the words of its seed say. The answer is the report of the play, and the status 0; or 1 with the
@@ -49,8 +56,8 @@ pub extern "C" fn tellwydar_play(
 ) -> u8
     ensures { Tells (Command.Play false) text.now result output.old output.new errors.old errors.new lengths.new }
 {
-    let command = Command::Play { fair: false };
-    tell(alloc, command, text, output, errors, lengths)
+    let play = Command::Play { fair: false };
+    tell(over(alloc, play), alloc, text).put(output, errors, lengths)
 }
 
 /// Plays a workload fairly. The answer is the report of the play, and the status 0; or 1 with the line of a fault, or a
@@ -65,8 +72,8 @@ pub extern "C" fn tellwydar_play_fair(
 ) -> u8
     ensures { Tells (Command.Play true) text.now result output.old output.new errors.old errors.new lengths.new }
 {
-    let command = Command::Play { fair: true };
-    tell(alloc, command, text, output, errors, lengths)
+    let play = Command::Play { fair: true };
+    tell(over(alloc, play), alloc, text).put(output, errors, lengths)
 }
 
 /// Judges a record of processes that ran apart. The answer is the report of the run that it is, and the status 0; or 1
@@ -81,5 +88,5 @@ pub extern "C" fn tellwydar_verify(
 ) -> u8
     ensures { TellsVerdict text.now result output.old output.new errors.old errors.new lengths.new }
 {
-    tell_verdict(alloc, text, output, errors, lengths)
+    tell(Verify, alloc, text).put(output, errors, lengths)
 }

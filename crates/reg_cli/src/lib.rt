@@ -12,7 +12,6 @@ pub use performing::run_live;
 pub use program::{refuse, run_line, run_program, run_words};
 pub use reg_args::WordsFault;
 pub use reg_commands::{Command, Fault};
-pub use stop_lines::write_stop;
 pub use stops::Stop;
 pub use texts::run_text;
 pub use words::{Asked, choose};

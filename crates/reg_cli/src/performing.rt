@@ -12,9 +12,8 @@ ghost use Rattle.reg_cli.specs.ThreadStops.{IsOfThreads};
 ghost use Rattle.reg_cli.specs.StopLines.{stop_line};
 ghost use Rattle.reg_commands.specs.declared.faults.Fault.TheVariants.{Output};
 
-use crate::stop_lines::write_stop;
 use crate::stops::{Stop, stopped};
-use reg_commands::{Fault, read_input, read_workload, report_run, write_out};
+use reg_commands::{Refusal, read_input, read_workload, report_run, write_out};
 use reg_front::by_front;
 use reg_history::Report;
 use reg_live::run_scripts_in;
@@ -26,13 +25,6 @@ use std::sync::Wait;
 use std::thread::Threads;
 use std::time::Clock;
 
-/// What the commands tell, told of threads.
-fn told(fault: Fault) -> Stop
-    ensures { result ≡ Command fault }
-{
-    Stop::Command { fault }
-}
-
 /// The report of what threads made of a workload.
 fn report_of<
     F: NamedFront + Send + Sync + 'static,
@@ -42,10 +34,7 @@ fn report_of<
     ensures why { IfErr result (λ stop. IsOfThreads stop) }
 {
     match run_scripts_in::<F, R, PackedWires>(rt, alloc, work.shape, work.scripts) {
-        Ok(closed) => match report_run(alloc, work.front, work.names, closed.world) {
-            Ok(report) => Ok(report),
-            Err(fault) => Err(told(fault)),
-        },
+        Ok(closed) => Ok(report_run(alloc, work.front, work.names, closed.world)?),
         Err(stop) => Err(stopped(stop)),
     }
 }
@@ -72,7 +61,7 @@ fn performed<R: Threads + Wait + Clock + Copy + Send + Sync + 'static>(
     ensures why { IfErr result (λ stop. BlamesStop stop text.now) }
     ensures kind { IfErr result (λ stop. stop ≢ Command Output) }
 {
-    let work = read_workload(alloc, alloc, text).map_err(told)?;
+    let work = read_workload(alloc, alloc, text)?;
     perform(rt, alloc, work)
 }
 
@@ -89,10 +78,8 @@ fn perform_text<R: Threads + Wait + Clock + Copy + Send + Sync + 'static, W: Wri
     ensures part { IsErrOf result (Command Output) → Lives (AppendsPart (W.contents writer.old) (W.contents writer.new)) text.now }
 {
     let report = performed(rt, alloc, text)?;
-    match write_out(writer, &report) {
-        Ok(()) => Ok(()),
-        Err(fault) => Err(told(fault)),
-    }
+    write_out(writer, &report)?;
+    Ok(())
 }
 
 /// Reads a workload, has threads perform it, and writes the report.
@@ -109,7 +96,7 @@ fn obey<R: Threads + Wait + Clock + Copy + Send + Sync + 'static, I: Read, W: Wr
 {
     match read_input(alloc, reader) {
         Ok(text) => perform_text(rt, alloc, text.as_str(), writer),
-        Err(fault) => Err(told(fault)),
+        Err(fault) => Err(Stop::from(fault)),
     }
 }
 
@@ -131,7 +118,7 @@ pub fn run_live<
     match obey(rt, alloc, reader, writer) {
         Ok(()) => 0,
         Err(stop) => {
-            let _ = write_stop(errors, stop);
+            let _ = stop.write_line(errors);
             1
         }
     }

@@ -1,12 +1,11 @@
 //! The line of each stop on the error stream.
-ghost use Rattle.std.specs.Prelude.{◌++◌, codes, MatchResult};
+ghost use Rattle.std.specs.Prelude.{◌++◌, codes};
 ghost use Rattle.std.specs.Fmt.{decimal};
-ghost use Rattle.std.specs.Io.KnownBytes.{Appends};
-ghost use Rattle.reg_text.specs.Writing.{AppendsPart, Puts};
+ghost use Rattle.reg_text.specs.Writing.{Puts};
 ghost use Rattle.reg_cli.specs.StopLines.{stop_text, stop_line};
 
 use crate::stops::Stop;
-use reg_commands::put_fault_text;
+use reg_commands::{Refusal, put_fault_text};
 use reg_text::{Sink, Unwritten, put_number};
 use std::io::Write;
 
@@ -49,11 +48,21 @@ fn put_stop<W: Write>(sink: &mut Sink<'_, W>, stop: Stop)
     sink.put(b"\n");
 }
 
-/// Writes the line of a stop, all of it or, where the writer fails, a first part.
-pub fn write_stop<W: Write>(errors: &mut W, stop: Stop) -> Result<(), Unwritten>
-    ensures { MatchResult result (λ _. Appends (W.contents errors.old) (W.contents errors.new) (stop_line stop)) (λ _. AppendsPart (W.contents errors.old) (W.contents errors.new) (stop_line stop)) }
-{
-    let mut sink = Sink::new(errors);
-    put_stop(&mut sink, stop);
-    sink.finish()
+impl Refusal for Stop {
+    ghost use Rattle.reg_cli.specs.StopLines.{stop_line};
+    ghost use Rattle.reg_cli.specs.declared.stops.Stop.TheVariants.{Command};
+
+    ghost line = { stop_line };
+
+    ghost of_fault = { λ fault. Command fault };
+
+    fn write_line<W: Write>(self, errors: &mut W) -> Result<(), Unwritten> {
+        let mut sink = Sink::new(errors);
+        put_stop(&mut sink, self);
+        sink.finish()
+    }
+
+    ghost is_told = { λ _ _ same. same };
+
+    ghost tells_output = { λ _ same. cc };
 }

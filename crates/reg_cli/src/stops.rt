@@ -46,6 +46,17 @@ impl fmt::Display for Stop {
     }
 }
 
+impl From<Fault> for Stop {
+    ghost use Rattle.std.specs.Prelude.{◌≡◌};
+    ghost use Rattle.reg_cli.specs.declared.stops.Stop.TheVariants.{Command};
+
+    ghost from_gives = { λ fault stop. stop ≡ Command fault };
+
+    fn from(fault: Fault) -> Stop {
+        Stop::Command { fault }
+    }
+}
+
 /// The refusal of a process's pass.
 fn refused(process: u8, fault: LiveFault) -> Stop
     ensures told { result ≡ stop_of_pass process fault }

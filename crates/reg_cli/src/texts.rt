@@ -7,13 +7,13 @@ ghost use Rattle.reg_commands.specs.Answers.{Answers, AnswersInPart, Blames};
 ghost use Rattle.reg_commands.specs.FaultLines.{fault_line};
 ghost use Rattle.reg_commands.specs.declared.faults.Fault.{Fault as AnyFault};
 
-use reg_commands::{Command, Fault};
+use reg_commands::{Command, Fault, OverText, run_command};
 use std::alloc::Global;
 use std::io::{Read, Write};
 
 /// Runs a command: it reads the whole input, and writes once all of it is accepted. The answer is the status: 0, or 1
 /// where the answer is a no or something was refused, in the second case with the line of the fault on `errors`, or a
-/// first part of it. `reg_commands::run_text` takes a second allocator for the table of a workload.
+/// first part of it.
 pub fn run_text<R: Read, W: Write, E: Write>(
     alloc: Global,
     command: Command,
@@ -28,5 +28,7 @@ pub fn run_text<R: Read, W: Write, E: Write>(
         ⊎ ((f : AnyFault) × IfSome (R.remaining reader.old) (Blames command f) × (f ≢ Fault.Output → writer.new ≡ writer.old) × (f ≡ Fault.Output → IfSome (R.remaining reader.old) (AnswersInPart command (W.contents writer.old) (W.contents writer.new))) × AppendsPart (E.contents errors.old) (E.contents errors.new) (fault_line f)) }
     ensures quiet { result ≡ 0 → errors.new ≡ errors.old }
 {
-    reg_commands::run_text(alloc, alloc, command, reader, writer, errors)
+    let global = alloc;
+    let command = OverText { command, global };
+    run_command(command, alloc, reader, writer, errors)
 }

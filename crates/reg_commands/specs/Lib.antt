@@ -4,4 +4,7 @@ pub mod CheckerAnswers
 pub mod Replays
 pub mod Plays
 pub mod Answers
+pub mod Statuses
+pub mod Works
+pub mod Lent
 pub mod Kinds

@@ -1,13 +1,13 @@
 //! The line of each fault on the error stream.
-ghost use Rattle.std.specs.Prelude.{◌++◌, codes, MatchResult};
+ghost use Rattle.std.specs.Prelude.{◌++◌, codes};
 ghost use Rattle.std.specs.Fmt.{decimal};
-ghost use Rattle.std.specs.Io.KnownBytes.{Appends};
-ghost use Rattle.reg_text.specs.Writing.{AppendsPart, Puts};
+ghost use Rattle.reg_text.specs.Writing.{Puts};
 ghost use Rattle.reg_inputs.specs.Keys.{key_name};
 ghost use Rattle.reg_inputs.specs.FaultTexts.{workload_text};
 ghost use Rattle.reg_commands.specs.FaultLines.{fault_text, fault_line};
 
 use crate::faults::Fault;
+use crate::refusal::Refusal;
 use reg_inputs::{Key, WorkloadFault};
 use reg_text::{Sink, Unwritten, put_number};
 use std::io::Write;
@@ -76,11 +76,20 @@ fn put_fault<W: Write>(sink: &mut Sink<'_, W>, fault: Fault)
     sink.put(b"\n");
 }
 
-/// Writes the line of a fault, all of it or, where the writer fails, a first part.
-pub fn write_fault<W: Write>(errors: &mut W, fault: Fault) -> Result<(), Unwritten>
-    ensures { MatchResult result (λ _. Appends (W.contents errors.old) (W.contents errors.new) (fault_line fault)) (λ _. AppendsPart (W.contents errors.old) (W.contents errors.new) (fault_line fault)) }
-{
-    let mut sink = Sink::new(errors);
-    put_fault(&mut sink, fault);
-    sink.finish()
+impl Refusal for Fault {
+    ghost use Rattle.reg_commands.specs.FaultLines.{fault_line};
+
+    ghost line = { fault_line };
+
+    ghost of_fault = { λ fault. fault };
+
+    fn write_line<W: Write>(self, errors: &mut W) -> Result<(), Unwritten> {
+        let mut sink = Sink::new(errors);
+        put_fault(&mut sink, self);
+        sink.finish()
+    }
+
+    ghost is_told = { λ _ _ same. same };
+
+    ghost tells_output = { λ _ same. same };
 }

@@ -10,24 +10,32 @@ mod fault_lines;
 mod faults;
 mod input;
 mod kinds;
+mod lent;
 mod output;
 mod playing;
+mod refusal;
 mod replaying;
 mod reporting;
 mod running;
+mod shell;
 mod verdicts;
+mod works;
 
 pub use checking::{check, read_report_text};
 pub use command::Command;
-pub use fault_lines::{put_fault_text, write_fault};
+pub use fault_lines::put_fault_text;
 pub use faults::Fault;
 pub use input::read_input;
 pub use kinds::{Kind, command_of, kind_of};
+pub use lent::{Lengths, Response, fill, tell};
 pub use output::write_answer;
 pub use playing::{play_by, play_workload, read_workload};
+pub use refusal::Refusal;
 pub use replaying::{Ran, read_schedule, replay, run_events};
 pub use reporting::{report_run, write_out};
-pub use running::run_text;
+pub use running::OverText;
+pub use shell::{TextCommand, run_command};
 pub use verdicts::{
     Reason, Verdict, Verdicts, all_yes, judge, put_points, put_serial, write_verdicts,
 };
+pub use works::{OfDocument, WorkCommand};

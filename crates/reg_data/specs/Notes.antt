@@ -41,3 +41,7 @@ notes_from above = record { title = get_or above 0 []; notes = drop 3 above }
 -- what the comments of a schedule's text say
 abbrev pub notes_of : List ℕ → Notes
 notes_of text = notes_from (notes_above (lines_of text))
+
+-- no title, and no note of any event
+abbrev pub no_notes : Notes
+no_notes = record { title = []; notes = [] }

@@ -2,7 +2,7 @@
 ghost use Rattle.std.specs.Prelude.{◌≡◌, [], IfOk, get_or};
 ghost use Rattle.reg_base.specs.Names.{texts};
 ghost use Rattle.reg_text.specs.Lines.{lines_of};
-ghost use Rattle.reg_data.specs.Notes.{notes_above, notes_of};
+ghost use Rattle.reg_data.specs.Notes.{no_notes, notes_above, notes_of};
 
 use crate::comments::{add_comment, comment, cut_line, is_kept};
 use std::alloc::{AllocError, Allocator, Global};
@@ -70,6 +70,15 @@ fn note_at<A: Allocator + Copy>(above: &[String<A>], place: usize) -> &str
 }
 
 impl<A: Allocator + Copy> Notes<A> {
+    /// No title, and no note of any event.
+    pub fn none(alloc: A) -> Notes<A>
+        ensures { result ≡ no_notes }
+    {
+        Notes {
+            above: Vec::new(alloc),
+        }
+    }
+
     /// The title: what the comments above the head say, or an empty text.
     pub fn title(&self) -> &str
         ensures { result.now ≡ self.now.title }

@@ -1,4 +1,3 @@
 pub mod OperationsCounted
 pub mod Operations
 pub mod WhyTold
-pub mod Asked

@@ -4,7 +4,7 @@ ghost use Rattle.reg_text.specs.Writing.{Puts};
 ghost use Rattle.reg_commands.specs.FaultLines.{fault_line};
 ghost use Rattle.reg_reasons.specs.FirstLines.{counted, subject_text, first_no};
 
-use reg_commands::{Fault, Verdict, Verdicts, put_points, put_serial, write_fault};
+use reg_commands::{Fault, Refusal, Verdict, Verdicts, put_points, put_serial};
 use reg_text::{Sink, put_number};
 use std::alloc::{AllocError, Allocator};
 use std::io::Write;
@@ -74,7 +74,7 @@ pub fn line_of_fault<A: Allocator + Copy>(alloc: A, fault: Fault) -> Result<Vec<
     ensures { IfOk result (λ v. v.items ≡ fault_line fault) }
 {
     let mut line = Vec::new(alloc);
-    if write_fault(&mut line, fault).is_err() {
+    if fault.write_line(&mut line).is_err() {
         return Err(AllocError);
     }
     Ok(line)

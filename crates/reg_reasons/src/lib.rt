@@ -21,4 +21,4 @@ mod scanning;
 mod toml_places;
 mod wanting;
 
-pub use asking::why_text;
+pub use asking::Explain;

@@ -16,7 +16,7 @@ use Rattle.reg_process.specs.declared.events.Event.{Event}
 use Rattle.reg_process.specs.declared.events.Event.TheVariants.{Call, Take, Tick}
 use Rattle.reg_world.specs.World.{World, empty_world, move_of, happens, run}
 use Rattle.reg_world.specs.Worlds.{Made, run_in}
-use Rattle.reg_inputs.specs.Schedules.{EventFits, Plan}
+use Rattle.reg_inputs.specs.Schedules.{EventFits, IsPlan, Plan}
 use Rattle.reg_commands.specs.Plays.{IsPlayBy, plan_of}
 use Rattle.reg_base.specs.Shape.{Extent}
 use Rattle.reg_front.specs.declared.named.Front.{Front}
@@ -65,19 +65,23 @@ event_fits names registers (Call p op) same known bits = (bits.0, op_fits names 
 event_fits names registers (Take from to i) same known bits = bits
 event_fits names registers (Tick p) same known bits = bits
 
--- what a run of a workload's processes accepted is a schedule under its front end and names
-pub made_schedule : (start : Op → ℕ → Start) (work : Load) (made : Made) → IsLoad work → made.processes ≡ length work.scripts → made.registers ≡ length work.names → (run_in start made).accepted ≡ made.accepted
-    → ((k : ℕ) (e : Event) → slice_get made.accepted k ≡ Some e → EventHasBits e) → IsScheduleText (plan_of work made)
-made_schedule start work made load processes registers all bits =
+-- what a run of a workload's processes accepted is a plan under its front end and names
+pub good_plan : (start : Op → ℕ → Start) (work : Load) (made : Made) → IsLoad work → made.processes ≡ length work.scripts → made.registers ≡ length work.names → (run_in start made).accepted ≡ made.accepted
+    → ((k : ℕ) (e : Event) → slice_get made.accepted k ≡ Some e → EventHasBits e) → IsPlan (plan_of work made)
+good_plan start work made load processes registers all bits =
     let known : AllKnown made.registers made.accepted = all_known start made.processes made.registers made.accepted (empty_world made.processes made.registers) all in
-    schedule_spelled (plan_of work made) (record {
+    record {
       names = load.names;
       some_process = (let l = load.some_process in omega (arith, l, processes));
       processes = (let l = load.few_processes in omega (arith, l, processes));
       registers = registers;
       events = λ k e h. event_fits work.names made.registers e registers (known k e h) (bits k e h);
       few = (let a = few_events start made.processes made.registers made.accepted in let b = ap length all in omega (arith, a, b));
-    })
+    }
+
+pub made_schedule : (start : Op → ℕ → Start) (work : Load) (made : Made) → IsLoad work → made.processes ≡ length work.scripts → made.registers ≡ length work.names → (run_in start made).accepted ≡ made.accepted
+    → ((k : ℕ) (e : Event) → slice_get made.accepted k ≡ Some e → EventHasBits e) → IsScheduleText (plan_of work made)
+made_schedule start work made load processes registers all bits = schedule_spelled (plan_of work made) (good_plan start work made load processes registers all bits)
 
 -- the plan that was written is that of the run
 pub made_plan : (work : Load) (made : Made) (shape : Extent) (names : List (List ℕ)) (front : Front) (events : List Event) → shape ≡ work.shape → names ≡ work.names → front ≡ work.front → events ≡ made.accepted

@@ -1,13 +1,10 @@
 -- The schedule of a run with one of the outcomes of a workload's scripts.
-use Rattle.std.specs.Prelude.{ℕ, ◌≡◌, ◌-◌, ◌<◌, List, false, length}
+use Rattle.std.specs.Prelude.{ℕ, ◌≡◌, ◌-◌, ◌<◌, ◌⊎◌, List, length}
 use Rattle.reg_base.specs.declared.memory.Op.{Op}
 use Rattle.reg_front.specs.declared.starts.Start.{Start}
 use Rattle.reg_checkers.specs.History.{IsAt}
-use Rattle.reg_commands.specs.Answers.{Blames}
-use Rattle.reg_commands.specs.Plays.{Holds, plan_of}
-use Rattle.reg_commands.specs.Replays.{start_of}
-use Rattle.reg_commands.specs.declared.command.Command.TheVariants.{Play}
-use Rattle.reg_commands.specs.declared.faults.Fault.TheVariants.{OutOfMemory}
+use Rattle.reg_commands.specs.Plays.{plan_of}
+use Rattle.reg_commands.specs.declared.faults.Fault.TheVariants.{Output, OutOfMemory}
 use Rattle.reg_inputs.specs.Loads.{Load}
 use Rattle.reg_inputs.specs.ScheduleText.{IsScheduleText, schedule_text}
 use Rattle.reg_outcomes.specs.Finishing.{HasRoom}
@@ -34,23 +31,11 @@ pub record ShowsOutcome (number : ℕ) (start : Op → ℕ → Start) (Wrote : L
   pub here : IsAt found (number - 1) outcome
   pub sent : SendsRun start Wrote work outcome
 
--- The text is a document that says a workload, and the schedule of a run with that outcome was written.
-pub record WritesOutcome (number : ℕ) (Wrote : List ℕ → Type 0) (text : List ℕ) : Type 0 where
-  pub work : Load
-  pub holds : Holds text work
-  pub shown : ShowsOutcome number (start_of work.front) Wrote work
-
 -- memory was refused, or this doesn't hold, and a run has no room
 abbrev pub Lacks : Type 0 → ShowFault → Type 0
 Lacks Room (Command fault) = fault ≡ OutOfMemory
 Lacks Room TooManyEvents = ¬ Room
 Lacks Room _ = ⊥
-
--- The text says a workload of which this holds.
-pub record SaysSome (IsSo : Load → Type 0) (text : List ℕ) : Type 0 where
-  pub work : Load
-  pub holds : Holds text work
-  pub is_so : IsSo work
 
 -- some number of turns leads to more stages than the most
 abbrev pub IsTooWide : Load → Type 0
@@ -60,10 +45,10 @@ IsTooWide work = IsWider work.scripts work.shape.registers MOST_STAGES
 abbrev pub HasFewer : ℕ → Load → Type 0
 HasFewer number work = (found : List Interleaving) × AreAll work.scripts work.shape.registers found × (length found < number)
 
--- what a fault says of the text: of a command, what it says where a workload is played
-abbrev pub BlamesOutcome : ℕ → ShowFault → List ℕ → Type 0
-BlamesOutcome number (Command fault) text = Blames (Play false) fault text
-BlamesOutcome number TooManyStages text = SaysSome IsTooWide text
-BlamesOutcome number NoSuchOutcome text = SaysSome (HasFewer number) text
-BlamesOutcome number TooManyEvents text = SaysSome (λ work. ¬ HasRoom work.scripts) text
-BlamesOutcome number _ text = ⊥
+-- why no schedule of a run with the outcome of this number is written
+abbrev pub StopsOutcome : ℕ → Load → ShowFault → Type 0
+StopsOutcome number work (Command fault) = (fault ≡ Output) ⊎ (fault ≡ OutOfMemory)
+StopsOutcome number work TooManyStages = IsTooWide work
+StopsOutcome number work NoSuchOutcome = HasFewer number work
+StopsOutcome number work TooManyEvents = ¬ HasRoom work.scripts
+StopsOutcome number work _ = ⊥

@@ -5,10 +5,8 @@ use Rattle.reg_base.specs.declared.memory.Op.{Op}
 use Rattle.reg_front.specs.declared.starts.Start.{Start}
 use Rattle.reg_world.specs.Worlds.{Made, after_events}
 use Rattle.reg_runs.specs.Rest.{Settles, most_to_rest}
-use Rattle.reg_inputs.specs.Schedules.{Plan, IsPlan, Spells}
-use Rattle.reg_commands.specs.Replays.{start_of, run_by, plan_in, BlamesRun}
-use Rattle.reg_commands.specs.Answers.{Blames}
-use Rattle.reg_commands.specs.declared.command.Command.TheVariants.{Replay}
+use Rattle.reg_inputs.specs.Schedules.{Plan}
+use Rattle.reg_commands.specs.Replays.{run_by, plan_in, BlamesRun}
 use Rattle.reg_inputs.specs.ScheduleText.{IsScheduleText, schedule_text}
 use Rattle.reg_show.specs.declared.faults.ShowFault.{ShowFault}
 use Rattle.reg_show.specs.declared.faults.ShowFault.TheVariants.{Command, TooManyToRest}
@@ -27,13 +25,6 @@ pub record WritesRest (start : Op → ℕ → Start) (Wrote : List ℕ → Type 
   pub schedule : IsScheduleText (plan_in p.front p.names made)
   pub written : Wrote (schedule_text (plan_in p.front p.names made))
 
--- The text is that of such a plan.
-pub record RestsRun (Wrote : List ℕ → Type 0) (text : List ℕ) : Type 0 where
-  pub plan : Plan
-  pub good : IsPlan plan
-  pub read : Spells text plan
-  pub written : WritesRest (start_of plan.front) Wrote plan
-
 -- All events of a plan are accepted, and a run has no room for as many more as rest may take.
 pub record LacksRoom (start : Op → ℕ → Start) (p : Plan) : Type 0 where
   pub accepted : (run_by start p).accepted ≡ p.events
@@ -44,16 +35,3 @@ abbrev pub BlamesRested : (Op → ℕ → Start) → Plan → ShowFault → Type
 BlamesRested start p (Command fault) = BlamesRun start p fault
 BlamesRested start p TooManyToRest = LacksRoom start p
 BlamesRested start p _ = ⊥
-
--- the text is that of a plan whose run has no room to rest
-pub record IsTooFull (text : List ℕ) : Type 0 where
-  pub plan : Plan
-  pub good : IsPlan plan
-  pub read : Spells text plan
-  pub full : LacksRoom (start_of plan.front) plan
-
--- what a fault says of the schedule whose run is to rest
-abbrev pub BlamesRest : ShowFault → List ℕ → Type 0
-BlamesRest (Command fault) text = Blames Replay fault text
-BlamesRest TooManyToRest text = IsTooFull text
-BlamesRest _ text = ⊥

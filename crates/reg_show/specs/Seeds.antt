@@ -1,7 +1,6 @@
 -- Which play of a workload is made, and the workload with another seed.
-use Rattle.std.specs.Prelude.{ℕ, ◌≡◌, ◌≤◌, Bool, true, false, List, Option, None, IfSome, unwrap_or}
+use Rattle.std.specs.Prelude.{ℕ, ◌≤◌, Bool, true, false, Option, None, IfSome, unwrap_or}
 use Rattle.reg_base.specs.declared.limits.TheConstants.{LAST_SEED}
-use Rattle.reg_commands.specs.Plays.{Holds}
 use Rattle.reg_inputs.specs.Loads.{Load}
 use Rattle.reg_show.specs.declared.players.Player.{Player}
 use Rattle.reg_show.specs.declared.players.Player.TheVariants.{Fair, Seeded}
@@ -23,8 +22,3 @@ IsSeed seed = IfSome seed (λ n. n ≤ LAST_SEED)
 -- the workload with this seed in place of its own, where there is one
 abbrev pub reseeded : Option ℕ → Load → Load
 reseeded seed work = record work { seed = unwrap_or seed work.seed }
-
--- the text is a document that says a workload, and this is that one with this seed in place of its own, where there is
--- a seed
-abbrev pub HoldsSeeded : Option ℕ → List ℕ → Load → Type 0
-HoldsSeeded seed text work = (said : Load) × Holds text said × (work ≡ reseeded seed said)

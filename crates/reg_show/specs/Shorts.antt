@@ -1,17 +1,14 @@
 -- The short form of a play: its events up to the last answer, without those that no answer needs. To be believed:
 -- promises speak of it.
-use Rattle.std.specs.Prelude.{ℕ, zero, suc, ◌≡◌, ◌+◌, ◌<◌, ◌⊎◌, ◌==◌, cond, max, Bool, false, List, [], ◌∷◌, ◌++◌, length, take, Option, Some, None}
+use Rattle.std.specs.Prelude.{ℕ, zero, suc, ◌≡◌, ◌+◌, ◌<◌, ◌⊎◌, ◌==◌, cond, max, Bool, List, [], ◌∷◌, ◌++◌, length, take, Option, Some, None}
 use Rattle.std.specs.List.{remove}
 use Rattle.reg_base.specs.declared.memory.Answer.{Answer}
 use Rattle.reg_base.specs.declared.memory.Op.{Op}
 use Rattle.reg_base.specs.Shape.{Extent}
 use Rattle.reg_checkers.specs.declared.entries.Entry.{Entry}
 use Rattle.reg_checkers.specs.declared.entries.Entry.TheVariants.{Called, Answered}
-use Rattle.reg_commands.specs.Answers.{Blames}
 use Rattle.reg_commands.specs.Plays.{IsPlayBy}
-use Rattle.reg_commands.specs.Replays.{start_of}
-use Rattle.reg_commands.specs.declared.command.Command.TheVariants.{Play}
-use Rattle.reg_commands.specs.declared.faults.Fault.TheVariants.{OutOfMemory}
+use Rattle.reg_commands.specs.declared.faults.Fault.TheVariants.{Output, OutOfMemory}
 use Rattle.reg_front.specs.declared.starts.Start.{Start}
 use Rattle.reg_inputs.specs.Loads.{Load}
 use Rattle.reg_inputs.specs.ScheduleText.{IsScheduleText, schedule_text}
@@ -19,10 +16,8 @@ use Rattle.reg_inputs.specs.Schedules.{Plan}
 use Rattle.reg_process.specs.declared.events.Event.{Event}
 use Rattle.reg_world.specs.World.{whole}
 use Rattle.reg_world.specs.Worlds.{Made}
-use Rattle.reg_show.specs.Seeds.{HoldsSeeded, is_fair, seed_of}
 use Rattle.reg_show.specs.declared.faults.ShowFault.{ShowFault}
 use Rattle.reg_show.specs.declared.faults.ShowFault.TheVariants.{Command, TooManyToShorten}
-use Rattle.reg_show.specs.declared.players.Player.{Player}
 use Rattle.reg_show.specs.declared.short_schedules.TheConstants.{MOST_SHORTENED}
 use Rattle.reg_show.specs.declared.shortening.Finished.{Finished}
 
@@ -111,13 +106,6 @@ pub record ShowsShort (fair : Bool) (start : Op → ℕ → Start) (Wrote : List
   pub play : IsShortPlay fair start work short
   pub sent : SendsEvents Wrote work short
 
--- The text is a document that says a workload, and the schedule of the short form of the player's play of it was
--- written: of the one with the player's seed in place of its own, where the player has one.
-pub record WritesShort (player : Player) (Wrote : List ℕ → Type 0) (text : List ℕ) : Type 0 where
-  pub work : Load
-  pub holds : HoldsSeeded (seed_of player) text work
-  pub shown : ShowsShort (is_fair player) (start_of work.front) Wrote work
-
 -- The player's play of the workload has more events up to its last answer than are shortened.
 pub record IsLongPlay (fair : Bool) (start : Op → ℕ → Start) (work : Load) : Type 0 where
   pub made : Made
@@ -131,14 +119,6 @@ LacksShort fair start work (Command fault) = fault ≡ OutOfMemory
 LacksShort fair start work TooManyToShorten = IsLongPlay fair start work
 LacksShort fair start work _ = ⊥
 
--- The text is a document that says a workload, whose play has more events up to its last answer than are shortened.
-pub record SaysLongPlay (player : Player) (text : List ℕ) : Type 0 where
-  pub work : Load
-  pub holds : HoldsSeeded (seed_of player) text work
-  pub long : IsLongPlay (is_fair player) (start_of work.front) work
-
--- what a fault says of the text: of a command, what it says where a workload is played
-abbrev pub BlamesShort : Player → ShowFault → List ℕ → Type 0
-BlamesShort player (Command fault) text = Blames (Play false) fault text
-BlamesShort player TooManyToShorten text = SaysLongPlay player text
-BlamesShort player _ text = ⊥
+-- why no schedule of a short play is written
+abbrev pub StopsShort : Bool → (Op → ℕ → Start) → Load → ShowFault → Type 0
+StopsShort fair start work fault = (fault ≡ Command Output) ⊎ LacksShort fair start work fault

@@ -1,36 +1,24 @@
 //! The commands that show the run of a schedule: as text, and as a drawing.
-ghost use Rattle.std.specs.Prelude.{◌≡◌, ◌≢◌, IfOk, IfErr, IsErrOf, MatchResult};
+ghost use Rattle.std.specs.Prelude.{◌≡◌, ◌≢◌, ◌≤◌, IfOk, IfErr, IsErrOf, MatchResult, length};
 ghost use Rattle.std.specs.Io.KnownBytes.{Appends};
 ghost use Rattle.reg_text.specs.Writing.{AppendsPart};
-ghost use Rattle.reg_inputs.specs.Schedules.{Plan, IsPlan, Spells};
-ghost use Rattle.reg_commands.specs.Answers.{Blames};
-ghost use Rattle.reg_commands.specs.Replays.{start_of};
-ghost use Rattle.reg_commands.specs.declared.command.Command.TheVariants.{Replay};
-ghost use Rattle.reg_show.specs.Runs.{BlamesDrawn, DrawsRun, IsDrawable, TellsRun};
-ghost use Rattle.reg_show.specs.ToldRuns.{IsTold};
+ghost use Rattle.reg_show.specs.Runs.{DrawsRun, IsRunWhole, TellsRun};
+ghost use Rattle.reg_show.specs.Showings.{StopsShowing};
 ghost use Rattle.reg_trace.specs.Traces.{trace_text};
 
 use crate::faults::ShowFault;
+use crate::showing::Showing;
 use crate::telling::tell_schedule;
 use reg_base::Names;
-use reg_commands::{Fault, read_schedule, write_answer};
+use reg_commands::{Fault, write_answer};
 use reg_drawing::draw_told;
 use reg_trace::{Moment, TracedRun, write_trace};
+use reg_workload::Schedule;
 use std::alloc::Allocator;
 use std::io::Write;
 
 /// The most events of a run that is drawn.
 pub const MOST_DRAWN: usize = 400;
-
-/// What is told of the schedule that a text spells.
-fn told<A: Allocator + Copy>(alloc: A, text: &str) -> Result<TracedRun<A>, Fault>
-    ensures ok { IfOk result (λ t. (p : Plan) × IsPlan p × Spells text.now p × IsTold (start_of p.front) p t.names t.moments.items t.history.entries) }
-    ensures why { IfErr result (λ f. Blames Replay f text.now) }
-    ensures kind { IfErr result (λ f. f ≢ Fault.Output) }
-{
-    let schedule = read_schedule(alloc, text)?;
-    tell_schedule(alloc, schedule)
-}
 
 /// Writes what each event did, to the last byte.
 fn send<A: Allocator + Copy, W: Write>(
@@ -46,47 +34,50 @@ fn send<A: Allocator + Copy, W: Write>(
     Ok(())
 }
 
-/// Reads a schedule, and writes what happens in its run, event by event.
+/// Writes what happens in the run of a schedule, event by event.
 pub(crate) fn trace<A: Allocator + Copy, W: Write>(
     alloc: A,
-    text: &str,
+    schedule: Schedule<A>,
     writer: &mut W,
-) -> Result<(), Fault>
-    ensures ok { IfOk result (λ _. TellsRun (Appends (W.contents writer.old) (W.contents writer.new)) text.now) }
-    ensures why { IfErr result (λ f. Blames Replay f text.now) }
-    ensures silent { IfErr result (λ f. f ≢ Fault.Output → writer.new ≡ writer.old) }
-    ensures part { IsErrOf result Fault.Output → TellsRun (AppendsPart (W.contents writer.old) (W.contents writer.new)) text.now }
+) -> Result<(), ShowFault>
+    ensures ok { IfOk result (λ _. TellsRun (Appends (W.contents writer.old) (W.contents writer.new)) schedule) }
+    ensures why { IfErr result (StopsShowing Showing.Trace schedule) }
+    ensures silent { IfErr result (λ f. f ≢ ShowFault.Command Fault.Output → writer.new ≡ writer.old) }
+    ensures part { IsErrOf result (ShowFault.Command Fault.Output) → TellsRun (AppendsPart (W.contents writer.old) (W.contents writer.new)) schedule }
 {
-    let told = told(alloc, text)?;
+    let told = tell_schedule(alloc, schedule)?;
     send(writer, &told.names, told.moments.as_slice())?;
     Ok(())
 }
 
-/// What is told of the schedule that a text spells, where it is drawn.
-fn told_to_draw<A: Allocator + Copy>(alloc: A, text: &str) -> Result<TracedRun<A>, ShowFault>
-    ensures ok { IfOk result (λ _. IsDrawable text.now) }
-    ensures why { IfErr result (λ f. BlamesDrawn MOST_DRAWN f text.now) }
+/// What is told of a schedule, where it is drawn.
+fn told_to_draw<A: Allocator + Copy>(
+    alloc: A,
+    schedule: Schedule<A>,
+) -> Result<TracedRun<A>, ShowFault>
+    ensures accepted { IfOk result (λ _. IsRunWhole schedule) }
+    ensures few { IfOk result (λ _. length schedule.events ≤ MOST_DRAWN) }
+    ensures why { IfErr result (StopsShowing Showing.Draw schedule) }
     ensures kind { IfErr result (λ f. f ≢ ShowFault.Command Fault.Output) }
 {
-    let schedule = read_schedule(alloc, text)?;
     if schedule.events.len() > MOST_DRAWN {
         return Err(ShowFault::TooManyToDraw);
     }
     Ok(tell_schedule(alloc, schedule)?)
 }
 
-/// Reads a schedule, and writes the space-time diagram of its run.
+/// Writes the space-time diagram of the run of a schedule.
 pub(crate) fn draw<A: Allocator + Copy, W: Write>(
     alloc: A,
-    text: &str,
+    schedule: Schedule<A>,
     writer: &mut W,
 ) -> Result<(), ShowFault>
-    ensures ok { IfOk result (λ _. DrawsRun (Appends (W.contents writer.old) (W.contents writer.new)) text.now) }
-    ensures why { IfErr result (λ f. BlamesDrawn MOST_DRAWN f text.now) }
+    ensures ok { IfOk result (λ _. DrawsRun (Appends (W.contents writer.old) (W.contents writer.new)) schedule) }
+    ensures why { IfErr result (StopsShowing Showing.Draw schedule) }
     ensures silent { IfErr result (λ f. f ≢ ShowFault.Command Fault.Output → writer.new ≡ writer.old) }
-    ensures part { IsErrOf result (ShowFault.Command Fault.Output) → DrawsRun (AppendsPart (W.contents writer.old) (W.contents writer.new)) text.now }
+    ensures part { IsErrOf result (ShowFault.Command Fault.Output) → DrawsRun (AppendsPart (W.contents writer.old) (W.contents writer.new)) schedule }
 {
-    let told = told_to_draw(alloc, text)?;
+    let told = told_to_draw(alloc, schedule)?;
     let drawing = draw_told(alloc, &told)?;
     write_answer(writer, drawing.as_str().as_bytes())?;
     Ok(())

@@ -1,26 +1,21 @@
 //! The command that prints all outcomes that a workload's scripts can have.
-ghost use Rattle.std.specs.Prelude.{◌≡◌, ◌≢◌, ◌≤◌, ◌⊎◌, IfOk, IfErr, IfSome, IsErrOf, MatchResult, false, length, map};
+ghost use Rattle.std.specs.Prelude.{◌≡◌, ◌≢◌, ◌⊎◌, IfOk, IfErr, IsErrOf, MatchResult, map};
 ghost use Rattle.std.specs.Option.{option_map};
 ghost use Rattle.std.specs.Io.KnownBytes.{Appends};
-ghost use Rattle.reg_base.specs.declared.limits.TheConstants.{LONGEST_INPUT};
 ghost use Rattle.reg_text.specs.Writing.{AppendsPart};
-ghost use Rattle.reg_commands.specs.declared.command.Command.TheVariants.{Play};
 ghost use Rattle.reg_outcomes.specs.AllText.{ShowsAll, all_text};
 ghost use Rattle.reg_outcomes.specs.Interleavings.{IsWider};
 ghost use Rattle.reg_outcomes.specs.declared.outcomes.TheConstants.{MOST_STAGES};
-ghost use Rattle.reg_show.specs.AllOutcomes.{BlamesAll, WritesAll};
-ghost use Rattle.reg_show.specs.Faults.{show_line};
-ghost use Rattle.reg_show.specs.declared.faults.ShowFault.{ShowFault as AnyFault};
+ghost use Rattle.reg_show.specs.AllOutcomes.{StopsAll};
 
-use crate::answering::{TextCommand, run_command};
 use crate::faults::ShowFault;
-use reg_commands::{Fault, read_workload};
+use reg_commands::{Fault, WorkCommand};
 use reg_outcomes::{
     AllOutcomes, MOST_STAGES, ToldValue, all_outcomes, count_operations, nevers_of, write_all,
 };
 use reg_workload::Workload;
-use std::alloc::{Allocator, Global};
-use std::io::{Read, Write};
+use std::alloc::Allocator;
+use std::io::Write;
 
 /// Writes the text of all outcomes, to the last byte.
 fn send<A: Allocator + Copy, W: Write>(
@@ -57,48 +52,24 @@ fn write_all_of<A: Allocator + Copy, W: Write>(
     send(writer, count_operations(scripts) as u64, &all, &nevers)
 }
 
-/// Shows all outcomes that the scripts of the workload that the text says can have.
-#[derive(Clone, Copy)]
-struct EveryOutcome;
+/// Writes all outcomes that the scripts of the workload that a text says can have, and the combinations of their values
+/// that no outcome has, once all are found.
+#[derive(Clone, Copy, Debug)]
+pub struct EveryOutcome;
 
-impl TextCommand for EveryOutcome {
-    ghost IsShown = { λ _. WritesAll };
+impl WorkCommand for EveryOutcome {
+    type Fault = ShowFault;
 
-    ghost IsBlamed = { λ _. BlamesAll };
+    ghost IsShown = { λ _ Wrote work. ShowsAll work.scripts work.shape.registers Wrote };
 
-    /// Reads a workload, and writes all outcomes of its scripts.
-    fn answer<A: Allocator + Copy, W: Write>(
+    ghost IsStopped = { λ _ fault work. StopsAll work fault };
+
+    fn show<A: Allocator + Copy, W: Write>(
         self,
         alloc: A,
-        global: Global,
-        text: &str,
+        work: Workload<A>,
         writer: &mut W,
     ) -> Result<(), ShowFault> {
-        let work = read_workload(alloc, global, text)?;
         write_all_of(alloc, &work, writer)
     }
-
-    ghost blames_input = { λ _ _ _ blamed. blamed (Play false) };
-}
-
-/// Writes all outcomes that the scripts of the workload that the text on the reader says can have, and the combinations
-/// of their values that no outcome has: it reads the whole input, and writes once all are found. The answer is the
-/// status: 0, or 1 where something was refused, with the line of the fault on `errors` or a first part of it, or where
-/// the writer failed, and then a first part of the text went out.
-pub fn show_all_outcomes<A: Allocator + Copy, R: Read, W: Write, E: Write>(
-    alloc: A,
-    global: Global,
-    reader: &mut R,
-    writer: &mut W,
-    errors: &mut E,
-) -> u8
-    ensures range { result ≤ 1 }
-    ensures within { result ≡ 0 → IfSome (R.remaining reader.old) (λ xs. length xs ≤ LONGEST_INPUT) }
-    ensures shown { result ≡ 0 → IfSome (R.remaining reader.old) (WritesAll (Appends (W.contents writer.old) (W.contents writer.new))) }
-    ensures refused { result ≡ 1 → (f : AnyFault) × IfSome (R.remaining reader.old) (BlamesAll f) × (f ≢ ShowFault.Command Fault.Output → writer.new ≡ writer.old)
-        × (f ≡ ShowFault.Command Fault.Output → IfSome (R.remaining reader.old) (WritesAll (AppendsPart (W.contents writer.old) (W.contents writer.new))))
-        × AppendsPart (E.contents errors.old) (E.contents errors.new) (show_line f) }
-    ensures quiet { result ≡ 0 → errors.new ≡ errors.old }
-{
-    run_command(EveryOutcome, alloc, global, reader, writer, errors)
 }

@@ -1,10 +1,6 @@
 //! Why nothing is shown.
-ghost use Rattle.std.specs.Prelude.{MatchResult};
-ghost use Rattle.std.specs.Io.KnownBytes.{Appends};
-ghost use Rattle.reg_text.specs.Writing.{AppendsPart};
-ghost use Rattle.reg_show.specs.Faults.{show_line};
 
-use reg_commands::{Fault, write_fault};
+use reg_commands::{Fault, Refusal};
 use reg_outcomes::{InterleavingFault, TurnsFault};
 use reg_text::{Unwritten, write_bytes};
 use std::alloc::AllocError;
@@ -86,17 +82,27 @@ impl From<TurnsFault> for ShowFault {
     }
 }
 
-/// Writes the line of a fault, all of it or, where the writer fails, a first part.
-pub fn write_show_fault<W: Write>(errors: &mut W, fault: ShowFault) -> Result<(), Unwritten>
-    ensures { MatchResult result (λ _. Appends (W.contents errors.old) (W.contents errors.new) (show_line fault)) (λ _. AppendsPart (W.contents errors.old) (W.contents errors.new) (show_line fault)) }
-{
-    match fault {
-        ShowFault::Command { fault } => write_fault(errors, fault),
-        ShowFault::TooManyToDraw => write_bytes(errors, b"too many events to draw\n"),
-        ShowFault::TooManyToRest => write_bytes(errors, b"too many events to rest\n"),
-        ShowFault::TooManyToShorten => write_bytes(errors, b"too many events to shorten\n"),
-        ShowFault::TooManyStages => write_bytes(errors, b"too many stages\n"),
-        ShowFault::NoSuchOutcome => write_bytes(errors, b"no such outcome\n"),
-        ShowFault::TooManyEvents => write_bytes(errors, b"too many events\n"),
+impl Refusal for ShowFault {
+    ghost use Rattle.reg_show.specs.Faults.{show_line};
+    ghost use Rattle.reg_show.specs.declared.faults.ShowFault.TheVariants.{Command};
+
+    ghost line = { show_line };
+
+    ghost of_fault = { λ fault. Command fault };
+
+    fn write_line<W: Write>(self, errors: &mut W) -> Result<(), Unwritten> {
+        match self {
+            ShowFault::Command { fault } => fault.write_line(errors),
+            ShowFault::TooManyToDraw => write_bytes(errors, b"too many events to draw\n"),
+            ShowFault::TooManyToRest => write_bytes(errors, b"too many events to rest\n"),
+            ShowFault::TooManyToShorten => write_bytes(errors, b"too many events to shorten\n"),
+            ShowFault::TooManyStages => write_bytes(errors, b"too many stages\n"),
+            ShowFault::NoSuchOutcome => write_bytes(errors, b"no such outcome\n"),
+            ShowFault::TooManyEvents => write_bytes(errors, b"too many events\n"),
+        }
     }
+
+    ghost is_told = { λ _ _ same. same };
+
+    ghost tells_output = { λ _ same. cc };
 }

@@ -1,22 +1,19 @@
 //! The command that finds an order of a report's history.
-ghost use Rattle.std.specs.Prelude.{◌≡◌, ◌≢◌, ◌≤◌, ◌⊎◌, IfOk, IfErr, IfSome, IsErrOf, MatchOption, MatchResult, OnOk, length, option_map, string_bytes};
+ghost use Rattle.std.specs.Prelude.{⊤, ◌≡◌, ◌≢◌, IfOk, IfErr, IsErrOf, MatchOption, MatchResult, option_map, string_bytes};
 ghost use Rattle.std.specs.Io.KnownBytes.{Appends};
-ghost use Rattle.reg_base.specs.declared.limits.TheConstants.{LONGEST_INPUT};
 ghost use Rattle.reg_checkers.specs.Orders.{IsSerial};
 ghost use Rattle.reg_commands.specs.Replays.{PointsStand};
 ghost use Rattle.reg_text.specs.Writing.{AppendsPart};
-ghost use Rattle.reg_show.specs.Finding.{BlamesFind, Finds, FindsAny, HasNone, IsReordered, IsUnfound, WritesFound, WritesNone, none_text, with_order};
-ghost use Rattle.reg_show.specs.Faults.{show_line};
-ghost use Rattle.reg_show.specs.declared.faults.ShowFault.{ShowFault as AnyFault};
+ghost use Rattle.reg_show.specs.Finding.{BlamesFind, Finds, FindsAny, HasNone, IsReordered, IsUnfound, none_text, with_order};
 
-use crate::faults::{ShowFault, write_show_fault};
+use crate::faults::ShowFault;
 use reg_base::OpId;
 use reg_checkers::ids_of_points;
-use reg_commands::{Fault, read_input, read_report_text, write_answer, write_out};
+use reg_commands::{Fault, TextCommand, read_report_text, write_answer, write_out};
 use reg_history::{Point, Report};
 use reg_outcomes::{MOST_STAGES, OrderKind, find_points, find_serial};
 use std::alloc::Allocator;
-use std::io::{Read, Write};
+use std::io::Write;
 
 /// The report with this order, and these points or none, in place of its own.
 fn reordered<A: Allocator + Copy>(
@@ -116,49 +113,33 @@ fn find<A: Allocator + Copy, W: Write>(
     }
 }
 
-fn obey<A: Allocator + Copy, R: Read, W: Write>(
-    alloc: A,
-    kind: OrderKind,
-    reader: &mut R,
-    writer: &mut W,
-) -> Result<bool, ShowFault>
-    ensures ok { IfOk result (λ found. IfSome (R.remaining reader.old) (Finds kind found (Appends (W.contents writer.old) (W.contents writer.new)))) }
-    ensures within { OnOk result (IfSome (R.remaining reader.old) (λ xs. length xs ≤ LONGEST_INPUT)) }
-    ensures why { IfErr result (λ f. IfSome (R.remaining reader.old) (BlamesFind kind f)) }
-    ensures silent { IfErr result (λ f. f ≢ ShowFault.Command Fault.Output → writer.new ≡ writer.old) }
-    ensures part { IsErrOf result (ShowFault.Command Fault.Output) → IfSome (R.remaining reader.old) (FindsAny kind (AppendsPart (W.contents writer.old) (W.contents writer.new))) }
-{
-    let text = read_input(alloc, reader)?;
-    find(alloc, kind, text, writer)
+/// Finds an order of the history of the report that a text spells, and writes the report in version 2 with it in place of
+/// its own order and points, or one line that says that there is none, once the search is over. The answer is a no where
+/// there is none.
+#[derive(Clone, Copy, Debug)]
+pub struct FindOrder {
+    pub kind: OrderKind,
 }
 
-/// Finds an order of the history of the report that the text on the reader spells, and writes the report in version 2
-/// with it in place of its own order and points, or one line that says that there is none. It reads the whole input,
-/// and writes once the search is over. The answer is the status: 0 where there is such an order, and 1 where there is
-/// none; or where something was refused, with the line of the fault on `errors` or a first part of it; or where the
-/// writer failed, and then a first part of the text went out.
-pub fn find_order<A: Allocator + Copy, R: Read, W: Write, E: Write>(
-    alloc: A,
-    kind: OrderKind,
-    reader: &mut R,
-    writer: &mut W,
-    errors: &mut E,
-) -> u8
-    ensures range { result ≤ 1 }
-    ensures within { result ≡ 0 → IfSome (R.remaining reader.old) (λ xs. length xs ≤ LONGEST_INPUT) }
-    ensures found { result ≡ 0 → IfSome (R.remaining reader.old) (WritesFound kind (Appends (W.contents writer.old) (W.contents writer.new))) }
-    ensures refused { result ≡ 1 → (IfSome (R.remaining reader.old) (WritesNone kind (Appends (W.contents writer.old) (W.contents writer.new))) × (errors.new ≡ errors.old))
-        ⊎ ((f : AnyFault) × IfSome (R.remaining reader.old) (BlamesFind kind f) × (f ≢ ShowFault.Command Fault.Output → writer.new ≡ writer.old)
-        × (f ≡ ShowFault.Command Fault.Output → IfSome (R.remaining reader.old) (FindsAny kind (AppendsPart (W.contents writer.old) (W.contents writer.new))))
-        × AppendsPart (E.contents errors.old) (E.contents errors.new) (show_line f)) }
-    ensures quiet { result ≡ 0 → errors.new ≡ errors.old }
-{
-    match obey(alloc, kind, reader, writer) {
-        Ok(true) => 0,
-        Ok(false) => 1,
-        Err(fault) => {
-            let _ = write_show_fault(errors, fault);
-            1
-        }
+impl TextCommand for FindOrder {
+    ghost use Rattle.reg_commands.specs.declared.command.Command.TheVariants.{Check};
+
+    type Fault = ShowFault;
+
+    ghost MayDeny = { λ _. ⊤ };
+
+    ghost IsAnswer = { λ it. Finds it.kind };
+
+    ghost IsBlamed = { λ it. BlamesFind it.kind };
+
+    fn answer<A: Allocator + Copy, W: Write>(
+        self,
+        alloc: A,
+        text: String<A>,
+        writer: &mut W,
+    ) -> Result<bool, ShowFault> {
+        find(alloc, self.kind, text, writer)
     }
+
+    ghost blames_input = { λ _ _ _ _ blamed. blamed Check };
 }

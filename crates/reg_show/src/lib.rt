@@ -5,7 +5,6 @@
 //! workload alone is kept in the global heap.
 #![tactic(auto)]
 
-mod answering;
 mod commands;
 mod counting;
 mod every;
@@ -23,14 +22,14 @@ mod shortening;
 mod showing;
 mod telling;
 
-pub use counting::show_outcomes;
-pub use every::show_all_outcomes;
-pub use faults::{ShowFault, write_show_fault};
-pub use finding::find_order;
-pub use one_outcome::show_outcome;
+pub use counting::ManyPlays;
+pub use every::EveryOutcome;
+pub use faults::ShowFault;
+pub use finding::FindOrder;
+pub use one_outcome::OneOutcome;
 pub use players::Player;
 pub use reg_outcomes::MOST_PLAYS;
-pub use running::{show_run, show_text};
-pub use scheduling::{show_schedule, write_play_schedule};
-pub use short_schedules::{MOST_SHORTENED, show_short_schedule};
+pub use running::{ShowEither, show_run};
+pub use scheduling::{FullSchedule, write_play_schedule};
+pub use short_schedules::{MOST_SHORTENED, ShortSchedule};
 pub use showing::Showing;

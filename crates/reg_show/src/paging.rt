@@ -1,17 +1,16 @@
 //! The commands that show the run of a schedule as data, and as a page that one steps through.
-ghost use Rattle.std.specs.Prelude.{◌≡◌, ◌≢◌, ◌≤◌, ◌++◌, IfOk, IfErr, IsErrOf, MatchResult, length};
+ghost use Rattle.std.specs.Prelude.{◌≡◌, ◌≢◌, ◌++◌, IfOk, IfErr, IsErrOf, MatchResult};
 ghost use Rattle.std.specs.Io.KnownBytes.{Appends};
 ghost use Rattle.reg_text.specs.Writing.{AppendsPart};
-ghost use Rattle.reg_inputs.specs.Schedules.{IsPlan, Spells};
 ghost use Rattle.reg_commands.specs.Replays.{start_of, BlamesRun, PointsOf};
 ghost use Rattle.reg_data.specs.Data.{data_text};
-ghost use Rattle.reg_data.specs.Notes.{notes_of};
 ghost use Rattle.reg_show.specs.Pages.{HasData, ShowsData};
-ghost use Rattle.reg_show.specs.Runs.{BlamesDrawn};
+ghost use Rattle.reg_show.specs.Showings.{StopsShowing};
 
 use crate::faults::ShowFault;
-use reg_commands::{Fault, Ran, read_schedule, run_events};
-use reg_data::{Data, Notes, read_notes, tell_data, write_data};
+use crate::showing::Showing;
+use reg_commands::{Fault, Ran, run_events};
+use reg_data::{Data, Notes, tell_data, write_data};
 use reg_front::by_front;
 use reg_workload::Schedule;
 use reg_world::{NamedFront, Wires};
@@ -20,19 +19,6 @@ use std::io::Write;
 
 /// The most events of a run that is told as data, also to a page.
 pub const MOST_TOLD: usize = 2_000;
-
-/// The schedule that a text spells, where its run is told whole.
-fn schedule_to_show<A: Allocator + Copy>(alloc: A, text: &str) -> Result<Schedule<A>, ShowFault>
-    ensures ok { IfOk result (λ s. IsPlan s × Spells text.now s × (length s.events ≤ MOST_TOLD)) }
-    ensures why { IfErr result (λ f. BlamesDrawn MOST_TOLD f text.now) }
-    ensures kind { IfErr result (λ f. f ≢ ShowFault.Command Fault.Output) }
-{
-    let schedule = read_schedule(alloc, text)?;
-    if schedule.events.len() > MOST_TOLD {
-        return Err(ShowFault::TooManyToDraw);
-    }
-    Ok(schedule)
-}
 
 /// Runs a schedule: all that is told of the run, with these notes.
 fn data_of_run<F: NamedFront, A: Allocator + Copy>(
@@ -69,19 +55,11 @@ fn data_of_schedule<A: Allocator + Copy>(
     by_front!(schedule.front, data_of_run::<_, A>(alloc, schedule, notes))
 }
 
-/// Runs the schedule of a text: all that is told of the run, with what the comments of the text say.
-fn data_of_text<A: Allocator + Copy>(
-    alloc: A,
-    schedule: Schedule<A>,
-    text: &str,
-) -> Result<Data<A>, Fault>
-    ensures told { IfOk result (λ d. HasData (start_of schedule.front) schedule (notes_of text.now) (PointsOf schedule.front schedule) d) }
-    ensures why { IfErr result (λ f. BlamesRun (start_of schedule.front) schedule f) }
-{
-    match read_notes(alloc, text) {
-        Ok(notes) => data_of_schedule(alloc, schedule, notes),
-        Err(_) => Err(Fault::OutOfMemory),
-    }
+/// The texts between which the data of a run stands.
+#[derive(Clone, Copy)]
+pub(crate) struct Ends<'a> {
+    pub head: &'a str,
+    pub tail: &'a str,
 }
 
 /// Writes the data of a run between the texts of a head and of a tail, to the last byte.
@@ -99,21 +77,23 @@ fn send_data<A: Allocator + Copy, W: Write>(
     Ok(())
 }
 
-/// Reads a schedule, and writes the data of its run between the texts of a head and of a tail.
+/// Writes the data of the run of a schedule, with these notes, between the texts of a head and of a tail.
 pub(crate) fn write_run<A: Allocator + Copy, W: Write>(
     alloc: A,
-    text: &str,
-    head: &str,
-    tail: &str,
+    schedule: Schedule<A>,
+    notes: Notes<A>,
+    ends: Ends<'_>,
     writer: &mut W,
 ) -> Result<(), ShowFault>
-    ensures ok { IfOk result (λ _. ShowsData head.now tail.now (Appends (W.contents writer.old) (W.contents writer.new)) text.now) }
-    ensures why { IfErr result (λ f. BlamesDrawn MOST_TOLD f text.now) }
+    ensures ok { IfOk result (λ _. ShowsData ends.entry.head.now ends.entry.tail.now notes (Appends (W.contents writer.old) (W.contents writer.new)) schedule) }
+    ensures why { IfErr result (StopsShowing Showing.Data schedule) }
     ensures silent { IfErr result (λ f. f ≢ ShowFault.Command Fault.Output → writer.new ≡ writer.old) }
-    ensures part { IsErrOf result (ShowFault.Command Fault.Output) → ShowsData head.now tail.now (AppendsPart (W.contents writer.old) (W.contents writer.new)) text.now }
+    ensures part { IsErrOf result (ShowFault.Command Fault.Output) → ShowsData ends.entry.head.now ends.entry.tail.now notes (AppendsPart (W.contents writer.old) (W.contents writer.new)) schedule }
 {
-    let schedule = schedule_to_show(alloc, text)?;
-    let told = data_of_text(alloc, schedule, text)?;
-    send_data(writer, head, &told, tail)?;
+    if schedule.events.len() > MOST_TOLD {
+        return Err(ShowFault::TooManyToDraw);
+    }
+    let told = data_of_schedule(alloc, schedule, notes)?;
+    send_data(writer, ends.head, &told, ends.tail)?;
     Ok(())
 }

@@ -3,11 +3,12 @@ ghost use Rattle.std.specs.Prelude.{◌≡◌, ◌≢◌, ◌⊎◌, IfOk, IfErr
 ghost use Rattle.std.specs.Io.KnownBytes.{Appends};
 ghost use Rattle.reg_text.specs.Writing.{AppendsPart};
 ghost use Rattle.reg_inputs.specs.Schedules.{IsPlan};
-ghost use Rattle.reg_show.specs.Rests.{IsRested, WritesRest, RestsRun, BlamesRested, BlamesRest};
+ghost use Rattle.reg_show.specs.Rests.{IsRested, WritesRest, BlamesRested};
+ghost use Rattle.reg_commands.specs.Replays.{start_of};
 
 use crate::faults::ShowFault;
 use crate::scheduling::{events_have_bits, send};
-use reg_commands::{Fault, Ran, read_schedule, run_events};
+use reg_commands::{Fault, Ran, run_events};
 use reg_front::{FrontEnd, by_front};
 use reg_runs::{SettleFault, settle};
 use reg_workload::Schedule;
@@ -69,19 +70,18 @@ fn write_rest<F: FrontEnd, A: Allocator + Copy, W: Write>(
     Ok(())
 }
 
-/// Reads a schedule, brings its run to rest, and writes the schedule of all events: the same, with ticks and takes
-/// after it.
+/// Brings the run of a schedule to rest, and writes the schedule of all events: the same, with ticks and takes after it.
 pub(crate) fn rest<A: Allocator + Copy, W: Write>(
     alloc: A,
-    text: &str,
+    schedule: Schedule<A>,
     writer: &mut W,
 ) -> Result<(), ShowFault>
-    ensures ok { IfOk result (λ _. RestsRun (Appends (W.contents writer.old) (W.contents writer.new)) text.now) }
-    ensures why { IfErr result (λ f. BlamesRest f text.now) }
+    requires { IsPlan schedule }
+    ensures ok { IfOk result (λ _. WritesRest (start_of schedule.front) (Appends (W.contents writer.old) (W.contents writer.new)) schedule) }
+    ensures why { IfErr result (λ f. (f ≡ ShowFault.Command Fault.Output) ⊎ BlamesRested (start_of schedule.front) schedule f) }
     ensures silent { IfErr result (λ f. f ≢ ShowFault.Command Fault.Output → writer.new ≡ writer.old) }
-    ensures part { IsErrOf result (ShowFault.Command Fault.Output) → RestsRun (AppendsPart (W.contents writer.old) (W.contents writer.new)) text.now }
+    ensures part { IsErrOf result (ShowFault.Command Fault.Output) → WritesRest (start_of schedule.front) (AppendsPart (W.contents writer.old) (W.contents writer.new)) schedule }
 {
-    let schedule = read_schedule(alloc, text)?;
     by_front!(
         schedule.front,
         write_rest::<_, A, W>(alloc, schedule, writer)

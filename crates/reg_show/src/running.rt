@@ -1,42 +1,77 @@
-//! Showing a text over any reader and writer.
-ghost use Rattle.std.specs.Prelude.{◌≡◌, ◌≢◌, ◌≤◌, IfOk, IfErr, IsErrOf, IfSome, length};
+//! Showing the run of a schedule, and of a workload's play.
+ghost use Rattle.std.specs.Prelude.{◌≡◌, ◌≢◌, IfOk, IfErr, IfSome, IsErrOf, false};
 ghost use Rattle.std.specs.Io.KnownBytes.{Appends};
-ghost use Rattle.reg_base.specs.declared.limits.TheConstants.{LONGEST_INPUT};
 ghost use Rattle.reg_text.specs.Writing.{AppendsPart};
-ghost use Rattle.reg_show.specs.declared.faults.ShowFault.{ShowFault as AnyFault};
-ghost use Rattle.std.specs.Str.{IsUtf8};
-ghost use Rattle.reg_show.specs.Faults.{show_line};
-ghost use Rattle.reg_show.specs.Showings.{Blames, BlamesText, IsPlayed, Shows, ShowsText};
+ghost use Rattle.reg_inputs.specs.Schedules.{IsPlan};
+ghost use Rattle.reg_commands.specs.Plays.{Holds};
+ghost use Rattle.reg_commands.specs.Replays.{start_of};
+ghost use Rattle.reg_show.specs.Showings.{AreNotesFor, Blames, BlamesText, IsPlayOf, Shows, ShowsPlan, ShowsPlay, ShowsText, StopsPlay, StopsShowing};
 
-use crate::answering::{TextCommand, run_command};
 use crate::commands::{draw, trace};
 use crate::faults::ShowFault;
-use crate::paging::write_run;
-use crate::players::Player;
+use crate::paging::{Ends, write_run};
 use crate::resting::rest;
-use crate::scheduling::FullSchedule;
+use crate::scheduling::events_have_bits;
 use crate::showing::Showing;
-use reg_commands::{Fault, Kind, kind_of};
+use reg_commands::{
+    Fault, Kind, TextCommand, WorkCommand, kind_of, play_by, read_schedule, read_workload,
+};
+use reg_data::{Notes, read_notes};
+use reg_front::{FrontEnd, by_front};
 use reg_page::{HEAD, TAIL};
+use reg_workload::{Schedule, Workload};
+use reg_world::PackedWires;
 use std::alloc::{AllocError, Allocator, Global};
-use std::io::{Read, Write};
-use std::str;
+use std::io::Write;
 
-/// Writes the page of the run of a schedule.
-fn write_page<A: Allocator + Copy, W: Write>(
+const PAGE: Ends<'static> = Ends {
+    head: HEAD,
+    tail: TAIL,
+};
+
+const LINE: Ends<'static> = Ends {
+    head: "",
+    tail: "\n",
+};
+
+/// Shows the run of a schedule, with these notes.
+fn show_schedule<A: Allocator + Copy, W: Write>(
     alloc: A,
-    text: &str,
+    showing: Showing,
+    schedule: Schedule<A>,
+    notes: Notes<A>,
     writer: &mut W,
 ) -> Result<(), ShowFault>
-    ensures ok { IfOk result (λ _. ShowsText Showing.Page (Appends (W.contents writer.old) (W.contents writer.new)) text.now) }
-    ensures why { IfErr result (λ f. BlamesText Showing.Page f text.now) }
+    requires { IsPlan schedule }
+    ensures ok { IfOk result (λ _. ShowsPlan showing notes (Appends (W.contents writer.old) (W.contents writer.new)) schedule) }
+    ensures why { IfErr result (StopsShowing showing schedule) }
     ensures silent { IfErr result (λ f. f ≢ ShowFault.Command Fault.Output → writer.new ≡ writer.old) }
-    ensures part { IsErrOf result (ShowFault.Command Fault.Output) → ShowsText Showing.Page (AppendsPart (W.contents writer.old) (W.contents writer.new)) text.now }
+    ensures part { IsErrOf result (ShowFault.Command Fault.Output) → ShowsPlan showing notes (AppendsPart (W.contents writer.old) (W.contents writer.new)) schedule }
 {
-    write_run(alloc, text, HEAD, TAIL, writer)
+    match showing {
+        Showing::Trace => trace(alloc, schedule, writer),
+        Showing::Draw => draw(alloc, schedule, writer),
+        Showing::Data => write_run(alloc, schedule, notes, LINE, writer),
+        Showing::Page => write_run(alloc, schedule, notes, PAGE, writer),
+        Showing::Rest => rest(alloc, schedule, writer),
+    }
 }
 
-/// Shows what the schedule says that a text spells. It writes once all of the schedule is accepted.
+/// The notes of a text, where what is shown has some.
+fn notes_to_show<A: Allocator + Copy>(
+    alloc: A,
+    showing: Showing,
+    text: &str,
+) -> Result<Notes<A>, AllocError>
+    ensures { IfOk result (AreNotesFor showing text.now) }
+{
+    match showing {
+        Showing::Data | Showing::Page => read_notes(alloc, text),
+        Showing::Trace | Showing::Draw | Showing::Rest => Ok(Notes::none(alloc)),
+    }
+}
+
+/// Shows the run of the schedule that a text spells. It writes once all of the schedule is accepted.
 ///
 /// # Errors
 ///
@@ -53,107 +88,149 @@ pub fn show_run<A: Allocator + Copy, W: Write>(
     ensures silent { IfErr result (λ f. f ≢ ShowFault.Command Fault.Output → writer.new ≡ writer.old) }
     ensures part { IsErrOf result (ShowFault.Command Fault.Output) → ShowsText showing (AppendsPart (W.contents writer.old) (W.contents writer.new)) text.now }
 {
-    match showing {
-        Showing::Trace => Ok(trace(alloc, text, writer)?),
-        Showing::Draw => draw(alloc, text, writer),
-        Showing::Data => write_run(alloc, text, "", "\n", writer),
-        Showing::Page => write_page(alloc, text, writer),
-        Showing::Rest => rest(alloc, text, writer),
+    let schedule = read_schedule(alloc, text)?;
+    let notes = notes_to_show(alloc, showing, text)?;
+    show_schedule(alloc, showing, schedule, notes, writer)
+}
+
+/// The schedule of a workload's seeded play.
+fn schedule_of<F: FrontEnd, A: Allocator + Copy>(
+    alloc: A,
+    work: Workload<A>,
+) -> Result<Schedule<A>, AllocError>
+    ensures { IfOk result (λ s. IsPlayOf F.start work s) }
+{
+    let play = play_by::<F, A, PackedWires<A>>(alloc, &work, false)?;
+    events_have_bits(play.world.accepted());
+    let events = play.world.accepted().to_vec(alloc)?;
+    let Workload {
+        shape,
+        names,
+        front,
+        ..
+    } = work;
+    Ok(Schedule {
+        shape,
+        names,
+        front,
+        events,
+    })
+}
+
+/// The schedule of a workload's seeded play, under its front end.
+fn schedule_of_play<A: Allocator + Copy>(
+    alloc: A,
+    work: Workload<A>,
+) -> Result<Schedule<A>, AllocError>
+    ensures { IfOk result (λ s. IsPlayOf (start_of work.front) work s) }
+{
+    by_front!(work.front, schedule_of::<_, A>(alloc, work))
+}
+
+/// Shows the run of a workload's seeded play.
+fn show_play<A: Allocator + Copy, W: Write>(
+    alloc: A,
+    showing: Showing,
+    work: Workload<A>,
+    writer: &mut W,
+) -> Result<(), ShowFault>
+    ensures ok { IfOk result (λ _. ShowsPlay showing (Appends (W.contents writer.old) (W.contents writer.new)) work) }
+    ensures why { IfErr result (StopsPlay showing work) }
+    ensures silent { IfErr result (λ f. f ≢ ShowFault.Command Fault.Output → writer.new ≡ writer.old) }
+    ensures part { IsErrOf result (ShowFault.Command Fault.Output) → ShowsPlay showing (AppendsPart (W.contents writer.old) (W.contents writer.new)) work }
+{
+    let schedule = schedule_of_play(alloc, work)?;
+    show_schedule(alloc, showing, schedule, Notes::none(alloc), writer)
+}
+
+impl WorkCommand for Showing {
+    ghost use Rattle.reg_show.specs.Showings.{ShowsPlay, StopsPlay};
+
+    type Fault = ShowFault;
+
+    ghost IsShown = { ShowsPlay };
+
+    ghost IsStopped = { λ it fault work. StopsPlay it work fault };
+
+    fn show<A: Allocator + Copy, W: Write>(
+        self,
+        alloc: A,
+        work: Workload<A>,
+        writer: &mut W,
+    ) -> Result<(), ShowFault> {
+        show_play(alloc, self, work, writer)
     }
 }
 
-/// The text of the schedule of a document's play, None where the text is no document that says a workload.
-fn played<A: Allocator + Copy>(
+/// The workload that a document says, None of any other text.
+fn workload_of<A: Allocator + Copy>(
     alloc: A,
     global: Global,
     text: &str,
-) -> Result<Option<Vec<u8, A>>, AllocError>
-    ensures { IfOk result (λ o. IfSome o (λ v. IsPlayed text.now v.items × IsUtf8 v.items)) }
+) -> Result<Option<Workload<A>>, AllocError>
+    ensures { IfOk result (λ o. IfSome o (Holds text.now)) }
 {
-    let mut made = Vec::new(alloc);
-    let command = FullSchedule {
-        player: Player::Seeded { seed: None },
-    };
-    match command.answer(alloc, global, text, &mut made) {
-        Ok(()) => Ok(Some(made)),
-        // (a list takes all that is written but where memory is refused)
-        Err(
-            ShowFault::Command {
-                fault: Fault::OutOfMemory | Fault::Output,
-            },
-        ) => Err(AllocError),
+    if kind_of(text.as_bytes()) != Kind::Workload {
+        return Ok(None);
+    }
+    match read_workload(alloc, global, text) {
+        Ok(work) => Ok(Some(work)),
+        Err(Fault::OutOfMemory) => Err(AllocError),
         Err(_) => Ok(None),
     }
 }
 
-/// The text of the schedule of the play of a workload, None of any other text.
-fn source<A: Allocator + Copy>(
-    alloc: A,
-    global: Global,
-    text: &str,
-) -> Result<Option<Vec<u8, A>>, AllocError>
-    ensures { IfOk result (λ o. IfSome o (λ v. IsPlayed text.now v.items × IsUtf8 v.items)) }
-{
-    match kind_of(text.as_bytes()) {
-        Kind::Workload => played(alloc, global, text),
-        _ => Ok(None),
-    }
-}
-
-impl TextCommand for Showing {
-    ghost use Rattle.std.proofs.Common.{inl};
-    ghost use Rattle.reg_commands.specs.declared.command.Command.TheVariants.{Replay};
-    ghost use Rattle.reg_show.specs.declared.showing.Showing.TheVariants.{Trace, Draw, Data, Page, Rest};
-
-    ghost IsShown = { Shows };
-
-    ghost IsBlamed = { Blames };
-
-    /// Shows what a text says: of a workload, what the schedule of its seeded play says.
-    #[tactic(auto, unfolding(crate::specs::Showings::Shows))]
-    fn answer<A: Allocator + Copy, W: Write>(
-        self,
-        alloc: A,
-        global: Global,
-        text: &str,
-        writer: &mut W,
-    ) -> Result<(), ShowFault> {
-        match source(alloc, global, text)? {
-            Some(schedule) => match str::from_utf8(schedule.as_slice()) {
-                Ok(played) => show_run(alloc, self, played, writer),
-                Err(_) => unreachable!(),
-            },
-            None => show_run(alloc, self, text, writer),
-        }
-    }
-
-    ghost blames_input = { elim [
-      | Trace ↦ λ _ _ blamed. inl (blamed Replay)
-      | Draw ↦ λ _ _ blamed. inl (blamed Replay)
-      | Data ↦ λ _ _ blamed. inl (blamed Replay)
-      | Page ↦ λ _ _ blamed. inl (blamed Replay)
-      | Rest ↦ λ _ _ blamed. inl (blamed Replay)
-    ] };
-}
-
-/// Shows what the text on the reader says: it reads the whole input, and writes once all of it is accepted. The answer
-/// is the status: 0, or 1 where something was refused, with the line of the fault on `errors` or a first part of it, or
-/// where the writer failed, and then a first part of the answer went out. What stands in a drawing no clause says.
-pub fn show_text<A: Allocator + Copy, R: Read, W: Write, E: Write>(
+/// Shows the run of the schedule that a text spells, or of the seeded play of the workload that it says.
+fn show_either<A: Allocator + Copy, W: Write>(
     alloc: A,
     global: Global,
     showing: Showing,
-    reader: &mut R,
+    text: &str,
     writer: &mut W,
-    errors: &mut E,
-) -> u8
-    ensures range { result ≤ 1 }
-    ensures within { result ≡ 0 → IfSome (R.remaining reader.old) (λ xs. length xs ≤ LONGEST_INPUT) }
-    ensures shown { result ≡ 0 → IfSome (R.remaining reader.old) (Shows showing (Appends (W.contents writer.old) (W.contents writer.new))) }
-    ensures refused { result ≡ 1 → (f : AnyFault) × IfSome (R.remaining reader.old) (Blames showing f) × (f ≢ ShowFault.Command Fault.Output → writer.new ≡ writer.old)
-        × (f ≡ ShowFault.Command Fault.Output → IfSome (R.remaining reader.old) (Shows showing (AppendsPart (W.contents writer.old) (W.contents writer.new))))
-        × AppendsPart (E.contents errors.old) (E.contents errors.new) (show_line f) }
-    ensures quiet { result ≡ 0 → errors.new ≡ errors.old }
+) -> Result<(), ShowFault>
+    ensures ok { IfOk result (λ _. Shows showing (Appends (W.contents writer.old) (W.contents writer.new)) text.now) }
+    ensures why { IfErr result (λ f. Blames showing f text.now) }
+    ensures silent { IfErr result (λ f. f ≢ ShowFault.Command Fault.Output → writer.new ≡ writer.old) }
+    ensures part { IsErrOf result (ShowFault.Command Fault.Output) → Shows showing (AppendsPart (W.contents writer.old) (W.contents writer.new)) text.now }
 {
-    run_command(showing, alloc, global, reader, writer, errors)
+    match workload_of(alloc, global, text)? {
+        Some(work) => show_play(alloc, showing, work, writer),
+        None => show_run(alloc, showing, text, writer),
+    }
+}
+
+/// Shows the run of the schedule that a text spells, or of the seeded play of the workload that it says. It writes once
+/// all of the text is accepted. What stands in a drawing no clause says. The table of a workload is kept in the global
+/// heap, where `toml` keeps it.
+#[derive(Clone, Copy, Debug)]
+pub struct ShowEither {
+    pub showing: Showing,
+    pub global: Global,
+}
+
+impl TextCommand for ShowEither {
+    ghost use Rattle.std.specs.Prelude.{refl};
+    ghost use Rattle.std.proofs.Common.{inl};
+    ghost use Rattle.reg_commands.specs.declared.command.Command.TheVariants.{Replay};
+    ghost use Rattle.reg_show.specs.Showings.{Blames, Shows};
+
+    type Fault = ShowFault;
+
+    ghost IsAnswer = { λ it _. Shows it.showing };
+
+    ghost IsBlamed = { λ it. Blames it.showing };
+
+    fn answer<A: Allocator + Copy, W: Write>(
+        self,
+        alloc: A,
+        text: String<A>,
+        writer: &mut W,
+    ) -> Result<bool, ShowFault> {
+        match show_either(alloc, self.global, self.showing, text.as_str(), writer) {
+            Ok(()) => Ok(true),
+            Err(fault) => Err(fault),
+        }
+    }
+
+    ghost blames_input = { λ _ fault _ _ blamed. inl (inl (fault, refl, blamed Replay)) };
 }

@@ -1,32 +1,26 @@
 //! The command that prints the schedule of a play.
-ghost use Rattle.std.specs.Prelude.{◌≡◌, ◌≢◌, ◌≤◌, ◌⊎◌, ℕ, IfOk, IfErr, IfSome, IsErrOf, MatchResult, Some, false, length, slice_get};
+ghost use Rattle.std.specs.Prelude.{◌≡◌, ◌≢◌, ℕ, IfOk, IfErr, IsErrOf, MatchResult, Some, slice_get};
 ghost use Rattle.std.specs.Io.KnownBytes.{Appends};
-ghost use Rattle.reg_base.specs.declared.limits.TheConstants.{LONGEST_INPUT};
 ghost use Rattle.reg_text.specs.Writing.{AppendsPart};
 ghost use Rattle.reg_process.specs.declared.events.Event.{Event};
-ghost use Rattle.reg_commands.specs.Answers.{Blames};
 ghost use Rattle.reg_commands.specs.Replays.{start_of};
-ghost use Rattle.reg_commands.specs.declared.command.Command.TheVariants.{Play};
-ghost use Rattle.reg_commands.specs.FaultLines.{fault_line};
-ghost use Rattle.reg_commands.specs.declared.faults.Fault.{Fault as AnyFault};
 ghost use Rattle.reg_inputs.specs.Schedules.{Plan};
 ghost use Rattle.reg_inputs.specs.ScheduleText.{schedule_text};
-ghost use Rattle.reg_show.specs.Schedules.{BlamesSchedule, ShowsSchedule, WritesSchedule};
-ghost use Rattle.reg_show.specs.Seeds.{IsSeed, seed_of};
+ghost use Rattle.reg_show.specs.Schedules.{ShowsSchedule, StopsSchedule};
+ghost use Rattle.reg_show.specs.Seeds.{IsSeed, is_fair, reseeded, seed_of};
 ghost use Rattle.reg_show.specs.ToldRuns.{EventHasBits};
 
-use crate::answering::{TextCommand, run_command};
 use crate::faults::ShowFault;
 use crate::players::Player;
-use crate::seeding::read_seeded;
+use crate::seeding::reseed;
 use reg_base::{Names, Shape};
-use reg_commands::{Fault, play_by};
+use reg_commands::{Fault, WorkCommand, play_by};
 use reg_front::{Front, FrontEnd, by_front};
 use reg_inputs::write_schedule;
 use reg_workload::Workload;
 use reg_world::{Event as AnyEvent, PackedWires};
-use std::alloc::{Allocator, Global};
-use std::io::{Read, Write};
+use std::alloc::Allocator;
+use std::io::Write;
 
 // The numbers of an event are within their types. It does nothing: its contract says so.
 fn event_has_bits(event: AnyEvent)
@@ -67,7 +61,7 @@ fn write_play<F: FrontEnd, A: Allocator + Copy, W: Write>(
     writer: &mut W,
 ) -> Result<(), ShowFault>
     ensures ok { IfOk result (λ _. ShowsSchedule fair F.start (Appends (W.contents writer.old) (W.contents writer.new)) work.now) }
-    ensures why { IfErr result (λ f. (f ≡ ShowFault.Command Fault.Output) ⊎ (f ≡ ShowFault.Command Fault.OutOfMemory)) }
+    ensures why { IfErr result StopsSchedule }
     ensures silent { IfErr result (λ f. f ≢ ShowFault.Command Fault.Output → writer.new ≡ writer.old) }
     ensures part { IsErrOf result (ShowFault.Command Fault.Output) → ShowsSchedule fair F.start (AppendsPart (W.contents writer.old) (W.contents writer.new)) work.now }
 {
@@ -90,62 +84,35 @@ pub fn write_play_schedule<A: Allocator + Copy, W: Write>(
     writer: &mut W,
 ) -> Result<(), ShowFault>
     ensures ok { IfOk result (λ _. ShowsSchedule fair (start_of work.now.front) (Appends (W.contents writer.old) (W.contents writer.new)) work.now) }
-    ensures why { IfErr result (λ f. (f ≡ ShowFault.Command Fault.Output) ⊎ (f ≡ ShowFault.Command Fault.OutOfMemory)) }
+    ensures why { IfErr result StopsSchedule }
     ensures silent { IfErr result (λ f. f ≢ ShowFault.Command Fault.Output → writer.new ≡ writer.old) }
     ensures part { IsErrOf result (ShowFault.Command Fault.Output) → ShowsSchedule fair (start_of work.now.front) (AppendsPart (W.contents writer.old) (W.contents writer.new)) work.now }
 {
     by_front!(work.front, write_play::<_, A, W>(alloc, work, fair, writer))
 }
 
-/// Shows the schedule of a play of the workload that the text says.
-#[derive(Clone, Copy)]
-pub(crate) struct FullSchedule {
+/// Writes the schedule of the player's play of the workload that a text says, once the play is made.
+#[derive(Clone, Copy, Debug)]
+pub struct FullSchedule {
     pub player: Player,
 }
 
-impl TextCommand for FullSchedule {
+impl WorkCommand for FullSchedule {
+    type Fault = ShowFault;
+
     ghost IsReady = { λ it. IsSeed (seed_of it.player) };
 
-    ghost IsShown = { λ it. WritesSchedule it.player };
+    ghost IsShown = { λ it Wrote work. ShowsSchedule (is_fair it.player) (start_of work.front) Wrote (reseeded (seed_of it.player) work) };
 
-    ghost IsBlamed = { λ _. BlamesSchedule };
+    ghost IsStopped = { λ _ fault _. StopsSchedule fault };
 
-    /// Reads a workload, plays it, and writes the schedule of the play.
-    fn answer<A: Allocator + Copy, W: Write>(
+    fn show<A: Allocator + Copy, W: Write>(
         self,
         alloc: A,
-        global: Global,
-        text: &str,
+        work: Workload<A>,
         writer: &mut W,
     ) -> Result<(), ShowFault> {
-        let work = read_seeded(alloc, global, text, self.player.seed())?;
+        let work = reseed(work, self.player.seed());
         write_play_schedule(alloc, &work, self.player.is_fair(), writer)
     }
-
-    ghost blames_input = { λ _ _ _ blamed. blamed (Play false) };
-}
-
-/// Writes the schedule of the player's play of the workload that the text on the reader says: it reads the whole input,
-/// and writes once the play is made. The answer is the status: 0, or 1 where something was refused, with the line of
-/// the fault on `errors` or a first part of it, or where the writer failed, and then a first part of the schedule went
-/// out.
-pub fn show_schedule<A: Allocator + Copy, R: Read, W: Write, E: Write>(
-    alloc: A,
-    global: Global,
-    player: Player,
-    reader: &mut R,
-    writer: &mut W,
-    errors: &mut E,
-) -> u8
-    requires { IsSeed (seed_of player) }
-    ensures range { result ≤ 1 }
-    ensures within { result ≡ 0 → IfSome (R.remaining reader.old) (λ xs. length xs ≤ LONGEST_INPUT) }
-    ensures shown { result ≡ 0 → IfSome (R.remaining reader.old) (WritesSchedule player (Appends (W.contents writer.old) (W.contents writer.new))) }
-    ensures refused { result ≡ 1 → (f : AnyFault) × IfSome (R.remaining reader.old) (Blames (Play false) f) × (f ≢ Fault.Output → writer.new ≡ writer.old)
-        × (f ≡ Fault.Output → IfSome (R.remaining reader.old) (WritesSchedule player (AppendsPart (W.contents writer.old) (W.contents writer.new))))
-        × AppendsPart (E.contents errors.old) (E.contents errors.new) (fault_line f) }
-    ensures quiet { result ≡ 0 → errors.new ≡ errors.old }
-{
-    let command = FullSchedule { player };
-    run_command(command, alloc, global, reader, writer, errors)
 }

@@ -1,21 +1,19 @@
--- Words by their places, and what the words ask for that clap reads.
-use Rattle.std.proofs.Common.{◌≡◌, ◌⊎◌, inl, inr, ℕ, zero, suc, ◌+◌, ◌<◌, ◌≤◌, get_or, Bool, true, false, ◌||◌, List, [], ◌∷◌, length, drop, map, Option, Some, None, Result, Ok, Err, String, string_bytes, codes, refl, ap, sym, ◌∙◌, arith}
+-- Words by their places, and what the words ask for.
+use Rattle.std.proofs.Common.{◌≡◌, inl, inr, ℕ, zero, suc, ◌+◌, ◌<◌, ◌≤◌, get_or, Bool, true, List, [], ◌∷◌, length, drop, map, Option, Some, String, string_bytes, refl, ap, sym, ◌∙◌, arith}
 use Rattle.std.specs.Prelude.{slice_get}
 use Rattle.std.specs.Str.{bytes_eq}
 use Rattle.std.proofs.lemmas.Slice.Eq.{bytes_eq-Decides}
 use Rattle.std.proofs.lemmas.Option.{same_Some}
-use Rattle.clap.specs.Words.{Text}
+use Rattle.reg_args.specs.Lines.{Text}
 use Rattle.reg_outcomes.specs.declared.plays.TheConstants.{MOST_PLAYS}
 use Rattle.reg_show_cli.specs.declared.words.Asked.{Asked}
 use Rattle.reg_show_cli.specs.declared.words.Asked.TheVariants.{AllOutcomes, Find, Help, Outcome, Outcomes, Schedule, ShortSchedule, Show, Verify, Version, Why}
 use Rattle.reg_outcomes.specs.declared.kinds.OrderKind.{OrderKind}
 use Rattle.reg_outcomes.specs.declared.kinds.OrderKind.TheVariants.{Serial, Points}
 use Rattle.reg_show.specs.declared.Player.{Player}
-use Rattle.reg_show_cli.specs.Lines.{IsAllLine, IsAnswer, IsAskedLine, IsChoice, IsCommandHelpLine, IsCommandLine, IsFindLine, IsHelpWith, IsOneOutcomeLine, IsOutcomesLine, IsScheduleLine, IsShortLine, IsVerifyLine, IsVersionLine, IsWhyLine, NumbersFit, SaysPlays, name_of}
-use Rattle.reg_args.specs.Lines.{may_ask_help}
-use Rattle.std.specs.List.{list_any}
-use Rattle.reg_args.specs.declared.faults.WordsFault.{WordsFault}
-use Rattle.reg_args.specs.declared.faults.WordsFault.TheVariants.{CommandLine, OutOfMemory}
+use Rattle.reg_show_cli.specs.Lines.{IsAllLine, IsFindLine, IsHelpLine, IsLineOf, IsOneOutcomeLine, IsOutcomesLine, IsScheduleLine, IsShortLine, IsVerifyLine, IsVersionLine, IsWhyLine, NumbersFit, SaysPlays, line_of}
+use Rattle.reg_show.specs.declared.Showing.{Showing}
+use Rattle.reg_show.specs.declared.Showing.TheVariants.{Data, Draw, Page, Rest, Trace}
 
 -- the bytes of the word at a place
 pub bytes_at : {A : Type 0} (words : List (String A)) (place : ℕ) (x : String A) → place < length words → x ≡ get_or words place x → slice_get (map string_bytes words) place ≡ Some (string_bytes x)
@@ -61,45 +59,39 @@ long_as [] line x rest e f = absurd (none (e ∙ f))
     none g = absurd cc
 long_as (a ∷ ws) line x rest e f = let n = ap length e in omega (arith, n)
 
--- what clap reads of other lines is what they ask for
+-- no such line asks to show anything
+pub no_showing : (line : List Text) → ¬ (line ≡ line_of Trace) → ¬ (line ≡ line_of Draw) → ¬ (line ≡ line_of Data) → ¬ (line ≡ line_of Page) → ¬ (line ≡ line_of Rest) → (showing : Showing) → ¬ (line ≡ line_of showing)
+no_showing line trace draw told page rest Trace h = trace h
+no_showing line trace draw told page rest Draw h = draw h
+no_showing line trace draw told page rest Data h = told h
+no_showing line trace draw told page rest Page h = page h
+no_showing line trace draw told page rest Rest h = rest h
+
+-- words that ask for none of these ask for nothing
 module _ (line : List Text)
-    (counted : (plays : ℕ) (seed : Option ℕ) → ¬ IsOutcomesLine line plays seed)
     (why : ¬ IsWhyLine line)
+    (judged : ¬ IsVerifyLine line)
     (version : ¬ IsVersionLine line)
     (every : ¬ IsAllLine line)
+    (help : ¬ IsHelpLine line)
+    (shown : (showing : Showing) → ¬ (line ≡ line_of showing))
     (one : (number : ℕ) → ¬ IsOneOutcomeLine line number)
     (found : (kind : OrderKind) → ¬ IsFindLine line kind)
-    (judged : ¬ IsVerifyLine line)
     (scheduled : (player : Player) → ¬ IsScheduleLine line player)
-    (shortened : (player : Player) → ¬ IsShortLine line player) where
-  unasked : ¬ IsCommandLine line → ¬ IsAskedLine line
-  unasked shown asked = elim asked [
-    | inl h ↦ shown h
-    | inr (inl (plays, seed, h)) ↦ counted plays seed h
-    | inr (inr (inl h)) ↦ why h
-    | inr (inr (inr (inl h))) ↦ version h
-    | inr (inr (inr (inr (inl h)))) ↦ every h
-    | inr (inr (inr (inr (inr (inl (number, h)))))) ↦ one number h
-    | inr (inr (inr (inr (inr (inr (inl (kind, h))))))) ↦ found kind h
-    | inr (inr (inr (inr (inr (inr (inr (inl h))))))) ↦ judged h
-    | inr (inr (inr (inr (inr (inr (inr (inr (inl (player, h))))))))) ↦ scheduled player h
-    | inr (inr (inr (inr (inr (inr (inr (inr (inr (player, h))))))))) ↦ shortened player h
-  ]
-
-  pub chosen : (r : Result Asked WordsFault) → IsAnswer line r → (IsCommandHelpLine line → r ≡ Ok Help) → IsChoice line r
-  chosen (Ok (Show showing)) h helps = h
-  chosen (Ok (Schedule player)) h helps = absurd h
-  chosen (Ok (ShortSchedule player)) h helps = absurd h
-  chosen (Ok (Outcomes plays seed)) h helps = absurd h
-  chosen (Ok AllOutcomes) h helps = absurd h
-  chosen (Ok (Outcome number)) h helps = absurd h
-  chosen (Ok (Find kind)) h helps = absurd h
-  chosen (Ok Why) h helps = absurd h
-  chosen (Ok Verify) h helps = absurd h
-  chosen (Ok Version) h helps = absurd h
-  chosen (Ok Help) h helps = (unasked h.0, h.1)
-  chosen (Err CommandLine) h helps = (unasked h.0, h.1, λ asked. let e : Err CommandLine ≡ Ok Help = helps asked in absurd (cc))
-  chosen (Err OutOfMemory) h helps = tt
+    (shortened : (player : Player) → ¬ IsShortLine line player)
+    (counted : (plays : ℕ) (seed : Option ℕ) → ¬ IsOutcomesLine line plays seed) where
+  pub asks_nothing : (asked : Asked) → ¬ IsLineOf asked line
+  asks_nothing (Show showing) h = shown showing h
+  asks_nothing (Schedule player) h = scheduled player h
+  asks_nothing (ShortSchedule player) h = shortened player h
+  asks_nothing (Outcomes plays seed) h = counted plays seed h
+  asks_nothing AllOutcomes h = every h
+  asks_nothing (Outcome number) h = one number h
+  asks_nothing (Find kind) h = found kind h
+  asks_nothing Why h = why h
+  asks_nothing Verify h = judged h
+  asks_nothing Help h = help h
+  asks_nothing Version h = version h
 
 -- a word stands alone just where there are two, and the second one is that
 pub alone_length : (ws : List Text) (word : Text) → drop 1 ws ≡ word ∷ [] → length ws ≡ 2
@@ -128,7 +120,7 @@ few_plays flags plays seed (inl (usual, e)) = omega (arith, usual)
 few_plays flags plays seed (inr (some, few, e)) = few
 
 -- the numbers of what is asked for fit
-pub numbers_fit : (line : List Text) (asked : Asked) → IsChoice line (Ok asked) → NumbersFit asked
+pub numbers_fit : (line : List Text) (asked : Asked) → IsLineOf asked line → NumbersFit asked
 numbers_fit line (Show showing) h = tt
 numbers_fit line (Schedule player) h = h.1
 numbers_fit line (ShortSchedule player) h = h.2.1
@@ -140,32 +132,3 @@ numbers_fit line Why h = tt
 numbers_fit line Verify h = tt
 numbers_fit line Help h = tt
 numbers_fit line Version h = tt
-
--- words that ask for help with a command show nothing, and one of them may ask for help
-pub help_shows_nothing : (line : List Text) (name : Text) → IsHelpWith line name → ¬ IsCommandLine line
-help_shows_nothing line name (inl e) (showing, shown) = no_flag (sym shown ∙ e)
-  where
-    no_flag : name_of showing ∷ [] ≡ name ∷ codes "--help" ∷ [] → ⊥
-    no_flag f = let n = ap length f in omega (arith, n)
-help_shows_nothing line name (inr e) (showing, shown) = no_flag (sym shown ∙ e)
-  where
-    no_flag : name_of showing ∷ [] ≡ name ∷ codes "-h" ∷ [] → ⊥
-    no_flag f = let n = ap length f in omega (arith, n)
-
-or_true : (b : Bool) → (b || true) ≡ true
-or_true true = refl
-or_true false = refl
-
-pub help_may_be : (line : List Text) (name : Text) → IsHelpWith line name → list_any may_ask_help line ≡ true
-help_may_be line name (inl e) = ap (λ ws. list_any may_ask_help ws) e ∙ or_true (may_ask_help name)
-help_may_be line name (inr e) = ap (λ ws. list_any may_ask_help ws) e ∙ or_true (may_ask_help name)
-
-named : {P : Type 0} (line : List Text) → ((name : Text) → IsHelpWith line name → P) → IsCommandHelpLine line → P
-named line go (inl h) = go (codes "schedule") h
-named line go (inr (inl h)) = go (codes "outcomes") h
-named line go (inr (inr (inl h))) = go (codes "find") h
-named line go (inr (inr (inr (inl h)))) = go (codes "why") h
-named line go (inr (inr (inr (inr h)))) = go (codes "verify") h
-
-pub helped : (line : List Text) → IsCommandHelpLine line → IsAnswer line (Ok Help)
-helped line h = (named line (λ name with_it. help_shows_nothing line name with_it) h, named line (λ name with_it. help_may_be line name with_it) h)

@@ -1,9 +1,9 @@
 -- What flags say.
-use Rattle.std.proofs.Common.{◌≡◌, ◌⊎◌, inl, inr, ℕ, ◌≤◌, List, [], ◌∷◌, ◌++◌, drop, Option, Some, None, codes, refl, ap, sym, ◌∙◌, subst, arith, append-nil}
+use Rattle.std.proofs.Common.{◌≡◌, inl, inr, ℕ, ◌≤◌, List, [], ◌∷◌, ◌++◌, drop, Option, Some, None, codes, ap, sym, ◌∙◌, subst, arith}
 use Rattle.std.specs.Prelude.{MatchOption}
 use Rattle.std.specs.Fmt.{decimal}
 use Rattle.std.proofs.lemmas.Fmt.{decimal_injective}
-use Rattle.clap.specs.Words.{Text}
+use Rattle.reg_args.specs.Lines.{Text}
 use Rattle.reg_base.specs.declared.limits.TheConstants.{LAST_SEED}
 use Rattle.reg_outcomes.specs.declared.plays.TheConstants.{MOST_PLAYS}
 use Rattle.reg_show.specs.Seeds.{IsSeed}

@@ -1,5 +1,3 @@
-pub mod Lines
-pub mod Choices
 pub mod Counted
 pub mod Flagged
 pub mod Telling

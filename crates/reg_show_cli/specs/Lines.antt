@@ -1,23 +1,19 @@
 -- Which words ask for what.
-use Rattle.std.specs.Prelude.{ℕ, ◌≡◌, ◌≤◌, ◌⊎◌, ⊤, Bool, true, false, List, [], ◌∷◌, ◌++◌, codes, Option, Some, None, Result, Ok, Err}
-use Rattle.std.specs.List.{list_any}
+use Rattle.std.specs.Prelude.{ℕ, ◌≡◌, ◌≤◌, ◌⊎◌, ⊤, List, [], ◌∷◌, ◌++◌, codes, Option, Some, None}
 use Rattle.std.specs.Fmt.{decimal}
-use Rattle.clap.specs.Words.{Text}
+use Rattle.reg_args.specs.Lines.{Text}
 use Rattle.reg_outcomes.specs.declared.plays.TheConstants.{MOST_PLAYS}
 use Rattle.reg_show.specs.declared.Showing.{Showing}
 use Rattle.reg_show.specs.declared.Showing.TheVariants.{Data, Draw, Page, Rest, Trace}
 use Rattle.reg_show.specs.Seeds.{IsSeed, seed_of}
 use Rattle.reg_show.specs.declared.Player.{Player}
 use Rattle.reg_show.specs.declared.Player.TheVariants.{Fair, Seeded}
-use Rattle.reg_args.specs.Lines.{may_ask_help}
 use Rattle.reg_outcomes.specs.declared.kinds.OrderKind.{OrderKind}
 use Rattle.reg_outcomes.specs.declared.kinds.OrderKind.TheVariants.{Serial, Points}
 use Rattle.reg_show_cli.specs.declared.asking.TheConstants.{LAST_OUTCOME}
 use Rattle.reg_show_cli.specs.declared.flags.TheConstants.{USUAL_PLAYS}
 use Rattle.reg_show_cli.specs.declared.words.Asked.{Asked}
 use Rattle.reg_show_cli.specs.declared.words.Asked.TheVariants.{AllOutcomes, Find, Help, Outcome, Outcomes, Schedule, ShortSchedule, Show, Verify, Version, Why}
-use Rattle.reg_args.specs.declared.faults.WordsFault.{WordsFault}
-use Rattle.reg_args.specs.declared.faults.WordsFault.TheVariants.{CommandLine, OutOfMemory}
 
 -- the name of what is shown
 abbrev pub name_of : Showing → Text
@@ -30,10 +26,6 @@ name_of Rest = codes "rest"
 -- the words after the program's name that ask for what is shown: no flag
 abbrev pub line_of : Showing → List Text
 line_of showing = name_of showing ∷ []
-
--- the words ask to show something
-abbrev pub IsCommandLine : List Text → Type 0
-IsCommandLine line = (showing : Showing) × (line ≡ line_of showing)
 
 -- the words for a seed, where there is one
 abbrev pub seed_words : Option ℕ → List Text
@@ -113,55 +105,33 @@ order_word Points = codes "points"
 abbrev pub IsFindLine : List Text → OrderKind → Type 0
 IsFindLine line kind = line ≡ codes "find" ∷ order_word kind ∷ []
 
--- the words ask for one of these
-abbrev pub IsAskedLine : List Text → Type 0
-IsAskedLine line = IsCommandLine line ⊎ (((plays : ℕ) × (seed : Option ℕ) × IsOutcomesLine line plays seed) ⊎ (IsWhyLine line ⊎ (IsVersionLine line ⊎ (IsAllLine line ⊎ (((number : ℕ) × IsOneOutcomeLine line number) ⊎ (((kind : OrderKind) × IsFindLine line kind) ⊎ (IsVerifyLine line ⊎ (((player : Player) × IsScheduleLine line player) ⊎ ((player : Player) × IsShortLine line player)))))))))
-
--- the words ask for help by a flag alone
-abbrev pub IsHelpLine : List Text → Type 0
-IsHelpLine line = (line ≡ codes "-h" ∷ []) ⊎ (line ≡ codes "--help" ∷ [])
-
 -- the words ask for help with the command of this name
 abbrev pub IsHelpWith : List Text → Text → Type 0
-IsHelpWith line name = (line ≡ name ∷ codes "--help" ∷ []) ⊎ (line ≡ name ∷ codes "-h" ∷ [])
+IsHelpWith line name = (line ≡ codes "help" ∷ name ∷ []) ⊎ ((line ≡ name ∷ codes "-h" ∷ []) ⊎ (line ≡ name ∷ codes "--help" ∷ []))
 
--- the words ask for help with a command that may have flags, or a word of its own
-abbrev pub IsCommandHelpLine : List Text → Type 0
-IsCommandHelpLine line = IsHelpWith line (codes "schedule") ⊎ (IsHelpWith line (codes "outcomes") ⊎ (IsHelpWith line (codes "find") ⊎ (IsHelpWith line (codes "why") ⊎ IsHelpWith line (codes "verify"))))
+-- the words ask for help with a command
+abbrev pub IsHelpOfOne : List Text → Type 0
+IsHelpOfOne line =
+    IsHelpWith line (codes "trace") ⊎ (IsHelpWith line (codes "draw") ⊎ (IsHelpWith line (codes "data") ⊎ (IsHelpWith line (codes "page") ⊎ (IsHelpWith line (codes "rest")
+    ⊎ (IsHelpWith line (codes "schedule") ⊎ (IsHelpWith line (codes "outcomes") ⊎ (IsHelpWith line (codes "find") ⊎ (IsHelpWith line (codes "why") ⊎ IsHelpWith line (codes "verify")))))))))
 
--- an answer of the words that ask to show something: just what they ask; else help, only where a word may ask for it,
--- or CommandLine where no flag alone asks for help
-abbrev pub IsAnswer : List Text → Result Asked WordsFault → Type 0
-IsAnswer line (Ok (Show showing)) = line ≡ line_of showing
-IsAnswer line (Ok (Schedule player)) = ⊥
-IsAnswer line (Ok (ShortSchedule player)) = ⊥
-IsAnswer line (Ok (Outcomes plays seed)) = ⊥
-IsAnswer line (Ok AllOutcomes) = ⊥
-IsAnswer line (Ok (Outcome number)) = ⊥
-IsAnswer line (Ok (Find kind)) = ⊥
-IsAnswer line (Ok Why) = ⊥
-IsAnswer line (Ok Verify) = ⊥
-IsAnswer line (Ok Version) = ⊥
-IsAnswer line (Ok Help) = ¬ IsCommandLine line × (list_any may_ask_help line ≡ true)
-IsAnswer line (Err CommandLine) = ¬ IsCommandLine line × ¬ IsHelpLine line
-IsAnswer line (Err OutOfMemory) = ⊤
+-- the words ask for help, alone or with a command
+abbrev pub IsHelpLine : List Text → Type 0
+IsHelpLine line = (line ≡ codes "help" ∷ []) ⊎ ((line ≡ codes "-h" ∷ []) ⊎ ((line ≡ codes "--help" ∷ []) ⊎ IsHelpOfOne line))
 
--- an answer of the words: just what they ask to show, to count, to explain, to judge or to name; else help, only where
--- a word may ask for it, or CommandLine where no flag asks for help, alone or with such a command
-abbrev pub IsChoice : List Text → Result Asked WordsFault → Type 0
-IsChoice line (Ok (Show showing)) = line ≡ line_of showing
-IsChoice line (Ok (Schedule player)) = IsScheduleLine line player
-IsChoice line (Ok (ShortSchedule player)) = IsShortLine line player
-IsChoice line (Ok (Outcomes plays seed)) = IsOutcomesLine line plays seed
-IsChoice line (Ok AllOutcomes) = IsAllLine line
-IsChoice line (Ok (Outcome number)) = IsOneOutcomeLine line number
-IsChoice line (Ok (Find kind)) = IsFindLine line kind
-IsChoice line (Ok Why) = IsWhyLine line
-IsChoice line (Ok Verify) = IsVerifyLine line
-IsChoice line (Ok Version) = IsVersionLine line
-IsChoice line (Ok Help) = ¬ IsAskedLine line × (list_any may_ask_help line ≡ true)
-IsChoice line (Err CommandLine) = ¬ IsAskedLine line × ¬ IsHelpLine line × ¬ IsCommandHelpLine line
-IsChoice line (Err OutOfMemory) = ⊤
+-- the words ask for just this
+abbrev pub IsLineOf : Asked → List Text → Type 0
+IsLineOf (Show showing) line = line ≡ line_of showing
+IsLineOf (Schedule player) line = IsScheduleLine line player
+IsLineOf (ShortSchedule player) line = IsShortLine line player
+IsLineOf (Outcomes plays seed) line = IsOutcomesLine line plays seed
+IsLineOf AllOutcomes line = IsAllLine line
+IsLineOf (Outcome number) line = IsOneOutcomeLine line number
+IsLineOf (Find kind) line = IsFindLine line kind
+IsLineOf Why line = IsWhyLine line
+IsLineOf Verify line = IsVerifyLine line
+IsLineOf Help line = IsHelpLine line
+IsLineOf Version line = IsVersionLine line
 
 -- what is asked for has no more plays than can be counted, a seed that a workload can have, and the outcome a number
 -- from 1 on

@@ -1,19 +1,16 @@
-//! What the words of a command line ask for: to show something, the schedule of a play, or to tell of the outcomes of a
-//! workload. The words of the last two are read here, since they may have numbers, and so are those that stand alone:
-//! `why`, `verify` and `--version`. All others are read by `clap`.
-ghost use Rattle.std.specs.Prelude.{◌≡◌, ◌↔◌, ◌∷◌, [], ℕ, MatchOption, Ok, Option, Some, map, true, slice_get, string_bytes};
+//! What the words of a command line ask for.
+ghost use Rattle.std.specs.Prelude.{◌≡◌, ◌↔◌, ◌∷◌, [], ℕ, IfSome, MatchOption, None, Option, Some, map, true, slice_get, string_bytes};
 ghost use Rattle.reg_args.specs.Lines.{behind_name};
 ghost use Rattle.reg_outcomes.specs.declared.kinds.OrderKind.{OrderKind as AnyKind};
 ghost use Rattle.reg_show.specs.declared.Player.{Player as AnyPlayer};
-ghost use Rattle.reg_show_cli.specs.declared.words.Asked.TheVariants.{Help};
-ghost use Rattle.reg_show_cli.specs.Lines.{IsAllLine, IsAnswer, IsChoice, IsCommandHelpLine, IsFindLine, IsHelpWith, IsOneOutcomeLine, IsOutcomesLine, IsScheduleLine, IsShortLine};
+ghost use Rattle.reg_show.specs.declared.Showing.{Showing as AnyShowing};
+ghost use Rattle.reg_show_cli.specs.declared.words.Asked.{Asked as AnyAsked};
+ghost use Rattle.reg_show_cli.specs.Lines.{IsAllLine, IsFindLine, IsHelpLine, IsHelpOfOne, IsHelpWith, IsLineOf, IsOneOutcomeLine, IsOutcomesLine, IsScheduleLine, IsShortLine, IsVerifyLine, IsVersionLine, IsWhyLine, line_of as line_of_showing};
 
 use crate::flags::{Plays, behind, line_of, number_alone, player_said, plays_said, short_said};
-use crate::words::{Asked, choose};
-use reg_args::WordsFault;
+use crate::words::Asked;
 use reg_outcomes::OrderKind;
-use reg_show::Player;
-use std::alloc::Global;
+use reg_show::{Player, Showing};
 
 /// The last number of an outcome that the words can say. There may be fewer outcomes.
 pub const LAST_OUTCOME: u32 = u32::MAX;
@@ -107,69 +104,112 @@ fn plays_asked(words: &[String]) -> Option<Plays>
     plays_said(flags)
 }
 
+/// What the words ask to show, and None where they ask for nothing of it.
+fn showing_asked(words: &[String]) -> Option<Showing>
+    ensures { MatchOption result ((showing : AnyShowing) → ¬ (behind_name words.now ≡ line_of_showing showing)) (λ showing. behind_name words.now ≡ line_of_showing showing) }
+{
+    if is_alone(words, "trace") {
+        return Some(Showing::Trace);
+    }
+    if is_alone(words, "draw") {
+        return Some(Showing::Draw);
+    }
+    if is_alone(words, "data") {
+        return Some(Showing::Data);
+    }
+    if is_alone(words, "page") {
+        return Some(Showing::Page);
+    }
+    if is_alone(words, "rest") {
+        return Some(Showing::Rest);
+    }
+    None
+}
+
 /// Whether the words ask for help with the command of this name.
 fn asks_help_with(words: &[String], name: &str) -> bool
     ensures { result ≡ true ↔ IsHelpWith (behind_name words.now) name.now }
 {
-    are_two(words, name, "--help") || are_two(words, name, "-h")
+    are_two(words, "help", name) || are_two(words, name, "-h") || are_two(words, name, "--help")
 }
 
-/// Whether the words ask for help with a command that is read here.
-fn asks_help(words: &[String]) -> bool
-    ensures { result ≡ true ↔ IsCommandHelpLine (behind_name words.now) }
+/// Whether the words ask for help with a command.
+fn asks_help_of_one(words: &[String]) -> bool
+    ensures { result ≡ true ↔ IsHelpOfOne (behind_name words.now) }
 {
-    asks_help_with(words, "schedule")
+    asks_help_with(words, "trace")
+        || asks_help_with(words, "draw")
+        || asks_help_with(words, "data")
+        || asks_help_with(words, "page")
+        || asks_help_with(words, "rest")
+        || asks_help_with(words, "schedule")
         || asks_help_with(words, "outcomes")
         || asks_help_with(words, "find")
         || asks_help_with(words, "why")
         || asks_help_with(words, "verify")
 }
 
-/// Help where the words ask for it with a command that is read here, and else what `clap` reads.
-fn help_or_choose(alloc: Global, words: &[String]) -> Result<Asked, WordsFault>
-    ensures answer { IsAnswer (behind_name words.now) result }
-    ensures help { IsCommandHelpLine (behind_name words.now) → result ≡ Ok Help }
+/// Whether the words ask for help.
+fn asks_help(words: &[String]) -> bool
+    ensures { result ≡ true ↔ IsHelpLine (behind_name words.now) }
 {
-    if asks_help(words) {
-        return Ok(Asked::Help);
-    }
-    choose(alloc, words)
+    is_alone(words, "help")
+        || is_alone(words, "-h")
+        || is_alone(words, "--help")
+        || asks_help_of_one(words)
 }
 
-/// What the words ask for. The first word is the program's name. A word `--` is refused, which is only tested.
-///
-/// # Errors
-///
-/// `CommandLine`, only where the words ask for nothing; `OutOfMemory`.
-pub fn ask(alloc: Global, words: &[String]) -> Result<Asked, WordsFault>
-    ensures { IsChoice (behind_name words.now) result }
+/// What words ask for that say no number and no player.
+fn plain_asked(words: &[String]) -> Option<Asked>
+    ensures asked { IfSome result (λ asked. IsLineOf asked (behind_name words.now)) }
+    ensures why { result ≡ None → ¬ IsWhyLine (behind_name words.now) }
+    ensures verify { result ≡ None → ¬ IsVerifyLine (behind_name words.now) }
+    ensures version { result ≡ None → ¬ IsVersionLine (behind_name words.now) }
+    ensures all { result ≡ None → ¬ IsAllLine (behind_name words.now) }
+    ensures help { result ≡ None → ¬ IsHelpLine (behind_name words.now) }
 {
     if is_alone(words, "why") {
-        return Ok(Asked::Why);
+        return Some(Asked::Why);
     }
     if is_alone(words, "verify") {
-        return Ok(Asked::Verify);
+        return Some(Asked::Verify);
     }
     if is_alone(words, "--version") {
-        return Ok(Asked::Version);
+        return Some(Asked::Version);
     }
     if asks_all(words) {
-        return Ok(Asked::AllOutcomes);
+        return Some(Asked::AllOutcomes);
+    }
+    if asks_help(words) {
+        return Some(Asked::Help);
+    }
+    None
+}
+
+/// What the words ask for, and None where they ask for nothing. The first word is the program's name.
+pub fn ask(words: &[String]) -> Option<Asked>
+    ensures { MatchOption result ((asked : AnyAsked) → ¬ IsLineOf asked (behind_name words.now)) (λ asked. IsLineOf asked (behind_name words.now)) }
+{
+    if let Some(asked) = plain_asked(words) {
+        return Some(asked);
+    }
+    if let Some(showing) = showing_asked(words) {
+        return Some(Asked::Show { showing });
     }
     if let Some(number) = outcome_asked(words) {
-        return Ok(Asked::Outcome { number });
+        return Some(Asked::Outcome { number });
     }
     if let Some(kind) = order_asked(words) {
-        return Ok(Asked::Find { kind });
+        return Some(Asked::Find { kind });
     }
     if let Some(player) = player_asked(words) {
-        return Ok(Asked::Schedule { player });
+        return Some(Asked::Schedule { player });
     }
     if let Some(player) = short_asked(words) {
-        return Ok(Asked::ShortSchedule { player });
+        return Some(Asked::ShortSchedule { player });
     }
     match plays_asked(words) {
-        Some(Plays { plays, seed }) => Ok(Asked::Outcomes { plays, seed }),
-        None => help_or_choose(alloc, words),
+        Some(Plays { plays, seed }) => Some(Asked::Outcomes { plays, seed }),
+        None => None,
     }
 }

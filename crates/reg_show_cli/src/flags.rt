@@ -1,7 +1,7 @@
 //! The words of a command line, one after another: a word, or a flag with a number.
 ghost use Rattle.std.specs.Prelude.{◌≡◌, ◌≤◌, ◌↔◌, ◌∷◌, ◌++◌, [], ℕ, List, Option, Some, IfSome, IsSomeAnd, MatchOption, map, string_bytes, true};
 ghost use Rattle.std.specs.Fmt.{decimal};
-ghost use Rattle.clap.specs.Words.{Text};
+ghost use Rattle.reg_args.specs.Lines.{Text};
 ghost use Rattle.reg_args.specs.Lines.{behind_name};
 ghost use Rattle.reg_show.specs.Seeds.{IsSeed};
 ghost use Rattle.reg_show.specs.declared.Player.{Player as AnyPlayer};

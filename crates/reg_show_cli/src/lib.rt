@@ -11,4 +11,4 @@ pub use flags::USUAL_PLAYS;
 pub use program::{refuse, run_line, run_program, run_words};
 pub use reg_args::WordsFault;
 pub use reg_show::{Player, Showing};
-pub use words::{Asked, choose};
+pub use words::Asked;

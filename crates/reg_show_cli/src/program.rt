@@ -1,11 +1,11 @@
 //! The program: the words of its command line, and then what they ask for, over the standard streams.
-ghost use Rattle.std.specs.Prelude.{◌≡◌, ◌≤◌, ◌⊎◌, Ok};
+ghost use Rattle.std.specs.Prelude.{◌≡◌, ◌≤◌, ◌⊎◌};
 ghost use Rattle.std.specs.Io.KnownBytes.{Appends};
 ghost use Rattle.reg_text.specs.Writing.{AppendsPart};
 ghost use Rattle.reg_commands.specs.FaultLines.{fault_line};
 ghost use Rattle.reg_args.specs.Faults.{status_of};
 ghost use Rattle.reg_args.specs.Lines.{behind_name};
-ghost use Rattle.reg_show_cli.specs.Lines.{IsAskedLine, IsChoice, IsCommandHelpLine, IsHelpLine, NumbersFit, refused_line};
+ghost use Rattle.reg_show_cli.specs.Lines.{IsLineOf, NumbersFit, refused_line};
 ghost use Rattle.reg_show_cli.specs.Statuses.{Obeys, Stops, Tells, memory_line};
 ghost use Rattle.reg_show_cli.specs.declared.words.Asked.{Asked as AnyAsked};
 ghost use Rattle.reg_show_cli.specs.declared.words.TheConstants.{HELP, VERSION};
@@ -13,14 +13,13 @@ ghost use Rattle.reg_show_cli.specs.declared.words.TheConstants.{HELP, VERSION};
 use crate::asking::ask;
 use crate::words::{Asked, HELP, VERSION};
 use reg_args::{WordsFault, tell, words_of};
-use reg_commands::{Fault, write_fault};
-use reg_reasons::why_text;
+use reg_commands::{Fault, OfDocument, Refusal, TextCommand, WorkCommand, run_command};
+use reg_reasons::Explain;
 use reg_show::{
-    find_order, show_all_outcomes, show_outcome, show_outcomes, show_schedule, show_short_schedule,
-    show_text,
+    EveryOutcome, FindOrder, FullSchedule, ManyPlays, OneOutcome, ShortSchedule, ShowEither,
 };
 use reg_text::write_bytes;
-use reg_verify::verify_text;
+use reg_verify::Verify;
 use std::io::{self, BufWriter, Read, Write};
 use std::rt::Env;
 
@@ -34,7 +33,7 @@ fn print<W: Write, E: Write>(text: &str, writer: &mut W, errors: &mut E) -> u8
     if write_bytes(writer, text.as_bytes()).is_ok() && writer.flush().is_ok() {
         return 0;
     }
-    let _ = write_fault(errors, Fault::Output);
+    let _ = Fault::Output.write_line(errors);
     1
 }
 
@@ -49,31 +48,71 @@ fn obey<R: AllocGlobal, I: Read, O: Write, E: Write>(
     requires { NumbersFit asked }
     ensures range { result ≤ 1 }
     ensures obeyed { result ≡ 0 → Obeys HELP.now VERSION.now asked (I.remaining reader.old) (Appends (O.contents writer.old) (O.contents writer.new)) }
-    ensures stopped { result ≡ 1 → Stops asked (I.remaining reader.old) (writer.new ≡ writer.old) (O.contents writer.old) (O.contents writer.new) (E.contents errors.old) (E.contents errors.new) }
+    ensures stopped { result ≡ 1 → Stops asked (I.remaining reader.old) (writer.new ≡ writer.old) (O.contents writer.old) (O.contents writer.new) (errors.new ≡ errors.old) (E.contents errors.old) (E.contents errors.new) }
     ensures quiet { result ≡ 0 → errors.new ≡ errors.old }
 {
+    let alloc = rt.alloc();
+    let global = alloc;
     match asked {
         Asked::Help => print(HELP, writer, errors),
         Asked::Version => print(VERSION, writer, errors),
         Asked::Show { showing } => {
-            show_text(rt.alloc(), rt.alloc(), showing, reader, writer, errors)
+            let command = ShowEither { showing, global };
+            run_command(command, alloc, reader, writer, errors)
         }
         Asked::Schedule { player } => {
-            show_schedule(rt.alloc(), rt.alloc(), player, reader, writer, errors)
+            let command = FullSchedule { player };
+            run_command(
+                OfDocument { command, global },
+                alloc,
+                reader,
+                writer,
+                errors,
+            )
         }
         Asked::ShortSchedule { player } => {
-            show_short_schedule(rt.alloc(), rt.alloc(), player, reader, writer, errors)
+            let command = ShortSchedule { player };
+            run_command(
+                OfDocument { command, global },
+                alloc,
+                reader,
+                writer,
+                errors,
+            )
         }
         Asked::Outcomes { plays, seed } => {
-            show_outcomes(rt.alloc(), rt.alloc(), plays, seed, reader, writer, errors)
+            let command = ManyPlays { plays, seed };
+            run_command(
+                OfDocument { command, global },
+                alloc,
+                reader,
+                writer,
+                errors,
+            )
         }
-        Asked::AllOutcomes => show_all_outcomes(rt.alloc(), rt.alloc(), reader, writer, errors),
+        Asked::AllOutcomes => {
+            let command = EveryOutcome;
+            run_command(
+                OfDocument { command, global },
+                alloc,
+                reader,
+                writer,
+                errors,
+            )
+        }
         Asked::Outcome { number } => {
-            show_outcome(rt.alloc(), rt.alloc(), number, reader, writer, errors)
+            let command = OneOutcome { number };
+            run_command(
+                OfDocument { command, global },
+                alloc,
+                reader,
+                writer,
+                errors,
+            )
         }
-        Asked::Find { kind } => find_order(rt.alloc(), kind, reader, writer, errors),
-        Asked::Why => why_text(rt.alloc(), rt.alloc(), reader, writer, errors),
-        Asked::Verify => verify_text(rt.alloc(), reader, writer, errors),
+        Asked::Find { kind } => run_command(FindOrder { kind }, alloc, reader, writer, errors),
+        Asked::Why => run_command(Explain { global }, alloc, reader, writer, errors),
+        Asked::Verify => run_command(Verify, alloc, reader, writer, errors),
     }
 }
 
@@ -91,8 +130,8 @@ pub fn refuse<E: Write>(fault: WordsFault, errors: &mut E) -> u8
 }
 
 /// Does what the words of a command line ask for, over this reader and this writer, and gives the exit status: 0, or 1
-/// where something was refused or there is no such order, or 2 for the command line. The line of a fault, or a first
-/// part of it, goes to `errors`.
+/// where something was refused or the answer is a no, or 2 for the command line. The line of a fault, or a first part of
+/// it, goes to `errors`.
 pub fn run_line<R: AllocGlobal, I: Read, O: Write, E: Write>(
     rt: &R,
     words: &[String],
@@ -101,17 +140,15 @@ pub fn run_line<R: AllocGlobal, I: Read, O: Write, E: Write>(
     errors: &mut E,
 ) -> u8
     ensures range { result ≤ 2 }
-    ensures obeyed { result ≡ 0 → (asked : AnyAsked) × IsChoice (behind_name words.now) (Ok asked) × Obeys HELP.now VERSION.now asked (I.remaining reader.old) (Appends (O.contents writer.old) (O.contents writer.new)) }
-    ensures stopped { result ≡ 1 → ((asked : AnyAsked) × IsChoice (behind_name words.now) (Ok asked) × Stops asked (I.remaining reader.old) (writer.new ≡ writer.old) (O.contents writer.old) (O.contents writer.new) (E.contents errors.old) (E.contents errors.new))
-        ⊎ ((writer.new ≡ writer.old) × AppendsPart (E.contents errors.old) (E.contents errors.new) memory_line) }
-    ensures refused { result ≡ 2 → (¬ IsAskedLine (behind_name words.now)) × (¬ IsHelpLine (behind_name words.now)) × (writer.new ≡ writer.old) }
-    ensures helped { result ≡ 2 → ¬ IsCommandHelpLine (behind_name words.now) }
+    ensures obeyed { result ≡ 0 → (asked : AnyAsked) × IsLineOf asked (behind_name words.now) × Obeys HELP.now VERSION.now asked (I.remaining reader.old) (Appends (O.contents writer.old) (O.contents writer.new)) }
+    ensures stopped { result ≡ 1 → (asked : AnyAsked) × IsLineOf asked (behind_name words.now) × Stops asked (I.remaining reader.old) (writer.new ≡ writer.old) (O.contents writer.old) (O.contents writer.new) (errors.new ≡ errors.old) (E.contents errors.old) (E.contents errors.new) }
+    ensures refused { result ≡ 2 → ((asked : AnyAsked) → ¬ IsLineOf asked (behind_name words.now)) × (writer.new ≡ writer.old) }
     ensures told { result ≡ 2 → AppendsPart (E.contents errors.old) (E.contents errors.new) refused_line }
     ensures quiet { result ≡ 0 → errors.new ≡ errors.old }
 {
-    match ask(rt.alloc(), words) {
-        Ok(asked) => obey(rt, asked, reader, writer, errors),
-        Err(fault) => refuse(fault, errors),
+    match ask(words) {
+        Some(asked) => obey(rt, asked, reader, writer, errors),
+        None => refuse(WordsFault::CommandLine, errors),
     }
 }
 
@@ -121,12 +158,10 @@ where
     R: AllocGlobal + Input + Print + Copy,
     E: Write,
     ensures range { result ≤ 2 }
-    ensures obeyed { result ≡ 0 → (asked : AnyAsked) × IsChoice (behind_name words.now) (Ok asked) }
-    ensures stopped { result ≡ 1 → ((asked : AnyAsked) × IsChoice (behind_name words.now) (Ok asked) × Tells asked (E.contents errors.old) (E.contents errors.new))
+    ensures obeyed { result ≡ 0 → (asked : AnyAsked) × IsLineOf asked (behind_name words.now) }
+    ensures stopped { result ≡ 1 → ((asked : AnyAsked) × IsLineOf asked (behind_name words.now) × Tells asked (errors.new ≡ errors.old) (E.contents errors.old) (E.contents errors.new))
         ⊎ AppendsPart (E.contents errors.old) (E.contents errors.new) memory_line }
-    ensures refused { result ≡ 2 → ¬ IsAskedLine (behind_name words.now) }
-    ensures helped { result ≡ 2 → ¬ IsHelpLine (behind_name words.now) }
-    ensures helped_with { result ≡ 2 → ¬ IsCommandHelpLine (behind_name words.now) }
+    ensures refused { result ≡ 2 → (asked : AnyAsked) → ¬ IsLineOf asked (behind_name words.now) }
     ensures told { result ≡ 2 → AppendsPart (E.contents errors.old) (E.contents errors.new) refused_line }
     ensures quiet { result ≡ 0 → errors.new ≡ errors.old }
 {

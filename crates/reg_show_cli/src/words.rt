@@ -1,17 +1,6 @@
 //! The words of the command line.
-ghost use Rattle.std.specs.Prelude.{◌≡◌, IfOk, Some};
-ghost use Rattle.clap.specs.Words.{app_of, kind_of};
-ghost use Rattle.reg_show.specs.declared.Showing.{Showing};
-ghost use Rattle.reg_args.specs.Lines.{behind_name};
-ghost use Rattle.reg_show_cli.specs.declared.words.Asked.TheVariants.{Show};
-ghost use Rattle.reg_show_cli.specs.Words.{awshow, awshow_first, told_of};
-ghost use Rattle.reg_show_cli.specs.Lines.{IsAnswer, name_of};
-
-use clap::error::ErrorKind;
-use reg_args::{WordsFault, has_dashes, met};
 use reg_outcomes::OrderKind;
 use reg_show::{Player, Showing};
-use std::alloc::{AllocError, Global};
 
 /// What the words ask for.
 #[derive(Clone, Copy, Debug, PartialEq, Eq)]
@@ -64,72 +53,6 @@ usage: awshow schedule               reads a workload, prints the schedule of it
        awshow rest                   reads the same, prints the schedule with the events that bring the run to rest
        awshow why                    reads any of the three texts, prints what is wrong with it, and where
        awshow verify                 reads a record of processes that ran apart, prints the report of their run
-       awshow help                   prints this
+       awshow help                   prints this; so do a command's word and --help
        awshow --version              prints the version
 ";
-
-/// The program's command line with its first subcommands.
-fn first_commands<'a>(alloc: Global) -> Result<clap::Command<'a>, AllocError>
-    ensures { IfOk result (λ c. app_of c ≡ awshow_first) }
-{
-    clap::Command::new(alloc, "awshow")
-        .subcommand(clap::Command::new(alloc, "trace"))?
-        .subcommand(clap::Command::new(alloc, "draw"))
-}
-
-/// The program's command line, with a subcommand for each command.
-fn command_line<'a>(alloc: Global) -> Result<clap::Command<'a>, AllocError>
-    ensures { IfOk result (λ c. app_of c ≡ awshow) }
-{
-    first_commands(alloc)?
-        .subcommand(clap::Command::new(alloc, "data"))?
-        .subcommand(clap::Command::new(alloc, "page"))?
-        .subcommand(clap::Command::new(alloc, "rest"))
-}
-
-/// What a refusal of the command line asks for.
-fn told(error: clap::Error) -> Result<Asked, WordsFault>
-    ensures { result ≡ told_of (kind_of error) }
-{
-    match error.kind() {
-        ErrorKind::DisplayHelp => Ok(Asked::Help),
-        ErrorKind::OutOfMemory => Err(WordsFault::OutOfMemory),
-        _ => Err(WordsFault::CommandLine),
-    }
-}
-
-/// What the subcommand of this name asks for.
-fn named(name: &str) -> Option<Asked>
-    ensures { (showing : Showing) → name_of showing ≡ name.now → result ≡ Some (Show showing) }
-{
-    let showing = match name {
-        "trace" => Showing::Trace,
-        "draw" => Showing::Draw,
-        "data" => Showing::Data,
-        "page" => Showing::Page,
-        "rest" => Showing::Rest,
-        _ => return None,
-    };
-    Some(Asked::Show { showing })
-}
-
-/// What the words ask to show. The first word is the program's name. A word `--` is refused, which is only tested.
-///
-/// # Errors
-///
-/// `CommandLine`, only where the words ask to show nothing; `OutOfMemory`.
-pub fn choose<'a>(alloc: Global, words: &'a [String]) -> Result<Asked, WordsFault>
-    ensures { IsAnswer (behind_name words.entry.now) result }
-{
-    if has_dashes(words) {
-        return Err(WordsFault::CommandLine);
-    }
-    let matches = match command_line::<'a>(alloc)?.try_get_matches_from(words) {
-        Ok(matches) => matches,
-        Err(error) => return told(error),
-    };
-    match met(&matches) {
-        Some((name, _)) => named(name).ok_or(WordsFault::CommandLine),
-        None => Err(WordsFault::CommandLine),
-    }
-}

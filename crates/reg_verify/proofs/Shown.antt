@@ -31,18 +31,3 @@ pub shown : (start : Op → ℕ → Start) (a : Account) (front : Front) (shape 
 shown start a front shape names steps w AreSo r same runs shows points =
     let it : ShowsAccount start (record { front = front; shape = shape; names = names; steps = steps }) AreSo r = record { world = w; runs = runs; shows = shows; points = points } in
     subst (λ (b : Account). ShowsAccount start b AreSo r) same it
-
--- what every command says of an input that it couldn't read is said of a record too
-blamed : (fault : Fault) (text : List ℕ) → fault ≢ Output → ((command : Command) → Blames command fault text) → BlamesText fault text
-blamed Unread text other told = tt
-blamed TooLong text other told = told Check
-blamed NotText text other told = told Check
-blamed Output text other told = absurd (other refl)
-blamed (Line line why) text other told = absurd (told (Play false))
-blamed (Event at fault) text other told = absurd (told Check)
-blamed (Workload fault) text other told = absurd (told Check)
-blamed OutOfMemory text other told = tt
-
-pub blamed_input : (fault : Fault) (input : Option (List ℕ)) → fault ≢ Output → IfSome input (λ xs. (command : Command) → Blames command fault xs) → IfSome input (BlamesText fault)
-blamed_input fault None other told = tt
-blamed_input fault (Some xs) other told = blamed fault xs other told

@@ -14,4 +14,4 @@ mod verifying;
 pub use faults::VerifyFault;
 pub use record_text::{Record, RecordFault, parse_record};
 pub use recorded::Recorded;
-pub use verifying::verify_text;
+pub use verifying::Verify;

@@ -1,29 +1,26 @@
 //! The command that judges a record and prints the report of its run.
-ghost use Rattle.std.specs.Prelude.{ℕ, ◌≡◌, ◌≢◌, ◌≤◌, ◌⊎◌, ◌++◌, ◌∷◌, [], codes, IfOk, IfErr, IfSome, IsErrOf, MatchResult, OnOk, length, map, string_bytes};
-ghost use Rattle.std.specs.Fmt.{decimal};
+ghost use Rattle.std.specs.Prelude.{ℕ, ◌≡◌, ◌≢◌, ◌≤◌, ◌⊎◌, IfOk, IfErr, IsErrOf, length, map, string_bytes};
 ghost use Rattle.std.specs.Io.KnownBytes.{Appends};
-ghost use Rattle.reg_base.specs.declared.limits.TheConstants.{LONGEST_INPUT, MOST_EVENTS};
-ghost use Rattle.reg_text.specs.Writing.{AppendsPart, Puts};
+ghost use Rattle.reg_base.specs.declared.limits.TheConstants.{MOST_EVENTS};
+ghost use Rattle.reg_text.specs.Writing.{AppendsPart};
 ghost use Rattle.reg_commands.specs.Replays.{PointsOf, start_of};
 ghost use Rattle.reg_records.specs.Records.{FailsAt, IsFaithful};
 ghost use Rattle.reg_verify.specs.Judging.{BlamesSteps};
 ghost use Rattle.reg_verify.specs.RecordLines.{Account, IsAccount, SpellsAccount};
-ghost use Rattle.reg_verify.specs.Verifies.{BlamesAccount, BlamesText, IsReportOfAccount, Runs, ShowsAccount, Verifies, line_at, verify_line};
-ghost use Rattle.reg_verify.specs.declared.faults.VerifyFault.{VerifyFault as AnyFault};
+ghost use Rattle.reg_verify.specs.Verifies.{BlamesAccount, BlamesText, IsReportOfAccount, Runs, ShowsAccount, Verifies, line_at};
 
 use crate::faults::VerifyFault;
 use crate::logs::part;
 use crate::record_text::{Record, RecordFault, parse_record};
 use crate::recorded::Recorded;
 use reg_base::Shape;
-use reg_commands::{Fault, read_input, report_run, write_fault, write_out};
+use reg_commands::{Fault, TextCommand, report_run, write_out};
 use reg_front::{FrontEnd, by_front};
 use reg_history::{ReadWhy, Report};
 use reg_records::{CloseFault, LogEntry, play};
-use reg_text::{Sink, Unwritten, put_number};
 use reg_world::{NamedFront, PackedWires, World};
 use std::alloc::Allocator;
-use std::io::{Read, Write};
+use std::io::Write;
 
 /// The first line of a step.
 const FIRST_STEP: u64 = 5;
@@ -129,7 +126,7 @@ fn verified<A: Allocator + Copy>(alloc: A, text: String<A>) -> Result<Report<A>,
 }
 
 /// Reads a record, and writes the report of its run.
-fn verify<A: Allocator + Copy, W: Write>(
+fn judge_record<A: Allocator + Copy, W: Write>(
     alloc: A,
     text: String<A>,
     writer: &mut W,
@@ -144,73 +141,39 @@ fn verify<A: Allocator + Copy, W: Write>(
     Ok(())
 }
 
-fn obey<A: Allocator + Copy, R: Read, W: Write>(
-    alloc: A,
-    reader: &mut R,
-    writer: &mut W,
-) -> Result<(), VerifyFault>
-    ensures ok { IfOk result (λ _. IfSome (R.remaining reader.old) (Verifies (Appends (W.contents writer.old) (W.contents writer.new)))) }
-    ensures within { OnOk result (IfSome (R.remaining reader.old) (λ xs. length xs ≤ LONGEST_INPUT)) }
-    ensures why { IfErr result (λ f. IfSome (R.remaining reader.old) (BlamesAccount f)) }
-    ensures silent { IfErr result (λ f. f ≢ VerifyFault.Command Fault.Output → writer.new ≡ writer.old) }
-    ensures part { IsErrOf result (VerifyFault.Command Fault.Output) → IfSome (R.remaining reader.old) (Verifies (AppendsPart (W.contents writer.old) (W.contents writer.new))) }
-{
-    match read_input(alloc, reader) {
-        Ok(text) => verify(alloc, text, writer),
-        Err(fault) => Err(VerifyFault::Command { fault }),
+/// Judges the record that a text spells, and writes the report of the run that it is, once all steps are judged.
+#[derive(Clone, Copy, Debug)]
+pub struct Verify;
+
+impl TextCommand for Verify {
+    ghost use Rattle.std.specs.Prelude.{false, refl};
+    ghost use Rattle.reg_commands.specs.declared.command.Command.TheVariants.{Check, Play};
+    ghost use Rattle.reg_commands.specs.declared.faults.Fault.TheVariants.{Unread, TooLong, NotText, Output, Line, Event, Workload, OutOfMemory};
+
+    type Fault = VerifyFault;
+
+    ghost IsAnswer = { λ _ _. Verifies };
+
+    ghost IsBlamed = { λ _. BlamesAccount };
+
+    fn answer<A: Allocator + Copy, W: Write>(
+        self,
+        alloc: A,
+        text: String<A>,
+        writer: &mut W,
+    ) -> Result<bool, VerifyFault> {
+        judge_record(alloc, text, writer)?;
+        Ok(true)
     }
-}
 
-/// Puts the line of an unfaithful step.
-fn put_unfaithful<W: Write>(sink: &mut Sink<'_, W>, line: u64)
-    ensures { Puts W.contents sink.old sink.new (codes "line " ++ decimal line ++ (codes ": unfaithful" ++ 10 ∷ [])) }
-{
-    put_number(sink, "line ", line);
-    sink.put(b": unfaithful\n");
-}
-
-/// Writes the line of an unfaithful step, all of it or, where the writer fails, a first part.
-fn write_unfaithful<W: Write>(errors: &mut W, line: u64) -> Result<(), Unwritten>
-    ensures { MatchResult result (λ _. Appends (W.contents errors.old) (W.contents errors.new) (verify_line (VerifyFault.Unfaithful line))) (λ _. AppendsPart (W.contents errors.old) (W.contents errors.new) (verify_line (VerifyFault.Unfaithful line))) }
-{
-    let mut sink = Sink::new(errors);
-    put_unfaithful(&mut sink, line);
-    sink.finish()
-}
-
-/// Writes the line of a fault, all of it or, where the writer fails, a first part.
-fn write_verify_fault<W: Write>(errors: &mut W, fault: VerifyFault) -> Result<(), Unwritten>
-    ensures { MatchResult result (λ _. Appends (W.contents errors.old) (W.contents errors.new) (verify_line fault)) (λ _. AppendsPart (W.contents errors.old) (W.contents errors.new) (verify_line fault)) }
-{
-    match fault {
-        VerifyFault::Command { fault } => write_fault(errors, fault),
-        VerifyFault::Unfaithful { line } => write_unfaithful(errors, line),
-    }
-}
-
-/// Judges the record that the text on the reader spells, and writes the report of the run that it is: it reads the
-/// whole input, and writes once all steps are judged. The answer is the status: 0, or 1 where something was refused,
-/// with the line of the fault on `errors` or a first part of it, or where the writer failed, and then a first part of
-/// the report went out.
-pub fn verify_text<A: Allocator + Copy, R: Read, W: Write, E: Write>(
-    alloc: A,
-    reader: &mut R,
-    writer: &mut W,
-    errors: &mut E,
-) -> u8
-    ensures range { result ≤ 1 }
-    ensures within { result ≡ 0 → IfSome (R.remaining reader.old) (λ xs. length xs ≤ LONGEST_INPUT) }
-    ensures verified { result ≡ 0 → IfSome (R.remaining reader.old) (Verifies (Appends (W.contents writer.old) (W.contents writer.new))) }
-    ensures refused { result ≡ 1 → (f : AnyFault) × IfSome (R.remaining reader.old) (BlamesAccount f) × (f ≢ VerifyFault.Command Fault.Output → writer.new ≡ writer.old)
-        × (f ≡ VerifyFault.Command Fault.Output → IfSome (R.remaining reader.old) (Verifies (AppendsPart (W.contents writer.old) (W.contents writer.new))))
-        × AppendsPart (E.contents errors.old) (E.contents errors.new) (verify_line f) }
-    ensures quiet { result ≡ 0 → errors.new ≡ errors.old }
-{
-    match obey(alloc, reader, writer) {
-        Ok(()) => 0,
-        Err(fault) => {
-            let _ = write_verify_fault(errors, fault);
-            1
-        }
-    }
+    ghost blames_input = { λ _. elim [
+      | Unread ↦ λ _ _ _. tt
+      | TooLong ↦ λ _ _ blamed. blamed Check
+      | NotText ↦ λ _ _ blamed. blamed Check
+      | Output ↦ λ _ other _. absurd (other refl)
+      | Line line why ↦ λ _ _ blamed. absurd (blamed (Play false))
+      | Event at fault ↦ λ _ _ blamed. absurd (blamed Check)
+      | Workload fault ↦ λ _ _ blamed. absurd (blamed Check)
+      | OutOfMemory ↦ λ _ _ _. tt
+    ] };
 }

@@ -1,16 +1,24 @@
 //! The functions that the host calls of workloads. Each works in the room that is lent to it, and leaves in it what it
 //! did not touch.
-ghost use Rattle.std.specs.Prelude.{true, false};
-ghost use Rattle.reg_commands.specs.Plays.{Plays};
-ghost use Rattle.reg_show.specs.Schedules.{WritesSchedule};
-ghost use Rattle.reg_web.specs.Made.{LaysOut, TellsMade, player_of};
-ghost use Rattle.reg_web.specs.Texts.{Fills};
+ghost use Rattle.std.specs.Prelude.{true, false, None};
+ghost use Rattle.reg_commands.specs.Lent.{Fills};
+ghost use Rattle.reg_commands.specs.Replays.{start_of};
+ghost use Rattle.reg_outcomes.specs.AllText.{ShowsAll};
+ghost use Rattle.reg_show.specs.AllOutcomes.{StopsAll};
+ghost use Rattle.reg_show.specs.Outcomes.{ShowsOutcomes, StopsPlays};
+ghost use Rattle.reg_show.specs.Schedules.{ShowsSchedule, StopsSchedule};
+ghost use Rattle.reg_show.specs.Seeds.{reseeded};
+ghost use Rattle.reg_show.specs.Shorts.{ShowsShort, StopsShort};
+ghost use Rattle.reg_web.specs.Texts.{IsLaidOut, IsPlayed, IsShownOf};
 
-use crate::making::{LayOut, Make};
-use crate::playing::Play;
-use crate::scheduling::Schedule;
-use crate::telling::{Lengths, tell};
+use crate::layouts::{InLayout, LayOut, Play};
+use crate::telling::tell_in;
+use reg_commands::Lengths;
 use reg_heap::Room;
+use reg_show::{EveryOutcome, FullSchedule, ManyPlays, Player, ShortSchedule};
+
+/// How many plays of a workload are counted.
+const PLAYS: u32 = 1_000;
 
 /// Puts the workload that a text seems to say into its layout. The answer is the layout, and the status 0; or 1 with
 /// the line of a fault.
@@ -22,14 +30,14 @@ pub extern "C" fn tellwydar_layout(
     errors: &mut [u8],
     lengths: &mut Lengths,
 ) -> u8
-    ensures { Fills (TellsMade LaysOut text.now) result output.old output.new errors.old errors.new lengths.new }
+    ensures { Fills (IsLaidOut text.now) result output.old output.new errors.old errors.new lengths.new }
 {
     let command = LayOut;
-    tell(Make { command }, room, text, output, errors, lengths)
+    tell_in(command, room, text, output, errors, lengths)
 }
 
-/// Plays a workload that is in its layout as the words of its seed say. The answer is the report of the play, and the
-/// status 0; or 1 with the line of a fault.
+/// Plays a workload that is in its layout as the words of its seed say. The answer is the report of the play, and the status 0; or 1
+/// with the line of a fault.
 #[unsafe(no_mangle)]
 pub extern "C" fn tellwydar_play(
     room: &mut Room,
@@ -38,10 +46,11 @@ pub extern "C" fn tellwydar_play(
     errors: &mut [u8],
     lengths: &mut Lengths,
 ) -> u8
-    ensures { Fills (TellsMade (Plays false) text.now) result output.old output.new errors.old errors.new lengths.new }
+    ensures { Fills (IsPlayed false text.now) result output.old output.new errors.old errors.new lengths.new }
 {
     let command = Play { fair: false };
-    tell(Make { command }, room, text, output, errors, lengths)
+    let command = InLayout { command };
+    tell_in(command, room, text, output, errors, lengths)
 }
 
 /// Plays a workload that is in its layout fairly. The answer is the report of the play, and the status 0; or 1
@@ -54,14 +63,15 @@ pub extern "C" fn tellwydar_play_fair(
     errors: &mut [u8],
     lengths: &mut Lengths,
 ) -> u8
-    ensures { Fills (TellsMade (Plays true) text.now) result output.old output.new errors.old errors.new lengths.new }
+    ensures { Fills (IsPlayed true text.now) result output.old output.new errors.old errors.new lengths.new }
 {
     let command = Play { fair: true };
-    tell(Make { command }, room, text, output, errors, lengths)
+    let command = InLayout { command };
+    tell_in(command, room, text, output, errors, lengths)
 }
 
-/// Plays a workload that is in its layout as the words of its seed say. The answer is the schedule of the play, and the
-/// status 0; or 1 with the line of a fault.
+/// Plays a workload that is in its layout as the words of its seed say. The answer is the schedule of the play, and the status 0;
+/// or 1 with the line of a fault.
 #[unsafe(no_mangle)]
 pub extern "C" fn tellwydar_schedule(
     room: &mut Room,
@@ -70,14 +80,34 @@ pub extern "C" fn tellwydar_schedule(
     errors: &mut [u8],
     lengths: &mut Lengths,
 ) -> u8
-    ensures { Fills (TellsMade (WritesSchedule (player_of false)) text.now) result output.old output.new errors.old errors.new lengths.new }
+    ensures { Fills (IsShownOf (λ fault _. StopsSchedule fault) (λ Wrote work. ShowsSchedule false (start_of work.front) Wrote (reseeded None work)) text.now) result output.old output.new errors.old errors.new lengths.new }
 {
-    let command = Schedule { fair: false };
-    tell(Make { command }, room, text, output, errors, lengths)
+    let player = Player::Seeded { seed: None };
+    let command = FullSchedule { player };
+    let command = InLayout { command };
+    tell_in(command, room, text, output, errors, lengths)
 }
 
-/// Plays a workload that is in its layout fairly. The answer is the schedule of the play, and the status 0; or 1
-/// with the line of a fault.
+/// Plays a workload that is in its layout as the words of its seed say. The answer is the schedule of the short form of the play, and
+/// the status 0; or 1 with the line of a fault.
+#[unsafe(no_mangle)]
+pub extern "C" fn tellwydar_short(
+    room: &mut Room,
+    text: &[u8],
+    output: &mut [u8],
+    errors: &mut [u8],
+    lengths: &mut Lengths,
+) -> u8
+    ensures { Fills (IsShownOf (λ fault work. StopsShort false (start_of work.front) (reseeded None work) fault) (λ Wrote work. ShowsShort false (start_of work.front) Wrote (reseeded None work)) text.now) result output.old output.new errors.old errors.new lengths.new }
+{
+    let player = Player::Seeded { seed: None };
+    let command = ShortSchedule { player };
+    let command = InLayout { command };
+    tell_in(command, room, text, output, errors, lengths)
+}
+
+/// Plays a workload that is in its layout fairly. The answer is the schedule of the play, and the status 0;
+/// or 1 with the line of a fault.
 #[unsafe(no_mangle)]
 pub extern "C" fn tellwydar_schedule_fair(
     room: &mut Room,
@@ -86,8 +116,63 @@ pub extern "C" fn tellwydar_schedule_fair(
     errors: &mut [u8],
     lengths: &mut Lengths,
 ) -> u8
-    ensures { Fills (TellsMade (WritesSchedule (player_of true)) text.now) result output.old output.new errors.old errors.new lengths.new }
+    ensures { Fills (IsShownOf (λ fault _. StopsSchedule fault) (λ Wrote work. ShowsSchedule true (start_of work.front) Wrote (reseeded None work)) text.now) result output.old output.new errors.old errors.new lengths.new }
 {
-    let command = Schedule { fair: true };
-    tell(Make { command }, room, text, output, errors, lengths)
+    let player = Player::Fair;
+    let command = FullSchedule { player };
+    let command = InLayout { command };
+    tell_in(command, room, text, output, errors, lengths)
+}
+
+/// Plays a workload that is in its layout fairly. The answer is the schedule of the short form of the play, and
+/// the status 0; or 1 with the line of a fault.
+#[unsafe(no_mangle)]
+pub extern "C" fn tellwydar_short_fair(
+    room: &mut Room,
+    text: &[u8],
+    output: &mut [u8],
+    errors: &mut [u8],
+    lengths: &mut Lengths,
+) -> u8
+    ensures { Fills (IsShownOf (λ fault work. StopsShort true (start_of work.front) (reseeded None work) fault) (λ Wrote work. ShowsShort true (start_of work.front) Wrote (reseeded None work)) text.now) result output.old output.new errors.old errors.new lengths.new }
+{
+    let player = Player::Fair;
+    let command = ShortSchedule { player };
+    let command = InLayout { command };
+    tell_in(command, room, text, output, errors, lengths)
+}
+
+/// Plays a workload that is in its layout a thousand times. The answer is the table of what the plays told, and the
+/// status 0; or 1 with the line of a fault.
+#[unsafe(no_mangle)]
+pub extern "C" fn tellwydar_outcomes(
+    room: &mut Room,
+    text: &[u8],
+    output: &mut [u8],
+    errors: &mut [u8],
+    lengths: &mut Lengths,
+) -> u8
+    ensures { Fills (IsShownOf (λ fault work. StopsPlays PLAYS (start_of work.front) (reseeded None work) fault) (λ Wrote work. ShowsOutcomes PLAYS (start_of work.front) Wrote (reseeded None work)) text.now) result output.old output.new errors.old errors.new lengths.new }
+{
+    let (plays, seed) = (PLAYS, None);
+    let command = ManyPlays { plays, seed };
+    let command = InLayout { command };
+    tell_in(command, room, text, output, errors, lengths)
+}
+
+/// Finds all outcomes that the scripts of a workload that is in its layout can have. The answer is their text, and the
+/// status 0; or 1 with the line of a fault.
+#[unsafe(no_mangle)]
+pub extern "C" fn tellwydar_outcomes_all(
+    room: &mut Room,
+    text: &[u8],
+    output: &mut [u8],
+    errors: &mut [u8],
+    lengths: &mut Lengths,
+) -> u8
+    ensures { Fills (IsShownOf (λ fault work. StopsAll work fault) (λ Wrote work. ShowsAll work.scripts work.shape.registers Wrote) text.now) result output.old output.new errors.old errors.new lengths.new }
+{
+    let command = EveryOutcome;
+    let command = InLayout { command };
+    tell_in(command, room, text, output, errors, lengths)
 }

@@ -2,20 +2,18 @@
 //! touch.
 ghost use Rattle.std.specs.Prelude.{◌≡◌};
 ghost use Rattle.reg_commands.specs.Kinds.{kind_of as kind_of_text};
+ghost use Rattle.reg_commands.specs.Lent.{Fills};
 ghost use Rattle.reg_commands.specs.declared.command.Command.{Command};
 ghost use Rattle.reg_outcomes.specs.declared.kinds.OrderKind.{OrderKind as AnyOrder};
 ghost use Rattle.reg_show.specs.declared.showing.Showing.{Showing as AnyShowing};
-ghost use Rattle.reg_web.specs.Shown.{IsFound, IsShown};
-ghost use Rattle.reg_web.specs.Texts.{Fills, Tells, kind_number};
+ghost use Rattle.reg_web.specs.Texts.{IsAnswer, IsFound, IsShown, kind_number};
 
-use crate::checking::Check;
-use crate::finding::Find;
-use crate::replaying::Replay;
-use crate::telling::{Lengths, tell};
-use reg_commands::{Kind, kind_of};
+use crate::judging::{Check, Replay, ShowSchedule};
+use crate::telling::tell_in;
+use reg_commands::{Kind, Lengths, kind_of};
 use reg_heap::Room;
 use reg_outcomes::OrderKind;
-use reg_show::Showing;
+use reg_show::{FindOrder, Showing};
 
 /// What a text is meant as, by its first line that counts: 0 is a schedule, 1 a workload, 2 a report.
 #[unsafe(no_mangle)]
@@ -39,9 +37,9 @@ pub extern "C" fn tellwydar_replay(
     errors: &mut [u8],
     lengths: &mut Lengths,
 ) -> u8
-    ensures { Tells Command.Replay text.now result output.old output.new errors.old errors.new lengths.new }
+    ensures { Fills (IsAnswer Command.Replay text.now) result output.old output.new errors.old errors.new lengths.new }
 {
-    tell(Replay, room, text, output, errors, lengths)
+    tell_in(Replay, room, text, output, errors, lengths)
 }
 
 /// Judges a report. The answer is the checkers' verdicts, and the status 0 where each says yes; or 1 where one says no,
@@ -54,9 +52,9 @@ pub extern "C" fn tellwydar_check(
     errors: &mut [u8],
     lengths: &mut Lengths,
 ) -> u8
-    ensures { Tells Command.Check text.now result output.old output.new errors.old errors.new lengths.new }
+    ensures { Fills (IsAnswer Command.Check text.now) result output.old output.new errors.old errors.new lengths.new }
 {
-    tell(Check, room, text, output, errors, lengths)
+    tell_in(Check, room, text, output, errors, lengths)
 }
 
 /// Looks for a serial order of a report's history. The answer is the report with it, and the status 0; or 1 with the
@@ -71,10 +69,10 @@ pub extern "C" fn tellwydar_find_serial(
 ) -> u8
     ensures { Fills (IsFound AnyOrder.Serial text.now) result output.old output.new errors.old errors.new lengths.new }
 {
-    let command = Find {
+    let command = FindOrder {
         kind: OrderKind::Serial,
     };
-    tell(command, room, text, output, errors, lengths)
+    tell_in(command, room, text, output, errors, lengths)
 }
 
 /// Looks for a point order of a report's history. The answer is the report with it, and the status 0; or 1 with the
@@ -89,10 +87,10 @@ pub extern "C" fn tellwydar_find_points(
 ) -> u8
     ensures { Fills (IsFound AnyOrder.Points text.now) result output.old output.new errors.old errors.new lengths.new }
 {
-    let command = Find {
+    let command = FindOrder {
         kind: OrderKind::Points,
     };
-    tell(command, room, text, output, errors, lengths)
+    tell_in(command, room, text, output, errors, lengths)
 }
 
 /// Tells what happens in the run of a schedule, event by event, and the status 0; or 1 with the line of a fault, or a
@@ -107,7 +105,15 @@ pub extern "C" fn tellwydar_trace(
 ) -> u8
     ensures { Fills (IsShown AnyShowing.Trace text.now) result output.old output.new errors.old errors.new lengths.new }
 {
-    tell(Showing::Trace, room, text, output, errors, lengths)
+    let showing = Showing::Trace;
+    tell_in(
+        ShowSchedule { showing },
+        room,
+        text,
+        output,
+        errors,
+        lengths,
+    )
 }
 
 /// Draws the run of a schedule, and the status is 0; or 1 with the line of a fault, or a first part of it.
@@ -121,7 +127,15 @@ pub extern "C" fn tellwydar_draw(
 ) -> u8
     ensures { Fills (IsShown AnyShowing.Draw text.now) result output.old output.new errors.old errors.new lengths.new }
 {
-    tell(Showing::Draw, room, text, output, errors, lengths)
+    let showing = Showing::Draw;
+    tell_in(
+        ShowSchedule { showing },
+        room,
+        text,
+        output,
+        errors,
+        lengths,
+    )
 }
 
 /// Tells the run of a schedule as data, and the status 0; or 1 with the line of a fault, or a first part of it.
@@ -135,7 +149,15 @@ pub extern "C" fn tellwydar_data(
 ) -> u8
     ensures { Fills (IsShown AnyShowing.Data text.now) result output.old output.new errors.old errors.new lengths.new }
 {
-    tell(Showing::Data, room, text, output, errors, lengths)
+    let showing = Showing::Data;
+    tell_in(
+        ShowSchedule { showing },
+        room,
+        text,
+        output,
+        errors,
+        lengths,
+    )
 }
 
 /// Makes the page of the run of a schedule, and the status is 0; or 1 with the line of a fault, or a first part of it.
@@ -149,7 +171,15 @@ pub extern "C" fn tellwydar_page(
 ) -> u8
     ensures { Fills (IsShown AnyShowing.Page text.now) result output.old output.new errors.old errors.new lengths.new }
 {
-    tell(Showing::Page, room, text, output, errors, lengths)
+    let showing = Showing::Page;
+    tell_in(
+        ShowSchedule { showing },
+        room,
+        text,
+        output,
+        errors,
+        lengths,
+    )
 }
 
 /// Brings the run of a schedule to rest. The answer is the schedule with the events that do, and the status 0; or 1
@@ -164,5 +194,13 @@ pub extern "C" fn tellwydar_rest(
 ) -> u8
     ensures { Fills (IsShown AnyShowing.Rest text.now) result output.old output.new errors.old errors.new lengths.new }
 {
-    tell(Showing::Rest, room, text, output, errors, lengths)
+    let showing = Showing::Rest;
+    tell_in(
+        ShowSchedule { showing },
+        room,
+        text,
+        output,
+        errors,
+        lengths,
+    )
 }

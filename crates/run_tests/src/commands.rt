@@ -1,6 +1,6 @@
 //! What a command gives over an input, and what it is to give.
 use crate::sources::whole;
-use reg_commands::{Command, run_text};
+use reg_commands::{Command, OverText, run_command};
 use std::alloc::Global;
 use std::io::Read;
 
@@ -34,7 +34,9 @@ pub(crate) fn gives_from<R: Read>(
 ) -> bool {
     let mut output = Vec::new(alloc);
     let mut errors = Vec::new(alloc);
-    let status = run_text(alloc, alloc, command, reader, &mut output, &mut errors);
+    let global = alloc;
+    let command = OverText { command, global };
+    let status = run_command(command, alloc, reader, &mut output, &mut errors);
     is_given((status, output.as_slice(), errors.as_slice()), given)
 }
 

@@ -1,6 +1,6 @@
 //! The line of each fault on the error stream: its text, and a line feed.
 use crate::demands::demand;
-use reg_commands::{Fault, write_fault};
+use reg_commands::{Fault, Refusal};
 use reg_history::ReadWhy;
 use reg_workload::{Key, WorkloadFault};
 use reg_world::WorldFault;
@@ -108,7 +108,7 @@ const LINES: &[(Fault, &str)] = &[
 /// Whether a fault is told by this line.
 fn is_told(alloc: Global, fault: Fault, line: &str) -> bool {
     let mut errors = Vec::new(alloc);
-    write_fault(&mut errors, fault).is_ok() && errors.as_slice() == line.as_bytes()
+    fault.write_line(&mut errors).is_ok() && errors.as_slice() == line.as_bytes()
 }
 
 /// Whether a fault is shown as this line.

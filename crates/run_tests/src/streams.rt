@@ -4,7 +4,7 @@ use crate::replays::ONE_PROCESS_SCHEDULE;
 use crate::report_texts::ONE_PROCESS_NOW;
 use crate::sources::{Source, Spaces, whole};
 use refusing::Refusing;
-use reg_commands::{Command, run_text};
+use reg_commands::{Command, OverText, run_command};
 use std::alloc::Global;
 use std::io;
 use std::io::{ErrorKind, Write};
@@ -124,7 +124,9 @@ fn writes_so(
 ) -> bool {
     let mut reader = input.as_bytes();
     let mut errors = Vec::new(alloc);
-    let status = run_text(alloc, alloc, command, &mut reader, writer, &mut errors);
+    let global = alloc;
+    let command = OverText { command, global };
+    let status = run_command(command, alloc, &mut reader, writer, &mut errors);
     status == u8::from(!line.is_empty()) && errors.as_slice() == line.as_bytes() && !writer.differs
 }
 
@@ -234,14 +236,9 @@ fn refused_after(
     let mut reader = input.as_bytes();
     let mut written = Vec::new(alloc);
     let mut errors = Vec::new(alloc);
-    let got = run_text(
-        &heap,
-        alloc,
-        command,
-        &mut reader,
-        &mut written,
-        &mut errors,
-    );
+    let global = alloc;
+    let command = OverText { command, global };
+    let got = run_command(command, &heap, &mut reader, &mut written, &mut errors);
     let done = (got, written.as_slice(), errors.as_slice());
     ending_of(heap.is_waiting(), done, output)
 }

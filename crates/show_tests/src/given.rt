@@ -1,11 +1,14 @@
 //! What is done with a text, and what is to be given for it.
+ghost use Rattle.std.specs.Prelude.{◌≡◌};
+
+use reg_commands::{OfDocument, run_command};
 use reg_outcomes::OrderKind;
-use reg_reasons::why_text;
+use reg_reasons::Explain;
 use reg_show::{
-    Player, Showing, find_order, show_all_outcomes, show_outcome, show_outcomes, show_schedule,
-    show_short_schedule, show_text,
+    EveryOutcome, FindOrder, FullSchedule, ManyPlays, OneOutcome, Player, ShortSchedule,
+    ShowEither, Showing,
 };
-use reg_verify::verify_text;
+use reg_verify::Verify;
 use std::alloc::Global;
 use std::process::Abort;
 
@@ -38,23 +41,45 @@ pub(crate) enum Task {
     Why,
 }
 
+/// A command over the workload that a document says.
+fn of<C>(global: Global, command: C) -> OfDocument<C>
+    ensures { result.command ≡ command }
+{
+    OfDocument { command, global }
+}
+
 /// The status of a task. No command has 255, which stands for an outcome of number 0.
 fn run(alloc: Global, task: Task, text: &str, output: &mut Vec<u8>, errors: &mut Vec<u8>) -> u8 {
-    let mut input = text.as_bytes();
+    let (global, mut input) = (alloc, text.as_bytes());
     let input = &mut input;
+    let player = Player::Fair;
     match task {
-        Task::AllOutcomes => show_all_outcomes(alloc, alloc, input, output, errors),
-        Task::OnePlay => show_outcomes(alloc, alloc, 1, None, input, output, errors),
-        Task::Outcome { number: 0 } => 255,
-        Task::Outcome { number } => show_outcome(alloc, alloc, number, input, output, errors),
-        Task::Order { kind } => find_order(alloc, kind, input, output, errors),
-        Task::Schedule => show_schedule(alloc, alloc, Player::Fair, input, output, errors),
-        Task::ShortSchedule => {
-            show_short_schedule(alloc, alloc, Player::Fair, input, output, errors)
+        Task::AllOutcomes => run_command(of(global, EveryOutcome), alloc, input, output, errors),
+        Task::OnePlay => {
+            let (plays, seed) = (1, None);
+            let command = ManyPlays { plays, seed };
+            run_command(of(global, command), alloc, input, output, errors)
         }
-        Task::Show { showing } => show_text(alloc, alloc, showing, input, output, errors),
-        Task::Verify => verify_text(alloc, input, output, errors),
-        Task::Why => why_text(alloc, alloc, input, output, errors),
+        Task::Outcome { number: 0 } => 255,
+        Task::Outcome { number } => {
+            let command = OneOutcome { number };
+            run_command(of(global, command), alloc, input, output, errors)
+        }
+        Task::Order { kind } => run_command(FindOrder { kind }, alloc, input, output, errors),
+        Task::Schedule => {
+            let command = FullSchedule { player };
+            run_command(of(global, command), alloc, input, output, errors)
+        }
+        Task::ShortSchedule => {
+            let command = ShortSchedule { player };
+            run_command(of(global, command), alloc, input, output, errors)
+        }
+        Task::Show { showing } => {
+            let command = ShowEither { showing, global };
+            run_command(command, alloc, input, output, errors)
+        }
+        Task::Verify => run_command(Verify, alloc, input, output, errors),
+        Task::Why => run_command(Explain { global }, alloc, input, output, errors),
     }
 }
 

@@ -1,6 +1,7 @@
 //! Litmus tests: what small workloads answer under each front end, against all interleavings of their operations,
 //! worked out by hand.
-use reg_show::{MOST_PLAYS, show_outcomes};
+use reg_commands::{OfDocument, run_command};
+use reg_show::{MOST_PLAYS, ManyPlays};
 use std::alloc::Global;
 
 /// A workload without its front end, how often it is played, and what its reads and swaps may answer, by process and
@@ -113,15 +114,9 @@ pub(crate) fn table(alloc: Global, plays: u32, seed: Option<u32>, text: &str) ->
         Some(seed) => Some(seed as u64),
         None => None,
     };
-    let status = show_outcomes(
-        alloc,
-        alloc,
-        plays,
-        seed,
-        &mut input,
-        &mut output,
-        &mut errors,
-    );
+    let (command, global) = (ManyPlays { plays, seed }, alloc);
+    let command = OfDocument { command, global };
+    let status = run_command(command, alloc, &mut input, &mut output, &mut errors);
     match String::from_utf8(output) {
         Ok(table) if status == 0 => table,
         _ => String::new(alloc),

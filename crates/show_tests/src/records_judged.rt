@@ -1,7 +1,8 @@
 //! Records judged: one that is worked out by hand, and what is told of others.
 use crate::given::{Task, answer_of, tells};
 use refusing::{Trial, refusals};
-use reg_verify::verify_text;
+use reg_commands::run_command;
+use reg_verify::Verify;
 use std::alloc::{Allocator, Global};
 use std::test::Fail;
 
@@ -84,7 +85,7 @@ impl Trial for Judged {
     fn answer<A: Allocator + Copy>(&self, alloc: A, ample: Global) -> Result<Option<String>, Fail> {
         let mut reader = WRITE.as_bytes();
         let (mut output, mut errors) = (Vec::new(ample), Vec::new(ample));
-        verify_text(alloc, &mut reader, &mut output, &mut errors);
+        run_command(Verify, alloc, &mut reader, &mut output, &mut errors);
         Ok(answer_of(ample, output, errors.as_slice()))
     }
 }

@@ -3,7 +3,7 @@ ghost use Rattle.reg_show.specs.Seeds.{IsSeed, seed_of};
 
 use crate::given::{Row, Task, demand, tells};
 use crate::values::{scheduled, shown};
-use reg_commands::{Command, run_text};
+use reg_commands::{Command, OverText, run_command};
 use reg_show::{Player, Showing};
 use std::alloc::{AllocError, Global};
 
@@ -212,14 +212,10 @@ fn a_page_has_at_most_2000_events(rt: HostRuntime) {
 pub(crate) fn replays_to(alloc: Global, schedule: &[u8], report: &[u8]) -> bool {
     let (mut output, mut errors) = (Vec::new(alloc), Vec::new(alloc));
     let mut reader = schedule;
-    let status = run_text(
-        alloc,
-        alloc,
-        Command::Replay,
-        &mut reader,
-        &mut output,
-        &mut errors,
-    );
+    let global = alloc;
+    let command = Command::Replay;
+    let replay = OverText { command, global };
+    let status = run_command(replay, alloc, &mut reader, &mut output, &mut errors);
     status == 0 && errors.is_empty() && output.as_slice() == report
 }
 
@@ -231,7 +227,9 @@ fn replays_to_the_play(alloc: Global, player: Player) -> bool
     let (mut reader, mut report) = (WORK.as_bytes(), Vec::new(alloc));
     let fair = player == Player::Fair;
     let command = Command::Play { fair };
-    let played = run_text(alloc, alloc, command, &mut reader, &mut report, &mut errors);
+    let global = alloc;
+    let play = OverText { command, global };
+    let played = run_command(play, alloc, &mut reader, &mut report, &mut errors);
     let ended = status == 0 && played == 0 && errors.is_empty() && !report.is_empty();
     ended && replays_to(alloc, schedule.as_slice(), report.as_slice())
 }

@@ -2,12 +2,15 @@
 ghost use Rattle.std.specs.Prelude.{◌≡◌, ◌≤◌, [], Some};
 ghost use Rattle.std.specs.Io.KnownBytes.{Appends};
 ghost use Rattle.reg_cli.specs.declared.words.Asked.{Asked};
-ghost use Rattle.reg_show.specs.Schedules.{WritesSchedule};
-ghost use Rattle.reg_show.specs.Seeds.{IsSeed, seed_of};
+ghost use Rattle.reg_commands.specs.Replays.{start_of};
+ghost use Rattle.reg_commands.specs.Works.{OfDocument as IsOfDocument};
+ghost use Rattle.reg_show.specs.Schedules.{ShowsSchedule};
+ghost use Rattle.reg_show.specs.Seeds.{IsSeed, is_fair, reseeded, seed_of};
 ghost use Rattle.reg_show.specs.Showings.{Shows};
 
 use reg_cli::{Asked, Command};
-use reg_show::{Player, Showing, show_schedule, show_text};
+use reg_commands::{OfDocument, run_command};
+use reg_show::{FullSchedule, Player, ShowEither, Showing};
 use std::alloc::Global;
 
 /// What the words of a command over the text on the input ask for.
@@ -25,7 +28,9 @@ pub fn shown(alloc: Global, showing: Showing, text: &[u8]) -> (u8, Vec<u8>, Vec<
 {
     let mut reader = text;
     let (mut output, mut errors) = (Vec::new(alloc), Vec::new(alloc));
-    let status = show_text(alloc, alloc, showing, &mut reader, &mut output, &mut errors);
+    let global = alloc;
+    let command = ShowEither { showing, global };
+    let status = run_command(command, alloc, &mut reader, &mut output, &mut errors);
     (status, output, errors)
 }
 
@@ -33,11 +38,13 @@ pub fn shown(alloc: Global, showing: Showing, text: &[u8]) -> (u8, Vec<u8>, Vec<
 pub fn scheduled(alloc: Global, player: Player, text: &[u8]) -> (u8, Vec<u8>, Vec<u8>)
     requires { IsSeed (seed_of player) }
     ensures range { result.0 ≤ 1 }
-    ensures shown { result.0 ≡ 0 → WritesSchedule player (Appends (Some []) (Some result.1.items)) text.now }
+    ensures shown { result.0 ≡ 0 → IsOfDocument (λ Wrote work. ShowsSchedule (is_fair player) (start_of work.front) Wrote (reseeded (seed_of player) work)) (Appends (Some []) (Some result.1.items)) text.now }
     ensures quiet { result.0 ≡ 0 → result.2.items ≡ [] }
 {
     let mut reader = text;
     let (mut output, mut errors) = (Vec::new(alloc), Vec::new(alloc));
-    let status = show_schedule(alloc, alloc, player, &mut reader, &mut output, &mut errors);
+    let (command, global) = (FullSchedule { player }, alloc);
+    let command = OfDocument { command, global };
+    let status = run_command(command, alloc, &mut reader, &mut output, &mut errors);
     (status, output, errors)
 }

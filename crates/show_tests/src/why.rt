@@ -2,7 +2,8 @@
 use crate::given::{Task, answer_of, tells};
 use crate::{why_reports, why_schedules, why_workloads};
 use refusing::{Trial, refusals};
-use reg_reasons::why_text;
+use reg_commands::run_command;
+use reg_reasons::Explain;
 use std::alloc::{Allocator, Global};
 use std::process::Abort;
 use std::test::Fail;
@@ -59,7 +60,8 @@ impl Trial for Asked {
     fn answer<A: Allocator + Copy>(&self, alloc: A, ample: Global) -> Result<Option<String>, Fail> {
         let mut reader = self.text.as_bytes();
         let (mut output, mut errors) = (Vec::new(ample), Vec::new(ample));
-        why_text(alloc, ample, &mut reader, &mut output, &mut errors);
+        let command = Explain { global: ample };
+        run_command(command, alloc, &mut reader, &mut output, &mut errors);
         Ok(answer_of(ample, output, errors.as_slice()))
     }
 }

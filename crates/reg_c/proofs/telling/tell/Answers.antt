@@ -1,5 +1,0 @@
-use Rattle.std.proofs.Common.{rules}
-use Rattle.reg_c.proofs.telling.tell.Goals as goal
-
-pub returns : goal.returns
-returns c = search rules
