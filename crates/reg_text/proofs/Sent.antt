@@ -26,9 +26,6 @@ pub more_sent : (a b c : Option (List ℕ)) (n : ℕ) (rest left bytes : List �
 more_sent a b c n rest left bytes s h l =
     (s.0 ++ take n rest, append_assoc s.0 (take n rest) left ∙ ap (λ r. s.0 ++ (take n rest ++ r)) l ∙ ap (λ r. s.0 ++ r) (take-append-drop n rest) ∙ s.1, appends_two a b c s.0 (take n rest) s.2 h)
 
-pub still_sent : (a b c : Option (List ℕ)) (rest left bytes : List ℕ) → Sent a b rest bytes → Keeps b c → left ≡ rest → Sent a c left bytes
-still_sent a b c rest left bytes s k l = (s.0, ap (λ r. s.0 ++ r) l ∙ s.1, appends_kept a b c s.0 s.2 k)
-
 -- all of it is a first part too
 pub all_or_part : {E : Type 0} (old new : Option (List ℕ)) (bs : List ℕ) (r : Result Unit E) → MatchResult r (λ _. Appends old new bs) (λ _. AppendsPart old new bs) → AppendsPart old new bs
 all_or_part old new bs (Ok x) m = (bs, [], append-nil bs, m)

@@ -150,9 +150,10 @@ pub fn skip<'a>(bytes: &'a [u8], mark: &[u8]) -> Option<&'a [u8]>
 }
 
 /// The number of 64 bits at the left of a column of `places` bytes, and what stands after the mark that follows. None
-/// where the bytes don't begin so. No clause says that a number wider than its column is refused.
+/// where the bytes don't begin so: a number wider than its column is refused.
 pub fn left_field<'a>(bytes: &'a [u8], places: usize, mark: &[u8]) -> Option<(u64, &'a [u8])>
     ensures read { IfSome result (λ p. (bytes.now ≡ to_left places (decimal p.0) ++ (mark.now ++ p.1.now)) × (p.0 < 2 ^ 64)) }
+    ensures fits { IfSome result (λ p. length (decimal p.0) ≤ places) }
     ensures whole { (n : ℕ) (rest : List ℕ) → n < 2 ^ 64 → length (decimal n) ≤ places → bytes.now ≡ to_left places (decimal n) ++ (mark.now ++ rest) → IsSomeAnd result (λ p. (p.0 ≡ n) × (p.1.now ≡ rest)) }
 {
     let (digits, after) = cut(bytes, places)?;
@@ -160,9 +161,10 @@ pub fn left_field<'a>(bytes: &'a [u8], places: usize, mark: &[u8]) -> Option<(u6
 }
 
 /// The number of 64 bits at the right of a column of `places` bytes, and what stands after the mark that follows. None
-/// where the bytes don't begin so. No clause says that a number wider than its column is refused.
+/// where the bytes don't begin so: a number wider than its column is refused.
 pub fn right_field<'a>(bytes: &'a [u8], places: usize, mark: &[u8]) -> Option<(u64, &'a [u8])>
     ensures read { IfSome result (λ p. (bytes.now ≡ to_right places (decimal p.0) ++ (mark.now ++ p.1.now)) × (p.0 < 2 ^ 64)) }
+    ensures fits { IfSome result (λ p. length (decimal p.0) ≤ places) }
     ensures whole { (n : ℕ) (rest : List ℕ) → n < 2 ^ 64 → length (decimal n) ≤ places → bytes.now ≡ to_right places (decimal n) ++ (mark.now ++ rest) → IsSomeAnd result (λ p. (p.0 ≡ n) × (p.1.now ≡ rest)) }
 {
     let (digits, after) = cut(bytes, places)?;

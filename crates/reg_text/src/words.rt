@@ -27,9 +27,11 @@ pub enum WordsFault {
     OutOfMemory,
 }
 
-/// The word after a space, and the rest. None where the text doesn't begin with a space.
+/// The word after a space, up to the next space or the end, and the rest. None where the text doesn't begin with a
+/// space.
 pub fn next_word(text: &[u8]) -> Option<(&[u8], &[u8])>
     ensures read { IfSome result (λ p. text.now ≡ 32 ∷ (p.0.now ++ p.1.now)) }
+    ensures word { IfSome result (λ p. Lacks 32 p.0.now × Starts 32 p.1.now) }
     ensures whole { (word after : List ℕ) → Lacks 32 word → Starts 32 after → text.now ≡ 32 ∷ (word ++ after) → IsSomeAnd result (λ p. (p.0.now ≡ word) × (p.1.now ≡ after)) }
 {
     let rest = skip(text, b" ")?;

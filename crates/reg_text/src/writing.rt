@@ -5,18 +5,18 @@ ghost use Rattle.std.specs.Io.KnownBytes.{Appends};
 ghost use Rattle.reg_text.specs.Writing.{AppendsPart, Puts};
 
 use itoa::Buffer;
-use std::io::{ErrorKind, Write};
+use std::io::Write;
 
 /// The writer failed, and a first part of what it was given went out.
 #[derive(Clone, Copy, Debug, PartialEq, Eq)]
 pub struct Unwritten;
 
-/// Writes these bytes.
+/// Writes these bytes. It stops at the first write that fails, at one that a signal interrupted too, or that takes
+/// nothing.
 ///
 /// # Errors
 ///
-/// `Unwritten` where the writer failed, and then a first part of the bytes went out. No clause says which writes are
-/// made again.
+/// `Unwritten` where the writer failed, and then a first part of the bytes went out.
 pub fn write_bytes<W: Write>(writer: &mut W, bytes: &[u8]) -> Result<(), Unwritten>
     ensures { MatchResult result (λ _. Appends (W.contents writer.old) (W.contents writer.new) bytes.now) (λ _. AppendsPart (W.contents writer.old) (W.contents writer.new) bytes.now) }
 {
@@ -28,11 +28,7 @@ pub fn write_bytes<W: Write>(writer: &mut W, bytes: &[u8]) -> Result<(), Unwritt
         match writer.write(rest) {
             Ok(0) => return Err(Unwritten),
             Ok(count) => rest = &rest[count..],
-            Err(error) => {
-                if error.kind() != ErrorKind::Interrupted {
-                    return Err(Unwritten);
-                }
-            }
+            Err(_) => return Err(Unwritten),
         }
     }
     Err(Unwritten)

@@ -238,17 +238,25 @@ fn is_write_told(
     ends_so(rt, line, streams, 1, "output: write\n") && !writer.differs
 }
 
-/// Whether the failure of one write is told, by an error and where it takes nothing.
+/// How one write fails, each in turn.
+const WRITE_FAILURES: [Failure; 3] = [
+    Failure::Error {
+        kind: ErrorKind::Other,
+    },
+    Failure::Error {
+        kind: ErrorKind::Interrupted,
+    },
+    Failure::Nothing,
+];
+
+/// Whether the failure of one write is told, by each error and where it takes nothing.
 fn is_write_after_told(
     rt: &(impl Abort + AllocGlobal),
     row: &Row,
     answer: &[u8],
     before: u32,
 ) -> bool {
-    let error = Failure::Error {
-        kind: ErrorKind::Other,
-    };
-    for failure in [error, Failure::Nothing] {
+    for failure in WRITE_FAILURES {
         let writer = HoldingWriter {
             before,
             failure,

@@ -1,7 +1,8 @@
-use Rattle.std.proofs.Common.{ℕ, ◌≡◌, ◌-◌, ◌++◌, length, replicate, length-append, refl, ap, sym, ◌∙◌, arith}
+use Rattle.std.proofs.Common.{ℕ, ◌≡◌, ◌-◌, ◌++◌, length, replicate, length-append, refl, ap, sym, subst, ◌∙◌, ◌≤◌, arith}
 use Rattle.std.proofs.lemmas.List.{length-replicate}
 use Rattle.std.specs.Fmt.{decimal}
 use Rattle.reg_text.specs.Columns.{to_left}
+use Rattle.reg_text.proofs.Widths.{left_fits}
 use Rattle.reg_text.proofs.Zipped.{zip_read, zip_whole}
 use Rattle.reg_text.proofs.fields.left_field.Goals as goal
 
@@ -10,6 +11,12 @@ returns-clause-read c =
     let split = c.in_ok-digits.ensures.read in
     rw c.zip.ensures (zip_read _ c.left_column.result c.skip.result c.left_column.ensures.read c.skip.ensures.read
     (λ n rest number after. (split.0 ∙ (ap (λ l. l ++ c.in_ok-digits.after.now) (number.0 ∙ ap (λ k. to_left k (decimal n)) split.1) ∙ ap (λ l. to_left c.args.places (decimal n) ++ l) after), number.1)))
+
+pub returns-clause-fits : goal.returns-clause-fits
+returns-clause-fits c =
+    let split = c.in_ok-digits.ensures.read in
+    rw c.zip.ensures (zip_read _ c.left_column.result c.skip.result c.left_column.ensures.read c.skip.ensures.read
+    (λ n rest number after. let Fits : ℕ → Type 0 = λ k. length (decimal n) ≤ k in subst Fits split.1 (left_fits c.in_ok-digits.digits.now (decimal n) number.0)))
 
 pub returns-clause-whole : goal.returns-clause-whole
 returns-clause-whole c = λ n rest small short e.
