@@ -3,6 +3,7 @@
 #![tactic(auto)]
 
 mod accepted;
+mod advancing;
 mod books;
 mod callers;
 mod faults;

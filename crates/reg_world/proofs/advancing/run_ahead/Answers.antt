@@ -6,7 +6,7 @@ use Rattle.reg_world.specs.Worlds.{Accepts, Refuses, after_events, run_in}
 use Rattle.reg_world.specs.WorldParts.{made_of}
 use Rattle.reg_world.proofs.code.Ahead.{first_ahead, next_ahead}
 use Rattle.reg_world.proofs.code.Answering.{run_refuses, run_goes_on}
-use Rattle.reg_world.proofs.running.run_ahead.Goals as goal
+use Rattle.reg_world.proofs.advancing.run_ahead.Goals as goal
 
 -- an event is left
 not_none : (at : ℕ) (events : List Event) → None ≡ slice_get (drop at events) 0 → at < length events → ⊥

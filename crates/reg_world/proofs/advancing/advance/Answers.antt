@@ -4,7 +4,7 @@ use Rattle.reg_process.specs.Process.{State}
 use Rattle.reg_world.specs.Members.{Standing}
 use Rattle.reg_world.specs.WorldParts.{Advances}
 use Rattle.reg_world.proofs.code.Stepping.{act_ok, enter_ok, advances}
-use Rattle.reg_world.proofs.running.advance.Goals as goal
+use Rattle.reg_world.proofs.advancing.advance.Goals as goal
 
 pub act-requires : goal.act-requires
 act-requires g c =

@@ -3,7 +3,7 @@ use Rattle.std.proofs.lemmas.Result.{err_from_is_err_and}
 use Rattle.reg_world.specs.Worlds.{stopped}
 use Rattle.reg_world.specs.WorldParts.{found, made_of}
 use Rattle.reg_world.proofs.code.Stepping.{refuses_is, move_found, none_is, accepts_is}
-use Rattle.reg_world.proofs.running.step_parts.Goals as goal
+use Rattle.reg_world.proofs.advancing.step_parts.Goals as goal
 
 pub returns-in_err-process : goal.returns-in_err-process
 returns-in_err-process g c =

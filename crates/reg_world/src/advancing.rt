@@ -1,0 +1,78 @@
+//! Events made, one after another, with the parts of a world.
+ghost use Rattle.std.specs.Prelude.{◌≡◌, List, false, length, take, drop, OnOk, [], MatchResult};
+ghost use Rattle.reg_world.specs.Worlds.{run_in, after_events, RunRefuses};
+ghost use Rattle.reg_world.specs.WorldParts.{IsWorld, IsMove, Advances, PartsGoOn, PartsRefuse, made_of};
+
+use crate::books::Book;
+use crate::faults::{RunFault, WorldFault};
+use crate::finding::found;
+use crate::members::Member;
+use crate::stores::WireStore;
+use reg_front::FrontEnd;
+use reg_process::{Event, Reply, Step};
+use std::alloc::{AllocError, Allocator};
+
+/// Makes the step of an event. Where memory is refused the book hasn't changed.
+// (in line: it runs at each event, and an outcome handed back by a call would be copied once more)
+#[inline(always)]
+pub(crate) fn advance<F: FrontEnd, A: Allocator + Copy, W: WireStore<A>>(
+    members: &mut Vec<Member<F, A, W>, A>,
+    book: &mut Book<A>,
+    event: Event,
+    process: u8,
+    step: &Step,
+) -> Result<Option<Reply>, AllocError>
+    requires world { IsWorld F.start false members.old.items book.old }
+    requires moves { IsMove F.start book.old event (process, step.now) }
+    ensures made { MatchResult result (λ reply. Advances F.start book.old event reply members.new.items book.new) (λ _. (book.new ≡ book.old) × (length members.new.items ≡ length members.old.items)) }
+    ensures ahead { OnOk result (book.new.ahead ≡ drop 1 book.old.ahead) }
+{
+    let member = &mut members[usize::from(process)];
+    let outcome = member.act(step)?;
+    let runs = member.process().busy();
+    book.enter(event, process, step, runs, &outcome)?;
+    member.reuse(outcome.frames);
+    Ok(outcome.reply)
+}
+
+/// Makes an event, or tells why it is refused.
+// (in line: it runs at each event, and an outcome handed back by a call would be copied once more)
+#[inline(always)]
+fn step_parts<F: FrontEnd, A: Allocator + Copy, W: WireStore<A>>(
+    members: &mut Vec<Member<F, A, W>, A>,
+    book: &mut Book<A>,
+    event: Event,
+) -> Result<(), WorldFault>
+    requires { IsWorld F.start false members.old.items book.old }
+    ensures made { MatchResult result (λ _. PartsGoOn F.start book.old event members.new.items book.new) (λ fault. PartsRefuse F.start book.old event fault) }
+{
+    let (process, step) = found(members, book, &event)?;
+    match advance(members, book, event, process, &step) {
+        Ok(_) => Ok(()),
+        Err(_) => Err(WorldFault::OutOfMemory),
+    }
+}
+
+/// Makes the events that are ahead, one after another, up to the first that is refused.
+pub(crate) fn run_ahead<F: FrontEnd, A: Allocator + Copy, W: WireStore<A>>(
+    members: &mut Vec<Member<F, A, W>, A>,
+    book: &mut Book<A>,
+    count: usize,
+) -> Result<(), RunFault>
+    requires world { IsWorld F.start false members.old.items book.old }
+    requires none { book.old.accepted ≡ [] }
+    requires count { count ≡ length book.old.ahead }
+    ensures world { OnOk result (IsWorld F.start false members.new.items book.new) }
+    ensures made { MatchResult result (λ _. made_of false book.new ≡ after_events F.start book.old.shape book.old.ahead) (λ f. RunRefuses F.start book.old.shape book.old.ahead f.at f.fault) }
+    ensures accepted { MatchResult result (λ _. (run_in F.start (after_events F.start book.old.shape book.old.ahead)).accepted ≡ book.old.ahead) (λ f. (run_in F.start (after_events F.start book.old.shape (take f.at book.old.ahead))).accepted ≡ take f.at book.old.ahead) }
+{
+    for at in 0..count {
+        let Some(event) = book.next_ahead() else {
+            unreachable!()
+        };
+        if let Err(fault) = step_parts(members, book, event) {
+            return Err(RunFault { at, fault });
+        }
+    }
+    Ok(())
+}
