@@ -1,6 +1,6 @@
 //! The start of a running cluster, and its end.
-ghost use Rattle.std.specs.Prelude.{◌≡◌, IfOk, map};
-ghost use Rattle.reg_live.specs.Passes.{IsLived, AreOneEach, AreOwn, AreNew, RespectTime, RespectUpdates};
+ghost use Rattle.std.specs.Prelude.{◌≡◌, IfOk, IfErr, map};
+ghost use Rattle.reg_live.specs.Passes.{IsLived, IsUnclosed, AreOneEach, AreOwn, AreNew, RespectTime, RespectUpdates};
 
 use crate::closing::{Closed, close_in};
 use crate::clusters::{Cluster, Parts, set_up};
@@ -74,6 +74,7 @@ impl<F: FrontEnd, G: Gate + Drop> Running<F, G> {
         ensures own { IfOk result (λ c. AreOwn passes.items (map (λ v. v.items) c.receipts.items)) }
         ensures time { IfOk result (λ c. RespectTime c.world.registers c.world.history (map (λ v. v.items) c.receipts.items)) }
         ensures updates { IfOk result (λ c. RespectUpdates F.start c.world.history (map (λ v. v.items) c.receipts.items)) }
+        ensures refused { IfErr result (IsUnclosed F.start self passes.items) }
     {
         self.close_in(rt, alloc, passes)
     }
@@ -94,6 +95,7 @@ impl<F: FrontEnd, G: Gate + Drop> Running<F, G> {
         ensures own { IfOk result (λ c. AreOwn passes.items (map (λ v. v.items) c.receipts.items)) }
         ensures time { IfOk result (λ c. RespectTime c.world.registers c.world.history (map (λ v. v.items) c.receipts.items)) }
         ensures updates { IfOk result (λ c. RespectUpdates F.start c.world.history (map (λ v. v.items) c.receipts.items)) }
+        ensures refused { IfErr result (IsUnclosed F.start self passes.items) }
     {
         let Running {
             cluster,

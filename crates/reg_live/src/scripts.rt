@@ -20,15 +20,19 @@ use std::sync::{Arc, Wait};
 use std::thread;
 use std::thread::{Promise, PromisedHandle, Threads};
 use std::time::Clock;
+use thiserror::Error;
 
 /// Why there is no record of scripts.
-#[derive(Clone, Copy, Debug, PartialEq, Eq)]
+#[derive(Clone, Copy, Debug, PartialEq, Eq, Error)]
 pub enum RunStop {
     /// A pass was refused: of several, that of the lowest process.
+    #[error("process {process}: {fault}")]
     Pass { process: u8, fault: LiveFault },
     /// What the stations wrote down was refused.
+    #[error("close: {fault}")]
     Close { fault: CloseFault },
     /// There was no memory, or a thread couldn't be made.
+    #[error("out of memory")]
     OutOfMemory,
 }
 

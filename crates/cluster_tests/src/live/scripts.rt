@@ -7,7 +7,7 @@ use crate::live::watches::Watch;
 use crate::values::{read, write};
 use reg_base::Op;
 use reg_front::{FrontEnd, Linear, LocalWrite};
-use reg_live::{Closed, Honest, LiveFault, NoGate, Pass, RunStop, run_scripts};
+use reg_live::{CloseFault, Closed, Honest, LiveFault, NoGate, Pass, RunStop, run_scripts};
 use std::alloc::Global;
 use std::process::Abort;
 use std::sync::Wait;
@@ -98,4 +98,37 @@ fn the_lowest_refused_process_is_told(rt: HostRuntime) {
     let stop = performed::<LocalWrite, HostRuntime>(rt, rt.alloc(), 3, 1).err();
     let fault = LiveFault::NoRegister;
     assert!(rt; stop == Some(RunStop::Pass { process: 1, fault }));
+}
+
+/// Each stop, and its text.
+const STOPS: [(RunStop, &str); 3] = [
+    (
+        RunStop::Pass {
+            process: 63,
+            fault: LiveFault::Behind { length: 7 },
+        },
+        "process 63: behind 7",
+    ),
+    (
+        RunStop::Close {
+            fault: CloseFault::Mismatch { process: 10 },
+        },
+        "close: mismatch 10",
+    ),
+    (RunStop::OutOfMemory, "out of memory"),
+];
+
+/// Whether a stop shows this text.
+fn shows(alloc: Global, stop: RunStop, shown: &str) -> bool {
+    match format!(in alloc; "{stop}") {
+        Ok(text) => text.as_str() == shown,
+        Err(_) => false,
+    }
+}
+
+#[test]
+fn stops_have_their_texts(rt: HostRuntime) {
+    for (stop, text) in &STOPS {
+        assert!(rt; shows(rt.alloc(), *stop, text), "{text}");
+    }
 }
