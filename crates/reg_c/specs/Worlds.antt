@@ -16,7 +16,9 @@ use Rattle.reg_process.specs.declared.steps.Reply.{Reply}
 use Rattle.reg_process.specs.declared.events.Event.{Event}
 use Rattle.reg_world.specs.declared.faults.WorldFault.{WorldFault}
 use Rattle.reg_world.specs.declared.faults.WorldFault.TheVariants.{OutOfMemory}
-use Rattle.reg_world.specs.Worlds.{Made, Accepts, Refuses, new_world, reply_in}
+use Rattle.reg_world.specs.Keys.{IsWitness, ArePoints}
+use Rattle.reg_world.specs.World.{run_of}
+use Rattle.reg_world.specs.Worlds.{Made, Accepts, Refuses, new_world, reply_in, run_in}
 use Rattle.reg_c.specs.declared.holding.Kept.{Kept}
 use Rattle.reg_c.specs.declared.holding.Kept.TheVariants.{Linear, LocalRead, LocalWrite, Closed}
 use Rattle.reg_c.specs.declared.holding.Held.{Held}
@@ -65,13 +67,21 @@ abbrev pub Steps : Option Event → Held → Held → ℕ → Type 0
 Steps None old new code = (code ≡ no_event) × (new ≡ old)
 Steps (Some e) old new code = GoesIn e old.world new.world new.reply code × (new.order ≡ old.order) × (new.points ≡ old.points)
 
--- The ids are a serial order of the world's history, and the points a point order of it under the front end that has
--- one, else none.
+-- the ids are those of `World::witness`, a serial order of the world's history
+abbrev pub IsOrder : (Op → ℕ → Start) → Made → List OpId → Type 0
+IsOrder start w ids = IsSerial w.registers w.history ids × IsWitness (run_of w.registers (run_in start w)) ids
+
+-- the points are those of `World::points`, a point order of the world's history
+abbrev pub HasPoints : (Op → ℕ → Start) → Made → List Point → Type 0
+HasPoints start w points = IsPointOrder w.registers w.history points × ArePoints (run_of w.registers (run_in start w)) points
+
+-- What was asked of the order: the world's serial order, and under the front end that has one its point order, else no
+-- point; and nothing where the world was closed.
 abbrev pub HasOrders : Kept → List OpId → List Point → Type 0
-HasOrders (Linear w) ids points = IsSerial w.registers w.history ids × IsPointOrder w.registers w.history points
-HasOrders (LocalRead w) ids points = IsSerial w.registers w.history ids × (points ≡ [])
-HasOrders (LocalWrite w) ids points = IsSerial w.registers w.history ids × (points ≡ [])
-HasOrders Closed ids points = Unit {0}
+HasOrders (Linear w) ids points = IsOrder linear w ids × HasPoints linear w points
+HasOrders (LocalRead w) ids points = IsOrder local_read w ids × (points ≡ [])
+HasOrders (LocalWrite w) ids points = IsOrder local_write w ids × (points ≡ [])
+HasOrders Closed ids points = (ids ≡ []) × (points ≡ [])
 
 -- What a caller looks at, by a number
 

@@ -4,7 +4,7 @@ ghost use Rattle.reg_checkers.specs.Orders.{IsSerial, IsPointOrder};
 ghost use Rattle.reg_world.specs.declared.faults.WorldFault.{WorldFault};
 ghost use Rattle.reg_c.specs.declared.holding.Kept.{Kept};
 ghost use Rattle.reg_c.specs.Events.{event_of, fault_code};
-ghost use Rattle.reg_c.specs.Worlds.{Goes, GoesIn, HasOrders, Steps, events_in, history_in, kept_at_first, looked, number_of, refusal_of, unmade};
+ghost use Rattle.reg_c.specs.Worlds.{Goes, GoesIn, HasOrders, HasPoints, IsOrder, Steps, events_in, history_in, kept_at_first, looked, number_of, refusal_of, unmade};
 
 use crate::events::{code_of_fault, code_of_reply, event, value_of_answer};
 use crate::looking::{Look, look_at, of_entry, of_id, of_point};
@@ -132,7 +132,7 @@ pub fn step(held: &mut Held, kind: u32, process: u8, number: u32, from: u8, valu
 
 /// A serial order of the world's history, None where memory is refused.
 fn serial<F: FrontEnd>(world: &Packed<F>) -> Option<Vec<OpId>>
-    ensures { IfSome result (λ ids. IsSerial world.now.registers world.now.history ids.items) }
+    ensures { IfSome result (λ ids. IsOrder F.start world.now ids.items) }
 {
     match world.serial_order() {
         Ok((_, ids)) => Some(ids),
@@ -142,7 +142,7 @@ fn serial<F: FrontEnd>(world: &Packed<F>) -> Option<Vec<OpId>>
 
 /// A point order of the world's history, None where memory is refused.
 fn points<F: RealTime>(world: &Packed<F>) -> Option<Vec<Point>>
-    ensures { IfSome result (λ points. IsPointOrder world.now.registers world.now.history points.items) }
+    ensures { IfSome result (λ points. HasPoints F.start world.now points.items) }
 {
     match world.linearization() {
         Ok((_, points)) => Some(points),

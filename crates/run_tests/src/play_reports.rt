@@ -2,7 +2,7 @@
 use crate::commands::{Given, gives};
 use crate::plays::SMALL;
 use crate::replay_reports::has_report;
-use crate::streams::{demand_each_growth, demand_failing_streams};
+use crate::streams::demand_each_growth;
 use reg_commands::Command;
 use std::alloc::{AllocError, Global};
 
@@ -370,9 +370,8 @@ fn documents_are_refused(rt: HostRuntime) {
 }
 
 #[test]
-fn a_play_with_failing_streams(rt: HostRuntime) {
+fn a_play_with_each_growth_refused(rt: HostRuntime) {
     let report = joined(rt.alloc(), SMALL_HEAD, FAIR).expect(&rt, "memory");
     let command = Command::Play { fair: true };
-    demand_failing_streams(&rt, rt.alloc(), command, SMALL, report.as_str());
     demand_each_growth(&rt, rt.alloc(), command, SMALL, report.as_str());
 }

@@ -1,7 +1,5 @@
-//! Schedules that are refused, and the limits and streams of a replay.
+//! Schedules that are refused, and the limits of a replay.
 use crate::commands::{Given, gives};
-use crate::report_texts::ONE_PROCESS_NOW;
-use crate::streams::{demand_each_growth, demand_failing_streams};
 use reg_commands::Command;
 use std::alloc::{AllocError, Global};
 
@@ -69,11 +67,4 @@ fn a_process_calls_as_many_operations_as_it_may(rt: HostRuntime) {
 fn a_schedule_has_as_many_events_as_it_may(rt: HostRuntime) {
     let line = "line 1048580: range\n";
     assert!(rt; are_too_many(rt.alloc(), "tick 0\n", 1_048_577, line));
-}
-
-#[test]
-fn a_replay_with_failing_streams(rt: HostRuntime) {
-    let (schedule, report) = (ONE_PROCESS_SCHEDULE, ONE_PROCESS_NOW);
-    demand_failing_streams(&rt, rt.alloc(), Command::Replay, schedule, report);
-    demand_each_growth(&rt, rt.alloc(), Command::Replay, schedule, report);
 }

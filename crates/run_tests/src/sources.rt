@@ -1,8 +1,8 @@
 //! The readers that the tests hand to a command.
 use std::io;
-use std::io::{ErrorKind, Read};
+use std::io::Read;
 
-/// Gives a text in two parts, at most `most` bytes a read. After `before` reads it fails `times` times.
+/// Gives a text in two parts, at most `most` bytes a read.
 #[derive(Drop)]
 pub(crate) struct Source<'a> {
     pub(crate) bytes: &'a [u8],
@@ -10,10 +10,6 @@ pub(crate) struct Source<'a> {
     pub(crate) rest: &'a [u8],
     /// The most bytes of a read.
     pub(crate) most: usize,
-    /// How many reads are left before it fails.
-    pub(crate) before: u32,
-    pub(crate) times: u32,
-    pub(crate) kind: ErrorKind,
 }
 
 /// A text in two parts, which is read whole.
@@ -22,19 +18,11 @@ pub(crate) fn whole<'a>(bytes: &'a [u8], rest: &'a [u8]) -> Source<'a> {
         bytes,
         rest,
         most: usize::MAX,
-        before: u32::MAX,
-        times: 0,
-        kind: ErrorKind::Other,
     }
 }
 
 impl Read for Source<'_> {
     fn read(&mut self, buf: &mut [u8]) -> io::Result<usize> {
-        if self.before == 0 && self.times > 0 {
-            self.times -= 1;
-            return Err(io::Error::from(self.kind));
-        }
-        self.before = self.before.saturating_sub(1);
         if self.bytes.is_empty() {
             self.bytes = self.rest;
             self.rest = &[];
