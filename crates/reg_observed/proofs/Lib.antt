@@ -1,0 +1,3 @@
+pub mod Utf8
+pub mod Numbering
+pub mod Hearing

@@ -1,0 +1,4 @@
+pub mod Told
+pub mod JsonLines
+pub mod Heard
+pub mod Reading

@@ -1,0 +1,38 @@
+//! What a history tells: events of calls, in the order of its lines.
+
+/// What an event tells of a call.
+#[derive(Clone, Copy, Debug, PartialEq, Eq)]
+pub enum Moment {
+    /// The call was made.
+    Invoke,
+    /// It was answered.
+    Ok,
+    /// It was answered, and did not happen.
+    Fail,
+    /// Nothing is known: it may have taken effect, may do so later, or never.
+    Info,
+}
+
+/// What a call is for.
+#[derive(Clone, Copy, Debug, PartialEq, Eq)]
+pub enum Act {
+    /// It asks for the register's value.
+    Read,
+    /// It replaces the register's value.
+    Write,
+    /// It replaces the register's value, and asks for the old one.
+    Swap,
+}
+
+/// An event of a call. Processes, keys and values are numbered, each in the order in which they are first told of.
+#[derive(Clone, Copy, Debug, PartialEq, Eq)]
+pub struct Event {
+    /// The line, from 1, that tells of it.
+    pub line: u32,
+    pub process: u32,
+    pub moment: Moment,
+    pub act: Act,
+    pub key: u32,
+    /// What is written, or what was answered.
+    pub value: u32,
+}

@@ -1,0 +1,17 @@
+//! Histories as clients of any system write them down, the history of registers that each stands for, and the command
+//! that judges it.
+#![tactic(auto)]
+
+mod events;
+mod faults;
+mod heard;
+mod json_lines;
+mod reading;
+mod told;
+mod words;
+
+pub use events::{Act, Event, Moment};
+pub use faults::{ReadFault, Why};
+pub use heard::{Heard, Vocabulary};
+pub use reading::read_json_lines;
+pub use words::Words;

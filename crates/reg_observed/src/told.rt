@@ -1,0 +1,23 @@
+//! What a line tells, in words of the line.
+use crate::events::{Act, Moment};
+use std::marker::Model;
+
+/// An event of a call. Process, key and value are the texts that JSON has of them: two are the same where their texts
+/// are.
+#[derive(Drop)]
+pub(crate) struct Told {
+    pub process: String,
+    pub moment: Moment,
+    pub act: Act,
+    pub key: String,
+    pub value: String,
+}
+
+impl Model for Told {
+    ghost use Rattle.std.specs.Prelude.{string_bytes};
+    ghost use Rattle.reg_observed.specs.Told.{Telling};
+
+    ghost Value = { Telling };
+
+    ghost view = { λ t. record { process = string_bytes t.process; moment = t.moment; act = t.act; key = string_bytes t.key; value = string_bytes t.value } };
+}
