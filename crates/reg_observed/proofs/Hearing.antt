@@ -7,7 +7,8 @@ use Rattle.reg_observed.specs.declared.heard.Vocabulary.{Vocabulary}
 use Rattle.reg_observed.specs.Told.{Telling}
 use Rattle.reg_observed.specs.Heard.{Extends, Widens, Speaks}
 use Rattle.reg_observed.specs.JsonLines.{line_says}
-use Rattle.reg_observed.specs.Reading.{Tellings, in_front, after_line, lines_tell, AreEvents}
+use Rattle.reg_observed.specs.Reading.{Tellings, in_front, after_line, lines_tell, AreEvents, Hears, Nothing, Call}
+use Rattle.reg_observed.specs.declared.heard.Heard.{Heard as Told}
 
 -- a number keeps its word
 kept : (xs ys : List (List ℕ)) (i : ℕ) (x : List ℕ) → slice_get xs i ≡ Some x → slice_get (xs ++ ys) i ≡ Some x
@@ -84,3 +85,30 @@ heard_first v first all = record { told = []; are = tt; whole = refl }
 pub heard_all : (v : Vocabulary) (events : List Event) (first : ℕ) (all : List (List ℕ)) (next : ℕ) (left : List (List ℕ)) → Heard v events first all next left → left ≡ [] → (told : List (ℕ × Telling)) × (lines_tell first all ≡ Ok told) × AreEvents v told events
 unfolding lines_tell
 heard_all v events first all next left heard e = (heard.told, heard.whole ∙ (ap (λ l. all_in_front heard.told (lines_tell next l)) e ∙ front_all heard.told), heard.are)
+
+-- one more line
+pub heard_more : (old new : Told) (first : ℕ) (all : List (List ℕ)) (next : ℕ) (lines : List (List ℕ)) (line : List ℕ) (left : List (List ℕ)) (o : Option Telling) → Heard old.words old.events.items first all next lines → lines ≡ line ∷ left
+    → line_says line ≡ Ok o → Hears old new next o → Heard new.words new.events.items first all (next + 1) left
+heard_more old new first all next lines line left o heard e says hears = go o hears says
+  where
+    here : Heard old.words old.events.items first all next (line ∷ left)
+    here = let P : List (List ℕ) → Type 0 = λ l. Heard old.words old.events.items first all next l in subst P e heard
+
+    go : (o : Option Telling) → Hears old new next o → line_says line ≡ Ok o → Heard new.words new.events.items first all (next + 1) left
+    go None (Nothing same) says =
+        let P : Told → Type 0 = λ h. Heard h.words h.events.items first all (next + 1) left in
+        subst P (sym same) (heard_none old.words old.events.items first all next line left here says)
+    go (Some told) (Call e wider s grown) says = heard_one old.words old.events.items first all next line left here new.words told e new.events.items says wider s grown
+
+-- the next line is refused
+pub refused_next : (v : Vocabulary) (events : List Event) (first : ℕ) (all : List (List ℕ)) (next : ℕ) (lines : List (List ℕ)) (line : List ℕ) (left : List (List ℕ)) (why : Why) → Heard v events first all next lines → lines ≡ line ∷ left
+    → line_says line ≡ Err why → lines_tell first all ≡ Err (next, why)
+refused_next v events first all next lines line left why heard e says =
+    let P : List (List ℕ) → Type 0 = λ l. Heard v events first all next l in
+    refused_here v events first all next line left (subst P e heard) why says
+
+pub hears_nothing : (h : Told) (number : ℕ) (o : Option Telling) → o ≡ None → Hears h h number o
+hears_nothing h number o e = let P : Option Telling → Type 0 = λ o. Hears h h number o in subst P (sym e) (Nothing refl)
+
+pub hears_call : (old new : Told) (number : ℕ) (o : Option Telling) (told : Telling) (e : Event) → o ≡ Some told → Widens old.words new.words → Speaks new.words (number, told) e → new.events.items ≡ old.events.items ++ e ∷ [] → Hears old new number o
+hears_call old new number o told e is wider s grown = let P : Option Telling → Type 0 = λ o. Hears old new number o in subst P (sym is) (Call e wider s grown)

@@ -9,7 +9,7 @@ use Rattle.reg_observed.specs.declared.events.Moment.{Moment}
 use Rattle.reg_observed.specs.declared.events.Act.{Act}
 use Rattle.reg_observed.specs.declared.faults.Why.{Why}
 use Rattle.reg_observed.specs.declared.faults.Why.TheVariants.{Form, BadProcess, BadType, BadFunction, BadKey, BadValue}
-use Rattle.reg_observed.specs.Told.{Telling, moment_named, act_named, ◌>>=◌}
+use Rattle.reg_observed.specs.Told.{Telling, moment_named, act_named, with_value, ◌>>=◌}
 
 -- a string, or an integer of 64 bits
 abbrev pub is_word : Data → Bool
@@ -68,7 +68,7 @@ told_in d = do
   act ← act_in d
   key ← named_or_null (codes "key") BadKey d
   value ← named_or_null (codes "value") BadValue d
-  Ok (record { process = process; moment = moment; act = act; key = key; value = value })
+  with_value (record { process = process; moment = moment; act = act; key = key; value = value })
 
 -- what the value tells, and nothing where it is of no call
 unfoldable pub call_in : Data → Result (Option Telling) Why

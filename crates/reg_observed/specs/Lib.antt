@@ -2,3 +2,4 @@ pub mod Told
 pub mod JsonLines
 pub mod Heard
 pub mod Reading
+pub mod Turns

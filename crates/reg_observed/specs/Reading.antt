@@ -4,8 +4,9 @@ use Rattle.std.specs.List.{AllZip}
 use Rattle.reg_observed.specs.declared.events.Event.{Event}
 use Rattle.reg_observed.specs.declared.faults.Why.{Why}
 use Rattle.reg_observed.specs.declared.heard.Vocabulary.{Vocabulary}
+use Rattle.reg_observed.specs.declared.heard.Heard.{Heard}
 use Rattle.reg_observed.specs.Told.{Telling}
-use Rattle.reg_observed.specs.Heard.{Speaks}
+use Rattle.reg_observed.specs.Heard.{Speaks, Widens}
 use Rattle.reg_observed.specs.JsonLines.{line_says}
 
 -- what is told, each with the number of its line; or the first line that is refused, and why
@@ -31,3 +32,8 @@ lines_tell number (line ∷ lines) = after_line number (line_says line) (lines_t
 -- these events are what is told, with words under their numbers
 abbrev pub AreEvents : Vocabulary → List (ℕ × Telling) → List Event → Type 0
 AreEvents v tellings events = AllZip (Speaks v) tellings events
+
+-- One more line was heard: it tells nothing, and nothing changes; or it tells of this call, and its event comes last.
+pub data Hears (old new : Heard) (number : ℕ) : Option Telling → Type 0 where
+  Nothing : new ≡ old → Hears old new number None
+  Call : {told : Telling} (e : Event) → Widens old.words new.words → Speaks new.words (number, told) e → new.events.items ≡ old.events.items ++ e ∷ [] → Hears old new number (Some told)

@@ -1,12 +1,12 @@
 -- What a line of a history tells. To be believed: promises speak of it.
-use Rattle.std.specs.Prelude.{ℕ, ◌≡◌, List, codes, Option, Some, None, Result, Ok, Err, if◌then◌else◌}
+use Rattle.std.specs.Prelude.{ℕ, ◌≡◌, ◌&&◌, Bool, true, false, not, List, codes, Option, Some, None, Result, Ok, Err, if◌then◌else◌}
 use Rattle.std.specs.Str.{bytes_eq}
 use Rattle.reg_observed.specs.declared.events.Moment.{Moment}
 use Rattle.reg_observed.specs.declared.events.Moment.TheVariants as moments
 use Rattle.reg_observed.specs.declared.events.Act.{Act}
 use Rattle.reg_observed.specs.declared.events.Act.TheVariants.{Read, Write, Swap}
 use Rattle.reg_observed.specs.declared.faults.Why.{Why}
-use Rattle.reg_observed.specs.declared.faults.Why.TheVariants.{BadFunction, Cas}
+use Rattle.reg_observed.specs.declared.faults.Why.TheVariants.{BadFunction, Cas, NoValue}
 use Rattle.reg_observed.specs.declared.faults.Untold.{Untold}
 use Rattle.reg_observed.specs.declared.faults.Untold.TheVariants as untold
 
@@ -47,3 +47,19 @@ act_named name =
     if bytes_eq name (codes "write") then Ok Write else
     if bytes_eq name (codes "swap") then Ok Swap else
     if bytes_eq name (codes "cas") then Err Cas else Err BadFunction
+
+abbrev pub is_invoke : Moment → Bool
+is_invoke moments.Invoke = true
+is_invoke _ = false
+
+abbrev pub is_read : Act → Bool
+is_read Read = true
+is_read _ = false
+
+-- the call of a write or a swap of null
+abbrev pub has_no_value : Moment → Act → List ℕ → Bool
+has_no_value moment act value = is_invoke moment && not (is_read act) && bytes_eq value (codes "null")
+
+-- a write or a swap is called with a value
+abbrev pub with_value : Telling → Result Telling Why
+with_value t = if has_no_value t.moment t.act t.value then Err NoValue else Ok t

@@ -26,6 +26,18 @@ pub enum Why {
     /// The value is neither an integer of 64 bits nor a string nor null.
     #[error("wanted value, an integer, a string or null")]
     BadValue,
+    /// A write or a swap is called with no value.
+    #[error("wanted value, what is written")]
+    NoValue,
+    /// A process calls while it has a call under way.
+    #[error("the process has a call under way")]
+    Busy,
+    /// A process is told of an end while it has no call under way.
+    #[error("the process has no call under way")]
+    Idle,
+    /// The end is of another operation, or at another key, than the call that its process has under way.
+    #[error("the process has another call under way")]
+    Other,
 }
 
 /// Why nothing is told of a line.

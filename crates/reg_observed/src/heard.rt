@@ -1,5 +1,5 @@
 //! Events that were heard, with their words under numbers.
-ghost use Rattle.std.specs.Prelude.{◌≡◌, OnOk, IfOk, IfErr};
+ghost use Rattle.std.specs.Prelude.{◌≡◌, [], OnOk, IfOk, IfErr};
 ghost use Rattle.reg_observed.specs.Heard.{Speaks, Widens};
 
 use crate::events::Event;
@@ -57,4 +57,16 @@ impl Vocabulary {
 pub struct Heard {
     pub words: Vocabulary,
     pub events: Vec<Event>,
+}
+
+impl Heard {
+    /// Nothing was told yet.
+    pub(crate) fn new(global: Global) -> Heard
+        ensures { result.events.items ≡ [] }
+    {
+        Heard {
+            words: Vocabulary::new(global),
+            events: Vec::new(global),
+        }
+    }
 }

@@ -4,7 +4,7 @@ ghost use Rattle.std.specs.Str.{bytes_eq};
 ghost use Rattle.serde_json.specs.Find.{as_str, get};
 ghost use Rattle.serde_json.specs.View.{view};
 ghost use Rattle.serde_json.specs.Written.{compact_text};
-ghost use Rattle.reg_observed.specs.Told.{Gives, act_named, moment_named};
+ghost use Rattle.reg_observed.specs.Told.{Gives, act_named, has_no_value, moment_named};
 ghost use Rattle.reg_observed.specs.JsonLines.{act_in, call_in, line_says, is_named, is_nemesis, is_word, moment_in, named_or_null, told_in, word_in};
 
 use crate::events::{Act, Moment};
@@ -47,6 +47,13 @@ fn act_of(name: &str) -> Result<Act, Why>
         return Err(Why::Cas);
     }
     Err(Why::BadFunction)
+}
+
+/// Whether it is the call of a write or a swap of null.
+pub(crate) fn lacks_value(moment: Moment, act: Act, value: &str) -> bool
+    ensures { result ≡ has_no_value moment act value.now }
+{
+    moment == Moment::Invoke && act != Act::Read && value == "null"
 }
 
 /// Whether the value is a string, or an integer of 64 bits.
@@ -131,6 +138,9 @@ fn told(global: Global, value: &Value) -> Result<Told, Untold>
     let act = act(value)?;
     let key = word_or_null(global, value, "key", Why::BadKey)?;
     let value = word_or_null(global, value, "value", Why::BadValue)?;
+    if lacks_value(moment, act, value.as_str()) {
+        return Err(Untold::Line(Why::NoValue));
+    }
     Ok(Told {
         process,
         moment,

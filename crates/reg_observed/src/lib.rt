@@ -8,6 +8,7 @@ mod heard;
 mod json_lines;
 mod reading;
 mod told;
+mod turns;
 mod words;
 
 pub use events::{Act, Event, Moment};

@@ -1,16 +1,66 @@
 //! Reading a history of JSON lines.
-ghost use Rattle.std.specs.Prelude.{◌≡◌, ◌⊎◌, ◌<◌, ℕ, List, Ok, Err, IfOk, IfErr, OnOk, length};
+ghost use Rattle.std.specs.Prelude.{◌≡◌, ◌⊎◌, ◌<◌, ◌+◌, [], ℕ, List, Ok, Err, IfOk, IfErr, OnOk, length};
 ghost use Rattle.reg_text.specs.Lines.{lines_of};
-ghost use Rattle.reg_observed.specs.Told.{Gives, Telling};
-ghost use Rattle.reg_observed.specs.Reading.{AreEvents, lines_tell};
+ghost use Rattle.reg_observed.specs.Told.{Telling};
+ghost use Rattle.reg_observed.specs.JsonLines.{line_says};
+ghost use Rattle.reg_observed.specs.Reading.{AreEvents, Hears, lines_tell};
 ghost use Rattle.reg_observed.specs.declared.faults.Why.{Why as AnyWhy};
 
 use crate::faults::{ReadFault, Untold};
-use crate::heard::{Heard, Vocabulary};
+use crate::heard::Heard;
 use crate::json_lines::read_line;
+use crate::told::Told;
 use reg_base::limits::MOST_EVENTS;
 use reg_text::Lines;
 use std::alloc::Global;
+
+/// Adds what was told on the line of this number, where it is of a call.
+fn add(heard: &mut Heard, number: u32, told: Option<Told>) -> Result<(), ReadFault>
+    ensures told { OnOk result (Hears heard.old heard.new number told) }
+    ensures why { IfErr result (λ f. f ≡ ReadFault.OutOfMemory) }
+{
+    match told {
+        Some(told) => {
+            let event = heard.words.event(number, told)?;
+            heard.events.push(event)?;
+            Ok(())
+        }
+        None => Ok(()),
+    }
+}
+
+/// What the line of this number tells, None where it tells of no call.
+fn tell(global: Global, number: u32, line: &[u8]) -> Result<Option<Told>, ReadFault>
+    ensures told { IfOk result (λ o. line_says line.now ≡ Ok o) }
+    ensures why { IfErr result (λ f. (f ≡ ReadFault.OutOfMemory) ⊎ ((why : AnyWhy) × (f ≡ ReadFault.Line number why) × (line_says line.now ≡ Err why))) }
+{
+    match read_line(global, line) {
+        Ok(told) => Ok(told),
+        Err(Untold::Line(why)) => Err(ReadFault::Line { line: number, why }),
+        Err(Untold::OutOfMemory) => Err(ReadFault::OutOfMemory),
+    }
+}
+
+/// Adds all that the lines tell.
+fn hear(global: Global, lines: &mut Lines<'_>, heard: &mut Heard) -> Result<(), ReadFault>
+    requires { heard.old.events.items ≡ [] }
+    ensures read { OnOk result ((told : List (ℕ × Telling)) × (lines_tell 1 lines.old.left ≡ Ok told) × AreEvents heard.new.words told heard.new.events.items) }
+    ensures refused { IfErr result (λ f. (f ≡ ReadFault.OutOfMemory) ⊎ ((f ≡ ReadFault.TooLong) × (MOST_EVENTS < length lines.old.left)) ⊎ ((line : ℕ) × (why : AnyWhy) × (f ≡ ReadFault.Line line why) × (lines_tell 1 lines.old.left ≡ Err (line, why)))) }
+{
+    for place in 0..MOST_EVENTS {
+        let Some(line) = lines.next() else {
+            return Ok(());
+        };
+        match tell(global, place + 1, line) {
+            Ok(told) => add(heard, place + 1, told)?,
+            Err(fault) => return Err(fault),
+        }
+    }
+    match lines.next() {
+        Some(_) => Err(ReadFault::TooLong),
+        None => Ok(()),
+    }
+}
 
 /// The history that the lines of a text tell, each of them JSON.
 ///
@@ -21,30 +71,8 @@ pub fn read_json_lines(global: Global, text: &str) -> Result<Heard, ReadFault>
     ensures read { IfOk result (λ h. (told : List (ℕ × Telling)) × (lines_tell 1 (lines_of text.now) ≡ Ok told) × AreEvents h.words told h.events.items) }
     ensures refused { IfErr result (λ f. (f ≡ ReadFault.OutOfMemory) ⊎ ((f ≡ ReadFault.TooLong) × (MOST_EVENTS < length (lines_of text.now))) ⊎ ((line : ℕ) × (why : AnyWhy) × (f ≡ ReadFault.Line line why) × (lines_tell 1 (lines_of text.now) ≡ Err (line, why)))) }
 {
-    let mut words = Vocabulary::new(global);
-    let mut events = Vec::new(global);
+    let mut heard = Heard::new(global);
     let mut lines = Lines::new(text.as_bytes());
-    for place in 0..MOST_EVENTS {
-        let Some(line) = lines.next() else {
-            return Ok(Heard { words, events });
-        };
-        match read_line(global, line) {
-            Ok(None) => {}
-            Ok(Some(told)) => {
-                let event = words.event(place + 1, told)?;
-                events.push(event)?;
-            }
-            Err(Untold::Line(why)) => {
-                return Err(ReadFault::Line {
-                    line: place + 1,
-                    why,
-                });
-            }
-            Err(Untold::OutOfMemory) => return Err(ReadFault::OutOfMemory),
-        }
-    }
-    match lines.next() {
-        Some(_) => Err(ReadFault::TooLong),
-        None => Ok(Heard { words, events }),
-    }
+    hear(global, &mut lines, &mut heard)?;
+    Ok(heard)
 }

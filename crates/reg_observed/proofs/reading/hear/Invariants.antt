@@ -1,0 +1,9 @@
+use Rattle.std.proofs.Common.{◌+◌, ◌≡◌, length}
+use Rattle.reg_observed.proofs.Hearing.{Heard}
+use Rattle.reg_observed.proofs.reading.hear.Given as goal
+
+abbrev pub invariant-loop-place : goal.invariant-loop-place
+invariant-loop-place l = record {
+  heard : Heard l.heard.words l.heard.events.items 1 l.initial.lines.left (l.place + 1) l.lines.left;
+  passed : length l.initial.lines.left ≡ l.place + length l.lines.left;
+}
