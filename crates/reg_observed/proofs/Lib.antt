@@ -1,3 +1,4 @@
 pub mod Utf8
 pub mod Numbering
 pub mod Hearing
+pub mod Turning

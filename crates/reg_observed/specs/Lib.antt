@@ -3,3 +3,4 @@ pub mod JsonLines
 pub mod Heard
 pub mod Reading
 pub mod Turns
+pub mod Rows

@@ -1,0 +1,61 @@
+-- The calls and answers that make a history. To be believed: promises speak of it.
+use Rattle.std.specs.Prelude.{ℕ, ◌≡◌, ◌+◌, ◌==◌, nat_eq, Bool, true, false, not, List, [], ◌∷◌, Option, Some, None, option_map, if◌then◌else◌}
+use Rattle.std.specs.List.{find}
+use Rattle.reg_base.specs.declared.memory.Answer.{Answer as Reply}
+use Rattle.reg_base.specs.declared.memory.Answer.TheVariants.{Done, Value}
+use Rattle.reg_observed.specs.declared.events.Event.{Event}
+use Rattle.reg_observed.specs.declared.events.Moment.{Moment}
+use Rattle.reg_observed.specs.declared.events.Moment.TheVariants.{Invoke, Ok, Fail, Info}
+use Rattle.reg_observed.specs.declared.events.Act.{Act}
+use Rattle.reg_observed.specs.declared.events.Act.TheVariants.{Read, Write, Swap}
+use Rattle.reg_observed.specs.declared.rows.Step.{Step}
+use Rattle.reg_observed.specs.declared.rows.Step.TheVariants.{Call, Answer}
+use Rattle.reg_observed.specs.declared.rows.Row.{Row}
+use Rattle.reg_observed.specs.Told.{is_read}
+
+-- The number of a value in registers: the first value is 0, and no two values have the same.
+abbrev pub numbered : ℕ → ℕ → ℕ
+numbered first value = if nat_eq value first then 0 else if nat_eq value 0 then first else value
+
+-- what is told next of a process
+abbrev pub next_of : ℕ → List Event → Option Moment
+next_of process events = option_map (λ e. e.moment) (find (λ e. nat_eq e.process process) events)
+
+-- Whether a call may have taken effect, where this is told next of its process. What was answered has. What failed has
+-- not. Of any other call nothing is known: an update may have, or do so later, and a read is left out.
+abbrev pub counts : Event → Option Moment → Bool
+counts call (Some Ok) = true
+counts call (Some Fail) = false
+counts call (Some Invoke) = not (is_read call.act)
+counts call (Some Info) = not (is_read call.act)
+counts call None = not (is_read call.act)
+
+abbrev pub answer_to : Act → ℕ → Reply
+answer_to Read value = Value value
+answer_to Write value = Done
+answer_to Swap value = Value value
+
+abbrev pub answer_in : ℕ → Event → Reply
+answer_in first event = answer_to event.act (numbered first event.value)
+
+abbrev pub step_at : Moment → ℕ → Event → Option Moment → Option Step
+step_at Invoke first event next = if counts event next then Some (Call event.act (numbered first event.value)) else None
+step_at Ok first event next = Some (Answer (answer_in first event))
+step_at Fail first event next = None
+step_at Info first event next = None
+
+-- what an event means, where this is told next of its process
+abbrev pub step_of : ℕ → Event → Option Moment → Option Step
+step_of first event next = step_at event.moment first event next
+
+abbrev pub row_of : ℕ → ℕ → Event → Option Moment → Option Row
+row_of first at event next = option_map (λ step. record { at = at; process = event.process; key = event.key; step = step }) (step_of first event next)
+
+abbrev pub row_before : Option Row → List Row → List Row
+row_before None rows = rows
+row_before (Some row) rows = row ∷ rows
+
+-- the calls and answers of these events, the first of which has this number
+unfoldable pub rows_from : ℕ → ℕ → List Event → List Row
+rows_from first at [] = []
+rows_from first at (event ∷ events) = row_before (row_of first at event (next_of event.process events)) (rows_from first (at + 1) events)
