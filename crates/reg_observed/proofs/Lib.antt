@@ -2,3 +2,4 @@ pub mod Utf8
 pub mod Numbering
 pub mod Hearing
 pub mod Turning
+pub mod Rowing

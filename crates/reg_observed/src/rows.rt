@@ -1,6 +1,6 @@
 //! The calls and answers that make a history: of each event what it means, by how its call ends.
 ghost use Rattle.std.specs.Prelude.{◌≡◌, ◌<◌, ◌≤◌, ℕ, [], IfOk, OnOk, Some, length, reverse, slice_get};
-ghost use Rattle.reg_observed.specs.Rows.{answer_in, counts, numbered, row_of as row_of_event, rows_from, step_of as step_of_event};
+ghost use Rattle.reg_observed.specs.Rows.{answer_in, counts, numbered, row_before, row_of as row_of_event, rows_from, step_of as step_of_event};
 ghost use Rattle.reg_observed.specs.declared.events.Event.{Event as AnyEvent};
 
 use crate::events::{Act, Event, Moment};
@@ -90,6 +90,19 @@ fn row_of(first: u32, at: u32, event: Event, next: Option<Moment>) -> Option<Row
     })
 }
 
+/// Adds the row, if there is one.
+fn push_some(rows: &mut Vec<Row>, row: Option<Row>) -> Result<(), AllocError>
+    ensures { OnOk result (reverse rows.new.items ≡ row_before row (reverse rows.old.items)) }
+{
+    match row {
+        Some(row) => {
+            rows.push(row)?;
+            Ok(())
+        }
+        None => Ok(()),
+    }
+}
+
 /// Adds the rows of the events to `rows`, the last of them first.
 fn add_backwards(
     global: Global,
@@ -109,9 +122,7 @@ fn add_backwards(
         left -= 1;
         let event = events[left];
         let process = event.process as usize;
-        if let Some(row) = row_of(first, left as u32, event, next[process]) {
-            rows.push(row)?;
-        }
+        push_some(rows, row_of(first, left as u32, event, next[process]))?;
         next[process] = Some(event.moment);
     }
     Ok(())
