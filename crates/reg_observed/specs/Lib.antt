@@ -4,3 +4,4 @@ pub mod Heard
 pub mod Reading
 pub mod Turns
 pub mod Rows
+pub mod Standing
