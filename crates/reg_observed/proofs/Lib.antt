@@ -3,3 +3,4 @@ pub mod Numbering
 pub mod Hearing
 pub mod Turning
 pub mod Rowing
+pub mod Seating

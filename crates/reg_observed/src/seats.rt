@@ -65,15 +65,21 @@ fn op_of(act: Act, key: u32, value: u64) -> Op
     }
 }
 
+fn none_held(global: Global, processes: usize) -> Result<Vec<Option<OpId>>, AllocError>
+    ensures { IfOk result (λ v. v.items ≡ no_names processes) }
+{
+    let held = vec![in global; None; processes]?;
+    Ok(held)
+}
+
 impl Seats {
     fn new(global: Global, processes: usize) -> Result<Seats, AllocError>
         ensures { IfOk result (λ s. s.held.items ≡ no_names processes) }
     {
-        Ok(Seats {
-            next: vec![in global; 0; MOST_PROCESSES as usize]?,
-            busy: vec![in global; false; MOST_PROCESSES as usize]?,
-            held: vec![in global; None; processes]?,
-        })
+        let next = vec![in global; 0; MOST_PROCESSES as usize]?;
+        let busy = vec![in global; false; MOST_PROCESSES as usize]?;
+        let held = none_held(global, processes)?;
+        Ok(Seats { next, busy, held })
     }
 
     /// The first place at which no call is under way, and one more fits.
