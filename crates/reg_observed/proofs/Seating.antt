@@ -37,15 +37,6 @@ stands_more naming processes rows i d held after entries more lt before one =
     let P : List Row → Type 0 = λ l. Stands naming processes l after more in
     subst P (sym (take_more rows i d lt)) (More (get_or rows i d) before one)
 
--- what holds of each row holds of the row at a place
-pub key_within : (rows : List Row) (n i : ℕ) (d : Row) → ((k : ℕ) (r : Row) → slice_get rows k ≡ Some r → r.key < n) → i < length rows → (get_or rows i d).key < n
-key_within rows n i d all lt = all i (get_or rows i d) (slice_get-get_or rows i d lt)
-
-pub process_within : (rows : List Row) (n len i : ℕ) (d : Row) → ((k : ℕ) (r : Row) → slice_get rows k ≡ Some r → r.process < n) → i < length rows → len ≡ n → (get_or rows i d).process < len
-process_within rows n len i d all lt is =
-    let less : (get_or rows i d).process < n = all i (get_or rows i d) (slice_get-get_or rows i d lt) in
-    omega arith
-
 pub stands_first : (naming : Naming) (processes : ℕ) (rows : List Row) (held : List (Option OpId)) (entries : List Entry) → held ≡ replicate processes None → entries ≡ [] → Stands naming processes (take 0 rows) held entries
 stands_first naming processes rows held entries h e =
     let P : List (Option OpId) → Type 0 = λ x. Stands naming processes [] x entries in

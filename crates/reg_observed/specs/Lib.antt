@@ -5,3 +5,5 @@ pub mod Reading
 pub mod Turns
 pub mod Rows
 pub mod Standing
+pub mod Verdicts
+pub mod Faults

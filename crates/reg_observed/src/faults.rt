@@ -1,4 +1,5 @@
 //! Why a history is refused.
+use reg_outcomes::InterleavingFault;
 use std::alloc::{AllocError, AllocFailed};
 use thiserror::Error;
 
@@ -104,5 +105,75 @@ impl<T: Drop> From<AllocFailed<T>> for ReadFault {
 
     fn from(_error: AllocFailed<T>) -> ReadFault {
         ReadFault::OutOfMemory
+    }
+}
+
+/// Why a history is not judged.
+#[derive(Clone, Copy, Debug, PartialEq, Eq, Error)]
+pub enum JudgeFault {
+    /// The text tells no history, or its processes are not in turn.
+    #[error("{fault}")]
+    Read { fault: ReadFault },
+    /// There are more keys than `limits::MOST_REGISTERS`.
+    #[error("{count} keys, at most 4096 are judged")]
+    Keys { count: usize },
+    /// The call on this line finds no place: 64 calls are under way, or places had all the calls that they can.
+    #[error("line {line}: more than 64 calls under way")]
+    Full { line: u32 },
+    /// What this line tells may not come next.
+    #[error("line {line}: out of place")]
+    OutOfPlace { line: u32 },
+    /// The search for an order grew too wide.
+    #[error("too many stages")]
+    TooWide,
+    /// There was no memory for it.
+    #[error("out of memory")]
+    OutOfMemory,
+}
+
+impl From<ReadFault> for JudgeFault {
+    ghost use Rattle.std.specs.Prelude.{◌≡◌};
+    ghost use Rattle.reg_observed.specs.declared.faults.JudgeFault.TheVariants.{Read};
+
+    ghost from_gives = { λ fault told. told ≡ Read fault };
+
+    fn from(fault: ReadFault) -> JudgeFault {
+        JudgeFault::Read { fault }
+    }
+}
+
+impl From<AllocError> for JudgeFault {
+    ghost use Rattle.std.specs.Prelude.{◌≡◌};
+    ghost use Rattle.reg_observed.specs.declared.faults.JudgeFault.TheVariants.{OutOfMemory};
+
+    ghost from_gives = { λ _ told. told ≡ OutOfMemory };
+
+    fn from(_error: AllocError) -> JudgeFault {
+        JudgeFault::OutOfMemory
+    }
+}
+
+impl<T: Drop> From<AllocFailed<T>> for JudgeFault {
+    ghost use Rattle.std.specs.Prelude.{◌≡◌};
+    ghost use Rattle.reg_observed.specs.declared.faults.JudgeFault.TheVariants.{OutOfMemory};
+
+    ghost from_gives = { λ _ told. told ≡ OutOfMemory };
+
+    fn from(_error: AllocFailed<T>) -> JudgeFault {
+        JudgeFault::OutOfMemory
+    }
+}
+
+impl From<InterleavingFault> for JudgeFault {
+    ghost use Rattle.reg_observed.specs.Faults.{widened};
+    ghost use Rattle.std.specs.Prelude.{◌≡◌};
+
+    ghost from_gives = { λ fault told. told ≡ widened fault };
+
+    fn from(fault: InterleavingFault) -> JudgeFault {
+        match fault {
+            InterleavingFault::TooManyStages => JudgeFault::TooWide,
+            InterleavingFault::OutOfMemory => JudgeFault::OutOfMemory,
+        }
     }
 }

@@ -3,11 +3,10 @@ ghost use Rattle.std.specs.Prelude.{◌≡◌, ◌<◌, ◌++◌, ◌∷◌, [],
 ghost use Rattle.reg_observed.specs.Standing.{MayName, Stands, IsStood, OneMore, act_op, no_names};
 ghost use Rattle.reg_base.specs.declared.memory.OpId.{OpId as AnyId};
 ghost use Rattle.reg_checkers.specs.declared.entries.Entry.TheVariants.{Called, Answered};
-ghost use Rattle.reg_observed.specs.declared.rows.Row.{Row as AnyRow};
 
 use crate::events::Act;
 use crate::rows::{Row, Step};
-use reg_base::limits::{MOST_OPERATIONS, MOST_PROCESSES};
+use reg_base::limits::{MOST_OPERATIONS, MOST_PROCESSES, MOST_REGISTERS};
 use reg_base::{Answer, Op, OpId, Shape};
 use reg_checkers::{Entry, History, HistoryFault};
 use std::alloc::{AllocError, Allocator, Global};
@@ -203,11 +202,12 @@ fn add_row<A: Allocator + Copy>(
     naming: Naming,
     row: &Row,
 ) -> Result<(), Unseated>
-    requires process { row.now.process < length seats.old.held.items }
-    requires key { row.now.key < 65536 }
     ensures more { OnOk result (OneMore naming row.now seats.old.held.items history.old.entries seats.new.held.items history.new.entries) }
     ensures shape { history.new.shape ≡ history.old.shape }
 {
+    if row.process as usize >= seats.held.len() || row.key >= MOST_REGISTERS {
+        return Err(Unseated::OutOfPlace { at: row.at });
+    }
     match row.step {
         Step::Call { act, value } => add_call(
             history,
@@ -227,9 +227,7 @@ fn add_rows<A: Allocator + Copy>(
     processes: usize,
     rows: &[Row],
 ) -> Result<(), Unseated>
-    requires empty { history.old.entries ≡ [] }
-    requires processes { (k : ℕ) (r : AnyRow) → slice_get rows.now k ≡ Some r → r.process < processes }
-    requires keys { (k : ℕ) (r : AnyRow) → slice_get rows.now k ≡ Some r → r.key < 65536 }
+    requires { history.old.entries ≡ [] }
     ensures stands { OnOk result (IsStood naming processes rows.now history.new.entries) }
     ensures shape { history.new.shape ≡ history.old.shape }
 {
@@ -253,8 +251,6 @@ pub(crate) fn history_of<A: Allocator + Copy>(
     processes: usize,
     rows: &[Row],
 ) -> Result<History<A>, Unseated>
-    requires processes { (k : ℕ) (r : AnyRow) → slice_get rows.now k ≡ Some r → r.process < processes }
-    requires keys { (k : ℕ) (r : AnyRow) → slice_get rows.now k ≡ Some r → r.key < 65536 }
     ensures stands { IfOk result (λ h. IsStood naming processes rows.now h.entries) }
     ensures shape { IfOk result (λ h. h.shape ≡ shape) }
 {

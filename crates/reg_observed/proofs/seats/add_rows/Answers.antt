@@ -1,21 +1,15 @@
 use Rattle.std.proofs.Common.{◌≡◌, ap, sym, refl, ◌∙◌, subst, length, List}
 use Rattle.reg_observed.specs.declared.rows.Row.{Row}
 use Rattle.reg_observed.specs.Standing.{Stands}
-use Rattle.reg_observed.proofs.Seating.{as_many, key_within, length_replicate, process_within, stands_first, stands_more, take_all}
+use Rattle.reg_observed.proofs.Seating.{as_many, length_replicate, stands_first, stands_more, take_all}
 use Rattle.reg_observed.proofs.seats.add_rows.Goals as goal
 
 pub loop-row-init : goal.loop-row-init
 loop-row-init g c = record {
-  stands = stands_first c.args.naming c.args.processes c.args.rows.now c.in_ok-seats.seats.held.items c.args.history.now.entries c.in_ok-seats.ensures c.requires.empty;
+  stands = stands_first c.args.naming c.args.processes c.args.rows.now c.in_ok-seats.seats.held.items c.args.history.now.entries c.in_ok-seats.ensures c.requires;
   count = ap length c.in_ok-seats.ensures ∙ length_replicate c.args.processes _;
   shape = refl;
 }
-
-pub add_row-requires-clause-process : goal.add_row-requires-clause-process
-add_row-requires-clause-process g c = process_within c.args.rows.now c.args.processes _ c.loop-row.row-index _ c.requires.processes c.loop-row-test.true c.loop-row.invariant.count
-
-pub add_row-requires-clause-key : goal.add_row-requires-clause-key
-add_row-requires-clause-key g c = key_within c.args.rows.now _ c.loop-row.row-index _ c.requires.keys c.loop-row-test.true
 
 pub loop-row-preserved : goal.loop-row-preserved
 loop-row-preserved g c = record {
