@@ -1,5 +1,5 @@
 -- The calls and answers that make a history. To be believed: promises speak of it.
-use Rattle.std.specs.Prelude.{ℕ, ◌≡◌, ◌+◌, ◌==◌, nat_eq, Bool, true, false, not, List, [], ◌∷◌, Option, Some, None, option_map, if◌then◌else◌}
+use Rattle.std.specs.Prelude.{ℕ, ◌≡◌, ◌+◌, ◌&&◌, nat_eq, Bool, true, false, not, List, [], ◌∷◌, Option, Some, None, option_map, if◌then◌else◌}
 use Rattle.std.specs.List.{find}
 use Rattle.reg_base.specs.declared.memory.Answer.{Answer as Reply}
 use Rattle.reg_base.specs.declared.memory.Answer.TheVariants.{Done, Value}
@@ -12,6 +12,14 @@ use Rattle.reg_observed.specs.declared.rows.Step.{Step}
 use Rattle.reg_observed.specs.declared.rows.Step.TheVariants.{Call, Answer}
 use Rattle.reg_observed.specs.declared.rows.Row.{Row}
 use Rattle.reg_observed.specs.Told.{is_read}
+
+abbrev pub is_ok : Moment → Bool
+is_ok Ok = true
+is_ok _ = false
+
+abbrev pub is_write : Act → Bool
+is_write Write = true
+is_write _ = false
 
 -- The number of a value in registers: the first value is 0, and no two values have the same.
 abbrev pub numbered : ℕ → ℕ → ℕ
@@ -59,3 +67,12 @@ row_before (Some row) rows = row ∷ rows
 unfoldable pub rows_from : ℕ → ℕ → List Event → List Row
 rows_from first at [] = []
 rows_from first at (event ∷ events) = row_before (row_of first at event (next_of event.process events)) (rows_from first (at + 1) events)
+
+-- the answer tells of this value
+abbrev pub answers_this : ℕ → Event → Bool
+answers_this value event = is_ok event.moment && (not (is_write event.act) && nat_eq event.value value)
+
+-- the rows of a key, as if it were the only one
+unfoldable pub rows_of_key : ℕ → List Row → List Row
+rows_of_key key [] = []
+rows_of_key key (row ∷ rows) = if nat_eq row.key key then record row { key = 0 } ∷ rows_of_key key rows else rows_of_key key rows

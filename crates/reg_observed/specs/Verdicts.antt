@@ -1,27 +1,34 @@
 -- What is found out of a history. To be believed: promises speak of it.
-use Rattle.std.specs.Prelude.{ℕ, ◌≡◌, List, ⊤}
-use Rattle.std.specs.List.{AllZip}
+use Rattle.std.specs.Prelude.{ℕ, ◌≡◌, List, length, max, slice_get, Option, Some, None, codes, if◌then◌else◌, Vec, ⊤}
+use Rattle.std.specs.List.{list_any}
 use Rattle.reg_base.specs.declared.memory.OpId.{OpId}
 use Rattle.reg_checkers.specs.declared.entries.Entry.{Entry}
 use Rattle.reg_checkers.specs.declared.entries.Point.{Point}
 use Rattle.reg_checkers.specs.Orders.{IsPointOrder, IsSerial}
 use Rattle.reg_observed.specs.declared.judging.Ruling.{Ruling}
 use Rattle.reg_observed.specs.declared.judging.Ruling.TheVariants.{Linearizable, Not}
+use Rattle.reg_observed.specs.declared.judging.Verdict.{Verdict}
+use Rattle.reg_observed.specs.declared.heard.Heard.{Heard}
+use Rattle.reg_observed.specs.Told.{Telling}
+use Rattle.reg_observed.specs.Reading.{AreEvents}
+use Rattle.reg_observed.specs.Turns.{first_wrong, none_running}
 use Rattle.reg_observed.specs.declared.judging.Serial.{Serial}
 use Rattle.reg_observed.specs.declared.judging.Serial.TheVariants.{Yes, No, Unjudged, TooWide}
 use Rattle.reg_observed.specs.declared.rows.Row.{Row}
 use Rattle.reg_observed.specs.declared.search.Sought.{Sought}
 use Rattle.reg_observed.specs.declared.seats.Naming.TheVariants.{Any, Own}
+use Rattle.reg_observed.specs.declared.events.Event.{Event}
+use Rattle.reg_observed.specs.Rows.{answers_this, rows_from, rows_of_key}
 use Rattle.reg_observed.specs.Standing.{IsStood}
-use Rattle.reg_observed.specs.declared.search.Sought.TheVariants.{Points, None}
+use Rattle.reg_observed.specs.declared.search.Sought.TheVariants as sought
 
 abbrev pub HasNone : ℕ → List Entry → Type 0
 HasNone registers entries = (points : List Point) → ¬ IsPointOrder registers entries points
 
 -- a point order of the entries, or that there is none
 abbrev pub IsSought : {A : Type 0} → ℕ → List Entry → Sought A → Type 0
-IsSought registers entries (Points points) = IsPointOrder registers entries points.items
-IsSought registers entries (None place) = HasNone registers entries
+IsSought registers entries (sought.Points points) = IsPointOrder registers entries points.items
+IsSought registers entries (sought.None place) = HasNone registers entries
 
 -- of entries that have a point order, and of those that have none
 abbrev pub RulesEntries : List Entry → Ruling → Type 0
@@ -32,12 +39,56 @@ RulesEntries entries (Not at) = HasNone 1 entries
 abbrev pub IsRuled : ℕ → List Row → Ruling → Type 0
 IsRuled processes rows ruling = (entries : List Entry) × IsStood Any processes rows entries × RulesEntries entries ruling
 
-abbrev pub AreRuled : ℕ → List (List Row) → List Ruling → Type 0
-AreRuled processes parts rulings = AllZip (IsRuled processes) parts rulings
+-- of each key, by number
+pub record AreRuled (processes keys : ℕ) (rows : List Row) (rulings : List Ruling) : Type 0 where
+  pub all : length rulings ≡ keys
+  pub each : (key : ℕ) (ruling : Ruling) → slice_get rulings key ≡ Some ruling → IsRuled processes (rows_of_key key rows) ruling
+
+-- The number of the first value of registers: of this word; or else of null where some answer tells of null, and of 0
+-- where none does.
+abbrev pub IsFirst : Option (List ℕ) → List (List ℕ) → List Event → ℕ → Type 0
+IsFirst (Some word) values events first = slice_get values first ≡ Some word
+IsFirst None values events first = (null : ℕ) × (slice_get values null ≡ Some (codes "null")) × (slice_get values first ≡ Some (if list_any (answers_this null) events then codes "null" else codes "0"))
+
+-- how many registers there are for this many keys: at least one
+abbrev pub registers_for : ℕ → ℕ
+registers_for keys = max keys 1
 
 -- what is found out of rows under the numbers of their processes
-abbrev pub IsSerialOf : ℕ → List Row → Serial → Type 0
-IsSerialOf processes rows Yes = (entries : List Entry) × IsStood Own processes rows entries × ((registers : ℕ) × (ids : List OpId) × IsSerial registers entries ids)
-IsSerialOf processes rows No = (entries : List Entry) × IsStood Own processes rows entries × ((registers : ℕ) × ((ids : List OpId) → ¬ IsSerial registers entries ids))
-IsSerialOf processes rows Unjudged = ⊤
-IsSerialOf processes rows TooWide = ⊤
+abbrev pub IsSerialOf : ℕ → ℕ → List Row → Serial → Type 0
+IsSerialOf processes registers rows Yes = (entries : List Entry) × IsStood Own processes rows entries × ((ids : List OpId) × IsSerial registers entries ids)
+IsSerialOf processes registers rows No = (entries : List Entry) × IsStood Own processes rows entries × ((ids : List OpId) → ¬ IsSerial registers entries ids)
+IsSerialOf processes registers rows Unjudged = ⊤
+IsSerialOf processes registers rows TooWide = ⊤
+
+-- a point order, or that there is none
+abbrev pub AreSought : {A : Type 0} → ℕ → List Entry → Option (Vec Point A) → Type 0
+AreSought registers entries (Some points) = IsPointOrder registers entries points.items
+AreSought registers entries None = HasNone registers entries
+
+-- whether there is a serial order is found out where there is no point order, which would be one
+abbrev pub SerialStands : {A : Type 0} → ℕ → ℕ → List Row → Option (Vec Point A) → Option Serial → Type 0
+SerialStands processes registers rows (Some points) (Some serial) = ⊥
+SerialStands processes registers rows (Some points) None = ⊤
+SerialStands processes registers rows None None = ⊥
+SerialStands processes registers rows None (Some serial) = IsSerialOf processes registers rows serial
+
+-- What is found out of rows: of the history that they are under any names, of each key by itself, and of the history
+-- that they are under the numbers of their processes.
+pub record AreJudged {A : Type 0} (processes keys : ℕ) (rows : List Row) (v : Verdict A) : Type 0 where
+  pub stands : IsStood Any processes rows v.history.entries
+  pub registers : v.history.shape.registers ≡ registers_for keys
+  pub points : AreSought (registers_for keys) v.history.entries v.points
+  pub each : AreRuled processes keys rows v.keys.items
+  pub serial : SerialStands processes (registers_for keys) rows v.points v.serial
+
+-- the events are of something that is told, with its words
+abbrev pub IsHeard : Heard → Type 0
+IsHeard heard = (told : List (ℕ × Telling)) × AreEvents heard.words told heard.events.items
+
+-- What is found out of a history that was heard: its processes are in turn, and this of its calls and answers, where
+-- the first value of registers is the one that was asked for.
+pub record IsJudged {A : Type 0} (asked : Option (List ℕ)) (heard : Heard) (v : Verdict A) : Type 0 where
+  pub turns : first_wrong (none_running (length heard.words.processes)) heard.events.items ≡ None
+  pub first : IsFirst asked heard.words.values heard.events.items v.first
+  pub judged : AreJudged (length heard.words.processes) (length heard.words.keys) (rows_from v.first 0 heard.events.items) v

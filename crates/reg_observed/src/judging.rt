@@ -1,6 +1,9 @@
 //! What a history that was heard comes to.
-ghost use Rattle.std.specs.Prelude.{◌≡◌, IfOk, length, map};
-ghost use Rattle.reg_observed.specs.Verdicts.{IsRuled, AreRuled, IsSerialOf};
+ghost use Rattle.std.specs.Prelude.{◌≡◌, IfOk, OnOk, length, option_copied};
+ghost use Rattle.reg_observed.specs.Verdicts.{AreJudged, AreRuled, AreSought, IsFirst, IsHeard, IsJudged, IsRuled, IsSerialOf, registers_for};
+ghost use Rattle.reg_observed.specs.Rows.{answers_this, rows_from, rows_of_key};
+ghost use Rattle.reg_observed.specs.Heard.{Extends};
+ghost use Rattle.reg_observed.specs.Turns.{first_wrong, none_running};
 ghost use Rattle.reg_observed.specs.Standing.{IsStood};
 
 use crate::events::{Act, Event, Moment};
@@ -50,10 +53,13 @@ pub struct Verdict<A: Allocator + Copy> {
     pub points: Option<Vec<Point, A>>,
     /// Of each key, by number.
     pub keys: Vec<Ruling>,
-    pub serial: Serial,
+    /// Whether it has a serial order, None where it has a point order, which is one.
+    pub serial: Option<Serial>,
 }
 
-fn answers_null(event: &Event, null: u32) -> bool {
+fn answers_null(event: &Event, null: u32) -> bool
+    ensures { result ≡ answers_this null event.now }
+{
     event.moment == Moment::Ok && event.act != Act::Write && event.value == null
 }
 
@@ -64,7 +70,10 @@ fn first_value(
     values: &mut Words,
     events: &[Event],
     asked: Option<&str>,
-) -> Result<u32, ReadFault> {
+) -> Result<u32, ReadFault>
+    ensures first { IfOk result (IsFirst (option_copied asked.entry) values.new events.now) }
+    ensures wider { OnOk result (Extends values.old values.new) }
+{
     if let Some(word) = asked {
         return values.number(String::from_str(global, word)?);
     }
@@ -78,21 +87,22 @@ fn first_value(
     Ok(zero)
 }
 
-/// The rows of each key, each as if its key were the only one.
-fn rows_by_key(global: Global, keys: usize, rows: &[Row]) -> Result<Vec<Vec<Row>>, AllocError> {
-    let mut parts = Vec::new(global);
-    for _key in 0..keys {
-        parts.push(Vec::new(global))?;
-    }
+/// The rows of a key, as if it were the only one.
+fn rows_at(global: Global, key: u32, rows: &[Row]) -> Result<Vec<Row>, AllocError>
+    ensures { IfOk result (λ v. v.items ≡ rows_of_key key rows.now) }
+{
+    let mut part = Vec::new(global);
     for row in rows {
-        if let Some(part) = parts.get_mut(row.key as usize) {
+        if row.key == key {
             part.push(Row { key: 0, ..*row })?;
         }
     }
-    Ok(parts)
+    Ok(part)
 }
 
-fn shape_of(registers: usize) -> Result<Shape, JudgeFault> {
+fn shape_of(registers: usize) -> Result<Shape, JudgeFault>
+    ensures { IfOk result (λ s. s.registers ≡ registers_for registers) }
+{
     if registers > MOST_REGISTERS as usize {
         return Err(JudgeFault::Keys { count: registers });
     }
@@ -145,7 +155,8 @@ fn history_in<A: Allocator + Copy>(
     registers: usize,
     rows: &[Row],
 ) -> Result<History<A>, JudgeFault>
-    ensures { IfOk result (λ h. IsStood Naming.Any (length heard.now.words.processes) rows.now h.entries) }
+    ensures stands { IfOk result (λ h. IsStood Naming.Any (length heard.now.words.processes) rows.now h.entries) }
+    ensures registers { IfOk result (λ h. h.shape.registers ≡ registers_for registers) }
 {
     let shape = shape_of(registers)?;
     let processes = heard.words.processes.count();
@@ -173,17 +184,19 @@ fn rule<A: Allocator + Copy>(
     }
 }
 
+/// Whether the rows of each key have a point order.
 fn rule_all<A: Allocator + Copy>(
     alloc: A,
     global: Global,
     heard: &Heard,
-    parts: &[Vec<Row>],
+    rows: &[Row],
 ) -> Result<Vec<Ruling>, JudgeFault>
-    ensures { IfOk result (λ v. AreRuled (length heard.now.words.processes) (map (λ p. p.items) parts.now) v.items) }
+    ensures { IfOk result (λ v. AreRuled (length heard.now.words.processes) (length heard.now.words.keys) rows.now v.items) }
 {
     let mut rulings = Vec::new(global);
-    for part in parts {
-        let ruling = rule(alloc, global, heard, part.as_slice())?;
+    for key in 0..heard.words.keys.count() {
+        let part = rows_at(global, key as u32, rows)?;
+        let ruling = rule(alloc, global, heard, &part)?;
         rulings.push(ruling)?;
     }
     Ok(rulings)
@@ -196,7 +209,7 @@ fn serial_of<A: Allocator + Copy>(
     heard: &Heard,
     rows: &[Row],
 ) -> Result<Serial, JudgeFault>
-    ensures { IfOk result (IsSerialOf (length heard.now.words.processes) rows.now) }
+    ensures { IfOk result (IsSerialOf (length heard.now.words.processes) (registers_for (length heard.now.words.keys)) rows.now) }
 {
     let shape = shape_of(heard.words.keys.count())?;
     let processes = heard.words.processes.count();
@@ -211,4 +224,83 @@ fn serial_of<A: Allocator + Copy>(
         Err(InterleavingFault::TooManyStages) => Ok(Serial::TooWide),
         Err(InterleavingFault::OutOfMemory) => Err(JudgeFault::OutOfMemory),
     }
+}
+
+/// A point order of the history, None where there is none.
+fn points_of<A: Allocator + Copy>(
+    alloc: A,
+    history: &History<A>,
+) -> Result<Option<Vec<Point, A>>, JudgeFault>
+    ensures { IfOk result (AreSought history.now.shape.registers history.now.entries) }
+{
+    match seek(alloc, history)? {
+        Sought::Points(points) => Ok(Some(points)),
+        Sought::None { place: _ } => Ok(None),
+    }
+}
+
+/// What rows come to, where the first value of registers has this number.
+fn judge_rows<A: Allocator + Copy>(
+    alloc: A,
+    global: Global,
+    heard: &Heard,
+    first: u32,
+    rows: &[Row],
+) -> Result<Verdict<A>, JudgeFault>
+    ensures judged { IfOk result (AreJudged (length heard.now.words.processes) (length heard.now.words.keys) rows.now) }
+    ensures first { IfOk result (λ v. v.first ≡ first) }
+{
+    let history = history_in(alloc, global, heard, heard.words.keys.count(), rows)?;
+    let keys = rule_all(alloc, global, heard, rows)?;
+    let points = points_of(alloc, &history)?;
+    let serial = match points {
+        Some(_) => None,
+        None => Some(serial_of(alloc, global, heard, rows)?),
+    };
+    Ok(Verdict {
+        first,
+        history,
+        points,
+        keys,
+        serial,
+    })
+}
+
+/// The calls and answers of the events, where each process is in turn.
+fn rows_in_turn(global: Global, heard: &Heard, first: u32) -> Result<Vec<Row>, JudgeFault>
+    requires { IsHeard heard.now }
+    ensures turns { OnOk result (first_wrong (none_running (length heard.now.words.processes)) heard.now.events.items ≡ None) }
+    ensures rows { IfOk result (λ v. v.items ≡ rows_from first 0 heard.now.events.items) }
+{
+    if heard.events.len() > MOST_EVENTS as usize {
+        return Err(JudgeFault::Read {
+            fault: ReadFault::TooLong,
+        });
+    }
+    let processes = heard.words.processes.count();
+    check_turns(global, processes, &heard.events)?;
+    Ok(rows_of(global, processes, first, &heard.events)?)
+}
+
+/// What a history comes to that was heard. `asked` is the first value of registers, as JSON has it; where it is None,
+/// the first value is null if some answer is null, and else 0.
+///
+/// # Errors
+///
+/// `Read` names the first event that its process may not have told of where it stands; `Keys` says that there are more
+/// keys than registers; `Full` names the first call that finds no place; `TooWide` says that no order was looked for to
+/// the end. `OutOfPlace` names what may not come next: that it never comes, no clause says.
+pub fn judge<A: Allocator + Copy>(
+    alloc: A,
+    global: Global,
+    heard: &mut Heard,
+    asked: Option<&str>,
+) -> Result<Verdict<A>, JudgeFault>
+    requires { IsHeard heard.old }
+    ensures judged { IfOk result (IsJudged (option_copied asked.entry) heard.new) }
+    ensures events { heard.new.events.items ≡ heard.old.events.items }
+{
+    let first = first_value(global, &mut heard.words.values, &heard.events, asked)?;
+    let rows = rows_in_turn(global, heard, first)?;
+    judge_rows(alloc, global, heard, first, &rows)
 }

@@ -18,7 +18,7 @@ mod words;
 pub use events::{Act, Event, Moment};
 pub use faults::{JudgeFault, ReadFault, Why};
 pub use heard::{Heard, Vocabulary};
-pub use judging::{Ruling, Serial, Verdict};
+pub use judging::{Ruling, Serial, Verdict, judge};
 pub use reading::read_json_lines;
 pub use rows::{Row, Step};
 pub use seats::{Naming, Unseated};
