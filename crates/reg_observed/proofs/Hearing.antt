@@ -1,6 +1,7 @@
 -- More events that are heard.
-use Rattle.std.proofs.Common.{ℕ, ◌≡◌, ◌+◌, List, [], ◌∷◌, ◌++◌, Option, None, Some, slice_get, Result, Ok, Err, refl, ap, sym, ◌∙◌, append_assoc, append-nil, subst, zero, suc}
+use Rattle.std.proofs.Common.{ℕ, ◌≡◌, ◌+◌, List, [], ◌∷◌, ◌++◌, Option, None, Some, slice_get, Result, Ok, Err, refl, ap, sym, ◌∙◌, append_assoc, append-nil, subst, zero, suc, length, ◌<◌, arith}
 use Rattle.std.specs.List.{AllZip}
+use Rattle.std.proofs.lemmas.Option.{same_Some, slice_get_within}
 use Rattle.reg_observed.specs.declared.events.Event.{Event}
 use Rattle.reg_observed.specs.declared.faults.Why.{Why}
 use Rattle.reg_observed.specs.declared.heard.Vocabulary.{Vocabulary}
@@ -112,3 +113,30 @@ hears_nothing h number o e = let P : Option Telling → Type 0 = λ o. Hears h h
 
 pub hears_call : (old new : Told) (number : ℕ) (o : Option Telling) (told : Telling) (e : Event) → o ≡ Some told → Widens old.words new.words → Speaks new.words (number, told) e → new.events.items ≡ old.events.items ++ e ∷ [] → Hears old new number o
 hears_call old new number o told e is wider s grown = let P : Option Telling → Type 0 = λ o. Hears old new number o in subst P (sym is) (Call e wider s grown)
+
+-- what speaks with some words speaks with more
+pub all_speak : (v w : Vocabulary) → Widens v w → (ts : List (ℕ × Telling)) (es : List Event) → AreEvents v ts es → AreEvents w ts es
+all_speak v w wider [] [] all = tt
+all_speak v w wider [] (e ∷ es) all = absurd all
+all_speak v w wider (t ∷ ts) [] all = absurd all
+all_speak v w wider (t ∷ ts) (e ∷ es) all = (still_speaks v w wider t e all.0, all_speak v w wider ts es all.1)
+
+pub no_wider : (xs : List (List ℕ)) → Extends xs xs
+no_wider xs = ([], sym (append-nil xs))
+
+pub kept_word : (xs zs : List (List ℕ)) (i : ℕ) (x : List ℕ) → Extends xs zs → slice_get xs i ≡ Some x → slice_get zs i ≡ Some x
+kept_word = kept_in
+
+pub wider_by : (xs ys zs : List (List ℕ)) → Extends xs ys → Extends ys zs → Extends xs zs
+wider_by xs ys zs (ms, a) (bs, b) = (ms ++ bs, b ∙ ap (λ l. l ++ bs) a ∙ append_assoc xs ms bs)
+
+-- each event's process has a word
+pub processes_within : (v : Vocabulary) (n : ℕ) (ts : List (ℕ × Telling)) (es : List Event) → n ≡ length v.processes → AreEvents v ts es → (k : ℕ) (e : Event) → slice_get es k ≡ Some e → e.process < n
+processes_within v n [] [] is all k e h = absurd (cc)
+processes_within v n [] (f ∷ es) is all k e h = absurd all
+processes_within v n (t ∷ ts) [] is all k e h = absurd all
+processes_within v n (t ∷ ts) (f ∷ es) is all zero e h =
+    let less : f.process < length v.processes = slice_get_within v.processes f.process t.1.process all.0.process in
+    let P : Event → Type 0 = λ x. x.process < n in
+    subst P (same_Some f e h) (omega arith)
+processes_within v n (t ∷ ts) (f ∷ es) is all (suc k) e h = processes_within v n ts es is all.1 k e h

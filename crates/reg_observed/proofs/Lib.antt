@@ -4,3 +4,4 @@ pub mod Hearing
 pub mod Turning
 pub mod Rowing
 pub mod Seating
+pub mod Finding

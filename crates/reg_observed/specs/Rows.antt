@@ -1,6 +1,6 @@
 -- The calls and answers that make a history. To be believed: promises speak of it.
 use Rattle.std.specs.Prelude.{ℕ, ◌≡◌, ◌+◌, ◌&&◌, nat_eq, Bool, true, false, not, List, [], ◌∷◌, Option, Some, None, option_map, if◌then◌else◌}
-use Rattle.std.specs.List.{find}
+use Rattle.std.specs.List.{find, flat_map}
 use Rattle.reg_base.specs.declared.memory.Answer.{Answer as Reply}
 use Rattle.reg_base.specs.declared.memory.Answer.TheVariants.{Done, Value}
 use Rattle.reg_observed.specs.declared.events.Event.{Event}
@@ -72,7 +72,10 @@ rows_from first at (event ∷ events) = row_before (row_of first at event (next_
 abbrev pub answers_this : ℕ → Event → Bool
 answers_this value event = is_ok event.moment && (not (is_write event.act) && nat_eq event.value value)
 
+-- the row, as if its key were the only one, where it is of this key
+abbrev pub of_key : ℕ → Row → List Row
+of_key key row = if nat_eq row.key key then record row { key = 0 } ∷ [] else []
+
 -- the rows of a key, as if it were the only one
-unfoldable pub rows_of_key : ℕ → List Row → List Row
-rows_of_key key [] = []
-rows_of_key key (row ∷ rows) = if nat_eq row.key key then record row { key = 0 } ∷ rows_of_key key rows else rows_of_key key rows
+abbrev pub rows_of_key : ℕ → List Row → List Row
+rows_of_key key rows = flat_map (of_key key) rows

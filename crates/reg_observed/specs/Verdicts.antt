@@ -1,5 +1,5 @@
 -- What is found out of a history. To be believed: promises speak of it.
-use Rattle.std.specs.Prelude.{ℕ, ◌≡◌, List, length, max, slice_get, Option, Some, None, codes, if◌then◌else◌, Vec, ⊤}
+use Rattle.std.specs.Prelude.{ℕ, ◌≡◌, ◌⊎◌, List, length, max, slice_get, Option, Some, None, codes, if◌then◌else◌, Vec, ⊤}
 use Rattle.std.specs.List.{list_any}
 use Rattle.reg_base.specs.declared.memory.OpId.{OpId}
 use Rattle.reg_checkers.specs.declared.entries.Entry.{Entry}
@@ -44,22 +44,30 @@ pub record AreRuled (processes keys : ℕ) (rows : List Row) (rulings : List Rul
   pub all : length rulings ≡ keys
   pub each : (key : ℕ) (ruling : Ruling) → slice_get rulings key ≡ Some ruling → IsRuled processes (rows_of_key key rows) ruling
 
--- The number of the first value of registers: of this word; or else of null where some answer tells of null, and of 0
--- where none does.
+-- the number of null where some answer tells of it, and else that of 0
+abbrev pub IsUsualFirst : List (List ℕ) → List Event → ℕ → Type 0
+IsUsualFirst values events first =
+    (null : ℕ) × (zero_ : ℕ) × (slice_get values null ≡ Some (codes "null")) × (slice_get values zero_ ≡ Some (codes "0")) × (first ≡ (if list_any (answers_this null) events then null else zero_))
+
+-- the number of the first value of registers: of this word, or else the usual one
 abbrev pub IsFirst : Option (List ℕ) → List (List ℕ) → List Event → ℕ → Type 0
 IsFirst (Some word) values events first = slice_get values first ≡ Some word
-IsFirst None values events first = (null : ℕ) × (slice_get values null ≡ Some (codes "null")) × (slice_get values first ≡ Some (if list_any (answers_this null) events then codes "null" else codes "0"))
+IsFirst None values events first = IsUsualFirst values events first
 
 -- how many registers there are for this many keys: at least one
 abbrev pub registers_for : ℕ → ℕ
 registers_for keys = max keys 1
 
--- what is found out of rows under the numbers of their processes
+-- of entries that have a serial order, and of those that have none
+abbrev pub RulesSerial : ℕ → List Entry → Serial → Type 0
+RulesSerial registers entries Yes = (ids : List OpId) × IsSerial registers entries ids
+RulesSerial registers entries No = (ids : List OpId) → ¬ IsSerial registers entries ids
+RulesSerial registers entries Unjudged = ⊤
+RulesSerial registers entries TooWide = ⊤
+
+-- what is found out of a history of the rows under the numbers of their processes, if there is one
 abbrev pub IsSerialOf : ℕ → ℕ → List Row → Serial → Type 0
-IsSerialOf processes registers rows Yes = (entries : List Entry) × IsStood Own processes rows entries × ((ids : List OpId) × IsSerial registers entries ids)
-IsSerialOf processes registers rows No = (entries : List Entry) × IsStood Own processes rows entries × ((ids : List OpId) → ¬ IsSerial registers entries ids)
-IsSerialOf processes registers rows Unjudged = ⊤
-IsSerialOf processes registers rows TooWide = ⊤
+IsSerialOf processes registers rows serial = (serial ≡ Unjudged) ⊎ ((entries : List Entry) × IsStood Own processes rows entries × RulesSerial registers entries serial)
 
 -- a point order, or that there is none
 abbrev pub AreSought : {A : Type 0} → ℕ → List Entry → Option (Vec Point A) → Type 0

@@ -1,7 +1,8 @@
 //! What a history that was heard comes to.
-ghost use Rattle.std.specs.Prelude.{◌≡◌, IfOk, OnOk, length, option_copied};
-ghost use Rattle.reg_observed.specs.Verdicts.{AreJudged, AreRuled, AreSought, IsFirst, IsHeard, IsJudged, IsRuled, IsSerialOf, registers_for};
-ghost use Rattle.reg_observed.specs.Rows.{answers_this, rows_from, rows_of_key};
+ghost use Rattle.std.specs.Prelude.{◌≡◌, ◌++◌, IfOk, IfSome, OnOk, Some, if◌then◌else◌, length, option_copied, slice_get};
+ghost use Rattle.std.specs.List.{list_any};
+ghost use Rattle.reg_observed.specs.Verdicts.{AreJudged, AreRuled, AreSought, IsFirst, IsHeard, IsJudged, IsRuled, IsSerialOf, IsUsualFirst, RulesSerial, registers_for};
+ghost use Rattle.reg_observed.specs.Rows.{answers_this, of_key, rows_from, rows_of_key};
 ghost use Rattle.reg_observed.specs.Heard.{Extends};
 ghost use Rattle.reg_observed.specs.Turns.{first_wrong, none_running};
 ghost use Rattle.reg_observed.specs.Standing.{IsStood};
@@ -57,14 +58,47 @@ pub struct Verdict<A: Allocator + Copy> {
     pub serial: Option<Serial>,
 }
 
-fn answers_null(event: &Event, null: u32) -> bool
-    ensures { result ≡ answers_this null event.now }
+/// Whether the event is an answer that tells of the value of this number.
+fn tells_of(event: &Event, value: u32) -> bool
+    ensures { result ≡ answers_this value event.now }
 {
-    event.moment == Moment::Ok && event.act != Act::Write && event.value == null
+    event.moment == Moment::Ok && event.act != Act::Write && event.value == value
 }
 
-/// The number of the first value of registers: of this word, or else of null where some answer is null, and of 0 where
-/// none is.
+/// The number of a word.
+fn number_of(global: Global, values: &mut Words, word: &str) -> Result<u32, ReadFault>
+    ensures here { IfOk result (λ n. slice_get values.new n ≡ Some word.now) }
+    ensures wider { OnOk result (Extends values.old values.new) }
+{
+    let word = String::from_str(global, word)?;
+    values.number(word)
+}
+
+/// Whether some answer tells of the value of this number.
+fn is_told(events: &[Event], value: u32) -> bool
+    ensures { result ≡ list_any (answers_this value) events.now }
+{
+    events.iter().any(|event| tells_of(event, value))
+}
+
+/// The first of two numbers where some answer tells of its value, and else the second.
+fn first_if_told(events: &[Event], null: u32, zero: u32) -> u32
+    ensures { result ≡ (if list_any (answers_this null) events.now then null else zero) }
+{
+    if is_told(events, null) { null } else { zero }
+}
+
+/// The number of the usual first value of registers: of null where some answer is null, and of 0 where none is.
+fn usual_first(global: Global, values: &mut Words, events: &[Event]) -> Result<u32, ReadFault>
+    ensures first { IfOk result (IsUsualFirst values.new events.now) }
+    ensures wider { OnOk result (Extends values.old values.new) }
+{
+    let null = number_of(global, values, "null")?;
+    let zero = number_of(global, values, "0")?;
+    Ok(first_if_told(events, null, zero))
+}
+
+/// The number of the first value of registers: of this word, or else the usual one.
 fn first_value(
     global: Global,
     values: &mut Words,
@@ -74,17 +108,20 @@ fn first_value(
     ensures first { IfOk result (IsFirst (option_copied asked.entry) values.new events.now) }
     ensures wider { OnOk result (Extends values.old values.new) }
 {
-    if let Some(word) = asked {
-        return values.number(String::from_str(global, word)?);
+    match asked {
+        Some(word) => number_of(global, values, word),
+        None => usual_first(global, values, events),
     }
-    let null = values.number(String::from_str(global, "null")?)?;
-    let zero = values.number(String::from_str(global, "0")?)?;
-    for event in events {
-        if answers_null(event, null) {
-            return Ok(null);
-        }
+}
+
+/// Adds the row, as if its key were the only one, where it is of this key.
+fn push_of_key(part: &mut Vec<Row>, key: u32, row: &Row) -> Result<(), AllocError>
+    ensures { OnOk result (part.new.items ≡ part.old.items ++ of_key key row.now) }
+{
+    if row.key == key {
+        part.push(Row { key: 0, ..*row })?;
     }
-    Ok(zero)
+    Ok(())
 }
 
 /// The rows of a key, as if it were the only one.
@@ -93,9 +130,7 @@ fn rows_at(global: Global, key: u32, rows: &[Row]) -> Result<Vec<Row>, AllocErro
 {
     let mut part = Vec::new(global);
     for row in rows {
-        if row.key == key {
-            part.push(Row { key: 0, ..*row })?;
-        }
+        push_of_key(&mut part, key, row)?;
     }
     Ok(part)
 }
@@ -194,12 +229,47 @@ fn rule_all<A: Allocator + Copy>(
     ensures { IfOk result (λ v. AreRuled (length heard.now.words.processes) (length heard.now.words.keys) rows.now v.items) }
 {
     let mut rulings = Vec::new(global);
-    for key in 0..heard.words.keys.count() {
-        let part = rows_at(global, key as u32, rows)?;
+    let count = heard.words.keys.count();
+    if count > MOST_REGISTERS as usize {
+        return Err(JudgeFault::Keys { count });
+    }
+    for key in 0..count as u32 {
+        let part = rows_at(global, key, rows)?;
         let ruling = rule(alloc, global, heard, &part)?;
         rulings.push(ruling)?;
     }
     Ok(rulings)
+}
+
+/// The history of rows under the numbers of their processes, None where they have none.
+fn own_history<A: Allocator + Copy>(
+    alloc: A,
+    global: Global,
+    heard: &Heard,
+    rows: &[Row],
+) -> Result<Option<History<A>>, JudgeFault>
+    ensures stands { IfOk result (λ o. IfSome o (λ h. IsStood Naming.Own (length heard.now.words.processes) rows.now h.entries)) }
+    ensures registers { IfOk result (λ o. IfSome o (λ h. h.shape.registers ≡ registers_for (length heard.now.words.keys))) }
+{
+    let shape = shape_of(heard.words.keys.count())?;
+    let processes = heard.words.processes.count();
+    match history_of(alloc, global, shape, Naming::Own, processes, rows) {
+        Ok(history) => Ok(Some(history)),
+        Err(Unseated::OutOfMemory) => Err(JudgeFault::OutOfMemory),
+        Err(_) => Ok(None),
+    }
+}
+
+/// Whether a history has a serial order.
+fn seek_serial<A: Allocator + Copy>(alloc: A, history: &History<A>) -> Result<Serial, JudgeFault>
+    ensures { IfOk result (RulesSerial history.now.shape.registers history.now.entries) }
+{
+    match find_serial(alloc, history, MOST_STAGES) {
+        Ok(Some(_)) => Ok(Serial::Yes),
+        Ok(None) => Ok(Serial::No),
+        Err(InterleavingFault::TooManyStages) => Ok(Serial::TooWide),
+        Err(InterleavingFault::OutOfMemory) => Err(JudgeFault::OutOfMemory),
+    }
 }
 
 /// Whether the rows, each process under its own number, have a serial order.
@@ -211,18 +281,10 @@ fn serial_of<A: Allocator + Copy>(
 ) -> Result<Serial, JudgeFault>
     ensures { IfOk result (IsSerialOf (length heard.now.words.processes) (registers_for (length heard.now.words.keys)) rows.now) }
 {
-    let shape = shape_of(heard.words.keys.count())?;
-    let processes = heard.words.processes.count();
-    let history = match history_of(alloc, global, shape, Naming::Own, processes, rows) {
-        Ok(history) => history,
-        Err(Unseated::OutOfMemory) => return Err(JudgeFault::OutOfMemory),
-        Err(_) => return Ok(Serial::Unjudged),
-    };
-    match find_serial(alloc, &history, MOST_STAGES) {
-        Ok(Some(_)) => Ok(Serial::Yes),
-        Ok(None) => Ok(Serial::No),
-        Err(InterleavingFault::TooManyStages) => Ok(Serial::TooWide),
-        Err(InterleavingFault::OutOfMemory) => Err(JudgeFault::OutOfMemory),
+    let history = own_history(alloc, global, heard, rows)?;
+    match history {
+        Some(history) => seek_serial(alloc, &history),
+        None => Ok(Serial::Unjudged),
     }
 }
 
