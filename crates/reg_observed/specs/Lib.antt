@@ -7,3 +7,4 @@ pub mod Rows
 pub mod Standing
 pub mod Verdicts
 pub mod Faults
+pub mod Commands

@@ -2,6 +2,8 @@
 //! that judges it.
 #![tactic(auto)]
 
+mod command;
+mod details;
 mod events;
 mod faults;
 mod heard;
@@ -15,6 +17,7 @@ mod told;
 mod turns;
 mod words;
 
+pub use command::{CommandFault, judge_text};
 pub use events::{Act, Event, Moment};
 pub use faults::{JudgeFault, ReadFault, Why};
 pub use heard::{Heard, Vocabulary};

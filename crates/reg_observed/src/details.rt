@@ -1,0 +1,145 @@
+//! The lines of a verdict after its first word: for a person to read. No clause speaks of them.
+use crate::events::{Act, Event, Moment};
+use crate::heard::Heard;
+use crate::judging::{Ruling, Serial, Verdict};
+use crate::words::Words;
+use itoa::Buffer;
+use std::alloc::{AllocError, Allocator, Global};
+
+fn put_number(out: &mut String, number: u32) -> Result<(), AllocError> {
+    let mut digits = Buffer::new();
+    out.push_str(digits.format(number))
+}
+
+fn put_word(out: &mut String, words: &Words, number: u32) -> Result<(), AllocError> {
+    match words.word(number) {
+        Some(word) => out.push_str(word),
+        None => out.push_str("?"),
+    }
+}
+
+fn name_of_act(act: Act) -> &'static str {
+    match act {
+        Act::Read => "read",
+        Act::Write => "write",
+        Act::Swap => "swap",
+    }
+}
+
+/// Puts the line of an event, its process and what it tells, with the value where one is told.
+fn put_event(out: &mut String, heard: &Heard, event: Event, told: bool) -> Result<(), AllocError> {
+    out.push_str("line ")?;
+    put_number(out, event.line)?;
+    out.push_str(": process ")?;
+    put_word(out, &heard.words.processes, event.process)?;
+    out.push_str(" ")?;
+    out.push_str(name_of_act(event.act))?;
+    if told {
+        out.push_str(" ")?;
+        put_word(out, &heard.words.values, event.value)?;
+    }
+    out.push_str("\n")
+}
+
+/// Whether the event ends its call for sure.
+fn ends(event: Event) -> bool {
+    event.moment == Moment::Ok || event.moment == Moment::Fail
+}
+
+/// The calls at the key that have no sure end before the event of this number.
+fn under_way(
+    global: Global,
+    events: &[Event],
+    key: u32,
+    at: u32,
+) -> Result<Vec<Event>, AllocError> {
+    let mut calls = Vec::new(global);
+    for event in events.iter().take(at as usize) {
+        if event.key == key {
+            if event.moment == Moment::Invoke {
+                calls.push(*event)?;
+            } else if ends(*event) {
+                let process = event.process;
+                calls.retain(|call: &Event| call.process != process);
+            }
+        }
+    }
+    Ok(calls)
+}
+
+/// Puts what is known of the answer of this number, at the key, that no point order explains.
+fn put_place(
+    global: Global,
+    out: &mut String,
+    heard: &Heard,
+    key: u32,
+    at: u32,
+) -> Result<(), AllocError> {
+    let Some(event) = heard.events.get(at as usize).copied() else {
+        return Ok(());
+    };
+    out.push_str("  by ")?;
+    put_event(out, heard, event, event.act != Act::Write)?;
+    let calls = under_way(global, &heard.events, key, at)?;
+    for call in &calls {
+        if call.process != event.process {
+            out.push_str("  under way ")?;
+            put_event(out, heard, *call, call.act != Act::Read)?;
+        }
+    }
+    Ok(())
+}
+
+/// Puts what was found out of each key.
+fn put_keys(
+    global: Global,
+    out: &mut String,
+    heard: &Heard,
+    rulings: &[Ruling],
+) -> Result<(), AllocError> {
+    let mut key = 0u32;
+    for ruling in rulings {
+        out.push_str("key ")?;
+        put_word(out, &heard.words.keys, key)?;
+        match *ruling {
+            Ruling::Linearizable => out.push_str(": linearizable\n")?,
+            Ruling::Not { at } => {
+                out.push_str(": not linearizable\n")?;
+                put_place(global, out, heard, key, at)?;
+            }
+        }
+        key = key.saturating_add(1);
+    }
+    Ok(())
+}
+
+fn serial_text(serial: Option<Serial>) -> &'static str {
+    match serial {
+        Some(Serial::Yes) | None => "serial order: yes\n",
+        Some(Serial::No) => "serial order: no\n",
+        Some(Serial::Unjudged) => {
+            "serial order: not judged, a process goes on after a call of unknown end\n"
+        }
+        Some(Serial::TooWide) => "serial order: not judged, too many stages\n",
+    }
+}
+
+/// The lines of a verdict after its first word.
+pub(crate) fn details<A: Allocator + Copy>(
+    global: Global,
+    heard: &Heard,
+    verdict: &Verdict<A>,
+) -> Result<String, AllocError> {
+    let mut out = String::new(global);
+    put_keys(global, &mut out, heard, &verdict.keys)?;
+    out.push_str("first value: ")?;
+    put_word(&mut out, &heard.words.values, verdict.first)?;
+    out.push_str("\n")?;
+    if verdict.points.is_some() {
+        out.push_str("point order: yes\n")?;
+    } else {
+        out.push_str("point order: no\n")?;
+    }
+    out.push_str(serial_text(verdict.serial))?;
+    Ok(out)
+}
