@@ -5,3 +5,4 @@ pub mod Turning
 pub mod Rowing
 pub mod Seating
 pub mod Finding
+pub mod Answering

@@ -89,9 +89,9 @@ fn answer<W: Write>(
     ensures ok { IfOk result (λ found. IsJudgedText (option_copied asked.entry) found (Appends (W.contents writer.old) (W.contents writer.new)) text.now) }
     ensures silent { IfErr result (λ f. f ≢ CommandFault.Command Fault.Output → writer.new ≡ writer.old) }
 {
-    let (found, answer) = judged(global, asked, text)?;
-    write_answer(writer, answer.as_bytes())?;
-    Ok(found)
+    let judged = judged(global, asked, text)?;
+    write_answer(writer, judged.1.as_bytes())?;
+    Ok(judged.0)
 }
 
 fn obey<R: Read, W: Write>(

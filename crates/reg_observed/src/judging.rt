@@ -1,9 +1,11 @@
 //! What a history that was heard comes to.
-ghost use Rattle.std.specs.Prelude.{◌≡◌, ◌++◌, IfOk, IfSome, OnOk, Some, if◌then◌else◌, length, option_copied, slice_get};
+ghost use Rattle.std.specs.Prelude.{◌≡◌, ◌++◌, ℕ, List, IfOk, IfSome, OnOk, Some, if◌then◌else◌, length, option_copied, slice_get};
 ghost use Rattle.std.specs.List.{list_any};
 ghost use Rattle.reg_observed.specs.Verdicts.{AreJudged, AreRuled, AreSought, IsFirst, IsHeard, IsJudged, IsRuled, IsSerialOf, IsUsualFirst, RulesSerial, registers_for};
 ghost use Rattle.reg_observed.specs.Rows.{answers_this, of_key, rows_from, rows_of_key};
 ghost use Rattle.reg_observed.specs.Heard.{Extends};
+ghost use Rattle.reg_observed.specs.Reading.{AreEvents};
+ghost use Rattle.reg_observed.specs.Told.{Telling};
 ghost use Rattle.reg_observed.specs.Turns.{first_wrong, none_running};
 ghost use Rattle.reg_observed.specs.Standing.{IsStood};
 
@@ -360,9 +362,10 @@ pub fn judge<A: Allocator + Copy>(
 ) -> Result<Verdict<A>, JudgeFault>
     requires { IsHeard heard.old }
     ensures judged { IfOk result (IsJudged (option_copied asked.entry) heard.new) }
-    ensures events { heard.new.events.items ≡ heard.old.events.items }
+    ensures told { OnOk result ((told : List (ℕ × Telling)) → AreEvents heard.old.words told heard.old.events.items → AreEvents heard.new.words told heard.new.events.items) }
 {
     let first = first_value(global, &mut heard.words.values, &heard.events, asked)?;
     let rows = rows_in_turn(global, heard, first)?;
-    judge_rows(alloc, global, heard, first, &rows)
+    let verdict = judge_rows(alloc, global, heard, first, &rows)?;
+    Ok(verdict)
 }

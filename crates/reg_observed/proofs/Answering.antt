@@ -1,0 +1,19 @@
+-- What was found out, and how its text was written.
+use Rattle.std.proofs.Common.{ℕ, List, Bool, Option, ◌≡◌, subst, sym}
+use Rattle.std.specs.Io.KnownBytes.{Appends}
+use Rattle.reg_observed.specs.Commands.{IsJudgedText}
+
+pub judged_as : (asked : Option (List ℕ)) (found : Bool) (P Q : List ℕ → Type 0) (text : List ℕ) → IsJudgedText asked found P text → ((answer : List ℕ) → P answer → Q answer) → IsJudgedText asked found Q text
+judged_as asked found P Q text j to = record {
+  told = j.told;
+  tells = j.tells;
+  heard = j.heard;
+  events = j.events;
+  verdict = j.verdict;
+  judged = j.judged;
+  says = j.says;
+  written = (j.written.0, j.written.1, to j.written.0 j.written.2);
+}
+
+pub sent_as : (old new : Option (List ℕ)) (a b : List ℕ) → Appends old new a → a ≡ b → Appends old new b
+sent_as old new a b sent same = let P : List ℕ → Type 0 = λ x. Appends old new x in subst P same sent
