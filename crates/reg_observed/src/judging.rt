@@ -20,8 +20,12 @@ use crate::words::Words;
 use reg_base::Shape;
 use reg_base::limits::{MOST_EVENTS, MOST_PROCESSES, MOST_REGISTERS};
 use reg_checkers::{Entry, History, Point};
-use reg_outcomes::{InterleavingFault, MOST_STAGES, find_serial};
+use reg_outcomes::{InterleavingFault, find_serial};
 use std::alloc::{AllocError, Allocator, Global};
+
+/// The most stages that as many operations may lead to in a search for a serial order. It is small, since where there is
+/// no point order such a search soon grows wide.
+pub const MOST_SERIAL_STAGES: u32 = 50_000;
 
 /// Whether a history has a serial order.
 #[derive(Clone, Copy, Debug, PartialEq, Eq)]
@@ -266,7 +270,7 @@ fn own_history<A: Allocator + Copy>(
 fn seek_serial<A: Allocator + Copy>(alloc: A, history: &History<A>) -> Result<Serial, JudgeFault>
     ensures { IfOk result (RulesSerial history.now.shape.registers history.now.entries) }
 {
-    match find_serial(alloc, history, MOST_STAGES) {
+    match find_serial(alloc, history, MOST_SERIAL_STAGES) {
         Ok(Some(_)) => Ok(Serial::Yes),
         Ok(None) => Ok(Serial::No),
         Err(InterleavingFault::TooManyStages) => Ok(Serial::TooWide),
