@@ -5,6 +5,7 @@ use Rattle.reg_text.specs.Lines.{lines_of}
 use Rattle.reg_observed.specs.declared.heard.Heard.{Heard}
 use Rattle.reg_observed.specs.declared.judging.Verdict.{Verdict}
 use Rattle.reg_observed.specs.Told.{Telling}
+use Rattle.reg_observed.specs.Heard.{AreDistinct}
 use Rattle.reg_observed.specs.Reading.{AreEvents, lines_tell}
 use Rattle.reg_observed.specs.Verdicts.{IsJudged}
 
@@ -23,6 +24,9 @@ pub record IsJudgedText (asked : Option (List ℕ)) (found : Bool) (Wrote : List
   pub tells : lines_tell 1 (lines_of text) ≡ Ok told
   pub heard : Heard
   pub events : AreEvents heard.words told heard.events.items
+  pub processes : AreDistinct heard.words.processes
+  pub keys : AreDistinct heard.words.keys
+  pub values : AreDistinct heard.words.values
   pub verdict : Verdict Global
   pub judged : IsJudged asked heard verdict
   pub says : is_some verdict.points ≡ found

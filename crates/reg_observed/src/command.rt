@@ -75,6 +75,10 @@ fn judged(global: Global, asked: Option<&str>, text: &str) -> Result<(bool, Stri
 {
     let mut heard = read_json_lines(global, text)?;
     let verdict = judge(global, global, &mut heard, asked)?;
+    // (for the proof: that no word has two numbers)
+    heard.words.processes.count_distinct();
+    heard.words.keys.count_distinct();
+    heard.words.values.count_distinct();
     let answer = text_of(global, &heard, &verdict)?;
     Ok((has_points(&verdict), answer))
 }

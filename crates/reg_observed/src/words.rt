@@ -35,6 +35,14 @@ impl Words {
         }
     }
 
+    /// How many words there are, no two of which are the same.
+    pub fn count_distinct(&self) -> usize
+        ensures value { result ≡ length self.now }
+        ensures distinct { AreDistinct self.now }
+    {
+        self.set.len()
+    }
+
     /// How many words there are.
     pub fn count(&self) -> usize
         ensures { result ≡ length self.now }
