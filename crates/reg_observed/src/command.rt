@@ -10,7 +10,7 @@ use crate::faults::JudgeFault;
 use crate::heard::Heard;
 use crate::judging::{Verdict, judge};
 use crate::reading::read_json_lines;
-use reg_commands::{Fault, read_input, write_answer, write_fault};
+use reg_commands::{Fault, Refusal, read_input, write_answer};
 use reg_text::write_bytes;
 use std::alloc::{AllocError, Allocator, Global};
 use std::io::{Read, Write};
@@ -121,7 +121,7 @@ fn write_refused<E: Write>(global: Global, errors: &mut E, fault: CommandFault) 
     match fault {
         CommandFault::Command { fault } => {
             let _ = write_bytes(errors, b"refused: ");
-            let _ = write_fault(errors, fault);
+            let _ = fault.write_line(errors);
         }
         CommandFault::Refused { fault } => match refused_line(global, fault) {
             Ok(line) => {

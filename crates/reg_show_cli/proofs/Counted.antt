@@ -7,11 +7,11 @@ use Rattle.std.proofs.lemmas.Option.{same_Some}
 use Rattle.reg_args.specs.Lines.{Text}
 use Rattle.reg_outcomes.specs.declared.plays.TheConstants.{MOST_PLAYS}
 use Rattle.reg_show_cli.specs.declared.words.Asked.{Asked}
-use Rattle.reg_show_cli.specs.declared.words.Asked.TheVariants.{AllOutcomes, Find, Help, Outcome, Outcomes, Schedule, ShortSchedule, Show, Verify, Version, Why}
+use Rattle.reg_show_cli.specs.declared.words.Asked.TheVariants.{AllOutcomes, Find, Help, Judge, Outcome, Outcomes, Schedule, ShortSchedule, Show, Verify, Version, Why}
 use Rattle.reg_outcomes.specs.declared.kinds.OrderKind.{OrderKind}
 use Rattle.reg_outcomes.specs.declared.kinds.OrderKind.TheVariants.{Serial, Points}
 use Rattle.reg_show.specs.declared.Player.{Player}
-use Rattle.reg_show_cli.specs.Lines.{IsAllLine, IsFindLine, IsHelpLine, IsLineOf, IsOneOutcomeLine, IsOutcomesLine, IsScheduleLine, IsShortLine, IsVerifyLine, IsVersionLine, IsWhyLine, NumbersFit, SaysPlays, line_of}
+use Rattle.reg_show_cli.specs.Lines.{IsAllLine, IsFindLine, IsHelpLine, IsJudgeLine, IsLineOf, IsOneOutcomeLine, IsOutcomesLine, IsScheduleLine, IsShortLine, IsVerifyLine, IsVersionLine, IsWhyLine, NumbersFit, SaysPlays, line_of}
 use Rattle.reg_show.specs.declared.Showing.{Showing}
 use Rattle.reg_show.specs.declared.Showing.TheVariants.{Data, Draw, Page, Rest, Trace}
 
@@ -70,7 +70,8 @@ no_showing line trace draw told page rest Rest h = rest h
 -- words that ask for none of these ask for nothing
 module _ (line : List Text)
     (why : ¬ IsWhyLine line)
-    (judged : ¬ IsVerifyLine line)
+    (verified : ¬ IsVerifyLine line)
+    (judged : ¬ IsJudgeLine line)
     (version : ¬ IsVersionLine line)
     (every : ¬ IsAllLine line)
     (help : ¬ IsHelpLine line)
@@ -89,7 +90,8 @@ module _ (line : List Text)
   asks_nothing (Outcome number) h = one number h
   asks_nothing (Find kind) h = found kind h
   asks_nothing Why h = why h
-  asks_nothing Verify h = judged h
+  asks_nothing Verify h = verified h
+  asks_nothing Judge h = judged h
   asks_nothing Help h = help h
   asks_nothing Version h = version h
 
@@ -130,5 +132,6 @@ numbers_fit line (Outcome number) h = h.1
 numbers_fit line (Find kind) h = tt
 numbers_fit line Why h = tt
 numbers_fit line Verify h = tt
+numbers_fit line Judge h = tt
 numbers_fit line Help h = tt
 numbers_fit line Version h = tt

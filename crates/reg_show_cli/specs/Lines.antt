@@ -13,7 +13,7 @@ use Rattle.reg_outcomes.specs.declared.kinds.OrderKind.TheVariants.{Serial, Poin
 use Rattle.reg_show_cli.specs.declared.asking.TheConstants.{LAST_OUTCOME}
 use Rattle.reg_show_cli.specs.declared.flags.TheConstants.{USUAL_PLAYS}
 use Rattle.reg_show_cli.specs.declared.words.Asked.{Asked}
-use Rattle.reg_show_cli.specs.declared.words.Asked.TheVariants.{AllOutcomes, Find, Help, Outcome, Outcomes, Schedule, ShortSchedule, Show, Verify, Version, Why}
+use Rattle.reg_show_cli.specs.declared.words.Asked.TheVariants.{AllOutcomes, Find, Help, Judge, Outcome, Outcomes, Schedule, ShortSchedule, Show, Verify, Version, Why}
 
 -- the name of what is shown
 abbrev pub name_of : Showing → Text
@@ -84,6 +84,10 @@ IsWhyLine line = line ≡ codes "why" ∷ []
 abbrev pub IsVerifyLine : List Text → Type 0
 IsVerifyLine line = line ≡ codes "verify" ∷ []
 
+-- the words ask to judge a history
+abbrev pub IsJudgeLine : List Text → Type 0
+IsJudgeLine line = line ≡ codes "judge" ∷ []
+
 -- the words ask for the version
 abbrev pub IsVersionLine : List Text → Type 0
 IsVersionLine line = line ≡ codes "--version" ∷ []
@@ -113,7 +117,7 @@ IsHelpWith line name = (line ≡ codes "help" ∷ name ∷ []) ⊎ ((line ≡ na
 abbrev pub IsHelpOfOne : List Text → Type 0
 IsHelpOfOne line =
     IsHelpWith line (codes "trace") ⊎ (IsHelpWith line (codes "draw") ⊎ (IsHelpWith line (codes "data") ⊎ (IsHelpWith line (codes "page") ⊎ (IsHelpWith line (codes "rest")
-    ⊎ (IsHelpWith line (codes "schedule") ⊎ (IsHelpWith line (codes "outcomes") ⊎ (IsHelpWith line (codes "find") ⊎ (IsHelpWith line (codes "why") ⊎ IsHelpWith line (codes "verify")))))))))
+    ⊎ (IsHelpWith line (codes "schedule") ⊎ (IsHelpWith line (codes "outcomes") ⊎ (IsHelpWith line (codes "find") ⊎ (IsHelpWith line (codes "why") ⊎ (IsHelpWith line (codes "verify") ⊎ IsHelpWith line (codes "judge"))))))))))
 
 -- the words ask for help, alone or with a command
 abbrev pub IsHelpLine : List Text → Type 0
@@ -130,6 +134,7 @@ IsLineOf (Outcome number) line = IsOneOutcomeLine line number
 IsLineOf (Find kind) line = IsFindLine line kind
 IsLineOf Why line = IsWhyLine line
 IsLineOf Verify line = IsVerifyLine line
+IsLineOf Judge line = IsJudgeLine line
 IsLineOf Help line = IsHelpLine line
 IsLineOf Version line = IsVersionLine line
 
@@ -144,4 +149,4 @@ NumbersFit _ = ⊤
 
 -- the line for words that ask for nothing, with its line feed
 abbrev pub refused_line : List ℕ
-refused_line = codes "usage: awshow schedule [--fair | --seed S] [--short] | outcomes [--all [K] | [--plays N] [--seed S]] | find serial | find points | trace | draw | data | page | rest | why | verify" ++ 10 ∷ []
+refused_line = codes "usage: awshow schedule [--fair | --seed S] [--short] | outcomes [--all [K] | [--plays N] [--seed S]] | find serial | find points | trace | draw | data | page | rest | why | verify | judge" ++ 10 ∷ []

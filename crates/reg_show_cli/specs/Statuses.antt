@@ -1,5 +1,5 @@
 -- What a status says of what was asked for, with what the reader, the writer and the error stream show of themselves.
-use Rattle.std.specs.Prelude.{ℕ, true, ◌≤◌, ⊤, Bool, List, [], ◌∷◌, ◌++◌, length, codes, Option, IfSome}
+use Rattle.std.specs.Prelude.{ℕ, true, false, ◌≢◌, ◌⊎◌, ◌≤◌, ⊤, Bool, List, [], ◌∷◌, ◌++◌, length, codes, Option, None, IfSome}
 use Rattle.reg_base.specs.declared.limits.TheConstants.{LONGEST_INPUT}
 use Rattle.reg_text.specs.Writing.{AppendsPart}
 use Rattle.reg_commands.specs.declared.faults.Fault.{Fault}
@@ -24,8 +24,12 @@ use Rattle.reg_show.specs.Showings.{Blames, Shows}
 use Rattle.reg_verify.specs.Verifies.{BlamesAccount, Verifies, verify_line}
 use Rattle.reg_verify.specs.declared.faults.VerifyFault.TheVariants.{Command as VerifyCommand}
 use Rattle.reg_show_cli.specs.declared.words.Asked.{Asked}
-use Rattle.reg_show_cli.specs.declared.words.Asked.TheVariants.{AllOutcomes, Find, Help, Outcome, Outcomes, Schedule, ShortSchedule, Show, Verify, Version, Why}
+use Rattle.reg_show_cli.specs.declared.words.Asked.TheVariants.{AllOutcomes, Find, Help, Judge, Outcome, Outcomes, Schedule, ShortSchedule, Show, Verify, Version, Why}
 use Rattle.reg_reasons.specs.Tellings.{Answers, Halts}
+use Rattle.reg_observed.specs.Commands.{IsJudgedText}
+use Rattle.reg_observed.specs.declared.command.CommandFault.{CommandFault as JudgeFault}
+use Rattle.reg_observed.specs.declared.command.CommandFault.TheVariants.{Command as JudgeCommand}
+use Rattle.std.specs.Io.KnownBytes.{Appends}
 
 -- what is written of the workload that the text says
 abbrev pub WritesOf : Asked → (List ℕ → Type 0) → Load → Type 0
@@ -51,6 +55,7 @@ AnswersOf (Show showing) agrees Wrote text = Shows showing Wrote text
 AnswersOf (Find kind) agrees Wrote text = Finds kind agrees Wrote text
 AnswersOf Why agrees Wrote text = Answers agrees Wrote text
 AnswersOf Verify agrees Wrote text = Verifies Wrote text
+AnswersOf Judge agrees Wrote text = IsJudgedText None agrees Wrote text
 AnswersOf Help agrees Wrote text = ⊥
 AnswersOf Version agrees Wrote text = ⊥
 AnswersOf asked agrees Wrote text = OfDocument (WritesOf asked) Wrote text
@@ -64,12 +69,15 @@ Obeys help version asked input Wrote = IfSome input (λ xs. length xs ≤ LONGES
 
 -- Status 1: the answer is a no, which only why and find have; or the line of a fault was told, or a first part of it.
 -- The fault holds of the input, and nothing was written unless the writer failed; then a first part of an answer was.
--- Where help or the version was asked for, the writer failed.
+-- Of what is told where a history of JSON lines is refused no clause speaks. Where help or the version was asked for, the
+-- writer failed.
 abbrev pub Stops : Asked → Option (List ℕ) → Type 0 → Option (List ℕ) → Option (List ℕ) → Type 0 → Option (List ℕ) → Option (List ℕ) → Type 0
 Stops (Show showing) input unwritten old new untold was is = StopsCommand ⊥ Command show_line (Blames showing) (AnswersOf (Show showing)) input unwritten old new untold was is
 Stops (Find kind) input unwritten old new untold was is = StopsCommand ⊤ Command show_line (BlamesFind kind) (AnswersOf (Find kind)) input unwritten old new untold was is
 Stops Why input unwritten old new untold was is = StopsCommand ⊤ (λ (fault : Fault). fault) fault_line Halts (AnswersOf Why) input unwritten old new untold was is
 Stops Verify input unwritten old new untold was is = StopsCommand ⊥ VerifyCommand verify_line BlamesAccount (AnswersOf Verify) input unwritten old new untold was is
+Stops Judge input unwritten old new untold was is =
+    (IfSome input (AnswersOf Judge false (Appends old new)) × untold) ⊎ ((f : JudgeFault) × (f ≢ JudgeCommand Output → unwritten))
 Stops Help input unwritten old new untold was is = AppendsPart was is (fault_line Output)
 Stops Version input unwritten old new untold was is = AppendsPart was is (fault_line Output)
 Stops asked input unwritten old new untold was is = StopsCommand ⊥ Command show_line (BlamesDocument Command (StopsOf asked)) (AnswersOf asked) input unwritten old new untold was is
@@ -80,6 +88,7 @@ Tells (Show showing) untold was is = TellsCommand ⊥ Command show_line (Blames 
 Tells (Find kind) untold was is = TellsCommand ⊤ Command show_line (BlamesFind kind) untold was is
 Tells Why untold was is = TellsCommand ⊤ (λ (fault : Fault). fault) fault_line Halts untold was is
 Tells Verify untold was is = TellsCommand ⊥ VerifyCommand verify_line BlamesAccount untold was is
+Tells Judge untold was is = ⊤
 Tells Help untold was is = AppendsPart was is (fault_line Output)
 Tells Version untold was is = AppendsPart was is (fault_line Output)
 Tells asked untold was is = TellsCommand ⊥ Command show_line (BlamesDocument Command (StopsOf asked)) untold was is

@@ -5,7 +5,7 @@ ghost use Rattle.reg_outcomes.specs.declared.kinds.OrderKind.{OrderKind as AnyKi
 ghost use Rattle.reg_show.specs.declared.Player.{Player as AnyPlayer};
 ghost use Rattle.reg_show.specs.declared.Showing.{Showing as AnyShowing};
 ghost use Rattle.reg_show_cli.specs.declared.words.Asked.{Asked as AnyAsked};
-ghost use Rattle.reg_show_cli.specs.Lines.{IsAllLine, IsFindLine, IsHelpLine, IsHelpOfOne, IsHelpWith, IsLineOf, IsOneOutcomeLine, IsOutcomesLine, IsScheduleLine, IsShortLine, IsVerifyLine, IsVersionLine, IsWhyLine, line_of as line_of_showing};
+ghost use Rattle.reg_show_cli.specs.Lines.{IsAllLine, IsFindLine, IsHelpLine, IsHelpOfOne, IsHelpWith, IsJudgeLine, IsLineOf, IsOneOutcomeLine, IsOutcomesLine, IsScheduleLine, IsShortLine, IsVerifyLine, IsVersionLine, IsWhyLine, line_of as line_of_showing};
 
 use crate::flags::{Plays, behind, line_of, number_alone, player_said, plays_said, short_said};
 use crate::words::Asked;
@@ -147,6 +147,7 @@ fn asks_help_of_one(words: &[String]) -> bool
         || asks_help_with(words, "find")
         || asks_help_with(words, "why")
         || asks_help_with(words, "verify")
+        || asks_help_with(words, "judge")
 }
 
 /// Whether the words ask for help.
@@ -164,6 +165,7 @@ fn plain_asked(words: &[String]) -> Option<Asked>
     ensures asked { IfSome result (λ asked. IsLineOf asked (behind_name words.now)) }
     ensures why { result ≡ None → ¬ IsWhyLine (behind_name words.now) }
     ensures verify { result ≡ None → ¬ IsVerifyLine (behind_name words.now) }
+    ensures judge { result ≡ None → ¬ IsJudgeLine (behind_name words.now) }
     ensures version { result ≡ None → ¬ IsVersionLine (behind_name words.now) }
     ensures all { result ≡ None → ¬ IsAllLine (behind_name words.now) }
     ensures help { result ≡ None → ¬ IsHelpLine (behind_name words.now) }
@@ -173,6 +175,9 @@ fn plain_asked(words: &[String]) -> Option<Asked>
     }
     if is_alone(words, "verify") {
         return Some(Asked::Verify);
+    }
+    if is_alone(words, "judge") {
+        return Some(Asked::Judge);
     }
     if is_alone(words, "--version") {
         return Some(Asked::Version);

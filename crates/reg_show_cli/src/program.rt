@@ -14,6 +14,7 @@ use crate::asking::ask;
 use crate::words::{Asked, HELP, VERSION};
 use reg_args::{WordsFault, tell, words_of};
 use reg_commands::{Fault, OfDocument, Refusal, TextCommand, WorkCommand, run_command};
+use reg_observed::judge_text;
 use reg_reasons::Explain;
 use reg_show::{
     EveryOutcome, FindOrder, FullSchedule, ManyPlays, OneOutcome, ShortSchedule, ShowEither,
@@ -113,6 +114,7 @@ fn obey<R: AllocGlobal, I: Read, O: Write, E: Write>(
         Asked::Find { kind } => run_command(FindOrder { kind }, alloc, reader, writer, errors),
         Asked::Why => run_command(Explain { global }, alloc, reader, writer, errors),
         Asked::Verify => run_command(Verify, alloc, reader, writer, errors),
+        Asked::Judge => judge_text(alloc, None, reader, writer, errors),
     }
 }
 
@@ -124,7 +126,7 @@ pub fn refuse<E: Write>(fault: WordsFault, errors: &mut E) -> u8
 {
     tell(
         fault,
-        b"usage: awshow schedule [--fair | --seed S] [--short] | outcomes [--all [K] | [--plays N] [--seed S]] | find serial | find points | trace | draw | data | page | rest | why | verify\n",
+        b"usage: awshow schedule [--fair | --seed S] [--short] | outcomes [--all [K] | [--plays N] [--seed S]] | find serial | find points | trace | draw | data | page | rest | why | verify | judge\n",
         errors,
     )
 }

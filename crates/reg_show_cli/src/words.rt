@@ -23,6 +23,8 @@ pub enum Asked {
     Why,
     /// To judge the record on the input.
     Verify,
+    /// To judge the history of JSON lines on the input.
+    Judge,
     /// How the program is used.
     Help,
     /// Which version of the program this is.
@@ -53,6 +55,7 @@ usage: awshow schedule               reads a workload, prints the schedule of it
        awshow rest                   reads the same, prints the schedule with the events that bring the run to rest
        awshow why                    reads any of the three texts, prints what is wrong with it, and where
        awshow verify                 reads a record of processes that ran apart, prints the report of their run
+       awshow judge                  reads a history as JSON lines, prints whether it is linearizable, key by key
        awshow help                   prints this; so do a command's word and --help
        awshow --version              prints the version
 ";
