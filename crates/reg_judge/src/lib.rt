@@ -3,3 +3,15 @@
 
 mod acts;
 mod bits;
+mod calls;
+mod found;
+mod judge;
+mod order;
+mod search;
+mod stages;
+mod trail;
+
+pub use judge::{MOST_STAGES, PointsFault, judge_points};
+
+#[cfg(test)]
+mod tests;

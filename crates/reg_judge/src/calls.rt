@@ -1,0 +1,103 @@
+//! The operations that run, by process.
+use crate::acts::{Act, act_in};
+use crate::stages::Mover;
+use reg_base::OpId;
+use reg_checkers::{Entry, Fact};
+use std::alloc::{AllocError, Allocator};
+use std::collections::BTreeMap;
+
+/// An operation that runs.
+#[derive(Clone, Copy)]
+pub struct Call {
+    pub id: OpId,
+    pub act: Act,
+    /// The number of entries up to and with the last answer to an operation that needs what this one leaves, 0 where
+    /// none does.
+    pub needed_until: usize,
+}
+
+/// For a register and a value, the number of entries up to and with the last answer to an operation that needs it.
+pub type Needs<A> = BTreeMap<(u16, u64), usize, A>;
+
+/// Notes the need of an operation that is answered as the entry at a place.
+fn note_need<A: Allocator + Copy>(
+    needs: &mut Needs<A>,
+    act: Option<Act>,
+    place: usize,
+) -> Result<(), AllocError> {
+    let Some(act) = act else {
+        return Ok(());
+    };
+    let Some(value) = act.needs else {
+        return Ok(());
+    };
+    needs.insert((act.register, value), place + 1)?;
+    Ok(())
+}
+
+/// For each register and value, the number of entries up to and with the last answer to an operation that needs it.
+pub fn needs_of<A: Allocator + Copy>(
+    alloc: A,
+    rows: &[Vec<Fact, A>],
+    entries: &[Entry],
+) -> Result<Needs<A>, AllocError> {
+    let mut needs = BTreeMap::new(alloc);
+    for place in 0..entries.len() {
+        if let Entry::Answered {
+            at: _,
+            id,
+            answer: _,
+        } = entries[place]
+        {
+            note_need(&mut needs, act_in(rows, id), place)?;
+        }
+    }
+    Ok(needs)
+}
+
+/// Up to where what an operation leaves is needed.
+fn needed_until<A: Allocator + Copy>(needs: &Needs<A>, act: Act) -> usize {
+    match act.makes {
+        Some(value) => match needs.get(&(act.register, value)) {
+            Some(until) => *until,
+            None => 0,
+        },
+        None => 0,
+    }
+}
+
+/// The operation of this id as it is called.
+pub fn call_of<A: Allocator + Copy>(
+    rows: &[Vec<Fact, A>],
+    needs: &Needs<A>,
+    id: OpId,
+) -> Option<Call> {
+    let act = act_in(rows, id)?;
+    Some(Call {
+        id,
+        act,
+        needed_until: needed_until(needs, act),
+    })
+}
+
+/// The operations that run on a register at the entry of a place.
+pub fn movers_on<A: Allocator + Copy>(
+    alloc: A,
+    running: &[Option<Call>],
+    register: u16,
+    place: usize,
+) -> Result<Vec<Mover, A>, AllocError> {
+    let mut movers = Vec::new(alloc);
+    for process in 0..running.len() {
+        if let Some(call) = running[process] {
+            if call.act.register == register {
+                movers.push(Mover {
+                    id: call.id,
+                    act: call.act,
+                    free: call.act.needs.is_none() && call.needed_until <= place,
+                })?;
+            }
+        }
+    }
+    Ok(movers)
+}

@@ -1,0 +1,130 @@
+//! A point order of a history, or the first answer that none explains.
+use crate::order::points_of;
+use crate::search::{Searched, go_through};
+use reg_checkers::{Entry, History, HistoryFault, Point, check_points, table_of};
+use std::alloc::{AllocError, Allocator, Global};
+use thiserror::Error;
+
+/// The most stages of a register between two entries, where nothing else is asked for.
+pub const MOST_STAGES: u32 = 1_048_576;
+
+/// Why a history has no point order, or none is given.
+#[derive(Clone, Copy, Debug, PartialEq, Eq, Error)]
+pub enum PointsFault {
+    /// There is no point order, from the entry at this place on. That is an answer, and the entries before it have a
+    /// point order.
+    #[error("no point order from the answer at {place} on")]
+    No { place: usize },
+    /// At the entry of this place there were more stages of a register than the limit.
+    #[error("too many stages at {place}")]
+    TooManyStages { place: usize },
+    /// What the search found did not pass the check of point orders.
+    #[error("unchecked")]
+    Unchecked,
+    /// Memory was refused.
+    #[error("out of memory")]
+    OutOfMemory,
+}
+
+impl From<AllocError> for PointsFault {
+    fn from(_error: AllocError) -> PointsFault {
+        Self::OutOfMemory
+    }
+}
+
+/// Whether there is a point order.
+#[derive(Drop)]
+enum Decided<A: Allocator + Copy = Global> {
+    /// This one.
+    Order(Vec<Point, A>),
+    /// None, and the search came up to the entry of this place.
+    None(usize),
+}
+
+/// A point order of a history, or that there is none.
+fn decide<A: Allocator + Copy>(
+    alloc: A,
+    history: &History<A>,
+    limit: u32,
+) -> Result<Decided<A>, PointsFault> {
+    let rows = table_of(alloc, history.shape(), history.entries())?;
+    match go_through(alloc, history.shape(), &rows, history.entries(), limit)? {
+        Searched::Through(search) => {
+            let points = points_of(alloc, &rows, &search)?;
+            match check_points(alloc, history, &points) {
+                Ok(()) => Ok(Decided::Order(points)),
+                Err(_) => Err(PointsFault::Unchecked),
+            }
+        }
+        Searched::Stuck(place) => Ok(Decided::None(place)),
+        Searched::TooMany(place) => Err(PointsFault::TooManyStages { place }),
+    }
+}
+
+/// The first entries of a history.
+fn first_part<A: Allocator + Copy>(
+    alloc: A,
+    history: &History<A>,
+    count: usize,
+) -> Result<History<A>, AllocError> {
+    let mut part = History::new(alloc, history.shape())?;
+    let entries = history.entries();
+    for place in 0..count {
+        match part.push(entries[place]) {
+            Ok(()) => {}
+            Err(HistoryFault::OutOfMemory) => return Err(AllocError),
+            Err(HistoryFault::OutOfPlace) => unreachable!(),
+        }
+    }
+    Ok(part)
+}
+
+/// A number of entries between two, to be tried next: where the search came to, if that is between them.
+fn between(good: usize, bad: usize, reached: usize) -> usize {
+    if good <= reached && reached + 1 < bad {
+        return reached + 1;
+    }
+    if good < reached && reached < bad {
+        return reached;
+    }
+    good + (bad - good) / 2
+}
+
+/// The place of the first answer that no point order explains, in a history that has none.
+fn first_unexplained<A: Allocator + Copy>(
+    alloc: A,
+    history: &History<A>,
+    reached: usize,
+    limit: u32,
+) -> Result<usize, PointsFault> {
+    let mut good = 0;
+    let mut bad = history.entries().len();
+    let mut reached = reached;
+    while good + 1 < bad {
+        let count = between(good, bad, reached);
+        let part = first_part(alloc, history, count)?;
+        match decide(alloc, &part, limit)? {
+            Decided::Order(_) => good = count,
+            Decided::None(place) => {
+                bad = count;
+                reached = place;
+            }
+        }
+    }
+    Ok(good)
+}
+
+/// A point order of a history.
+pub fn judge_points<A: Allocator + Copy>(
+    alloc: A,
+    history: &History<A>,
+    limit: u32,
+) -> Result<Vec<Point, A>, PointsFault> {
+    match decide(alloc, history, limit)? {
+        Decided::Order(points) => Ok(points),
+        Decided::None(reached) => {
+            let place = first_unexplained(alloc, history, reached, limit)?;
+            Err(PointsFault::No { place })
+        }
+    }
+}
