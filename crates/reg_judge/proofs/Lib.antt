@@ -1,3 +1,6 @@
 pub mod Puts
 pub mod Covering
 pub mod Going
+pub mod Registers
+pub mod Cuts
+pub mod Starting
