@@ -83,10 +83,13 @@ module _ (n registers : ℕ) (h : List Entry) (good : IsHistory n registers h) w
 
       -- what runs of another process ran before
       open_less : (id : OpId) → id.process ≢ x.process → IsOpen h (suc k) id → IsOpen h k id
-      open_less id apart ((at, op, was), not) = (elim ((more (Called t x o) here).cases (Called at id op) was) [
-        | inl old ↦ (at, op, old)
-        | inr new ↦ absurd (apart (let e : id ≡ x = cc in ap (λ (y : OpId). y.process) e))
-      ], λ fin. not (finished_more (Called t x o) here id fin))
+      open_less id apart ((at, op, was), not) = (
+        elim ((more (Called t x o) here).cases (Called at id op) was) [
+          | inl old ↦ (at, op, old)
+          | inr new ↦ absurd (apart (let e : id ≡ x = cc in ap (λ (y : OpId). y.process) e))
+        ],
+        λ fin. not (finished_more (Called t x o) here id fin),
+      )
 
       -- what runs of this process is what is called
       open_is : (id : OpId) → id.process ≡ x.process → IsOpen h (suc k) id → id ≡ x

@@ -4,3 +4,4 @@ pub mod Going
 pub mod Registers
 pub mod Cuts
 pub mod Starting
+pub mod Keeping

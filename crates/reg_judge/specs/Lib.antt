@@ -1,3 +1,4 @@
 pub mod Acts
 pub mod Completing
 pub mod Stages
+pub mod Searching

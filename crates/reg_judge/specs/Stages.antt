@@ -10,7 +10,6 @@ use Rattle.reg_judge.specs.declared.stages.Stage.{Stage}
 use Rattle.reg_judge.specs.Acts.{Fits, value_after}
 use Rattle.reg_judge.specs.Completing.{Completes, IsFree, Running, put}
 
-
 -- each is of one of the processes that a set can have
 abbrev pub AreNarrow : List Mover → Type 0
 AreNarrow movers = (i : ℕ) (m : Mover) → IsAt movers i m → m.id.process < 64
@@ -47,13 +46,25 @@ HasAfter movers s m stages = MayMove s m → (j : ℕ) × (t : Stage) × IsAt st
 abbrev pub IsDone : List Mover → ℕ → List Stage → Stage → Type 0
 IsDone movers p stages s = (bit_at s.placed p ≡ 1) ⊎ ((i : ℕ) (m : Mover) → IsAt movers i m → HasAfter movers s m stages)
 
+-- each of the first stages is done
+abbrev pub AreDoneTo : ℕ → List Mover → ℕ → List Stage → Type 0
+AreDoneTo n movers p stages = (j : ℕ) (s : Stage) → j < n → IsAt stages j s → IsDone movers p stages s
+
 -- each stage is done
 abbrev pub AreDone : List Mover → ℕ → List Stage → Type 0
 AreDone movers p stages = (j : ℕ) (s : Stage) → IsAt stages j s → IsDone movers p stages s
 
--- each stage at which the process is placed is kept, and there the process is not placed any more
+-- these stages have one that is the stage without the process
+abbrev pub HasWithout : ℕ → List Stage → Stage → Type 0
+HasWithout p stages s = (l : ℕ) × (t : Stage) × IsAt stages l t × (t.value ≡ s.value) × ((q : ℕ) → bit_at t.placed q ≡ put (bit_at s.placed) p 0 q)
+
+-- each of the first stages at which the process is placed is kept, and there the process is not placed any more
+abbrev pub KeepsTo : ℕ → ℕ → List Stage → List Stage → Type 0
+KeepsTo n p old new = (j : ℕ) (s : Stage) → j < n → IsAt old j s → bit_at s.placed p ≡ 1 → HasWithout p new s
+
+-- each stage at which the process is placed is kept so
 abbrev pub Keeps : ℕ → List Stage → List Stage → Type 0
-Keeps p old new = (j : ℕ) (s : Stage) → IsAt old j s → bit_at s.placed p ≡ 1 → (l : ℕ) × (t : Stage) × IsAt new l t × (t.value ≡ s.value) × ((q : ℕ) → bit_at t.placed q ≡ put (bit_at s.placed) p 0 q)
+Keeps p old new = (j : ℕ) (s : Stage) → IsAt old j s → bit_at s.placed p ≡ 1 → HasWithout p new s
 
 -- each stage stays, and where an operation fits it, that may be placed too
 abbrev pub Reads : ℕ → List Stage → List Stage → Type 0
@@ -68,3 +79,22 @@ pub record AreMovers (r : ℕ) (act : OpId → Option Act) (run : Running) (es :
 -- some stage goes on through these entries
 abbrev pub IsAlive : ℕ → (OpId → Option Act) → Running → List Entry → List Stage → Type 0
 IsAlive r act run es stages = (n : ℕ) × (j : ℕ) × (s : Stage) × IsAt stages j s × Completes r act n run (bit_at s.placed) s.value es
+
+-- each of the first of these stages is among those
+abbrev pub HasEachTo : ℕ → List Stage → List Stage → Type 0
+HasEachTo n stages these = (j : ℕ) (s : Stage) → j < n → IsAt these j s → HasStage stages s.placed s.value
+
+-- each of these stages is among those
+abbrev pub HasEach : List Stage → List Stage → Type 0
+HasEach stages these = (j : ℕ) (s : Stage) → IsAt these j s → HasStage stages s.placed s.value
+
+-- the stages after an answer: among stages with the old ones, all done, those at which the process is placed
+pub record IsClosed (movers : List Mover) (p : ℕ) (old new : List Stage) : Type 0 where
+  pub stages : List Stage
+  pub each : HasEach stages old
+  pub done : AreDone movers p stages
+  pub kept : Keeps p stages new
+
+-- what each of the first operations makes of a stage is there
+abbrev pub HasAfterTo : ℕ → List Mover → Stage → List Stage → Type 0
+HasAfterTo n movers s stages = (i : ℕ) (m : Mover) → i < n → IsAt movers i m → HasAfter movers s m stages

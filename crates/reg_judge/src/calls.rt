@@ -1,4 +1,10 @@
 //! The operations that run, by process.
+ghost use Rattle.std.specs.Prelude.{◌≡◌, ◌+◌, ◌<◌, ◌≤◌, ℕ, Some, IfOk, OnOk};
+ghost use Rattle.std.specs.BTreeMap.{get};
+ghost use Rattle.reg_judge.specs.declared.acts.Act.{Act as AnyAct};
+ghost use Rattle.reg_judge.specs.Acts.{act_in as act_in_rows};
+ghost use Rattle.reg_judge.specs.Searching.{AreMoversOf, AreNeeds, IsCallOf, need_cmp};
+
 use crate::acts::{Act, act_in};
 use crate::stages::Mover;
 use reg_base::OpId;
@@ -24,7 +30,11 @@ fn note_need<A: Allocator + Copy>(
     needs: &mut Needs<A>,
     act: Option<Act>,
     place: usize,
-) -> Result<(), AllocError> {
+) -> Result<(), AllocError>
+    requires { place < usize.MAX }
+    ensures noted { OnOk result ((a : AnyAct) (u : ℕ) → act ≡ Some a → a.needs ≡ Some u → get need_cmp needs.new (a.register, u) ≡ Some (place + 1)) }
+    ensures kept { OnOk result ((q : ℕ × ℕ) (j until : ℕ) → j < place → j < until → get need_cmp needs.old q ≡ Some until → (later : ℕ) × (get need_cmp needs.new q ≡ Some later) × (j < later)) }
+{
     let Some(act) = act else {
         return Ok(());
     };
@@ -40,7 +50,9 @@ pub fn needs_of<A: Allocator + Copy>(
     alloc: A,
     rows: &[Vec<Fact, A>],
     entries: &[Entry],
-) -> Result<Needs<A>, AllocError> {
+) -> Result<Needs<A>, AllocError>
+    ensures { IfOk result (λ needs. AreNeeds entries.now (act_in_rows rows.now) needs) }
+{
     let mut needs = BTreeMap::new(alloc);
     for place in 0..entries.len() {
         if let Entry::Answered {
@@ -56,7 +68,9 @@ pub fn needs_of<A: Allocator + Copy>(
 }
 
 /// Up to where what an operation leaves is needed.
-fn needed_until<A: Allocator + Copy>(needs: &Needs<A>, act: Act) -> usize {
+fn needed_until<A: Allocator + Copy>(needs: &Needs<A>, act: Act) -> usize
+    ensures { (u until : ℕ) → act.makes ≡ Some u → get need_cmp needs.now (act.register, u) ≡ Some until → result ≡ until }
+{
     match act.makes {
         Some(value) => match needs.get(&(act.register, value)) {
             Some(until) => *until,
@@ -66,12 +80,14 @@ fn needed_until<A: Allocator + Copy>(needs: &Needs<A>, act: Act) -> usize {
     }
 }
 
-/// The operation of this id as it is called.
+/// The operation of this id as it is called, None where it need take no effect.
 pub fn call_of<A: Allocator + Copy>(
     rows: &[Vec<Fact, A>],
     needs: &Needs<A>,
     id: OpId,
-) -> Option<Call> {
+) -> Option<Call>
+    ensures { IsCallOf rows.now needs.now id result }
+{
     let act = act_in(rows, id)?;
     Some(Call {
         id,
@@ -86,7 +102,9 @@ pub fn movers_on<A: Allocator + Copy>(
     running: &[Option<Call>],
     register: u16,
     place: usize,
-) -> Result<Vec<Mover, A>, AllocError> {
+) -> Result<Vec<Mover, A>, AllocError>
+    ensures { IfOk result (λ v. AreMoversOf running.now register place v.items) }
+{
     let mut movers = Vec::new(alloc);
     for process in 0..running.len() {
         if let Some(call) = running[process] {

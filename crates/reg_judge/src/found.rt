@@ -1,16 +1,30 @@
 //! Stages that were found between two entries, each once (Lowe 2017).
+ghost use Rattle.std.specs.Prelude.{◌≡◌, ◌<◌, ℕ, IfOk, IfSome, IsTrue, OnOk};
+ghost use Rattle.reg_checkers.specs.History.{IsAt};
+ghost use Rattle.reg_judge.specs.declared.stages.Mover.{Mover as AnyMover};
+ghost use Rattle.reg_judge.specs.Stages.{AreDone, AreNarrow, Extends, HasAfter, HasEach, HasStage, IsClosed, IsDone};
+
 use crate::bits::has;
-use crate::stages::{Mover, Stage, placed_after};
+use crate::stages::{Mover, Stage, answered, placed_after};
 use crate::trail::Trail;
 use std::alloc::{AllocError, Allocator, Global};
-use std::collections::BTreeSet;
+use std::collections::BTreeMap;
 
 /// Stages, each once.
 #[derive(Drop)]
-pub struct Found<A: Allocator + Copy = Global> {
-    pub stages: Vec<Stage, A>,
-    /// The processes that are placed and the value, of each stage.
-    seen: BTreeSet<(u64, u64), A>,
+struct Found<A: Allocator + Copy = Global> {
+    stages: Vec<Stage, A>,
+    /// The place of a stage, by the processes that are placed and the value.
+    places: BTreeMap<(u64, u64), usize, A>,
+}
+
+/// Whether another operation takes effect beside one.
+fn is_besides(stage: Stage, mover: Mover, placed: u64, other: Mover) -> bool
+    requires { other.id.process < 64 }
+{
+    other.id.process != mover.id.process
+        && has(placed, other.id.process)
+        && !has(stage.placed, other.id.process)
 }
 
 /// Places what takes effect from one stage to another: writes that are hidden, the operation, and reads after it.
@@ -20,7 +34,9 @@ fn place_steps<A: Allocator + Copy>(
     stage: Stage,
     mover: Mover,
     placed: u64,
-) -> Result<Option<usize>, AllocError> {
+) -> Result<Option<usize>, AllocError>
+    requires { AreNarrow movers.now }
+{
     let mut last = stage.last;
     for other in movers {
         if other.act.makes.is_some() && is_besides(stage, mover, placed, *other) {
@@ -36,48 +52,81 @@ fn place_steps<A: Allocator + Copy>(
     Ok(last)
 }
 
-/// Whether another operation takes effect beside one.
-fn is_besides(stage: Stage, mover: Mover, placed: u64, other: Mover) -> bool {
-    other.id.process != mover.id.process
-        && has(placed, other.id.process)
-        && !has(stage.placed, other.id.process)
-}
-
 impl<A: Allocator + Copy> Found<A> {
     /// No stages.
-    pub fn new(alloc: A) -> Found<A> {
+    fn new(alloc: A) -> Found<A> {
         Found {
             stages: Vec::new(alloc),
-            seen: BTreeSet::new(alloc),
+            places: BTreeMap::new(alloc),
         }
     }
 
-    /// Adds a stage, where it is new.
-    pub fn add(&mut self, stage: Stage) -> Result<(), AllocError> {
-        if self.seen.contains(&(stage.placed, stage.value)) {
-            return Ok(());
-        }
+    /// Whether there is a stage with these processes placed and this value. What the map says is looked up.
+    fn is_there(&self, placed: u64, value: u64) -> bool
+        ensures { IsTrue result → HasStage self.now.stages.items placed value }
+    {
+        let Some(place) = self.places.get(&(placed, value)) else {
+            return false;
+        };
+        let Some(stage) = self.stages.get(*place) else {
+            return false;
+        };
+        stage.placed == placed && stage.value == value
+    }
+
+    /// Adds a stage that is not there.
+    fn add_new(&mut self, stage: Stage) -> Result<(), AllocError>
+        ensures extends { OnOk result (Extends self.old.stages.items self.new.stages.items) }
+        ensures there { OnOk result (HasStage self.new.stages.items stage.placed stage.value) }
+    {
+        let place = self.stages.len();
         self.stages.push(stage)?;
-        self.seen.insert((stage.placed, stage.value))?;
+        self.places.insert((stage.placed, stage.value), place)?;
         Ok(())
     }
 
-    /// Adds the stage after an operation, where it may take effect at the stage of this place.
+    /// Adds a stage, where it is not there.
+    fn add(&mut self, stage: Stage) -> Result<(), AllocError>
+        ensures extends { OnOk result (Extends self.old.stages.items self.new.stages.items) }
+        ensures there { OnOk result (HasStage self.new.stages.items stage.placed stage.value) }
+    {
+        if self.is_there(stage.placed, stage.value) {
+            return Ok(());
+        }
+        self.add_new(stage)
+    }
+
+    /// Adds stages, where they are not there.
+    fn add_each(&mut self, stages: &[Stage]) -> Result<(), AllocError>
+        ensures { OnOk result (HasEach self.new.stages.items stages.now) }
+    {
+        for stage in stages {
+            self.add(*stage)?;
+        }
+        Ok(())
+    }
+
+    /// Adds the stage after an operation, where it may take effect at a stage.
     fn add_after(
         &mut self,
         trail: &mut Trail<A>,
         movers: &[Mover],
         stage: Stage,
         mover: Mover,
-    ) -> Result<(), AllocError> {
+    ) -> Result<(), AllocError>
+        requires narrow { AreNarrow movers.now }
+        requires process { mover.id.process < 64 }
+        ensures extends { OnOk result (Extends self.old.stages.items self.new.stages.items) }
+        ensures there { OnOk result (HasAfter movers.now stage mover self.new.stages.items) }
+    {
         let Some((placed, value)) = placed_after(movers, stage, mover) else {
             return Ok(());
         };
-        if self.seen.contains(&(placed, value)) {
+        if self.is_there(placed, value) {
             return Ok(());
         }
         let last = place_steps(trail, movers, stage, mover, placed)?;
-        self.add(Stage {
+        self.add_new(Stage {
             placed,
             value,
             last,
@@ -90,30 +139,79 @@ impl<A: Allocator + Copy> Found<A> {
         trail: &mut Trail<A>,
         movers: &[Mover],
         stage: Stage,
-    ) -> Result<(), AllocError> {
+    ) -> Result<(), AllocError>
+        requires { AreNarrow movers.now }
+        ensures extends { OnOk result (Extends self.old.stages.items self.new.stages.items) }
+        ensures there { OnOk result ((i : ℕ) (m : AnyMover) → IsAt movers.now i m → HasAfter movers.now stage m self.new.stages.items) }
+    {
         for mover in movers {
             self.add_after(trail, movers, stage, *mover)?;
         }
         Ok(())
     }
 
-    /// Adds all stages that operations lead to, one after another, up to those at which the process is placed.
-    pub fn complete(
+    /// Adds the stages after a stage, unless the process is placed there.
+    fn finish(
+        &mut self,
+        trail: &mut Trail<A>,
+        movers: &[Mover],
+        process: u8,
+        stage: Stage,
+    ) -> Result<(), AllocError>
+        requires narrow { AreNarrow movers.now }
+        requires process { process < 64 }
+        ensures extends { OnOk result (Extends self.old.stages.items self.new.stages.items) }
+        ensures done { OnOk result (IsDone movers.now process self.new.stages.items stage) }
+    {
+        if has(stage.placed, process) {
+            return Ok(());
+        }
+        self.add_all_after(trail, movers, stage)
+    }
+
+    /// Adds all stages that operations lead to, one after another, up to those at which the process is placed. False
+    /// where there are more than the limit.
+    fn complete(
         &mut self,
         trail: &mut Trail<A>,
         movers: &[Mover],
         process: u8,
         limit: u32,
-    ) -> Result<bool, AllocError> {
-        for place in 0..limit as usize {
+    ) -> Result<bool, AllocError>
+        requires narrow { AreNarrow movers.now }
+        requires process { process < 64 }
+        ensures extends { OnOk result (Extends self.old.stages.items self.new.stages.items) }
+        ensures done { IfOk result (λ all. IsTrue all → AreDone movers.now process self.new.stages.items) }
+    {
+        for place in 0..=limit as usize {
             if place >= self.stages.len() {
                 return Ok(true);
             }
             let stage = self.stages[place];
-            if !has(stage.placed, process) {
-                self.add_all_after(trail, movers, stage)?;
-            }
+            self.finish(trail, movers, process, stage)?;
         }
         Ok(false)
     }
+}
+
+/// The stages after an answer to what a process runs, from those before it. None where more than the limit are found.
+pub fn close<A: Allocator + Copy>(
+    alloc: A,
+    trail: &mut Trail<A>,
+    stages: &[Stage],
+    movers: &[Mover],
+    process: u8,
+    limit: u32,
+) -> Result<Option<Vec<Stage, A>>, AllocError>
+    requires narrow { AreNarrow movers.now }
+    requires process { process < 64 }
+    ensures { IfOk result (λ o. IfSome o (λ v. IsClosed movers.now process stages.now v.items)) }
+{
+    let mut found = Found::new(alloc);
+    found.add_each(stages)?;
+    if !found.complete(trail, movers, process, limit)? {
+        return Ok(None);
+    }
+    let kept = answered(alloc, &found.stages, process)?;
+    Ok(Some(kept))
 }

@@ -56,8 +56,8 @@ fn decide<A: Allocator + Copy>(
                 Err(_) => Err(PointsFault::Unchecked),
             }
         }
-        Searched::Stuck(place) => Ok(Decided::None(place)),
-        Searched::TooMany(place) => Err(PointsFault::TooManyStages { place }),
+        Searched::AtEntry(place) => Ok(Decided::None(place)),
+        Searched::Wide(place) => Err(PointsFault::TooManyStages { place }),
     }
 }
 

@@ -1,15 +1,23 @@
 //! The search: entries are gone through in order, and for each register the stages are kept that its operations can
-//! have led to (just in time: an operation takes effect only where the next answer asks for it; Lowe 2017).
+//! have led to. An operation takes effect only where the next answer asks for it (Lowe 2017).
+ghost use Rattle.std.specs.Prelude.{◌≡◌, ◌+◌, ◌<◌, ◌≤◌, ℕ, List, Option, IfOk, IfSome, OnOk, length, replicate, slice_set};
+ghost use Rattle.reg_checkers.specs.History.{IsAt, IsHistory};
+ghost use Rattle.reg_checkers.specs.Table.{IsTable};
+ghost use Rattle.reg_judge.specs.declared.acts.Act.{Act as AnyAct};
+ghost use Rattle.reg_judge.specs.declared.calls.Call.{Call as AnyCall};
+ghost use Rattle.reg_judge.specs.Acts.{act_in as act_in_rows};
+ghost use Rattle.reg_judge.specs.Searching.{AreFirst, AreRead, AreWaiting, IsAnswering, IsCallOf, IsKnown, IsLayerAfter, IsSearchEnd, IsStep};
+ghost use Rattle.reg_judge.specs.Stages.{Reads};
+
 use crate::acts::Act;
 use crate::bits::with;
 use crate::calls::{Call, Needs, call_of, movers_on, needs_of};
-use crate::found::Found;
+use crate::found::close;
 use crate::stages::{Stage, all_have, answered};
 use crate::trail::Trail;
 use reg_base::{OpId, Shape};
 use reg_checkers::{Entry, Fact};
 use std::alloc::{AllocError, Allocator, Global};
-use std::mem;
 
 /// A search under way.
 #[derive(Drop)]
@@ -29,26 +37,94 @@ pub struct Search<A: Allocator + Copy = Global> {
 pub enum Stepped {
     /// There are stages still.
     On,
-    /// The register has no stage any more.
+    /// A register has no stage any more.
     Stuck,
-    /// There are more stages than the limit.
+    /// A register has more stages than the limit.
     TooMany,
+}
+
+/// A read that is called takes effect at once where it tells the value.
+fn read_at_once<A: Allocator + Copy>(
+    layer: &mut Vec<Stage, A>,
+    trail: &mut Trail<A>,
+    id: OpId,
+    act: Act,
+) -> Result<(), AllocError>
+    requires { id.process < 64 }
+    ensures { OnOk result (Reads id.process layer.old.items layer.new.items) }
+{
+    for place in 0..layer.len() {
+        let stage = layer[place];
+        if act.fits(stage.value) {
+            let last = trail.place(id, stage.last)?;
+            layer[place] = Stage {
+                placed: with(stage.placed, id.process),
+                value: stage.value,
+                last,
+            };
+        }
+    }
+    Ok(())
+}
+
+/// The stages of each register at first.
+fn first_layers<A: Allocator + Copy>(
+    alloc: A,
+    registers: u32,
+) -> Result<Vec<Vec<Stage, A>, A>, AllocError>
+    ensures first { IfOk result (λ v. AreFirst v.items) }
+    ensures len { IfOk result (λ v. length v.items ≡ registers) }
+{
+    let mut layers = Vec::new(alloc);
+    for _register in 0..registers {
+        let mut layer = Vec::new(alloc);
+        layer.push(Stage {
+            placed: 0,
+            value: 0,
+            last: None,
+        })?;
+        layers.push(layer)?;
+    }
+    Ok(layers)
+}
+
+/// An answer: to what a process runs on a register, as the entry at a place, and the most stages that may be found.
+#[derive(Clone, Copy)]
+struct Answering {
+    process: u8,
+    register: u16,
+    place: usize,
+    limit: u32,
+}
+
+/// The stages of a register after an answer, None where there are more than the limit.
+fn layer_after<A: Allocator + Copy>(
+    alloc: A,
+    running: &[Option<Call>],
+    layer: &[Stage],
+    trail: &mut Trail<A>,
+    at: Answering,
+) -> Result<Option<Vec<Stage, A>>, AllocError>
+    requires process { at.process < 64 }
+    requires narrow { (p : ℕ) (c : AnyCall) → IsAt running.now p (Some c) → c.id.process < 64 }
+    ensures { IfOk result (λ o. IfSome o (λ v. IsLayerAfter running.now at.register at.place at.process layer.now v.items)) }
+{
+    if all_have(layer, at.process) {
+        return Ok(Some(answered(alloc, layer, at.process)?));
+    }
+    let movers = movers_on(alloc, running, at.register, at.place)?;
+    close(alloc, trail, layer, &movers, at.process, at.limit)
 }
 
 impl<A: Allocator + Copy> Search<A> {
     /// A search at the first entry.
-    pub fn new(alloc: A, shape: Shape, limit: u32) -> Result<Search<A>, AllocError> {
+    fn new(alloc: A, shape: Shape, limit: u32) -> Result<Search<A>, AllocError>
+        ensures first { IfOk result (λ s. AreFirst s.layers.items) }
+        ensures registers { IfOk result (λ s. length s.layers.items ≡ shape.registers) }
+        ensures idle { IfOk result (λ s. s.running.items ≡ replicate shape.processes None) }
+    {
         let running: Vec<Option<Call>, A> = vec![in alloc; None; shape.processes() as usize]?;
-        let mut layers = Vec::new(alloc);
-        for _register in 0..shape.registers() {
-            let mut layer = Vec::new(alloc);
-            layer.push(Stage {
-                placed: 0,
-                value: 0,
-                last: None,
-            })?;
-            layers.push(layer)?;
-        }
+        let layers = first_layers(alloc, shape.registers())?;
         Ok(Search {
             alloc,
             limit,
@@ -58,82 +134,74 @@ impl<A: Allocator + Copy> Search<A> {
         })
     }
 
-    /// A read that is called takes effect at once where it tells the value.
-    fn read_at_once(&mut self, id: OpId, act: Act) -> Result<(), AllocError> {
-        let layer = &mut self.layers[usize::from(act.register)];
-        for place in 0..layer.len() {
-            let stage = layer[place];
-            if act.fits(stage.value) {
-                layer[place] = Stage {
-                    placed: with(stage.placed, id.process),
-                    value: stage.value,
-                    last: self.trail.place(id, stage.last)?,
-                };
-            }
-        }
-        Ok(())
-    }
-
     /// An operation is called.
-    fn call(
-        &mut self,
-        rows: &[Vec<Fact, A>],
-        needs: &Needs<A>,
-        id: OpId,
-    ) -> Result<(), AllocError> {
+    fn call(&mut self, rows: &[Vec<Fact, A>], needs: &Needs<A>, id: OpId) -> Result<(), AllocError>
+        requires process { id.process < length self.old.running.items }
+        requires few { length self.old.running.items ≤ 64 }
+        requires register { (a : AnyAct) → act_in_rows rows.now id ≡ Some a → a.register < length self.old.layers.items }
+        ensures running { OnOk result ((o : Option AnyCall) × IsCallOf rows.now needs.now id o × (self.new.running.items ≡ slice_set self.old.running.items id.process o)) }
+        ensures layers { OnOk result (AreRead (act_in_rows rows.now) id self.old.layers.items self.new.layers.items) }
+        ensures len { OnOk result (length self.new.layers.items ≡ length self.old.layers.items) }
+    {
         let call = call_of(rows, needs, id);
         self.running[usize::from(id.process)] = call;
-        if let Some(call) = call {
-            if call.act.makes.is_none() {
-                self.read_at_once(id, call.act)?;
-            }
+        let Some(call) = call else {
+            return Ok(());
+        };
+        if call.act.makes.is_some() {
+            return Ok(());
         }
-        Ok(())
+        let layer = &mut self.layers[usize::from(call.act.register)];
+        read_at_once(layer, &mut self.trail, id, call.act)
     }
 
-    /// The stages of a register at the answer to what a process runs there.
-    fn close(&mut self, process: u8, register: u16, place: usize) -> Result<bool, AllocError> {
-        let movers = movers_on(self.alloc, &self.running, register, place)?;
-        let mut found = Found::new(self.alloc);
-        for stage in &self.layers[usize::from(register)] {
-            found.add(*stage)?;
-        }
-        let closed = found.complete(&mut self.trail, &movers, process, self.limit)?;
-        let kept = answered(self.alloc, &found.stages, process)?;
-        self.layers[usize::from(register)] = kept;
-        Ok(closed)
-    }
-
-    /// What a process runs is answered.
-    fn answer(&mut self, process: u8, place: usize) -> Result<Stepped, AllocError> {
+    /// What a process runs is answered, as the entry at a place.
+    fn answer(&mut self, process: u8, place: usize) -> Result<Stepped, AllocError>
+        requires process { process < length self.old.running.items }
+        requires few { length self.old.running.items ≤ 64 }
+        requires narrow { (p : ℕ) (c : AnyCall) → IsAt self.old.running.items p (Some c) → c.id.process < 64 }
+        requires registers { (p : ℕ) (c : AnyCall) → IsAt self.old.running.items p (Some c) → c.act.register < length self.old.layers.items }
+        ensures answered { IfOk result (λ s. IsAnswering process place self.old.running.items self.old.layers.items self.new.running.items self.new.layers.items s) }
+    {
         let Some(call) = self.running[usize::from(process)] else {
             return Ok(Stepped::On);
         };
         let register = call.act.register;
-        if all_have(&self.layers[usize::from(register)], process) {
-            let kept = answered(self.alloc, &self.layers[usize::from(register)], process)?;
-            self.layers[usize::from(register)] = kept;
-        } else {
-            if !self.close(process, register, place)? {
-                return Ok(Stepped::TooMany);
-            }
-        }
-        self.running[usize::from(process)] = None;
-        if self.layers[usize::from(register)].is_empty() {
+        let at = Answering {
+            process,
+            register,
+            place,
+            limit: self.limit,
+        };
+        let layer = &self.layers[usize::from(register)];
+        let Some(next) = layer_after(self.alloc, &self.running, layer, &mut self.trail, at)? else {
+            return Ok(Stepped::TooMany);
+        };
+        if next.is_empty() {
             return Ok(Stepped::Stuck);
         }
+        self.layers[usize::from(register)] = next;
+        self.running[usize::from(process)] = None;
         Ok(Stepped::On)
     }
 
-    /// One entry more.
-    pub fn step(
+    /// The entry at a place.
+    fn step(
         &mut self,
         rows: &[Vec<Fact, A>],
         needs: &Needs<A>,
-        entry: Entry,
+        entries: &[Entry],
         place: usize,
-    ) -> Result<Stepped, AllocError> {
-        match entry {
+    ) -> Result<Stepped, AllocError>
+        requires place { place < length entries.now }
+        requires known { IsKnown (length self.old.running.items) (length self.old.layers.items) entries.now rows.now needs.now }
+        requires waiting { AreWaiting entries.now (act_in_rows rows.now) place self.old.running.items }
+        ensures step { IfOk result (λ s. IsStep (act_in_rows rows.now) place entries.now self.old.running.items self.old.layers.items self.new.running.items self.new.layers.items s) }
+        ensures waiting { IfOk result (λ s. s ≡ Stepped.On → AreWaiting entries.now (act_in_rows rows.now) (place + 1) self.new.running.items) }
+        ensures processes { IfOk result (λ s. s ≡ Stepped.On → length self.new.running.items ≡ length self.old.running.items) }
+        ensures registers { IfOk result (λ s. s ≡ Stepped.On → length self.new.layers.items ≡ length self.old.layers.items) }
+    {
+        match entries[place] {
             Entry::Called { at: _, id, op: _ } => {
                 self.call(rows, needs, id)?;
                 Ok(Stepped::On)
@@ -153,9 +221,9 @@ pub enum Searched<A: Allocator + Copy = Global> {
     /// All entries are gone through.
     Through(Search<A>),
     /// At the entry of this place some register had no stage.
-    Stuck(usize),
+    AtEntry(usize),
     /// At the entry of this place some register had more stages than the limit.
-    TooMany(usize),
+    Wide(usize),
 }
 
 /// Goes through all entries.
@@ -165,14 +233,18 @@ pub fn go_through<A: Allocator + Copy>(
     rows: &[Vec<Fact, A>],
     entries: &[Entry],
     limit: u32,
-) -> Result<Searched<A>, AllocError> {
+) -> Result<Searched<A>, AllocError>
+    requires history { IsHistory shape.processes shape.registers entries.now }
+    requires table { IsTable entries.now rows.now }
+    ensures { IfOk result (IsSearchEnd shape.registers entries.now) }
+{
     let needs = needs_of(alloc, rows, entries)?;
     let mut search = Search::new(alloc, shape, limit)?;
     for place in 0..entries.len() {
-        match search.step(rows, &needs, entries[place], place)? {
+        match search.step(rows, &needs, entries, place)? {
             Stepped::On => {}
-            Stepped::Stuck => return Ok(Searched::Stuck(place)),
-            Stepped::TooMany => return Ok(Searched::TooMany(place)),
+            Stepped::Stuck => return Ok(Searched::AtEntry(place)),
+            Stepped::TooMany => return Ok(Searched::Wide(place)),
         }
     }
     Ok(Searched::Through(search))

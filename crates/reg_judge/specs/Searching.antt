@@ -1,0 +1,107 @@
+-- A search under way: what runs, and the stages of each register. They carry a proof: no promise speaks of them.
+use Rattle.std.specs.Prelude.{ℕ, ◌≡◌, ◌+◌, ◌<◌, ◌≤◌, ◌⊎◌, true, List, [], Option, Some, None, length, drop, option_map, option_and_then, slice_get, slice_set, Vec}
+use Rattle.std.specs.BTreeMap.{BTreeMap, get}
+use Rattle.std.specs.declared.cmp.Ordering.{Ordering}
+use Rattle.std.specs.Ordering.{nat_cmp, ordering_then}
+use Rattle.reg_base.specs.declared.memory.Answer.{Answer}
+use Rattle.reg_base.specs.declared.memory.OpId.{OpId}
+use Rattle.reg_checkers.specs.declared.entries.Entry.{Entry}
+use Rattle.reg_checkers.specs.declared.entries.Entry.TheVariants.{Answered}
+use Rattle.reg_checkers.specs.declared.entries.Point.{Point}
+use Rattle.reg_checkers.specs.History.{IsAt, IsHistory}
+use Rattle.reg_checkers.specs.Orders.{IsPointOrder}
+use Rattle.reg_checkers.specs.Table.{IsTable, Rows}
+use Rattle.reg_judge.specs.declared.acts.Act.{Act}
+use Rattle.reg_judge.specs.declared.calls.Call.{Call}
+use Rattle.reg_judge.specs.declared.search.Searched.{Searched}
+use Rattle.reg_judge.specs.declared.search.Searched.TheVariants.{AtEntry, Through, Wide}
+use Rattle.reg_judge.specs.declared.search.Stepped.{Stepped}
+use Rattle.reg_judge.specs.declared.search.Stepped.TheVariants.{On, Stuck, TooMany}
+use Rattle.reg_judge.specs.declared.stages.Mover.{Mover}
+use Rattle.reg_judge.specs.declared.stages.Stage.{Stage}
+use Rattle.reg_judge.specs.Acts.{act_in}
+use Rattle.reg_judge.specs.Completing.{Running}
+use Rattle.std.specs.Int.{bit_at}
+use Rattle.reg_judge.specs.Stages.{IsAlive, IsClosed, Keeps, Reads}
+
+-- by register, then by value
+abbrev pub need_cmp : ℕ × ℕ → ℕ × ℕ → Ordering
+need_cmp a b = ordering_then (nat_cmp a.0 b.0) (nat_cmp a.1 b.1)
+
+-- Each of the first n answers to an operation that needs a value is told of by the number of entries up to and with a
+-- later one, or itself.
+abbrev pub AreNeedsTo : ℕ → List Entry → (OpId → Option Act) → BTreeMap (ℕ × ℕ) ℕ → Type 0
+AreNeedsTo n h act needs = (j at : ℕ) (id : OpId) (answer : Answer) (a : Act) (u : ℕ) → j < n → IsAt h j (Answered at id answer) → act id ≡ Some a → a.needs ≡ Some u → (until : ℕ) × (get need_cmp needs (a.register, u) ≡ Some until) × (j < until)
+
+abbrev pub AreNeeds : List Entry → (OpId → Option Act) → BTreeMap (ℕ × ℕ) ℕ → Type 0
+AreNeeds h act needs = AreNeedsTo (length h) h act needs
+
+-- no operation that needs what this one leaves is answered so late
+abbrev pub IsNeededUntil : List Entry → (OpId → Option Act) → Act → ℕ → Type 0
+IsNeededUntil h act a until = (j at : ℕ) (id : OpId) (answer : Answer) (b : Act) (u : ℕ) → IsAt h j (Answered at id answer) → act id ≡ Some b → b.register ≡ a.register → b.needs ≡ Some u → a.makes ≡ Some u → j < until
+
+-- the operation runs in this process after k entries
+pub record IsWaiting (h : List Entry) (act : OpId → Option Act) (k p : ℕ) (c : Call) : Type 0 where
+  pub process : c.id.process ≡ p
+  pub is : act c.id ≡ Some c.act
+  pub needed : IsNeededUntil h act c.act c.needed_until
+  pub answered : (u : ℕ) → c.act.needs ≡ Some u → (j : ℕ) × (at : ℕ) × (answer : Answer) × (k ≤ j) × IsAt h j (Answered at c.id answer)
+
+abbrev pub AreWaiting : List Entry → (OpId → Option Act) → ℕ → List (Option Call) → Type 0
+AreWaiting h act k running = (p : ℕ) (c : Call) → IsAt running p (Some c) → IsWaiting h act k p c
+
+-- what runs in each process
+abbrev pub run_of : List (Option Call) → Running
+run_of running p = option_and_then (λ o. option_map (λ c. c.act) o) (slice_get running p)
+
+-- some stage of each register goes on through these entries
+abbrev pub AreAlive : {A : Type 0} → (OpId → Option Act) → Running → List Entry → List (Vec Stage A) → Type 0
+AreAlive {A} act run es layers = (r : ℕ) (layer : Vec Stage A) → IsAt layers r layer → IsAlive r act run es layer.items
+
+-- a history, its operations, and up to where values are needed
+pub record IsKnown {A : Type 0} (n registers : ℕ) (h : List Entry) (rows : Rows A) (needs : BTreeMap (ℕ × ℕ) ℕ) : Type 0 where
+  pub history : IsHistory n registers h
+  pub few : n ≤ 64
+  pub table : IsTable h rows
+  pub needed : AreNeeds h (act_in rows) needs
+
+-- the operation of this id as it is called
+abbrev pub IsCallOf : {A : Type 0} → Rows A → BTreeMap (ℕ × ℕ) ℕ → OpId → Option Call → Type 0
+IsCallOf rows needs id None = act_in rows id ≡ None
+IsCallOf rows needs id (Some c) = (act_in rows id ≡ Some c.act) × (c.id ≡ id) × ((h : List Entry) → AreNeeds h (act_in rows) needs → IsNeededUntil h (act_in rows) c.act c.needed_until)
+
+-- the stages of each register stay, but that a read on it is placed where it fits
+abbrev pub AreRead : {A : Type 0} → (OpId → Option Act) → OpId → List (Vec Stage A) → List (Vec Stage A) → Type 0
+AreRead {A} act id old new = (r : ℕ) (layer : Vec Stage A) → IsAt old r layer → (later : Vec Stage A) × IsAt new r later × ((later.items ≡ layer.items) ⊎ ((a : Act) × (act id ≡ Some a) × (a.register ≡ r) × (a.makes ≡ None) × Reads id.process layer.items later.items))
+
+-- what a step says: where it goes on, some stages go on after it if some went on before; where it is stuck, none did
+abbrev pub IsStep : {A : Type 0} → (OpId → Option Act) → ℕ → List Entry → List (Option Call) → List (Vec Stage A) → List (Option Call) → List (Vec Stage A) → Stepped → Type 0
+IsStep act k h running layers running' layers' On = AreAlive act (run_of running) (drop k h) layers → AreAlive act (run_of running') (drop (k + 1) h) layers'
+IsStep act k h running layers running' layers' Stuck = ¬ AreAlive act (run_of running) (drop k h) layers
+IsStep act k h running layers running' layers' TooMany = Unit {0}
+
+-- the operations that run on a register at the entry of a place
+pub record AreMoversOf (running : List (Option Call)) (r k : ℕ) (movers : List Mover) : Type 0 where
+  pub all : (p : ℕ) (c : Call) → IsAt running p (Some c) → c.act.register ≡ r → (i : ℕ) × (m : Mover) × IsAt movers i m × (m.id ≡ c.id) × (m.act ≡ c.act)
+  pub each : (i : ℕ) (m : Mover) → IsAt movers i m → (p : ℕ) × (c : Call) × IsAt running p (Some c) × (c.act.register ≡ r) × (m.id ≡ c.id) × (m.act ≡ c.act) × (m.free ≡ true → (c.act.needs ≡ None) × (c.needed_until ≤ k))
+
+-- the stages of a register after an answer to what a process runs there
+abbrev pub IsLayerAfter : List (Option Call) → ℕ → ℕ → ℕ → List Stage → List Stage → Type 0
+IsLayerAfter running r k p old new = (((j : ℕ) (s : Stage) → IsAt old j s → bit_at s.placed p ≡ 1) × Keeps p old new) ⊎ ((movers : List Mover) × AreMoversOf running r k movers × IsClosed movers p old new)
+
+-- What a process runs is answered: it ran nothing, and all stays; or the stages of its register are those after the
+-- answer, and it runs nothing any more.
+abbrev pub IsAnswering : {A : Type 0} → ℕ → ℕ → List (Option Call) → List (Vec Stage A) → List (Option Call) → List (Vec Stage A) → Stepped → Type 0
+IsAnswering {A} p k running layers running' layers' TooMany = Unit {0}
+IsAnswering {A} p k running layers running' layers' Stuck = (c : Call) × (layer : Vec Stage A) × IsAt running p (Some c) × IsAt layers c.act.register layer × IsLayerAfter running c.act.register k p layer.items []
+IsAnswering {A} p k running layers running' layers' On = (IsAt running p None × (running' ≡ running) × (layers' ≡ layers)) ⊎ ((c : Call) × (layer later : Vec Stage A) × IsAt running p (Some c) × IsAt layers c.act.register layer × IsLayerAfter running c.act.register k p layer.items later.items × (running' ≡ slice_set running p None) × (layers' ≡ slice_set layers c.act.register later))
+
+-- each register has one stage: nothing is placed, and the value is 0
+abbrev pub AreFirst : {A : Type 0} → List (Vec Stage A) → Type 0
+AreFirst {A} layers = (r : ℕ) (layer : Vec Stage A) → IsAt layers r layer → (s : Stage) × IsAt layer.items 0 s × (s.placed ≡ 0) × (s.value ≡ 0)
+
+-- where a search is stuck, there is no point order
+abbrev pub IsSearchEnd : {A : Type 0} → ℕ → List Entry → Searched A → Type 0
+IsSearchEnd registers h (Through search) = Unit {0}
+IsSearchEnd registers h (AtEntry place) = (ps : List Point) → ¬ IsPointOrder registers h ps
+IsSearchEnd registers h (Wide place) = Unit {0}
