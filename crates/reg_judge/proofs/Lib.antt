@@ -5,3 +5,4 @@ pub mod Registers
 pub mod Cuts
 pub mod Starting
 pub mod Keeping
+pub mod Needs

@@ -1,12 +1,12 @@
 -- A search under way: what runs, and the stages of each register. They carry a proof: no promise speaks of them.
-use Rattle.std.specs.Prelude.{ℕ, ◌≡◌, ◌+◌, ◌<◌, ◌≤◌, ◌⊎◌, true, List, [], Option, Some, None, length, drop, option_map, option_and_then, slice_get, slice_set, Vec}
+use Rattle.std.specs.Prelude.{ℕ, ◌≡◌, ◌≢◌, ◌+◌, ◌<◌, ◌≤◌, ◌⊎◌, true, List, [], ◌∷◌, ◌++◌, Option, Some, None, length, drop, option_map, option_and_then, slice_get, slice_set, Vec}
 use Rattle.std.specs.BTreeMap.{BTreeMap, get}
 use Rattle.std.specs.declared.cmp.Ordering.{Ordering}
 use Rattle.std.specs.Ordering.{nat_cmp, ordering_then}
 use Rattle.reg_base.specs.declared.memory.Answer.{Answer}
 use Rattle.reg_base.specs.declared.memory.OpId.{OpId}
 use Rattle.reg_checkers.specs.declared.entries.Entry.{Entry}
-use Rattle.reg_checkers.specs.declared.entries.Entry.TheVariants.{Answered}
+use Rattle.reg_checkers.specs.declared.entries.Entry.TheVariants.{Answered, Called}
 use Rattle.reg_checkers.specs.declared.entries.Point.{Point}
 use Rattle.reg_checkers.specs.History.{IsAt, IsHistory}
 use Rattle.reg_checkers.specs.Orders.{IsPointOrder}
@@ -35,6 +35,11 @@ AreNeedsTo n h act needs = (j at : ℕ) (id : OpId) (answer : Answer) (a : Act) 
 
 abbrev pub AreNeeds : List Entry → (OpId → Option Act) → BTreeMap (ℕ × ℕ) ℕ → Type 0
 AreNeeds h act needs = AreNeedsTo (length h) h act needs
+
+-- what the operation that an entry answers asks and leaves
+abbrev pub IsAnsweredAct : (OpId → Option Act) → Entry → Option Act → Type 0
+IsAnsweredAct act (Called at id op) o = o ≡ None
+IsAnsweredAct act (Answered at id answer) o = o ≡ act id
 
 -- no operation that needs what this one leaves is answered so late
 abbrev pub IsNeededUntil : List Entry → (OpId → Option Act) → Act → ℕ → Type 0
@@ -80,10 +85,19 @@ IsStep act k h running layers running' layers' On = AreAlive act (run_of running
 IsStep act k h running layers running' layers' Stuck = ¬ AreAlive act (run_of running) (drop k h) layers
 IsStep act k h running layers running' layers' TooMany = Unit {0}
 
--- the operations that run on a register at the entry of a place
-pub record AreMoversOf (running : List (Option Call)) (r k : ℕ) (movers : List Mover) : Type 0 where
-  pub all : (p : ℕ) (c : Call) → IsAt running p (Some c) → c.act.register ≡ r → (i : ℕ) × (m : Mover) × IsAt movers i m × (m.id ≡ c.id) × (m.act ≡ c.act)
+-- the operations of the first n processes that run on a register at the entry of a place
+pub record AreMoversTo (n : ℕ) (running : List (Option Call)) (r k : ℕ) (movers : List Mover) : Type 0 where
+  pub all : (p : ℕ) (c : Call) → p < n → IsAt running p (Some c) → c.act.register ≡ r → (i : ℕ) × (m : Mover) × IsAt movers i m × (m.id ≡ c.id) × (m.act ≡ c.act)
   pub each : (i : ℕ) (m : Mover) → IsAt movers i m → (p : ℕ) × (c : Call) × IsAt running p (Some c) × (c.act.register ≡ r) × (m.id ≡ c.id) × (m.act ≡ c.act) × (m.free ≡ true → (c.act.needs ≡ None) × (c.needed_until ≤ k))
+
+-- the operations that run on a register at the entry of a place
+abbrev pub AreMoversOf : List (Option Call) → ℕ → ℕ → List Mover → Type 0
+AreMoversOf running r k movers = AreMoversTo (length running) running r k movers
+
+-- what a process runs is at the end, where it is on the register; else all is as it was
+abbrev pub IsMoverAdded : Option Call → ℕ → ℕ → List Mover → List Mover → Type 0
+IsMoverAdded None r k old new = new ≡ old
+IsMoverAdded (Some c) r k old new = ((c.act.register ≢ r) × (new ≡ old)) ⊎ ((c.act.register ≡ r) × (m : Mover) × (new ≡ old ++ m ∷ []) × (m.id ≡ c.id) × (m.act ≡ c.act) × (m.free ≡ true → (c.act.needs ≡ None) × (c.needed_until ≤ k)))
 
 -- the stages of a register after an answer to what a process runs there
 abbrev pub IsLayerAfter : List (Option Call) → ℕ → ℕ → ℕ → List Stage → List Stage → Type 0

@@ -3,7 +3,7 @@ ghost use Rattle.std.specs.Prelude.{◌≡◌, ◌+◌, ◌<◌, ◌≤◌, ℕ,
 ghost use Rattle.std.specs.BTreeMap.{get};
 ghost use Rattle.reg_judge.specs.declared.acts.Act.{Act as AnyAct};
 ghost use Rattle.reg_judge.specs.Acts.{act_in as act_in_rows};
-ghost use Rattle.reg_judge.specs.Searching.{AreMoversOf, AreNeeds, IsCallOf, need_cmp};
+ghost use Rattle.reg_judge.specs.Searching.{AreMoversOf, AreNeeds, IsAnsweredAct, IsCallOf, IsMoverAdded, need_cmp};
 
 use crate::acts::{Act, act_in};
 use crate::stages::Mover;
@@ -45,6 +45,24 @@ fn note_need<A: Allocator + Copy>(
     Ok(())
 }
 
+/// What the operation that an entry answers asks and leaves, None where the entry is no answer.
+fn answered_act<A: Allocator + Copy>(rows: &[Vec<Fact, A>], entry: Entry) -> Option<Act>
+    ensures { IsAnsweredAct (act_in_rows rows.now) entry result }
+{
+    match entry {
+        Entry::Called {
+            at: _,
+            id: _,
+            op: _,
+        } => None,
+        Entry::Answered {
+            at: _,
+            id,
+            answer: _,
+        } => act_in(rows, id),
+    }
+}
+
 /// For each register and value, the number of entries up to and with the last answer to an operation that needs it.
 pub fn needs_of<A: Allocator + Copy>(
     alloc: A,
@@ -55,14 +73,7 @@ pub fn needs_of<A: Allocator + Copy>(
 {
     let mut needs = BTreeMap::new(alloc);
     for place in 0..entries.len() {
-        if let Entry::Answered {
-            at: _,
-            id,
-            answer: _,
-        } = entries[place]
-        {
-            note_need(&mut needs, act_in(rows, id), place)?;
-        }
+        note_need(&mut needs, answered_act(rows, entries[place]), place)?;
     }
     Ok(needs)
 }
@@ -72,10 +83,10 @@ fn needed_until<A: Allocator + Copy>(needs: &Needs<A>, act: Act) -> usize
     ensures { (u until : ℕ) → act.makes ≡ Some u → get need_cmp needs.now (act.register, u) ≡ Some until → result ≡ until }
 {
     match act.makes {
-        Some(value) => match needs.get(&(act.register, value)) {
-            Some(until) => *until,
-            None => 0,
-        },
+        Some(value) => needs
+            .get(&(act.register, value))
+            .copied()
+            .unwrap_or(0),
         None => 0,
     }
 }
@@ -96,6 +107,29 @@ pub fn call_of<A: Allocator + Copy>(
     })
 }
 
+/// Adds what a process runs, where that is on the register.
+fn add_mover<A: Allocator + Copy>(
+    movers: &mut Vec<Mover, A>,
+    call: Option<Call>,
+    register: u16,
+    place: usize,
+) -> Result<(), AllocError>
+    ensures { OnOk result (IsMoverAdded call register place movers.old.items movers.new.items) }
+{
+    let Some(call) = call else {
+        return Ok(());
+    };
+    if call.act.register != register {
+        return Ok(());
+    }
+    movers.push(Mover {
+        id: call.id,
+        act: call.act,
+        free: call.act.needs.is_none() && call.needed_until <= place,
+    })?;
+    Ok(())
+}
+
 /// The operations that run on a register at the entry of a place.
 pub fn movers_on<A: Allocator + Copy>(
     alloc: A,
@@ -107,15 +141,7 @@ pub fn movers_on<A: Allocator + Copy>(
 {
     let mut movers = Vec::new(alloc);
     for process in 0..running.len() {
-        if let Some(call) = running[process] {
-            if call.act.register == register {
-                movers.push(Mover {
-                    id: call.id,
-                    act: call.act,
-                    free: call.act.needs.is_none() && call.needed_until <= place,
-                })?;
-            }
-        }
+        add_mover(&mut movers, running[process], register, place)?;
     }
     Ok(movers)
 }
