@@ -1,6 +1,8 @@
 -- Up to where values are needed.
 use Rattle.std.proofs.Common.{◌≡◌, ◌≢◌, ◌⊎◌, inl, inr, ℕ, ◌+◌, ◌<◌, ◌≤◌, cond, true, List, [], ◌∷◌, ◌++◌, Option, Some, None, length, get_or, slice_get, refl, ap, sym, ◌∙◌, subst, arith}
 use Rattle.std.specs.BTreeMap.{BTreeMap, Updates, get, is_at}
+use Rattle.std.specs.Option.{unwrap_or}
+use Rattle.std.specs.Prelude.{option_and_then}
 use Rattle.std.proofs.lemmas.Bool.{cases_Bool, cases_eq}
 use Rattle.std.proofs.lemmas.Option.{same_Some}
 use Rattle.reg_base.specs.declared.memory.OpId.{OpId}
@@ -13,7 +15,7 @@ use Rattle.reg_checkers.proofs.Pushing.{at_push}
 use Rattle.reg_judge.specs.declared.acts.Act.{Act}
 use Rattle.reg_judge.specs.declared.calls.Call.{Call}
 use Rattle.reg_judge.specs.declared.stages.Mover.{Mover}
-use Rattle.reg_judge.specs.Searching.{AreMoversOf, AreMoversTo, AreNeeds, AreNeedsTo, IsAnsweredAct, IsMoverAdded, IsNeededUntil, need_cmp}
+use Rattle.reg_judge.specs.Searching.{AreMoversOf, AreMoversTo, AreNeeds, AreNeedsTo, IsAnsweredAct, IsMoverAdded, IsNeededUntil, need_cmp, until_of}
 
 -- a later place put in
 pub needs_kept : (old new : BTreeMap (ℕ × ℕ) ℕ) (key : ℕ × ℕ) (place : ℕ) → Updates need_cmp old new key (Some (place + 1)) → (q : ℕ × ℕ) (j until : ℕ) → j < place → j < until → get need_cmp old q ≡ Some until → (later : ℕ) × (get need_cmp new q ≡ Some later) × (j < later)
@@ -44,10 +46,12 @@ needs_more h act k e o old new here is_act noted kept before j t y given a u lt 
 pub needs_all : (h : List Entry) (act : OpId → Option Act) (k : ℕ) (needs : BTreeMap (ℕ × ℕ) ℕ) → length h ≤ k → AreNeedsTo k h act needs → AreNeeds h act needs
 needs_all h act k needs le known j t y given a u lt there acts need = known j t y given a u (omega (arith, lt, le)) there acts need
 
-pub needed_is : (h : List Entry) (act : OpId → Option Act) (needs : BTreeMap (ℕ × ℕ) ℕ) (a : Act) (until : ℕ) → ((u later : ℕ) → a.makes ≡ Some u → get need_cmp needs (a.register, u) ≡ Some later → until ≡ later) → AreNeeds h act needs → IsNeededUntil h act a until
+pub needed_is : (h : List Entry) (act : OpId → Option Act) (needs : BTreeMap (ℕ × ℕ) ℕ) (a : Act) (until : ℕ) → until ≡ until_of needs a → AreNeeds h act needs → IsNeededUntil h act a until
 needed_is h act needs a until is known j t y given b u there acts same need makes =
     let had = known j t y given b u (within h j (Answered t y given) there) there acts need in
-    let late : until ≡ had.0 = is u had.0 makes (subst (λ (r : ℕ). get need_cmp needs (r, u) ≡ Some had.0) same had.1) in
+    let of : until_of needs a ≡ unwrap_or (get need_cmp needs (a.register, u)) 0 = ap (λ (o : Option ℕ). unwrap_or (option_and_then (λ u. get need_cmp needs (a.register, u)) o) 0) makes in
+    let here : get need_cmp needs (a.register, u) ≡ Some had.0 = subst (λ (r : ℕ). get need_cmp needs (r, u) ≡ Some had.0) same had.1 in
+    let late : until ≡ had.0 = is ∙ of ∙ ap (λ (o : Option ℕ). unwrap_or o 0) here in
     let lt = had.2 in
     omega (arith, late, lt)
 

@@ -1,6 +1,7 @@
 -- A search under way: what runs, and the stages of each register. They carry a proof: no promise speaks of them.
 use Rattle.std.specs.Prelude.{ℕ, ◌≡◌, ◌≢◌, ◌+◌, ◌<◌, ◌≤◌, ◌⊎◌, true, List, [], ◌∷◌, ◌++◌, Option, Some, None, length, drop, option_map, option_and_then, slice_get, slice_set, Vec}
 use Rattle.std.specs.BTreeMap.{BTreeMap, get}
+use Rattle.std.specs.Option.{unwrap_or}
 use Rattle.std.specs.declared.cmp.Ordering.{Ordering}
 use Rattle.std.specs.Ordering.{nat_cmp, ordering_then}
 use Rattle.reg_base.specs.declared.memory.Answer.{Answer}
@@ -44,6 +45,10 @@ IsAnsweredAct act (Answered at id answer) o = o ≡ act id
 -- no operation that needs what this one leaves is answered so late
 abbrev pub IsNeededUntil : List Entry → (OpId → Option Act) → Act → ℕ → Type 0
 IsNeededUntil h act a until = (j at : ℕ) (id : OpId) (answer : Answer) (b : Act) (u : ℕ) → IsAt h j (Answered at id answer) → act id ≡ Some b → b.register ≡ a.register → b.needs ≡ Some u → a.makes ≡ Some u → j < until
+
+-- up to where what an operation leaves is needed, 0 where it isn't
+abbrev pub until_of : BTreeMap (ℕ × ℕ) ℕ → Act → ℕ
+until_of needs a = unwrap_or (option_and_then (λ u. get need_cmp needs (a.register, u)) a.makes) 0
 
 -- the operation runs in this process after k entries
 pub record IsWaiting (h : List Entry) (act : OpId → Option Act) (k p : ℕ) (c : Call) : Type 0 where

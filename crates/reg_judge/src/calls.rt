@@ -3,7 +3,7 @@ ghost use Rattle.std.specs.Prelude.{◌≡◌, ◌+◌, ◌<◌, ◌≤◌, ℕ,
 ghost use Rattle.std.specs.BTreeMap.{get};
 ghost use Rattle.reg_judge.specs.declared.acts.Act.{Act as AnyAct};
 ghost use Rattle.reg_judge.specs.Acts.{act_in as act_in_rows};
-ghost use Rattle.reg_judge.specs.Searching.{AreMoversOf, AreNeeds, IsAnsweredAct, IsCallOf, IsMoverAdded, need_cmp};
+ghost use Rattle.reg_judge.specs.Searching.{AreMoversOf, AreNeeds, IsAnsweredAct, IsCallOf, IsMoverAdded, need_cmp, until_of};
 
 use crate::acts::{Act, act_in};
 use crate::stages::Mover;
@@ -80,7 +80,7 @@ pub fn needs_of<A: Allocator + Copy>(
 
 /// Up to where what an operation leaves is needed.
 fn needed_until<A: Allocator + Copy>(needs: &Needs<A>, act: Act) -> usize
-    ensures { (u until : ℕ) → act.makes ≡ Some u → get need_cmp needs.now (act.register, u) ≡ Some until → result ≡ until }
+    ensures { result ≡ until_of needs.now act }
 {
     match act.makes {
         Some(value) => needs
