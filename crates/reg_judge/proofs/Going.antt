@@ -141,7 +141,7 @@ module _ (r : ℕ) (act : OpId → Option Act) where
   alive_after_reads run x a rest old new runs on reads more (n, j, s, here, completes) =
       let read = more j s here in
       let u : Stage = read.0 in
-      (n, j, u, read.1, subst (λ (v : ℕ). Completes r act n run (bit_at u.placed) v rest) (sym read.2) (covering r act completes run (λ q. refl) (bit_at u.placed) (λ q. covers u q (read.3 q) (bit_cases s.placed q))))
+      (n, j, u, read.1, subst (λ (v : ℕ). Completes r act n run (bit_at u.placed) v rest) (sym read.2.0) (covering r act completes run (λ q. refl) (bit_at u.placed) (λ q. covers u q (read.2.1 q) (bit_cases s.placed q))))
     where
       covers : (u : Stage) (q : ℕ) → (bit_at u.placed q ≡ bit_at s.placed q) ⊎ ((q ≡ x.process) × (bit_at u.placed q ≡ 1)) → (bit_at s.placed q ≡ 0) ⊎ (bit_at s.placed q ≡ 1) → (bit_at u.placed q ≡ bit_at s.placed q) ⊎ ((bit_at s.placed q ≡ 0) × (bit_at u.placed q ≡ 1) × ((b : Act) × (run q ≡ Some b) × (b.register ≡ r) × IsFree r act run rest b))
       covers u q (inl same) bit = inl same

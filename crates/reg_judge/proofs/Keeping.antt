@@ -1,14 +1,16 @@
 -- Lists of stages that grow.
-use Rattle.std.proofs.Common.{◌≡◌, ◌⊎◌, inl, inr, ℕ, ◌+◌, ◌<◌, ◌≤◌, List, [], ◌∷◌, ◌++◌, get_or, length, sym, ap, ◌∙◌, subst, refl, arith}
+use Rattle.std.proofs.Common.{◌≡◌, ◌⊎◌, inl, inr, ℕ, ◌+◌, ◌<◌, ◌≤◌, List, [], ◌∷◌, ◌++◌, get_or, length, set, Vec, sym, ap, ◌∙◌, subst, refl, arith}
 use Rattle.std.specs.Int.{bit_at}
 use Rattle.std.proofs.lemmas.Bool.{cases_eq}
 use Rattle.std.proofs.lemmas.Option.{slice_get-get_or}
 use Rattle.reg_checkers.specs.History.{IsAt}
-use Rattle.reg_checkers.proofs.Places.{element_at, get_push_other, get_push_same, same_at, within}
+use Rattle.reg_checkers.proofs.Places.{element_at, get_push_other, get_push_same, get_set_other, get_set_same, same_at, within}
+use Rattle.reg_checkers.proofs.Pushing.{at_push}
 use Rattle.reg_judge.specs.declared.stages.Mover.{Mover}
 use Rattle.reg_judge.specs.declared.stages.Stage.{Stage}
 use Rattle.reg_judge.specs.Completing.{put}
-use Rattle.reg_judge.specs.Stages.{AreDone, AreDoneTo, Extends, HasAfter, HasAfterTo, HasEach, HasEachTo, HasStage, HasWithout, IsDone, Keeps, KeepsTo}
+use Rattle.reg_judge.specs.Stages.{AreDone, AreDoneTo, Extends, HasAfter, HasAfterTo, HasEach, HasEachTo, HasStage, HasWithout, IsDone, IsRead, Keeps, KeepsTo, Reads}
+use Rattle.reg_judge.specs.Searching.{AreFirst, IsFirst}
 use Rattle.reg_judge.proofs.Puts.{put_here, put_there}
 
 pub at_get : {X : Type 0} (xs : List X) (k : ℕ) (d : X) → k < length xs → IsAt xs k (get_or xs k d)
@@ -87,3 +89,38 @@ extends_twice a b c one two j s at = two j s (one j s at)
 
 pub mover_narrow : (movers : List Mover) → ((i : ℕ) (m : Mover) → IsAt movers i m → m.id.process < 64) → (k : ℕ) (d : Mover) → k < length movers → (get_or movers k d).id.process < 64
 mover_narrow movers narrow k d lt = narrow k (get_or movers k d) (at_get movers k d lt)
+
+pub reads_itself : (p : ℕ) (stages : List Stage) → Reads p stages stages
+reads_itself p stages j s at = (s, at, (refl, λ q. inl refl))
+
+pub read_twice : (p : ℕ) (a b c : Stage) → IsRead p a b → IsRead p b c → IsRead p a c
+read_twice p a b c (value, bits) (value_2, bits_2) = (
+  value_2 ∙ value,
+  λ q. elim (bits_2 q) [
+    | inr new ↦ inr new
+    | inl same ↦ elim (bits q) [
+      | inl old ↦ inl (same ∙ old)
+      | inr (is, one) ↦ inr (is, same ∙ one)
+    ]
+  ],
+)
+
+pub reads_more : (p k : ℕ) (old now : List Stage) (d t : Stage) → k < length now → IsRead p (get_or now k d) t → Reads p old now → Reads p old (set now k t)
+reads_more p k old now d t lt read before j s at = (let was = before j s at in elim (cases_eq j k) [
+  | inl is ↦
+      let same : get_or now k d ≡ was.0 = same_at now k (get_or now k d) was.0 (at_get now k d lt) (subst (λ (i : ℕ). IsAt now i was.0) is was.1) in
+      (t, subst (λ (i : ℕ). IsAt (set now k t) i t) (sym is) (get_set_same now k t lt), read_twice p s was.0 t was.2 (subst (λ (x : Stage). IsRead p x t) same read))
+  | inr apart ↦ (was.0, get_set_other now k j t apart ∙ was.1, was.2)
+])
+
+pub first_more : {A : Type 0} (layers new : List (Vec Stage A)) (layer : Vec Stage A) → new ≡ layers ++ layer ∷ [] → IsFirst layer.items → AreFirst layers → AreFirst new
+first_more {A} layers new layer e first before r l at = elim (at_push layers r layer l (subst (λ (x : List (Vec Stage A)). IsAt x r l) e at)) [
+  | inl was ↦ before r l was
+  | inr (_, is) ↦ subst (λ (x : Vec Stage A). IsFirst x.items) (sym is) first
+]
+
+pub first_none : {A : Type 0} (layers : List (Vec Stage A)) → layers ≡ [] → AreFirst layers
+first_none {A} layers e r l at = absurd (nothing r l (subst (λ (x : List (Vec Stage A)). IsAt x r l) e at))
+  where
+    nothing : {X : Type 0} (i : ℕ) (x : X) → IsAt [] i x → ⊥
+    nothing i x at = cc

@@ -6,3 +6,4 @@ pub mod Cuts
 pub mod Starting
 pub mod Keeping
 pub mod Needs
+pub mod Stepping

@@ -115,9 +115,13 @@ IsAnswering {A} p k running layers running' layers' TooMany = Unit {0}
 IsAnswering {A} p k running layers running' layers' Stuck = (c : Call) × (layer : Vec Stage A) × IsAt running p (Some c) × IsAt layers c.act.register layer × IsLayerAfter running c.act.register k p layer.items []
 IsAnswering {A} p k running layers running' layers' On = (IsAt running p None × (running' ≡ running) × (layers' ≡ layers)) ⊎ ((c : Call) × (layer later : Vec Stage A) × IsAt running p (Some c) × IsAt layers c.act.register layer × IsLayerAfter running c.act.register k p layer.items later.items × (running' ≡ slice_set running p None) × (layers' ≡ slice_set layers c.act.register later))
 
--- each register has one stage: nothing is placed, and the value is 0
+-- nothing is placed at the first stage, and the value is 0
+abbrev pub IsFirst : List Stage → Type 0
+IsFirst stages = (s : Stage) × IsAt stages 0 s × (s.placed ≡ 0) × (s.value ≡ 0)
+
+-- so for each register
 abbrev pub AreFirst : {A : Type 0} → List (Vec Stage A) → Type 0
-AreFirst {A} layers = (r : ℕ) (layer : Vec Stage A) → IsAt layers r layer → (s : Stage) × IsAt layer.items 0 s × (s.placed ≡ 0) × (s.value ≡ 0)
+AreFirst {A} layers = (r : ℕ) (layer : Vec Stage A) → IsAt layers r layer → IsFirst layer.items
 
 -- where a search is stuck, there is no point order
 abbrev pub IsSearchEnd : {A : Type 0} → ℕ → List Entry → Searched A → Type 0

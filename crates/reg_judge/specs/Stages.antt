@@ -66,9 +66,13 @@ KeepsTo n p old new = (j : ℕ) (s : Stage) → j < n → IsAt old j s → bit_a
 abbrev pub Keeps : ℕ → List Stage → List Stage → Type 0
 Keeps p old new = (j : ℕ) (s : Stage) → IsAt old j s → bit_at s.placed p ≡ 1 → HasWithout p new s
 
--- each stage stays, and where an operation fits it, that may be placed too
+-- the stage stays, but that an operation may be placed
+abbrev pub IsRead : ℕ → Stage → Stage → Type 0
+IsRead p s t = (t.value ≡ s.value) × ((q : ℕ) → (bit_at t.placed q ≡ bit_at s.placed q) ⊎ ((q ≡ p) × (bit_at t.placed q ≡ 1)))
+
+-- each stage stays so
 abbrev pub Reads : ℕ → List Stage → List Stage → Type 0
-Reads p old new = (j : ℕ) (s : Stage) → IsAt old j s → (t : Stage) × IsAt new j t × (t.value ≡ s.value) × ((q : ℕ) → (bit_at t.placed q ≡ bit_at s.placed q) ⊎ ((q ≡ p) × (bit_at t.placed q ≡ 1)))
+Reads p old new = (j : ℕ) (s : Stage) → IsAt old j s → (t : Stage) × IsAt new j t × IsRead p s t
 
 -- all operations that run on a register, with what is known of them
 pub record AreMovers (r : ℕ) (act : OpId → Option Act) (run : Running) (es : List Entry) (movers : List Mover) : Type 0 where

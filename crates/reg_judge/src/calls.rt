@@ -83,10 +83,7 @@ fn needed_until<A: Allocator + Copy>(needs: &Needs<A>, act: Act) -> usize
     ensures { result ≡ until_of needs.now act }
 {
     match act.makes {
-        Some(value) => needs
-            .get(&(act.register, value))
-            .copied()
-            .unwrap_or(0),
+        Some(value) => needs.get(&(act.register, value)).copied().unwrap_or(0),
         None => 0,
     }
 }

@@ -6,8 +6,8 @@ ghost use Rattle.reg_checkers.specs.Table.{IsTable};
 ghost use Rattle.reg_judge.specs.declared.acts.Act.{Act as AnyAct};
 ghost use Rattle.reg_judge.specs.declared.calls.Call.{Call as AnyCall};
 ghost use Rattle.reg_judge.specs.Acts.{act_in as act_in_rows};
-ghost use Rattle.reg_judge.specs.Searching.{AreFirst, AreRead, AreWaiting, IsAnswering, IsCallOf, IsKnown, IsLayerAfter, IsSearchEnd, IsStep};
-ghost use Rattle.reg_judge.specs.Stages.{Reads};
+ghost use Rattle.reg_judge.specs.Searching.{AreFirst, AreRead, AreWaiting, IsAnswering, IsCallOf, IsFirst, IsKnown, IsLayerAfter, IsSearchEnd, IsStep};
+ghost use Rattle.reg_judge.specs.Stages.{IsRead, Reads};
 
 use crate::acts::Act;
 use crate::bits::with;
@@ -43,7 +43,28 @@ pub enum Stepped {
     TooMany,
 }
 
-/// A read that is called takes effect at once where it tells the value.
+/// The stage where a read that is called takes effect at once, if it tells the value.
+fn read_stage<A: Allocator + Copy>(
+    trail: &mut Trail<A>,
+    stage: Stage,
+    id: OpId,
+    act: Act,
+) -> Result<Stage, AllocError>
+    requires { id.process < 64 }
+    ensures { IfOk result (IsRead id.process stage) }
+{
+    if !act.fits(stage.value) {
+        return Ok(stage);
+    }
+    let last = trail.place(id, stage.last)?;
+    Ok(Stage {
+        placed: with(stage.placed, id.process),
+        value: stage.value,
+        last,
+    })
+}
+
+/// A read that is called takes effect at once at each stage where it tells the value.
 fn read_at_once<A: Allocator + Copy>(
     layer: &mut Vec<Stage, A>,
     trail: &mut Trail<A>,
@@ -54,17 +75,22 @@ fn read_at_once<A: Allocator + Copy>(
     ensures { OnOk result (Reads id.process layer.old.items layer.new.items) }
 {
     for place in 0..layer.len() {
-        let stage = layer[place];
-        if act.fits(stage.value) {
-            let last = trail.place(id, stage.last)?;
-            layer[place] = Stage {
-                placed: with(stage.placed, id.process),
-                value: stage.value,
-                last,
-            };
-        }
+        layer[place] = read_stage(trail, layer[place], id, act)?;
     }
     Ok(())
+}
+
+/// The stages of a register at first: one, at which nothing is placed.
+fn first_layer<A: Allocator + Copy>(alloc: A) -> Result<Vec<Stage, A>, AllocError>
+    ensures { IfOk result (λ v. IsFirst v.items) }
+{
+    let mut layer = Vec::new(alloc);
+    layer.push(Stage {
+        placed: 0,
+        value: 0,
+        last: None,
+    })?;
+    Ok(layer)
 }
 
 /// The stages of each register at first.
@@ -77,13 +103,7 @@ fn first_layers<A: Allocator + Copy>(
 {
     let mut layers = Vec::new(alloc);
     for _register in 0..registers {
-        let mut layer = Vec::new(alloc);
-        layer.push(Stage {
-            placed: 0,
-            value: 0,
-            last: None,
-        })?;
-        layers.push(layer)?;
+        layers.push(first_layer(alloc)?)?;
     }
     Ok(layers)
 }
