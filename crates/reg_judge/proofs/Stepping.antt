@@ -1,9 +1,9 @@
 -- Steps of a search: what goes on before an entry goes on after it.
 use Rattle.std.proofs.Common.{◌≡◌, ◌≢◌, ◌⊎◌, inl, inr, ℕ, zero, suc, ◌+◌, ◌<◌, ◌≤◌, true, List, [], ◌∷◌, Option, Some, None, MatchOption, Vec, take, drop, length, set, slice_get, refl, ap, sym, ◌∙◌, subst, arith}
-use Rattle.std.specs.Prelude.{option_and_then, option_map}
+use Rattle.std.specs.Prelude.{IfSome, false, is_some, option_and_then, option_map, vec_len, ◌==◌}
 use Rattle.std.specs.Int.{bit_at}
 use Rattle.std.specs.BTreeMap.{BTreeMap}
-use Rattle.std.proofs.lemmas.Bool.{cases_eq}
+use Rattle.std.proofs.lemmas.Bool.{cases_eq, eqb-true}
 use Rattle.std.proofs.lemmas.Option.{same_Some}
 use Rattle.reg_base.specs.declared.memory.OpId.{OpId}
 use Rattle.reg_base.specs.declared.memory.Op.{Op}
@@ -21,9 +21,12 @@ use Rattle.reg_judge.specs.declared.acts.Act.{Act}
 use Rattle.reg_judge.specs.declared.calls.Call.{Call}
 use Rattle.reg_judge.specs.declared.stages.Mover.{Mover}
 use Rattle.reg_judge.specs.declared.stages.Stage.{Stage}
-use Rattle.reg_judge.specs.Acts.{act_in, act_of, acting, made_of, unanswered}
+use Rattle.reg_judge.specs.Acts.{act_in, act_of, acting, made_of, needed_of, unanswered}
 use Rattle.reg_judge.specs.Completing.{Completes, IsFree, IsOn, IsUnneeded, Running, put}
-use Rattle.reg_judge.specs.Searching.{AreAlive, AreMoversOf, AreNeeds, AreRead, AreWaiting, IsCallOf, IsKnown, IsLayerAfter, IsWaiting, run_of}
+use Rattle.reg_judge.specs.Searching.{AreAlive, AreMoversOf, AreNeeds, AreRead, AreWaiting, IsAnswering, IsCallOf, IsKnown, IsLayerAfter, IsStep, IsWaiting, run_of}
+use Rattle.reg_judge.specs.declared.search.Stepped.{Stepped}
+use Rattle.reg_judge.specs.declared.search.Stepped.TheVariants.{On, Stuck, TooMany}
+use Rattle.reg_base.specs.Memory.{register_of}
 use Rattle.reg_judge.specs.Stages.{AreMovers, IsAlive, Keeps, Reads}
 use Rattle.reg_judge.proofs.Covering.{covering}
 use Rattle.reg_judge.proofs.Going.{after_answer, alive_after_answer, alive_after_call, alive_after_other, alive_after_reads, same_placed}
@@ -284,3 +287,81 @@ module _ {A : Type 0} (n registers : ℕ) (h : List Entry) (rows : Rows A) (need
                 let off : ¬ IsOn r (run_of running) x.process = λ (a, is, on). apart (sym on ∙ sym (ap (λ (b : Act). b.register) (same_Some c.act a (sym (run_at running x.process c here) ∙ is)))) in
                 let was = alive r new (sym (get_set_other layers c.act.register r later apart) ∙ there) in
                 alive_after_other r (act_in rows) (run_of running) t x answer (drop (suc k) h) new.items off (subst (λ (es : List Entry). IsAlive r (act_in rows) (run_of running) es new.items) entries_are was)
+
+-- the stages stay, but those of one register
+pub read_none : {B : Type 0} (act : OpId → Option Act) (x : OpId) (layers : List (Vec Stage B)) → AreRead act x layers layers
+read_none act x layers r layer at = (layer, at, inl refl)
+
+pub read_one : {B : Type 0} (act : OpId → Option Act) (x : OpId) (layers : List (Vec Stage B)) (i : ℕ) (old new : Vec Stage B) (a : Act) → IsAt layers i old → act x ≡ Some a → a.register ≡ i → a.makes ≡ None → Reads x.process old.items new.items → AreRead act x layers (set layers i new)
+read_one {B} act x layers i old new a here is on makes reads r layer at = elim (cases_eq r i) [
+  | inl e ↦
+      let same : old ≡ layer = same_at layers i old layer here (subst (λ (j : ℕ). IsAt layers j layer) e at) in
+      (new, subst (λ (j : ℕ). IsAt (set layers i new) j new) (sym e) (get_set_same layers i new (within layers i old here)), inr (a, is, on ∙ sym e, makes, subst (λ (l : Vec Stage B). Reads x.process l.items new.items) same reads))
+  | inr apart ↦ (layer, get_set_other layers i r new apart ∙ at, inl refl)
+]
+
+acting_register : (op : Op) (answered : Option Given) (a : Act) → acting op answered ≡ Some a → a.register ≡ register_of op
+acting_register op (Some g) a is = ap (λ (b : Act). b.register) (sym (same_Some (record { register = register_of op; needs = needed_of g.answer; makes = made_of op }) a is))
+acting_register op None a is = go (made_of op) is
+  where
+    go : (o : Option ℕ) → unanswered op o ≡ Some a → a.register ≡ register_of op
+    go None e = absurd cc
+    go (Some v) e = ap (λ (b : Act). b.register) (sym (same_Some (record { register = register_of op; needs = None; makes = Some v }) a e))
+
+module _ {A : Type 0} (n registers : ℕ) (h : List Entry) (rows : Rows A) (needs : BTreeMap (ℕ × ℕ) ℕ) (known : IsKnown n registers h rows needs) where
+  -- what is called is on one of the registers
+  pub register_fits : (x : OpId) (a : Act) → act_in rows x ≡ Some a → a.register < registers
+  register_fits x a is = go (cell rows x) refl is
+    where
+      go : (o : Option Fact) → cell rows x ≡ o → option_and_then act_of o ≡ Some a → a.register < registers
+      go None e h = absurd cc
+      go (Some f) e is =
+          let called = (known.table.facts x f e).called in
+          let may = known.history called.0 (Called f.called x f.op) called.1 in
+          let on : a.register ≡ register_of f.op = acting_register f.op f.answered a is in
+          let fits = may.register in
+          omega (arith, fits, on)
+
+  pub caller_fits : (k t : ℕ) (x : OpId) (op : Op) → IsAt h k (Called t x op) → x.process < n
+  caller_fits k t x op here = (known.history k (Called t x op) here).process
+
+  pub answerer_fits : (k t : ℕ) (x : OpId) (answer : Answer) → IsAt h k (Answered t x answer) → x.process < n
+  answerer_fits k t x answer here =
+      let may : MayAnswer (take k h) t x answer = known.history k (Answered t x answer) here in
+      (known.history may.called.0 (Called may.called_at x may.op) (in_take h k may.called.0 (Called may.called_at x may.op) may.called.1).1).process
+
+  module _ (k : ℕ) (running : List (Option Call)) (waiting : AreWaiting h (act_in rows) k running) where
+    pub step_call : {B : Type 0} (t : ℕ) (x : OpId) (op : Op) → IsAt h k (Called t x op) → x.process < length running → (running' : List (Option Call)) (layers layers' : List (Vec Stage B)) → ((o : Option Call) × IsCallOf rows needs x o × (running' ≡ set running x.process o)) → AreRead (act_in rows) x layers layers' → length layers' ≡ length layers → AreAlive (act_in rows) (run_of running) (drop k h) layers → AreAlive (act_in rows) (run_of running') (drop (k + 1) h) layers'
+    step_call {B} t x op here inside running' layers layers' (o, is, e) read count alive = subst (λ (l : List (Option Call)). AreAlive (act_in rows) (run_of l) (drop (k + 1) h) layers') (sym e) (alive_call n registers h rows needs known k running waiting t x op here o is inside layers layers' read count alive)
+
+    pub wait_call : (t : ℕ) (x : OpId) (op : Op) → IsAt h k (Called t x op) → x.process < length running → (running' : List (Option Call)) → ((o : Option Call) × IsCallOf rows needs x o × (running' ≡ set running x.process o)) → AreWaiting h (act_in rows) (k + 1) running'
+    wait_call t x op here inside running' (o, is, e) = subst (λ (l : List (Option Call)). AreWaiting h (act_in rows) (k + 1) l) (sym e) (waiting_call n registers h rows needs known k running waiting t x op here o is inside)
+
+    pub step_answer : {B : Type 0} (t : ℕ) (x : OpId) (answer : Answer) → IsAt h k (Answered t x answer) → (running' : List (Option Call)) (layers layers' : List (Vec Stage B)) (s : Stepped) → IsAnswering x.process k running layers running' layers' s → IsStep (act_in rows) k h running layers running' layers' s
+    step_answer {B} t x answer here running' layers layers' TooMany is = tt
+    step_answer {B} t x answer here running' layers layers' Stuck (c, layer, at, there, after) = stuck n registers h rows needs known k running waiting t x answer here c at layers layer there after
+    step_answer {B} t x answer here running' layers layers' On (inl (none, same, kept)) = λ alive. subst (λ (l : List (Option Call)). AreAlive (act_in rows) (run_of l) (drop (k + 1) h) layers') (sym same) (subst (λ (l : List (Vec Stage B)). AreAlive (act_in rows) (run_of running) (drop (k + 1) h) l) (sym kept) (alive_none n registers h rows needs known k running waiting t x answer here layers none alive))
+    step_answer {B} t x answer here running' layers layers' On (inr (c, layer, later, at, there, after, ran, went)) = λ alive. subst (λ (l : List (Option Call)). AreAlive (act_in rows) (run_of l) (drop (k + 1) h) layers') (sym ran) (subst (λ (l : List (Vec Stage B)). AreAlive (act_in rows) (run_of (set running x.process None)) (drop (k + 1) h) l) (sym went) (alive_some n registers h rows needs known k running waiting t x answer here c at layers layer later there after alive))
+
+    pub wait_answer : {B : Type 0} (t : ℕ) (x : OpId) (answer : Answer) → IsAt h k (Answered t x answer) → (running' : List (Option Call)) (layers layers' : List (Vec Stage B)) (s : Stepped) → IsAnswering x.process k running layers running' layers' s → s ≡ On → AreWaiting h (act_in rows) (k + 1) running'
+    wait_answer t x answer here running' layers layers' TooMany is e = absurd cc
+    wait_answer t x answer here running' layers layers' Stuck is e = absurd cc
+    wait_answer t x answer here running' layers layers' On (inl (none, same, kept)) e = subst (λ (l : List (Option Call)). AreWaiting h (act_in rows) (k + 1) l) (sym same) (waiting_none n registers h rows needs known k running waiting t x answer here none)
+    wait_answer t x answer here running' layers layers' On (inr (c, layer, later, at, there, after, ran, went)) e = subst (λ (l : List (Option Call)). AreWaiting h (act_in rows) (k + 1) l) (sym ran) (waiting_some n registers h rows needs known k running waiting t x answer here c at)
+
+-- what functions say, in the terms of a step
+pub none_if : {X : Type 0} (o : Option X) → false ≡ is_some o → o ≡ None
+none_if None e = refl
+none_if (Some x) e = absurd cc
+
+pub nothing_in : {B : Type 0} (v : Vec Stage B) → true ≡ (vec_len v == 0) → v.items ≡ []
+nothing_in v e = go v.items (let zero = eqb-true (vec_len v) 0 (sym e) in let is = v.ok in omega (arith, zero, is))
+  where
+    go : (l : List Stage) → length l ≡ 0 → l ≡ []
+    go [] e = refl
+    go (x ∷ xs) e = absurd (omega (arith, e))
+
+pub layer_is : {B : Type 0} (running told : List (Option Call)) (r k p : ℕ) (layer : Vec Stage B) (stages : List Stage) (o : Option (Vec Stage B)) (next : Vec Stage B) → told ≡ running → stages ≡ layer.items → IfSome o (λ v. IsLayerAfter told r k p stages v.items) → o ≡ Some next → IsLayerAfter running r k p layer.items next.items
+layer_is {B} running told r k p layer stages o next same items after is =
+    let a : IsLayerAfter told r k p stages next.items = subst (λ (x : Option (Vec Stage B)). IfSome x (λ v. IsLayerAfter told r k p stages v.items)) is after in
+    subst (λ (l : List Stage). IsLayerAfter running r k p l next.items) items (subst (λ (l : List (Option Call)). IsLayerAfter l r k p stages next.items) same a)

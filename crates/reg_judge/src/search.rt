@@ -230,7 +230,10 @@ impl<A: Allocator + Copy> Search<A> {
                 at: _,
                 id,
                 answer: _,
-            } => self.answer(id.process, place),
+            } => {
+                let stepped = self.answer(id.process, place)?;
+                Ok(stepped)
+            }
         }
     }
 }
