@@ -7,3 +7,4 @@ pub mod Starting
 pub mod Keeping
 pub mod Needs
 pub mod Stepping
+pub mod Beginning

@@ -218,10 +218,10 @@ module _ {A : Type 0} (n registers : ℕ) (h : List Entry) (rows : Rows A) (need
             let a = w.answered u need in
             let le = a.3 in
             let not : a.0 ≢ k = λ e. (
-                let one : Answered a.1 c.id a.2 ≡ Answered t x answer = same_at h k (Answered a.1 c.id a.2) (Answered t x answer) (subst (λ (i : ℕ). IsAt h i (Answered a.1 c.id a.2)) e a.4) entry in
-                let same : c.id ≡ x = cc in
-                apart (sym w.process ∙ ap (λ (y : OpId). y.process) same)
-                ) in
+            let one : Answered a.1 c.id a.2 ≡ Answered t x answer = same_at h k (Answered a.1 c.id a.2) (Answered t x answer) (subst (λ (i : ℕ). IsAt h i (Answered a.1 c.id a.2)) e a.4) entry in
+            let same : c.id ≡ x = cc in
+            apart (sym w.process ∙ ap (λ (y : OpId). y.process) same)
+            ) in
             (a.0, a.1, a.2, omega (arith, le, not), a.4)
             );
       }

@@ -2,3 +2,4 @@ pub mod Acts
 pub mod Completing
 pub mod Stages
 pub mod Searching
+pub mod Judging

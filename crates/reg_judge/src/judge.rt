@@ -1,4 +1,9 @@
 //! A point order of a history, or the first answer that none explains.
+ghost use Rattle.std.specs.Prelude.{◌≡◌, ◌+◌, ◌<◌, ◌≤◌, IfErr, IfOk, MatchResult, length, take};
+ghost use Rattle.reg_checkers.specs.History.{IsHistory};
+ghost use Rattle.reg_checkers.specs.Orders.{IsPointOrder};
+ghost use Rattle.reg_judge.specs.Judging.{HasPointOrder, IsDecided, IsFirstUnexplained, IsPointsFault};
+
 use crate::order::points_of;
 use crate::search::{Searched, go_through};
 use reg_checkers::{Entry, History, HistoryFault, Point, check_points, table_of};
@@ -27,6 +32,11 @@ pub enum PointsFault {
 }
 
 impl From<AllocError> for PointsFault {
+    ghost use Rattle.std.specs.Prelude.{◌≡◌};
+    ghost use Rattle.reg_judge.specs.declared.judge.PointsFault.TheVariants.{OutOfMemory};
+
+    ghost from_gives = { λ _ fault. fault ≡ OutOfMemory };
+
     fn from(_error: AllocError) -> PointsFault {
         Self::OutOfMemory
     }
@@ -38,7 +48,7 @@ enum Decided<A: Allocator + Copy = Global> {
     /// This one.
     Order(Vec<Point, A>),
     /// None, and the search came up to the entry of this place.
-    None(usize),
+    NoOrder(usize),
 }
 
 /// A point order of a history, or that there is none.
@@ -46,7 +56,10 @@ fn decide<A: Allocator + Copy>(
     alloc: A,
     history: &History<A>,
     limit: u32,
-) -> Result<Decided<A>, PointsFault> {
+) -> Result<Decided<A>, PointsFault>
+    ensures decided { IfOk result (IsDecided history.now.shape.registers history.now.entries) }
+    ensures refused { IfErr result (IsPointsFault history.now.shape.registers history.now.entries) }
+{
     let rows = table_of(alloc, history.shape(), history.entries())?;
     match go_through(alloc, history.shape(), &rows, history.entries(), limit)? {
         Searched::Through(search) => {
@@ -56,7 +69,7 @@ fn decide<A: Allocator + Copy>(
                 Err(_) => Err(PointsFault::Unchecked),
             }
         }
-        Searched::AtEntry(place) => Ok(Decided::None(place)),
+        Searched::AtEntry(place) => Ok(Decided::NoOrder(place)),
         Searched::Wide(place) => Err(PointsFault::TooManyStages { place }),
     }
 }
@@ -66,7 +79,11 @@ fn first_part<A: Allocator + Copy>(
     alloc: A,
     history: &History<A>,
     count: usize,
-) -> Result<History<A>, AllocError> {
+) -> Result<History<A>, AllocError>
+    requires { count ≤ length history.now.entries }
+    ensures entries { IfOk result (λ part. part.entries ≡ take count history.now.entries) }
+    ensures shape { IfOk result (λ part. part.shape ≡ history.now.shape) }
+{
     let mut part = History::new(alloc, history.shape())?;
     let entries = history.entries();
     for place in 0..count {
@@ -80,8 +97,12 @@ fn first_part<A: Allocator + Copy>(
 }
 
 /// A number of entries between two, to be tried next: where the search came to, if that is between them.
-fn between(good: usize, bad: usize, reached: usize) -> usize {
-    if good <= reached && reached + 1 < bad {
+fn between(good: usize, bad: usize, reached: usize) -> usize
+    requires { good + 1 < bad }
+    ensures above { good < result }
+    ensures below { result < bad }
+{
+    if good <= reached && reached < bad - 1 {
         return reached + 1;
     }
     if good < reached && reached < bad {
@@ -96,7 +117,11 @@ fn first_unexplained<A: Allocator + Copy>(
     history: &History<A>,
     reached: usize,
     limit: u32,
-) -> Result<usize, PointsFault> {
+) -> Result<usize, PointsFault>
+    requires { ¬ HasPointOrder history.now.shape.registers history.now.entries }
+    ensures found { IfOk result (IsFirstUnexplained history.now.shape.registers history.now.entries) }
+    ensures refused { IfErr result (IsPointsFault history.now.shape.registers history.now.entries) }
+{
     let mut good = 0;
     let mut bad = history.entries().len();
     let mut reached = reached;
@@ -105,7 +130,7 @@ fn first_unexplained<A: Allocator + Copy>(
         let part = first_part(alloc, history, count)?;
         match decide(alloc, &part, limit)? {
             Decided::Order(_) => good = count,
-            Decided::None(place) => {
+            Decided::NoOrder(place) => {
                 bad = count;
                 reached = place;
             }
@@ -114,15 +139,23 @@ fn first_unexplained<A: Allocator + Copy>(
     Ok(good)
 }
 
-/// A point order of a history.
+/// A point order of a history (Herlihy and Wing 1990), or the first answer that none explains. Each register is searched
+/// by itself, entry by entry, and what is found is checked. No clause says how the search goes.
+///
+/// # Errors
+///
+/// `No`: the entries up to the answer at the place have no point order, and those before it have one.
+/// `TooManyStages`, `Unchecked` and `OutOfMemory` say nothing of the history.
 pub fn judge_points<A: Allocator + Copy>(
     alloc: A,
     history: &History<A>,
     limit: u32,
-) -> Result<Vec<Point, A>, PointsFault> {
+) -> Result<Vec<Point, A>, PointsFault>
+    ensures { MatchResult result (λ points. IsPointOrder history.now.shape.registers history.now.entries points.items) (IsPointsFault history.now.shape.registers history.now.entries) }
+{
     match decide(alloc, history, limit)? {
         Decided::Order(points) => Ok(points),
-        Decided::None(reached) => {
+        Decided::NoOrder(reached) => {
             let place = first_unexplained(alloc, history, reached, limit)?;
             Err(PointsFault::No { place })
         }

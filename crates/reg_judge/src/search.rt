@@ -142,6 +142,7 @@ impl<A: Allocator + Copy> Search<A> {
         ensures first { IfOk result (λ s. AreFirst s.layers.items) }
         ensures registers { IfOk result (λ s. length s.layers.items ≡ shape.registers) }
         ensures idle { IfOk result (λ s. s.running.items ≡ replicate shape.processes None) }
+        ensures few { IfOk result (λ s. shape.processes ≤ 64) }
     {
         let running: Vec<Option<Call>, A> = vec![in alloc; None; shape.processes() as usize]?;
         let layers = first_layers(alloc, shape.registers())?;
