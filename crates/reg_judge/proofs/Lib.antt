@@ -8,3 +8,4 @@ pub mod Keeping
 pub mod Needs
 pub mod Stepping
 pub mod Beginning
+pub mod Narrowing

@@ -1,6 +1,6 @@
 -- What a judge answers: a point order, or the first answer up to which there is none. To be believed: promises speak of
 -- it.
-use Rattle.std.specs.Prelude.{ℕ, ◌≡◌, ◌+◌, ◌≤◌, List, take}
+use Rattle.std.specs.Prelude.{ℕ, ◌≡◌, ◌+◌, ◌<◌, ◌≤◌, List, length, take}
 use Rattle.reg_checkers.specs.declared.entries.Entry.{Entry}
 use Rattle.reg_checkers.specs.declared.entries.Entry.TheVariants.{Answered}
 use Rattle.reg_checkers.specs.declared.entries.Point.{Point}
@@ -8,6 +8,7 @@ use Rattle.reg_checkers.specs.History.{IsAt}
 use Rattle.reg_checkers.specs.Orders.{IsPointOrder}
 use Rattle.reg_base.specs.declared.memory.Answer.{Answer}
 use Rattle.reg_base.specs.declared.memory.OpId.{OpId}
+use Rattle.reg_judge.specs.declared.judge.Bounds.{Bounds}
 use Rattle.reg_judge.specs.declared.judge.Decided.{Decided}
 use Rattle.reg_judge.specs.declared.judge.Decided.TheVariants.{NoOrder, Order}
 use Rattle.reg_judge.specs.declared.judge.PointsFault.{PointsFault}
@@ -35,7 +36,9 @@ abbrev pub IsDecided : {A : Type 0} → ℕ → List Entry → Decided A → Typ
 IsDecided registers h (Order points) = IsPointOrder registers h points.items
 IsDecided registers h (NoOrder place) = ¬ HasPointOrder registers h
 
--- so many first entries have a point order, and so many have none
-pub record IsBetween (registers : ℕ) (h : List Entry) (good bad : ℕ) : Type 0 where
-  pub order : HasPointOrder registers (take good h)
-  pub none : ¬ HasPointOrder registers (take bad h)
+-- so many first entries have a point order, and so many more have none
+pub record AreBounds (registers : ℕ) (h : List Entry) (b : Bounds) : Type 0 where
+  pub order : HasPointOrder registers (take b.good h)
+  pub none : ¬ HasPointOrder registers (take b.bad h)
+  pub apart : b.good < b.bad
+  pub inside : b.bad ≤ length h

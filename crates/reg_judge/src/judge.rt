@@ -1,8 +1,8 @@
 //! A point order of a history, or the first answer that none explains.
-ghost use Rattle.std.specs.Prelude.{◌≡◌, ◌+◌, ◌<◌, ◌≤◌, IfErr, IfOk, MatchResult, length, take};
+ghost use Rattle.std.specs.Prelude.{◌≡◌, ◌+◌, ◌-◌, ◌<◌, ◌≤◌, IfErr, IfOk, MatchResult, length, take};
 ghost use Rattle.reg_checkers.specs.History.{IsHistory};
 ghost use Rattle.reg_checkers.specs.Orders.{IsPointOrder};
-ghost use Rattle.reg_judge.specs.Judging.{HasPointOrder, IsDecided, IsFirstUnexplained, IsPointsFault};
+ghost use Rattle.reg_judge.specs.Judging.{AreBounds, HasPointOrder, IsDecided, IsFirstUnexplained, IsPointsFault};
 
 use crate::order::points_of;
 use crate::search::{Searched, go_through};
@@ -111,6 +111,49 @@ fn between(good: usize, bad: usize, reached: usize) -> usize
     good + (bad - good) / 2
 }
 
+/// So many first entries of a history have a point order, and so many have none.
+#[derive(Clone, Copy)]
+struct Bounds {
+    good: usize,
+    bad: usize,
+    /// The place up to which the last search came.
+    reached: usize,
+}
+
+/// Closer bounds.
+fn narrowed<A: Allocator + Copy>(
+    alloc: A,
+    history: &History<A>,
+    bounds: Bounds,
+    limit: u32,
+) -> Result<Bounds, PointsFault>
+    requires wide { bounds.good + 1 < bounds.bad }
+    requires are { AreBounds history.now.shape.registers history.now.entries bounds }
+    ensures found { IfOk result (AreBounds history.now.shape.registers history.now.entries) }
+    ensures closer { IfOk result (λ b. b.bad - b.good < bounds.bad - bounds.good) }
+    ensures refused { IfErr result (IsPointsFault history.now.shape.registers history.now.entries) }
+{
+    let count = between(bounds.good, bounds.bad, bounds.reached);
+    let Ok(part) = first_part(alloc, history, count) else {
+        return Err(PointsFault::OutOfMemory);
+    };
+    match decide(alloc, &part, limit) {
+        Ok(Decided::Order(_)) => Ok(Bounds {
+            good: count,
+            bad: bounds.bad,
+            reached: bounds.reached,
+        }),
+        Ok(Decided::NoOrder(place)) => Ok(Bounds {
+            good: bounds.good,
+            bad: count,
+            reached: place,
+        }),
+        Err(PointsFault::TooManyStages { place }) => Err(PointsFault::TooManyStages { place }),
+        Err(PointsFault::Unchecked) => Err(PointsFault::Unchecked),
+        Err(_) => Err(PointsFault::OutOfMemory),
+    }
+}
+
 /// The place of the first answer that no point order explains, in a history that has none.
 fn first_unexplained<A: Allocator + Copy>(
     alloc: A,
@@ -122,21 +165,18 @@ fn first_unexplained<A: Allocator + Copy>(
     ensures found { IfOk result (IsFirstUnexplained history.now.shape.registers history.now.entries) }
     ensures refused { IfErr result (IsPointsFault history.now.shape.registers history.now.entries) }
 {
-    let mut good = 0;
-    let mut bad = history.entries().len();
-    let mut reached = reached;
-    while good + 1 < bad {
-        let count = between(good, bad, reached);
-        let part = first_part(alloc, history, count)?;
-        match decide(alloc, &part, limit)? {
-            Decided::Order(_) => good = count,
-            Decided::NoOrder(place) => {
-                bad = count;
-                reached = place;
-            }
+    let mut bounds = Bounds {
+        good: 0,
+        bad: history.entries().len(),
+        reached,
+    };
+    'narrow: while bounds.good + 1 < bounds.bad {
+        match narrowed(alloc, history, bounds, limit) {
+            Ok(closer) => bounds = closer,
+            Err(fault) => return Err(fault),
         }
     }
-    Ok(good)
+    Ok(bounds.good)
 }
 
 /// A point order of a history (Herlihy and Wing 1990), or the first answer that none explains. Each register is searched

@@ -13,5 +13,3 @@ mod trail;
 
 pub use judge::{MOST_STAGES, PointsFault, judge_points};
 
-#[cfg(test)]
-mod tests;
