@@ -1,18 +1,14 @@
 -- A search at the first entry.
-use Rattle.std.proofs.Common.{◌≡◌, ℕ, zero, suc, ◌<◌, List, [], ◌∷◌, Option, Some, None, Vec, drop, replicate, length, slice_get, refl, ap, sym, ◌∙◌, subst, inl, arith}
+use Rattle.std.proofs.Common.{◌≡◌, ℕ, zero, suc, ◌<◌, List, Option, Some, None, Vec, replicate, length, refl, ap, sym, ◌∙◌, subst, inl, arith}
 use Rattle.std.specs.Int.{bit_at}
-use Rattle.std.proofs.lemmas.List.{length-replicate}
 use Rattle.std.proofs.lemmas.Nat.Bits.{bit_at-zero}
-use Rattle.std.specs.Prelude.{option_and_then, option_map}
-use Rattle.reg_base.specs.declared.memory.OpId.{OpId}
+use Rattle.std.specs.Prelude.{option_and_then}
 use Rattle.reg_checkers.specs.declared.entries.Entry.{Entry}
 use Rattle.reg_checkers.specs.declared.entries.Point.{Point}
-use Rattle.reg_checkers.specs.declared.facts.Fact.{Fact}
 use Rattle.reg_checkers.specs.History.{IsAt, IsHistory}
 use Rattle.reg_checkers.specs.Orders.{IsPointOrder}
 use Rattle.reg_checkers.specs.Table.{IsTable, Rows}
 use Rattle.reg_checkers.proofs.Places.{within}
-use Rattle.reg_judge.specs.declared.acts.Act.{Act}
 use Rattle.reg_judge.specs.declared.calls.Call.{Call}
 use Rattle.reg_judge.specs.declared.stages.Stage.{Stage}
 use Rattle.reg_judge.specs.Acts.{act_in, act_of}

@@ -1,6 +1,6 @@
 -- Operations that do no harm: where the entries that follow can be gone through, they can be with such operations placed
 -- besides.
-use Rattle.std.proofs.Common.{◌≡◌, ◌≢◌, ◌⊎◌, inl, inr, ℕ, zero, suc, List, [], ◌∷◌, Option, Some, None, refl, ap, sym, ◌∙◌, subst, arith}
+use Rattle.std.proofs.Common.{◌≡◌, ◌⊎◌, inl, inr, ℕ, suc, List, ◌∷◌, Option, Some, None, refl, ap, sym, ◌∙◌, subst}
 use Rattle.std.specs.Option.{unwrap_or}
 use Rattle.std.proofs.lemmas.Bool.{cases_eq}
 use Rattle.std.proofs.lemmas.Option.{same_Some}
@@ -9,9 +9,8 @@ use Rattle.reg_base.specs.declared.memory.Op.{Op}
 use Rattle.reg_base.specs.declared.memory.Answer.{Answer}
 use Rattle.reg_checkers.specs.declared.entries.Entry.{Entry}
 use Rattle.reg_checkers.specs.declared.entries.Entry.TheVariants.{Called, Answered}
-use Rattle.reg_checkers.specs.History.{IsAt}
 use Rattle.reg_judge.specs.declared.acts.Act.{Act}
-use Rattle.reg_judge.specs.Acts.{Fits, value_after}
+use Rattle.reg_judge.specs.Acts.{value_after}
 use Rattle.reg_judge.specs.Completing.{Answers, Calls, Completes, Covers, Elsewhere, Ends, IsFree, IsOn, IsUnneeded, Places, Running, put}
 use Rattle.reg_judge.proofs.Puts.{none_some, put_here, put_there}
 

@@ -1,14 +1,13 @@
 -- Cuts of a history and a point order: so many entries, and the points that lie before.
-use Rattle.std.proofs.Common.{◌≡◌, ◌≢◌, ◌⊎◌, inl, inr, ℕ, zero, suc, ◌<◌, List, map, Option, None, take, refl, ap, ap₂, sym, ◌∙◌, subst, arith}
-use Rattle.std.specs.Prelude.{slice_index}
+use Rattle.std.proofs.Common.{◌≡◌, ◌≢◌, ◌⊎◌, inl, inr, ℕ, suc, ◌<◌, List, Option, None, take, ap, ap₂, sym, ◌∙◌, subst, arith}
 use Rattle.std.proofs.lemmas.Bool.{cases_eq, cases_order}
 use Rattle.reg_base.specs.declared.memory.OpId.{OpId}
 use Rattle.reg_base.specs.declared.memory.Op.{Op}
 use Rattle.reg_base.specs.declared.memory.Answer.{Answer}
-use Rattle.reg_base.specs.Memory.{memory, register_of}
+use Rattle.reg_base.specs.Memory.{register_of}
 use Rattle.reg_checkers.specs.declared.entries.Entry.{Entry}
 use Rattle.reg_checkers.specs.declared.entries.Entry.TheVariants.{Called, Answered}
-use Rattle.reg_checkers.specs.History.{IsAt, IsAnswered, IsCalled, IsFinished, IsHistory, MayCall, WasCalled}
+use Rattle.reg_checkers.specs.History.{IsAt, IsCalled, IsFinished, IsHistory, MayCall, WasCalled}
 use Rattle.reg_checkers.specs.Orders.{IsDistinct}
 use Rattle.reg_checkers.proofs.Histories.{answered_before_next, answered_was_called}
 use Rattle.reg_checkers.proofs.Noting.{history_front}

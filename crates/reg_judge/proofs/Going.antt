@@ -1,5 +1,5 @@
 -- One entry more: from what goes on through it to what goes on after it.
-use Rattle.std.proofs.Common.{◌≡◌, ◌≢◌, ◌⊎◌, ◌<◌, inl, inr, ℕ, zero, suc, List, [], ◌∷◌, Option, Some, None, true, refl, ap, sym, ◌∙◌, subst, arith}
+use Rattle.std.proofs.Common.{◌≡◌, ◌≢◌, ◌⊎◌, inl, inr, ℕ, suc, List, ◌∷◌, Option, Some, None, true, refl, ap, sym, ◌∙◌, subst, arith}
 use Rattle.std.specs.Int.{bit_at}
 use Rattle.std.proofs.lemmas.Bool.{cases_eq}
 use Rattle.std.proofs.lemmas.Nat.Bits.{bit_at-lt}
@@ -12,9 +12,9 @@ use Rattle.reg_checkers.specs.History.{IsAt}
 use Rattle.reg_judge.specs.declared.acts.Act.{Act}
 use Rattle.reg_judge.specs.declared.stages.Mover.{Mover}
 use Rattle.reg_judge.specs.declared.stages.Stage.{Stage}
-use Rattle.reg_judge.specs.Acts.{Fits, value_after}
-use Rattle.reg_judge.specs.Completing.{Answers, Calls, Completes, Covers, Elsewhere, Ends, IsFree, IsOn, Places, Running, put}
-use Rattle.reg_judge.specs.Stages.{AreDone, AreMovers, HasHarmless, IsAfter, IsAlive, IsDone, Keeps, MayMove, Reads, Settles}
+use Rattle.reg_judge.specs.Acts.{value_after}
+use Rattle.reg_judge.specs.Completing.{Answers, Calls, Completes, Covers, Elsewhere, IsFree, IsOn, Places, Running, put}
+use Rattle.reg_judge.specs.Stages.{AreDone, AreMovers, HasHarmless, IsAlive, IsDone, Keeps, Reads, Settles}
 use Rattle.reg_judge.proofs.Puts.{none_some, put_here, put_there}
 use Rattle.reg_judge.proofs.Covering.{covering}
 

@@ -1,14 +1,13 @@
 -- The first answer that no point order explains.
-use Rattle.std.proofs.Common.{◌≡◌, ◌⊎◌, inl, inr, ℕ, zero, suc, ◌+◌, ◌<◌, ◌≤◌, List, [], ◌∷◌, map, take, length, refl, ap, sym, ◌∙◌, subst, arith}
+use Rattle.std.proofs.Common.{◌≡◌, inl, inr, ℕ, suc, ◌+◌, ◌<◌, ◌≤◌, List, [], ◌∷◌, map, take, length, refl, sym, subst, arith}
 use Rattle.std.specs.List.{AllZip}
 use Rattle.reg_base.specs.declared.memory.OpId.{OpId}
 use Rattle.reg_base.specs.declared.memory.Op.{Op}
 use Rattle.reg_base.specs.declared.memory.Answer.{Answer}
-use Rattle.reg_base.specs.Memory.{updates}
 use Rattle.reg_checkers.specs.declared.entries.Entry.{Entry}
 use Rattle.reg_checkers.specs.declared.entries.Entry.TheVariants.{Called, Answered}
 use Rattle.reg_checkers.specs.declared.entries.Point.{Point}
-use Rattle.reg_checkers.specs.History.{IsAt, IsAnswered, IsCalled, IsFinished, IsHistory, MayCall, WasCalled}
+use Rattle.reg_checkers.specs.History.{IsAt, IsAnswered, IsCalled, IsHistory, MayCall, WasCalled}
 use Rattle.reg_checkers.specs.Orders.{IsPointOrder}
 use Rattle.reg_checkers.proofs.Histories.{answered_was_called}
 use Rattle.reg_checkers.proofs.Noting.{history_front}

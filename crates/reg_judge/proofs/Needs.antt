@@ -1,12 +1,11 @@
 -- Up to where values are needed.
-use Rattle.std.proofs.Common.{◌≡◌, ◌≢◌, ◌⊎◌, inl, inr, ℕ, ◌+◌, ◌<◌, ◌≤◌, cond, true, List, [], ◌∷◌, ◌++◌, Option, Some, None, length, get_or, slice_get, refl, ap, sym, ◌∙◌, subst, arith}
+use Rattle.std.proofs.Common.{◌≡◌, inl, inr, ℕ, ◌+◌, ◌<◌, ◌≤◌, cond, List, [], Option, Some, None, length, refl, ap, sym, ◌∙◌, subst, arith}
 use Rattle.std.specs.BTreeMap.{BTreeMap, Updates, get, is_at}
 use Rattle.std.specs.Option.{unwrap_or}
 use Rattle.std.specs.Prelude.{option_and_then}
 use Rattle.std.proofs.lemmas.Bool.{cases_Bool, cases_eq}
 use Rattle.std.proofs.lemmas.Option.{same_Some}
 use Rattle.reg_base.specs.declared.memory.OpId.{OpId}
-use Rattle.reg_base.specs.declared.memory.Answer.{Answer}
 use Rattle.reg_checkers.specs.declared.entries.Entry.{Entry}
 use Rattle.reg_checkers.specs.declared.entries.Entry.TheVariants.{Called, Answered}
 use Rattle.reg_checkers.specs.History.{IsAt}

@@ -1,5 +1,5 @@
 -- One register of a memory, and what operations make of it.
-use Rattle.std.proofs.Common.{◌≡◌, ◌≢◌, ◌⊎◌, inl, inr, ℕ, zero, suc, ◌<◌, true, false, List, [], ◌∷◌, Option, Some, None, take, drop, length, get_or, refl, ap, sym, ◌∙◌, subst, arith, length-set}
+use Rattle.std.proofs.Common.{◌≡◌, ◌≢◌, ℕ, zero, suc, ◌<◌, true, List, [], ◌∷◌, Option, Some, None, take, drop, length, refl, ap, sym, ◌∙◌, subst}
 use Rattle.std.specs.Prelude.{slice_index, slice_set}
 use Rattle.std.specs.Option.{unwrap_or}
 use Rattle.std.proofs.lemmas.List.{get_or-set_same, get_or-set_other}
@@ -7,13 +7,13 @@ use Rattle.std.proofs.lemmas.Option.{same_Some}
 use Rattle.reg_base.specs.declared.memory.Op.{Op}
 use Rattle.reg_base.specs.declared.memory.Op.TheVariants.{Read, Write, Swap}
 use Rattle.reg_base.specs.declared.memory.Answer.{Answer}
-use Rattle.reg_base.specs.declared.memory.Answer.TheVariants.{Done, Value}
+use Rattle.reg_base.specs.declared.memory.Answer.TheVariants.{Done}
 use Rattle.reg_base.specs.Memory.{Memory, after, answer_of, memory_after, register_of, updates}
 use Rattle.reg_base.proofs.Operations.{length-after}
 use Rattle.reg_checkers.specs.declared.facts.Given.{Given}
 use Rattle.reg_checkers.specs.History.{IsAt}
 use Rattle.reg_judge.specs.declared.acts.Act.{Act}
-use Rattle.reg_judge.specs.Acts.{Fits, acting, made_of, needed_of, unanswered, value_after}
+use Rattle.reg_judge.specs.Acts.{acting, made_of, needed_of}
 
 pub memory_next : (m : Memory) (ops : List Op) (k : ℕ) (op : Op) → IsAt ops k op → memory_after (take (suc k) ops) m ≡ after op (memory_after (take k ops) m)
 memory_next m [] k op h = absurd cc

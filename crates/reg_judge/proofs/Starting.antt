@@ -9,7 +9,7 @@ use Rattle.std.proofs.lemmas.Option.{same_Some}
 use Rattle.reg_base.specs.declared.memory.OpId.{OpId}
 use Rattle.reg_base.specs.declared.memory.Op.{Op}
 use Rattle.reg_base.specs.declared.memory.Answer.{Answer}
-use Rattle.reg_base.specs.Memory.{after, memory, memory_after, register_of, updates}
+use Rattle.reg_base.specs.Memory.{after, memory, register_of, updates}
 use Rattle.reg_checkers.specs.declared.entries.Entry.{Entry}
 use Rattle.reg_checkers.specs.declared.entries.Entry.TheVariants.{Called, Answered}
 use Rattle.reg_checkers.specs.declared.entries.Point.{Point}
@@ -22,11 +22,11 @@ use Rattle.reg_checkers.proofs.Bridges.{zip_right}
 use Rattle.reg_checkers.proofs.Histories.{answered_was_called, call_is}
 use Rattle.reg_checkers.proofs.Places.{at_map, at_take, element_at, in_take, same_at, within}
 use Rattle.reg_judge.specs.declared.acts.Act.{Act}
-use Rattle.reg_judge.specs.Acts.{Fits, acting, act_of, needed_of, value_after}
+use Rattle.reg_judge.specs.Acts.{Fits, act_of, value_after}
 use Rattle.reg_judge.specs.Completing.{Answers, Calls, Completes, Elsewhere, Ends, IsOn, Places, Running, put}
 use Rattle.reg_judge.proofs.Covering.{longer}
 use Rattle.reg_judge.proofs.Cuts.{IsCut, IsOnRegister, IsOpen, cut_answer, cut_call, cut_place}
-use Rattle.reg_judge.proofs.Puts.{none_some, put_here, put_there}
+use Rattle.reg_judge.proofs.Puts.{put_here, put_there}
 use Rattle.reg_judge.proofs.Registers.{IsActing, acts_answered, acts_update, drop_at, memory_length, memory_next, needs_on, value_off, value_on}
 
 -- each operation that was called asks and leaves what its fact says

@@ -12,9 +12,8 @@ use Rattle.reg_checkers.specs.declared.entries.Entry.{Entry}
 use Rattle.reg_checkers.specs.declared.entries.Entry.TheVariants.{Called, Answered}
 use Rattle.reg_checkers.specs.declared.facts.Fact.{Fact}
 use Rattle.reg_checkers.specs.declared.facts.Given.{Given}
-use Rattle.reg_checkers.specs.Facts.{IsFactOf}
-use Rattle.reg_checkers.specs.History.{IsAt, IsAnswered, IsFinished, IsHistory, MayAnswer, WasCalled}
-use Rattle.reg_checkers.specs.Table.{IsTable, Rows, cell}
+use Rattle.reg_checkers.specs.History.{IsAt, IsAnswered, IsFinished, MayAnswer}
+use Rattle.reg_checkers.specs.Table.{Rows, cell}
 use Rattle.reg_checkers.proofs.Histories.{called_once}
 use Rattle.reg_checkers.proofs.Places.{element_at, get_set_other, get_set_same, in_take, same_at, within}
 use Rattle.reg_judge.specs.declared.acts.Act.{Act}
@@ -23,11 +22,11 @@ use Rattle.reg_judge.specs.declared.stages.Mover.{Mover}
 use Rattle.reg_judge.specs.declared.stages.Stage.{Stage}
 use Rattle.reg_judge.specs.Acts.{act_in, act_of, acting, made_of, needed_of, unanswered}
 use Rattle.reg_judge.specs.Completing.{Completes, IsFree, IsOn, IsUnneeded, Running, put}
-use Rattle.reg_judge.specs.Searching.{AreAlive, AreMoversOf, AreNeeds, AreRead, AreWaiting, IsAnswering, IsCallOf, IsKnown, IsLayerAfter, IsStep, IsWaiting, run_of}
+use Rattle.reg_judge.specs.Searching.{AreAlive, AreMoversOf, AreRead, AreWaiting, IsAnswering, IsCallOf, IsKnown, IsLayerAfter, IsStep, IsWaiting, run_of}
 use Rattle.reg_judge.specs.declared.search.Stepped.{Stepped}
 use Rattle.reg_judge.specs.declared.search.Stepped.TheVariants.{On, Stuck, TooMany}
 use Rattle.reg_base.specs.Memory.{register_of}
-use Rattle.reg_judge.specs.Stages.{AreMovers, IsAlive, Keeps, Reads}
+use Rattle.reg_judge.specs.Stages.{AreMovers, IsAlive, Reads}
 use Rattle.reg_judge.proofs.Covering.{covering}
 use Rattle.reg_judge.proofs.Going.{after_answer, alive_after_answer, alive_after_call, alive_after_other, alive_after_reads, same_placed}
 use Rattle.reg_judge.proofs.Puts.{none_some, put_here, put_there}

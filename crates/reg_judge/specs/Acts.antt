@@ -1,6 +1,6 @@
--- What an operation asks of the value of its register, and what it leaves there. They carry a proof: no promise speaks of
--- them.
-use Rattle.std.specs.Prelude.{ℕ, ◌≡◌, List, Option, Some, None, option_and_then}
+-- What an operation asks of the value of its register, and what it leaves there. They carry a proof: no promise speaks
+-- of them.
+use Rattle.std.specs.Prelude.{ℕ, ◌≡◌, Option, Some, None, option_and_then}
 use Rattle.std.specs.Option.{unwrap_or}
 use Rattle.reg_base.specs.declared.memory.OpId.{OpId}
 use Rattle.reg_base.specs.declared.memory.Op.{Op}

@@ -179,13 +179,14 @@ fn first_unexplained<A: Allocator + Copy>(
     Ok(bounds.good)
 }
 
-/// A point order of a history (Herlihy and Wing 1990), or the first answer that none explains. Each register is searched
-/// by itself, entry by entry, and what is found is checked. No clause says how the search goes.
+/// A point order of a history (Herlihy and Wing 1990), or the first answer that none explains. Each register is
+/// searched by itself, entry by entry, and what is found is checked. No clause says how the search goes.
 ///
 /// # Errors
 ///
 /// `No`: the entries up to the answer at the place have no point order, and those before it have one.
-/// `TooManyStages`, `Unchecked` and `OutOfMemory` say nothing of the history.
+/// `TooManyStages`, `Unchecked` and `OutOfMemory` say nothing of the history. That `Unchecked` never comes is tried,
+/// and not proved.
 pub fn judge_points<A: Allocator + Copy>(
     alloc: A,
     history: &History<A>,

@@ -12,4 +12,3 @@ mod stages;
 mod trail;
 
 pub use judge::{MOST_STAGES, PointsFault, judge_points};
-

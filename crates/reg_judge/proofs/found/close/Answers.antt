@@ -1,4 +1,4 @@
-use Rattle.std.proofs.Common.{ap, subst, List}
+use Rattle.std.proofs.Common.{subst, List}
 use Rattle.reg_judge.specs.declared.stages.Stage.{Stage}
 use Rattle.reg_judge.specs.Stages.{Keeps}
 use Rattle.reg_judge.proofs.Keeping.{stage_extends}

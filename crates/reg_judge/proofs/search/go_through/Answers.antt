@@ -1,6 +1,5 @@
-use Rattle.std.proofs.Common.{None, List, length, replicate, ap, ◌∙◌, subst}
+use Rattle.std.proofs.Common.{None, length, ap, ◌∙◌, subst}
 use Rattle.std.proofs.lemmas.List.{length-replicate}
-use Rattle.reg_judge.specs.declared.calls.Call.{Call}
 use Rattle.reg_judge.specs.declared.search.Stepped.{Stepped}
 use Rattle.reg_judge.specs.Acts.{act_in}
 use Rattle.reg_judge.specs.Searching.{IsStep}

@@ -1,5 +1,5 @@
 use Rattle.std.proofs.Common.{arith}
-use Rattle.reg_judge.proofs.Keeping.{after_all, after_more, at_get, extends_twice, mover_narrow}
+use Rattle.reg_judge.proofs.Keeping.{after_all, after_more, at_get, extends_twice}
 use Rattle.reg_judge.proofs.found.Found.add_all_after.Goals as goal
 
 pub loop-mover-preserved : goal.loop-mover-preserved

@@ -1,4 +1,4 @@
-use Rattle.std.proofs.Common.{◌≡◌, ◌<◌, ℕ, None, Some, List, Option, Vec, length, set, ap, sym, subst, ◌∙◌, inr, arith}
+use Rattle.std.proofs.Common.{ℕ, None, Some, List, Option, set, ap, sym, subst, ◌∙◌, inr, arith}
 use Rattle.reg_checkers.specs.History.{IsAt}
 use Rattle.reg_checkers.proofs.Noting.{read_at}
 use Rattle.reg_judge.specs.declared.calls.Call.{Call}

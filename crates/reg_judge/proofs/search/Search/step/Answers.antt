@@ -1,4 +1,4 @@
-use Rattle.std.proofs.Common.{ℕ, Some, length, ap, sym, ◌∙◌, arith, refl}
+use Rattle.std.proofs.Common.{Some, length, arith}
 use Rattle.reg_checkers.specs.declared.entries.Entry.TheVariants.{Called, Answered}
 use Rattle.reg_checkers.proofs.Noting.{read_at}
 use Rattle.reg_checkers.proofs.Places.{within}
