@@ -23,8 +23,8 @@ use reg_checkers::{Entry, History, Point};
 use reg_outcomes::{InterleavingFault, find_serial};
 use std::alloc::{AllocError, Allocator, Global};
 
-/// The most stages that as many operations may lead to in a search for a serial order. It is small, since where there is
-/// no point order such a search soon grows wide.
+/// The most stages that as many operations may lead to in a search for a serial order. It is small, since where there
+/// is no point order such a search soon grows wide.
 pub const MOST_SERIAL_STAGES: u32 = 50_000;
 
 /// Whether a history has a serial order.

@@ -27,7 +27,8 @@ pub record DrawsRun (Wrote : List ℕ → Type 0) (p : Plan) : Type 0 where
   pub whole : IsDrawing drawing
   pub written : Wrote drawing
 
--- What a fault of a command says of a plan's run: that the output failed is told only where all its events are accepted.
+-- What a fault of a command says of a plan's run: that the output failed is told only where all its events are
+-- accepted.
 abbrev pub StopsRun : Plan → Fault → Type 0
 StopsRun p Output = IsRunWhole p
 StopsRun p fault = BlamesRun (start_of p.front) p fault

@@ -68,8 +68,8 @@ fn write_outcomes<A: Allocator + Copy, W: Write>(
     )
 }
 
-/// Plays the workload that a text says `plays` times, from this seed on or else from its own, and writes the table of what
-/// the plays told, once all of them are counted. There are at most `MOST_PLAYS`.
+/// Plays the workload that a text says `plays` times, from this seed on or else from its own, and writes the table of
+/// what the plays told, once all of them are counted. There are at most `MOST_PLAYS`.
 #[derive(Clone, Copy, Debug)]
 pub struct ManyPlays {
     pub plays: u32,

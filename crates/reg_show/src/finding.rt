@@ -113,9 +113,9 @@ fn find<A: Allocator + Copy, W: Write>(
     }
 }
 
-/// Finds an order of the history of the report that a text spells, and writes the report in version 2 with it in place of
-/// its own order and points, or one line that says that there is none, once the search is over. The answer is a no where
-/// there is none.
+/// Finds an order of the history of the report that a text spells, and writes the report in version 2 with it in place
+/// of its own order and points, or one line that says that there is none, once the search is over. The answer is a no
+/// where there is none.
 #[derive(Clone, Copy, Debug)]
 pub struct FindOrder {
     pub kind: OrderKind,

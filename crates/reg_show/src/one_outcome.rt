@@ -83,9 +83,9 @@ fn write_run_of<A: Allocator + Copy, W: Write>(
     )
 }
 
-/// Writes the schedule of a run with the outcome of this number, counted from 1, among all outcomes that the scripts of the
-/// workload that a text says can have, in their order, once the run is made. It is made under the workload's front end,
-/// and calls the operations in the order of the outcome's turns.
+/// Writes the schedule of a run with the outcome of this number, counted from 1, among all outcomes that the scripts of
+/// the workload that a text says can have, in their order, once the run is made. It is made under the workload's front
+/// end, and calls the operations in the order of the outcome's turns.
 #[derive(Clone, Copy, Debug)]
 pub struct OneOutcome {
     pub number: u32,

@@ -70,7 +70,8 @@ fn write_rest<F: FrontEnd, A: Allocator + Copy, W: Write>(
     Ok(())
 }
 
-/// Brings the run of a schedule to rest, and writes the schedule of all events: the same, with ticks and takes after it.
+/// Brings the run of a schedule to rest, and writes the schedule of all events: the same, with ticks and takes after
+/// it.
 pub(crate) fn rest<A: Allocator + Copy, W: Write>(
     alloc: A,
     schedule: Schedule<A>,

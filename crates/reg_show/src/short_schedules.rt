@@ -91,10 +91,10 @@ fn write_short_of<A: Allocator + Copy, W: Write>(
     )
 }
 
-/// Writes the schedule of the short form of the player's play of the workload that a text says, once the form is made. It
-/// has the play's events up to its last answer but for those that no answer needs: from the last to the first, each event
-/// is dropped without which the others are all accepted, and each process finishes the same operations with the same
-/// answers. Frames keep their places, so an event whose absence would have a later take miss its frame is kept.
+/// Writes the schedule of the short form of the player's play of the workload that a text says, once the form is made.
+/// It has the play's events up to its last answer but for those that no answer needs: from the last to the first, each
+/// event is dropped without which the others are all accepted, and each process finishes the same operations with the
+/// same answers. Frames keep their places, so an event whose absence would have a later take miss its frame is kept.
 #[derive(Clone, Copy, Debug)]
 pub struct ShortSchedule {
     pub player: Player,

@@ -69,8 +69,8 @@ Obeys help version asked input Wrote = IfSome input (λ xs. length xs ≤ LONGES
 
 -- Status 1: the answer is a no, which only why and find have; or the line of a fault was told, or a first part of it.
 -- The fault holds of the input, and nothing was written unless the writer failed; then a first part of an answer was.
--- Of what is told where a history of JSON lines is refused no clause speaks. Where help or the version was asked for, the
--- writer failed.
+-- Of what is told where a history of JSON lines is refused no clause speaks. Where help or the version was asked for,
+-- the writer failed.
 abbrev pub Stops : Asked → Option (List ℕ) → Type 0 → Option (List ℕ) → Option (List ℕ) → Type 0 → Option (List ℕ) → Option (List ℕ) → Type 0
 Stops (Show showing) input unwritten old new untold was is = StopsCommand ⊥ Command show_line (Blames showing) (AnswersOf (Show showing)) input unwritten old new untold was is
 Stops (Find kind) input unwritten old new untold was is = StopsCommand ⊤ Command show_line (BlamesFind kind) (AnswersOf (Find kind)) input unwritten old new untold was is

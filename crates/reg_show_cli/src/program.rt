@@ -132,8 +132,8 @@ pub fn refuse<E: Write>(fault: WordsFault, errors: &mut E) -> u8
 }
 
 /// Does what the words of a command line ask for, over this reader and this writer, and gives the exit status: 0, or 1
-/// where something was refused or the answer is a no, or 2 for the command line. The line of a fault, or a first part of
-/// it, goes to `errors`.
+/// where something was refused or the answer is a no, or 2 for the command line. The line of a fault, or a first part
+/// of it, goes to `errors`.
 pub fn run_line<R: AllocGlobal, I: Read, O: Write, E: Write>(
     rt: &R,
     words: &[String],

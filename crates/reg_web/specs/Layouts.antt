@@ -15,8 +15,8 @@ IsLayoutFault (Workload fault) = ⊤
 IsLayoutFault OutOfMemory = ⊤
 IsLayoutFault _ = ⊥
 
--- What a fault says of the text: of the input, what all commands say; that it is in no layout, of which nothing is said;
--- or it says a workload, of which nothing is shown for this reason.
+-- What a fault says of the text: of the input, what all commands say; that it is in no layout, of which nothing is
+-- said; or it says a workload, of which nothing is shown for this reason.
 abbrev pub BlamesLayout : {F : Type 0} → (Fault → F) → (F → Load → Type 0) → F → List ℕ → Type 0
 BlamesLayout of_fault IsStopped f text =
     ((fault : Fault) × (f ≡ of_fault fault) × (Blames (Play false) fault text ⊎ IsLayoutFault fault)) ⊎ ((work : Load) × Holds text work × IsStopped f work)

@@ -36,8 +36,8 @@ pub extern "C" fn tellwydar_layout(
     tell_in(command, room, text, output, errors, lengths)
 }
 
-/// Plays a workload that is in its layout as the words of its seed say. The answer is the report of the play, and the status 0; or 1
-/// with the line of a fault.
+/// Plays a workload that is in its layout as the words of its seed say. The answer is the report of the play, and the
+/// status 0; or 1 with the line of a fault.
 #[unsafe(no_mangle)]
 pub extern "C" fn tellwydar_play(
     room: &mut Room,
@@ -70,8 +70,8 @@ pub extern "C" fn tellwydar_play_fair(
     tell_in(command, room, text, output, errors, lengths)
 }
 
-/// Plays a workload that is in its layout as the words of its seed say. The answer is the schedule of the play, and the status 0;
-/// or 1 with the line of a fault.
+/// Plays a workload that is in its layout as the words of its seed say. The answer is the schedule of the play, and the
+/// status 0; or 1 with the line of a fault.
 #[unsafe(no_mangle)]
 pub extern "C" fn tellwydar_schedule(
     room: &mut Room,
@@ -88,8 +88,8 @@ pub extern "C" fn tellwydar_schedule(
     tell_in(command, room, text, output, errors, lengths)
 }
 
-/// Plays a workload that is in its layout as the words of its seed say. The answer is the schedule of the short form of the play, and
-/// the status 0; or 1 with the line of a fault.
+/// Plays a workload that is in its layout as the words of its seed say. The answer is the schedule of the short form of
+/// the play, and the status 0; or 1 with the line of a fault.
 #[unsafe(no_mangle)]
 pub extern "C" fn tellwydar_short(
     room: &mut Room,
