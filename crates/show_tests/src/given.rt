@@ -1,6 +1,4 @@
 //! What is done with a text, and what is to be given for it.
-ghost use Rattle.std.specs.Prelude.{◌≡◌};
-
 use reg_commands::{OfDocument, run_command};
 use reg_outcomes::OrderKind;
 use reg_reasons::Explain;
@@ -41,38 +39,34 @@ pub(crate) enum Task {
     Why,
 }
 
-/// A command over the workload that a document says.
-fn of<C>(global: Global, command: C) -> OfDocument<C>
-    ensures { result.command ≡ command }
-{
-    OfDocument { command, global }
-}
-
 /// The status of a task. No command has 255, which stands for an outcome of number 0.
 fn run(alloc: Global, task: Task, text: &str, output: &mut Vec<u8>, errors: &mut Vec<u8>) -> u8 {
     let (global, mut input) = (alloc, text.as_bytes());
     let input = &mut input;
     let player = Player::Fair;
     match task {
-        Task::AllOutcomes => run_command(of(global, EveryOutcome), alloc, input, output, errors),
+        Task::AllOutcomes => {
+            let command = EveryOutcome;
+            run_command(OfDocument { command, global }, alloc, input, output, errors)
+        }
         Task::OnePlay => {
             let (plays, seed) = (1, None);
             let command = ManyPlays { plays, seed };
-            run_command(of(global, command), alloc, input, output, errors)
+            run_command(OfDocument { command, global }, alloc, input, output, errors)
         }
         Task::Outcome { number: 0 } => 255,
         Task::Outcome { number } => {
             let command = OneOutcome { number };
-            run_command(of(global, command), alloc, input, output, errors)
+            run_command(OfDocument { command, global }, alloc, input, output, errors)
         }
         Task::Order { kind } => run_command(FindOrder { kind }, alloc, input, output, errors),
         Task::Schedule => {
             let command = FullSchedule { player };
-            run_command(of(global, command), alloc, input, output, errors)
+            run_command(OfDocument { command, global }, alloc, input, output, errors)
         }
         Task::ShortSchedule => {
             let command = ShortSchedule { player };
-            run_command(of(global, command), alloc, input, output, errors)
+            run_command(OfDocument { command, global }, alloc, input, output, errors)
         }
         Task::Show { showing } => {
             let command = ShowEither { showing, global };
