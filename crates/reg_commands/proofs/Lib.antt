@@ -7,4 +7,3 @@ pub mod WithinReport
 pub mod AtEvents
 pub mod Parts
 pub mod Named
-pub mod Stopped

@@ -1,20 +1,19 @@
 -- What a stop tells of the error stream alone.
-use Rattle.std.proofs.Common.{ℕ, List, Option}
-use Rattle.reg_commands.proofs.Stopped.{tells_of as command_tells}
+use Rattle.std.proofs.Common.{ℕ, List, Option, inl, inr}
 use Rattle.reg_show_cli.specs.Statuses.{Stops, Tells}
 use Rattle.reg_show_cli.specs.declared.words.Asked.{Asked}
 use Rattle.reg_show_cli.specs.declared.words.Asked.TheVariants.{AllOutcomes, Find, Help, Judge, Outcome, Outcomes, Schedule, ShortSchedule, Show, Verify, Version, Why}
 
 pub tells_of : (asked : Asked) (input : Option (List ℕ)) (unwritten : Type 0) (old new : Option (List ℕ)) (untold : Type 0) (was is : Option (List ℕ)) → Stops asked input unwritten old new untold was is → Tells asked untold was is
-tells_of (Show showing) input unwritten old new untold was is h = command_tells _ _ _ _ _ input unwritten old new untold was is h
-tells_of (Schedule player) input unwritten old new untold was is h = command_tells _ _ _ _ _ input unwritten old new untold was is h
-tells_of (ShortSchedule player) input unwritten old new untold was is h = command_tells _ _ _ _ _ input unwritten old new untold was is h
-tells_of (Outcomes plays seed) input unwritten old new untold was is h = command_tells _ _ _ _ _ input unwritten old new untold was is h
-tells_of AllOutcomes input unwritten old new untold was is h = command_tells _ _ _ _ _ input unwritten old new untold was is h
-tells_of (Outcome number) input unwritten old new untold was is h = command_tells _ _ _ _ _ input unwritten old new untold was is h
-tells_of (Find kind) input unwritten old new untold was is h = command_tells _ _ _ _ _ input unwritten old new untold was is h
-tells_of Why input unwritten old new untold was is h = command_tells _ _ _ _ _ input unwritten old new untold was is h
-tells_of Verify input unwritten old new untold was is h = command_tells _ _ _ _ _ input unwritten old new untold was is h
+tells_of (Show showing) input unwritten old new untold was is h = elim h [ inl (denies, answered, same) ↦ inl (denies, same) | inr (f, kind, blamed, silent, part, told) ↦ inr (f, kind, told) ]
+tells_of (Schedule player) input unwritten old new untold was is h = elim h [ inl (denies, answered, same) ↦ inl (denies, same) | inr (f, kind, blamed, silent, part, told) ↦ inr (f, kind, told) ]
+tells_of (ShortSchedule player) input unwritten old new untold was is h = elim h [ inl (denies, answered, same) ↦ inl (denies, same) | inr (f, kind, blamed, silent, part, told) ↦ inr (f, kind, told) ]
+tells_of (Outcomes plays seed) input unwritten old new untold was is h = elim h [ inl (denies, answered, same) ↦ inl (denies, same) | inr (f, kind, blamed, silent, part, told) ↦ inr (f, kind, told) ]
+tells_of AllOutcomes input unwritten old new untold was is h = elim h [ inl (denies, answered, same) ↦ inl (denies, same) | inr (f, kind, blamed, silent, part, told) ↦ inr (f, kind, told) ]
+tells_of (Outcome number) input unwritten old new untold was is h = elim h [ inl (denies, answered, same) ↦ inl (denies, same) | inr (f, kind, blamed, silent, part, told) ↦ inr (f, kind, told) ]
+tells_of (Find kind) input unwritten old new untold was is h = elim h [ inl (denies, answered, same) ↦ inl (denies, same) | inr (f, kind, blamed, silent, part, told) ↦ inr (f, kind, told) ]
+tells_of Why input unwritten old new untold was is h = elim h [ inl (denies, answered, same) ↦ inl (denies, same) | inr (f, kind, blamed, silent, part, told) ↦ inr (f, kind, told) ]
+tells_of Verify input unwritten old new untold was is h = elim h [ inl (denies, answered, same) ↦ inl (denies, same) | inr (f, kind, blamed, silent, part, told) ↦ inr (f, kind, told) ]
 tells_of Judge input unwritten old new untold was is h = tt
 tells_of Help input unwritten old new untold was is h = h
 tells_of Version input unwritten old new untold was is h = h
