@@ -1,7 +1,6 @@
 //! The line of each stop on the error stream: its text, and a line feed.
 use reg_cli::{Stop, run_live};
-use reg_commands::Refusal;
-use reg_commands::Fault;
+use reg_commands::{Fault, Refusal};
 use std::alloc::Global;
 use std::sync::Wait;
 use std::thread::Threads;
