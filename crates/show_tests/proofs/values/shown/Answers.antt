@@ -5,8 +5,8 @@ use Rattle.show_tests.proofs.values.shown.Goals as goal
 
 pub returns-clause-shown : goal.returns-clause-shown
 returns-clause-shown c = λ zero.
-    let P : List ℕ → Type 0 = λ start. Shows c.args.showing (Appends (Some start) (Some c.show_text-status.new.writer.items)) c.args.text.now in
-    subst P c.new-output.ensures.items (c.show_text-status.ensures.shown zero)
+    let P : List ℕ → Type 0 = λ start. Shows c.args.showing (Appends (Some start) (Some c.run_command-status.new.writer.items)) c.args.text.now in
+    subst P c.new-output.ensures.items (c.run_command-status.ensures.answered zero)
 
 pub returns-clause-quiet : goal.returns-clause-quiet
-returns-clause-quiet c = λ zero. ap (λ (v : Vec ℕ Global). v.items) (c.show_text-status.ensures.quiet zero) ∙ c.new-errors.ensures.items
+returns-clause-quiet c = λ zero. ap (λ (v : Vec ℕ Global). v.items) (c.run_command-status.ensures.quiet zero) ∙ c.new-errors.ensures.items
