@@ -1,32 +1,43 @@
--- One memory (the sequential specification of read and write registers, Herlihy and Wing 1990, section 2, with a swap).
--- A further kind of operation changes `register_of`, `updates`, `answer_of` and `after` alone.
-use Rattle.std.specs.Prelude.{◌≡◌, replicate, ℕ, Bool, true, false, List, [], ◌∷◌, slice_index, slice_set}
+-- One memory (the sequential specification of read and write registers, Herlihy and Wing 1990, section 2, with a swap
+-- and a compare-and-swap, Herlihy 1991).
+-- A further kind of operation changes `register_of`, `updates`, `tells`, `answer_of` and `after` alone.
+use Rattle.std.specs.Prelude.{◌≡◌, replicate, ℕ, Bool, true, false, List, [], ◌∷◌, ◌==◌, slice_index, slice_set, if◌then◌else◌}
 use Rattle.reg_base.specs.declared.memory.Op.{Op}
-use Rattle.reg_base.specs.declared.memory.Op.TheVariants.{Read, Write, Swap}
+use Rattle.reg_base.specs.declared.memory.Op.TheVariants.{Read, Write, Swap, CompareAndSwap}
 use Rattle.reg_base.specs.declared.memory.Answer.{Answer}
-use Rattle.reg_base.specs.declared.memory.Answer.TheVariants.{Done, Value}
+use Rattle.reg_base.specs.declared.memory.Answer.TheVariants.{Done, Value, Unequal}
 
 -- the register that an operation names
 abbrev pub register_of : Op → ℕ
 register_of (Read r) = r
 register_of (Write r v) = r
 register_of (Swap r v) = r
+register_of (CompareAndSwap r e v) = r
 
 -- whether the operation may change the memory
 abbrev pub updates : Op → Bool
 updates (Read r) = false
 updates op = true
 
--- a write answers Done; a read answers its register's value, and a swap its old value
+-- whether the operation's answer tells of the memory
+abbrev pub tells : Op → Bool
+tells (Write r v) = false
+tells op = true
+
+-- a write answers Done; a read answers its register's value, and a swap its old value; a compare-and-swap answers Done
+-- where its register holds the value that it expects, and else Unequal
 abbrev pub answer_of : Op → List ℕ → Answer
 answer_of (Write r v) m = Done
+answer_of (CompareAndSwap r e v) m = if slice_index m r == e then Done else Unequal
 answer_of op m = Value (slice_index m (register_of op))
 
--- a write or a swap replaces its register's value; a read changes nothing
+-- a write or a swap replaces its register's value, and so does a compare-and-swap whose register holds the value that
+-- it expects; else it changes nothing, as a read
 abbrev pub after : Op → List ℕ → List ℕ
 after (Read r) m = m
 after (Write r v) m = slice_set m r v
 after (Swap r v) m = slice_set m r v
+after (CompareAndSwap r e v) m = if slice_index m r == e then slice_set m r v else m
 
 -- the memory after these operations, the first of them first
 abbrev pub memory_after : List Op → List ℕ → List ℕ

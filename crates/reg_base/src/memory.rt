@@ -1,6 +1,6 @@
 //! Operations, their names and answers, and one memory.
-ghost use Rattle.std.specs.Prelude.{◌≡◌, ◌<◌, ◌↔◌, ℕ, List, IsTrue, IfOk, SomeIff, length, slice_get};
-ghost use Rattle.reg_base.specs.Memory.{register_of, updates, answer_of, after, blank};
+ghost use Rattle.std.specs.Prelude.{◌≡◌, ◌<◌, ◌↔◌, ℕ, false, List, IsTrue, IfOk, SomeIff, length, slice_get};
+ghost use Rattle.reg_base.specs.Memory.{register_of, updates, tells, answer_of, after, blank, IsBlind};
 
 use std::alloc::{AllocError, Allocator, Global};
 use std::marker::Model;
@@ -10,20 +10,36 @@ use std::mem;
 #[derive(Clone, Copy, Debug, PartialEq, Eq)]
 pub enum Op {
     /// Answers the register's value.
-    Read { register: u16 },
+    Read {
+        register: u16,
+    },
     /// Replaces the register's value.
-    Write { register: u16, value: u64 },
+    Write {
+        register: u16,
+        value: u64,
+    },
     /// Replaces the register's value, and answers the old one.
-    Swap { register: u16, value: u64 },
+    Swap {
+        register: u16,
+        value: u64,
+    },
+    /// Replaces the register's value where it is the expected one, and answers whether it did.
+    CompareAndSwap {
+        register: u16,
+        expected: u64,
+        value: u64,
+    },
 }
 
 /// What an operation answers.
 #[derive(Clone, Copy, Debug, PartialEq, Eq)]
 pub enum Answer {
-    /// The answer of a write.
+    /// The answer of a write, and of a compare-and-swap that found the expected value.
     Done,
     /// The answer of a read or a swap: the register's value before it.
     Value(u64),
+    /// The answer of a compare-and-swap that found another value than the expected one, and changed nothing.
+    Unequal,
 }
 
 /// The name of an operation: the process that called it, and its number there, from 0.
@@ -48,6 +64,20 @@ impl Op {
                 register: _,
                 value: _,
             } => true,
+            Op::CompareAndSwap { .. } => true,
+        }
+    }
+
+    /// Whether the operation's answer tells of the memory, and isn't the same on every one.
+    pub fn tells(&self) -> bool
+        ensures verdict { result ≡ tells self.now }
+        ensures blind { (result ≡ false) ↔ IsBlind self.now }
+    {
+        match *self {
+            Op::Write { .. } => false,
+            Op::Read { .. } => true,
+            Op::Swap { .. } => true,
+            Op::CompareAndSwap { .. } => true,
         }
     }
 
@@ -59,6 +89,7 @@ impl Op {
             Op::Read { register: _ } => match *answer {
                 Answer::Done => false,
                 Answer::Value(_) => true,
+                Answer::Unequal => false,
             },
             Op::Write {
                 register: _,
@@ -66,6 +97,7 @@ impl Op {
             } => match *answer {
                 Answer::Done => true,
                 Answer::Value(_) => false,
+                Answer::Unequal => false,
             },
             Op::Swap {
                 register: _,
@@ -73,6 +105,16 @@ impl Op {
             } => match *answer {
                 Answer::Done => false,
                 Answer::Value(_) => true,
+                Answer::Unequal => false,
+            },
+            Op::CompareAndSwap {
+                register: _,
+                expected: _,
+                value: _,
+            } => match *answer {
+                Answer::Done => true,
+                Answer::Value(_) => false,
+                Answer::Unequal => true,
             },
         }
     }
@@ -85,6 +127,7 @@ impl Op {
             Op::Read { register } => register,
             Op::Write { register, value: _ } => register,
             Op::Swap { register, value: _ } => register,
+            Op::CompareAndSwap { register, .. } => register,
         }
     }
 
@@ -100,6 +143,17 @@ impl Op {
             } => Answer::Done,
             Op::Read { register } | Op::Swap { register, value: _ } => {
                 Answer::Value(memory[register as usize])
+            }
+            Op::CompareAndSwap {
+                register,
+                expected,
+                value: _,
+            } => {
+                if memory[register as usize] == expected {
+                    Answer::Done
+                } else {
+                    Answer::Unequal
+                }
             }
         }
     }
@@ -118,6 +172,19 @@ impl Op {
             }
             Op::Swap { register, value } => {
                 Answer::Value(mem::replace(&mut memory[register as usize], value))
+            }
+            Op::CompareAndSwap {
+                register,
+                expected,
+                value,
+            } => {
+                let held = &mut memory[register as usize];
+                if *held == expected {
+                    *held = value;
+                    Answer::Done
+                } else {
+                    Answer::Unequal
+                }
             }
         }
     }
@@ -143,6 +210,14 @@ impl<A: Allocator + Copy> Registers<A> {
         ensures { IfOk result (λ r. r ≡ blank count) }
     {
         let values = vec![in alloc; 0; count as usize]?;
+        Ok(Registers { values })
+    }
+
+    /// Other registers with these values.
+    pub fn duplicate<B: Allocator + Copy>(&self, alloc: B) -> Result<Registers<B>, AllocError>
+        ensures { IfOk result (λ r. r ≡ self.now) }
+    {
+        let values = self.values.as_slice().to_vec(alloc)?;
         Ok(Registers { values })
     }
 

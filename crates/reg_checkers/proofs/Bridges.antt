@@ -7,7 +7,7 @@ use Rattle.std.proofs.lemmas.List.{take-map}
 use Rattle.reg_base.specs.declared.memory.OpId.{OpId}
 use Rattle.reg_base.specs.declared.memory.Op.{Op}
 use Rattle.reg_base.specs.declared.memory.Answer.{Answer}
-use Rattle.reg_base.specs.declared.memory.Answer.TheVariants.{Done, Value}
+use Rattle.reg_base.specs.declared.memory.Answer.TheVariants.{Done, Value, Unequal}
 use Rattle.reg_checkers.specs.declared.entries.Entry.{Entry}
 use Rattle.reg_checkers.specs.declared.entries.Entry.TheVariants.{Called}
 use Rattle.reg_base.specs.Memory.{IsUpdate, answer_of, memory, register_of}
@@ -94,7 +94,12 @@ ops_called h (id ∷ ids) (f ∷ facts) all = ((f.called, all.0.called), ops_cal
 same_answer : (a b : Answer) → (a ≡ b) ⊎ (a ≢ b)
 same_answer Done Done = inl refl
 same_answer Done (Value n) = inr (λ e. cc)
+same_answer Done Unequal = inr (λ e. cc)
 same_answer (Value n) Done = inr (λ e. cc)
+same_answer (Value n) Unequal = inr (λ e. cc)
+same_answer Unequal Done = inr (λ e. cc)
+same_answer Unequal (Value n) = inr (λ e. cc)
+same_answer Unequal Unequal = inl refl
 same_answer (Value n) (Value m) = go (cases_eq n m)
   where
     go : (n ≡ m) ⊎ (n ≡ m → ⊥) → (Value n ≡ Value m) ⊎ (Value n ≢ Value m)

@@ -6,7 +6,7 @@ use Rattle.std.proofs.lemmas.Bool.{ltb-false, eqb-true}
 use Rattle.std.proofs.lemmas.Bool.Decides.{nat_tests}
 use Rattle.reg_base.specs.declared.limits.TheConstants.{MOST_REGISTERS, LAST_TIME, FRAME_NUMBERS}
 use Rattle.reg_base.specs.declared.memory.Op.{Op}
-use Rattle.reg_base.specs.declared.memory.Op.TheVariants.{Read, Write, Swap}
+use Rattle.reg_base.specs.declared.memory.Op.TheVariants.{Read, Write, Swap, CompareAndSwap}
 use Rattle.reg_base.specs.Memory.{register_of}
 use Rattle.reg_frames.specs.declared.bodies.Body.TheVariants.{Cast, Ack}
 use Rattle.reg_frames.specs.declared.bodies.Frame.{Frame}
@@ -14,7 +14,7 @@ use Rattle.reg_frames.specs.declared.bodies.Frame.TheVariants.{Numbered, Got}
 use Rattle.reg_frames.specs.declared.faults.FrameFault.{FrameFault}
 use Rattle.reg_frames.specs.declared.faults.FrameFault.TheVariants as faults
 use Rattle.reg_frames.specs.Spelling.{op_bytes, body_bytes, payload, version_of, spelling, OpFits, TimeFits, Fits, Spells}
-use Rattle.reg_frames.specs.Reading.{number_at, is_time, body_fits, frame_fits, in_range, sized, cast_at, cast_of, data_of, plain_of, swap_cast_of, swap_data_of, swap_of, frame_of}
+use Rattle.reg_frames.specs.Reading.{number_at, is_time, body_fits, frame_fits, in_range, sized, cast_at, cast_of, data_of, plain_of, swap_at, compare_and_swap_at, lone_cast_of, lone_data_of, lone_of, frame_of}
 use Rattle.reg_frames.specs.Narrow.{OpIsNarrow, IsNarrow}
 use Rattle.reg_frames.proofs.Fields.{IsBytes, chosen, wide16, wide64, number_there, number_below, byte_there, none_left}
 
@@ -29,6 +29,7 @@ op_fits : (op : Op) → OpIsNarrow op → nat_lt (register_of op) MOST_REGISTERS
 op_fits (Read register) narrow h = grind (arith, nat_tests)
 op_fits (Write register value) narrow h = (grind (arith, nat_tests), narrow)
 op_fits (Swap register value) narrow h = (grind (arith, nat_tests), narrow)
+op_fits (CompareAndSwap register expected value) narrow h = (grind (arith, nat_tests), narrow.0, narrow.1)
 
 pub fits_from : (frame : Frame) → IsNarrow frame → frame_fits frame ≡ true → Fits frame
 fits_from (Got count) narrow h = grind (arith, nat_tests)
@@ -50,6 +51,7 @@ op_back : (op : Op) → OpFits op → nat_lt (register_of op) MOST_REGISTERS ≡
 op_back (Read register) h = grind (arith, nat_tests)
 op_back (Write register value) h = let a = h.0 in grind (arith, nat_tests)
 op_back (Swap register value) h = let a = h.0 in grind (arith, nat_tests)
+op_back (CompareAndSwap register expected value) h = let a = h.0 in grind (arith, nat_tests)
 
 pub fits_back : (frame : Frame) → Fits frame → frame_fits frame ≡ true
 fits_back (Got count) h = grind (arith, nat_tests)
@@ -130,6 +132,14 @@ module _ (bytes : List ℕ) (fits : IsBytes bytes) where
       (number_there bytes fits w16 (2 ^ 16) wide16 22 24 refl (omega arith) ∙ ap (λ (xs : List ℕ). to_be_bytes w16 (number_at w16 22 bytes) ++ xs)
       (number_there bytes fits w64 (2 ^ 64) wide64 24 32 refl (omega arith) ∙ (ap (λ (xs : List ℕ). to_be_bytes w64 (number_at w64 24 bytes) ++ xs) (none_left bytes 32 size) ∙ append-nil (to_be_bytes w64 (number_at w64 24 bytes)))))
 
+  -- a compare-and-swap
+  compared_form : length bytes ≡ 40 → get_or bytes 21 0 ≡ 4 → drop 21 bytes ≡ op_bytes (CompareAndSwap (number_at w16 22 bytes) (number_at w64 24 bytes) (number_at w64 32 bytes))
+  compared_form size is =
+      byte_there bytes fits 21 4 (omega arith) is ∙ ap (λ (xs : List ℕ). 4 ∷ xs)
+      (number_there bytes fits w16 (2 ^ 16) wide16 22 24 refl (omega arith) ∙ ap (λ (xs : List ℕ). to_be_bytes w16 (number_at w16 22 bytes) ++ xs)
+      (number_there bytes fits w64 (2 ^ 64) wide64 24 32 refl (omega arith) ∙ ap (λ (xs : List ℕ). to_be_bytes w64 (number_at w64 24 bytes) ++ xs)
+      (number_there bytes fits w64 (2 ^ 64) wide64 32 40 refl (omega arith) ∙ (ap (λ (xs : List ℕ). to_be_bytes w64 (number_at w64 32 bytes) ++ xs) (none_left bytes 40 size) ∙ append-nil (to_be_bytes w64 (number_at w64 32 bytes))))))
+
   ack_form : length bytes ≡ 21 → get_or bytes 12 0 ≡ 2 → drop 4 bytes ≡ to_be_bytes w64 (number_at w64 4 bytes) ++ body_bytes (Ack (number_at w64 13 bytes))
   ack_form size body =
       data_form 2 [] (omega arith) body (none_left bytes 21 size) ∙ ap (λ (xs : List ℕ). to_be_bytes w64 (number_at w64 4 bytes) ++ 2 ∷ xs) (append-nil (to_be_bytes w64 (number_at w64 13 bytes)))
@@ -155,6 +165,9 @@ module _ (bytes : List ℕ) (fits : IsBytes bytes) where
 
   abbrev a_swap : Frame
   a_swap = cast_at bytes (Swap (number_at w16 22 bytes) (number_at w64 24 bytes))
+
+  abbrev a_compare_and_swap : Frame
+  a_compare_and_swap = cast_at bytes (CompareAndSwap (number_at w16 22 bytes) (number_at w64 24 bytes) (number_at w64 32 bytes))
 
   abbrev an_ack : Frame
   an_ack = Numbered (number_at w64 4 bytes) (Ack (number_at w64 13 bytes))
@@ -194,31 +207,61 @@ module _ (bytes : List ℕ) (fits : IsBytes bytes) where
             let w = wanted (get_or bytes 3 0 == 2) faults.Kind (sized 12 bytes (Got (number_at w64 4 bytes))) f h in
             spelt 1 12 2 (to_be_bytes w64 (number_at w64 4 bytes)) (Got (number_at w64 4 bytes)) f long len version (eqb-true (get_or bytes 3 0) 2 w.0) tt got_form refl refl w.1
 
-  module _ (f : Frame) (long : 12 ≤ length bytes) (len : number_at w16 0 bytes ≡ length bytes - 2) (version : get_or bytes 2 0 ≡ 2) where
-    swap_takes : swap_of bytes ≡ done f → Spells f bytes
-    swap_takes e =
-        let a = wanted (get_or bytes 3 0 == 1) faults.Kind (swap_data_of bytes) f e in
-        let b = guard (nat_lt (length bytes) 13) faults.Size (cond (get_or bytes 12 0 == 1) (swap_cast_of bytes) (failed faults.Body)) f a.1 in
-        let c = wanted (get_or bytes 12 0 == 1) faults.Body (swap_cast_of bytes) f b.1 in
-        let d = guard (nat_lt (length bytes) 22) faults.Size (cond (get_or bytes 21 0 == 3) (sized 32 bytes a_swap) (failed faults.Op)) f c.1 in
-        let w = wanted (get_or bytes 21 0 == 3) faults.Op (sized 32 bytes a_swap) f d.1 in
-        spelt 2 32 1 (to_be_bytes w64 (number_at w64 4 bytes) ++ body_bytes (Cast (number_at w64 13 bytes) (Swap (number_at w16 22 bytes) (number_at w64 24 bytes)))) a_swap f long len version (eqb-true (get_or bytes 3 0) 1 a.0) (below64 24)
-        (λ size. data_form 1 (op_bytes (Swap (number_at w16 22 bytes) (number_at w64 24 bytes))) (omega arith) (eqb-true (get_or bytes 12 0) 1 c.0) (valued_form 3 size (eqb-true (get_or bytes 21 0) 3 w.0))) refl refl w.1
+  -- the cast of one operation alone
+  record IsLone (kind : ℕ) (f : Frame) : Type 0 where
+    data_is : get_or bytes 3 0 ≡ 1
+    cast_is : get_or bytes 12 0 ≡ 1
+    kind_is : get_or bytes 21 0 ≡ kind
+    cast : cond (kind == 3) (swap_at bytes) (compare_and_swap_at bytes) ≡ done f
+
+  lone_takes : (kind : ℕ) (f : Frame) → lone_of kind bytes ≡ done f → IsLone kind f
+  lone_takes kind f e =
+      let a = wanted (get_or bytes 3 0 == 1) faults.Kind (lone_data_of kind bytes) f e in
+      let b = guard (nat_lt (length bytes) 13) faults.Size (cond (get_or bytes 12 0 == 1) (lone_cast_of kind bytes) (failed faults.Body)) f a.1 in
+      let c = wanted (get_or bytes 12 0 == 1) faults.Body (lone_cast_of kind bytes) f b.1 in
+      let cast : Result Frame FrameFault = cond (kind == 3) (swap_at bytes) (compare_and_swap_at bytes) in
+      let d = guard (nat_lt (length bytes) 22) faults.Size (cond (get_or bytes 21 0 == kind) cast (failed faults.Op)) f c.1 in
+      let w = wanted (get_or bytes 21 0 == kind) faults.Op cast f d.1 in
+      record { data_is = eqb-true (get_or bytes 3 0) 1 a.0; cast_is = eqb-true (get_or bytes 12 0) 1 c.0; kind_is = eqb-true (get_or bytes 21 0) kind w.0; cast = w.1 }
+
+  module _ (f : Frame) (long : 12 ≤ length bytes) (len : number_at w16 0 bytes ≡ length bytes - 2) where
+    swap_takes : get_or bytes 2 0 ≡ 2 → lone_of 3 bytes ≡ done f → Spells f bytes
+    swap_takes version e =
+        let l = lone_takes 3 f e in
+        spelt 2 32 1 (to_be_bytes w64 (number_at w64 4 bytes) ++ body_bytes (Cast (number_at w64 13 bytes) (Swap (number_at w16 22 bytes) (number_at w64 24 bytes)))) a_swap f long len version l.data_is (below64 24)
+        (λ size. data_form 1 (op_bytes (Swap (number_at w16 22 bytes) (number_at w64 24 bytes))) (omega arith) l.cast_is (valued_form 3 size l.kind_is)) refl refl l.cast
+
+    compare_and_swap_takes : get_or bytes 2 0 ≡ 4 → lone_of 4 bytes ≡ done f → Spells f bytes
+    compare_and_swap_takes version e =
+        let l = lone_takes 4 f e in
+        spelt 4 40 1 (to_be_bytes w64 (number_at w64 4 bytes) ++ body_bytes (Cast (number_at w64 13 bytes) (CompareAndSwap (number_at w16 22 bytes) (number_at w64 24 bytes) (number_at w64 32 bytes)))) a_compare_and_swap f long len version l.data_is (below64 24, below64 32)
+        (λ size. data_form 1 (op_bytes (CompareAndSwap (number_at w16 22 bytes) (number_at w64 24 bytes) (number_at w64 32 bytes))) (omega arith) l.cast_is (compared_form size l.kind_is)) refl refl l.cast
+
+-- a frame of a later version
+abbrev later : List ℕ → Result Frame FrameFault
+later bytes = cond (get_or bytes 2 0 == 2) (lone_of 3 bytes) (cond (get_or bytes 2 0 == 4) (lone_of 4 bytes) (failed faults.Version))
+
+later_takes : (bytes : List ℕ) (fits : IsBytes bytes) (f : Frame) → 12 ≤ length bytes → number_at w16 0 bytes ≡ length bytes - 2 → later bytes ≡ done f → Spells f bytes
+later_takes bytes fits f long len e = go (chosen (get_or bytes 2 0 == 2) (lone_of 3 bytes) (cond (get_or bytes 2 0 == 4) (lone_of 4 bytes) (failed faults.Version)) (done f) e)
+  where
+    go : (((get_or bytes 2 0 == 2) ≡ true) × (lone_of 3 bytes ≡ done f)) ⊎ (((get_or bytes 2 0 == 2) ≡ false) × (cond (get_or bytes 2 0 == 4) (lone_of 4 bytes) (failed faults.Version) ≡ done f)) → Spells f bytes
+    go (inl (is, h)) = swap_takes bytes fits f long len (eqb-true (get_or bytes 2 0) 2 is) h
+    go (inr (not, h)) =
+        let w = wanted (get_or bytes 2 0 == 4) faults.Version (lone_of 4 bytes) f h in
+        compare_and_swap_takes bytes fits f long len (eqb-true (get_or bytes 2 0) 4 w.0) w.1
 
 -- what is read is spelled so
 pub takes : (bytes : List ℕ) (f : Frame) → IsBytes bytes → frame_of bytes ≡ Ok f → Spells f bytes
 takes bytes f fits e =
-    let versions : Result Frame FrameFault = cond (get_or bytes 2 0 == 1) (plain_of bytes) (cond (get_or bytes 2 0 == 2) (swap_of bytes) (failed faults.Version)) in
+    let versions : Result Frame FrameFault = cond (get_or bytes 2 0 == 1) (plain_of bytes) (later bytes) in
     let a = guard (nat_lt (length bytes) 12) faults.Short (cond (number_at w16 0 bytes == length bytes - 2) versions (failed faults.Length)) f e in
     let b = wanted (number_at w16 0 bytes == length bytes - 2) faults.Length versions f a.1 in
-    go (ltb-false (length bytes) 12 a.0) (eqb-true (number_at w16 0 bytes) (length bytes - 2) b.0) (chosen (get_or bytes 2 0 == 1) (plain_of bytes) (cond (get_or bytes 2 0 == 2) (swap_of bytes) (failed faults.Version)) (done f) b.1)
+    go (ltb-false (length bytes) 12 a.0) (eqb-true (number_at w16 0 bytes) (length bytes - 2) b.0) (chosen (get_or bytes 2 0 == 1) (plain_of bytes) (later bytes) (done f) b.1)
   where
     go : 12 ≤ length bytes → number_at w16 0 bytes ≡ length bytes - 2
-        → (((get_or bytes 2 0 == 1) ≡ true) × (plain_of bytes ≡ done f)) ⊎ (((get_or bytes 2 0 == 1) ≡ false) × (cond (get_or bytes 2 0 == 2) (swap_of bytes) (failed faults.Version) ≡ done f)) → Spells f bytes
+        → (((get_or bytes 2 0 == 1) ≡ true) × (plain_of bytes ≡ done f)) ⊎ (((get_or bytes 2 0 == 1) ≡ false) × (later bytes ≡ done f)) → Spells f bytes
     go long len (inl (is, h)) = plain_takes bytes fits f long len (eqb-true (get_or bytes 2 0) 1 is) h
-    go long len (inr (not, h)) =
-        let w = wanted (get_or bytes 2 0 == 2) faults.Version (swap_of bytes) f h in
-        swap_takes bytes fits f long len (eqb-true (get_or bytes 2 0) 2 w.0) w.1
+    go long len (inr (not, h)) = later_takes bytes fits f long len h
 
 in_range_is : (frame : Frame) → Fits frame → in_range frame ≡ Ok frame
 in_range_is frame fits = ap (λ (b : Bool). cond b (done frame) (failed faults.Range)) (fits_back frame fits)
@@ -250,6 +293,14 @@ again (Numbered number (Cast time (Swap register value))) fits =
     let r : register < 2 ^ 16 = (let a = fits.1.1.0 in omega arith) in
     ap₂ (λ (n t : ℕ). in_range (Numbered n (Cast t (Swap (number_at w16 0 (to_be_bytes w16 register)) (number_at w64 0 (to_be_bytes w64 value)))))) (wide64.again number n) (wide64.again time t)
     ∙ (ap₂ (λ (k v : ℕ). in_range (Numbered number (Cast time (Swap k v)))) (wide16.again register r) (wide64.again value fits.1.1.1) ∙ in_range_is (Numbered number (Cast time (Swap register value))) fits)
+again (Numbered number (Cast time (CompareAndSwap register expected value))) fits =
+    let n : number < 2 ^ 64 = (let a = fits.0 in omega arith) in
+    let t : time < 2 ^ 64 = (let a = fits.1.0.1 in omega arith) in
+    let r : register < 2 ^ 16 = (let a = fits.1.1.0 in omega arith) in
+    let op : ℕ → ℕ → ℕ → Op = λ k x v. CompareAndSwap k x v in
+    ap₂ (λ (n t : ℕ). in_range (Numbered n (Cast t (op (number_at w16 0 (to_be_bytes w16 register)) (number_at w64 0 (to_be_bytes w64 expected)) (number_at w64 0 (to_be_bytes w64 value)))))) (wide64.again number n) (wide64.again time t)
+    ∙ (ap₂ (λ (k x : ℕ). in_range (Numbered number (Cast time (op k x (number_at w64 0 (to_be_bytes w64 value)))))) (wide16.again register r) (wide64.again expected fits.1.1.1)
+    ∙ (ap (λ (v : ℕ). in_range (Numbered number (Cast time (op register expected v)))) (wide64.again value fits.1.1.2) ∙ in_range_is (Numbered number (Cast time (op register expected value))) fits))
 
 pub spelt_by : (frame : Frame) (bytes : List ℕ) → IsNarrow frame → frame_fits frame ≡ true → bytes ≡ spelling frame → Spells frame bytes
 spelt_by frame bytes narrow fits is = (fits_from frame narrow fits, is)

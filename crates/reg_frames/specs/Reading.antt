@@ -3,7 +3,7 @@ use Rattle.std.specs.Prelude.{ℕ, ◌-◌, ◌==◌, ◌&&◌, nat_lt, nat_le, 
 use Rattle.std.specs.Int.{Width, w16, w64, byte_len, from_be_bytes}
 use Rattle.reg_base.specs.declared.limits.TheConstants.{MOST_REGISTERS, LAST_TIME, FRAME_NUMBERS}
 use Rattle.reg_base.specs.declared.memory.Op.{Op}
-use Rattle.reg_base.specs.declared.memory.Op.TheVariants.{Read, Write, Swap}
+use Rattle.reg_base.specs.declared.memory.Op.TheVariants.{Read, Write, Swap, CompareAndSwap}
 use Rattle.reg_base.specs.Memory.{register_of}
 use Rattle.reg_frames.specs.declared.bodies.Body.{Body}
 use Rattle.reg_frames.specs.declared.bodies.Body.TheVariants.{Cast, Ack}
@@ -11,7 +11,7 @@ use Rattle.reg_frames.specs.declared.bodies.Frame.{Frame}
 use Rattle.reg_frames.specs.declared.bodies.Frame.TheVariants.{Numbered, Got}
 use Rattle.reg_frames.specs.declared.faults.FrameFault.{FrameFault}
 use Rattle.reg_frames.specs.declared.faults.FrameFault.TheVariants as faults
-use Rattle.reg_frames.specs.declared.layout.TheConstants.{LENGTH_AT, VERSION_AT, KIND_AT, NUMBER_AT, BODY_AT, TIME_AT, OP_AT, REGISTER_AT, VALUE_AT, GOT_SIZE, ACK_SIZE, READ_SIZE, VALUED_SIZE, PLAIN, SWAPPING, DATA, GOT, CAST, ACK, READ, WRITE, SWAP}
+use Rattle.reg_frames.specs.declared.layout.TheConstants.{LENGTH_AT, VERSION_AT, KIND_AT, NUMBER_AT, BODY_AT, TIME_AT, OP_AT, REGISTER_AT, VALUE_AT, NEW_VALUE_AT, GOT_SIZE, ACK_SIZE, READ_SIZE, VALUED_SIZE, COMPARED_SIZE, PLAIN, SWAPPING, COMPARING, DATA, GOT, CAST, ACK, READ, WRITE, SWAP, COMPARE_AND_SWAP}
 
 -- the number that stands at this offset
 abbrev pub number_at : Width → ℕ → List ℕ → ℕ
@@ -62,21 +62,29 @@ plain_of bytes =
     if slice_index bytes KIND_AT == GOT then sized GOT_SIZE bytes (Got (number_at w64 NUMBER_AT bytes)) else
     Err faults.Kind
 
--- a frame of version 2, which is the cast of a swap
-abbrev pub swap_cast_of : List ℕ → Result Frame FrameFault
-swap_cast_of bytes =
+-- the cast of a swap, and that of a compare-and-swap
+abbrev pub swap_at : List ℕ → Result Frame FrameFault
+swap_at bytes = sized VALUED_SIZE bytes (cast_at bytes (Swap (number_at w16 REGISTER_AT bytes) (number_at w64 VALUE_AT bytes)))
+
+abbrev pub compare_and_swap_at : List ℕ → Result Frame FrameFault
+compare_and_swap_at bytes = sized COMPARED_SIZE bytes (cast_at bytes (CompareAndSwap (number_at w16 REGISTER_AT bytes) (number_at w64 VALUE_AT bytes) (number_at w64 NEW_VALUE_AT bytes)))
+
+-- the cast of the one operation of a version: a swap, or a compare-and-swap
+abbrev pub lone_cast_of : ℕ → List ℕ → Result Frame FrameFault
+lone_cast_of kind bytes =
     if nat_lt (length bytes) REGISTER_AT then Err faults.Size else
-    if slice_index bytes OP_AT == SWAP then sized VALUED_SIZE bytes (cast_at bytes (Swap (number_at w16 REGISTER_AT bytes) (number_at w64 VALUE_AT bytes))) else
+    if slice_index bytes OP_AT == kind then (if kind == SWAP then swap_at bytes else compare_and_swap_at bytes) else
     Err faults.Op
 
-abbrev pub swap_data_of : List ℕ → Result Frame FrameFault
-swap_data_of bytes =
+abbrev pub lone_data_of : ℕ → List ℕ → Result Frame FrameFault
+lone_data_of kind bytes =
     if nat_lt (length bytes) TIME_AT then Err faults.Size else
-    if slice_index bytes BODY_AT == CAST then swap_cast_of bytes else
+    if slice_index bytes BODY_AT == CAST then lone_cast_of kind bytes else
     Err faults.Body
 
-abbrev pub swap_of : List ℕ → Result Frame FrameFault
-swap_of bytes = if slice_index bytes KIND_AT == DATA then swap_data_of bytes else Err faults.Kind
+-- a frame of a version that has the casts of this operation alone
+abbrev pub lone_of : ℕ → List ℕ → Result Frame FrameFault
+lone_of kind bytes = if slice_index bytes KIND_AT == DATA then lone_data_of kind bytes else Err faults.Kind
 
 -- the frame, or the first fault
 abbrev pub frame_of : List ℕ → Result Frame FrameFault
@@ -84,6 +92,7 @@ frame_of bytes =
     if nat_lt (length bytes) GOT_SIZE then Err faults.Short else
     if number_at w16 LENGTH_AT bytes == length bytes - VERSION_AT then
     (if slice_index bytes VERSION_AT == PLAIN then plain_of bytes else
-    if slice_index bytes VERSION_AT == SWAPPING then swap_of bytes else
+    if slice_index bytes VERSION_AT == SWAPPING then lone_of SWAP bytes else
+    if slice_index bytes VERSION_AT == COMPARING then lone_of COMPARE_AND_SWAP bytes else
     Err faults.Version)
     else Err faults.Length

@@ -3,20 +3,22 @@ use Rattle.std.specs.Prelude.{ℕ, ◌≡◌, ◌+◌, ◌<◌, ◌≤◌, ◌^�
 use Rattle.std.specs.Int.{w16, w64, to_be_bytes}
 use Rattle.reg_base.specs.declared.limits.TheConstants.{MOST_REGISTERS, LAST_TIME, FRAME_NUMBERS}
 use Rattle.reg_base.specs.declared.memory.Op.{Op}
-use Rattle.reg_base.specs.declared.memory.Op.TheVariants.{Read, Write, Swap}
+use Rattle.reg_base.specs.declared.memory.Op.TheVariants.{Read, Write, Swap, CompareAndSwap}
 use Rattle.reg_frames.specs.declared.bodies.Body.{Body}
 use Rattle.reg_frames.specs.declared.bodies.Body.TheVariants.{Cast, Ack}
 use Rattle.reg_frames.specs.declared.bodies.Frame.{Frame}
 use Rattle.reg_frames.specs.declared.bodies.Frame.TheVariants.{Numbered, Got}
 use Rattle.reg_frames.specs.declared.faults.FrameFault.{FrameFault}
 use Rattle.reg_frames.specs.declared.faults.FrameFault.TheVariants as faults
-use Rattle.reg_frames.specs.declared.layout.TheConstants.{PLAIN, SWAPPING, DATA, GOT, CAST, ACK, READ, WRITE, SWAP}
+use Rattle.reg_frames.specs.declared.layout.TheConstants.{PLAIN, SWAPPING, COMPARING, DATA, GOT, CAST, ACK, READ, WRITE, SWAP, COMPARE_AND_SWAP}
 
--- the operation's byte, its register in two bytes, and the value of a write or a swap in eight
+-- the operation's byte, its register in two bytes, and the value of a write or a swap in eight; of a compare-and-swap
+-- the value that it expects and then the one that it writes
 abbrev pub op_bytes : Op → List ℕ
 op_bytes (Read register) = READ ∷ to_be_bytes w16 register
 op_bytes (Write register value) = WRITE ∷ (to_be_bytes w16 register ++ to_be_bytes w64 value)
 op_bytes (Swap register value) = SWAP ∷ (to_be_bytes w16 register ++ to_be_bytes w64 value)
+op_bytes (CompareAndSwap register expected value) = COMPARE_AND_SWAP ∷ (to_be_bytes w16 register ++ (to_be_bytes w64 expected ++ to_be_bytes w64 value))
 
 -- the body's byte, its time in eight bytes, and the operation of a cast
 abbrev pub body_bytes : Body → List ℕ
@@ -28,11 +30,12 @@ abbrev pub payload : Frame → List ℕ
 payload (Numbered number body) = DATA ∷ (to_be_bytes w64 number ++ body_bytes body)
 payload (Got count) = GOT ∷ to_be_bytes w64 count
 
--- the cast of a swap has version 2, all else version 1
+-- the cast of a swap has version 2, that of a compare-and-swap version 4, all else version 1
 abbrev pub op_version : Op → ℕ
 op_version (Read register) = PLAIN
 op_version (Write register value) = PLAIN
 op_version (Swap register value) = SWAPPING
+op_version (CompareAndSwap register expected value) = COMPARING
 
 abbrev pub body_version : Body → ℕ
 body_version (Cast time op) = op_version op
@@ -50,6 +53,7 @@ abbrev pub OpFits : Op → Type 0
 OpFits (Read register) = register < MOST_REGISTERS
 OpFits (Write register value) = (register < MOST_REGISTERS) × (value < 2 ^ 64)
 OpFits (Swap register value) = (register < MOST_REGISTERS) × (value < 2 ^ 64)
+OpFits (CompareAndSwap register expected value) = (register < MOST_REGISTERS) × (expected < 2 ^ 64) × (value < 2 ^ 64)
 
 abbrev pub TimeFits : ℕ → Type 0
 TimeFits time = (0 < time) × (time ≤ LAST_TIME)

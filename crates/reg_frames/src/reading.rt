@@ -2,21 +2,21 @@
 ghost use Rattle.std.specs.Prelude.{◌≡◌, ◌+◌, ◌≤◌, nat_lt, length, IfOk, Ok};
 ghost use Rattle.reg_base.specs.Memory.{register_of};
 ghost use Rattle.std.specs.Int.{w16, w64};
-ghost use Rattle.reg_base.specs.declared.memory.Op.TheVariants.{Read, Write, Swap};
+ghost use Rattle.reg_base.specs.declared.memory.Op.TheVariants.{Read, Write, Swap, CompareAndSwap};
 ghost use Rattle.reg_frames.specs.declared.bodies.Body.TheVariants.{Ack};
 ghost use Rattle.reg_frames.specs.declared.bodies.Frame.{Frame};
 ghost use Rattle.reg_frames.specs.declared.bodies.Frame.TheVariants.{Numbered, Got};
 ghost use Rattle.reg_frames.specs.Spelling.{Spells};
-ghost use Rattle.reg_frames.specs.Reading.{number_at, cast_at, is_time, body_fits as is_body, frame_fits, in_range as in_range_of, sized as sized_of, cast_of, data_of, plain_of, swap_cast_of, swap_data_of, swap_of, frame_of};
-ghost use Rattle.reg_frames.specs.declared.layout.TheConstants.{NUMBER_AT, TIME_AT, REGISTER_AT, VALUE_AT, GOT_SIZE, ACK_SIZE, READ_SIZE, VALUED_SIZE};
+ghost use Rattle.reg_frames.specs.Reading.{number_at, cast_at, is_time, body_fits as is_body, frame_fits, in_range as in_range_of, sized as sized_of, cast_of, data_of, plain_of, swap_at, compare_and_swap_at, lone_cast_of, lone_data_of, lone_of, frame_of};
+ghost use Rattle.reg_frames.specs.declared.layout.TheConstants.{NUMBER_AT, TIME_AT, REGISTER_AT, VALUE_AT, NEW_VALUE_AT, GOT_SIZE, ACK_SIZE, READ_SIZE, VALUED_SIZE, COMPARED_SIZE};
 ghost use Rattle.reg_frames.specs.Narrow.{OpIsNarrow, BodyIsNarrow, IsNarrow};
 
 use crate::bodies::{Body, Frame};
 use crate::faults::FrameFault;
 use crate::layout::{
-    ACK, ACK_SIZE, BODY_AT, CAST, DATA, GOT, GOT_SIZE, KIND_AT, LENGTH_AT, NUMBER_AT, OP_AT, PLAIN,
-    READ, READ_SIZE, REGISTER_AT, SWAP, SWAPPING, TIME_AT, VALUE_AT, VALUED_SIZE, VERSION_AT,
-    WRITE,
+    ACK, ACK_SIZE, BODY_AT, CAST, COMPARE_AND_SWAP, COMPARED_SIZE, COMPARING, DATA, GOT, GOT_SIZE,
+    KIND_AT, LENGTH_AT, NEW_VALUE_AT, NUMBER_AT, OP_AT, PLAIN, READ, READ_SIZE, REGISTER_AT, SWAP,
+    SWAPPING, TIME_AT, VALUE_AT, VALUED_SIZE, VERSION_AT, WRITE,
 };
 use reg_base::Op;
 use reg_base::limits::{FRAME_NUMBERS, LAST_TIME, MOST_REGISTERS};
@@ -43,10 +43,15 @@ fn op_fits(op: Op) -> bool
     ensures verdict { result ≡ nat_lt (register_of op) MOST_REGISTERS }
     ensures narrow { OpIsNarrow op }
 {
-    let _value = match op {
-        Op::Read { register: _ } => 0,
-        Op::Write { register: _, value } => value,
-        Op::Swap { register: _, value } => value,
+    let _values = match op {
+        Op::Read { register: _ } => (0, 0),
+        Op::Write { register: _, value } => (0, value),
+        Op::Swap { register: _, value } => (0, value),
+        Op::CompareAndSwap {
+            register: _,
+            expected,
+            value,
+        } => (expected, value),
     };
     u32::from(op.register()) < MOST_REGISTERS
 }
@@ -200,14 +205,9 @@ fn plain(bytes: &[u8]) -> Result<Frame, FrameFault>
 }
 
 fn swap_cast(bytes: &[u8]) -> Result<Frame, FrameFault>
-    ensures { result ≡ swap_cast_of bytes.now }
+    requires { REGISTER_AT ≤ length bytes.now }
+    ensures { result ≡ swap_at bytes.now }
 {
-    if bytes.len() < REGISTER_AT {
-        return Err(FrameFault::Size);
-    }
-    if bytes[OP_AT] != SWAP {
-        return Err(FrameFault::Op);
-    }
     if bytes.len() != VALUED_SIZE {
         return Err(FrameFault::Size);
     }
@@ -216,24 +216,57 @@ fn swap_cast(bytes: &[u8]) -> Result<Frame, FrameFault>
     cast_with(bytes, Op::Swap { register, value })
 }
 
-fn swap_data_frame(bytes: &[u8]) -> Result<Frame, FrameFault>
-    ensures { result ≡ swap_data_of bytes.now }
+fn compare_and_swap_cast(bytes: &[u8]) -> Result<Frame, FrameFault>
+    requires { REGISTER_AT ≤ length bytes.now }
+    ensures { result ≡ compare_and_swap_at bytes.now }
+{
+    if bytes.len() != COMPARED_SIZE {
+        return Err(FrameFault::Size);
+    }
+    let op = Op::CompareAndSwap {
+        register: u16_at(bytes, REGISTER_AT),
+        expected: u64_at(bytes, VALUE_AT),
+        value: u64_at(bytes, NEW_VALUE_AT),
+    };
+    cast_with(bytes, op)
+}
+
+/// The cast of the one operation that a version has, by its byte.
+fn lone_cast(bytes: &[u8], kind: u8) -> Result<Frame, FrameFault>
+    ensures { result ≡ lone_cast_of kind bytes.now }
+{
+    if bytes.len() < REGISTER_AT {
+        return Err(FrameFault::Size);
+    }
+    if bytes[OP_AT] != kind {
+        return Err(FrameFault::Op);
+    }
+    if kind == SWAP {
+        swap_cast(bytes)
+    } else {
+        compare_and_swap_cast(bytes)
+    }
+}
+
+fn lone_data_frame(bytes: &[u8], kind: u8) -> Result<Frame, FrameFault>
+    ensures { result ≡ lone_data_of kind bytes.now }
 {
     if bytes.len() < TIME_AT {
         return Err(FrameFault::Size);
     }
     if bytes[BODY_AT] == CAST {
-        return swap_cast(bytes);
+        return lone_cast(bytes, kind);
     }
     Err(FrameFault::Body)
 }
 
-fn swap(bytes: &[u8]) -> Result<Frame, FrameFault>
+/// A frame of a version that has the casts of one operation alone.
+fn lone(bytes: &[u8], kind: u8) -> Result<Frame, FrameFault>
     requires { GOT_SIZE ≤ length bytes.now }
-    ensures { result ≡ swap_of bytes.now }
+    ensures { result ≡ lone_of kind bytes.now }
 {
     if bytes[KIND_AT] == DATA {
-        return swap_data_frame(bytes);
+        return lone_data_frame(bytes, kind);
     }
     Err(FrameFault::Kind)
 }
@@ -251,7 +284,10 @@ fn frame(bytes: &[u8]) -> Result<Frame, FrameFault>
         return plain(bytes);
     }
     if bytes[VERSION_AT] == SWAPPING {
-        return swap(bytes);
+        return lone(bytes, SWAP);
+    }
+    if bytes[VERSION_AT] == COMPARING {
+        return lone(bytes, COMPARE_AND_SWAP);
     }
     Err(FrameFault::Version)
 }

@@ -6,8 +6,8 @@ ghost use Rattle.reg_frames.specs.Spelling.{op_bytes, body_bytes, payload, versi
 use crate::bodies::{Body, Frame};
 use crate::faults::FrameFault;
 use crate::layout::{
-    ACK, ACK_SIZE, CAST, DATA, GOT, GOT_SIZE, PLAIN, READ, READ_SIZE, SWAP, SWAPPING, VALUED_SIZE,
-    VERSION_AT, WRITE,
+    ACK, ACK_SIZE, CAST, COMPARE_AND_SWAP, COMPARED_SIZE, COMPARING, DATA, GOT, GOT_SIZE, PLAIN,
+    READ, READ_SIZE, SWAP, SWAPPING, VALUED_SIZE, VERSION_AT, WRITE,
 };
 use crate::reading::fits;
 use reg_base::Op;
@@ -31,12 +31,13 @@ fn size_of(frame: Frame) -> usize
                     register: _,
                     value: _,
                 } => VALUED_SIZE,
+                Op::CompareAndSwap { .. } => COMPARED_SIZE,
             },
         },
     }
 }
 
-/// The cast of a swap has version 2, all else version 1.
+/// The cast of a swap has version 2, that of a compare-and-swap version 4, all else version 1.
 fn version_of(frame: Frame) -> u8
     ensures { result ≡ version_of_frame frame }
 {
@@ -54,6 +55,7 @@ fn version_of(frame: Frame) -> u8
                     register: _,
                     value: _,
                 } => SWAPPING,
+                Op::CompareAndSwap { .. } => COMPARING,
             },
         },
     }
@@ -84,6 +86,14 @@ fn put_op<A: Allocator + Copy>(bytes: &mut Vec<u8, A>, op: Op) -> Result<(), All
         }
         Op::Write { register, value } => put_valued(bytes, WRITE, register, value),
         Op::Swap { register, value } => put_valued(bytes, SWAP, register, value),
+        Op::CompareAndSwap {
+            register,
+            expected,
+            value,
+        } => {
+            put_valued(bytes, COMPARE_AND_SWAP, register, expected)?;
+            bytes.extend_from_slice(&value.to_be_bytes())
+        }
     }
 }
 

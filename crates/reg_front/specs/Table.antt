@@ -1,7 +1,7 @@
 -- How the three named front ends start an operation, and their names.
 use Rattle.std.specs.Prelude.{ℕ, ◌==◌, cond, List, codes}
 use Rattle.reg_base.specs.declared.memory.Op.{Op}
-use Rattle.reg_base.specs.declared.memory.Op.TheVariants.{Read, Write, Swap}
+use Rattle.reg_base.specs.declared.memory.Op.TheVariants.{Read, Write, Swap, CompareAndSwap}
 use Rattle.reg_front.specs.declared.starts.Start.{Start}
 use Rattle.reg_front.specs.declared.starts.Start.TheVariants.{Cast as Casts, CastAndAnswer as CastsAndAnswers, Look as Looks, Hold as Holds}
 use Rattle.reg_front.specs.declared.named.Front.{Front}
@@ -14,11 +14,13 @@ abbrev pub local_read : Op → ℕ → Start
 local_read (Read r) unsettled = cond (unsettled == 0) Looks Holds
 local_read (Write r v) unsettled = Casts
 local_read (Swap r v) unsettled = Casts
+local_read (CompareAndSwap r e v) unsettled = Casts
 
 abbrev pub local_write : Op → ℕ → Start
 local_write (Read r) unsettled = cond (unsettled == 0) Looks Holds
 local_write (Write r v) unsettled = CastsAndAnswers
 local_write (Swap r v) unsettled = Casts
+local_write (CompareAndSwap r e v) unsettled = Casts
 
 -- how the front end of this name starts an operation
 abbrev pub start_of : Front → Op → ℕ → Start

@@ -21,8 +21,8 @@ pub trait FrontEnd {
         ensures { result ≡ start op.now unsettled };
 
     /// What may change the memory is cast. It is answered at once only where its answer is Done on every memory, so a
-    /// swap runs until its delivery. What isn't cast is answered from the copy: at once where no own cast is on its
-    /// way, and else once every own cast is delivered.
+    /// swap or a compare-and-swap runs until its delivery. What isn't cast is answered from the copy: at once where no
+    /// own cast is on its way, and else once every own cast is delivered.
     ghost lawful: { (op : Op) (unsettled : ℕ) → MayStart op unsettled (start op unsettled) };
 }
 
@@ -50,8 +50,8 @@ impl RealTime for Linear {
     ghost casts_all = { linear_casts };
 }
 
-/// Casts writes and swaps, which run until their delivery. A read waits until every own cast is delivered, and is
-/// answered from the own copy (Attiya and Welch 1994).
+/// Casts writes, swaps and compare-and-swaps, which run until their delivery. A read waits until every own cast is
+/// delivered, and is answered from the own copy (Attiya and Welch 1994).
 pub struct LocalRead;
 
 impl FrontEnd for LocalRead {
@@ -60,15 +60,15 @@ impl FrontEnd for LocalRead {
     fn start(op: &Op, unsettled: u32) -> Start {
         match *op {
             Op::Read { register: _ } => look_or_hold(unsettled),
-            Op::Write { .. } | Op::Swap { .. } => Start::Cast,
+            Op::Write { .. } | Op::Swap { .. } | Op::CompareAndSwap { .. } => Start::Cast,
         }
     }
 
     ghost lawful = { local_read_keeps };
 }
 
-/// Casts writes and answers them at once, and casts swaps, which run until their delivery. A read waits until every own
-/// cast is delivered, and is answered from the own copy (Attiya and Welch 1994).
+/// Casts writes and answers them at once, and casts swaps and compare-and-swaps, which run until their delivery. A read
+/// waits until every own cast is delivered, and is answered from the own copy (Attiya and Welch 1994).
 pub struct LocalWrite;
 
 impl FrontEnd for LocalWrite {
@@ -85,6 +85,7 @@ impl FrontEnd for LocalWrite {
                 register: _,
                 value: _,
             } => Start::Cast,
+            Op::CompareAndSwap { .. } => Start::Cast,
         }
     }
 

@@ -8,9 +8,11 @@ ghost use Rattle.reg_front.specs.Table.{front_name};
 pub enum Front {
     /// `linear`: every operation is cast, and runs until its delivery.
     Linear,
-    /// `local-read`: writes and swaps are cast, and run until their delivery; reads are answered from the own copy.
+    /// `local-read`: what may change a register is cast, and runs until its delivery; reads are answered from the own
+    /// copy.
     LocalRead,
-    /// `local-write`: writes and swaps are cast, and writes are answered at once; reads are answered from the own copy.
+    /// `local-write`: what may change a register is cast, and writes are answered at once; reads are answered from the
+    /// own copy.
     LocalWrite,
 }
 

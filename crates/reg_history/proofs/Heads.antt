@@ -14,7 +14,7 @@ use Rattle.reg_history.specs.Refusals.{IsNoCount, IsNoFront, IsNoVersion, IsWron
 use Rattle.reg_history.specs.Stops.{IsFailure, IsFirst}
 use Rattle.reg_history.specs.declared.report_faults.ReadWhy.{ReadWhy}
 use Rattle.reg_history.specs.declared.versions.Version.{Version}
-use Rattle.reg_history.specs.declared.versions.Version.TheVariants.{One, Two}
+use Rattle.reg_history.specs.declared.versions.Version.TheVariants.{One, Two, Three}
 use Rattle.reg_history.specs.Versions.{most_processes, most_registers, version_line}
 use Rattle.reg_history.proofs.Stopping.{stops_now, same_why, told_why}
 
@@ -50,6 +50,8 @@ pub head_behind : (version : Version) (front : List ℕ) (processes : ℕ) (name
 head_behind One front processes names rest = refl
 head_behind Two front processes names rest =
     ap (λ l. codes "awreg report 2" ∷ (codes "front " ++ front) ∷ (codes "processes " ++ decimal processes) ∷ (codes "registers " ++ decimal (length names)) ∷ l) (sym (append_assoc (map (λ name. name) names) [] rest))
+head_behind Three front processes names rest =
+    ap (λ l. codes "awreg report 3" ∷ (codes "front " ++ front) ∷ (codes "processes " ++ decimal processes) ∷ (codes "registers " ++ decimal (length names)) ∷ l) (sym (append_assoc (map (λ name. name) names) [] rest))
 
 no_memory : {A : Type 0} (n : ℕ) (a : Why) → TextLine n a ≡ TextOutOfMemory → A
 no_memory n a e = absurd (cc)

@@ -8,7 +8,7 @@ use Rattle.reg_text.proofs.Texts.{letters_text}
 use Rattle.std.proofs.lemmas.Grind.{flat_map-append}
 use Rattle.reg_base.specs.declared.memory.OpId.{OpId}
 use Rattle.reg_base.specs.declared.memory.Answer.{Answer}
-use Rattle.reg_base.specs.declared.memory.Answer.TheVariants.{Done, Value}
+use Rattle.reg_base.specs.declared.memory.Answer.TheVariants.{Done, Value, Unequal}
 use Rattle.reg_base.specs.Names.{is_name, names_fault}
 use Rattle.reg_checkers.specs.declared.entries.Entry.{Entry}
 use Rattle.reg_checkers.specs.declared.entries.Entry.TheVariants.{Called, Answered}
@@ -17,7 +17,7 @@ use Rattle.reg_text.specs.Parts.{Lacks}
 use Rattle.reg_checkers.specs.declared.entries.Point.{Point}
 use Rattle.reg_text.specs.Lines.{text_of, lines_of}
 use Rattle.reg_history.specs.Counted.{counted_lines}
-use Rattle.reg_history.specs.Reports.{Contents, tail_lines, lines_in, registers_lines, IsReportIn, PointsFit, is_front}
+use Rattle.reg_history.specs.Reports.{Contents, tail_lines, lines_in, registers_lines, newer_registers_lines, IsReportIn, PointsFit, is_front}
 use Rattle.reg_text.proofs.NamesLack.{both_true, name_lacks, well_spelt}
 use Rattle.reg_text.proofs.Joining.{joined, spaces_lack, number, op_lacks}
 use Rattle.reg_text.proofs.Split.{AllLack, lines_text, line_last, none_left, text_lines}
@@ -25,7 +25,7 @@ use Rattle.reg_text.specs.Ops.{op_text, answer_text}
 use Rattle.reg_history.specs.EntryLines.{columns_text, entry_text, AnswerFits, ColumnsFit, EntryFits}
 use Rattle.reg_history.specs.IdLines.{id_text, IdFits, point_text, PointFits}
 use Rattle.reg_history.specs.declared.versions.Version.{Version}
-use Rattle.reg_history.specs.declared.versions.Version.TheVariants.{One, Two}
+use Rattle.reg_history.specs.declared.versions.Version.TheVariants.{One, Two, Three}
 use Rattle.reg_history.specs.Versions.{version_line}
 use Rattle.reg_history.proofs.Fewer.{few_processes}
 use Rattle.reg_text.proofs.Worded.{few}
@@ -35,6 +35,7 @@ use Rattle.reg_text.specs.Words.{names_text, is_front_letter}
 
 answer_lacks : (x : Answer) → AnswerFits x → Lacks 10 (answer_text x)
 answer_lacks Done fits = refl
+answer_lacks Unequal fits = refl
 answer_lacks (Value v) fits = joined 10 (codes "value ") (decimal v) refl (number v fits)
 
 columns_lack : (version : Version) (at process n : ℕ) (rest : List ℕ) → ColumnsFit version at process n → Lacks 10 rest → Lacks 10 (columns_text at process n rest)
@@ -105,11 +106,16 @@ tail_lack version (Some ps) fits = counted_lack (codes "points ") point_text ps 
 version_lacks : (version : Version) → Lacks 10 (version_line version)
 version_lacks One = refl
 version_lacks Two = refl
+version_lacks Three = refl
+
+newer_registers_lack : (names rest : List (List ℕ)) → names_fault names ≡ None → AllLack rest → AllLack (newer_registers_lines names rest)
+newer_registers_lack names rest ok h =
+    counted_lack (codes "registers ") (λ name. name) names rest refl (omega (arith, few names ok)) (λ k n here. name_lacks 10 n (omega arith) (all_spelt names ok k n here)) h
 
 registers_lack : (version : Version) (names rest : List (List ℕ)) → names_fault names ≡ None → AllLack rest → AllLack (registers_lines version names rest)
 registers_lack One names rest ok h = (joined 10 (codes "registers") (names_text names) refl (names_lack names ok), h)
-registers_lack Two names rest ok h =
-    counted_lack (codes "registers ") (λ name. name) names rest refl (omega (arith, few names ok)) (λ k n here. name_lacks 10 n (omega arith) (all_spelt names ok k n here)) h
+registers_lack Two names rest ok h = newer_registers_lack names rest ok h
+registers_lack Three names rest ok h = newer_registers_lack names rest ok h
 
 pub report_lack : (version : Version) (r : Contents) → IsReportIn version r → AllLack (lines_in version r)
 report_lack version r ok = (
@@ -144,6 +150,7 @@ body_ends r =
 registers_end : (version : Version) (names rest : List (List ℕ)) → EndsIn rest → EndsIn (registers_lines version names rest)
 registers_end One names rest e = behind ((codes "registers" ++ names_text names) ∷ []) rest e
 registers_end Two names rest e = behind ((codes "registers " ++ decimal (length names)) ∷ map (λ name. name) names) rest e
+registers_end Three names rest e = behind ((codes "registers " ++ decimal (length names)) ∷ map (λ name. name) names) rest e
 
 pub report_ends : (version : Version) (r : Contents) → EndsIn (lines_in version r)
 report_ends version r =

@@ -3,7 +3,7 @@
 use Rattle.std.specs.Prelude.{ℕ, ◌≡◌, ◌≢◌, ◌≤◌, ◌⊎◌, true, List, ◌++◌, codes, length, ◌∷◌}
 use Rattle.std.specs.Fmt.{decimal}
 use Rattle.reg_base.specs.Shape.{Extent}
-use Rattle.reg_text.specs.Forms.{is_numeral, HasOpForm, IsOpWhy}
+use Rattle.reg_text.specs.Forms.{is_numeral, HasOlderOpForm, IsCasForm, IsOpWhy}
 use Rattle.reg_text.specs.declared.faults.Why.{Why}
 use Rattle.reg_text.specs.declared.faults.Why.TheVariants.{Range}
 use Rattle.reg_history.specs.declared.report_faults.ReadWhy.{ReadWhy}
@@ -11,6 +11,7 @@ use Rattle.reg_history.specs.declared.report_faults.ReadWhy.TheVariants.{Form as
 use Rattle.reg_checkers.specs.declared.entries.Entry.{Entry}
 use Rattle.reg_history.specs.declared.versions.Version.{Version}
 use Rattle.reg_checkers.specs.History.{IsInPlace}
+use Rattle.reg_history.specs.Versions.{compares}
 use Rattle.reg_history.specs.EntryLines.{columns_of, entry_text, ColumnsFit, EntryFits}
 use Rattle.reg_text.specs.Lines.{AllFit}
 use Rattle.reg_history.specs.ReadFaults.{why_of}
@@ -20,13 +21,20 @@ use Rattle.reg_history.specs.Counted.{counted_lines}
 abbrev pub Follows : Version → List (List ℕ) → Extent → List Entry → Entry → Type 0
 Follows version names shape before e = EntryFits version names e × IsInPlace shape.processes shape.registers before e
 
--- the form of an answer, whatever its value
-abbrev pub HasAnswerForm : List ℕ → Type 0
-HasAnswerForm text = (text ≡ codes "done") ⊎ ((digits : List ℕ) × ((is_numeral digits ≡ true) × (text ≡ codes "value " ++ digits)))
+-- the form of an operation of this version
+abbrev pub HasCallForm : Version → List ℕ → Type 0
+HasCallForm version text = HasOlderOpForm text ⊎ ((compares version ≡ true) × ((name expected digits : List ℕ) × IsCasForm text name expected digits))
+
+-- the form of an answer of this version, whatever its value
+abbrev pub HasAnswerForm : Version → List ℕ → Type 0
+HasAnswerForm version text =
+    (text ≡ codes "done")
+    ⊎ (((digits : List ℕ) × ((is_numeral digits ≡ true) × (text ≡ codes "value " ++ digits))) ⊎ ((compares version ≡ true) × (text ≡ codes "unequal")))
 
 -- the form of what stands after the columns
-abbrev pub HasTailForm : List ℕ → Type 0
-HasTailForm rest = ((text : List ℕ) × ((rest ≡ codes "call    " ++ text) × HasOpForm text)) ⊎ ((text : List ℕ) × ((rest ≡ codes "answer  " ++ text) × HasAnswerForm text))
+abbrev pub HasTailForm : Version → List ℕ → Type 0
+HasTailForm version rest =
+    ((text : List ℕ) × ((rest ≡ codes "call    " ++ text) × HasCallForm version text)) ⊎ ((text : List ℕ) × ((rest ≡ codes "answer  " ++ text) × HasAnswerForm version text))
 
 -- a numeral that has room in a column of this number of places
 pub record FitsColumn (places : ℕ) (numeral : List ℕ) : Type 0 where
@@ -46,8 +54,8 @@ AreWithin version at process number =
     (a p n : ℕ) × (at ≡ decimal a) × (process ≡ decimal p) × (number ≡ decimal n) × ColumnsFit version a p n
 
 -- the line has the form of an entry's, whatever the limits and the names
-abbrev pub HasEntryForm : List ℕ → Type 0
-HasEntryForm line = (at process number rest : List ℕ) × HasColumns line at process number rest × HasTailForm rest
+abbrev pub HasEntryForm : Version → List ℕ → Type 0
+HasEntryForm version line = (at process number rest : List ℕ) × HasColumns line at process number rest × HasTailForm version rest
 
 -- Why what stands after the columns is not read, though it has its form: the value of an answer is beyond its range, or
 -- the operation of a call tells.
@@ -58,9 +66,9 @@ pub record IsTailWhy (names : List (List ℕ)) (rest : List ℕ) (why : Why) : T
 -- why a line is no entry's: its form is not kept, or a number of its columns is beyond its limit, or what stands after
 -- them tells
 pub record IsEntryWhy (version : Version) (names : List (List ℕ)) (line : List ℕ) (why : ReadWhy) : Type 0 where
-  pub form : (¬ (HasEntryForm line)) → why ≡ Misspelt
-  pub beyond : (at process number rest : List ℕ) → HasColumns line at process number rest → HasTailForm rest → ¬ (AreWithin version at process number) → why ≡ BeyondLimit
-  pub within : (at process number rest : List ℕ) → HasColumns line at process number rest → HasTailForm rest → AreWithin version at process number → (told : Why) × IsTailWhy names rest told × (why ≡ why_of told)
+  pub form : (¬ (HasEntryForm version line)) → why ≡ Misspelt
+  pub beyond : (at process number rest : List ℕ) → HasColumns line at process number rest → HasTailForm version rest → ¬ (AreWithin version at process number) → why ≡ BeyondLimit
+  pub within : (at process number rest : List ℕ) → HasColumns line at process number rest → HasTailForm version rest → AreWithin version at process number → (told : Why) × IsTailWhy names rest told × (why ≡ why_of told)
 
 -- the line is no entry's
 pub record IsNoEntry (version : Version) (names : List (List ℕ)) (line : List ℕ) (why : ReadWhy) : Type 0 where

@@ -21,7 +21,7 @@ use Rattle.reg_history.specs.declared.report_faults.ReadWhy.{ReadWhy}
 use Rattle.reg_history.specs.declared.report_faults.ReadWhy.TheVariants.{Form, Range, Name, End}
 use Rattle.reg_history.specs.declared.report_limits.TheConstants.{MOST_ENTRIES, MOST_IDS}
 use Rattle.reg_history.specs.declared.versions.Version.{Version}
-use Rattle.reg_history.specs.declared.versions.Version.TheVariants.{One, Two}
+use Rattle.reg_history.specs.declared.versions.Version.TheVariants.{One, Two, Three}
 
 -- the text ends before this line, or the line may not stand there, for this reason
 abbrev pub IsWrongNext : (List ℕ → ReadWhy → Type 0) → Option (List ℕ) → ReadWhy → Type 0
@@ -91,6 +91,7 @@ IsWrongCounted mark least limit line_of Fits IsNone (line ∷ lines) next why =
 abbrev pub IsWrongNames : Version → List (List ℕ) → Option (List ℕ) → ReadWhy → Type 0
 IsWrongNames One lines next why = (lines ≡ []) × IsWrongNext IsNoNames next why
 IsWrongNames Two lines next why = IsWrongCounted (codes "registers ") 1 (most_registers Two) (λ name. name) IsNewName IsNoNewName lines next why
+IsWrongNames Three lines next why = IsWrongCounted (codes "registers ") 1 (most_registers Three) (λ name. name) IsNewName IsNoNewName lines next why
 
 abbrev pub IsFrontLine : List ℕ → Type 0
 IsFrontLine line = (word : List ℕ) × (is_front word ≡ true) × (line ≡ codes "front " ++ word)

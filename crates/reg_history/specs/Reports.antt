@@ -1,5 +1,5 @@
 -- The texts of a report. To be believed: promises speak of them.
-use Rattle.std.specs.Prelude.{ℕ, ◌≡◌, ◌≢◌, ◌<◌, ◌≤◌, ◌&&◌, nat_lt, nat_le, Bool, true, ◌⊎◌, List, [], ◌∷◌, ◌++◌, length, map, codes, Option, None, Some}
+use Rattle.std.specs.Prelude.{ℕ, ◌≡◌, ◌≢◌, ◌<◌, ◌≤◌, ◌&&◌, nat_lt, nat_le, Bool, true, ◌⊎◌, List, [], ◌∷◌, ◌++◌, length, codes, Option, None, Some}
 use Rattle.std.specs.List.{list_all}
 use Rattle.std.specs.Fmt.{decimal}
 use Rattle.reg_base.specs.declared.memory.OpId.{OpId}
@@ -12,8 +12,8 @@ use Rattle.reg_checkers.specs.declared.entries.Point.{Point}
 use Rattle.reg_history.specs.declared.report_faults.ReportFault.{ReportFault}
 use Rattle.reg_history.specs.declared.report_faults.ReportFault.TheVariants.{Front, Names, Range}
 use Rattle.reg_history.specs.declared.versions.Version.{Version}
-use Rattle.reg_history.specs.declared.versions.Version.TheVariants.{One, Two}
-use Rattle.reg_history.specs.Versions.{most_processes, most_registers, version_line}
+use Rattle.reg_history.specs.declared.versions.Version.TheVariants.{One, Two, Three}
+use Rattle.reg_history.specs.Versions.{most_processes, most_registers, version_line, version_for}
 use Rattle.reg_history.specs.declared.report_limits.TheConstants.{MOST_ENTRIES, MOST_IDS, LONGEST_FRONT}
 use Rattle.reg_checkers.specs.History.{IsHistory}
 use Rattle.reg_history.specs.EntryLines.{entry_text, EntryFits}
@@ -33,10 +33,19 @@ pub record Contents : Type 0 where
   pub order : List OpId
   pub points : Option (List Point)
 
+-- the names' count and a line for each
+abbrev pub newer_registers_lines : List (List ℕ) → List (List ℕ) → List (List ℕ)
+newer_registers_lines names rest = counted_lines (codes "registers ") (λ name. name) names rest
+
 -- the names: all on one line, or their count and a line for each
 abbrev pub registers_lines : Version → List (List ℕ) → List (List ℕ) → List (List ℕ)
 registers_lines One names rest = (codes "registers" ++ names_text names) ∷ rest
-registers_lines Two names rest = counted_lines (codes "registers ") (λ name. name) names rest
+registers_lines Two names rest = newer_registers_lines names rest
+registers_lines Three names rest = newer_registers_lines names rest
+
+-- the first lines after that of the version, in version 2 and later ones
+abbrev pub newer_head_lines : List ℕ → ℕ → List (List ℕ) → List (List ℕ) → List (List ℕ)
+newer_head_lines front processes names rest = (codes "front " ++ front) ∷ (codes "processes " ++ decimal processes) ∷ newer_registers_lines names rest
 
 abbrev pub head_lines : Version → List ℕ → ℕ → List (List ℕ) → List (List ℕ) → List (List ℕ)
 head_lines version front processes names rest =
@@ -59,7 +68,7 @@ text_in version r = text_of (lines_in version r)
 
 -- the text of a report, as it is written
 abbrev pub report_text : Contents → List ℕ
-report_text r = text_in Two r
+report_text r = text_in (version_for r.entries) r
 
 -- the text, or the text without its last line feed
 abbrev pub IsTextOf : List ℕ → List ℕ → Type 0
@@ -88,9 +97,9 @@ pub record IsReportIn (version : Version) (r : Contents) : Type 0 where
   pub entries : AllFit (λ _ e. EntryFits version r.names e) r.entries
   pub range : InRange version r.entries r.order r.points
 
--- within the limits of a report, as it is written
+-- within the limits of a report: those of version 3, which are those of version 2 too
 abbrev pub IsReport : Contents → Type 0
-IsReport r = IsReportIn Two r
+IsReport r = IsReportIn Three r
 
 -- the text is the report's in one of the versions, and the report is within its limits
 abbrev pub SpellsReport : List ℕ → Contents → Type 0
@@ -100,4 +109,4 @@ SpellsReport text r = (version : Version) × IsReportIn version r × IsTextOf te
 abbrev pub IsReportFault : Contents → ReportFault → Type 0
 IsReportFault r Front = is_front r.front ≢ true
 IsReportFault r Names = (is_front r.front ≡ true) × (r.shape.registers ≢ length r.names)
-IsReportFault r Range = (is_front r.front ≡ true) × (r.shape.registers ≡ length r.names) × (¬ InRange Two r.entries r.order r.points)
+IsReportFault r Range = (is_front r.front ≡ true) × (r.shape.registers ≡ length r.names) × (¬ InRange Three r.entries r.order r.points)

@@ -160,7 +160,7 @@ fn read_older_registers<A: Allocator + Copy>(
     Ok(names)
 }
 
-/// The names of version 2: their count, and a line for each.
+/// The names of later versions: their count, and a line for each.
 fn read_newer_registers<A: Allocator + Copy>(
     alloc: A,
     lines: &mut Lines<'_>,
@@ -193,5 +193,6 @@ pub fn read_registers<A: Allocator + Copy>(
     match version {
         Version::One => read_older_registers(alloc, lines),
         Version::Two => read_newer_registers(alloc, lines),
+        Version::Three => read_newer_registers(alloc, lines),
     }
 }

@@ -7,15 +7,15 @@ ghost use Rattle.reg_history.specs.Refusals.{IsFirstWrong, RefusesReportLine};
 ghost use Rattle.reg_history.specs.Stops.{EntryHasValue, IsFailure};
 ghost use Rattle.reg_history.specs.declared.report_faults.ReadWhy.{ReadWhy as Why};
 ghost use Rattle.reg_history.specs.declared.versions.Version.{Version};
-ghost use Rattle.reg_history.specs.declared.versions.Version.TheVariants.{Two};
+ghost use Rattle.reg_history.specs.declared.versions.Version.TheVariants.{Three};
 ghost use Rattle.reg_history.specs.Reports.{lines_in, report_text, IsReport, IsReportIn, IsReportFault, InRange, PointsFit, SpellsReport, Contents};
 
 use crate::items::all_fit;
 use crate::parts::{is_front, read_head, read_history, read_lists};
 use crate::report_faults::{ReadFault, ReadWhy, ReportFault, WriteFault, at_line};
 use crate::report_limits::{MOST_ENTRIES, MOST_IDS};
-use crate::versions::Version;
-use crate::write::{put_count, put_entries, put_head, put_ids, put_tail};
+use crate::versions::{Version, version_for};
+use crate::write::{put_count, put_entries, put_head, put_ids, put_line, put_tail};
 use reg_base::limits::MOST_PROCESSES;
 use reg_base::{Names, OpId, Shape};
 use reg_checkers::{Entry, History, Point};
@@ -48,11 +48,11 @@ impl<A: Allocator + Copy> Model for Report<A> {
 }
 
 fn points_fit<A: Allocator + Copy>(points: &Option<Vec<Point, A>>) -> bool
-    ensures { IsTrue result ↔ PointsFit Two (option_map (λ v. v.items) points.now) }
+    ensures { IsTrue result ↔ PointsFit Three (option_map (λ v. v.items) points.now) }
 {
     match points {
         Some(points) => points.len() <= MOST_IDS as usize
-            && all_fit(points.as_slice(), Version::Two),
+            && all_fit(points.as_slice(), Version::Three),
         None => true,
     }
 }
@@ -62,11 +62,11 @@ fn is_in_range<A: Allocator + Copy>(
     order: &[OpId],
     points: &Option<Vec<Point, A>>,
 ) -> bool
-    ensures { IsTrue result ↔ InRange Two entries.now order.now (option_map (λ v. v.items) points.now) }
+    ensures { IsTrue result ↔ InRange Three entries.now order.now (option_map (λ v. v.items) points.now) }
 {
     entries.len() <= MOST_ENTRIES as usize
         && order.len() <= MOST_IDS as usize
-        && all_fit(order, Version::Two)
+        && all_fit(order, Version::Three)
         && points_fit(points)
 }
 
@@ -237,7 +237,7 @@ fn read_lines<A: Allocator + Copy>(alloc: A, lines: &mut Lines<'_>) -> Result<Re
     })
 }
 
-/// The report that the text spells in version 1 or 2, with or without its last line feed.
+/// The report that the text spells in one of its versions, with or without its last line feed.
 ///
 /// # Errors
 ///
@@ -259,6 +259,8 @@ fn put_report<A: Allocator + Copy, W: Write>(sink: &mut Sink<'_, W>, report: &Re
     let processes = report.history.shape().processes();
     let entries = report.history.entries();
     let order = report.order.as_slice();
+    let version = version_for(entries);
+    put_line(sink, version.line(), "");
     put_head(sink, report.front.as_str(), processes, &report.names);
     put_count(sink, "history ", entries.len());
     put_entries(sink, &report.names, entries);
@@ -267,7 +269,7 @@ fn put_report<A: Allocator + Copy, W: Write>(sink: &mut Sink<'_, W>, report: &Re
     put_tail(sink, &report.points);
 }
 
-/// Writes the text of a report, in version 2.
+/// Writes the text of a report: in version 3 where it has a compare-and-swap, and else in version 2.
 ///
 /// # Errors
 ///

@@ -7,8 +7,7 @@ ghost use Rattle.reg_history.specs.IdLines.{id_text, point_text};
 ghost use Rattle.reg_text.specs.Lines.{lines_by, text_of};
 ghost use Rattle.reg_text.specs.Columns.{to_left, to_right};
 ghost use Rattle.reg_text.specs.Writing.{Puts};
-ghost use Rattle.reg_history.specs.declared.versions.Version.TheVariants.{Two};
-ghost use Rattle.reg_history.specs.Reports.{head_lines, tail_lines};
+ghost use Rattle.reg_history.specs.Reports.{newer_head_lines, tail_lines};
 
 use itoa::{Buffer, write_digits};
 use reg_base::{Answer, Names, Op, OpId};
@@ -68,6 +67,7 @@ fn put_answer<W: Write>(sink: &mut Sink<'_, W>, answer: Answer)
 {
     match answer {
         Answer::Done => sink.put(b"done\n"),
+        Answer::Unequal => sink.put(b"unequal\n"),
         Answer::Value(value) => {
             sink.put(b"value ");
             put_last(sink, value);
@@ -171,16 +171,15 @@ pub fn put_count<W: Write>(sink: &mut Sink<'_, W>, mark: &str, count: usize)
     put_last(sink, count as u64);
 }
 
-/// Puts the first lines.
+/// Puts the first lines of a version that is written, but for the line that names it.
 pub fn put_head<A: Allocator + Copy, W: Write>(
     sink: &mut Sink<'_, W>,
     front: &str,
     processes: u32,
     names: &Names<A>,
 )
-    ensures { Puts W.contents sink.old sink.new (text_of (head_lines Two front.now processes names.now [])) }
+    ensures { Puts W.contents sink.old sink.new (text_of (newer_head_lines front.now processes names.now [])) }
 {
-    put_line(sink, "awreg report 2", "");
     put_line(sink, "front ", front);
     put_count(sink, "processes ", processes as usize);
     put_count(sink, "registers ", names.count());

@@ -9,7 +9,7 @@ use Rattle.std.proofs.lemmas.Fmt.{digits_decimal}
 use Rattle.reg_text.specs.Columns.{to_left}
 use Rattle.reg_text.specs.Parts.{Lacks}
 use Rattle.reg_text.specs.Forms.{is_numeral, is_word, is_word_byte}
-use Rattle.reg_text.specs.Reading.{IsValuedForm}
+use Rattle.reg_text.specs.Reading.{IsValuedForm, IsComparedForm}
 use Rattle.reg_text.proofs.Decimals.{own, first_is}
 use Rattle.reg_text.proofs.Digits.{blank_is, all_blank}
 use Rattle.reg_text.proofs.NamesLack.{both_true}
@@ -87,6 +87,17 @@ unpadded bs front a after (suc m) cut other lacks e =
 -- the parts of a name and a value
 pub valued_parts : (text name digits w d : List ℕ) → ((f r : List ℕ) → Lacks 32 f → text ≡ f ++ 32 ∷ r → (name ≡ f) × (digits ≡ r)) → IsValuedForm text w d → (name ≡ w) × (digits ≡ d)
 valued_parts text name digits w d cut h = cut w d (word_lacks w h.0) h.2
+
+-- a text that is cut at the first such byte
+abbrev pub IsCutAt : List ℕ → List ℕ → List ℕ → Type 0
+IsCutAt text before after = (f r : List ℕ) → Lacks 32 f → text ≡ f ++ 32 ∷ r → (before ≡ f) × (after ≡ r)
+
+-- the parts of a name and two values
+pub compared_parts : (text name values expected digits w x d : List ℕ) → IsCutAt text name values → IsCutAt values expected digits → IsComparedForm text w x d → (name ≡ w) × (expected ≡ x) × (digits ≡ d)
+compared_parts text name values expected digits w x d cut again h =
+    let both = cut w (x ++ 32 ∷ d) (word_lacks w h.0) h.3 in
+    let two = again x d (numeral_lacks 32 x (omega arith) h.1) both.1 in
+    (both.0, two.0, two.1)
 
 pub no_truth : {A : Type 0} → false ≡ true → A
 no_truth e = absurd (cc)

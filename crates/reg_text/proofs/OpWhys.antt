@@ -2,7 +2,7 @@
 use Rattle.std.proofs.Common.{ℕ, ◌≡◌, ◌⊎◌, List, inl, inr, Option, Some, IfSome, slice_get}
 use Rattle.reg_text.specs.declared.faults.Why.{Why}
 use Rattle.reg_text.specs.declared.faults.Why.TheVariants.{Range, Name}
-use Rattle.reg_text.specs.Forms.{HasOpForm, IsReadForm, IsWriteForm, IsSwapForm, IsOpWhy}
+use Rattle.reg_text.specs.Forms.{HasOpForm, IsReadForm, IsWriteForm, IsSwapForm, IsCasForm, IsOpWhy}
 
 of_some : (a b : Why) → Some a ≡ Some b → a ≡ b
 of_some a b h = cc
@@ -15,6 +15,8 @@ pub record Told (names : List (List ℕ)) (text : List ℕ) (r : Option Why) : T
   pub unknown : (name digits : List ℕ) → IsWriteForm text name digits → ((i : ℕ) → ¬ (slice_get names i ≡ Some name)) → r ≡ Some Name
   pub known_swap : (name digits : List ℕ) (i : ℕ) → IsSwapForm text name digits → slice_get names i ≡ Some name → r ≡ Some Range
   pub unknown_swap : (name digits : List ℕ) → IsSwapForm text name digits → ((i : ℕ) → ¬ (slice_get names i ≡ Some name)) → r ≡ Some Name
+  pub known_cas : (name expected digits : List ℕ) (i : ℕ) → IsCasForm text name expected digits → slice_get names i ≡ Some name → r ≡ Some Range
+  pub unknown_cas : (name expected digits : List ℕ) → IsCasForm text name expected digits → ((i : ℕ) → ¬ (slice_get names i ≡ Some name)) → r ≡ Some Name
 
 known_as : (names : List (List ℕ)) (text : List ℕ) (why : Why) (name digits : List ℕ) (i : ℕ) → Told names text (Some why) → IsWriteForm text name digits ⊎ IsSwapForm text name digits → slice_get names i ≡ Some name → why ≡ Range
 known_as names text why name digits i t (inl h) here = of_some why Range (t.known name digits i h here)
@@ -29,4 +31,6 @@ op_why names text why t = record {
   read = λ name h. of_some why Name (t.read name h);
   known = λ name digits i h here. known_as names text why name digits i t h here;
   unknown = λ name digits h none. unknown_as names text why name digits t h none;
+  known_cas = λ name expected digits i h here. of_some why Range (t.known_cas name expected digits i h here);
+  unknown_cas = λ name expected digits h none. of_some why Name (t.unknown_cas name expected digits h none);
 }

@@ -3,12 +3,13 @@ use Rattle.std.proofs.Common.{ℕ, zero, suc, ◌≡◌, ◌<◌, ◌^◌, ◌�
 use Rattle.std.specs.Fmt.{decimal}
 use Rattle.reg_base.specs.Names.{names_fault}
 use Rattle.reg_base.specs.declared.memory.Op.{Op}
-use Rattle.reg_base.specs.declared.memory.Op.TheVariants.{Read, Write, Swap}
+use Rattle.reg_base.specs.declared.memory.Op.TheVariants.{Read, Write, Swap, CompareAndSwap}
 use Rattle.reg_text.proofs.Formed.{first_same}
 use Rattle.reg_text.specs.Parts.{Lacks}
 use Rattle.reg_base.specs.Memory.{register_of}
-use Rattle.reg_text.specs.Ops.{op_text, valued, OpFits}
+use Rattle.reg_text.specs.Ops.{op_text, valued, compared, OpFits}
 use Rattle.reg_text.specs.Reading.{HasValue}
+use Rattle.reg_text.proofs.NumbersLack.{decimal_lacks}
 use Rattle.reg_text.proofs.NamesLack.{is_got, got_is, nth_lacks}
 
 -- what a search for a name tells
@@ -27,6 +28,7 @@ read_same names text name reg (Read r) F s fits e =
     ap (λ x. Some (Read x)) n
 read_same names text name reg (Write r v) F s fits e = absurd (omega (arith, ap (λ l. get_or l 0 0) (sym s ∙ e)))
 read_same names text name reg (Swap r v) F s fits e = absurd (omega (arith, ap (λ l. get_or l 0 0) (sym s ∙ e)))
+read_same names text name reg (CompareAndSwap r x v) F s fits e = absurd (omega (arith, first_same (sym s ∙ e)))
 
 pub unread : (names : List (List ℕ)) (text name : List ℕ) (op : Op) → Finds names name None → text ≡ codes "read " ++ name → OpFits names op → text ≡ op_text names op → ⊥
 unread names text name (Read r) F s fits e =
@@ -35,6 +37,7 @@ unread names text name (Read r) F s fits e =
     absurd (cc)
 unread names text name (Write r v) F s fits e = omega (arith, first_same (sym s ∙ e))
 unread names text name (Swap r v) F s fits e = omega (arith, first_same (sym s ∙ e))
+unread names text name (CompareAndSwap r x v) F s fits e = omega (arith, first_same (sym s ∙ e))
 
 -- what is read of a register and a value, where the text is theirs
 abbrev pub Gives : List (List ℕ) → List ℕ → Option (ℕ × ℕ) → Type 0
@@ -46,6 +49,7 @@ unwritten names text rest (Write r v) G s fits e =
     let none = G r v fits.0 fits.1 (ap (drop 6) (sym s ∙ e)) in
     absurd (cc)
 unwritten names text rest (Swap r v) G s fits e = omega (arith, first_same (sym s ∙ e))
+unwritten names text rest (CompareAndSwap r x v) G s fits e = omega (arith, first_same (sym s ∙ e))
 
 pub unswapped : (names : List (List ℕ)) (text rest : List ℕ) (op : Op) → Gives names rest None → text ≡ codes "swap " ++ rest → OpFits names op → text ≡ op_text names op → ⊥
 unswapped names text rest (Read r) G s fits e = omega (arith, first_same (sym s ∙ e))
@@ -53,6 +57,29 @@ unswapped names text rest (Write r v) G s fits e = omega (arith, first_same (sym
 unswapped names text rest (Swap r v) G s fits e =
     let none = G r v fits.0 fits.1 (ap (drop 5) (sym s ∙ e)) in
     absurd (cc)
+unswapped names text rest (CompareAndSwap r x v) G s fits e = omega (arith, first_same (sym s ∙ e))
+
+-- what is read of a register and two values, where the text is theirs
+abbrev pub GivesTwo : List (List ℕ) → List ℕ → Option (ℕ × ℕ × ℕ) → Type 0
+GivesTwo names rest found = (r x v : ℕ) → r < length names → x < 2 ^ 64 → v < 2 ^ 64 → rest ≡ compared names r x v → found ≡ Some (r, x, v)
+
+pub uncompared : (names : List (List ℕ)) (text rest : List ℕ) (op : Op) → GivesTwo names rest None → text ≡ codes "cas " ++ rest → OpFits names op → text ≡ op_text names op → ⊥
+uncompared names text rest (Read r) G s fits e = omega (arith, first_same (sym s ∙ e))
+uncompared names text rest (Write r v) G s fits e = omega (arith, first_same (sym s ∙ e))
+uncompared names text rest (Swap r v) G s fits e = omega (arith, first_same (sym s ∙ e))
+uncompared names text rest (CompareAndSwap r x v) G s fits e =
+    let none = G r x v fits.0 fits.1 fits.2 (ap (drop 4) (sym s ∙ e)) in
+    absurd (cc)
+
+pub compare_same : (names : List (List ℕ)) (text rest : List ℕ) (reg expected value : ℕ) (op : Op) → GivesTwo names rest (Some (reg, expected, value)) → text ≡ codes "cas " ++ rest → OpFits names op → text ≡ op_text names op
+    → Some (CompareAndSwap reg expected value) ≡ Some op
+compare_same names text rest reg expected value (Read r) G s fits e = absurd (omega (arith, first_same (sym s ∙ e)))
+compare_same names text rest reg expected value (Write r v) G s fits e = absurd (omega (arith, first_same (sym s ∙ e)))
+compare_same names text rest reg expected value (Swap r v) G s fits e = absurd (omega (arith, first_same (sym s ∙ e)))
+compare_same names text rest reg expected value (CompareAndSwap r x v) G s fits e =
+    let k = G r x v fits.0 fits.1 fits.2 (ap (drop 4) (sym s ∙ e)) in
+    let same : ◌≡◌ {A = ℕ × ℕ × ℕ} (reg, expected, value) (r, x, v) = cc in
+    ap (λ (p : ℕ × ℕ × ℕ). Some (CompareAndSwap p.0 p.1 p.2)) same
 
 pub write_same : (names : List (List ℕ)) (text rest : List ℕ) (reg value : ℕ) (op : Op) → Gives names rest (Some (reg, value)) → text ≡ codes "write " ++ rest → OpFits names op → text ≡ op_text names op
     → Some (Write reg value) ≡ Some op
@@ -62,6 +89,7 @@ write_same names text rest reg value (Write r v) G s fits e =
     let same : ◌≡◌ {A = ℕ × ℕ} (reg, value) (r, v) = cc in
     ap (λ (p : ℕ × ℕ). Some (Write p.0 p.1)) same
 write_same names text rest reg value (Swap r v) G s fits e = absurd (omega (arith, first_same (sym s ∙ e)))
+write_same names text rest reg value (CompareAndSwap r x v) G s fits e = absurd (omega (arith, first_same (sym s ∙ e)))
 
 pub swap_same : (names : List (List ℕ)) (text rest : List ℕ) (reg value : ℕ) (op : Op) → Gives names rest (Some (reg, value)) → text ≡ codes "swap " ++ rest → OpFits names op → text ≡ op_text names op
     → Some (Swap reg value) ≡ Some op
@@ -71,13 +99,15 @@ swap_same names text rest reg value (Swap r v) G s fits e =
     let k = G r v fits.0 fits.1 (ap (drop 5) (sym s ∙ e)) in
     let same : ◌≡◌ {A = ℕ × ℕ} (reg, value) (r, v) = cc in
     ap (λ (p : ℕ × ℕ). Some (Swap p.0 p.1)) same
+swap_same names text rest reg value (CompareAndSwap r x v) G s fits e = absurd (omega (arith, first_same (sym s ∙ e)))
 
 -- a text that begins with no operation's word
 pub unspelt : (names : List (List ℕ)) (text : List ℕ) (op : Op) → ((rest : List ℕ) → text ≡ codes "read " ++ rest → ⊥) → ((rest : List ℕ) → text ≡ codes "write " ++ rest → ⊥) → ((rest : List ℕ) → text ≡ codes "swap " ++ rest → ⊥)
-    → text ≡ op_text names op → ⊥
-unspelt names text (Read r) read write swap e = read (get_or names r []) e
-unspelt names text (Write r v) read write swap e = write (valued names r v) e
-unspelt names text (Swap r v) read write swap e = swap (valued names r v) e
+    → ((rest : List ℕ) → text ≡ codes "cas " ++ rest → ⊥) → text ≡ op_text names op → ⊥
+unspelt names text (Read r) read write swap cas e = read (get_or names r []) e
+unspelt names text (Write r v) read write swap cas e = write (valued names r v) e
+unspelt names text (Swap r v) read write swap cas e = swap (valued names r v) e
+unspelt names text (CompareAndSwap r x v) read write swap cas e = cas (compared names r x v) e
 
 -- a name and a value that are cut at the space between them
 abbrev pub IsCut : List ℕ → List ℕ → List ℕ → Type 0
@@ -95,6 +125,20 @@ valued_read names text name digits reg value cut F n =
     let t = got_is names reg name ((F reg).0 refl) in
     (cut ∙ ap (λ l. l ++ 32 ∷ digits) t.1 ∙ ap (λ l. get_or names reg [] ++ 32 ∷ l) n, t.0)
 
+-- a name and two values
+pub compared_split : (names : List (List ℕ)) (text name values expected value : List ℕ) (r x v : ℕ) → names_fault names ≡ None → IsCut text name values → IsCut values expected value → r < length names → x < 2 ^ 64 → text ≡ compared names r x v
+    → (slice_get names r ≡ Some name) × (expected ≡ decimal x) × (value ≡ decimal v)
+compared_split names text name values expected value r x v ok cut again l small e =
+    let both = cut (get_or names r []) (decimal x ++ 32 ∷ decimal v) (nth_lacks 32 names r (omega arith) ok l) e in
+    let two = again (decimal x) (decimal v) (decimal_lacks 32 x (omega arith) small) both.1 in
+    (is_got names r l ∙ ap Some (sym both.0), two.0, two.1)
+
+pub compared_read : (names : List (List ℕ)) (text name values expected value : List ℕ) (reg x v : ℕ) → text ≡ name ++ 32 ∷ values → values ≡ expected ++ 32 ∷ value → Finds names name (Some reg) → expected ≡ decimal x → value ≡ decimal v
+    → (text ≡ compared names reg x v) × (reg < length names)
+compared_read names text name values expected value reg x v cut again F n m =
+    let t = got_is names reg name ((F reg).0 refl) in
+    (cut ∙ ap (λ l. l ++ 32 ∷ values) t.1 ∙ ap (λ l. get_or names reg [] ++ 32 ∷ l) (again ∙ ap (λ l. l ++ 32 ∷ value) n ∙ ap (λ l. decimal x ++ 32 ∷ l) m), t.0)
+
 pub missing : (names : List (List ℕ)) (r : ℕ) → slice_get names r ≡ None → [] ≡ get_or names r []
 missing [] r h = refl
 missing (n ∷ names) zero h = absurd (cc)
@@ -105,3 +149,4 @@ pub op_fits : (names : List (List ℕ)) (op : Op) → register_of op < length na
 op_fits names (Read r) l v = l
 op_fits names (Write r w) l v = (l, v)
 op_fits names (Swap r w) l v = (l, v)
+op_fits names (CompareAndSwap r x w) l v = (l, v.0, v.1)

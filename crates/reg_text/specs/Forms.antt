@@ -30,19 +30,30 @@ IsWriteForm text name digits = (is_word name ≡ true) × (is_numeral digits ≡
 abbrev pub IsSwapForm : List ℕ → List ℕ → List ℕ → Type 0
 IsSwapForm text name digits = (is_word name ≡ true) × (is_numeral digits ≡ true) × (text ≡ codes "swap " ++ (name ++ 32 ∷ digits))
 
+-- `cas`, a word and two numerals
+abbrev pub IsCasForm : List ℕ → List ℕ → List ℕ → List ℕ → Type 0
+IsCasForm text name expected digits =
+    (is_word name ≡ true) × (is_numeral expected ≡ true) × (is_numeral digits ≡ true) × (text ≡ codes "cas " ++ (name ++ 32 ∷ (expected ++ 32 ∷ digits)))
+
 -- the form of a read, of a write or of a swap
-abbrev pub HasOpForm : List ℕ → Type 0
-HasOpForm text =
+abbrev pub HasOlderOpForm : List ℕ → Type 0
+HasOlderOpForm text =
     ((name : List ℕ) × IsReadForm text name)
     ⊎ (((name : List ℕ) × ((digits : List ℕ) × IsWriteForm text name digits)) ⊎ ((name : List ℕ) × ((digits : List ℕ) × IsSwapForm text name digits)))
+
+-- the form of an operation: of one of these three, or of a compare-and-swap
+abbrev pub HasOpForm : List ℕ → Type 0
+HasOpForm text = HasOlderOpForm text ⊎ ((name expected digits : List ℕ) × IsCasForm text name expected digits)
 
 -- a write or a swap
 abbrev pub IsUpdateForm : List ℕ → List ℕ → List ℕ → Type 0
 IsUpdateForm text name digits = IsWriteForm text name digits ⊎ IsSwapForm text name digits
 
--- Why a text that has the form of an operation is none: an update of a register with a name has a value beyond its
--- range; what another operation names is no register's name.
+-- Why a text that has the form of an operation is none: an update, or a compare-and-swap, of a register with a name has
+-- a value beyond its range; what another operation names is no register's name.
 pub record IsOpWhy (names : List (List ℕ)) (text : List ℕ) (why : Why) : Type 0 where
   pub read : (name : List ℕ) → IsReadForm text name → why ≡ Name
   pub known : (name digits : List ℕ) (i : ℕ) → IsUpdateForm text name digits → slice_get names i ≡ Some name → why ≡ Range
   pub unknown : (name digits : List ℕ) → IsUpdateForm text name digits → ((i : ℕ) → ¬ (slice_get names i ≡ Some name)) → why ≡ Name
+  pub known_cas : (name expected digits : List ℕ) (i : ℕ) → IsCasForm text name expected digits → slice_get names i ≡ Some name → why ≡ Range
+  pub unknown_cas : (name expected digits : List ℕ) → IsCasForm text name expected digits → ((i : ℕ) → ¬ (slice_get names i ≡ Some name)) → why ≡ Name

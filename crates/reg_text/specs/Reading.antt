@@ -3,11 +3,16 @@ use Rattle.std.specs.Prelude.{ℕ, ◌≡◌, ◌+◌, Bool, true, Option, None,
 use Rattle.reg_text.specs.Forms.{is_numeral, is_word}
 use Rattle.reg_text.specs.Lines.{AllFit, is_kept, Rest, StandsIn, IsAsked}
 use Rattle.reg_base.specs.declared.memory.Op.{Op}
-use Rattle.reg_base.specs.declared.memory.Op.TheVariants.{Read, Write, Swap}
+use Rattle.reg_base.specs.declared.memory.Op.TheVariants.{Read, Write, Swap, CompareAndSwap}
 
 -- a word and a numeral
 abbrev pub IsValuedForm : List ℕ → List ℕ → List ℕ → Type 0
 IsValuedForm text name digits = (is_word name ≡ true) × (is_numeral digits ≡ true) × (text ≡ name ++ 32 ∷ digits)
+
+-- a word and two numerals
+abbrev pub IsComparedForm : List ℕ → List ℕ → List ℕ → List ℕ → Type 0
+IsComparedForm text name expected digits =
+    (is_word name ≡ true) × (is_numeral expected ≡ true) × (is_numeral digits ≡ true) × (text ≡ name ++ 32 ∷ (expected ++ 32 ∷ digits))
 
 -- the lines `old` are those of n elements, each fit, and then the lines `rest`
 pub record IsBlock {X : Type 0} (line_of : X → List ℕ) (Fits : List X → X → Type 0) (n : ℕ) (old rest : List (List ℕ)) (xs : List X) : Type 0 where
@@ -15,11 +20,12 @@ pub record IsBlock {X : Type 0} (line_of : X → List ℕ) (Fits : List X → X 
   pub fit : AllFit Fits xs
   pub count : length xs ≡ n
 
--- the operation's value has 64 bits
+-- the operation's values have 64 bits
 abbrev pub HasValue : Op → Type 0
 HasValue (Read register) = ⊤
 HasValue (Write register value) = value < 2 ^ 64
 HasValue (Swap register value) = value < 2 ^ 64
+HasValue (CompareAndSwap register expected value) = (expected < 2 ^ 64) × (value < 2 ^ 64)
 
 -- nothing, or a text that begins with the mark
 abbrev pub Starts : ℕ → List ℕ → Type 0

@@ -1,12 +1,12 @@
 //! What is wrong with a line that no reader took: whether it has its form, whatever the limits and the names.
-ghost use Rattle.std.specs.Prelude.{◌≡◌, ◌↔◌, ◌<◌, ◌≤◌, ◌^◌, ℕ, List, ◌⊎◌, length, IsTrue, IsSome, IfSome, Some, None, slice_get, if◌then◌else◌};
+ghost use Rattle.std.specs.Prelude.{◌≡◌, ◌↔◌, ◌<◌, ◌≤◌, ◌^◌, ℕ, List, ◌⊎◌, length, IsTrue, IsSome, IfSome, IsSomeAnd, Some, None, slice_get, if◌then◌else◌};
 ghost use Rattle.std.specs.Fmt.{decimal};
 ghost use Rattle.std.specs.Char.{is_ascii_digit};
 ghost use Rattle.std.specs.List.{list_all};
 ghost use Rattle.reg_text.specs.Columns.{to_left};
 ghost use Rattle.reg_text.specs.Parts.{Lacks};
-ghost use Rattle.reg_text.specs.Forms.{is_numeral as is_numeral_of, is_word as is_word_of, is_word_byte, IsReadForm, IsWriteForm, IsSwapForm, HasOpForm};
-ghost use Rattle.reg_text.specs.Reading.{IsValuedForm};
+ghost use Rattle.reg_text.specs.Forms.{is_numeral as is_numeral_of, is_word as is_word_of, is_word_byte, IsReadForm, IsWriteForm, IsSwapForm, IsCasForm, HasOpForm};
+ghost use Rattle.reg_text.specs.Reading.{IsValuedForm, IsComparedForm};
 
 use crate::faults::Why;
 use crate::fields::{cut_at, is_blank, skip};
@@ -107,8 +107,42 @@ fn valued_form<A: Allocator + Copy>(text: &[u8], names: &Names<A>) -> Option<Why
     }
 }
 
-/// Why a text is no operation, where it is none: for a read Name, since its register is not known; for a write or a
-/// swap Name where its register is not known, else Range. None where the text has the form of no operation.
+/// The word and the two numerals that the text is. None where it is none of these.
+fn compared_parts(text: &[u8]) -> Option<(&[u8], &[u8], &[u8])>
+    ensures read { IfSome result (λ p. IsComparedForm text.now p.0.now p.1.now p.2.now) }
+    ensures whole { (name expected digits : List ℕ) → IsComparedForm text.now name expected digits → IsSomeAnd result (λ p. (p.0.now ≡ name) × (p.1.now ≡ expected) × (p.2.now ≡ digits)) }
+{
+    let (name, values) = cut_at(text, b' ')?;
+    let (expected, digits) = cut_at(values, b' ')?;
+    if !is_word(name) {
+        return None;
+    }
+    if !is_numeral(expected) {
+        return None;
+    }
+    if !is_numeral(digits) {
+        return None;
+    }
+    Some((name, expected, digits))
+}
+
+/// Why the text is no register and two values: Name where the register is not known, else Range. None where its form is
+/// not kept.
+fn compared_form<A: Allocator + Copy>(text: &[u8], names: &Names<A>) -> Option<Why>
+    ensures form { IfSome result (λ why. ((name expected digits : List ℕ) × IsComparedForm text.now name expected digits) × ((why ≡ Why.Range) ⊎ (why ≡ Why.Name))) }
+    ensures whole { (name expected digits : List ℕ) → IsComparedForm text.now name expected digits → IsSome result }
+    ensures known { (name expected digits : List ℕ) (i : ℕ) → IsComparedForm text.now name expected digits → slice_get names.now i ≡ Some name → result ≡ Some Why.Range }
+    ensures unknown { (name expected digits : List ℕ) → IsComparedForm text.now name expected digits → ((i : ℕ) → ¬ (slice_get names.now i ≡ Some name)) → result ≡ Some Why.Name }
+{
+    let (name, _, _) = compared_parts(text)?;
+    match names.find(name) {
+        Some(_) => Some(Why::Range),
+        None => Some(Why::Name),
+    }
+}
+
+/// Why a text is no operation, where it is none: for a read Name, since its register is not known; for another
+/// operation Name where its register is not known, else Range. None where the text has the form of no operation.
 pub fn op_form<A: Allocator + Copy>(text: &[u8], names: &Names<A>) -> Option<Why>
     ensures form { IfSome result (λ why. HasOpForm text.now × ((why ≡ Why.Range) ⊎ (why ≡ Why.Name))) }
     ensures whole { HasOpForm text.now → IsSome result }
@@ -117,6 +151,8 @@ pub fn op_form<A: Allocator + Copy>(text: &[u8], names: &Names<A>) -> Option<Why
     ensures unknown { (name digits : List ℕ) → IsWriteForm text.now name digits → ((i : ℕ) → ¬ (slice_get names.now i ≡ Some name)) → result ≡ Some Why.Name }
     ensures known_swap { (name digits : List ℕ) (i : ℕ) → IsSwapForm text.now name digits → slice_get names.now i ≡ Some name → result ≡ Some Why.Range }
     ensures unknown_swap { (name digits : List ℕ) → IsSwapForm text.now name digits → ((i : ℕ) → ¬ (slice_get names.now i ≡ Some name)) → result ≡ Some Why.Name }
+    ensures known_cas { (name expected digits : List ℕ) (i : ℕ) → IsCasForm text.now name expected digits → slice_get names.now i ≡ Some name → result ≡ Some Why.Range }
+    ensures unknown_cas { (name expected digits : List ℕ) → IsCasForm text.now name expected digits → ((i : ℕ) → ¬ (slice_get names.now i ≡ Some name)) → result ≡ Some Why.Name }
 {
     if let Some(name) = skip(text, b"read ") {
         if !is_word(name) {
@@ -127,5 +163,8 @@ pub fn op_form<A: Allocator + Copy>(text: &[u8], names: &Names<A>) -> Option<Why
     if let Some(rest) = skip(text, b"write ") {
         return valued_form(rest, names);
     }
-    valued_form(skip(text, b"swap ")?, names)
+    if let Some(rest) = skip(text, b"swap ") {
+        return valued_form(rest, names);
+    }
+    compared_form(skip(text, b"cas ")?, names)
 }

@@ -3,7 +3,7 @@ ghost use Rattle.std.specs.Prelude.{◌≡◌, ◌<◌, ◌^◌, ℕ, ◌∷◌,
 ghost use Rattle.std.specs.Fmt.{decimal};
 ghost use Rattle.reg_base.specs.Names.{names_fault};
 ghost use Rattle.reg_base.specs.declared.memory.Op.{Op};
-ghost use Rattle.reg_text.specs.Ops.{answer_text, op_text, valued, OpFits, op_line, name_of as name_of_register};
+ghost use Rattle.reg_text.specs.Ops.{answer_text, op_text, valued, compared, OpFits, op_line, name_of as name_of_register};
 ghost use Rattle.reg_text.specs.Writing.{Puts};
 
 use crate::fields::{cut_at, numeral, skip};
@@ -25,8 +25,23 @@ fn read_valued<A: Allocator + Copy>(text: &[u8], names: &Names<A>) -> Option<(u1
     names.find(name).zip(numeral(digits))
 }
 
-/// The operation that the whole text spells. None where it spells no operation with a register of these names and a
-/// value of 64 bits.
+/// The register, the expected value and the value that the whole text spells. None where it doesn't spell a register of
+/// these names and two values of 64 bits.
+fn read_compared<A: Allocator + Copy>(text: &[u8], names: &Names<A>) -> Option<(u16, u64, u64)>
+    requires { names_fault names.now ≡ None }
+    ensures read { IfSome result (λ p. (text.now ≡ compared names.now p.0 p.1 p.2) × (p.0 < length names.now) × (p.1 < 2 ^ 64) × (p.2 < 2 ^ 64)) }
+    ensures whole { (register expected value : ℕ) → register < length names.now → expected < 2 ^ 64 → value < 2 ^ 64 → text.now ≡ compared names.now register expected value → result ≡ Some (register, expected, value) }
+{
+    let (name, values) = cut_at(text, b' ')?;
+    let (expected, value) = cut_at(values, b' ')?;
+    let register = names.find(name)?;
+    let expected = numeral(expected)?;
+    let value = numeral(value)?;
+    Some((register, expected, value))
+}
+
+/// The operation that the whole text spells. None where it spells no operation with a register of these names and
+/// values of 64 bits.
 pub fn read_op<A: Allocator + Copy>(text: &[u8], names: &Names<A>) -> Option<Op>
     requires { names_fault names.now ≡ None }
     ensures read { IfSome result (λ op. (text.now ≡ op_text names.now op) × OpFits names.now op) }
@@ -40,9 +55,17 @@ pub fn read_op<A: Allocator + Copy>(text: &[u8], names: &Names<A>) -> Option<Op>
         let (register, value) = read_valued(rest, names)?;
         return Some(Op::Write { register, value });
     }
-    let rest = skip(text, b"swap ")?;
-    let (register, value) = read_valued(rest, names)?;
-    Some(Op::Swap { register, value })
+    if let Some(rest) = skip(text, b"swap ") {
+        let (register, value) = read_valued(rest, names)?;
+        return Some(Op::Swap { register, value });
+    }
+    let rest = skip(text, b"cas ")?;
+    let (register, expected, value) = read_compared(rest, names)?;
+    Some(Op::CompareAndSwap {
+        register,
+        expected,
+        value,
+    })
 }
 
 /// The name of a register, the empty text past the last.
@@ -63,6 +86,7 @@ pub fn name_of_op<A: Allocator + Copy>(names: &Names<A>, op: Op) -> &str
         Op::Read { register } => name_at(names, register),
         Op::Write { register, .. } => name_at(names, register),
         Op::Swap { register, .. } => name_at(names, register),
+        Op::CompareAndSwap { register, .. } => name_at(names, register),
     }
 }
 
@@ -93,6 +117,15 @@ pub fn put_op<A: Allocator + Copy, W: Write>(sink: &mut Sink<'_, W>, names: &Nam
             sink.put(b"swap ");
             put_valued(sink, name, value);
         }
+        Op::CompareAndSwap {
+            expected,
+            value,
+            ..
+        } => {
+            sink.put(b"cas ");
+            put_valued(sink, name, expected);
+            put_number(sink, " ", value);
+        }
     }
 }
 
@@ -114,16 +147,22 @@ impl fmt::Display for OpLine<'_> {
             Op::Read { .. } => write!(f, "read {name}"),
             Op::Write { value, .. } => write!(f, "write {name} {value}"),
             Op::Swap { value, .. } => write!(f, "swap {name} {value}"),
+            Op::CompareAndSwap {
+                expected,
+                value,
+                ..
+            } => write!(f, "cas {name} {expected} {value}"),
         }
     }
 }
 
-/// Puts an answer: `done`, or `value` and the value in decimal.
+/// Puts an answer: `done`, `unequal`, or `value` and the value in decimal.
 pub fn put_answer<W: Write>(sink: &mut Sink<'_, W>, answer: Answer)
     ensures { Puts W.contents sink.old sink.new (answer_text answer) }
 {
     match answer {
         Answer::Done => sink.put(b"done"),
         Answer::Value(value) => put_number(sink, "value ", value),
+        Answer::Unequal => sink.put(b"unequal"),
     }
 }

@@ -1,7 +1,7 @@
 -- Worked schedules, computed from the definitions: first those of examples/, one after another.
 use Rattle.std.proofs.Common.{◌≡◌, ℕ, List, [], ◌∷◌, ◌++◌, length, map, refl}
-use Rattle.reg_base.specs.declared.memory.Op.TheVariants.{Read, Write, Swap}
-use Rattle.reg_base.specs.declared.memory.Answer.TheVariants.{Done, Value}
+use Rattle.reg_base.specs.declared.memory.Op.TheVariants.{Read, Write, Swap, CompareAndSwap}
+use Rattle.reg_base.specs.declared.memory.Answer.TheVariants.{Done, Value, Unequal}
 use Rattle.reg_frames.specs.declared.bodies.Body.TheVariants.{Ack}
 use Rattle.reg_frames.specs.declared.bodies.Frame.TheVariants.{Numbered, Got}
 use Rattle.reg_process.specs.declared.steps.Reply.{Reply}
@@ -274,3 +274,23 @@ old_value = whole linear 1 1 (Call 0 (Swap 0 5) ∷ Call 0 (Swap 0 6) ∷ [])
 old_value_history : old_value.history ≡ Called 0 (op_id 0 0) (Swap 0 5) ∷ Answered 0 (op_id 0 0) (Value 0) ∷ Called 1 (op_id 0 1) (Swap 0 6) ∷ Answered 1 (op_id 0 1) (Value 5) ∷ []
 unfolding old_value
 old_value_history = refl
+
+-- a compare-and-swap writes where its register holds the expected value, and changes nothing where not
+found_then_not : World
+found_then_not = whole linear 1 1 (Call 0 (CompareAndSwap 0 0 5) ∷ Call 0 (CompareAndSwap 0 0 6) ∷ Call 0 (Read 0) ∷ [])
+
+found_then_not_told : told found_then_not 0 ≡ record { answer = Done; place = 0 } ∷ record { answer = Unequal; place = 1 } ∷ record { answer = Value 5; place = 2 } ∷ []
+unfolding found_then_not
+found_then_not_told = refl
+
+-- of two compare-and-swaps that expect the first value the one of the lesser stamp is done, and the other finds its value
+cas_lock : World
+cas_lock = whole linear 2 1 (Call 0 (CompareAndSwap 0 0 1) ∷ Call 1 (CompareAndSwap 0 0 2) ∷ Take 0 1 0 ∷ Take 1 0 0 ∷ Take 0 1 2 ∷ [])
+
+cas_lock_told : told cas_lock 0 ++ told cas_lock 1 ≡ record { answer = Done; place = 0 } ∷ record { answer = Unequal; place = 1 } ∷ []
+unfolding cas_lock
+cas_lock_told = refl
+
+cas_lock_copies : (cas_lock.nodes 0).state.copy ++ (cas_lock.nodes 1).state.copy ≡ 1 ∷ 1 ∷ []
+unfolding cas_lock
+cas_lock_copies = refl

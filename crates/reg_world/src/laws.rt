@@ -3,7 +3,7 @@
 ghost use Rattle.std.specs.Prelude.{ℕ, is_some, not, ◌≡◌, ◌≤◌, ◌++◌, List, [], ◌∷◌, length};
 ghost use Rattle.reg_base.specs.declared.limits.TheConstants.{MOST_EVENTS};
 ghost use Rattle.reg_base.specs.declared.memory.Op.{Op};
-ghost use Rattle.reg_base.specs.declared.memory.Op.TheVariants.{Read, Swap};
+ghost use Rattle.reg_base.specs.declared.memory.Op.TheVariants.{Read, Swap, CompareAndSwap};
 ghost use Rattle.reg_base.specs.declared.memory.OpId.{OpId};
 ghost use Rattle.reg_front.specs.declared.starts.Start.{Start};
 ghost use Rattle.reg_base.specs.Memory.{IsBlind};
@@ -42,11 +42,12 @@ pub fn serial_order_keeps_own_time()
 {}
 
 /// Which operations a front end never answers before their delivery: a lawful one those whose answers tell of the
-/// memory, such as reads and swaps; and `linear` and `local-read` all.
+/// memory, as reads, swaps and compare-and-swaps do; and `linear` and `local-read` all.
 pub fn what_waits()
     ensures tells { (start : Op → ℕ → Start) → KeepsLaws start → (op : Op) → ¬ (IsBlind op) → WaitsForDelivery start op }
     ensures read { (start : Op → ℕ → Start) → KeepsLaws start → (register : ℕ) → WaitsForDelivery start (Read register) }
     ensures swap { (start : Op → ℕ → Start) → KeepsLaws start → (register value : ℕ) → WaitsForDelivery start (Swap register value) }
+    ensures compare_and_swap { (start : Op → ℕ → Start) → KeepsLaws start → (register expected value : ℕ) → WaitsForDelivery start (CompareAndSwap register expected value) }
     ensures linear { AnswersNothingFirst linear }
     ensures local_read { AnswersNothingFirst local_read }
 {}

@@ -2,7 +2,7 @@
 use Rattle.std.proofs.Common.{◌≡◌, ℕ, zero, suc, ◌+◌, ◌-◌, ◌<◌, ◌≤◌, List, [], ◌∷◌, map, take, length, refl, ap, ◌∙◌, arith}
 use Rattle.std.proofs.lemmas.Option.{same_Some}
 use Rattle.reg_base.specs.declared.memory.Op.{Op}
-use Rattle.reg_base.specs.declared.memory.Op.TheVariants.{Read, Write, Swap}
+use Rattle.reg_base.specs.declared.memory.Op.TheVariants.{Read, Write, Swap, CompareAndSwap}
 use Rattle.reg_world.specs.declared.order.First.{First}
 use Rattle.reg_base.specs.Memory.{Memory, IsUpdate, after, memory_after, blank}
 use Rattle.reg_checkers.specs.History.{IsAt}
@@ -14,6 +14,7 @@ pub unchanged : (m : Memory) (op : Op) → (IsUpdate op → ⊥) → after op m 
 unchanged m (Read register) h = refl
 unchanged m (Write register value) h = absurd (h refl)
 unchanged m (Swap register value) h = absurd (h refl)
+unchanged m (CompareAndSwap register expected value) h = absurd (h refl)
 
 more : (m : Memory) (xs : List First) (k : ℕ) (c : First) → IsAt xs k c
     → memory_after (map (λ c. c.op) (take (suc k) xs)) m ≡ after c.op (memory_after (map (λ c. c.op) (take k xs)) m)

@@ -2,8 +2,9 @@
 use Rattle.std.proofs.Common.{◌≡◌, ℕ, Bool, true, false, [], sym, ◌∙◌, subst}
 use Rattle.std.specs.Prelude.{◌==◌, cond}
 use Rattle.reg_base.specs.declared.memory.Op.{Op}
-use Rattle.reg_base.specs.declared.memory.Op.TheVariants.{Read, Write, Swap}
+use Rattle.reg_base.specs.declared.memory.Op.TheVariants.{Read, Write, Swap, CompareAndSwap}
 use Rattle.reg_base.specs.Memory.{IsBlind}
+use Rattle.reg_base.proofs.Operations.{compare_and_swap_tells}
 use Rattle.reg_front.specs.declared.starts.Start.{Start}
 use Rattle.reg_front.specs.declared.starts.Start.TheVariants.{CastAndAnswer as CastsAndAnswers, Look as Looks, Hold as Holds}
 use Rattle.reg_front.specs.Fronts.{MayStart, KeepsLaws}
@@ -25,6 +26,9 @@ swap_waits start laws register value u first =
     let done = subst (MayStart (Swap register value) u) first (laws (Swap register value) u) in
     let bad = done [] in absurd (let z : ⊥ = cc in z)
 
+pub compare_and_swap_waits : (start : Op → ℕ → Start) → KeepsLaws start → (register expected value : ℕ) → WaitsForDelivery start (CompareAndSwap register expected value)
+compare_and_swap_waits start laws register expected value = tells_waits start laws (CompareAndSwap register expected value) (compare_and_swap_tells register expected value)
+
 pub linear_waits : AnswersNothingFirst linear
 linear_waits op u first = absurd (let z : ⊥ = cc in z)
 
@@ -36,3 +40,4 @@ pub local_read_waits : AnswersNothingFirst local_read
 local_read_waits (Read r) u first = looks (u == 0) first
 local_read_waits (Write r v) u first = absurd (let z : ⊥ = cc in z)
 local_read_waits (Swap r v) u first = absurd (let z : ⊥ = cc in z)
+local_read_waits (CompareAndSwap r e v) u first = absurd (let z : ⊥ = cc in z)

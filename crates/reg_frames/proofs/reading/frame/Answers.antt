@@ -26,11 +26,20 @@ returns-then-bytes-eq-PLAIN c = grind (arith, common_steps)
 pub bounds-bytes-2-2 : goal.bounds-bytes-2-2
 bounds-bytes-2-2 c = omega arith
 
-pub swap-requires : goal.swap-requires
-swap-requires c = omega arith
+pub lone-requires : goal.lone-requires
+lone-requires c = omega arith
 
 pub returns-then-bytes-eq-SWAPPING : goal.returns-then-bytes-eq-SWAPPING
 returns-then-bytes-eq-SWAPPING c = grind (arith, common_steps)
+
+pub bounds-bytes-2-3 : goal.bounds-bytes-2-3
+bounds-bytes-2-3 c = omega arith
+
+pub lone-requires-then-bytes-eq-COMPARING : goal.lone-requires-then-bytes-eq-COMPARING
+lone-requires-then-bytes-eq-COMPARING c = omega arith
+
+pub returns-then-bytes-eq-COMPARING : goal.returns-then-bytes-eq-COMPARING
+returns-then-bytes-eq-COMPARING c = grind (arith, common_steps)
 
 pub returns : goal.returns
 returns c = grind (arith, common_steps)

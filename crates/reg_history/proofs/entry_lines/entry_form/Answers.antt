@@ -15,7 +15,7 @@ returns-in_err-at-clause-within g c = λ at process number rest columns inside. 
 pub returns-in_err-why-clause-whole : goal.returns-in_err-why-clause-whole
 returns-in_err-why-clause-whole g c = λ h.
     let same = c.in_ok-at.ensures.whole h.0 h.1 h.2 h.3 h.4 in
-    no_truth (c.in_err-why.ensures.whole (subst (λ (l : List ℕ). HasTailForm l) (sym same.3) h.5))
+    no_truth (c.in_err-why.ensures.whole (subst (λ (l : List ℕ). HasTailForm c.args.version l) (sym same.3) h.5))
 
 pub returns-then-columns_fit-clause-read : goal.returns-then-columns_fit-clause-read
 returns-then-columns_fit-clause-read g c =

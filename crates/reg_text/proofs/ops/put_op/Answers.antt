@@ -30,3 +30,15 @@ returns-in-Swap g c =
     let line : codes "swap " ++ rest ≡ op_text c.args.names.now c.args.op = ap (λ l. codes "swap " ++ l) (sym (append_assoc name (32 ∷ []) (decimal c.in-Swap.value))) ∙ ap (op_line name) (sym c.in-Swap.is) ∙ c.name_of_op-name.ensures in
     puts_as held c.args.sink.now c.put_valued-in-Swap.new.sink (codes "swap " ++ rest) (op_text c.args.names.now c.args.op) line
     (puts_two held c.args.sink.now c.put-in-Swap.new.self c.put_valued-in-Swap.new.sink (codes "swap ") rest c.put-in-Swap.ensures c.put_valued-in-Swap.ensures)
+
+pub returns-in-CompareAndSwap : goal.returns-in-CompareAndSwap
+returns-in-CompareAndSwap g c =
+    let held = g.W.Write.contents in
+    let name = c.name_of_op-name.result.now in
+    let expected = decimal c.in-CompareAndSwap.expected in
+    let value = decimal c.in-CompareAndSwap.value in
+    let line : codes "cas " ++ ((name ++ 32 ∷ expected) ++ 32 ∷ value) ≡ op_text c.args.names.now c.args.op =
+    ap (λ l. codes "cas " ++ l) (append_assoc name (32 ∷ expected) (32 ∷ value)) ∙ ap (op_line name) (sym c.in-CompareAndSwap.is) ∙ c.name_of_op-name.ensures in
+    puts_as held c.args.sink.now c.put_number.new.sink (codes "cas " ++ ((name ++ 32 ∷ expected) ++ 32 ∷ value)) (op_text c.args.names.now c.args.op) line
+    (puts_two held c.args.sink.now c.put-in-CompareAndSwap.new.self c.put_number.new.sink (codes "cas ") ((name ++ 32 ∷ expected) ++ 32 ∷ value) c.put-in-CompareAndSwap.ensures
+    (puts_two held c.put-in-CompareAndSwap.new.self c.put_valued-in-CompareAndSwap.new.sink c.put_number.new.sink (name ++ 32 ∷ expected) (32 ∷ value) c.put_valued-in-CompareAndSwap.ensures c.put_number.ensures))
