@@ -1,9 +1,9 @@
 -- Events, replies and faults as numbers.
 use Rattle.std.specs.Prelude.{ℕ, ◌==◌, nat_lt, Option, Some, None, option_map, if◌then◌else◌}
 use Rattle.reg_base.specs.declared.memory.Op.{Op}
-use Rattle.reg_base.specs.declared.memory.Op.TheVariants.{Read, Write, Swap}
+use Rattle.reg_base.specs.declared.memory.Op.TheVariants.{Read, Write, Swap, CompareAndSwap}
 use Rattle.reg_base.specs.declared.memory.Answer.{Answer}
-use Rattle.reg_base.specs.declared.memory.Answer.TheVariants.{Done, Value}
+use Rattle.reg_base.specs.declared.memory.Answer.TheVariants.{Done, Value, Unequal}
 use Rattle.reg_process.specs.declared.steps.Reply.{Reply}
 use Rattle.reg_process.specs.declared.faults.ProcessFault.{ProcessFault}
 use Rattle.reg_process.specs.declared.faults.ProcessFault.TheVariants as refusals
@@ -20,6 +20,14 @@ op_of kind register value =
     (if kind == 1 then Some (Write register value) else
     (if kind == 2 then Some (Swap register value) else None))) else None)
 
+-- the compare-and-swap that these numbers say
+abbrev pub compare_and_swap_of : ℕ → ℕ → ℕ → Option Op
+compare_and_swap_of register expected value = (if nat_lt register 65536 then Some (CompareAndSwap register expected value) else None)
+
+-- its call at a process
+abbrev pub compare_and_swap_event : ℕ → ℕ → ℕ → ℕ → Option Event
+compare_and_swap_event process register expected value = option_map (λ op. Call process op) (compare_and_swap_of register expected value)
+
 -- the event that these numbers say
 abbrev pub event_of : ℕ → ℕ → ℕ → ℕ → ℕ → Option Event
 event_of kind process number from value =
@@ -30,10 +38,12 @@ event_of kind process number from value =
 abbrev pub answer_code : Answer → ℕ
 answer_code Done = 1
 answer_code (Value v) = 2
+answer_code Unequal = 3
 
 abbrev pub answer_value : Answer → ℕ
 answer_value Done = 0
 answer_value (Value v) = v
+answer_value Unequal = 0
 
 abbrev pub reply_code : Option Reply → ℕ
 reply_code None = 0

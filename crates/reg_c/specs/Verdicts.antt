@@ -1,5 +1,5 @@
 -- What is told of a history that a caller lends: the verdicts of the checkers.
-use Rattle.std.specs.Prelude.{ℕ, ◌≡◌, List, map, take, Err, MatchOption}
+use Rattle.std.specs.Prelude.{ℕ, ◌≡◌, List, map, take, slice_get, Err, MatchOption}
 use Rattle.reg_base.specs.Shape.{shape_of}
 use Rattle.reg_base.specs.declared.shapes.ShapeFault.{ShapeFault}
 use Rattle.reg_checkers.specs.declared.entries.Entry.{Entry}
@@ -19,30 +19,30 @@ use Rattle.reg_c.specs.declared.rows.PointRow.{PointRow}
 use Rattle.reg_c.specs.Rows.{Say, entry_of, id_of, point_of}
 
 -- the rows before this place say a history, and the row at it says no entry, or one that is out of place after them
-abbrev pub EndsAt : ℕ → ℕ → List EntryRow → ℕ → Type 0
-EndsAt n registers rows k = (es : List Entry) × (r : EntryRow) × Say (take k rows) es × IsHistory n registers es × IsAt rows k r × MatchOption (entry_of r) (Unit {0}) (λ e. ¬ IsInPlace n registers es e)
+abbrev pub EndsAt : ℕ → ℕ → List EntryRow → List ℕ → ℕ → Type 0
+EndsAt n registers rows expected k = (es : List Entry) × (r : EntryRow) × Say (take k rows) expected es × IsHistory n registers es × IsAt rows k r × MatchOption (entry_of r (slice_get expected k)) (Unit {0}) (λ e. ¬ IsInPlace n registers es e)
 
 -- why rows say no history of such a shape. `OutOfMemory` says nothing
-abbrev pub IsUnread : ℕ → ℕ → List EntryRow → Unread → Type 0
-IsUnread n registers rows NoShape = (fault : ShapeFault) × (shape_of n registers ≡ Err fault)
-IsUnread n registers rows (OutOfPlace place) = EndsAt n registers rows place
-IsUnread n registers rows OutOfMemory = Unit {0}
+abbrev pub IsUnread : ℕ → ℕ → List EntryRow → List ℕ → Unread → Type 0
+IsUnread n registers rows expected NoShape = (fault : ShapeFault) × (shape_of n registers ≡ Err fault)
+IsUnread n registers rows expected (OutOfPlace place) = EndsAt n registers rows expected place
+IsUnread n registers rows expected OutOfMemory = Unit {0}
 
 -- the rows say this history
-abbrev pub SayHistory : ℕ → ℕ → List EntryRow → List Entry → Type 0
-SayHistory n registers rows es = Say rows es × IsHistory n registers es
+abbrev pub SayHistory : ℕ → ℕ → List EntryRow → List ℕ → List Entry → Type 0
+SayHistory n registers rows expected es = Say rows expected es × IsHistory n registers es
 
 -- what is told of an order: that it is serial, or the first fault that there is, or why the rows say no history
-abbrev pub IsSerialVerdict : ℕ → ℕ → List EntryRow → List IdRow → Verdict → Type 0
-IsSerialVerdict n registers rows ids Holds = (es : List Entry) × SayHistory n registers rows es × IsSerial registers es (map id_of ids)
-IsSerialVerdict n registers rows ids (Refused fault) = (es : List Entry) × SayHistory n registers rows es × IsSerialFault registers es (map id_of ids) fault
-IsSerialVerdict n registers rows ids (NoHistory why) = IsUnread n registers rows why
+abbrev pub IsSerialVerdict : ℕ → ℕ → List EntryRow → List ℕ → List IdRow → Verdict → Type 0
+IsSerialVerdict n registers rows expected ids Holds = (es : List Entry) × SayHistory n registers rows expected es × IsSerial registers es (map id_of ids)
+IsSerialVerdict n registers rows expected ids (Refused fault) = (es : List Entry) × SayHistory n registers rows expected es × IsSerialFault registers es (map id_of ids) fault
+IsSerialVerdict n registers rows expected ids (NoHistory why) = IsUnread n registers rows expected why
 
 -- what is told of points: that they are a point order, or the first fault that there is, or why the rows say no history
-abbrev pub IsPointVerdict : ℕ → ℕ → List EntryRow → List PointRow → Verdict → Type 0
-IsPointVerdict n registers rows points Holds = (es : List Entry) × SayHistory n registers rows es × IsPointOrder registers es (map point_of points)
-IsPointVerdict n registers rows points (Refused fault) = (es : List Entry) × SayHistory n registers rows es × IsPointFault registers es (map point_of points) fault
-IsPointVerdict n registers rows points (NoHistory why) = IsUnread n registers rows why
+abbrev pub IsPointVerdict : ℕ → ℕ → List EntryRow → List ℕ → List PointRow → Verdict → Type 0
+IsPointVerdict n registers rows expected points Holds = (es : List Entry) × SayHistory n registers rows expected es × IsPointOrder registers es (map point_of points)
+IsPointVerdict n registers rows expected points (Refused fault) = (es : List Entry) × SayHistory n registers rows expected es × IsPointFault registers es (map point_of points) fault
+IsPointVerdict n registers rows expected points (NoHistory why) = IsUnread n registers rows expected why
 
 -- the numbers by which a verdict is told
 

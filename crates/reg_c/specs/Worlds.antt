@@ -3,9 +3,9 @@ use Rattle.std.specs.Prelude.{nat_lt, is_err, ℕ, List, [], ◌≡◌, ◌==◌
 use Rattle.reg_base.specs.Shape.{Extent, shape_of}
 use Rattle.reg_base.specs.declared.memory.Op.{Op}
 use Rattle.reg_base.specs.declared.memory.OpId.{OpId}
-use Rattle.reg_base.specs.declared.memory.Op.TheVariants.{Read, Write, Swap}
+use Rattle.reg_base.specs.declared.memory.Op.TheVariants.{Read, Write, Swap, CompareAndSwap}
 use Rattle.reg_base.specs.declared.memory.Answer.{Answer}
-use Rattle.reg_base.specs.declared.memory.Answer.TheVariants.{Done, Value}
+use Rattle.reg_base.specs.declared.memory.Answer.TheVariants.{Done, Value, Unequal}
 use Rattle.reg_front.specs.declared.starts.Start.{Start}
 use Rattle.reg_front.specs.Table.{linear, local_read, local_write}
 use Rattle.reg_checkers.specs.declared.entries.Entry.{Entry}
@@ -25,7 +25,7 @@ use Rattle.reg_c.specs.declared.holding.Held.{Held}
 use Rattle.reg_c.specs.declared.looking.Look.{Look}
 use Rattle.reg_c.specs.declared.looking.Look.TheVariants.{Events, Entries, OfEntry, ReplyValue, ReplyPlace, Ids, OfId, Points, OfPoint}
 use Rattle.reg_c.specs.declared.looking.EntryPart.{EntryPart}
-use Rattle.reg_c.specs.declared.looking.EntryPart.TheVariants.{Event as EntryEvent, Process as EntryProcess, Number as EntryNumber, Kind as EntryKind, Register as EntryRegister, Value as EntryValue}
+use Rattle.reg_c.specs.declared.looking.EntryPart.TheVariants.{Event as EntryEvent, Process as EntryProcess, Number as EntryNumber, Kind as EntryKind, Register as EntryRegister, Value as EntryValue, Expected as EntryExpected}
 use Rattle.reg_c.specs.declared.looking.IdPart.{IdPart}
 use Rattle.reg_c.specs.declared.looking.IdPart.TheVariants.{Process as IdProcess, Number as IdNumber}
 use Rattle.reg_c.specs.declared.looking.PointPart.{PointPart}
@@ -109,10 +109,12 @@ abbrev pub kind_of_op : Op → ℕ
 kind_of_op (Read r) = 0
 kind_of_op (Write r v) = 1
 kind_of_op (Swap r v) = 2
+kind_of_op (CompareAndSwap r e v) = 5
 
 abbrev pub kind_of_answer : Answer → ℕ
 kind_of_answer Done = 3
 kind_of_answer (Value v) = 4
+kind_of_answer Unequal = 6
 
 abbrev pub kind_of_entry : Entry → ℕ
 kind_of_entry (Called at id op) = kind_of_op op
@@ -122,6 +124,7 @@ abbrev pub register_of_op : Op → ℕ
 register_of_op (Read r) = r
 register_of_op (Write r v) = r
 register_of_op (Swap r v) = r
+register_of_op (CompareAndSwap r e v) = r
 
 abbrev pub register_of_entry : Entry → ℕ
 register_of_entry (Called at id op) = register_of_op op
@@ -131,10 +134,19 @@ abbrev pub value_of_op : Op → ℕ
 value_of_op (Read r) = 0
 value_of_op (Write r v) = v
 value_of_op (Swap r v) = v
+value_of_op (CompareAndSwap r e v) = v
 
 abbrev pub value_of_entry : Entry → ℕ
 value_of_entry (Called at id op) = value_of_op op
 value_of_entry (Answered at id answer) = answer_value answer
+
+abbrev pub expected_of_op : Op → ℕ
+expected_of_op (CompareAndSwap r e v) = e
+expected_of_op op = 0
+
+abbrev pub expected_of_entry : Entry → ℕ
+expected_of_entry (Called at id op) = expected_of_op op
+expected_of_entry (Answered at id answer) = 0
 
 -- a number of what stands there, 0 where nothing does
 abbrev pub seen : {X : Type 0} → (X → ℕ) → Option X → ℕ
@@ -147,6 +159,7 @@ entry_part EntryNumber e = (id_of_entry e).number
 entry_part EntryKind e = kind_of_entry e
 entry_part EntryRegister e = register_of_entry e
 entry_part EntryValue e = value_of_entry e
+entry_part EntryExpected e = expected_of_entry e
 
 abbrev pub id_part : IdPart → OpId → ℕ
 id_part IdProcess id = id.process
@@ -193,7 +206,8 @@ look_of what =
     (if what == 13 then Some Points else
     (if what == 14 then Some (OfPoint PointProcess) else
     (if what == 15 then Some (OfPoint PointNumber) else
-    (if what == 16 then Some (OfPoint PointEvent) else None)))))))))))))))))
+    (if what == 16 then Some (OfPoint PointEvent) else
+    (if what == 17 then Some (OfEntry EntryExpected) else None))))))))))))))))))
 
 -- the number that a caller gets: 0 where it asks for nothing that there is
 abbrev pub number_of : Held → ℕ → ℕ → ℕ

@@ -1,6 +1,6 @@
 //! Events, replies and faults as numbers.
 ghost use Rattle.std.specs.Prelude.{◌≡◌};
-ghost use Rattle.reg_c.specs.Events.{answer_code, answer_value, event_of, fault_code, op_of, refusal_code, reply_code};
+ghost use Rattle.reg_c.specs.Events.{answer_code, answer_value, compare_and_swap_event, compare_and_swap_of, event_of, fault_code, op_of, refusal_code, reply_code};
 
 use reg_base::{Answer, Op};
 use reg_process::{ProcessFault, Reply};
@@ -22,6 +22,28 @@ pub fn operation(kind: u32, register: u32, value: u64) -> Option<Op>
     }
 }
 
+/// The compare-and-swap that these numbers say.
+pub fn compare_and_swap(register: u32, expected: u64, value: u64) -> Option<Op>
+    ensures { result ≡ compare_and_swap_of register expected value }
+{
+    if register > 65535 {
+        return None;
+    }
+    Some(Op::CompareAndSwap {
+        register: register as u16,
+        expected,
+        value,
+    })
+}
+
+/// The call of a compare-and-swap that these numbers say.
+pub fn compare_and_swap_call(process: u8, register: u32, expected: u64, value: u64) -> Option<Event>
+    ensures { result ≡ compare_and_swap_event process register expected value }
+{
+    let op = compare_and_swap(register, expected, value)?;
+    Some(Event::Call { process, op })
+}
+
 /// The event that these numbers say: `kind` 0, 1 and 2 call a read, a write and a swap of register `number` at the
 /// process, 3 has it take frame `number` of `from`, and 4 is its tick.
 pub fn event(kind: u32, process: u8, number: u32, from: u8, value: u64) -> Option<Event>
@@ -41,23 +63,25 @@ pub fn event(kind: u32, process: u8, number: u32, from: u8, value: u64) -> Optio
     }
 }
 
-/// 1 for Done, 2 for a value.
+/// 1 for Done, 2 for a value, 3 for Unequal.
 pub fn code_of_answer(answer: Answer) -> u32
     ensures { result ≡ answer_code answer }
 {
     match answer {
         Answer::Done => 1,
         Answer::Value(_) => 2,
+        Answer::Unequal => 3,
     }
 }
 
-/// The value of an answer, 0 for Done.
+/// The value of an answer, 0 for Done and Unequal.
 pub fn value_of_answer(answer: Answer) -> u64
     ensures { result ≡ answer_value answer }
 {
     match answer {
         Answer::Done => 0,
         Answer::Value(value) => value,
+        Answer::Unequal => 0,
     }
 }
 

@@ -3,10 +3,10 @@ ghost use Rattle.std.specs.Prelude.{◌≡◌, ◌<◌, [], Some, IfErr, IfOk, I
 ghost use Rattle.reg_checkers.specs.Orders.{IsSerial, IsPointOrder};
 ghost use Rattle.reg_world.specs.declared.faults.WorldFault.{WorldFault};
 ghost use Rattle.reg_c.specs.declared.holding.Kept.{Kept};
-ghost use Rattle.reg_c.specs.Events.{event_of, fault_code};
+ghost use Rattle.reg_c.specs.Events.{compare_and_swap_event, event_of, fault_code};
 ghost use Rattle.reg_c.specs.Worlds.{Goes, GoesIn, HasOrders, HasPoints, IsOrder, Steps, events_in, history_in, kept_at_first, looked, number_of, refusal_of, unmade};
 
-use crate::events::{code_of_fault, code_of_reply, event, value_of_answer};
+use crate::events::{code_of_fault, code_of_reply, compare_and_swap_call, event, value_of_answer};
 use crate::looking::{Look, look_at, of_entry, of_id, of_point};
 use crate::unboxed::Unboxed;
 use reg_base::{OpId, Shape};
@@ -118,16 +118,39 @@ fn go_in(kept: &mut Kept, event: &Event) -> (Option<Reply>, u32)
     }
 }
 
-/// Makes the event that these numbers say.
-pub fn step(held: &mut Held, kind: u32, process: u8, number: u32, from: u8, value: u64) -> u32
-    ensures { Steps (event_of kind process number from value) held.old held.new result }
+/// Makes the event, if there is one.
+fn make(held: &mut Held, event: Option<Event>) -> u32
+    ensures { Steps event held.old held.new result }
 {
-    let Some(event) = event(kind, process, number, from, value) else {
+    let Some(event) = event else {
         return NO_EVENT;
     };
     let (reply, code) = go_in(&mut held.world, &event);
     held.reply = reply;
     code
+}
+
+/// Makes the event that these numbers say.
+pub fn step(held: &mut Held, kind: u32, process: u8, number: u32, from: u8, value: u64) -> u32
+    ensures { Steps (event_of kind process number from value) held.old held.new result }
+{
+    make(held, event(kind, process, number, from, value))
+}
+
+/// Calls the compare-and-swap that these numbers say.
+pub fn compare_and_swap(
+    held: &mut Held,
+    process: u8,
+    register: u32,
+    expected: u64,
+    value: u64,
+) -> u32
+    ensures { Steps (compare_and_swap_event process register expected value) held.old held.new result }
+{
+    make(
+        held,
+        compare_and_swap_call(process, register, expected, value),
+    )
 }
 
 /// A serial order of the world's history, None where memory is refused.

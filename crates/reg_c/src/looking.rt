@@ -1,6 +1,6 @@
 //! What a caller sees of a world that it holds.
 ghost use Rattle.std.specs.Prelude.{◌≡◌};
-ghost use Rattle.reg_c.specs.Worlds.{entry_part, event_of_entry, id_part, point_part, id_of_entry, kind_of_entry, kind_of_op, kind_of_answer, look_of, register_of_entry, value_of_entry, value_of_op};
+ghost use Rattle.reg_c.specs.Worlds.{entry_part, event_of_entry, expected_of_entry, expected_of_op, id_part, point_part, id_of_entry, kind_of_entry, kind_of_op, kind_of_answer, look_of, register_of_entry, register_of_op, value_of_entry, value_of_op};
 
 use crate::events::value_of_answer;
 use reg_base::{Answer, Op, OpId};
@@ -15,6 +15,7 @@ pub enum EntryPart {
     Kind,
     Register,
     Value,
+    Expected,
 }
 
 /// What the id of an operation has.
@@ -74,6 +75,7 @@ pub fn look_at(what: u32) -> Option<Look>
         14 => Look::OfPoint(PointPart::Process),
         15 => Look::OfPoint(PointPart::Number),
         16 => Look::OfPoint(PointPart::Event),
+        17 => Look::OfEntry(EntryPart::Expected),
         _ => return None,
     };
     Some(look)
@@ -90,6 +92,7 @@ pub fn of_entry(part: EntryPart, entry: &Entry) -> u64
         EntryPart::Kind => kind_of(entry),
         EntryPart::Register => register_of(entry),
         EntryPart::Value => value_of(entry),
+        EntryPart::Expected => expected_of(entry),
     }
 }
 
@@ -149,6 +152,7 @@ fn op_kind(op: Op) -> u64
         Op::Read { register: _ } => 0,
         Op::Write { .. } => 1,
         Op::Swap { .. } => 2,
+        Op::CompareAndSwap { .. } => 5,
     }
 }
 
@@ -158,6 +162,7 @@ fn answer_kind(answer: Answer) -> u64
     match answer {
         Answer::Done => 3,
         Answer::Value(_) => 4,
+        Answer::Unequal => 6,
     }
 }
 
@@ -166,12 +171,19 @@ fn register_of(entry: &Entry) -> u64
     ensures { result ≡ register_of_entry entry.now }
 {
     match *entry {
-        Entry::Called { op, .. } => match op {
-            Op::Read { register } | Op::Write { register, .. } | Op::Swap { register, .. } => {
-                u64::from(register)
-            }
-        },
+        Entry::Called { op, .. } => op_register(op),
         Entry::Answered { .. } => 0,
+    }
+}
+
+fn op_register(op: Op) -> u64
+    ensures { result ≡ register_of_op op }
+{
+    match op {
+        Op::Read { register } => u64::from(register),
+        Op::Write { register, .. } => u64::from(register),
+        Op::Swap { register, .. } => u64::from(register),
+        Op::CompareAndSwap { register, .. } => u64::from(register),
     }
 }
 
@@ -192,5 +204,27 @@ fn op_value(op: Op) -> u64
         Op::Read { register: _ } => 0,
         Op::Write { register: _, value } => value,
         Op::Swap { register: _, value } => value,
+        Op::CompareAndSwap { value, .. } => value,
+    }
+}
+
+/// The value that a call expects, 0 of what is no compare-and-swap.
+fn expected_of(entry: &Entry) -> u64
+    ensures { result ≡ expected_of_entry entry.now }
+{
+    match *entry {
+        Entry::Called { op, .. } => op_expected(op),
+        Entry::Answered { .. } => 0,
+    }
+}
+
+fn op_expected(op: Op) -> u64
+    ensures { result ≡ expected_of_op op }
+{
+    match op {
+        Op::Read { .. } => 0,
+        Op::Write { .. } => 0,
+        Op::Swap { .. } => 0,
+        Op::CompareAndSwap { expected, .. } => expected,
     }
 }

@@ -6,10 +6,12 @@ ghost use Rattle.reg_process.specs.declared.steps.Step.TheVariants.{Tick};
 ghost use Rattle.reg_c.specs.declared.processes.HeldProcess.{HeldProcess};
 ghost use Rattle.reg_c.specs.declared.processes.KeptProcess.{KeptProcess};
 ghost use Rattle.reg_c.specs.contracts.processes.HeldProcess.{the_row};
-ghost use Rattle.reg_c.specs.Events.{op_of};
+ghost use Rattle.reg_c.specs.Events.{compare_and_swap_of, op_of};
 ghost use Rattle.reg_c.specs.Processes.{Calls, IsFirstProcess, Made, Takes, TellsFrames, TellsKnown, process_number, process_refusal, state_in};
 
-use crate::processes::{HeldProcess, call, close, frames, known, look, open, take, tick};
+use crate::processes::{
+    HeldProcess, call, close, compare_and_swap, frames, known, look, open, take, tick,
+};
 use crate::unboxed::Unboxed;
 use std::alloc::Global;
 
@@ -60,6 +62,26 @@ pub unsafe extern "C" fn tellwydar_process_call(
     ensures* { ∃ₛ (λ (after : HeldProcess). sem 𝓛 (lies_at the_row full_share handle after) ∗ ⌜ Calls (op_of kind register value) held after result ⌝) }
 {
     call(&mut *(handle as *mut HeldProcess), kind, register, value)
+}
+
+/// Calls the compare-and-swap that these numbers say, at the process behind the handle.
+#[unsafe(no_mangle)]
+pub unsafe extern "C" fn tellwydar_process_compare_and_swap(
+    handle: *mut u8,
+    register: u32,
+    expected: u64,
+    value: u64,
+) -> u32
+    ghost held: { HeldProcess }
+    requires* { sem 𝓛 (lies_at the_row full_share handle held) }
+    ensures* { ∃ₛ (λ (after : HeldProcess). sem 𝓛 (lies_at the_row full_share handle after) ∗ ⌜ Calls (compare_and_swap_of register expected value) held after result ⌝) }
+{
+    compare_and_swap(
+        &mut *(handle as *mut HeldProcess),
+        register,
+        expected,
+        value,
+    )
 }
 
 /// Has the process behind the handle take the frame of `from` that the bytes spell. Where they spell none, nothing

@@ -6,13 +6,14 @@ ghost use Rattle.reg_process.specs.Process.{peer_at};
 ghost use Rattle.reg_process.specs.declared.faults.ProcessFault.{ProcessFault};
 ghost use Rattle.reg_process.specs.declared.steps.Step.TheVariants.{Tick};
 ghost use Rattle.reg_c.specs.declared.processes.KeptProcess.{KeptProcess};
-ghost use Rattle.reg_c.specs.Events.{no_frame, op_of, refusal_code};
+ghost use Rattle.reg_c.specs.Events.{compare_and_swap_of, no_frame, op_of, refusal_code};
 ghost use Rattle.reg_c.specs.Processes.{AllFit, Calls, IsFirstProcess, IsUnspelled, Made, Makes, MakesIn, Takes, TellsFrames, TellsKnown, all_bytes, process_at_first, process_looked, process_number, process_refusal, put_bytes, running_code, state_in, state_part, unmade_process, with_room};
 
+use crate::events;
 use crate::events::{code_of_refusal, code_of_reply, operation, value_of_answer};
 use crate::parts::{ProcessLook, StatePart, of_known, peer_look, process_look};
 use crate::unboxed::Unboxed;
-use reg_base::Shape;
+use reg_base::{Op, Shape};
 use reg_commands::fill;
 use reg_frames::{FrameFault, decode, encode};
 use reg_front::{FrontEnd, Linear, LocalRead, LocalWrite};
@@ -157,14 +158,28 @@ fn step(held: &mut HeldProcess, step: &Step) -> u32
     given.code
 }
 
+/// Calls the operation, if there is one.
+fn call_op(held: &mut HeldProcess, op: Option<Op>) -> u32
+    ensures { Calls op held.old held.new result }
+{
+    match op {
+        Some(op) => step(held, &Step::Call { op }),
+        None => NO_OPERATION,
+    }
+}
+
 /// Calls the operation that these numbers say.
 pub fn call(held: &mut HeldProcess, kind: u32, register: u32, value: u64) -> u32
     ensures { Calls (op_of kind register value) held.old held.new result }
 {
-    match operation(kind, register, value) {
-        Some(op) => step(held, &Step::Call { op }),
-        None => NO_OPERATION,
-    }
+    call_op(held, operation(kind, register, value))
+}
+
+/// Calls the compare-and-swap that these numbers say.
+pub fn compare_and_swap(held: &mut HeldProcess, register: u32, expected: u64, value: u64) -> u32
+    ensures { Calls (compare_and_swap_of register expected value) held.old held.new result }
+{
+    call_op(held, events::compare_and_swap(register, expected, value))
 }
 
 /// Takes the frame of `from` that the bytes spell. Where they spell none, nothing changes.

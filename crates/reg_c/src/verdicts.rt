@@ -3,7 +3,7 @@ ghost use Rattle.std.specs.Prelude.{◌≡◌, IfOk, map};
 ghost use Rattle.reg_c.specs.Rows.{id_of, point_of};
 ghost use Rattle.reg_c.specs.Verdicts.{IsSerialVerdict, IsPointVerdict, fault_code, fault_place, unread_code, unread_place, verdict_code, verdict_place};
 
-use crate::reading::{Unread, read};
+use crate::reading::{Size, Unread, read};
 use crate::rows::{EntryRow, IdRow, PointRow, id, point};
 use reg_base::OpId;
 use reg_checkers::{CheckFault, Point, check_points, check_serial};
@@ -37,14 +37,14 @@ fn points_of(alloc: Global, rows: &[PointRow]) -> Result<Vec<Point>, AllocError>
 /// Judges an order of a history.
 pub fn judge_serial(
     alloc: Global,
-    processes: u32,
-    registers: u32,
+    size: Size,
     entries: &[EntryRow],
+    expected: &[u64],
     ids: &[IdRow],
 ) -> Verdict
-    ensures { IsSerialVerdict processes registers entries.now ids.now result }
+    ensures { IsSerialVerdict size.processes size.registers entries.now expected.now ids.now result }
 {
-    let history = match read(alloc, processes, registers, entries) {
+    let history = match read(alloc, size, entries, expected) {
         Ok(history) => history,
         Err(why) => return Verdict::NoHistory { why },
     };
@@ -63,14 +63,14 @@ pub fn judge_serial(
 /// Judges points of a history.
 pub fn judge_points(
     alloc: Global,
-    processes: u32,
-    registers: u32,
+    size: Size,
     entries: &[EntryRow],
+    expected: &[u64],
     points: &[PointRow],
 ) -> Verdict
-    ensures { IsPointVerdict processes registers entries.now points.now result }
+    ensures { IsPointVerdict size.processes size.registers entries.now expected.now points.now result }
 {
-    let history = match read(alloc, processes, registers, entries) {
+    let history = match read(alloc, size, entries, expected) {
         Ok(history) => history,
         Err(why) => return Verdict::NoHistory { why },
     };

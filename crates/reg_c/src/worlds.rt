@@ -6,10 +6,10 @@ ghost use Rattle.reg_world.specs.declared.faults.WorldFault.{WorldFault};
 ghost use Rattle.reg_c.specs.declared.holding.Held.{Held};
 ghost use Rattle.reg_c.specs.declared.holding.Kept.{Kept};
 ghost use Rattle.reg_c.specs.contracts.holding.Held.{the_row};
-ghost use Rattle.reg_c.specs.Events.{event_of, fault_code};
+ghost use Rattle.reg_c.specs.Events.{compare_and_swap_event, event_of, fault_code};
 ghost use Rattle.reg_c.specs.Worlds.{HasOrders, IsOpened, Steps, number_of, refusal_of};
 
-use crate::holding::{Held, arrange, close, look, open, step};
+use crate::holding::{Held, arrange, close, compare_and_swap, look, open, step};
 use crate::unboxed::Unboxed;
 use std::alloc::Global;
 
@@ -65,6 +65,28 @@ pub unsafe extern "C" fn tellwydar_world_step(
         process,
         number,
         from,
+        value,
+    )
+}
+
+/// Calls the compare-and-swap that these numbers say, in the world behind the handle.
+#[unsafe(no_mangle)]
+pub unsafe extern "C" fn tellwydar_world_compare_and_swap(
+    handle: *mut u8,
+    process: u8,
+    register: u32,
+    expected: u64,
+    value: u64,
+) -> u32
+    ghost held: { Held }
+    requires* { sem 𝓛 (lies_at the_row full_share handle held) }
+    ensures* { ∃ₛ (λ (after : Held). sem 𝓛 (lies_at the_row full_share handle after) ∗ ⌜ Steps (compare_and_swap_event process register expected value) held after result ⌝) }
+{
+    compare_and_swap(
+        &mut *(handle as *mut Held),
+        process,
+        register,
+        expected,
         value,
     )
 }

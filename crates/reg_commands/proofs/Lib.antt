@@ -7,3 +7,4 @@ pub mod WithinReport
 pub mod AtEvents
 pub mod Parts
 pub mod Named
+pub mod Sending

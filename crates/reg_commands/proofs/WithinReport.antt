@@ -20,7 +20,7 @@ use Rattle.reg_history.specs.declared.report_faults.ReportFault.{ReportFault}
 use Rattle.reg_history.specs.declared.report_faults.ReportFault.TheVariants.{Front as FrontFault, Names as NamesFault, Range as RangeFault}
 use Rattle.reg_history.specs.declared.report_limits.TheConstants.{MOST_ENTRIES, MOST_IDS}
 use Rattle.reg_checkers.specs.History.{IsAt, IsCalled, WasCalled, MayCall, MayAnswer, IsHistory, event_of}
-use Rattle.reg_history.specs.declared.versions.Version.TheVariants.{Two}
+use Rattle.reg_history.specs.declared.versions.Version.TheVariants.{Three}
 use Rattle.reg_history.specs.IdLines.{IdFits}
 use Rattle.reg_checkers.specs.Orders.{IsDistinct, IsSelection, IsSerial}
 use Rattle.reg_checkers.specs.Table.{MayStand}
@@ -111,7 +111,7 @@ module _ (n registers : ℕ) (es : List Entry) (good : IsHistory n registers es)
   stands_called id (inl (at, answer, answered)) = answered_was_called n registers es good id at answer answered
   stands_called id (inr (at, op, called, update)) = (at, op, called)
 
-  id_fits : n ≤ MOST_PROCESSES → (id : OpId) → WasCalled es id → IdFits Two id
+  id_fits : n ≤ MOST_PROCESSES → (id : OpId) → WasCalled es id → IdFits Three id
   id_fits few id (at, op, (k, here)) =
       let may : MayCall n registers (take k es) at id op = good k (Called at id op) here in
       let process : id.process < n = may.process in
@@ -175,12 +175,12 @@ module _ (n registers : ℕ) (es : List Entry) (good : IsHistory n registers es)
   few_selected : (ids : List OpId) → IsSelection es ids → length ids ≤ MOST_IDS
   few_selected ids selection = few_called ids selection.distinct (λ k id here. stands_called id (selection.known k id here))
 
-  few_points : n ≤ MOST_PROCESSES → (points : Option (List Point)) → PointsStand registers es points → PointsFit Two points
+  few_points : n ≤ MOST_PROCESSES → (points : Option (List Point)) → PointsStand registers es points → PointsFit Three points
   few_points few None stand = tt
   few_points few (Some ps) (order, events) =
       (λ k p here. (id_fits few p.id (stands_called p.id (order.selection.known k p.id (IsAt-map (λ (q : Point). q.id) ps k p here))), events k p here), subst (λ (m : ℕ). m ≤ MOST_IDS) (length-map ps (λ (q : Point). q.id)) (few_selected (map (λ (q : Point). q.id) ps) order.selection))
 
-  pub in_range : n ≤ MOST_PROCESSES → (ids : List OpId) (points : Option (List Point)) → IsSerial registers es ids → PointsStand registers es points → InRange Two es ids points
+  pub in_range : n ≤ MOST_PROCESSES → (ids : List OpId) (points : Option (List Point)) → IsSerial registers es ids → PointsStand registers es points → InRange Three es ids points
   in_range few ids points serial stand = record {
     few_entries = few_entries;
     ids = λ k id here. id_fits few id (stands_called id (serial.selection.known k id here));
@@ -193,7 +193,7 @@ front_fits Linear = refl
 front_fits LocalRead = refl
 front_fits LocalWrite = refl
 
-no_fault : (r : Contents) (fault : ReportFault) → is_front r.front ≡ true → r.shape.registers ≡ length r.names → InRange Two r.entries r.order r.points → IsReportFault r fault → ⊥
+no_fault : (r : Contents) (fault : ReportFault) → is_front r.front ≡ true → r.shape.registers ≡ length r.names → InRange Three r.entries r.order r.points → IsReportFault r fault → ⊥
 no_fault r FrontFault front names range refused = refused front
 no_fault r NamesFault front names range refused = refused.1 names
 no_fault r RangeFault front names range refused = refused.2 range

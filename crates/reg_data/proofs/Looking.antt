@@ -27,12 +27,6 @@ pub all_told : (start : Op → ℕ → Start) (w : Made) (looks all : List Look)
 all_told start w looks all events i ge so =
     sym (append-nil looks) ∙ (ap (λ (es : List Event). looks ++ looks_from start w es) (sym (drop_all i events ge)) ∙ so)
 
--- the value of a register that may be none
-pub value_is : (values : List ℕ) (r : ℕ) → unwrap_or (slice_get values r) 0 ≡ slice_index values r
-value_is [] r = refl
-value_is (x ∷ xs) zero = refl
-value_is (x ∷ xs) (suc r) = value_is xs r
-
 -- one more register that is not 0
 pub kept_more : (values : List ℕ) (r value : ℕ) → value ≡ slice_index values r → (value ≡ 0 → ⊥) → kept_of values (r + 1) ≡ kept_of values r ++ record { register = r; value = value } ∷ []
 kept_more values r value is differs =

@@ -12,9 +12,9 @@ use Rattle.std.proofs.lemmas.Grind.{flat_map-append}
 use Rattle.std.proofs.lemmas.List.Elements.{All-append, All-nil}
 use Rattle.reg_base.specs.declared.limits.TheConstants.{LONGEST_NAME}
 use Rattle.reg_base.specs.declared.memory.Answer.{Answer}
-use Rattle.reg_base.specs.declared.memory.Answer.TheVariants.{Done, Value}
+use Rattle.reg_base.specs.declared.memory.Answer.TheVariants.{Done, Value, Unequal}
 use Rattle.reg_base.specs.declared.memory.Op.{Op}
-use Rattle.reg_base.specs.declared.memory.Op.TheVariants.{Read, Write, Swap}
+use Rattle.reg_base.specs.declared.memory.Op.TheVariants.{Read, Write, Swap, CompareAndSwap}
 use Rattle.reg_base.specs.declared.stamps.Delivered.{Delivered}
 use Rattle.reg_base.specs.Names.{is_name, names_fault}
 use Rattle.reg_frames.specs.declared.bodies.Body.{Body}
@@ -44,7 +44,7 @@ use Rattle.reg_data.specs.Parts.{bar_part, body_part, end_part, frame_part, kept
 use Rattle.reg_data.specs.Noted.{Noted, noted}
 use Rattle.reg_data.specs.Plain.{IsPiece, IsPlainText, is_plain}
 use Rattle.reg_data.specs.Strings.{char_text, escape_of, is_bare, string_text, unit_text}
-use Rattle.reg_data.specs.Rows.{arrow_row, cast_row, first_row, id_row, point_row, read_row}
+use Rattle.reg_data.specs.Rows.{arrow_row, cast_row, delivery_row, first_row, id_row, point_row, read_row}
 
 -- a plain character that is no backslash
 abbrev is_single : ℕ → Bool
@@ -149,6 +149,7 @@ operation : (names : List (List ℕ)) → names_fault names ≡ None → (op : O
 operation names ok (Read r) = lit (codes "read ") refl ⊳ name names ok r
 operation names ok (Write r v) = lit (codes "write ") refl ⊳ (name names ok r ⊳ (lit (32 ∷ []) refl ⊳ number v))
 operation names ok (Swap r v) = lit (codes "swap ") refl ⊳ (name names ok r ⊳ (lit (32 ∷ []) refl ⊳ number v))
+operation names ok (CompareAndSwap r e v) = lit (codes "cas ") refl ⊳ (name names ok r ⊳ (lit (32 ∷ []) refl ⊳ (number e ⊳ (lit (32 ∷ []) refl ⊳ number v))))
 
 event : (names : List (List ℕ)) → names_fault names ≡ None → (e : Event) → IsPlainText (event_text names e)
 event names ok (Call p op) = lit (codes "call ") refl ⊳ (number p ⊳ (lit (32 ∷ []) refl ⊳ operation names ok op))
@@ -158,6 +159,7 @@ event names ok (Tick p) = lit (codes "tick ") refl ⊳ number p
 answer : (a : Answer) → IsPlainText (answer_text a)
 answer Done = lit (codes "done") refl
 answer (Value v) = lit (codes "value ") refl ⊳ number v
+answer Unequal = lit (codes "unequal") refl
 
 front_plain : (f : Front) → IsPlainText (front_name f)
 front_plain Linear = lit (front_name Linear) refl
@@ -270,7 +272,7 @@ module _ (names : List (List ℕ)) (ok : names_fault names ≡ None) where
       ⊳ ((lit (codes ",\"process\":") refl ⊳ number n.fact.process)
       ⊳ (lit (codes ",\"frame\":") refl ⊳ (taken_plain n.fact.frame
       ⊳ ((lit (codes ",\"clock\":") refl ⊳ number n.fact.clock)
-      ⊳ ((lit (codes ",\"delivered\":") refl ⊳ list_plain (cast_row names) n.fact.delivered cast_plain)
+      ⊳ ((lit (codes ",\"delivered\":") refl ⊳ list_plain (delivery_row names) n.fact.delivered (λ d. cast_plain d.cast))
       ⊳ (lit (codes ",\"reply\":") refl ⊳ (reply_plain n.fact.reply
       ⊳ ((lit (codes ",\"sent\":") refl ⊳ list_plain (sent_part names) n.fact.sent sent_plain)
       ⊳ (lit (codes ",\"note\":") refl ⊳ (string_plain n.note ⊳ lit (codes "}") refl)))))))))))

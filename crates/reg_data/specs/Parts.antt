@@ -17,7 +17,7 @@ use Rattle.reg_data.specs.declared.looks.Kept.{Kept}
 use Rattle.reg_data.specs.Json.{list_text, numbers_text, quoted}
 use Rattle.reg_data.specs.Looks.{Look}
 use Rattle.reg_data.specs.Noted.{Noted}
-use Rattle.reg_data.specs.Rows.{cast_row}
+use Rattle.reg_data.specs.Rows.{cast_row, delivery_row}
 use Rattle.reg_data.specs.Strings.{string_text}
 
 -- what a process knows of another: the time of the last body accepted from it, the number of the next one, the first
@@ -76,7 +76,7 @@ moment_part names n =
     ++ ((codes ",\"process\":" ++ decimal n.fact.process)
     ++ (codes ",\"frame\":" ++ (taken_part names n.fact.frame
     ++ ((codes ",\"clock\":" ++ decimal n.fact.clock)
-    ++ ((codes ",\"delivered\":" ++ list_text (cast_row names) n.fact.delivered)
+    ++ ((codes ",\"delivered\":" ++ list_text (delivery_row names) n.fact.delivered)
     ++ (codes ",\"reply\":" ++ (reply_part n.fact.reply
     ++ ((codes ",\"sent\":" ++ list_text (sent_part names) n.fact.sent)
     ++ (codes ",\"note\":" ++ (string_text n.note ++ codes "}")))))))))))

@@ -2,6 +2,7 @@
 use Rattle.std.specs.Prelude.{ℕ, List, [], ◌∷◌}
 use Rattle.reg_base.specs.declared.memory.OpId.{OpId}
 use Rattle.reg_base.specs.declared.stamps.Delivered.{Delivered}
+use Rattle.reg_trace.specs.declared.moments.Delivery.{Delivery}
 use Rattle.reg_trace.specs.declared.figures.Arrow.{Arrow}
 use Rattle.reg_checkers.specs.declared.entries.Point.{Point}
 use Rattle.reg_world.specs.declared.order.CopyRead.{CopyRead}
@@ -11,6 +12,10 @@ use Rattle.reg_data.specs.Json.{numbers_text}
 -- a cast: its stamp
 abbrev pub cast_row : List (List ℕ) → Delivered → List ℕ
 cast_row names c = numbers_text (c.stamp.time ∷ c.stamp.process ∷ [])
+
+-- a cast that was delivered
+abbrev pub delivery_row : List (List ℕ) → Delivery → List ℕ
+delivery_row names d = cast_row names d.cast
 
 -- an arrow: its wire, the frame's place there, the event that put the frame, and the one that takes it
 abbrev pub arrow_row : List (List ℕ) → Arrow → List ℕ

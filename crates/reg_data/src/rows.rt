@@ -1,12 +1,12 @@
 //! The parts of the data that are numbers alone.
-ghost use Rattle.reg_data.specs.Rows.{arrow_row, cast_row, first_row, id_row, point_row, read_row};
+ghost use Rattle.reg_data.specs.Rows.{arrow_row, cast_row, delivery_row, first_row, id_row, point_row, read_row};
 
 use crate::json::{Part, put_numbers};
 use reg_base::{Names, OpId};
 use reg_checkers::Point;
 use reg_process::Delivered;
 use reg_text::Sink;
-use reg_trace::Arrow;
+use reg_trace::{Arrow, Delivery};
 use reg_world::{CopyRead, First};
 use std::alloc::Allocator;
 use std::io::Write;
@@ -16,6 +16,14 @@ impl Part for Delivered {
 
     fn put<A: Allocator + Copy, W: Write>(&self, sink: &mut Sink<'_, W>, _names: &Names<A>) {
         put_numbers(sink, &[self.stamp.time, self.stamp.process as u64]);
+    }
+}
+
+impl Part for Delivery {
+    ghost part = { delivery_row };
+
+    fn put<A: Allocator + Copy, W: Write>(&self, sink: &mut Sink<'_, W>, names: &Names<A>) {
+        self.cast.put(sink, names);
     }
 }
 

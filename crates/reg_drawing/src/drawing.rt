@@ -6,10 +6,10 @@ use crate::layout::{BELOW, LEADING, Label, Layout, NUMBERS, TITLE, TOP};
 use crate::legend::{Legend, ROW, show_head};
 use crate::shapes::{Diamond, Node, Span, Spot, Stub, Way};
 use crate::words::{CastText, IdText, TakeText};
-use reg_base::{Delivered, Names};
+use reg_base::Names;
 use reg_checkers::Point;
 use reg_frames::{Body, Frame};
-use reg_trace::{Arrow, Bar, Moment, Sent, is_taken};
+use reg_trace::{Arrow, Bar, Delivery, Moment, Sent, is_taken};
 use std::alloc::{AllocError, Allocator};
 use std::fmt;
 
@@ -297,16 +297,16 @@ impl<A: Allocator + Copy> Drawing<'_, A> {
         &self,
         f: &mut fmt::Formatter<W>,
         at: Spot,
-        delivered: &[Delivered],
+        delivered: &[Delivery],
     ) -> fmt::Result {
         let mut base = Spot {
             x: at.x.saturating_sub(3),
             y: at.y.saturating_add(BELOW).saturating_sub(4),
         };
-        for cast in delivered {
+        for delivery in delivered {
             let cast = CastText {
                 names: self.names,
-                cast: *cast,
+                cast: delivery.cast,
             };
             writeln!(f, "<text {base}>{cast}</text>")?;
             base.y = base.y.saturating_add(LEADING);

@@ -75,8 +75,11 @@ fn longest<A: Allocator + Copy>(
     moment: &Moment<A>,
 ) -> Result<usize, AllocError> {
     let mut most = 0;
-    for cast in &moment.delivered {
-        let cast = CastText { names, cast: *cast };
+    for delivery in &moment.delivered {
+        let cast = CastText {
+            names,
+            cast: delivery.cast,
+        };
         let text = format!(in alloc; "{cast}")?;
         most = most.max(text.len());
     }

@@ -10,9 +10,17 @@ use Rattle.reg_base.specs.declared.memory.Answer.{Answer}
 use Rattle.reg_checkers.specs.declared.entries.Entry.{Entry}
 use Rattle.reg_checkers.specs.declared.entries.Entry.TheVariants.{Called, Answered}
 use Rattle.reg_judge.specs.declared.acts.Act.{Act}
-use Rattle.reg_judge.specs.Acts.{value_after}
+use Rattle.reg_judge.specs.declared.acts.Ask.{Ask}
+use Rattle.reg_judge.specs.declared.acts.Ask.TheVariants.{Anything, Just, AllBut}
+use Rattle.reg_judge.specs.Acts.{Heeds, Suits, value_after}
 use Rattle.reg_judge.specs.Completing.{Answers, Calls, Completes, Covers, Elsewhere, Ends, IsFree, IsOn, IsUnneeded, Places, Running, put}
 use Rattle.reg_judge.proofs.Puts.{none_some, put_here, put_there}
+
+-- what may come at a value that it doesn't heed, may come at any
+suits_any : (ask : Ask) (v : ℕ) → Suits ask v → ¬ Heeds ask v → (w : ℕ) → Suits ask w
+suits_any Anything v suits not w = tt
+suits_any (Just u) v suits not w = absurd (not (inl (ap (λ (x : ℕ). Some (Some x)) suits)))
+suits_any (AllBut u) v suits not w = absurd (not (inr refl))
 
 module _ (r : ℕ) (act : OpId → Option Act) where
   -- more operations may be placed
@@ -45,19 +53,18 @@ module _ (r : ℕ) (act : OpId → Option Act) where
   -- a value that none needs may be another
   pub any_value : {n : ℕ} {run : Running} {placed : ℕ → ℕ} {v : ℕ} {es : List Entry} → Completes r act n run placed v es → IsUnneeded r act run es v → (w : ℕ) → Completes r act n run placed w es
   any_value Ends none w = Ends
-  any_value {v = v} (Places {n = n} {run = run} {placed = placed} {es = es} p a here on free fits rest) none w = go a.needs refl a.makes refl (λ unneeded. any_value rest unneeded w)
+  any_value {v = v} (Places {n = n} {run = run} {placed = placed} {es = es} p a here on free fits rest) none w = go a.makes refl (λ unneeded. any_value rest unneeded w)
     where
-      go : (needs : Option ℕ) → a.needs ≡ needs → (makes : Option ℕ) → a.makes ≡ makes → (IsUnneeded r act run es (value_after a v) → Completes r act n run (put placed p 1) w es) → Completes r act (suc n) run placed w es
-      go (Some u) is makes made again = absurd (none.running p a here on (is ∙ ap (λ (x : ℕ). Some x) (fits u is)))
-      go None is None made again =
+      go : (makes : Option ℕ) → a.makes ≡ makes → (IsUnneeded r act run es (value_after a v) → Completes r act n run (put placed p 1) w es) → Completes r act (suc n) run placed w es
+      go None made again =
           let same : value_after a v ≡ v = ap (λ (o : Option ℕ). unwrap_or o v) made in
           let other : value_after a w ≡ w = ap (λ (o : Option ℕ). unwrap_or o w) made in
           let from = again (subst (λ (x : ℕ). IsUnneeded r act run es x) (sym same) none) in
-          Places p a here on free (λ u needs. absurd (none_some a.needs u is needs)) (subst (λ (x : ℕ). Completes r act n run (put placed p 1) x es) (sym other) from)
-      go None is (Some u) made again =
+          Places p a here on free (suits_any a.asks v fits (none.running p a here on) w) (subst (λ (x : ℕ). Completes r act n run (put placed p 1) x es) (sym other) from)
+      go (Some u) made again =
           let same : value_after a v ≡ u = ap (λ (o : Option ℕ). unwrap_or o v) made in
           let other : value_after a w ≡ u = ap (λ (o : Option ℕ). unwrap_or o w) made in
-          Places p a here on free (λ x needs. absurd (none_some a.needs x is needs)) (subst (λ (x : ℕ). Completes r act n run (put placed p 1) x es) (same ∙ sym other) rest)
+          Places p a here on free (suits_any a.asks v fits (none.running p a here on) w) (subst (λ (x : ℕ). Completes r act n run (put placed p 1) x es) (same ∙ sym other) rest)
   any_value (Calls {run = run} {v = v} {es = es} at id op idle rest) none w = Calls at id op idle (any_value rest (unneeded_call run es v at id op none) w)
   any_value (Answers {run = run} {v = v} {es = es} at id answer on is rest) none w = Answers at id answer on is (any_value rest (unneeded_answer run es v at id answer none) w)
   any_value (Elsewhere {run = run} {v = v} {es = es} at id answer off rest) none w = Elsewhere at id answer off (any_value rest (unneeded_answer run es v at id answer none) w)

@@ -30,13 +30,13 @@ abbrev pub IsOnRegister : List Entry → ℕ → OpId → Type 0
 IsOnRegister h r id = (at : ℕ) × (op : Op) × IsCalled h id at op × (register_of op ≡ r)
 
 -- The first j operations of the order are placed after k entries: they were called, all that are finished are among
--- them; and this runs, is placed on the register, and is the register's value.
+-- them; and this runs and is placed on the register, but that of the placed ones without an answer some may not be.
 pub record IsCut (h : List Entry) (ids : List OpId) (act : OpId → Option Act) (r k j : ℕ) (run : Running) (placed : ℕ → ℕ) : Type 0 where
   pub low : (i : ℕ) (id : OpId) → IsAt ids i id → i < j → WasCalled (take k h) id
   pub high : (id : OpId) → IsFinished (take k h) id → (i : ℕ) × IsAt ids i id × (i < j)
   pub runs : (id : OpId) → IsOpen h k id → run id.process ≡ act id
   pub idle : (p : ℕ) → Rests h k p → (run p ≡ None) × (placed p ≡ 0)
-  pub yes : (id : OpId) (i : ℕ) → IsOpen h k id → IsAt ids i id → i < j → IsOnRegister h r id → placed id.process ≡ 1
+  pub yes : (id : OpId) (i : ℕ) → IsOpen h k id → IsAt ids i id → i < j → IsOnRegister h r id → IsFinished h id → placed id.process ≡ 1
   pub no : (id : OpId) → IsOpen h k id → ((i : ℕ) → IsAt ids i id → i < j → ¬ IsOnRegister h r id) → placed id.process ≡ 0
 
 module _ (n registers : ℕ) (h : List Entry) (good : IsHistory n registers h) where
@@ -113,9 +113,9 @@ module _ (n registers : ℕ) (h : List Entry) (good : IsHistory n registers h) w
             let apart : p ≢ x.process = λ e. not_before (let fin = finished_less x (rests x (sym e) (t, o, (more (Called t x o) here).new)) in answered_was_called n registers (take k h) (history_front n registers h k good) x fin.0 fin.1 fin.2) in
             (put_there run x.process (act x) p apart ∙ (cut.idle p before).0, (cut.idle p before).1)
             );
-        yes = λ id i open_ at lt on. elim (cases_eq id.process x.process) [
+        yes = λ id i open_ at lt on fin. elim (cases_eq id.process x.process) [
           | inl same ↦ absurd (not_before (subst (WasCalled (take k h)) (open_is id same open_) (cut.low i id at lt)))
-          | inr apart ↦ cut.yes id i (open_less id apart open_) at lt on
+          | inr apart ↦ cut.yes id i (open_less id apart open_) at lt on fin
         ];
         no = λ id open_ none. elim (cases_eq id.process x.process) [
           | inl same ↦ ap placed same ∙ (cut.idle x.process rests_before).1
@@ -160,12 +160,12 @@ module _ (n registers : ℕ) (h : List Entry) (good : IsHistory n registers h) w
               let old : Rests h k p = λ id same was. finished_before id (λ e. apart (sym same ∙ ap (λ (z : OpId). z.process) e)) (rests id same (called_more (Answered t x y) here id was)) in
               (put_there run x.process None p apart ∙ (cut.idle p old).0, others p apart ∙ (cut.idle p old).1)
         ];
-        yes = λ id i open_ at lt on. others id.process (open_apart id open_) ∙ cut.yes id i (open_old id open_) at lt on;
+        yes = λ id i open_ at lt on fin. others id.process (open_apart id open_) ∙ cut.yes id i (open_old id open_) at lt on fin;
         no = λ id open_ none. others id.process (open_apart id open_) ∙ cut.no id (open_old id open_) none;
       }
 
     -- one operation of the order more
-    module _ (distinct : IsDistinct ids) (y : OpId) (there : IsAt ids j y) (running : IsOpen h k y) (next : ℕ → ℕ) (on : IsOnRegister h r y → next y.process ≡ 1) (off : ¬ IsOnRegister h r y → next y.process ≡ placed y.process) (others : (q : ℕ) → q ≢ y.process → next q ≡ placed q) where
+    module _ (distinct : IsDistinct ids) (y : OpId) (there : IsAt ids j y) (running : IsOpen h k y) (next : ℕ → ℕ) (on : IsOnRegister h r y → IsFinished h y → next y.process ≡ 1) (off : ¬ IsOnRegister h r y → next y.process ≡ placed y.process) (others : (q : ℕ) → q ≢ y.process → next q ≡ placed q) where
       is_next : (id : OpId) → IsOpen h k id → id.process ≡ y.process → id ≡ y
       is_next id open_ same = one_open k id y open_ running same
 
@@ -178,9 +178,9 @@ module _ (n registers : ℕ) (h : List Entry) (good : IsHistory n registers h) w
         high = λ id fin. (let was = cut.high id fin in let lt = was.2 in (was.0, was.1, omega (arith, lt)));
         runs = cut.runs;
         idle = λ p rests. ((cut.idle p rests).0, others p (λ e. running.1 (rests y (sym e) running.0)) ∙ (cut.idle p rests).1);
-        yes = λ id i open_ at lt is. elim (cases_eq id.process y.process) [
-          | inl same ↦ let e = is_next id open_ same in ap next same ∙ on (subst (IsOnRegister h r) e is)
-          | inr apart ↦ others id.process apart ∙ cut.yes id i open_ at (let not : i ≢ j = λ e. apart (ap (λ (z : OpId). z.process) (same_at ids j id y (subst (λ (l : ℕ). IsAt ids l id) e at) there)) in omega (arith, lt, not)) is
+        yes = λ id i open_ at lt is fin. elim (cases_eq id.process y.process) [
+          | inl same ↦ let e = is_next id open_ same in ap next same ∙ on (subst (IsOnRegister h r) e is) (subst (IsFinished h) e fin)
+          | inr apart ↦ others id.process apart ∙ cut.yes id i open_ at (let not : i ≢ j = λ e. apart (ap (λ (z : OpId). z.process) (same_at ids j id y (subst (λ (l : ℕ). IsAt ids l id) e at) there)) in omega (arith, lt, not)) is fin
         ];
         no = λ id open_ none. elim (cases_eq id.process y.process) [
           | inl same ↦

@@ -12,7 +12,7 @@ use Rattle.reg_checkers.specs.History.{IsAt}
 use Rattle.reg_judge.specs.declared.acts.Act.{Act}
 use Rattle.reg_judge.specs.declared.stages.Mover.{Mover}
 use Rattle.reg_judge.specs.declared.stages.Stage.{Stage}
-use Rattle.reg_judge.specs.Acts.{value_after}
+use Rattle.reg_judge.specs.Acts.{Fits, value_after}
 use Rattle.reg_judge.specs.Completing.{Answers, Calls, Completes, Covers, Elsewhere, IsFree, IsOn, Places, Running, put}
 use Rattle.reg_judge.specs.Stages.{AreDone, AreMovers, HasHarmless, IsAlive, IsDone, Keeps, Reads, Settles}
 use Rattle.reg_judge.proofs.Puts.{none_some, put_here, put_there}
@@ -104,7 +104,7 @@ module _ (r : ℕ) (act : OpId → Option Act) where
     answerable (suc n) j s here (inl none) (inr all) (Places p a runs on free fits more) =
         let there = are.all p a runs on in
         let m : Mover = there.1 in
-        let after = all there.0 m there.2 ((ap (bit_at s.placed) there.3 ∙ free), λ u needs. fits u (sym (ap (λ (b : Act). b.needs) there.4) ∙ needs)) in
+        let after = all there.0 m there.2 ((ap (bit_at s.placed) there.3 ∙ free), subst (λ (b : Act). Fits b s.value) (sym there.4) fits) in
         let u : Stage = after.1 in
         let settles : Settles movers (put (bit_at s.placed) p 1) u.placed = subst (λ (q : ℕ). Settles movers (put (bit_at s.placed) q 1) u.placed) there.3 after.3.1 in
         let value : u.value ≡ value_after a s.value = after.3.0 ∙ ap (λ (b : Act). value_after b s.value) there.4 in

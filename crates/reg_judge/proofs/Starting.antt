@@ -1,7 +1,6 @@
 -- A history that has a point order can be gone through, for each register.
 use Rattle.std.proofs.Common.{◌≡◌, ◌≢◌, ◌⊎◌, inl, inr, ℕ, zero, suc, ◌+◌, ◌-◌, ◌<◌, ◌≤◌, true, List, [], ◌∷◌, map, Option, Some, None, MatchOption, take, drop, length, replicate, refl, ap, sym, ◌∙◌, subst, arith}
 use Rattle.std.specs.Prelude.{slice_index}
-use Rattle.std.specs.Option.{unwrap_or}
 use Rattle.std.proofs.Math.Seq.{drop-length}
 use Rattle.std.proofs.lemmas.Bool.{cases_eq, cases_lt, cases_order}
 use Rattle.std.proofs.lemmas.List.{get_or-replicate, length-replicate}
@@ -9,7 +8,7 @@ use Rattle.std.proofs.lemmas.Option.{same_Some}
 use Rattle.reg_base.specs.declared.memory.OpId.{OpId}
 use Rattle.reg_base.specs.declared.memory.Op.{Op}
 use Rattle.reg_base.specs.declared.memory.Answer.{Answer}
-use Rattle.reg_base.specs.Memory.{after, memory, register_of, updates}
+use Rattle.reg_base.specs.Memory.{after, answer_of, memory, register_of, updates}
 use Rattle.reg_checkers.specs.declared.entries.Entry.{Entry}
 use Rattle.reg_checkers.specs.declared.entries.Entry.TheVariants.{Called, Answered}
 use Rattle.reg_checkers.specs.declared.entries.Point.{Point}
@@ -27,7 +26,7 @@ use Rattle.reg_judge.specs.Completing.{Answers, Calls, Completes, Elsewhere, End
 use Rattle.reg_judge.proofs.Covering.{longer}
 use Rattle.reg_judge.proofs.Cuts.{IsCut, IsOnRegister, IsOpen, cut_answer, cut_call, cut_place}
 use Rattle.reg_judge.proofs.Puts.{put_here, put_there}
-use Rattle.reg_judge.proofs.Registers.{IsActing, acts_answered, acts_update, drop_at, memory_length, memory_next, needs_on, value_off, value_on}
+use Rattle.reg_judge.proofs.Registers.{Goes, IsActing, act_goes, acts_answered, acts_update, drop_at, memory_length, memory_next, value_off}
 
 -- each operation that was called asks and leaves what its fact says
 abbrev pub AreKnown : List Entry → (OpId → Option Act) → Type 0
@@ -115,13 +114,20 @@ module _ (n registers : ℕ) (h : List Entry) (good : IsHistory n registers h) (
     has_room : (j : ℕ) → r < length (memory registers (take j order.legal.ops))
     has_room j = (let a = memory_length (take j order.legal.ops) (replicate registers 0) in let b = length-replicate {A = ℕ} registers 0 in omega (arith, a, b, fits))
 
-    value_next_on : (j : ℕ) (y : OpId) → IsAt ids j y → (m : IsMoving h act y) → register_of m.fact.op ≡ r → value_after m.moves (value_at j) ≡ value_at (suc j)
-    unfolding value_at
-    value_next_on j y next m on =
+    next_on : (j : ℕ) (y : OpId) → IsAt ids j y → (m : IsMoving h act y) → register_of m.fact.op ≡ r → Goes m.moves.asks m.moves.makes (value_at j) (value_at (suc j)) ⊎ ((¬ IsFinished h y) × (value_at j ≡ value_at (suc j)))
+    unfolding value_at ids
+    next_on j y next m on =
         let o = op_at j y next m in
         let mem = memory registers (take j order.legal.ops) in
         let step : memory registers (take (suc j) order.legal.ops) ≡ after m.fact.op mem = memory_next (replicate registers 0) order.legal.ops j o.0 o.1 ∙ ap (λ (p : Op). after p mem) o.2 in
-        ap (λ (x : Option ℕ). unwrap_or x (slice_index mem r)) m.acts.makes ∙ sym (value_on m.fact.op mem r on (has_room j)) ∙ ap (λ (l : List ℕ). slice_index l r) (sym step)
+        let told : (g : Given) → m.fact.answered ≡ Some g → g.answer ≡ answer_of m.fact.op mem = λ g e. (
+        let given : IsAnswered h y g.at g.answer = subst (λ (x : Option Given). MatchOption x (¬ IsFinished h y) (λ r. IsAnswered h y r.at r.answer)) e m.of.answered in
+        order.legal.right j y o.0 g.at g.answer next o.1 given ∙ ap (λ (p : Op). answer_of p mem) o.2
+        ) in
+        elim (act_goes m.fact.op m.fact.answered m.moves m.acts mem r on (has_room j) told) [
+          | inl goes ↦ inl (record { suits = goes.suits; leaves = goes.leaves ∙ ap (λ (l : List ℕ). slice_index l r) (sym step) })
+          | inr (none, same) ↦ inr (subst (λ (x : Option Given). MatchOption x (¬ IsFinished h y) (λ r. IsAnswered h y r.at r.answer)) none m.of.answered, same ∙ ap (λ (l : List ℕ). slice_index l r) (sym step))
+        ]
 
     value_next_off : (j : ℕ) (y : OpId) → IsAt ids j y → (m : IsMoving h act y) → register_of m.fact.op ≢ r → value_at j ≡ value_at (suc j)
     unfolding value_at
@@ -130,15 +136,6 @@ module _ (n registers : ℕ) (h : List Entry) (good : IsHistory n registers h) (
         let mem = memory registers (take j order.legal.ops) in
         let step : memory registers (take (suc j) order.legal.ops) ≡ after m.fact.op mem = memory_next (replicate registers 0) order.legal.ops j o.0 o.1 ∙ ap (λ (p : Op). after p mem) o.2 in
         sym (value_off m.fact.op mem r off) ∙ ap (λ (l : List ℕ). slice_index l r) (sym step)
-
-    fits_at : (j : ℕ) (y : OpId) → IsAt ids j y → (m : IsMoving h act y) → register_of m.fact.op ≡ r → Fits m.moves (value_at j)
-    unfolding value_at ids
-    fits_at j y next m on u needed =
-        let o = op_at j y next m in
-        let g = m.acts.needs u needed in
-        let given : IsAnswered h y g.0.at g.0.answer = subst (λ (x : Option Given). MatchOption x (¬ IsFinished h y) (λ r. IsAnswered h y r.at r.answer)) g.1 m.of.answered in
-        let right = order.legal.right j y o.0 g.0.at g.0.answer next o.1 given in
-        needs_on o.0 (memory registers (take j order.legal.ops)) r u g.0.answer (ap register_of o.2 ∙ on) right g.2
 
     on_register : (y : OpId) (m : IsMoving h act y) → register_of m.fact.op ≡ r → IsOnRegister h r y
     on_register y m on = (m.fact.called, m.fact.op, m.of.called, on)
@@ -172,7 +169,7 @@ module _ (n registers : ℕ) (h : List Entry) (good : IsHistory n registers h) (
           before_on : register_of (moves).fact.op ≡ r → Completes r act (length ids - j) run placed v (Answered t x answer ∷ drop (suc k) h)
           before_on on =
               let is : IsOn r run x.process = ((moves).moves, cut.runs x runs ∙ (moves).is, (moves).acts.register ∙ on) in
-              let one : placed x.process ≡ 1 = cut.yes x spot runs there lt (on_register x moves on) in
+              let one : placed x.process ≡ 1 = cut.yes x spot runs there lt (on_register x moves on) (t, answer, (k, here)) in
               let next = cut_answer n registers h good ids act r k j run placed cut t x answer here runs spot there lt (put placed x.process 0) (put_here placed x.process 0 x.process refl) (λ q apart. put_there placed x.process 0 q apart) in
               Answers t x answer is one (again (suc k) j (put run x.process None) (put placed x.process 0) v inside j_le (omega (arith, enough, inside)) next value)
 
@@ -215,29 +212,41 @@ module _ (n registers : ℕ) (h : List Entry) (good : IsHistory n registers h) (
           one_less : suc (length ids - suc j) ≡ length ids - j
           one_less = let lt = few in omega (arith, lt)
 
-          behind_on : register_of (m).fact.op ≡ r → Completes r act (length ids - j) run placed v (drop k h)
+          behind_on : register_of (m).fact.op ≡ r → Goes (m).moves.asks (m).moves.makes (value_at j) (value_at (suc j)) → Completes r act (length ids - j) run placed v (drop k h)
           unfolding ids
-          behind_on on =
+          behind_on on goes =
               let a = (m).moves in
-              let fits_here : Fits a v = subst (λ (w : ℕ). Fits a w) (sym value) (fits_at j y there_y m on) in
+              let fits_here : Fits a v = subst (λ (w : ℕ). Fits a w) (sym value) goes.suits in
               let none : placed y.process ≡ 0 = cut.no y running (λ i at lt. absurd (not_yet i at lt)) in
-              let next = cut_place n registers h good ids act r k j run placed cut (order.selection.distinct) y there_y running (put placed y.process 1) (λ is. put_here placed y.process 1 y.process refl) (λ not. absurd (not (on_register y m on))) (λ q apart. put_there placed y.process 1 q apart) in
+              let next = cut_place n registers h good ids act r k j run placed cut (order.selection.distinct) y there_y running (put placed y.process 1) (λ is fin. put_here placed y.process 1 y.process refl) (λ not. absurd (not (on_register y m on))) (λ q apart. put_there placed y.process 1 q apart) in
               let lt = few in
-              let later = again k (suc j) run (put placed y.process 1) (value_after a v) (omega (arith, inside)) (omega (arith, lt)) (omega (arith, enough, inside, lt)) next (ap (value_after a) value ∙ value_next_on j y there_y m on) in
+              let later = again k (suc j) run (put placed y.process 1) (value_after a v) (omega (arith, inside)) (omega (arith, lt)) (omega (arith, enough, inside, lt)) next (ap (value_after a) value ∙ goes.leaves) in
               subst (λ (i : ℕ). Completes r act i run placed v (drop k h)) one_less (Places y.process a (cut.runs y running ∙ (m).is) ((m).acts.register ∙ on) none fits_here later)
+
+          -- what has no answer, and leaves all as it is, isn't placed
+          behind_idle : ¬ IsFinished h y → value_at j ≡ value_at (suc j) → Completes r act (length ids - j) run placed v (drop k h)
+          unfolding ids
+          behind_idle open_ same =
+              let next = cut_place n registers h good ids act r k j run placed cut (order.selection.distinct) y there_y running placed (λ is fin. absurd (open_ fin)) (λ not. refl) (λ q apart. refl) in
+              let lt = few in
+              let later = again k (suc j) run placed v (omega (arith, inside)) (omega (arith, lt)) (omega (arith, enough, inside, lt)) next (value ∙ same) in
+              subst (λ (i : ℕ). Completes r act i run placed v (drop k h)) one_less (longer r act later)
 
           behind_off : register_of (m).fact.op ≢ r → Completes r act (length ids - j) run placed v (drop k h)
           unfolding ids
           behind_off off =
               let none : placed y.process ≡ 0 = cut.no y running (λ i at lt. absurd (not_yet i at lt)) in
-              let next = cut_place n registers h good ids act r k j run placed cut (order.selection.distinct) y there_y running placed (λ is. absurd (off_register y m off is)) (λ not. refl) (λ q apart. refl) in
+              let next = cut_place n registers h good ids act r k j run placed cut (order.selection.distinct) y there_y running placed (λ is fin. absurd (off_register y m off is)) (λ not. refl) (λ q apart. refl) in
               let lt = few in
               let later = again k (suc j) run placed v (omega (arith, inside)) (omega (arith, lt)) (omega (arith, enough, inside, lt)) next (value ∙ value_next_off j y there_y m off) in
               subst (λ (i : ℕ). Completes r act i run placed v (drop k h)) one_less (longer r act later)
 
           answered_behind : Completes r act (length ids - j) run placed v (drop k h)
           answered_behind = elim (cases_eq (register_of (m).fact.op) r) [
-            | inl on ↦ behind_on on
+            | inl on ↦ elim (next_on j y there_y m on) [
+              | inl goes ↦ behind_on on goes
+              | inr (open_, same) ↦ behind_idle open_ same
+            ]
             | inr off ↦ behind_off off
           ]
 

@@ -2,16 +2,17 @@
 use Rattle.std.proofs.Common.{◌≡◌, ◌≢◌, ◌⊎◌, inl, inr, ℕ, zero, suc, ◌+◌, ◌<◌, ◌≤◌, true, List, [], ◌∷◌, Option, Some, None, MatchOption, Vec, take, drop, length, set, slice_get, refl, ap, sym, ◌∙◌, subst, arith}
 use Rattle.std.specs.Prelude.{IfSome, false, is_some, option_and_then, option_map, vec_len, ◌==◌}
 use Rattle.std.specs.Int.{bit_at}
-use Rattle.std.specs.BTreeMap.{BTreeMap}
 use Rattle.std.proofs.lemmas.Bool.{cases_eq, eqb-true}
 use Rattle.std.proofs.lemmas.Option.{same_Some}
 use Rattle.reg_base.specs.declared.memory.OpId.{OpId}
 use Rattle.reg_base.specs.declared.memory.Op.{Op}
 use Rattle.reg_base.specs.declared.memory.Answer.{Answer}
+use Rattle.reg_base.specs.declared.memory.Answer.TheVariants.{Done}
 use Rattle.reg_checkers.specs.declared.entries.Entry.{Entry}
 use Rattle.reg_checkers.specs.declared.entries.Entry.TheVariants.{Called, Answered}
 use Rattle.reg_checkers.specs.declared.facts.Fact.{Fact}
 use Rattle.reg_checkers.specs.declared.facts.Given.{Given}
+use Rattle.reg_checkers.specs.Facts.{IsFactOf}
 use Rattle.reg_checkers.specs.History.{IsAt, IsAnswered, IsFinished, MayAnswer}
 use Rattle.reg_checkers.specs.Table.{Rows, cell}
 use Rattle.reg_checkers.proofs.Histories.{called_once}
@@ -20,9 +21,9 @@ use Rattle.reg_judge.specs.declared.acts.Act.{Act}
 use Rattle.reg_judge.specs.declared.calls.Call.{Call}
 use Rattle.reg_judge.specs.declared.stages.Mover.{Mover}
 use Rattle.reg_judge.specs.declared.stages.Stage.{Stage}
-use Rattle.reg_judge.specs.Acts.{act_in, act_of, acting, made_of, needed_of, unanswered}
+use Rattle.reg_judge.specs.Acts.{Heeds, act_in, act_of, acting, asked, made, made_of, unanswered}
 use Rattle.reg_judge.specs.Completing.{Completes, IsFree, IsOn, IsUnneeded, Running, put}
-use Rattle.reg_judge.specs.Searching.{AreAlive, AreMoversOf, AreRead, AreWaiting, IsAnswering, IsCallOf, IsKnown, IsLayerAfter, IsStep, IsWaiting, run_of}
+use Rattle.reg_judge.specs.Searching.{AreAlive, AreMoversOf, AreRead, AreWaiting, IsAnswering, IsCallOf, IsKnown, IsLayerAfter, IsStep, IsUnanswered, IsWaiting, NeedsMap, RunsTo, run_of}
 use Rattle.reg_judge.specs.declared.search.Stepped.{Stepped}
 use Rattle.reg_judge.specs.declared.search.Stepped.TheVariants.{On, Stuck, TooMany}
 use Rattle.reg_base.specs.Memory.{register_of}
@@ -31,15 +32,6 @@ use Rattle.reg_judge.proofs.Covering.{covering}
 use Rattle.reg_judge.proofs.Going.{after_answer, alive_after_answer, alive_after_call, alive_after_other, alive_after_reads, same_placed}
 use Rattle.reg_judge.proofs.Puts.{none_some, put_here, put_there}
 use Rattle.reg_judge.proofs.Registers.{drop_at}
-
--- what an operation that needs a value was answered
-needs_given : (op : Op) (answered : Option Given) (a : Act) (u : ℕ) → acting op answered ≡ Some a → a.needs ≡ Some u → (g : Given) × (answered ≡ Some g)
-needs_given op (Some g) a u is needs = (g, refl)
-needs_given op None a u is needs = absurd (go (made_of op) is)
-  where
-    go : (o : Option ℕ) → unanswered op o ≡ Some a → ⊥
-    go None e = cc
-    go (Some v) e = let none : None ≡ a.needs = ap (λ (b : Act). b.needs) (same_Some (record { register = _; needs = None; makes = Some v }) a e) in none_some a.needs u (sym none) needs
 
 at_drop : {X : Type 0} (xs : List X) (k i : ℕ) (x : X) → IsAt (drop k xs) i x → IsAt xs (k + i) x
 at_drop xs zero i x at = let e : i ≡ zero + i = omega arith in subst (λ (j : ℕ). IsAt xs j x) e at
@@ -74,21 +66,23 @@ run_set running p o lt q = elim (cases_eq q p) [
 same_run : (r : ℕ) (act : OpId → Option Act) (run other : Running) (es : List Entry) (stages : List Stage) → ((q : ℕ) → other q ≡ run q) → IsAlive r act run es stages → IsAlive r act other es stages
 same_run r act run other es stages same (n, j, s, here, completes) = (n, j, s, here, covering r act completes other same (bit_at s.placed) (λ q. inl refl))
 
-module _ {A : Type 0} (n registers : ℕ) (h : List Entry) (rows : Rows A) (needs : BTreeMap (ℕ × ℕ) ℕ) (known : IsKnown n registers h rows needs) where
+module _ {A : Type 0} (n registers : ℕ) (h : List Entry) (rows : Rows A) (needs : NeedsMap) (known : IsKnown n registers h rows needs) where
   act : OpId → Option Act
   act id = act_in rows id
 
-  -- an operation that needs a value is answered
-  answered_of : (x : OpId) (a : Act) (u : ℕ) → act_in rows x ≡ Some a → a.needs ≡ Some u → (j : ℕ) × (at : ℕ) × (answer : Answer) × IsAt h j (Answered at x answer)
-  answered_of x a u is need = go (cell rows x) refl is
+  -- an operation is answered, or has no answer
+  end_of : (x : OpId) (a : Act) → act_in rows x ≡ Some a → ((j : ℕ) × (at : ℕ) × (answer : Answer) × IsAt h j (Answered at x answer)) ⊎ IsUnanswered h x
+  end_of x a is = go (cell rows x) refl is
     where
-      go : (o : Option Fact) → cell rows x ≡ o → option_and_then act_of o ≡ Some a → (j : ℕ) × (at : ℕ) × (answer : Answer) × IsAt h j (Answered at x answer)
+      go : (o : Option Fact) → cell rows x ≡ o → option_and_then act_of o ≡ Some a → ((j : ℕ) × (at : ℕ) × (answer : Answer) × IsAt h j (Answered at x answer)) ⊎ IsUnanswered h x
       go None e h = absurd cc
-      go (Some f) e is =
-          let fact = known.table.facts x f e in
-          let g = needs_given f.op f.answered a u is need in
-          let given : IsAnswered h x g.0.at g.0.answer = subst (λ (o : Option Given). MatchOption o (¬ IsFinished h x) (λ r. IsAnswered h x r.at r.answer)) g.1 fact.answered in
-          (given.0, g.0.at, g.0.answer, given.1)
+      go (Some f) e is = by_answer (known.table.facts x f e) f.answered refl
+        where
+          by_answer : IsFactOf h x f → (o : Option Given) → f.answered ≡ o → ((j : ℕ) × (at : ℕ) × (answer : Answer) × IsAt h j (Answered at x answer)) ⊎ IsUnanswered h x
+          by_answer fact None e = inr ((f.called, f.op, fact.called), subst (λ (o : Option Given). MatchOption o (¬ IsFinished h x) (λ r. IsAnswered h x r.at r.answer)) e fact.answered)
+          by_answer fact (Some g) e =
+              let given : IsAnswered h x g.at g.answer = subst (λ (o : Option Given). MatchOption o (¬ IsFinished h x) (λ r. IsAnswered h x r.at r.answer)) e fact.answered in
+              inl (given.0, g.at, g.answer, given.1)
 
   -- it is answered after its call
   answered_later : (x : OpId) (k t j at : ℕ) (op : Op) (answer : Answer) → IsAt h k (Called t x op) → IsAt h j (Answered at x answer) → k < j
@@ -100,9 +94,16 @@ module _ {A : Type 0} (n registers : ℕ) (h : List Entry) (rows : Rows A) (need
       omega (arith, lt, same)
 
   module _ (k : ℕ) (running : List (Option Call)) (waiting : AreWaiting h (act_in rows) k running) where
+    -- what runs up to this entry or a later one, and isn't answered by this one, runs up to a later one
+    lasts_more : (id : OpId) (e : Entry) → IsAt h k e → ((at : ℕ) (answer : Answer) → e ≡ Answered at id answer → ⊥) → k < length h → (j : ℕ) × (k ≤ j) × RunsTo h id j → k + 1 < length h → (j : ℕ) × (k + 1 ≤ j) × RunsTo h id j
+    lasts_more id e here other inside (j, le, inl (at, answer, told)) more =
+        let not : j ≢ k = λ same. other at answer (same_at h k e (Answered at id answer) here (subst (λ (i : ℕ). IsAt h i (Answered at id answer)) same told)) in
+        (j, omega (arith, le, not), inl (at, answer, told))
+    lasts_more id e here other inside (j, le, inr (none, lt)) more = (k + 1, omega arith, inr (none, more))
+
     -- the operations that run on a register, with what is known of them
-    movers_are : (r : ℕ) (movers : List Mover) → AreMoversOf running r k movers → AreMovers r (act_in rows) (run_of running) (drop k h) movers
-    movers_are r movers are = record { all = all; each = each; free = free }
+    movers_are : k < length h → (r : ℕ) (movers : List Mover) → AreMoversOf running r k movers → AreMovers r (act_in rows) (run_of running) (drop k h) movers
+    movers_are open_ r movers are = record { all = all; each = each; free = free }
       where
         all : (p : ℕ) (a : Act) → run_of running p ≡ Some a → a.register ≡ r → (i : ℕ) × (m : Mover) × IsAt movers i m × (m.id.process ≡ p) × (m.act ≡ a)
         all p a is on =
@@ -120,24 +121,29 @@ module _ {A : Type 0} (n registers : ℕ) (h : List Entry) (rows : Rows A) (need
         free i m at is =
             let c = are.each i m at in
             let f = c.6 is in
-            inr (ap (λ (a : Act). a.needs) c.5 ∙ f.0, λ u makes. unneeded c.0 c.1 c.2 c.3 f.1 u (sym (ap (λ (a : Act). a.makes) c.5) ∙ makes))
+            inr (ap (λ (a : Act). a.asks) c.5 ∙ f.0, λ u makes. unneeded c.0 c.1 c.2 c.3 f.1 u (sym (ap (λ (a : Act). a.makes) c.5) ∙ makes))
           where
             unneeded : (p : ℕ) (c : Call) → IsAt running p (Some c) → c.act.register ≡ r → c.needed_until ≤ k → (u : ℕ) → c.act.makes ≡ Some u → IsUnneeded r (act_in rows) (run_of running) (drop k h) u
             unneeded p c here on le u makes = record {
-              running = λ q b is b_on need. (
+              running = λ q b is b_on heeds. (
                   let d = call_at running q b is in
                   let w = waiting q d.0 d.1 in
-                  let a = w.answered u (ap (λ (x : Act). x.needs) d.2 ∙ need) in
-                  let lt = (waiting p c here).needed a.0 a.1 d.0.id a.2 d.0.act u a.4 w.is (ap (λ (x : Act). x.register) d.2 ∙ b_on ∙ sym on) (ap (λ (x : Act). x.needs) d.2 ∙ need) makes in
-                  let late = a.3 in
+                  let a = w.lasts open_ in
+                  let lt = (waiting p c here).needed a.0 d.0.id d.0.act u a.2 w.is (ap (λ (x : Act). x.register) d.2 ∙ b_on ∙ sym on) (subst (λ (x : Act). Heeds x.asks u) (sym d.2) heeds) makes in
+                  let late = a.1 in
                   omega (arith, lt, late, le)
                   );
-              later = λ i t id op b there is b_on need. (
+              later = λ i t id op b there is b_on heeds. (
                   let called = at_drop h k i (Called t id op) there in
-                  let a = answered_of id b u is need in
-                  let after = answered_later id (k + i) t a.0 a.1 op a.2 called a.3 in
-                  let lt = (waiting p c here).needed a.0 a.1 id a.2 b u a.3 is (b_on ∙ sym on) need makes in
-                  omega (arith, lt, after, le)
+                  elim (end_of id b is) [
+                    | inl (j, at, answer, told) ↦
+                        let after = answered_later id (k + i) t j at op answer called told in
+                        let lt = (waiting p c here).needed j id b u (inl (at, answer, told)) is (b_on ∙ sym on) heeds makes in
+                        omega (arith, lt, after, le)
+                    | inr none ↦
+                        let lt = (waiting p c here).needed (k + i) id b u (inr (none, within h (k + i) (Called t id op) called)) is (b_on ∙ sym on) heeds makes in
+                        omega (arith, lt, le)
+                  ]
                   );
             }
 
@@ -161,12 +167,7 @@ module _ {A : Type 0} (n registers : ℕ) (h : List Entry) (rows : Rows A) (need
             process = w.process;
             is = w.is;
             needed = w.needed;
-            answered = λ u need. (
-                let a = w.answered u need in
-                let le = a.3 in
-                let not : a.0 ≢ k = λ e. (let one : Answered a.1 c.id a.2 ≡ Called t x op = same_at h k (Answered a.1 c.id a.2) (Called t x op) (subst (λ (i : ℕ). IsAt h i (Answered a.1 c.id a.2)) e a.4) entry in cc) in
-                (a.0, a.1, a.2, omega (arith, le, not), a.4)
-                );
+            lasts = λ more. (let now : k < length h = omega (arith, more) in lasts_more c.id (Called t x op) entry (λ at answer e. (let bad : ⊥ = cc in bad)) now (w.lasts now) more);
           })
 
           new : (o : Option Call) → IsCallOf rows needs x o → Some o ≡ Some (Some c) → p ≡ x.process → IsWaiting h (act_in rows) (k + 1) p c
@@ -177,11 +178,12 @@ module _ {A : Type 0} (n registers : ℕ) (h : List Entry) (rows : Rows A) (need
                 process = ap (λ (y : OpId). y.process) call.1 ∙ sym is;
                 is = ap (act_in rows) call.1 ∙ call.0;
                 needed = call.2 h known.needed;
-                answered = λ u need. (
-                    let a = answered_of x d.act u call.0 need in
-                    let after = answered_later x k t a.0 a.1 op a.2 entry a.3 in
-                    (a.0, a.1, a.2, omega (arith, after), subst (λ (y : OpId). IsAt h a.0 (Answered a.1 y a.2)) (sym call.1) a.3)
-                    );
+                lasts = λ more. elim (end_of x d.act call.0) [
+                  | inl (j, at, answer, told) ↦
+                      let after = answered_later x k t j at op answer entry told in
+                      (j, omega (arith, after), inl (at, answer, subst (λ (y : OpId). IsAt h j (Answered at y answer)) (sym call.1) told))
+                  | inr none ↦ (k + 1, omega arith, inr (subst (IsUnanswered h) (sym call.1) none, more))
+                ];
               } in
               subst (λ (y : Call). IsWaiting h (act_in rows) (k + 1) p y) same fresh
 
@@ -213,15 +215,9 @@ module _ {A : Type 0} (n registers : ℕ) (h : List Entry) (rows : Rows A) (need
         process = w.process;
         is = w.is;
         needed = w.needed;
-        answered = λ u need. (
-            let a = w.answered u need in
-            let le = a.3 in
-            let not : a.0 ≢ k = λ e. (
-            let one : Answered a.1 c.id a.2 ≡ Answered t x answer = same_at h k (Answered a.1 c.id a.2) (Answered t x answer) (subst (λ (i : ℕ). IsAt h i (Answered a.1 c.id a.2)) e a.4) entry in
-            let same : c.id ≡ x = cc in
-            apart (sym w.process ∙ ap (λ (y : OpId). y.process) same)
-            ) in
-            (a.0, a.1, a.2, omega (arith, le, not), a.4)
+        lasts = λ more. (
+            let now : k < length h = omega (arith, more) in
+            lasts_more c.id (Answered t x answer) entry (λ at other e. (let same : x ≡ c.id = cc in apart (sym w.process ∙ ap (λ (y : OpId). y.process) (sym same)))) now (w.lasts now) more
             );
       }
 
@@ -265,7 +261,7 @@ module _ {A : Type 0} (n registers : ℕ) (h : List Entry) (rows : Rows A) (need
                 let later = after_answer c.act.register (act_in rows) t x answer completes on_it one in
                 (n, kept.0, y, kept.2, subst (λ (v : ℕ). Completes c.act.register (act_in rows) n (put (run_of running) x.process None) (bit_at y.placed) v (drop (suc k) h)) (sym kept.3) (same_placed c.act.register (act_in rows) later (bit_at y.placed) kept.4))
             go (inr (movers, are, closed)) alive =
-                let known_movers = subst (λ (es : List Entry). AreMovers c.act.register (act_in rows) (run_of running) es movers) entries_are (movers_are c.act.register movers are) in
+                let known_movers = subst (λ (es : List Entry). AreMovers c.act.register (act_in rows) (run_of running) es movers) entries_are (movers_are (within h k (Answered t x answer) entry) c.act.register movers are) in
                 alive_after_answer c.act.register (act_in rows) (run_of running) t x answer (drop (suc k) h) movers known_movers on_it closed.stages closed.done old new closed.each closed.kept alive
 
         pub stuck : {B : Type 0} (layers : List (Vec Stage B)) (layer : Vec Stage B) → IsAt layers c.act.register layer → IsLayerAfter running c.act.register k x.process layer.items [] → ¬ AreAlive (act_in rows) (run_of running) (drop k h) layers
@@ -300,14 +296,14 @@ read_one {B} act x layers i old new a here is on makes reads r layer at = elim (
 ]
 
 acting_register : (op : Op) (answered : Option Given) (a : Act) → acting op answered ≡ Some a → a.register ≡ register_of op
-acting_register op (Some g) a is = ap (λ (b : Act). b.register) (sym (same_Some (record { register = register_of op; needs = needed_of g.answer; makes = made_of op }) a is))
+acting_register op (Some g) a is = ap (λ (b : Act). b.register) (sym (same_Some (record { register = register_of op; asks = asked op g.answer; makes = made op g.answer }) a is))
 acting_register op None a is = go (made_of op) is
   where
     go : (o : Option ℕ) → unanswered op o ≡ Some a → a.register ≡ register_of op
     go None e = absurd cc
-    go (Some v) e = ap (λ (b : Act). b.register) (sym (same_Some (record { register = register_of op; needs = None; makes = Some v }) a e))
+    go (Some v) e = ap (λ (b : Act). b.register) (sym (same_Some (record { register = register_of op; asks = asked op Done; makes = Some v }) a e))
 
-module _ {A : Type 0} (n registers : ℕ) (h : List Entry) (rows : Rows A) (needs : BTreeMap (ℕ × ℕ) ℕ) (known : IsKnown n registers h rows needs) where
+module _ {A : Type 0} (n registers : ℕ) (h : List Entry) (rows : Rows A) (needs : NeedsMap) (known : IsKnown n registers h rows needs) where
   -- what is called is on one of the registers
   pub register_fits : (x : OpId) (a : Act) → act_in rows x ≡ Some a → a.register < registers
   register_fits x a is = go (cell rows x) refl is

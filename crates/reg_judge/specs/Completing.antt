@@ -1,6 +1,6 @@
 -- How a history goes on: the operations of one register take effect one after another, each between its call and its
 -- answer. They carry a proof: no promise speaks of them.
-use Rattle.std.specs.Prelude.{ℕ, suc, ◌≡◌, ◌≢◌, ◌⊎◌, List, [], ◌∷◌, Option, Some, None, cond, nat_eq}
+use Rattle.std.specs.Prelude.{ℕ, suc, ◌≡◌, ◌⊎◌, List, [], ◌∷◌, Option, Some, None, cond, nat_eq}
 use Rattle.reg_base.specs.declared.memory.OpId.{OpId}
 use Rattle.reg_base.specs.declared.memory.Op.{Op}
 use Rattle.reg_base.specs.declared.memory.Answer.{Answer}
@@ -8,7 +8,8 @@ use Rattle.reg_checkers.specs.declared.entries.Entry.{Entry}
 use Rattle.reg_checkers.specs.declared.entries.Entry.TheVariants.{Called, Answered}
 use Rattle.reg_checkers.specs.History.{IsAt}
 use Rattle.reg_judge.specs.declared.acts.Act.{Act}
-use Rattle.reg_judge.specs.Acts.{Fits, value_after}
+use Rattle.reg_judge.specs.declared.acts.Ask.TheVariants.{Anything}
+use Rattle.reg_judge.specs.Acts.{Fits, Heeds, value_after}
 
 -- the function with another value at one place
 abbrev pub put : {X : Type 0} → (ℕ → X) → ℕ → X → ℕ → X
@@ -32,14 +33,14 @@ pub data Completes (r : ℕ) (act : OpId → Option Act) : ℕ → Running → (
   Answers : {n : ℕ} {run : Running} {placed : ℕ → ℕ} {v : ℕ} {es : List Entry} (at : ℕ) (id : OpId) (answer : Answer) → IsOn r run id.process → placed id.process ≡ 1 → Completes r act n (put run id.process None) (put placed id.process 0) v es → Completes r act n run placed v (Answered at id answer ∷ es)
   Elsewhere : {n : ℕ} {run : Running} {placed : ℕ → ℕ} {v : ℕ} {es : List Entry} (at : ℕ) (id : OpId) (answer : Answer) → ¬ IsOn r run id.process → Completes r act n (put run id.process None) placed v es → Completes r act n run placed v (Answered at id answer ∷ es)
 
--- no operation that runs on this register, or is called on it later, needs this value
+-- no operation that runs on this register, or is called on it later, heeds this value
 pub record IsUnneeded (r : ℕ) (act : OpId → Option Act) (run : Running) (es : List Entry) (u : ℕ) : Type 0 where
-  pub running : (p : ℕ) (a : Act) → run p ≡ Some a → a.register ≡ r → a.needs ≢ Some u
-  pub later : (k at : ℕ) (id : OpId) (op : Op) (a : Act) → IsAt es k (Called at id op) → act id ≡ Some a → a.register ≡ r → a.needs ≢ Some u
+  pub running : (p : ℕ) (a : Act) → run p ≡ Some a → a.register ≡ r → ¬ Heeds a.asks u
+  pub later : (k at : ℕ) (id : OpId) (op : Op) (a : Act) → IsAt es k (Called at id op) → act id ≡ Some a → a.register ≡ r → ¬ Heeds a.asks u
 
--- the operation may be placed at any time without harm: it makes nothing, or it needs nothing and makes what none needs
+-- the operation may be placed at any time without harm: it makes nothing, or it asks nothing and makes what none heeds
 abbrev pub IsFree : ℕ → (OpId → Option Act) → Running → List Entry → Act → Type 0
-IsFree r act run es a = (a.makes ≡ None) ⊎ ((a.needs ≡ None) × ((u : ℕ) → a.makes ≡ Some u → IsUnneeded r act run es u))
+IsFree r act run es a = (a.makes ≡ None) ⊎ ((a.asks ≡ Anything) × ((u : ℕ) → a.makes ≡ Some u → IsUnneeded r act run es u))
 
 -- what is placed in one place is placed in the other, and there are besides only operations that do no harm
 abbrev pub Covers : ℕ → (OpId → Option Act) → Running → List Entry → (ℕ → ℕ) → (ℕ → ℕ) → Type 0

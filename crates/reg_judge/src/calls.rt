@@ -1,11 +1,10 @@
 //! The operations that run, by process.
-ghost use Rattle.std.specs.Prelude.{◌≡◌, ◌+◌, ◌<◌, ◌≤◌, ℕ, Some, IfOk, OnOk};
-ghost use Rattle.std.specs.BTreeMap.{get};
-ghost use Rattle.reg_judge.specs.declared.acts.Act.{Act as AnyAct};
+ghost use Rattle.std.specs.Prelude.{◌≡◌, ◌<◌, ◌≤◌, ℕ, Option, None, Some, IfOk, OnOk};
+ghost use Rattle.reg_checkers.specs.Table.{IsTable};
 ghost use Rattle.reg_judge.specs.Acts.{act_in as act_in_rows};
-ghost use Rattle.reg_judge.specs.Searching.{AreMoversOf, AreNeeds, IsAnsweredAct, IsCallOf, IsMoverAdded, need_cmp, until_of};
+ghost use Rattle.reg_judge.specs.Searching.{AreMoversOf, AreNeeds, HasNoted, IsAtLeast, IsCallOf, IsMoverAdded, IsNoted, until_by};
 
-use crate::acts::{Act, act_in};
+use crate::acts::{Act, act_in, unanswered_act_in};
 use crate::stages::Mover;
 use reg_base::OpId;
 use reg_checkers::{Entry, Fact};
@@ -17,73 +16,113 @@ use std::collections::BTreeMap;
 pub struct Call {
     pub id: OpId,
     pub act: Act,
-    /// The number of entries up to and with the last answer to an operation that needs what this one leaves, 0 where
-    /// none does.
+    /// The number of entries up to and with the last answer to an operation that goes by what this one leaves, that of
+    /// all entries where such a one has no answer, 0 where there is none.
     pub needed_until: usize,
 }
 
-/// For a register and a value, the number of entries up to and with the last answer to an operation that needs it.
-pub type Needs<A> = BTreeMap<(u16, u64), usize, A>;
+/// For a register and a value, the number of entries up to and with the last answer to an operation that asks just for
+/// it, and for a register and no value, of one that asks for all but some value. Of one without an answer, the number
+/// of all entries.
+pub type Needs<A> = BTreeMap<(u16, Option<u64>), usize, A>;
 
-/// Notes the need of an operation that is answered as the entry at a place.
+/// Up to where a value of a register is needed, or any, 0 where none is.
+fn until<A: Allocator + Copy>(needs: &Needs<A>, key: (u16, Option<u64>)) -> usize
+    ensures { result ≡ until_by needs.now key }
+{
+    needs.get(&key).copied().unwrap_or(0)
+}
+
+/// The greater of two.
+fn greater(a: usize, b: usize) -> usize
+    ensures first { a ≤ result }
+    ensures second { b ≤ result }
+{
+    if a < b { b } else { a }
+}
+
+/// Notes that a value of a register is needed, or any, up to so many entries.
+fn note_key<A: Allocator + Copy>(
+    needs: &mut Needs<A>,
+    key: (u16, Option<u64>),
+    count: usize,
+) -> Result<(), AllocError>
+    ensures noted { OnOk result (IsAtLeast needs.new key count) }
+    ensures kept { OnOk result ((q : ℕ × Option ℕ) (v : ℕ) → IsAtLeast needs.old q v → IsAtLeast needs.new q v) }
+{
+    let later = greater(until(needs, key), count);
+    needs.insert(key, later)?;
+    Ok(())
+}
+
+/// Notes what an operation goes by.
 fn note_need<A: Allocator + Copy>(
     needs: &mut Needs<A>,
     act: Option<Act>,
-    place: usize,
+    count: usize,
 ) -> Result<(), AllocError>
-    requires { place < usize.MAX }
-    ensures noted { OnOk result ((a : AnyAct) (u : ℕ) → act ≡ Some a → a.needs ≡ Some u → get need_cmp needs.new (a.register, u) ≡ Some (place + 1)) }
-    ensures kept { OnOk result ((q : ℕ × ℕ) (j until : ℕ) → j < place → j < until → get need_cmp needs.old q ≡ Some until → (later : ℕ) × (get need_cmp needs.new q ≡ Some later) × (j < later)) }
+    ensures noted { OnOk result (HasNoted act needs.new count) }
+    ensures kept { OnOk result ((q : ℕ × Option ℕ) (v : ℕ) → IsAtLeast needs.old q v → IsAtLeast needs.new q v) }
 {
     let Some(act) = act else {
         return Ok(());
     };
-    let Some(value) = act.needs else {
+    let Some(key) = act.asks.goes_by() else {
         return Ok(());
     };
-    needs.insert((act.register, value), place + 1)?;
-    Ok(())
+    note_key(needs, (act.register, key), count)
 }
 
-/// What the operation that an entry answers asks and leaves, None where the entry is no answer.
-fn answered_act<A: Allocator + Copy>(rows: &[Vec<Fact, A>], entry: Entry) -> Option<Act>
-    ensures { IsAnsweredAct (act_in_rows rows.now) entry result }
+/// Notes what the operation of an entry at a place goes by: of a call without an answer up to the end, of an answer up
+/// to it.
+fn note_entry<A: Allocator + Copy>(
+    needs: &mut Needs<A>,
+    rows: &[Vec<Fact, A>],
+    entry: Entry,
+    place: usize,
+    size: usize,
+) -> Result<(), AllocError>
+    requires { place < usize.MAX }
+    ensures noted { OnOk result (IsNoted rows.now size place entry needs.new) }
+    ensures kept { OnOk result ((q : ℕ × Option ℕ) (v : ℕ) → IsAtLeast needs.old q v → IsAtLeast needs.new q v) }
 {
     match entry {
-        Entry::Called {
-            at: _,
-            id: _,
-            op: _,
-        } => None,
+        Entry::Called { at: _, id, op: _ } => note_need(needs, unanswered_act_in(rows, id), size),
         Entry::Answered {
             at: _,
             id,
             answer: _,
-        } => act_in(rows, id),
+        } => note_need(needs, act_in(rows, id), place + 1),
     }
 }
 
-/// For each register and value, the number of entries up to and with the last answer to an operation that needs it.
+/// Up to where each value of each register is needed.
 pub fn needs_of<A: Allocator + Copy>(
     alloc: A,
     rows: &[Vec<Fact, A>],
     entries: &[Entry],
 ) -> Result<Needs<A>, AllocError>
+    requires { IsTable entries.now rows.now }
     ensures { IfOk result (λ needs. AreNeeds entries.now (act_in_rows rows.now) needs) }
 {
     let mut needs = BTreeMap::new(alloc);
     for place in 0..entries.len() {
-        note_need(&mut needs, answered_act(rows, entries[place]), place)?;
+        note_entry(&mut needs, rows, entries[place], place, entries.len())?;
     }
     Ok(needs)
 }
 
 /// Up to where what an operation leaves is needed.
 fn needed_until<A: Allocator + Copy>(needs: &Needs<A>, act: Act) -> usize
-    ensures { result ≡ until_of needs.now act }
+    ensures one { (u : ℕ) → act.makes ≡ Some u → until_by needs.now (act.register, Some u) ≤ result }
+    ensures any { (u : ℕ) → act.makes ≡ Some u → until_by needs.now (act.register, None) ≤ result }
 {
     match act.makes {
-        Some(value) => needs.get(&(act.register, value)).copied().unwrap_or(0),
+        Some(value) => {
+            let one = until(needs, (act.register, Some(value)));
+            let any = until(needs, (act.register, None));
+            greater(one, any)
+        }
         None => 0,
     }
 }
@@ -122,7 +161,7 @@ fn add_mover<A: Allocator + Copy>(
     movers.push(Mover {
         id: call.id,
         act: call.act,
-        free: call.act.needs.is_none() && call.needed_until <= place,
+        free: call.act.asks_nothing() && call.needed_until <= place,
     })?;
     Ok(())
 }

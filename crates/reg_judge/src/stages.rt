@@ -26,17 +26,17 @@ pub struct Stage {
 pub struct Mover {
     pub id: OpId,
     pub act: Act,
-    /// Whether it asks nothing, and no operation that is not answered yet needs what it leaves.
+    /// Whether it asks nothing, and no operation that is not answered yet goes by what it leaves.
     pub free: bool,
 }
 
-/// Whether an operation takes effect without harm where the register has this value: a read that tells the value, and,
-/// where a write that asks nothing follows, one that leaves what no operation needs.
+/// Whether an operation takes effect without harm where the register has this value: one that changes nothing and may
+/// come there, and, where a write that asks nothing follows, one that leaves what no operation goes by.
 fn is_harmless(mover: Mover, value: u64, hides: bool) -> bool
     ensures { IsTrue result → (mover.act.makes ≡ None) ⊎ (mover.free ≡ true) }
 {
     if mover.act.makes.is_none() {
-        return mover.act.needs == Some(value);
+        return mover.act.fits(value);
     }
     hides && mover.free
 }
@@ -66,7 +66,7 @@ pub fn placed_after(movers: &[Mover], stage: Stage, mover: Mover) -> Option<(u64
         return None;
     }
     let value = mover.act.value_after(stage.value);
-    let hides = mover.act.makes.is_some() && mover.act.needs.is_none();
+    let hides = mover.act.makes.is_some() && mover.act.asks_nothing();
     let placed = settled(movers, with(stage.placed, mover.id.process), value, hides);
     Some((placed, value))
 }

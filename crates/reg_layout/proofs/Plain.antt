@@ -13,12 +13,12 @@ use Rattle.std.proofs.lemmas.Str.Parse.{digit_from_value}
 use Rattle.toml_writer.specs.Text.{basic, encoding_of, escaped, has, is_control, needs_escape, quotes_after, string_text}
 use Rattle.reg_base.specs.declared.limits.TheConstants.{LONGEST_NAME}
 use Rattle.reg_base.specs.declared.memory.Op.{Op}
-use Rattle.reg_base.specs.declared.memory.Op.TheVariants.{Read, Write, Swap}
+use Rattle.reg_base.specs.declared.memory.Op.TheVariants.{Read, Write, Swap, CompareAndSwap}
 use Rattle.reg_base.specs.Names.{is_name, names_fault}
 use Rattle.reg_front.specs.declared.named.Front.{Front}
 use Rattle.reg_front.specs.declared.named.Front.TheVariants.{Linear, LocalRead, LocalWrite}
 use Rattle.reg_front.specs.Table.{front_name}
-use Rattle.reg_text.specs.Ops.{OpFits, name_of, op_text, valued}
+use Rattle.reg_text.specs.Ops.{OpFits, name_of, op_text, valued, compared}
 use Rattle.reg_text.proofs.NamesLack.{both_true, well_spelt}
 use Rattle.reg_layout.specs.Layout.{quoted}
 
@@ -126,10 +126,16 @@ literal (c ∷ text) h = let b = both_true (is_word c) (list_all is_word text) h
 valued_plain : (names : List (List ℕ)) (r v : ℕ) → names_fault names ≡ None → r < length names → v < 2 ^ 64 → IsPlain (valued names r v)
 valued_plain names r v well within small = after (name_of names r) (32 ∷ decimal v) (nth names r well within) (after (32 ∷ []) (decimal v) (literal (32 ∷ []) refl) (number v small))
 
+compared_plain : (names : List (List ℕ)) (r e v : ℕ) → names_fault names ≡ None → r < length names → e < 2 ^ 64 → v < 2 ^ 64 → IsPlain (compared names r e v)
+compared_plain names r e v well within low small =
+    after (name_of names r) (32 ∷ (decimal e ++ 32 ∷ decimal v)) (nth names r well within)
+    (after (32 ∷ []) (decimal e ++ 32 ∷ decimal v) (literal (32 ∷ []) refl) (after (decimal e) (32 ∷ decimal v) (number e low) (after (32 ∷ []) (decimal v) (literal (32 ∷ []) refl) (number v small))))
+
 pub op_plain : (names : List (List ℕ)) (op : Op) → names_fault names ≡ None → OpFits names op → IsPlain (op_text names op)
 op_plain names (Read r) well fits = after (codes "read ") (name_of names r) (literal (codes "read ") refl) (nth names r well fits)
 op_plain names (Write r v) well fits = after (codes "write ") (valued names r v) (literal (codes "write ") refl) (valued_plain names r v well fits.0 fits.1)
 op_plain names (Swap r v) well fits = after (codes "swap ") (valued names r v) (literal (codes "swap ") refl) (valued_plain names r v well fits.0 fits.1)
+op_plain names (CompareAndSwap r e v) well fits = after (codes "cas ") (compared names r e v) (literal (codes "cas ") refl) (compared_plain names r e v well fits.0 fits.1 fits.2)
 
 pub front_plain : (front : Front) → IsPlain (front_name front)
 front_plain Linear = literal (front_name Linear) refl

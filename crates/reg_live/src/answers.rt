@@ -1,7 +1,7 @@
 //! The operations of a pass by their kind, each with its answer as a value.
-ghost use Rattle.std.specs.Prelude.{IfOk, IfErr, OnOk};
-ghost use Rattle.reg_base.specs.declared.memory.Op.TheVariants.{Read, Write, Swap};
-ghost use Rattle.reg_base.specs.declared.memory.Answer.TheVariants.{Done, Value};
+ghost use Rattle.std.specs.Prelude.{if◌then◌else◌, IfOk, IfErr, OnOk};
+ghost use Rattle.reg_base.specs.declared.memory.Op.TheVariants.{Read, Write, Swap, CompareAndSwap};
+ghost use Rattle.reg_base.specs.declared.memory.Answer.TheVariants.{Done, Value, Unequal};
 ghost use Rattle.reg_process.specs.declared.steps.Step.TheVariants.{Call};
 ghost use Rattle.reg_live.specs.Stations.{IsRefusal};
 ghost use Rattle.reg_live.specs.Passes.{IsAnswered, IsLeft};
@@ -26,7 +26,7 @@ impl<F: FrontEnd, G: Gate + Drop> Pass<F, G> {
     {
         match self.perform(rt, Op::Read { register })?.answer {
             Answer::Value(value) => Ok(value),
-            Answer::Done => unreachable!(),
+            Answer::Done | Answer::Unequal => unreachable!(),
         }
     }
 
@@ -56,7 +56,36 @@ impl<F: FrontEnd, G: Gate + Drop> Pass<F, G> {
     {
         match self.perform(rt, Op::Swap { register, value })?.answer {
             Answer::Value(old) => Ok(old),
-            Answer::Done => unreachable!(),
+            Answer::Done | Answer::Unequal => unreachable!(),
+        }
+    }
+
+    /// Writes a value where the register holds the expected one, and waits for whether it did: false says that the
+    /// register held another value, and that nothing was changed.
+    ///
+    /// # Errors
+    ///
+    /// Those of `perform`.
+    pub fn compare_and_swap<R: Wait>(
+        &mut self,
+        rt: &R,
+        register: u16,
+        expected: u64,
+        value: u64,
+    ) -> Result<bool, LiveFault>
+        ensures answered { IfOk result (λ done. IsAnswered (CompareAndSwap register expected value) (if done then Done else Unequal) self.old self.new) }
+        ensures left { IfErr result (λ fault. IsLeft fault self.old self.new) }
+        ensures refusal { IfErr result (λ fault. IsRefusal self.old.shape.registers 0 (Call (CompareAndSwap register expected value)) fault) }
+    {
+        let op = Op::CompareAndSwap {
+            register,
+            expected,
+            value,
+        };
+        match self.perform(rt, op)?.answer {
+            Answer::Done => Ok(true),
+            Answer::Unequal => Ok(false),
+            Answer::Value(_) => unreachable!(),
         }
     }
 }

@@ -7,7 +7,7 @@ use Rattle.reg_observed.specs.declared.events.Event.{Event}
 use Rattle.reg_observed.specs.declared.judging.Ruling.{Ruling}
 use Rattle.reg_observed.specs.declared.rows.Row.{Row}
 use Rattle.reg_observed.specs.Heard.{Extends}
-use Rattle.reg_observed.specs.Rows.{answers_this, of_key, rows_of_key}
+use Rattle.reg_observed.specs.Rows.{speaks_of, of_key, rows_of_key}
 use Rattle.reg_observed.specs.Verdicts.{AreRuled, IsRuled, IsUsualFirst}
 use Rattle.reg_observed.proofs.Hearing.{kept_word}
 use Rattle.reg_observed.proofs.Turning.{from_here, past_end}
@@ -44,5 +44,5 @@ ruled_none processes rows rulings e = record { all = ap length e; each = λ key 
     none key r h = cc
 
 pub usual_first : (middle values : List (List ℕ)) (events : List Event) (null zero_ first : ℕ) → slice_get middle null ≡ Some (codes "null") → Extends middle values → slice_get values zero_ ≡ Some (codes "0")
-    → first ≡ (if list_any (answers_this null) events then null else zero_) → IsUsualFirst values events first
+    → first ≡ (if list_any (speaks_of null) events then null else zero_) → IsUsualFirst values events first
 usual_first middle values events null zero_ first here wider at is = (null, zero_, kept_word middle values null (codes "null") wider here, at, is)

@@ -27,6 +27,7 @@ still_speaks v w wider told e s = record {
   moment = s.moment;
   act = s.act;
   key = kept_in v.keys w.keys e.key told.1.key wider.keys s.key;
+  expected = kept_in v.values w.values e.expected told.1.expected wider.values s.expected;
   value = kept_in v.values w.values e.value told.1.value wider.values s.value;
 }
 

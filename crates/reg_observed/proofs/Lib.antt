@@ -6,3 +6,4 @@ pub mod Rowing
 pub mod Seating
 pub mod Finding
 pub mod Answering
+pub mod Pairing

@@ -28,7 +28,7 @@ pub as_many : (naming : Naming) (row : Row) (held after : List (Option OpId)) (e
 as_many naming row held after entries more = go row.step
   where
     go : (s : Step) → OneMore-by s naming row held entries after more → length after ≡ length held
-    go (Call act value) (id, may, grown, is) = ap length is ∙ length-set held row.process (Some id)
+    go (Call act expected value) (id, may, grown, is) = ap length is ∙ length-set held row.process (Some id)
     go (Answer answer) (id, had, grown, is) = ap length is
 
 pub stands_more : (naming : Naming) (processes : ℕ) (rows : List Row) (i : ℕ) (d : Row) (held after : List (Option OpId)) (entries more : List Entry) → i < length rows

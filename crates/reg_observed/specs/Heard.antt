@@ -25,4 +25,5 @@ pub record Speaks (v : Vocabulary) (told : ℕ × Telling) (e : Event) : Type 0 
   pub moment : e.moment ≡ told.1.moment
   pub act : e.act ≡ told.1.act
   pub key : slice_get v.keys e.key ≡ Some told.1.key
+  pub expected : slice_get v.values e.expected ≡ Some told.1.expected
   pub value : slice_get v.values e.value ≡ Some told.1.value

@@ -1,15 +1,16 @@
 -- What a line of JSON tells. To be believed: promises speak of it.
-use Rattle.std.specs.Prelude.{ℕ, ◌≡◌, ◌||◌, [], ◌∷◌, Bool, true, false, List, codes, Option, Some, None, is_some, option_and_then, option_map, Result, Ok, Err, if◌then◌else◌}
+use Rattle.std.specs.Prelude.{ℕ, ◌≡◌, ◌||◌, [], ◌∷◌, Bool, true, false, List, String, codes, string_bytes, Option, Some, None, is_some, option_and_then, option_map, Result, Ok, Err, if◌then◌else◌}
+use Rattle.std.specs.declared.alloc.Global.{Global}
 use Rattle.std.specs.Str.{bytes_eq, is_utf8}
-use Rattle.serde_json.specs.Data.{Data}
+use Rattle.serde_json.specs.Data.{Data, Items, no_items, item}
 use Rattle.serde_json.specs.Read.{read}
-use Rattle.serde_json.specs.Find.{get, as_null, as_number, as_str, as_u64, as_i64}
+use Rattle.serde_json.specs.Find.{get, as_array, as_null, as_number, as_str, as_u64, as_i64}
 use Rattle.serde_json.specs.Written.{compact_text}
 use Rattle.reg_observed.specs.declared.events.Moment.{Moment}
 use Rattle.reg_observed.specs.declared.events.Act.{Act}
 use Rattle.reg_observed.specs.declared.faults.Why.{Why}
-use Rattle.reg_observed.specs.declared.faults.Why.TheVariants.{Form, BadProcess, BadType, BadFunction, BadKey, BadValue}
-use Rattle.reg_observed.specs.Told.{Telling, moment_named, act_named, with_value, ◌>>=◌}
+use Rattle.reg_observed.specs.declared.faults.Why.TheVariants.{Form, BadProcess, BadType, BadFunction, BadKey, BadValue, BadPair}
+use Rattle.reg_observed.specs.Told.{Telling, is_compare_and_swap, moment_named, moment_of, act_named, with_value, ◌>>=◌}
 
 -- a string, or an integer of 64 bits
 abbrev pub is_word : Data → Bool
@@ -56,6 +57,41 @@ act_or (Some name) = act_named name
 abbrev pub act_in : Data → Result Act Why
 act_in d = act_or (string_in (codes "f") d)
 
+-- two strings by their bytes
+abbrev pub both_texts : String Global × String Global → List ℕ × List ℕ
+both_texts pair = (string_bytes pair.0, string_bytes pair.1)
+
+-- the texts of two values, each a word or null
+abbrev pub pair_of : Data → Data → Result (List ℕ × List ℕ) Why
+pair_of first second = do
+  expected ← word_or_null_of BadPair (Some first)
+  value ← word_or_null_of BadPair (Some second)
+  Ok (expected, value)
+
+abbrev pub items_pair : Items → Result (List ℕ × List ℕ) Why
+items_pair (item first (item second no_items)) = pair_of first second
+items_pair items = Err BadPair
+
+abbrev pub array_pair : Option Items → Result (List ℕ × List ℕ) Why
+array_pair None = Err BadPair
+array_pair (Some items) = items_pair items
+
+-- the expected and the new value of a compare-and-swap: an array of two, or null or nothing, which is two of null
+abbrev pub value_pair : Option Data → Result (List ℕ × List ℕ) Why
+value_pair None = Ok (codes "null", codes "null")
+value_pair (Some d) = if is_some (as_null d) then Ok (codes "null", codes "null") else array_pair (as_array d)
+
+-- the value of another call: nothing is expected
+abbrev pub one_value : Data → Result (List ℕ × List ℕ) Why
+one_value d = named_or_null (codes "value") BadValue d >>= λ value. Ok (codes "null", value)
+
+abbrev pub values_in : Act → Data → Result (List ℕ × List ℕ) Why
+values_in act d = if is_compare_and_swap act then value_pair (get (codes "value") d) else one_value d
+
+-- it is said that the register had another value than the expected one
+abbrev pub says_unequal : Data → Bool
+says_unequal d = is_named (codes "error") (codes "unequal") d
+
 -- what Jepsen's nemesis does is no call
 abbrev pub is_nemesis : Data → Bool
 is_nemesis d = is_named (codes "process") (codes "nemesis") d
@@ -67,8 +103,8 @@ told_in d = do
   moment ← moment_in d
   act ← act_in d
   key ← named_or_null (codes "key") BadKey d
-  value ← named_or_null (codes "value") BadValue d
-  with_value (record { process = process; moment = moment; act = act; key = key; value = value })
+  values ← values_in act d
+  with_value (record { process = process; moment = moment_of moment act (says_unequal d); act = act; key = key; expected = values.0; value = values.1 })
 
 -- what the value tells, and nothing where it is of no call
 unfoldable pub call_in : Data → Result (Option Telling) Why

@@ -1,25 +1,28 @@
 -- The calls and answers that make a history. To be believed: promises speak of it.
-use Rattle.std.specs.Prelude.{ℕ, ◌≡◌, ◌+◌, ◌&&◌, nat_eq, Bool, true, false, not, List, [], ◌∷◌, Option, Some, None, option_map, if◌then◌else◌}
+use Rattle.std.specs.Prelude.{ℕ, ◌≡◌, ◌+◌, ◌&&◌, ◌||◌, nat_eq, Bool, true, false, not, List, [], ◌∷◌, Option, Some, None, option_map, if◌then◌else◌}
 use Rattle.std.specs.List.{find, flat_map}
 use Rattle.reg_base.specs.declared.memory.Answer.{Answer as Reply}
 use Rattle.reg_base.specs.declared.memory.Answer.TheVariants.{Done, Value}
+use Rattle.reg_base.specs.declared.memory.Answer.TheVariants as replies
 use Rattle.reg_observed.specs.declared.events.Event.{Event}
 use Rattle.reg_observed.specs.declared.events.Moment.{Moment}
-use Rattle.reg_observed.specs.declared.events.Moment.TheVariants.{Invoke, Ok, Fail, Info}
+use Rattle.reg_observed.specs.declared.events.Moment.TheVariants.{Invoke, Ok, Fail, Unequal, Info}
 use Rattle.reg_observed.specs.declared.events.Act.{Act}
-use Rattle.reg_observed.specs.declared.events.Act.TheVariants.{Read, Write, Swap}
+use Rattle.reg_observed.specs.declared.events.Act.TheVariants.{Read, Write, Swap, CompareAndSwap}
 use Rattle.reg_observed.specs.declared.rows.Step.{Step}
 use Rattle.reg_observed.specs.declared.rows.Step.TheVariants.{Call, Answer}
 use Rattle.reg_observed.specs.declared.rows.Row.{Row}
-use Rattle.reg_observed.specs.Told.{is_read}
+use Rattle.reg_observed.specs.Told.{is_compare_and_swap, is_invoke, is_read}
 
 abbrev pub is_ok : Moment → Bool
 is_ok Ok = true
 is_ok _ = false
 
-abbrev pub is_write : Act → Bool
-is_write Write = true
-is_write _ = false
+-- whether an answer that it was done tells of a value
+abbrev pub asks : Act → Bool
+asks Read = true
+asks Swap = true
+asks _ = false
 
 -- The number of a value in registers: the first value is 0, and no two values have the same.
 abbrev pub numbered : ℕ → ℕ → ℕ
@@ -29,11 +32,13 @@ numbered first value = if nat_eq value first then 0 else if nat_eq value 0 then 
 abbrev pub next_of : ℕ → List Event → Option Moment
 next_of process events = option_map (λ e. e.moment) (find (λ e. nat_eq e.process process) events)
 
--- Whether a call may have taken effect, where this is told next of its process. What was answered has. What failed has
--- not. Of any other call nothing is known: an update may have, or do so later, and a read is left out.
+-- Whether a call may have taken effect, where this is told next of its process. What was answered has, and so has a
+-- compare-and-swap that found another value. What failed has not. Of any other call nothing is known: an update may
+-- have, or do so later, and a read is left out.
 abbrev pub counts : Event → Option Moment → Bool
 counts call (Some Ok) = true
 counts call (Some Fail) = false
+counts call (Some Unequal) = true
 counts call (Some Invoke) = not (is_read call.act)
 counts call (Some Info) = not (is_read call.act)
 counts call None = not (is_read call.act)
@@ -42,14 +47,16 @@ abbrev pub answer_to : Act → ℕ → Reply
 answer_to Read value = Value value
 answer_to Write value = Done
 answer_to Swap value = Value value
+answer_to CompareAndSwap value = Done
 
 abbrev pub answer_in : ℕ → Event → Reply
 answer_in first event = answer_to event.act (numbered first event.value)
 
 abbrev pub step_at : Moment → ℕ → Event → Option Moment → Option Step
-step_at Invoke first event next = if counts event next then Some (Call event.act (numbered first event.value)) else None
+step_at Invoke first event next = if counts event next then Some (Call event.act (numbered first event.expected) (numbered first event.value)) else None
 step_at Ok first event next = Some (Answer (answer_in first event))
 step_at Fail first event next = None
+step_at Unequal first event next = Some (Answer replies.Unequal)
 step_at Info first event next = None
 
 -- what an event means, where this is told next of its process
@@ -70,7 +77,15 @@ rows_from first at (event ∷ events) = row_before (row_of first at event (next_
 
 -- the answer tells of this value
 abbrev pub answers_this : ℕ → Event → Bool
-answers_this value event = is_ok event.moment && (not (is_write event.act) && nat_eq event.value value)
+answers_this value event = is_ok event.moment && (asks event.act && nat_eq event.value value)
+
+-- the call of a compare-and-swap expects this value
+abbrev pub expects_this : ℕ → Event → Bool
+expects_this value event = is_invoke event.moment && (is_compare_and_swap event.act && nat_eq event.expected value)
+
+-- the value is one that registers may have had: an answer tells of it, or a compare-and-swap expects it
+abbrev pub speaks_of : ℕ → Event → Bool
+speaks_of value event = answers_this value event || expects_this value event
 
 -- the row, as if its key were the only one, where it is of this key
 abbrev pub of_key : ℕ → Row → List Row

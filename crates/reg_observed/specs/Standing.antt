@@ -7,7 +7,7 @@ use Rattle.reg_base.specs.declared.memory.Answer.{Answer as Reply}
 use Rattle.reg_checkers.specs.declared.entries.Entry.{Entry}
 use Rattle.reg_checkers.specs.declared.entries.Entry.TheVariants.{Called, Answered}
 use Rattle.reg_observed.specs.declared.events.Act.{Act}
-use Rattle.reg_observed.specs.declared.events.Act.TheVariants.{Read, Write, Swap}
+use Rattle.reg_observed.specs.declared.events.Act.TheVariants.{Read, Write, Swap, CompareAndSwap}
 use Rattle.reg_observed.specs.declared.rows.Step.{Step}
 use Rattle.reg_observed.specs.declared.rows.Step.TheVariants.{Call, Answer}
 use Rattle.reg_observed.specs.declared.rows.Row.{Row}
@@ -15,10 +15,11 @@ use Rattle.reg_observed.specs.declared.seats.Naming.{Naming}
 use Rattle.reg_observed.specs.declared.seats.Naming.TheVariants.{Any, Own}
 
 -- the operation of a call at a key
-abbrev pub act_op : Act → ℕ → ℕ → Op
-act_op Read key value = ops.Read key
-act_op Write key value = ops.Write key value
-act_op Swap key value = ops.Swap key value
+abbrev pub act_op : Act → ℕ → ℕ → ℕ → Op
+act_op Read key expected value = ops.Read key
+act_op Write key expected value = ops.Write key value
+act_op Swap key expected value = ops.Swap key value
+act_op CompareAndSwap key expected value = ops.CompareAndSwap key expected value
 
 -- the process under whose number a call may stand: any, or its own
 abbrev pub MayName : Naming → ℕ → ℕ → Type 0
@@ -31,8 +32,8 @@ no_names processes = replicate processes None
 -- The entry of a row, and the name of the last call of each process, before and after: a call stands under a new name,
 -- and an answer under that of the last call of its process. Both are of the row's event.
 abbrev pub OneMore-by : Step → Naming → Row → List (Option OpId) → List Entry → List (Option OpId) → List Entry → Type 0
-OneMore-by (Call act value) naming row held entries after more =
-    (id : OpId) × MayName naming row.process id.process × (more ≡ entries ++ Called row.at id (act_op act row.key value) ∷ []) × (after ≡ slice_set held row.process (Some id))
+OneMore-by (Call act expected value) naming row held entries after more =
+    (id : OpId) × MayName naming row.process id.process × (more ≡ entries ++ Called row.at id (act_op act row.key expected value) ∷ []) × (after ≡ slice_set held row.process (Some id))
 OneMore-by (Answer answer) naming row held entries after more =
     (id : OpId) × (get_or held row.process None ≡ Some id) × (more ≡ entries ++ Answered row.at id answer ∷ []) × (after ≡ held)
 

@@ -4,18 +4,19 @@ use Rattle.std.specs.Str.{bytes_eq}
 use Rattle.reg_observed.specs.declared.events.Moment.{Moment}
 use Rattle.reg_observed.specs.declared.events.Moment.TheVariants as moments
 use Rattle.reg_observed.specs.declared.events.Act.{Act}
-use Rattle.reg_observed.specs.declared.events.Act.TheVariants.{Read, Write, Swap}
+use Rattle.reg_observed.specs.declared.events.Act.TheVariants.{Read, Write, Swap, CompareAndSwap}
 use Rattle.reg_observed.specs.declared.faults.Why.{Why}
-use Rattle.reg_observed.specs.declared.faults.Why.TheVariants.{BadFunction, Cas, NoValue}
+use Rattle.reg_observed.specs.declared.faults.Why.TheVariants.{BadFunction, NoValue}
 use Rattle.reg_observed.specs.declared.faults.Untold.{Untold}
 use Rattle.reg_observed.specs.declared.faults.Untold.TheVariants as untold
 
--- an event of a call: process, key and value by their texts
+-- An event of a call: process, key and values by their texts. What is expected is null where it is no compare-and-swap.
 pub record Telling : Type 0 where
   pub process : List ℕ
   pub moment : Moment
   pub act : Act
   pub key : List ℕ
+  pub expected : List ℕ
   pub value : List ℕ
 
 infixl 10 ◌>>=◌
@@ -40,13 +41,13 @@ moment_named name =
     if bytes_eq name (codes "fail") then Some moments.Fail else
     if bytes_eq name (codes "info") then Some moments.Info else None
 
--- the operation of this name; a compare-and-swap is refused
+-- the operation of this name
 abbrev pub act_named : List ℕ → Result Act Why
 act_named name =
     if bytes_eq name (codes "read") then Ok Read else
     if bytes_eq name (codes "write") then Ok Write else
     if bytes_eq name (codes "swap") then Ok Swap else
-    if bytes_eq name (codes "cas") then Err Cas else Err BadFunction
+    if bytes_eq name (codes "cas") then Ok CompareAndSwap else Err BadFunction
 
 abbrev pub is_invoke : Moment → Bool
 is_invoke moments.Invoke = true
@@ -56,10 +57,25 @@ abbrev pub is_read : Act → Bool
 is_read Read = true
 is_read _ = false
 
--- the call of a write or a swap of null
+abbrev pub is_compare_and_swap : Act → Bool
+is_compare_and_swap CompareAndSwap = true
+is_compare_and_swap _ = false
+
+-- How a call is answered that is said to have failed. A compare-and-swap may have failed for any reason, so it did not
+-- happen, unless it is said that the register had another value: that is an answer, which tells of the register.
+abbrev pub failed_as : Act → Bool → Moment
+failed_as CompareAndSwap true = moments.Unequal
+failed_as act unequal = moments.Fail
+
+-- the moment, where `unequal` says whether the line tells of another value
+abbrev pub moment_of : Moment → Act → Bool → Moment
+moment_of moments.Fail act unequal = failed_as act unequal
+moment_of moment act unequal = moment
+
+-- the call of an update of null
 abbrev pub has_no_value : Moment → Act → List ℕ → Bool
 has_no_value moment act value = is_invoke moment && not (is_read act) && bytes_eq value (codes "null")
 
--- a write or a swap is called with a value
+-- an update is called with a value
 abbrev pub with_value : Telling → Result Telling Why
 with_value t = if has_no_value t.moment t.act t.value then Err NoValue else Ok t

@@ -2,9 +2,9 @@
 use Rattle.std.specs.Prelude.{ℕ, ◌≡◌, ◌&&◌, ◌==◌, Bool, true, false, List, [], ◌∷◌, replicate, get_or, slice_set, Option, Some, None, if◌then◌else◌}
 use Rattle.reg_observed.specs.declared.events.Event.{Event}
 use Rattle.reg_observed.specs.declared.events.Moment.{Moment}
-use Rattle.reg_observed.specs.declared.events.Moment.TheVariants.{Invoke, Ok, Fail, Info}
+use Rattle.reg_observed.specs.declared.events.Moment.TheVariants.{Invoke, Ok, Fail, Unequal, Info}
 use Rattle.reg_observed.specs.declared.events.Act.{Act}
-use Rattle.reg_observed.specs.declared.events.Act.TheVariants.{Read, Write, Swap}
+use Rattle.reg_observed.specs.declared.events.Act.TheVariants.{Read, Write, Swap, CompareAndSwap}
 use Rattle.reg_observed.specs.declared.faults.Why.{Why}
 use Rattle.reg_observed.specs.declared.faults.Why.TheVariants.{Idle, Busy, Other}
 
@@ -12,6 +12,7 @@ abbrev pub same_act : Act → Act → Bool
 same_act Read Read = true
 same_act Write Write = true
 same_act Swap Swap = true
+same_act CompareAndSwap CompareAndSwap = true
 same_act _ _ = false
 
 -- the event is of this call: of its kind, and at its key
@@ -29,6 +30,8 @@ wrong_at Ok event None = Some Idle
 wrong_at Ok event (Some call) = unless_of event call
 wrong_at Fail event None = Some Idle
 wrong_at Fail event (Some call) = unless_of event call
+wrong_at Unequal event None = Some Idle
+wrong_at Unequal event (Some call) = unless_of event call
 wrong_at Info event None = Some Idle
 wrong_at Info event (Some call) = unless_of event call
 
@@ -39,6 +42,7 @@ abbrev pub running_by : Moment → Event → Option Event
 running_by Invoke event = Some event
 running_by Ok event = None
 running_by Fail event = None
+running_by Unequal event = None
 running_by Info event = None
 
 -- the call that its process has under way after the event

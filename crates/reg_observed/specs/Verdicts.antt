@@ -18,7 +18,7 @@ use Rattle.reg_observed.specs.declared.rows.Row.{Row}
 use Rattle.reg_observed.specs.declared.search.Sought.{Sought}
 use Rattle.reg_observed.specs.declared.seats.Naming.TheVariants.{Any, Own}
 use Rattle.reg_observed.specs.declared.events.Event.{Event}
-use Rattle.reg_observed.specs.Rows.{answers_this, rows_from, rows_of_key}
+use Rattle.reg_observed.specs.Rows.{rows_from, rows_of_key, speaks_of}
 use Rattle.reg_observed.specs.Standing.{IsStood}
 use Rattle.reg_observed.specs.declared.search.Sought.TheVariants as sought
 
@@ -44,10 +44,10 @@ pub record AreRuled (processes keys : ℕ) (rows : List Row) (rulings : List Rul
   pub all : length rulings ≡ keys
   pub each : (key : ℕ) (ruling : Ruling) → slice_get rulings key ≡ Some ruling → IsRuled processes (rows_of_key key rows) ruling
 
--- the number of null where some answer tells of it, and else that of 0
+-- the number of null where some answer tells of it, or a compare-and-swap expects it, and else that of 0
 abbrev pub IsUsualFirst : List (List ℕ) → List Event → ℕ → Type 0
 IsUsualFirst values events first =
-    (null : ℕ) × (zero_ : ℕ) × (slice_get values null ≡ Some (codes "null")) × (slice_get values zero_ ≡ Some (codes "0")) × (first ≡ (if list_any (answers_this null) events then null else zero_))
+    (null : ℕ) × (zero_ : ℕ) × (slice_get values null ≡ Some (codes "null")) × (slice_get values zero_ ≡ Some (codes "0")) × (first ≡ (if list_any (speaks_of null) events then null else zero_))
 
 -- the number of the first value of registers: of this word, or else the usual one
 abbrev pub IsFirst : Option (List ℕ) → List (List ℕ) → List Event → ℕ → Type 0

@@ -23,6 +23,26 @@ fn name_of_act(act: Act) -> &'static str {
         Act::Read => "read",
         Act::Write => "write",
         Act::Swap => "swap",
+        Act::CompareAndSwap => "cas",
+    }
+}
+
+/// Puts a value, after a space.
+fn put_value(out: &mut String, heard: &Heard, value: u32) -> Result<(), AllocError> {
+    out.push_str(" ")?;
+    put_word(out, &heard.words.values, value)
+}
+
+/// Puts what is known of a compare-and-swap: of a call its two values, of an answer which it is.
+fn put_compared(out: &mut String, heard: &Heard, event: Event) -> Result<(), AllocError> {
+    match event.moment {
+        Moment::Invoke => {
+            put_value(out, heard, event.expected)?;
+            put_value(out, heard, event.value)
+        }
+        Moment::Ok => out.push_str(" done"),
+        Moment::Unequal => out.push_str(" unequal"),
+        Moment::Fail | Moment::Info => Ok(()),
     }
 }
 
@@ -34,16 +54,20 @@ fn put_event(out: &mut String, heard: &Heard, event: Event, told: bool) -> Resul
     put_word(out, &heard.words.processes, event.process)?;
     out.push_str(" ")?;
     out.push_str(name_of_act(event.act))?;
-    if told {
-        out.push_str(" ")?;
-        put_word(out, &heard.words.values, event.value)?;
+    if event.act == Act::CompareAndSwap {
+        put_compared(out, heard, event)?;
+    } else if told {
+        put_value(out, heard, event.value)?;
     }
     out.push_str("\n")
 }
 
 /// Whether the event ends its call for sure.
 fn ends(event: Event) -> bool {
-    event.moment == Moment::Ok || event.moment == Moment::Fail
+    match event.moment {
+        Moment::Ok | Moment::Fail | Moment::Unequal => true,
+        Moment::Invoke | Moment::Info => false,
+    }
 }
 
 /// The calls at the key that have no sure end before the event of this number.

@@ -9,6 +9,8 @@ pub enum Moment {
     Ok,
     /// It was answered, and did not happen.
     Fail,
+    /// A compare-and-swap was answered that its register had another value than the expected one.
+    Unequal,
     /// Nothing is known: it may have taken effect, may do so later, or never.
     Info,
 }
@@ -22,6 +24,8 @@ pub enum Act {
     Write,
     /// It replaces the register's value, and asks for the old one.
     Swap,
+    /// It replaces the register's value where that is the expected one, and asks whether it was.
+    CompareAndSwap,
 }
 
 /// An event of a call. Processes, keys and values are numbered, each in the order in which they are first told of.
@@ -33,6 +37,8 @@ pub struct Event {
     pub moment: Moment,
     pub act: Act,
     pub key: u32,
+    /// What a compare-and-swap expects; of other calls it isn't looked at.
+    pub expected: u32,
     /// What is written, or what was answered.
     pub value: u32,
 }

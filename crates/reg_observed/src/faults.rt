@@ -16,18 +16,18 @@ pub enum Why {
     #[error("wanted type, one of invoke, ok, fail and info")]
     BadType,
     /// There is no `f`, or it is not the name of an operation.
-    #[error("wanted f, one of read, write and swap")]
+    #[error("wanted f, one of read, write, swap and cas")]
     BadFunction,
-    /// The operation is a compare-and-swap.
-    #[error("a compare-and-swap is not judged")]
-    Cas,
     /// The key is neither an integer of 64 bits nor a string nor null.
     #[error("wanted key, an integer, a string or null")]
     BadKey,
     /// The value is neither an integer of 64 bits nor a string nor null.
     #[error("wanted value, an integer, a string or null")]
     BadValue,
-    /// A write or a swap is called with no value.
+    /// The value of a compare-and-swap is not two values.
+    #[error("wanted value, the expected value and the new one")]
+    BadPair,
+    /// A write, a swap or a compare-and-swap is called with no value.
     #[error("wanted value, what is written")]
     NoValue,
     /// A process calls while it has a call under way.

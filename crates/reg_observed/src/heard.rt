@@ -36,10 +36,12 @@ impl Vocabulary {
             moment,
             act,
             key,
+            expected,
             value,
         } = told;
         let process = self.processes.number(process)?;
         let key = self.keys.number(key)?;
+        let expected = self.values.number(expected)?;
         let value = self.values.number(value)?;
         Ok(Event {
             line,
@@ -47,6 +49,7 @@ impl Vocabulary {
             moment,
             act,
             key,
+            expected,
             value,
         })
     }

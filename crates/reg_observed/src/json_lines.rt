@@ -1,11 +1,11 @@
 //! A line of JSON, and the event that it tells of.
-ghost use Rattle.std.specs.Prelude.{◌≡◌, codes, option_map, option_and_then, string_bytes, IfOk, IsUtf8};
+ghost use Rattle.std.specs.Prelude.{◌≡◌, codes, option_map, option_and_then, string_bytes, IfOk, IsUtf8, Ok, Some};
 ghost use Rattle.std.specs.Str.{bytes_eq};
 ghost use Rattle.serde_json.specs.Find.{as_str, get};
-ghost use Rattle.serde_json.specs.View.{view};
+ghost use Rattle.serde_json.specs.View.{items_view, view};
 ghost use Rattle.serde_json.specs.Written.{compact_text};
-ghost use Rattle.reg_observed.specs.Told.{Gives, act_named, has_no_value, moment_named};
-ghost use Rattle.reg_observed.specs.JsonLines.{act_in, call_in, line_says, is_named, is_nemesis, is_word, moment_in, named_or_null, told_in, word_in};
+ghost use Rattle.reg_observed.specs.Told.{Gives, act_named, failed_as, has_no_value, moment_named, moment_of as moment_of_line};
+ghost use Rattle.reg_observed.specs.JsonLines.{act_in, both_texts, call_in, items_pair, line_says, is_named, is_nemesis, is_word, moment_in, named_or_null, one_value, pair_of, told_in, value_pair, values_in, word_in, word_or_null_of};
 
 use crate::events::{Act, Moment};
 use crate::faults::{Untold, Why};
@@ -44,12 +44,12 @@ fn act_of(name: &str) -> Result<Act, Why>
         return Ok(Act::Swap);
     }
     if name == "cas" {
-        return Err(Why::Cas);
+        return Ok(Act::CompareAndSwap);
     }
     Err(Why::BadFunction)
 }
 
-/// Whether it is the call of a write or a swap of null.
+/// Whether it is the call of an update of null.
 pub(crate) fn lacks_value(moment: Moment, act: Act, value: &str) -> bool
     ensures { result ≡ has_no_value moment act value.now }
 {
@@ -129,6 +129,106 @@ fn act(value: &Value) -> Result<Act, Untold>
     }
 }
 
+/// How a call is answered that is said to have failed.
+fn failed(act: Act, unequal: bool) -> Moment
+    ensures { result ≡ failed_as act unequal }
+{
+    if act == Act::CompareAndSwap && unequal {
+        Moment::Unequal
+    } else {
+        Moment::Fail
+    }
+}
+
+/// The moment of this name, of a call of this kind, where `unequal` says whether the line tells of another value than
+/// the expected one.
+fn told_moment(moment: Moment, act: Act, unequal: bool) -> Moment
+    ensures { result ≡ moment_of_line moment act unequal }
+{
+    match moment {
+        Moment::Fail => failed(act, unequal),
+        Moment::Invoke => Moment::Invoke,
+        Moment::Ok => Moment::Ok,
+        Moment::Info => Moment::Info,
+        Moment::Unequal => Moment::Unequal,
+    }
+}
+
+/// The text of an element, a string, an integer or null.
+fn element(global: Global, member: &Value) -> Result<String, Untold>
+    ensures { Gives string_bytes result (word_or_null_of Why.BadPair (Some (view member.now))) }
+{
+    if member.is_null() || is_a_word(member) {
+        Ok(member.to_string(global)?)
+    } else {
+        Err(Untold::Line(Why::BadPair))
+    }
+}
+
+/// The texts of two elements.
+fn elements(global: Global, first: &Value, second: &Value) -> Result<(String, String), Untold>
+    ensures { Gives both_texts result (pair_of (view first.now) (view second.now)) }
+{
+    let expected = element(global, first)?;
+    let value = element(global, second)?;
+    Ok((expected, value))
+}
+
+/// Null, twice.
+fn nulls(global: Global) -> Result<(String, String), Untold>
+    ensures { Gives both_texts result (Ok (codes "null", codes "null")) }
+{
+    let expected = String::from_str(global, "null")?;
+    let value = String::from_str(global, "null")?;
+    Ok((expected, value))
+}
+
+/// The texts of the elements of an array of two.
+fn array_of_two(global: Global, items: &[Value]) -> Result<(String, String), Untold>
+    ensures { Gives both_texts result (items_pair (items_view items.now)) }
+{
+    if items.len() != 2 {
+        return Err(Untold::Line(Why::BadPair));
+    }
+    elements(global, &items[0], &items[1])
+}
+
+/// The expected and the new value of a compare-and-swap.
+fn pair(global: Global, value: &Value) -> Result<(String, String), Untold>
+    ensures { Gives both_texts result (value_pair (get (codes "value") (view value.now))) }
+{
+    let Some(member) = value.get("value") else {
+        return nulls(global);
+    };
+    if member.is_null() {
+        return nulls(global);
+    }
+    match member.as_array() {
+        Some(items) => array_of_two(global, items),
+        None => Err(Untold::Line(Why::BadPair)),
+    }
+}
+
+/// The value of a call that expects none.
+fn single(global: Global, value: &Value) -> Result<(String, String), Untold>
+    ensures { Gives both_texts result (one_value (view value.now)) }
+{
+    let value = word_or_null(global, value, "value", Why::BadValue)?;
+    let expected = String::from_str(global, "null")?;
+    Ok((expected, value))
+}
+
+/// What a call expects, null where it is no compare-and-swap, and its value.
+fn values(global: Global, value: &Value, act: Act) -> Result<(String, String), Untold>
+    ensures { Gives both_texts result (values_in act (view value.now)) }
+{
+    if act == Act::CompareAndSwap {
+        pair(global, value)
+    } else {
+        single(global, value)
+    }
+}
+
 #[tactic(auto, unfolding(crate::specs::JsonLines::told_in))]
 fn told(global: Global, value: &Value) -> Result<Told, Untold>
     ensures { Gives (λ t. t) result (told_in (view value.now)) }
@@ -137,7 +237,8 @@ fn told(global: Global, value: &Value) -> Result<Told, Untold>
     let moment = moment(value)?;
     let act = act(value)?;
     let key = word_or_null(global, value, "key", Why::BadKey)?;
-    let value = word_or_null(global, value, "value", Why::BadValue)?;
+    let moment = told_moment(moment, act, says(value, "error", "unequal"));
+    let (expected, value) = values(global, value, act)?;
     if lacks_value(moment, act, value.as_str()) {
         return Err(Untold::Line(Why::NoValue));
     }
@@ -146,6 +247,7 @@ fn told(global: Global, value: &Value) -> Result<Told, Untold>
         moment,
         act,
         key,
+        expected,
         value,
     })
 }

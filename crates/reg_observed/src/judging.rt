@@ -2,7 +2,7 @@
 ghost use Rattle.std.specs.Prelude.{◌≡◌, ◌++◌, ℕ, List, IfOk, IfSome, OnOk, Some, if◌then◌else◌, length, option_copied, slice_get};
 ghost use Rattle.std.specs.List.{list_any};
 ghost use Rattle.reg_observed.specs.Verdicts.{AreJudged, AreRuled, AreSought, IsFirst, IsHeard, IsJudged, IsRuled, IsSerialOf, IsUsualFirst, RulesSerial, registers_for};
-ghost use Rattle.reg_observed.specs.Rows.{answers_this, of_key, rows_from, rows_of_key};
+ghost use Rattle.reg_observed.specs.Rows.{answers_this, asks, expects_this, of_key, rows_from, rows_of_key, speaks_of};
 ghost use Rattle.reg_observed.specs.Heard.{Extends};
 ghost use Rattle.reg_observed.specs.Reading.{AreEvents};
 ghost use Rattle.reg_observed.specs.Told.{Telling};
@@ -64,11 +64,28 @@ pub struct Verdict<A: Allocator + Copy> {
     pub serial: Option<Serial>,
 }
 
+/// Whether an answer of this kind, that the call is done, tells of a value.
+fn asks_value(act: Act) -> bool
+    ensures { result ≡ asks act }
+{
+    match act {
+        Act::Read | Act::Swap => true,
+        Act::Write | Act::CompareAndSwap => false,
+    }
+}
+
 /// Whether the event is an answer that tells of the value of this number.
 fn tells_of(event: &Event, value: u32) -> bool
     ensures { result ≡ answers_this value event.now }
 {
-    event.moment == Moment::Ok && event.act != Act::Write && event.value == value
+    event.moment == Moment::Ok && asks_value(event.act) && event.value == value
+}
+
+/// Whether the event is the call of a compare-and-swap that expects the value of this number.
+fn expects(event: &Event, value: u32) -> bool
+    ensures { result ≡ expects_this value event.now }
+{
+    event.moment == Moment::Invoke && event.act == Act::CompareAndSwap && event.expected == value
 }
 
 /// The number of a word.
@@ -80,21 +97,24 @@ fn number_of(global: Global, values: &mut Words, word: &str) -> Result<u32, Read
     values.number(word)
 }
 
-/// Whether some answer tells of the value of this number.
+/// Whether some answer tells of the value of this number, or a compare-and-swap expects it.
 fn is_told(events: &[Event], value: u32) -> bool
-    ensures { result ≡ list_any (answers_this value) events.now }
+    ensures { result ≡ list_any (speaks_of value) events.now }
 {
-    events.iter().any(|event| tells_of(event, value))
+    events
+        .iter()
+        .any(|event| tells_of(event, value) || expects(event, value))
 }
 
-/// The first of two numbers where some answer tells of its value, and else the second.
+/// The first of two numbers where some event speaks of its value, and else the second.
 fn first_if_told(events: &[Event], null: u32, zero: u32) -> u32
-    ensures { result ≡ (if list_any (answers_this null) events.now then null else zero) }
+    ensures { result ≡ (if list_any (speaks_of null) events.now then null else zero) }
 {
     if is_told(events, null) { null } else { zero }
 }
 
-/// The number of the usual first value of registers: of null where some answer is null, and of 0 where none is.
+/// The number of the usual first value of registers: of null where some answer is null or a compare-and-swap expects
+/// null, and else of 0.
 fn usual_first(global: Global, values: &mut Words, events: &[Event]) -> Result<u32, ReadFault>
     ensures first { IfOk result (IsUsualFirst values.new events.now) }
     ensures wider { OnOk result (Extends values.old values.new) }
@@ -351,7 +371,7 @@ fn rows_in_turn(global: Global, heard: &Heard, first: u32) -> Result<Vec<Row>, J
 }
 
 /// What a history comes to that was heard. `asked` is the first value of registers, as JSON has it; where it is None,
-/// the first value is null if some answer is null, and else 0.
+/// the first value is null if some answer is null or a compare-and-swap expects null, and else 0.
 ///
 /// # Errors
 ///

@@ -8,10 +8,10 @@ use reg_base::Answer;
 use reg_base::limits::MOST_EVENTS;
 use std::alloc::{AllocError, Global};
 
-/// What a row has: a call, with the value that is written, or an answer.
+/// What a row has: a call, with the value that is expected and the one that is written, or an answer.
 #[derive(Clone, Copy, Debug, PartialEq, Eq)]
 pub enum Step {
-    Call { act: Act, value: u64 },
+    Call { act: Act, expected: u64, value: u64 },
     Answer(Answer),
 }
 
@@ -43,7 +43,7 @@ fn answer_of(first: u32, event: Event) -> Answer
 {
     match event.act {
         Act::Read | Act::Swap => Answer::Value(value_of(first, event.value)),
-        Act::Write => Answer::Done,
+        Act::Write | Act::CompareAndSwap => Answer::Done,
     }
 }
 
@@ -53,7 +53,7 @@ fn may_count(event: Event, next: Option<Moment>) -> bool
     ensures { result ≡ counts event next }
 {
     match next {
-        Some(Moment::Ok) => true,
+        Some(Moment::Ok) | Some(Moment::Unequal) => true,
         Some(Moment::Fail) => false,
         Some(Moment::Invoke) | Some(Moment::Info) | None => event.act != Act::Read,
     }
@@ -68,6 +68,7 @@ fn step_of(first: u32, event: Event, next: Option<Moment>) -> Option<Step>
             if may_count(event, next) {
                 Some(Step::Call {
                     act: event.act,
+                    expected: value_of(first, event.expected),
                     value: value_of(first, event.value),
                 })
             } else {
@@ -75,6 +76,7 @@ fn step_of(first: u32, event: Event, next: Option<Moment>) -> Option<Step>
             }
         }
         Moment::Ok => Some(Step::Answer(answer_of(first, event))),
+        Moment::Unequal => Some(Step::Answer(Answer::Unequal)),
         Moment::Fail | Moment::Info => None,
     }
 }

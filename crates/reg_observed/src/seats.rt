@@ -52,15 +52,20 @@ struct Seats {
 }
 
 /// The operation of a call.
-fn op_of(act: Act, key: u32, value: u64) -> Op
+fn op_of(act: Act, key: u32, expected: u64, value: u64) -> Op
     requires { key < 65536 }
-    ensures { result ≡ act_op act key value }
+    ensures { result ≡ act_op act key expected value }
 {
     let register = key as u16;
     match act {
         Act::Read => Op::Read { register },
         Act::Write => Op::Write { register, value },
         Act::Swap => Op::Swap { register, value },
+        Act::CompareAndSwap => Op::CompareAndSwap {
+            register,
+            expected,
+            value,
+        },
     }
 }
 
@@ -209,12 +214,16 @@ fn add_row<A: Allocator + Copy>(
         return Err(Unseated::OutOfPlace { at: row.at });
     }
     match row.step {
-        Step::Call { act, value } => add_call(
+        Step::Call {
+            act,
+            expected,
+            value,
+        } => add_call(
             history,
             seats,
             naming,
             row,
-            op_of(act, row.key, value),
+            op_of(act, row.key, expected, value),
         ),
         Step::Answer(answer) => add_answer(history, seats, row, answer),
     }

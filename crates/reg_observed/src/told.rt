@@ -2,7 +2,7 @@
 use crate::events::{Act, Moment};
 use std::marker::Model;
 
-/// An event of a call. Process, key and value are the texts that JSON has of them: two are the same where their texts
+/// An event of a call. Process, key and values are the texts that JSON has of them: two are the same where their texts
 /// are.
 #[derive(Drop)]
 pub(crate) struct Told {
@@ -10,6 +10,7 @@ pub(crate) struct Told {
     pub moment: Moment,
     pub act: Act,
     pub key: String,
+    pub expected: String,
     pub value: String,
 }
 
@@ -19,5 +20,5 @@ impl Model for Told {
 
     ghost Value = { Telling };
 
-    ghost view = { λ t. record { process = string_bytes t.process; moment = t.moment; act = t.act; key = string_bytes t.key; value = string_bytes t.value } };
+    ghost view = { λ t. record { process = string_bytes t.process; moment = t.moment; act = t.act; key = string_bytes t.key; expected = string_bytes t.expected; value = string_bytes t.value } };
 }

@@ -15,11 +15,11 @@ fn why_not(event: Event, running: Option<Event>) -> Option<Why>
     match running {
         None => match event.moment {
             Moment::Invoke => None,
-            Moment::Ok | Moment::Fail | Moment::Info => Some(Why::Idle),
+            Moment::Ok | Moment::Fail | Moment::Unequal | Moment::Info => Some(Why::Idle),
         },
         Some(call) => match event.moment {
             Moment::Invoke => Some(Why::Busy),
-            Moment::Ok | Moment::Fail | Moment::Info => {
+            Moment::Ok | Moment::Fail | Moment::Unequal | Moment::Info => {
                 if event.act == call.act && event.key == call.key {
                     None
                 } else {
@@ -36,7 +36,7 @@ fn left_running(event: Event) -> Option<Event>
 {
     match event.moment {
         Moment::Invoke => Some(event),
-        Moment::Ok | Moment::Fail | Moment::Info => None,
+        Moment::Ok | Moment::Fail | Moment::Unequal | Moment::Info => None,
     }
 }
 

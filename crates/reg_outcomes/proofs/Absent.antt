@@ -3,7 +3,7 @@ use Rattle.std.proofs.Common.{◌≡◌, ℕ, ◌+◌, ◌≤◌, true, false, L
 use Rattle.std.specs.Option.{is_some}
 use Rattle.std.specs.BTreeMap.{BTreeMap, get}
 use Rattle.reg_base.specs.declared.memory.Op.{Op}
-use Rattle.reg_outcomes.specs.declared.told.ToldValue.{ToldValue}
+use Rattle.reg_outcomes.specs.declared.told.ToldAnswer.{ToldAnswer}
 use Rattle.reg_outcomes.specs.Interleavings.{AreAll, CountsStages, HasMoreStages, Interleaving}
 use Rattle.reg_outcomes.specs.declared.tallies.Tally.{Tally}
 use Rattle.reg_outcomes.specs.PlayTables.{HasOutcome, Nothing, Seen}
@@ -12,7 +12,7 @@ use Rattle.reg_outcomes.specs.Outcomes.{CountsUndrawn, TellsUndrawn, WasDrawn}
 use Rattle.reg_outcomes.specs.declared.undrawn.TheConstants.{MOST_COUNTED_STAGES}
 use Rattle.reg_outcomes.proofs.Those.{those_at, those_more, those_same}
 
-module _ {K : Type 0} (items : K → List ToldValue) (plays : List Seen) (told : BTreeMap K Tally) (unfinished : ℕ) (counted : IsCounted items plays told unfinished) (key : K) (i : Interleaving) (is : items key ≡ i.told) where
+module _ {K : Type 0} (items : K → List ToldAnswer) (plays : List Seen) (told : BTreeMap K Tally) (unfinished : ℕ) (counted : IsCounted items plays told unfinished) (key : K) (i : Interleaving) (is : items key ≡ i.told) where
   drawn_by : (o : Option Tally) → TellsOf plays (items key) o → is_some o ≡ true → WasDrawn plays i
   drawn_by None tells e = absurd cc
   drawn_by (Some t) (those, are, tally) e =

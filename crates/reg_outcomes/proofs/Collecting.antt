@@ -10,7 +10,7 @@ use Rattle.reg_base.specs.declared.memory.Op.{Op}
 use Rattle.reg_base.specs.Order.{In}
 use Rattle.reg_checkers.specs.History.{IsAt}
 use Rattle.reg_checkers.proofs.Places.{IsAt-map, at_map}
-use Rattle.reg_outcomes.specs.declared.told.ToldValue.{ToldValue}
+use Rattle.reg_outcomes.specs.declared.told.ToldAnswer.{ToldAnswer}
 use Rattle.reg_outcomes.specs.Told.{told_cmp}
 use Rattle.reg_outcomes.proofs.Elements.{has_at}
 use Rattle.reg_outcomes.specs.Interleavings.{AreAll, Interleaving, IsInterleaving, Leads, Stage}
@@ -18,7 +18,7 @@ use Rattle.reg_outcomes.specs.Layers.{Adds, IsLayer, IsToldIn, operation_count}
 use Rattle.reg_outcomes.proofs.Leading.{turns_of_all, used_up}
 use Rattle.reg_outcomes.proofs.Stepping.{in_cases, in_more}
 
-module _ {X : Type 0} (read : X → Stage × List ℕ) (xs : List X) (x : X) (o : List ToldValue × List ℕ) where
+module _ {X : Type 0} (read : X → Stage × List ℕ) (xs : List X) (x : X) (o : List ToldAnswer × List ℕ) where
   pub told_more : IsToldIn (map read xs) o ⊎ (o ≡ ((read x).0.told, (read x).1)) → IsToldIn (map read (xs ++ x ∷ [])) o
   told_more (inl (f, at, e)) = (f, in_more read xs x f (inl at), e)
   told_more (inr e) = (read x, in_more read xs x (read x) (inr refl), e)
@@ -40,8 +40,8 @@ at_in read (x ∷ xs) y (inl e) = (0, x, refl, e)
 at_in read (x ∷ xs) y (inr h) = let there = at_in read xs y h in (suc there.0, there.1, there.2, there.3)
 
 -- the keys and turns of a map, as outcomes
-module _ {K V : Type 0} (told_of : K → List ToldValue) (turns_of : V → List ℕ) where
-  abbrev outcome : K × V → List ToldValue × List ℕ
+module _ {K V : Type 0} (told_of : K → List ToldAnswer) (turns_of : V → List ℕ) where
+  abbrev outcome : K × V → List ToldAnswer × List ℕ
   outcome e = (told_of e.0, turns_of e.1)
 
   abbrev interleaving : K × V → Interleaving
@@ -62,9 +62,9 @@ module _ {K V : Type 0} (told_of : K → List ToldValue) (turns_of : V → List 
             let leads = is.each f there in
             record {
               last = f.0;
-              leads = subst (λ t. Leads scripts registers t f.0) (sym (ap (λ (o : List ToldValue × List ℕ). o.1) same)) leads.0;
+              leads = subst (λ t. Leads scripts registers t f.0) (sym (ap (λ (o : List ToldAnswer × List ℕ). o.1) same)) leads.0;
               used_up = used_up scripts registers f.1 f.0 leads.0 leads.1;
-              tells = sym (ap (λ (o : List ToldValue × List ℕ). o.0) same);
+              tells = sym (ap (λ (o : List ToldAnswer × List ℕ). o.0) same);
             }
 
     all : (i : Interleaving) → IsInterleaving scripts registers i → (k : ℕ) × (j : Interleaving) × IsAt (map interleaving es) k j × (j.told ≡ i.told)
@@ -74,7 +74,7 @@ module _ {K V : Type 0} (told_of : K → List ToldValue) (turns_of : V → List 
         let new = adds.added (f.0.told, f.1) (f, found.1, refl) in
         let there = at_in outcome es new.0 new.1 in
         let e : K × V = there.1 in
-        (there.0, interleaving e, IsAt-map interleaving es there.0 e there.2, sym (ap (λ (o : List ToldValue × List ℕ). o.0) there.3) ∙ new.2 ∙ ap (λ (s : Stage). s.told) found.2 ∙ h.tells)
+        (there.0, interleaving e, IsAt-map interleaving es there.0 e there.2, sym (ap (λ (o : List ToldAnswer × List ℕ). o.0) there.3) ∙ new.2 ∙ ap (λ (s : Stage). s.told) found.2 ∙ h.tells)
 
     rising : IsStrictlySortedBy (λ a b. slice_cmp told_cmp (told_of a) (told_of b)) (keys_of es) → (k l : ℕ) (i j : Interleaving) → IsAt (map interleaving es) k i → IsAt (map interleaving es) l j → k < l → slice_cmp told_cmp i.told j.told ≡ Less
     rising ordered k l i j at here lt =

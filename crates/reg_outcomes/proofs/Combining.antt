@@ -8,7 +8,7 @@ use Rattle.reg_base.specs.Order.{In}
 use Rattle.reg_base.proofs.Lists.{in_cases, in_left, in_right}
 use Rattle.reg_checkers.specs.History.{IsAt}
 use Rattle.reg_checkers.proofs.Places.{IsAt-map, at_map}
-use Rattle.reg_outcomes.specs.declared.told.ToldValue.{ToldValue}
+use Rattle.reg_outcomes.specs.declared.told.ToldAnswer.{ToldAnswer}
 use Rattle.reg_outcomes.specs.Interleavings.{Interleaving}
 use Rattle.reg_outcomes.specs.Nevers.{AreOver, IsNever, StandsAt, tells}
 use Rattle.reg_outcomes.specs.Combining.{AreCombinations, AreOnce, AreValuesAt, IsCombination, IsLonger, IsLongerOf, cut_all}
@@ -42,7 +42,7 @@ module _ {X : Type 0} where
   last_apart (x ∷ y ∷ xs) zero e = absurd (omega (arith, e))
   last_apart (x ∷ y ∷ xs) (suc n) e = let rest = last_apart (y ∷ xs) n (omega (arith, e)) in (x ∷ rest.0, rest.1, ap (λ l. x ∷ l) rest.2, ap suc rest.3)
 
-module _ (outcomes : List (List ToldValue)) where
+module _ (outcomes : List (List ToldAnswer)) where
   pub first_combination : AreCombinations outcomes 0 ([] ∷ [])
   first_combination = record {
     only = λ c h. elim h [
@@ -53,38 +53,38 @@ module _ (outcomes : List (List ToldValue)) where
     once = (λ c h. absurd h, tt);
   }
     where
-      nothing : (c : List ToldValue) → length c ≡ 0 → c ≡ []
+      nothing : (c : List ToldAnswer) → length c ≡ 0 → c ≡ []
       nothing [] e = refl
       nothing (v ∷ c) e = absurd (omega (arith, e))
 
-  pub is_longer : (k : ℕ) (values c to : List ToldValue) → AreValuesAt outcomes k values → IsCombination outcomes k c → IsLonger values c to → IsCombination outcomes (k + 1) to
+  pub is_longer : (k : ℕ) (values c to : List ToldAnswer) → AreValuesAt outcomes k values → IsCombination outcomes k c → IsLonger values c to → IsCombination outcomes (k + 1) to
   is_longer k values c to are is (v, there, e) = subst (λ t. IsCombination outcomes (k + 1) t) (sym e) (record {
     count = (let a = length-append c (v ∷ []) in let b = is.count in omega (arith, a, b));
     each = λ j w at. elim (at_split c (v ∷ []) j w at) [ inl front ↦ is.each j w front | inr behind ↦ last j w behind ];
   })
     where
-      last : (j : ℕ) (w : ToldValue) → ((i : ℕ) × (j ≡ length c + i) × IsAt (v ∷ []) i w) → StandsAt outcomes j w
+      last : (j : ℕ) (w : ToldAnswer) → ((i : ℕ) × (j ≡ length c + i) × IsAt (v ∷ []) i w) → StandsAt outcomes j w
       last j w (zero, at, same) = subst (λ n. StandsAt outcomes n w) (sym (at ∙ (let b = is.count in omega (arith, b)))) (subst (λ u. StandsAt outcomes k u) (same_Some v w same) (are.only v there))
       last j w (suc i, at, same) = absurd cc
 
   -- the combinations with one place more
-  pub next_all : (k : ℕ) (values : List ToldValue) (list next : List (List ToldValue)) → AreValuesAt outcomes k values → AreCombinations outcomes k list
-      → ((c : List ToldValue) → In c next → IsLongerOf values list c) → ((c : List ToldValue) → IsLongerOf values list c → In c next) → AreOnce next → AreCombinations outcomes (k + 1) next
+  pub next_all : (k : ℕ) (values : List ToldAnswer) (list next : List (List ToldAnswer)) → AreValuesAt outcomes k values → AreCombinations outcomes k list
+      → ((c : List ToldAnswer) → In c next → IsLongerOf values list c) → ((c : List ToldAnswer) → IsLongerOf values list c → In c next) → AreOnce next → AreCombinations outcomes (k + 1) next
   next_all k values list next are all only added once = record {
     only = λ c h. let from = only c h in is_longer k values from.0 c are (all.only from.0 from.1) from.2;
     all = λ c is. back c is (last_apart c k is.count);
     once = once;
   }
     where
-      back : (c : List ToldValue) → IsCombination outcomes (k + 1) c → ((ys : List ToldValue) × (x : ToldValue) × (c ≡ ys ++ x ∷ []) × (length ys ≡ k)) → In c next
+      back : (c : List ToldAnswer) → IsCombination outcomes (k + 1) c → ((ys : List ToldAnswer) × (x : ToldAnswer) × (c ≡ ys ++ x ∷ []) × (length ys ≡ k)) → In c next
       back c is (ys, x, e, count) =
           let front : IsCombination outcomes k ys = record { count = count; each = λ j v at. is.each j v (subst (λ l. IsAt l j v) (sym e) (at_front ys (x ∷ []) j v at)) } in
           let stands : StandsAt outcomes k x = is.each k x (subst (λ l. IsAt l k x) (sym e) (subst (λ n. IsAt (ys ++ x ∷ []) n x) count (at_end ys x))) in
           added c (ys, all.all ys front, (x, are.all x stands, e))
 
-  module _ (first : List ToldValue) (at : IsAt outcomes 0 first) where
+  module _ (first : List ToldAnswer) (at : IsAt outcomes 0 first) where
     -- a combination that no outcome begins with has an end
-    ended : (k : ℕ) → k ≤ length first → (c : List ToldValue) → IsCombination outcomes k c → ¬ In c (map (take k) outcomes) → IsNever outcomes (c ++ drop k first)
+    ended : (k : ℕ) → k ≤ length first → (c : List ToldAnswer) → IsCombination outcomes k c → ¬ In c (map (take k) outcomes) → IsNever outcomes (c ++ drop k first)
     ended k le c is none = record {
       whole = (first, at, (let a = length-append c (drop k first) in let b = length-drop k first in let d = is.count in omega (arith, a, b, d, le)));
       each = λ j v here. elim (at_split c (drop k first) j v here) [
@@ -94,15 +94,15 @@ module _ (outcomes : List (List ToldValue)) where
       none = λ i here. none (subst (λ t. In t (map (take k) outcomes)) (front (drop k first)) (in_at (map (take k) outcomes) i (take k (c ++ drop k first)) (IsAt-map (take k) outcomes i (c ++ drop k first) here)));
     }
       where
-        front : (s : List ToldValue) → take k (c ++ s) ≡ c
+        front : (s : List ToldAnswer) → take k (c ++ s) ≡ c
         front s = ap (λ n. take n (c ++ s)) (sym is.count) ∙ take-append_seam c s
 
     -- more combinations than outcomes
-    pub over : {K : Type 0} (read : K → List ToldValue) (k most : ℕ) (ks : List K) → k ≤ length first → AreOnce (map read ks) → ((c : List ToldValue) → In c (map read ks) → IsCombination outcomes k c) → length outcomes + most < length ks → AreOver outcomes most
+    pub over : {K : Type 0} (read : K → List ToldAnswer) (k most : ℕ) (ks : List K) → k ≤ length first → AreOnce (map read ks) → ((c : List ToldAnswer) → In c (map read ks) → IsCombination outcomes k c) → length outcomes + most < length ks → AreOver outcomes most
     over {K} read k most ks le apart are more =
         let left : List K = cut_all read (map (take k) outcomes) ks in
         let is = is_cut read (map (take k) outcomes) ks apart in
-        let lists : List (List ToldValue) = map read left in
+        let lists : List (List ToldAnswer) = map read left in
         record {
           nevers = map (λ c. c ++ drop k first) lists;
           more = (let a = is.many in let b = length-map outcomes (take k) in let d = length-map left read in let e = length-map lists (λ c. c ++ drop k first) in omega (arith, a, b, d, e, more));
@@ -117,28 +117,28 @@ module _ (outcomes : List (List ToldValue)) where
               subst (λ t. IsNever outcomes t) a.2 (ended k le a.0 (are a.0 (is.kept a.0 within)) (is.none a.0 within));
         }
       where
-        front : (c : List ToldValue) → IsCombination outcomes k c → (told : List ToldValue) → c ++ drop k first ≡ told → c ≡ take k told
+        front : (c : List ToldAnswer) → IsCombination outcomes k c → (told : List ToldAnswer) → c ++ drop k first ≡ told → c ≡ take k told
         front c is told e = sym (take-append_seam c (drop k first)) ∙ ap (λ n. take n (c ++ drop k first)) is.count ∙ ap (take k) e
 
     -- those that are left are all that no outcome has
-    pub left_never : {K : Type 0} (read : K → List ToldValue) (ks left : List K) → AreCombinations outcomes (length first) (map read ks) → IsCut read outcomes ks left → (told : List ToldValue) → In told (map read left) → IsNever outcomes told
+    pub left_never : {K : Type 0} (read : K → List ToldAnswer) (ks left : List K) → AreCombinations outcomes (length first) (map read ks) → IsCut read outcomes ks left → (told : List ToldAnswer) → In told (map read left) → IsNever outcomes told
     left_never read ks left all is told h =
         let c = all.only told (is.kept told h) in
         record { whole = (first, at, c.count); each = c.each; none = λ i here. is.none told h (in_at outcomes i told here) }
 
-    pub never_left : {K : Type 0} (read : K → List ToldValue) (ks left : List K) → AreCombinations outcomes (length first) (map read ks) → IsCut read outcomes ks left → (told : List ToldValue) → IsNever outcomes told → In told (map read left)
+    pub never_left : {K : Type 0} (read : K → List ToldAnswer) (ks left : List K) → AreCombinations outcomes (length first) (map read ks) → IsCut read outcomes ks left → (told : List ToldAnswer) → IsNever outcomes told → In told (map read left)
     never_left read ks left all is told never =
         let same : never.whole.0 ≡ first = same_Some never.whole.0 first (sym never.whole.1 ∙ at) in
         is.all told (all.all told (record { count = never.whole.2 ∙ ap length same; each = never.each })) (λ n. let there = at_in outcomes told n in never.none there.0 there.1)
 
 -- The values at a place of the first n outcomes.
-pub record AreFirstValues (outcomes : List (List ToldValue)) (k n : ℕ) (values : List ToldValue) : Type 0 where
-  pub only : (v : ToldValue) → In v values → StandsAt outcomes k v
-  pub all : (i : ℕ) (o : List ToldValue) (v : ToldValue) → i < n → IsAt outcomes i o → IsAt o k v → In v values
+pub record AreFirstValues (outcomes : List (List ToldAnswer)) (k n : ℕ) (values : List ToldAnswer) : Type 0 where
+  pub only : (v : ToldAnswer) → In v values → StandsAt outcomes k v
+  pub all : (i : ℕ) (o : List ToldAnswer) (v : ToldAnswer) → i < n → IsAt outcomes i o → IsAt o k v → In v values
 
-module _ (outcomes : List (List ToldValue)) (k n : ℕ) (values : List ToldValue) where
+module _ (outcomes : List (List ToldAnswer)) (k n : ℕ) (values : List ToldAnswer) where
   -- the next outcome has no new one
-  pub none_new : (o : List ToldValue) → IsAt outcomes n o → ((v : ToldValue) → IsAt o k v → In v values) → AreFirstValues outcomes k n values → AreFirstValues outcomes k (n + 1) values
+  pub none_new : (o : List ToldAnswer) → IsAt outcomes n o → ((v : ToldAnswer) → IsAt o k v → In v values) → AreFirstValues outcomes k n values → AreFirstValues outcomes k (n + 1) values
   none_new o at there are = record {
     only = are.only;
     all = λ i p v lt here stands. elim (cases_eq i n) [
@@ -148,7 +148,7 @@ module _ (outcomes : List (List ToldValue)) (k n : ℕ) (values : List ToldValue
   }
 
   -- or this one
-  pub one_new : (o : List ToldValue) (w : ToldValue) → IsAt outcomes n o → IsAt o k w → AreFirstValues outcomes k n values → AreFirstValues outcomes k (n + 1) (values ++ w ∷ [])
+  pub one_new : (o : List ToldAnswer) (w : ToldAnswer) → IsAt outcomes n o → IsAt o k w → AreFirstValues outcomes k n values → AreFirstValues outcomes k (n + 1) (values ++ w ∷ [])
   one_new o w at stands are = none_new-at (record {
     only = λ v h. elim (in_cases v values (w ∷ []) h) [
       | inl old ↦ are.only v old
@@ -175,17 +175,17 @@ module _ (outcomes : List (List ToldValue)) (k n : ℕ) (values : List ToldValue
   }
 
 -- one value more
-pub longer_more : (values c to : List ToldValue) (n : ℕ) (d : ToldValue) → n < length values → IsLonger (take n values) c to ⊎ (to ≡ c ++ get_or values n d ∷ []) → IsLonger (take (n + 1) values) c to
+pub longer_more : (values c to : List ToldAnswer) (n : ℕ) (d : ToldAnswer) → n < length values → IsLonger (take n values) c to ⊎ (to ≡ c ++ get_or values n d ∷ []) → IsLonger (take (n + 1) values) c to
 longer_more values c to n d lt (inl (v, there, e)) = (v, subst (λ l. In v l) (sym (take_more values n d lt)) (in_left v (take n values) (get_or values n d ∷ []) there), e)
 longer_more values c to n d lt (inr e) = (get_or values n d, subst (λ l. In (get_or values n d) l) (sym (take_more values n d lt)) (in_right (get_or values n d) (take n values) (get_or values n d ∷ []) (inl refl)), e)
 
-pub longer_cases : (values c to : List ToldValue) (n : ℕ) (d : ToldValue) → n < length values → IsLonger (take (n + 1) values) c to → IsLonger (take n values) c to ⊎ (to ≡ c ++ get_or values n d ∷ [])
+pub longer_cases : (values c to : List ToldAnswer) (n : ℕ) (d : ToldAnswer) → n < length values → IsLonger (take (n + 1) values) c to → IsLonger (take n values) c to ⊎ (to ≡ c ++ get_or values n d ∷ [])
 longer_cases values c to n d lt (v, there, e) = elim (in_cases v (take n values) (get_or values n d ∷ []) (subst (λ l. In v l) (take_more values n d lt) there)) [
   | inl old ↦ inl (v, old, e)
   | inr new ↦ elim new [ inl same ↦ inr (e ∙ ap (λ w. c ++ w ∷ []) same) | inr none ↦ absurd none ]
 ]
 
-module _ {K : Type 0} (read : K → List ToldValue) (values : List ToldValue) (xs : List K) (x : K) (to : List ToldValue) where
+module _ {K : Type 0} (read : K → List ToldAnswer) (values : List ToldAnswer) (xs : List K) (x : K) (to : List ToldAnswer) where
   pub longer_of_more : IsLongerOf values (map read xs) to ⊎ IsLonger values (read x) to → IsLongerOf values (map read (xs ++ x ∷ [])) to
   longer_of_more (inl (c, there, longer)) = (c, in_more read xs x c (inl there), longer)
   longer_of_more (inr longer) = (read x, in_more read xs x (read x) (inr refl), longer)
@@ -193,9 +193,9 @@ module _ {K : Type 0} (read : K → List ToldValue) (values : List ToldValue) (x
   pub longer_of_cases : IsLongerOf values (map read (xs ++ x ∷ [])) to → IsLongerOf values (map read xs) to ⊎ IsLonger values (read x) to
   longer_of_cases (c, there, longer) = elim (in_more_cases c there) [ inl old ↦ inl (c, old, longer) | inr e ↦ inr (subst (λ d. IsLonger values d to) e longer) ]
     where
-      in_more_cases : (c : List ToldValue) → In c (map read (xs ++ x ∷ [])) → In c (map read xs) ⊎ (c ≡ read x)
+      in_more_cases : (c : List ToldAnswer) → In c (map read (xs ++ x ∷ [])) → In c (map read xs) ⊎ (c ≡ read x)
       in_more_cases c h = in_one read xs x c h
 
 -- what the n-th outcome tells
-pub at_told : (outcomes : List Interleaving) (n : ℕ) (item : Interleaving) (told : List ToldValue) → n < length outcomes → item ≡ get_or outcomes n item → item.told ≡ told → IsAt (tells outcomes) n told
+pub at_told : (outcomes : List Interleaving) (n : ℕ) (item : Interleaving) (told : List ToldAnswer) → n < length outcomes → item ≡ get_or outcomes n item → item.told ≡ told → IsAt (tells outcomes) n told
 at_told outcomes n item told lt is same = subst (λ t. IsAt (tells outcomes) n t) same (IsAt-map (λ i. i.told) outcomes n item (slice_get_read outcomes (length outcomes) n item refl lt is))

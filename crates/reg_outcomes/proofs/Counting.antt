@@ -8,7 +8,7 @@ use Rattle.std.proofs.lemmas.Bool.{cases_Bool, false≢true}
 use Rattle.std.proofs.lemmas.Option.{same_Some, slice_get_within}
 use Rattle.reg_checkers.specs.History.{IsAt}
 use Rattle.reg_checkers.proofs.Pushing.{at_push}
-use Rattle.reg_outcomes.specs.declared.told.ToldValue.{ToldValue}
+use Rattle.reg_outcomes.specs.declared.told.ToldAnswer.{ToldAnswer}
 use Rattle.reg_outcomes.specs.declared.tallies.Tally.{Tally}
 use Rattle.reg_outcomes.specs.PlayTables.{Seen, HasOutcome, IsFirst, IsNoShorter, IsTally, IsTallyOf, Nothing}
 use Rattle.reg_outcomes.specs.Counts.{IsShorter, IsShortest, TellsOf, key_cmp, IsCounted, HasRoom}
@@ -126,14 +126,14 @@ pub told_more : (plays : List Seen) (s : Seen) (t v : Tally) → s.is_finished �
 told_more plays s t v done (those, are, tally) more = (those ++ s ∷ [], those_more s (record { finished = done; same = refl }) are, more those tally)
 
 -- and where it has another, or isn't finished
-pub told_still : (plays : List Seen) (s : Seen) (outcome : List ToldValue) (o : Option Tally) → ¬ HasOutcome outcome s → TellsOf plays outcome o → TellsOf (plays ++ s ∷ []) outcome o
+pub told_still : (plays : List Seen) (s : Seen) (outcome : List ToldAnswer) (o : Option Tally) → ¬ HasOutcome outcome s → TellsOf plays outcome o → TellsOf (plays ++ s ∷ []) outcome o
 told_still plays s outcome None other none = λ k x h done same. elim (at_cases plays s k x h) [
   | inl old ↦ none k x old done same
   | inr new ↦ other (subst (λ (y : Seen). HasOutcome outcome y) (sym new) (record { finished = done; same = same }))
 ]
 told_still plays s outcome (Some t) other (those, are, tally) = (those, those_same s other are, tally)
 
-module _ {K : Type 0} (items : K → List ToldValue) where
+module _ {K : Type 0} (items : K → List ToldAnswer) where
   -- the map after the play was counted
   pub tells_next : (plays : List Seen) (told new : BTreeMap K Tally) (key : K) (s : Seen) (v : Tally) → s.is_finished ≡ true → items key ≡ s.outcome → Updates (key_cmp items) told new key (Some v)
       → IsTallyOf (plays ++ s ∷ []) s.outcome v → ((q : K) → TellsOf plays (items q) (get (key_cmp items) told q)) → (q : K) → TellsOf (plays ++ s ∷ []) (items q) (get (key_cmp items) new q)

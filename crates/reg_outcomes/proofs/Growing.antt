@@ -12,7 +12,7 @@ use Rattle.std.proofs.lemmas.Map.Keys.{sorted_head, sorted_tail}
 use Rattle.std.proofs.lemmas.Option.{same_Some}
 use Rattle.reg_base.specs.Order.{In}
 use Rattle.reg_checkers.specs.History.{IsAt}
-use Rattle.reg_outcomes.specs.declared.told.ToldValue.{ToldValue}
+use Rattle.reg_outcomes.specs.declared.told.ToldAnswer.{ToldAnswer}
 use Rattle.reg_outcomes.specs.Told.{told_cmp}
 use Rattle.reg_outcomes.proofs.ToldOrder.{outcomes_exact, outcomes_total}
 use Rattle.reg_outcomes.specs.Combining.{AreOnce, Grows, cut, cut_all}
@@ -47,31 +47,31 @@ module _ {X : Type 0} where
   same_place (y ∷ xs) once (suc i) zero x at here = absurd (once.0 x (in_at xs i x at) (same_Some y x here))
   same_place (y ∷ xs) once (suc i) (suc j) x at here = ap suc (same_place xs once.1 i j x at here)
 
-module _ {K : Type 0} (read : K → List ToldValue) where
+module _ {K : Type 0} (read : K → List ToldAnswer) where
   abbrev by : K → K → Ordering
   by a b = slice_cmp told_cmp (read a) (read b)
 
   abbrev put_at : Ordering → K → K → List K → List K
   put_at o k x xs = match_ordering o (k ∷ x ∷ xs) (x ∷ xs) (x ∷ insert_key by xs k)
 
-  kept_at : (o : Ordering) (k x : K) (xs : List K) (y : List ToldValue) → (In y (map read xs) → In y (map read (insert_key by xs k))) → In y (map read (x ∷ xs)) → In y (map read (put_at o k x xs))
+  kept_at : (o : Ordering) (k x : K) (xs : List K) (y : List ToldAnswer) → (In y (map read xs) → In y (map read (insert_key by xs k))) → In y (map read (x ∷ xs)) → In y (map read (put_at o k x xs))
   kept_at Less k x xs y rest h = inr h
   kept_at Equal k x xs y rest h = h
   kept_at Greater k x xs y rest (inl e) = inl e
   kept_at Greater k x xs y rest (inr h) = inr (rest h)
 
-  kept : (k : K) (xs : List K) (y : List ToldValue) → In y (map read xs) → In y (map read (insert_key by xs k))
+  kept : (k : K) (xs : List K) (y : List ToldAnswer) → In y (map read xs) → In y (map read (insert_key by xs k))
   kept k [] y h = absurd h
   kept k (x ∷ xs) y h = kept_at (by k x) k x xs y (kept k xs y) h
 
-  only_at : (o : Ordering) (k x : K) (xs : List K) (y : List ToldValue) → (In y (map read (insert_key by xs k)) → In y (map read xs) ⊎ (y ≡ read k)) → In y (map read (put_at o k x xs)) → In y (map read (x ∷ xs)) ⊎ (y ≡ read k)
+  only_at : (o : Ordering) (k x : K) (xs : List K) (y : List ToldAnswer) → (In y (map read (insert_key by xs k)) → In y (map read xs) ⊎ (y ≡ read k)) → In y (map read (put_at o k x xs)) → In y (map read (x ∷ xs)) ⊎ (y ≡ read k)
   only_at Less k x xs y rest (inl e) = inr e
   only_at Less k x xs y rest (inr h) = inl h
   only_at Equal k x xs y rest h = inl h
   only_at Greater k x xs y rest (inl e) = inl (inl e)
   only_at Greater k x xs y rest (inr h) = elim (rest h) [ inl old ↦ inl (inr old) | inr e ↦ inr e ]
 
-  only : (k : K) (xs : List K) (y : List ToldValue) → In y (map read (insert_key by xs k)) → In y (map read xs) ⊎ (y ≡ read k)
+  only : (k : K) (xs : List K) (y : List ToldAnswer) → In y (map read (insert_key by xs k)) → In y (map read xs) ⊎ (y ≡ read k)
   only k [] y (inl e) = inr e
   only k [] y (inr h) = absurd h
   only k (x ∷ xs) y h = only_at (by k x) k x xs y (only k xs y) h
@@ -86,18 +86,18 @@ module _ {K : Type 0} (read : K → List ToldValue) where
   new k (x ∷ xs) = new_at (by k x) k x xs refl (new k xs)
 
   -- one key was put where there was none
-  pub put_first : (k : K) (told : List ToldValue) (old now : List K) → read k ≡ told → old ≡ [] → now ≡ insert_key by old k → map read now ≡ told ∷ []
+  pub put_first : (k : K) (told : List ToldAnswer) (old now : List K) → read k ≡ told → old ≡ [] → now ≡ insert_key by old k → map read now ≡ told ∷ []
   put_first k told old now same none is = ap (map read) (is ∙ ap (λ ks. insert_key by ks k) none) ∙ ap (λ t. t ∷ []) same
 
   -- one key was put
-  pub grows_put : (k : K) (told : List ToldValue) (old now : List K) → read k ≡ told → now ≡ insert_key by old k → Grows (λ y. y ≡ told) (map read old) (map read now)
+  pub grows_put : (k : K) (told : List ToldAnswer) (old now : List K) → read k ≡ told → now ≡ insert_key by old k → Grows (λ y. y ≡ told) (map read old) (map read now)
   grows_put k told old now same is = subst (λ l. Grows (λ y. y ≡ told) (map read old) (map read l)) (sym is) (record {
     kept = λ y h. kept k old y h;
     only = λ y h. elim (only k old y h) [ inl o ↦ inl o | inr e ↦ inr (e ∙ same) ];
     added = λ y e. subst (λ t. In t (map read (insert_key by old k))) (same ∙ sym e) (new k old);
   })
 
-  below : (k : K) (ks : List K) (y : List ToldValue) → AllByRecursion (λ q. by k q ≡ Less) ks → In y (map read ks) → read k ≢ y
+  below : (k : K) (ks : List K) (y : List ToldAnswer) → AllByRecursion (λ q. by k q ≡ Less) ks → In y (map read ks) → read k ≢ y
   below k [] y less h = absurd h
   below k (x ∷ ks) y less (inl e) = λ is.
       let tied : by k x ≡ Equal = ap (λ t. slice_cmp told_cmp (read k) t) (sym (is ∙ e)) ∙ tied_itself outcomes_total (read k) in
@@ -111,33 +111,33 @@ module _ {K : Type 0} (read : K → List ToldValue) where
   once (k ∷ ks) ordered = (λ y h. below k ks y (sorted_head by k ks ordered) h, once ks (sorted_tail by k ks ordered))
 
   -- one list was cut out
-  module _ (told : List ToldValue) where
+  module _ (told : List ToldAnswer) where
     abbrev hit : K → Bool
     hit k = is_eq (slice_cmp told_cmp told (read k))
 
     abbrev cut_at : Bool → K → List K → List K
     cut_at b k ks = cond b ks (k ∷ cut read told ks)
 
-    left_at : (b : Bool) (k : K) (ks : List K) (y : List ToldValue) → (In y (map read (cut read told ks)) → In y (map read ks)) → In y (map read (cut_at b k ks)) → In y (map read (k ∷ ks))
+    left_at : (b : Bool) (k : K) (ks : List K) (y : List ToldAnswer) → (In y (map read (cut read told ks)) → In y (map read ks)) → In y (map read (cut_at b k ks)) → In y (map read (k ∷ ks))
     left_at true k ks y rest h = inr h
     left_at false k ks y rest (inl e) = inl e
     left_at false k ks y rest (inr h) = inr (rest h)
 
-    left : (ks : List K) (y : List ToldValue) → In y (map read (cut read told ks)) → In y (map read ks)
+    left : (ks : List K) (y : List ToldAnswer) → In y (map read (cut read told ks)) → In y (map read ks)
     left [] y h = h
     left (k ∷ ks) y h = left_at (hit k) k ks y (left ks y) h
 
-    other_at : (b : Bool) (k : K) (ks : List K) (y : List ToldValue) → hit k ≡ b → y ≢ told → (In y (map read ks) → In y (map read (cut read told ks))) → In y (map read (k ∷ ks)) → In y (map read (cut_at b k ks))
+    other_at : (b : Bool) (k : K) (ks : List K) (y : List ToldAnswer) → hit k ≡ b → y ≢ told → (In y (map read ks) → In y (map read (cut read told ks))) → In y (map read (k ∷ ks)) → In y (map read (cut_at b k ks))
     other_at true k ks y is apart rest (inl e) = absurd (apart (e ∙ sym (outcomes_exact told (read k) (equal_is (slice_cmp told_cmp told (read k)) is))))
     other_at true k ks y is apart rest (inr h) = h
     other_at false k ks y is apart rest (inl e) = inl e
     other_at false k ks y is apart rest (inr h) = inr (rest h)
 
-    other : (ks : List K) (y : List ToldValue) → y ≢ told → In y (map read ks) → In y (map read (cut read told ks))
+    other : (ks : List K) (y : List ToldAnswer) → y ≢ told → In y (map read ks) → In y (map read (cut read told ks))
     other [] y apart h = h
     other (k ∷ ks) y apart h = other_at (hit k) k ks y refl apart (other ks y apart) h
 
-    gone_at : (b : Bool) (k : K) (ks : List K) (y : List ToldValue) → hit k ≡ b → AreOnce (map read (k ∷ ks)) → (AreOnce (map read ks) → In y (map read (cut read told ks)) → y ≢ told) → In y (map read (cut_at b k ks)) → y ≢ told
+    gone_at : (b : Bool) (k : K) (ks : List K) (y : List ToldAnswer) → hit k ≡ b → AreOnce (map read (k ∷ ks)) → (AreOnce (map read ks) → In y (map read (cut read told ks)) → y ≢ told) → In y (map read (cut_at b k ks)) → y ≢ told
     gone_at true k ks y is once rest h = λ e. once.0 y h (sym (e ∙ outcomes_exact told (read k) (equal_is (slice_cmp told_cmp told (read k)) is)))
     gone_at false k ks y is once rest (inl e) = λ f.
         let tied : slice_cmp told_cmp told (read k) ≡ Equal = ap (λ t. slice_cmp told_cmp told t) (sym (sym f ∙ e)) ∙ tied_itself outcomes_total told in
@@ -145,7 +145,7 @@ module _ {K : Type 0} (read : K → List ToldValue) where
         cc
     gone_at false k ks y is once rest (inr h) = rest once.1 h
 
-    gone : (ks : List K) (y : List ToldValue) → AreOnce (map read ks) → In y (map read (cut read told ks)) → y ≢ told
+    gone : (ks : List K) (y : List ToldAnswer) → AreOnce (map read ks) → In y (map read (cut read told ks)) → y ≢ told
     gone [] y once h = absurd h
     gone (k ∷ ks) y once h = gone_at (hit k) k ks y refl once (gone ks y) h
 
@@ -166,14 +166,14 @@ module _ {K : Type 0} (read : K → List ToldValue) where
     short (k ∷ ks) = short_at (hit k) k ks (short ks)
 
   -- All of these lists were cut out: what is left, and how much at least.
-  pub record IsCut (os : List (List ToldValue)) (ks left : List K) : Type 0 where
-    pub kept : (y : List ToldValue) → In y (map read left) → In y (map read ks)
-    pub none : (y : List ToldValue) → In y (map read left) → ¬ In y os
-    pub all : (y : List ToldValue) → In y (map read ks) → ¬ In y os → In y (map read left)
+  pub record IsCut (os : List (List ToldAnswer)) (ks left : List K) : Type 0 where
+    pub kept : (y : List ToldAnswer) → In y (map read left) → In y (map read ks)
+    pub none : (y : List ToldAnswer) → In y (map read left) → ¬ In y os
+    pub all : (y : List ToldAnswer) → In y (map read ks) → ¬ In y os → In y (map read left)
     pub apart : AreOnce (map read left)
     pub many : length ks ≤ length os + length left
 
-  pub is_cut : (os : List (List ToldValue)) (ks : List K) → AreOnce (map read ks) → IsCut os ks (cut_all read os ks)
+  pub is_cut : (os : List (List ToldAnswer)) (ks : List K) → AreOnce (map read ks) → IsCut os ks (cut_all read os ks)
   is_cut [] ks once = record { kept = λ y h. h; none = λ y h n. absurd n; all = λ y h n. h; apart = once; many = omega arith }
   is_cut (o ∷ os) ks once =
       let rest = is_cut os (cut read o ks) (still_once o ks once) in

@@ -1,5 +1,5 @@
 -- What holds of each stage that turns lead to.
-use Rattle.std.proofs.Common.{◌≡◌, ℕ, zero, suc, ◌+◌, ◌*◌, ◌<◌, ◌≤◌, List, [], ◌∷◌, ◌++◌, length, map, set, replicate, refl, ap, ap₂, sym, ◌∙◌, subst, arith, length-append, length-set}
+use Rattle.std.proofs.Common.{◌≡◌, ℕ, zero, suc, ◌+◌, ◌*◌, ◌<◌, ◌≤◌, List, [], ◌∷◌, ◌++◌, length, map, set, replicate, refl, ap, ap₂, sym, ◌∙◌, subst, arith, length-append}
 use Rattle.std.specs.Prelude.{slice_index, sum, ◌^◌}
 use Rattle.std.specs.List.{All, sum_by}
 use Rattle.std.proofs.lemmas.List.{length-replicate}
@@ -7,8 +7,8 @@ use Rattle.std.proofs.lemmas.List.Sums.{sum-map, sum_by-cons, sum_by-le, sum_by-
 use Rattle.std.proofs.lemmas.Option.{slice_get_within}
 use Rattle.reg_base.specs.declared.limits.TheConstants.{MOST_PROCESSES, MOST_OPERATIONS}
 use Rattle.reg_base.specs.declared.memory.Op.{Op}
-use Rattle.reg_base.specs.declared.memory.Op.TheVariants.{Read, Write, Swap}
-use Rattle.reg_base.specs.Memory.{after, register_of}
+use Rattle.reg_base.specs.Memory.{register_of}
+use Rattle.reg_base.proofs.Operations.{length-after}
 use Rattle.reg_checkers.specs.History.{IsAt}
 use Rattle.reg_outcomes.proofs.Elements.{has_at}
 use Rattle.reg_outcomes.specs.Interleavings.{ArePlayable, IsPlayable, Leads, Nothing, Turn, Stage, script_of, stage_after}
@@ -29,11 +29,6 @@ one_more_behind [] (s ∷ ss) p op h at = absurd h
 one_more_behind (n ∷ ns) [] p op h at = absurd h
 one_more_behind (n ∷ ns) (s ∷ ss) zero op h at = (let l = slice_get_within s n op at in omega (arith, l), h.1)
 one_more_behind (n ∷ ns) (s ∷ ss) (suc p) op h at = (h.0, one_more_behind ns ss p op h.1 at)
-
-pub length-after : (op : Op) (m : List ℕ) → length (after op m) ≡ length m
-length-after (Read r) m = refl
-length-after (Write r v) m = length-set m r v
-length-after (Swap r v) m = length-set m r v
 
 -- so many operations are behind as there were turns, and there are all registers
 pub record Keeps (scripts : List (List Op)) (registers : ℕ) (turns : List ℕ) (s : Stage) : Type 0 where

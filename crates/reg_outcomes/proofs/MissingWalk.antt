@@ -1,11 +1,13 @@
 -- Along a serial order each process does its script, and the turns tell what the history tells.
 use Rattle.std.proofs.Common.{◌≡◌, ◌≢◌, inl, inr, ℕ, zero, suc, ◌+◌, ◌<◌, ◌≤◌, ◌↔◌, cond, List, [], ◌∷◌, ◌++◌, length, map, take, replicate, refl, ap, ap₂, sym, ◌∙◌, subst, arith, append-nil, length-set, ext_get_or, get_or-set_same, get_or-set_other}
-use Rattle.std.specs.Prelude.{◌==◌, slice_index}
+use Rattle.std.specs.Prelude.{◌==◌, slice_get, slice_index}
+use Rattle.std.specs.Option.{unwrap_or}
 use Rattle.std.specs.List.{flat_map, range_with_len}
 use Rattle.std.proofs.lemmas.Bool.{cases_eq, cases_order, eq-eqb, ne_eqb}
 use Rattle.std.proofs.lemmas.List.{length-map, length-replicate}
 use Rattle.reg_base.specs.declared.memory.Answer.{Answer}
 use Rattle.reg_base.specs.declared.memory.Op.{Op}
+use Rattle.reg_base.specs.declared.memory.Op.TheVariants.{Read}
 use Rattle.reg_base.specs.declared.memory.OpId.{OpId}
 use Rattle.reg_base.specs.Memory.{after, answer_of, memory}
 use Rattle.reg_checkers.specs.declared.entries.Entry.{Entry}
@@ -15,7 +17,7 @@ use Rattle.reg_checkers.specs.Progress.{op_of}
 use Rattle.reg_checkers.proofs.Bridges.{zip_right}
 use Rattle.reg_checkers.proofs.Histories.{answered_was_called}
 use Rattle.reg_checkers.proofs.Places.{element_at, same_at, within}
-use Rattle.reg_outcomes.specs.declared.told.ToldValue.{ToldValue}
+use Rattle.reg_outcomes.specs.declared.told.ToldAnswer.{ToldAnswer}
 use Rattle.reg_outcomes.specs.Told.{told_in, told_of, outcome_of}
 use Rattle.reg_outcomes.proofs.Elements.{none_at_first, take_at}
 use Rattle.reg_world.proofs.lists.Members.{map_append}
@@ -23,7 +25,7 @@ use Rattle.reg_world.proofs.one_memory.Replicas.{memory-append}
 use Rattle.reg_outcomes.specs.Interleavings.{Leads, Nothing, Turn, Stage, IsInterleaving, first_stage, stage_after, script_of}
 use Rattle.reg_outcomes.proofs.ByProcess.{told_to, rises, part_after, by_process}
 use Rattle.reg_outcomes.proofs.MissingCalls.{HasScripts}
-use Rattle.reg_outcomes.proofs.MissingTold.{Answers, IsTold, told_first, told_one_more, answer_in, answers_in, history_told}
+use Rattle.reg_outcomes.proofs.MissingTold.{Answers, Calls, IsTold, told_first, told_one_more, answer_in, answers_in, history_told}
 use Rattle.reg_outcomes.proofs.Stepping.{has_script}
 
 take_next : {X : Type 0} (xs : List X) (k : ℕ) (x : X) → IsAt xs k x → take (suc k) xs ≡ take k xs ++ x ∷ []
@@ -45,13 +47,13 @@ abbrev processes : List OpId → List ℕ
 processes ids = map (λ (id : OpId). id.process) ids
 
 -- A stage at which the first k operations of an order are behind, and no other.
-record IsBehind (n registers : ℕ) (ids : List OpId) (ops : List Op) (given : OpId → Answer) (k : ℕ) (s : Stage) : Type 0 where
+record IsBehind (n registers : ℕ) (ids : List OpId) (ops : List Op) (asked : OpId → Op) (given : OpId → Answer) (k : ℕ) (s : Stage) : Type 0 where
   size : length s.next ≡ n
   next : (p m : ℕ) → (m < slice_index s.next p) ↔ ((j : ℕ) × (j < k) × IsAt ids j (op_of p m))
   memory : s.memory ≡ memory registers (take k ops)
-  told : (p : ℕ) → told_to s.told p ≡ told_first given p (slice_index s.next p)
+  told : (p : ℕ) → told_to s.told p ≡ told_first asked given p (slice_index s.next p)
 
-module _ (scripts : List (List Op)) (registers : ℕ) (h : List Entry) (has : HasScripts scripts registers h) (ids : List OpId) (serial : IsSerial registers h ids) (given : OpId → Answer) (answers : Answers h given) where
+module _ (scripts : List (List Op)) (registers : ℕ) (h : List Entry) (has : HasScripts scripts registers h) (ids : List OpId) (serial : IsSerial registers h ids) (asked : OpId → Op) (calls : Calls h asked) (given : OpId → Answer) (answers : Answers h given) where
   abbrev n : ℕ
   n = length scripts
 
@@ -59,7 +61,7 @@ module _ (scripts : List (List Op)) (registers : ℕ) (h : List Entry) (has : Ha
   ops = serial.legal.ops
 
   abbrev Behind : ℕ → Stage → Type 0
-  Behind k s = IsBehind n registers ids ops given k s
+  Behind k s = IsBehind n registers ids ops asked given k s
 
   -- a finished operation is one of a script
   in_script : (id : OpId) → IsFinished h id → (op : Op) × IsAt (script_of scripts id.process) id.number op
@@ -94,7 +96,7 @@ module _ (scripts : List (List Op)) (registers : ℕ) (h : List Entry) (has : Ha
     size = length-replicate n 0;
     next = λ p m. (λ lt. let e = none_at_first n p in absurd (omega (arith, lt, e)), λ there. let lt = there.1 in absurd (omega (arith, lt)));
     memory = refl;
-    told = λ p. sym (ap (told_first given p) (none_at_first n p));
+    told = λ p. sym (ap (told_first asked given p) (none_at_first n p));
   }
 
   module _ (k : ℕ) (s : Stage) (turns : List ℕ) (leads : Leads scripts registers turns s) (behind : Behind k s) (id : OpId) (op : Op) (at : ℕ) (here : IsAt ids k id) (its : IsAt ops k op) (call : IsCalled h id at op) where
@@ -165,22 +167,26 @@ module _ (scripts : List (List Op)) (registers : ℕ) (h : List Entry) (has : Ha
         let right = serial.legal.right k id op fin.0 fin.1 here its fin.2 in
         ap given id_is ∙ answers id fin.0 fin.1 fin.2 ∙ right ∙ ap (answer_of op) (sym behind.memory)
 
-    told_now : (q : ℕ) → told_to now.told q ≡ told_to s.told q ++ cond (mover == q) (told_in (op_of mover (slice_index s.next mover)) (answer_of op s.memory)) []
-    told_now q = part_after n q (op_of mover (slice_index s.next mover)) (answer_of op s.memory) s.told (rises scripts registers turns s leads)
+    asked_is : asked (op_of mover (slice_index s.next mover)) ≡ op
+    asked_is = ap asked id_is ∙ calls id at op call
 
-    told_here : told_to now.told mover ≡ told_first given mover (slice_index now.next mover)
+    told_now : (q : ℕ) → told_to now.told q ≡ told_to s.told q ++ cond (mover == q) (told_in op (op_of mover (slice_index s.next mover)) (answer_of op s.memory)) []
+    told_now q = part_after n q op (op_of mover (slice_index s.next mover)) (answer_of op s.memory) s.told (rises scripts registers turns s leads)
+
+    told_here : told_to now.told mover ≡ told_first asked given mover (slice_index now.next mover)
     told_here =
         let number = slice_index s.next mover in
-        told_now mover ∙ ap (λ b. told_to s.told mover ++ cond b (told_in (op_of mover number) (answer_of op s.memory)) []) (eq-eqb mover mover refl)
-        ∙ ap₂ (λ (l : List ToldValue) (x : Answer). l ++ told_in (op_of mover number) x) (behind.told mover) (sym answer_is)
-        ∙ sym (told_one_more given mover number) ∙ ap (told_first given mover) (sym one_more)
+        told_now mover ∙ ap (λ b. told_to s.told mover ++ cond b (told_in op (op_of mover number) (answer_of op s.memory)) []) (eq-eqb mover mover refl)
+        ∙ ap₂ (λ (l : List ToldAnswer) (x : Answer). l ++ told_in op (op_of mover number) x) (behind.told mover) (sym answer_is)
+        ∙ ap (λ (o : Op). told_first asked given mover number ++ told_in o (op_of mover number) (given (op_of mover number))) (sym asked_is)
+        ∙ sym (told_one_more asked given mover number) ∙ ap (told_first asked given mover) (sym one_more)
 
-    told_all : (q : ℕ) → told_to now.told q ≡ told_first given q (slice_index now.next q)
+    told_all : (q : ℕ) → told_to now.told q ≡ told_first asked given q (slice_index now.next q)
     told_all q = elim (cases_eq q mover) [
-      | inl same ↦ subst (λ r. told_to now.told r ≡ told_first given r (slice_index now.next r)) (sym same) told_here
+      | inl same ↦ subst (λ r. told_to now.told r ≡ told_first asked given r (slice_index now.next r)) (sym same) told_here
       | inr away ↦
-          told_now q ∙ ap (λ b. told_to s.told q ++ cond b (told_in (op_of mover (slice_index s.next mover)) (answer_of op s.memory)) []) (ne_eqb mover q (λ e. away (sym e)))
-          ∙ append-nil (told_to s.told q) ∙ behind.told q ∙ ap (told_first given q) (sym (no_more q away))
+          told_now q ∙ ap (λ b. told_to s.told q ++ cond b (told_in op (op_of mover (slice_index s.next mover)) (answer_of op s.memory)) []) (ne_eqb mover q (λ e. away (sym e)))
+          ∙ append-nil (told_to s.told q) ∙ behind.told q ∙ ap (told_first asked given q) (sym (no_more q away))
     ]
 
     turn : Leads scripts registers (turns ++ mover ∷ []) now
@@ -226,26 +232,28 @@ module _ (scripts : List (List Op)) (registers : ℕ) (h : List Entry) (has : Ha
 
     told_same : (p : ℕ) → told_to last.told p ≡ told_of p h
     told_same p =
-        let t : IsTold given p h = history_told n registers given p h has.history answers in
+        let t : IsTold asked given p h = history_told n registers asked given p h has.history calls answers in
         let count : slice_index last.next p ≡ t.count = same_bound (slice_index last.next p) t.count (λ m lt. (t.done m).1 ((finished_are p m).0 lt)) (λ m lt. (finished_are p m).1 ((t.done m).0 lt)) in
-        behind.told p ∙ ap (told_first given p) count ∙ sym t.told
+        behind.told p ∙ ap (told_first asked given p) count ∙ sym t.told
 
     tells : (turns : List ℕ) → Leads scripts registers turns last → last.told ≡ outcome_of n h
     unfolding outcome_of
-    tells turns leads = by_process scripts registers turns last leads ∙ ap (λ (f : ℕ → List ToldValue). flat_map f (range_with_len 0 n)) (λ i p. told_same p i)
+    tells turns leads = by_process scripts registers turns last leads ∙ ap (λ (f : ℕ → List ToldAnswer). flat_map f (range_with_len 0 n)) (λ i p. told_same p i)
 
 -- the turns of a serial order are an interleaving with the outcome of the history
-pub interleaved : (scripts : List (List Op)) (registers : ℕ) (h : List Entry) → HasScripts scripts registers h → (ids : List OpId) → IsSerial registers h ids → (told : List ToldValue) → outcome_of (length scripts) h ≡ told
+pub interleaved : (scripts : List (List Op)) (registers : ℕ) (h : List Entry) → HasScripts scripts registers h → (ids : List OpId) → IsSerial registers h ids → (told : List ToldAnswer) → outcome_of (length scripts) h ≡ told
     → (turns : List ℕ) × IsInterleaving scripts registers (record { turns = turns; told = told })
 interleaved scripts registers h has ids serial told is =
+    let asked : OpId → Op = λ id. unwrap_or (slice_get (script_of scripts id.process) id.number) (Read 0) in
+    let calls : Calls h asked = (λ id at op c. ap (λ o. unwrap_or o (Read 0)) (has.called id at op c)) in
     let given : OpId → Answer = answer_in h in
     let answers : Answers h given = answers_in (length scripts) registers h has.history in
-    let end = walk scripts registers h has ids serial given answers (length ids) (omega arith) in (
+    let end = walk scripts registers h has ids serial asked calls given answers (length ids) (omega arith) in (
       processes (take (length ids) ids),
       record {
         last = end.0;
         leads = end.1;
-        used_up = used_up scripts registers h has ids serial given answers end.0 end.2;
-        tells = tells scripts registers h has ids serial given answers end.0 end.2 (processes (take (length ids) ids)) end.1 ∙ is;
+        used_up = used_up scripts registers h has ids serial asked calls given answers end.0 end.2;
+        tells = tells scripts registers h has ids serial asked calls given answers end.0 end.2 (processes (take (length ids) ids)) end.1 ∙ is;
       },
     )

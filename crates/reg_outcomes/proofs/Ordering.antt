@@ -12,21 +12,21 @@ use denote.Param.Members.{Mut}
 use denote.Ref.{Bor}
 use Rattle.std.specs.Cmp.Lexicographic.{slice_cmp}
 use Rattle.std.proofs.lemmas.Cmp.{nat_cmp_total, on_total, then_total, back_total, tied_itself, ranked}
-use Rattle.reg_outcomes.specs.declared.told.ToldValue.{ToldValue}
+use Rattle.reg_outcomes.specs.declared.told.ToldAnswer.{ToldAnswer}
 use Rattle.reg_outcomes.specs.Told.{told_cmp}
 use Rattle.reg_outcomes.proofs.Comparing.{equal_is}
 use Rattle.reg_outcomes.proofs.ToldOrder.{outcomes_exact, outcomes_total}
 use Rattle.reg_outcomes.specs.PlayTables.{Line, StandsBefore}
 use Rattle.reg_outcomes.specs.Counts.{line_cmp}
 
-pub keys_total : {K : Type 0} (items : K → List ToldValue) → IsTotalOrder (λ a b. slice_cmp told_cmp (items a) (items b))
+pub keys_total : {K : Type 0} (items : K → List ToldAnswer) → IsTotalOrder (λ a b. slice_cmp told_cmp (items a) (items b))
 keys_total items = on_total items outcomes_total
 
 -- outcomes that compare alike are one
-pub same_keys : (a b : List ToldValue) → is_eq (slice_cmp told_cmp a b) ≡ true → a ≡ b
+pub same_keys : (a b : List ToldAnswer) → is_eq (slice_cmp told_cmp a b) ≡ true → a ≡ b
 same_keys a b h = outcomes_exact a b (equal_is (slice_cmp told_cmp a b) h)
 
-pub tied_keys : (a b : List ToldValue) → a ≡ b → is_eq (slice_cmp told_cmp a b) ≡ true
+pub tied_keys : (a b : List ToldAnswer) → a ≡ b → is_eq (slice_cmp told_cmp a b) ≡ true
 tied_keys a b e = ap (λ l. is_eq (slice_cmp told_cmp a l)) (sym e) ∙ ap is_eq (tied_itself outcomes_total a)
 
 -- whether two lines have one outcome

@@ -8,6 +8,7 @@ use Rattle.reg_base.specs.declared.memory.Op.{Op}
 use Rattle.reg_base.specs.declared.memory.OpId.{OpId}
 use Rattle.reg_base.specs.Memory.{answer_of, register_of}
 use Rattle.reg_base.specs.Order.{In}
+use Rattle.reg_base.proofs.Operations.{length-after}
 use Rattle.reg_checkers.specs.declared.entries.Entry.{Entry}
 use Rattle.reg_checkers.specs.declared.entries.Entry.TheVariants.{Called}
 use Rattle.reg_checkers.specs.History.{IsCalled, IsHistory, MayCall, WasCalled}
@@ -22,7 +23,6 @@ use Rattle.reg_outcomes.specs.Finding.{ArePlacedBefore, IsFindFault, MayCome, Ma
 use Rattle.reg_outcomes.specs.Interleavings.{Stage, first_stage}
 use Rattle.reg_outcomes.specs.Layers.{Adds, IsAfterSome, IsFirstOf, IsSomeOf, Refuses}
 use Rattle.reg_outcomes.specs.Placing.{HasRoomFor, IsPlaced, IsPlacing, ids_along, processes_of}
-use Rattle.reg_outcomes.proofs.Leading.{length-after}
 use Rattle.reg_outcomes.proofs.Numbering.{behind, different_of, in_at, once_of, stages_of}
 
 -- all stages after k operations placed, each with the processes of such operations

@@ -14,7 +14,7 @@ use Rattle.reg_front.specs.Fronts.{KeepsLaws}
 use Rattle.reg_checkers.specs.declared.entries.Entry.{Entry}
 use Rattle.reg_checkers.specs.History.{IsAt}
 use Rattle.reg_checkers.proofs.Places.{get_push_other, same_at}
-use Rattle.reg_outcomes.specs.declared.told.ToldValue.{ToldValue}
+use Rattle.reg_outcomes.specs.declared.told.ToldAnswer.{ToldAnswer}
 use Rattle.reg_outcomes.specs.declared.tallies.Tally.{Tally}
 use Rattle.reg_outcomes.specs.Told.{outcome_of}
 use Rattle.reg_outcomes.specs.PlayTables.{Seen}
@@ -46,7 +46,7 @@ pub is_play_from : (start : Op → ℕ → Start) (work : Load) (seed : ℕ) (ma
 unfolding play_from
 is_play_from start work seed made words is from = is ∙ ap (λ (w : Lcg). (seeded_play start pcg32 work.shape work.scripts work.loss work.repeat work.budget w).0.made) from
 
-pub told_by : (shape : Extent) (made : Made) (entries : List Entry) (outcome : List ToldValue) → outcome ≡ outcome_of shape.processes entries → shape.processes ≡ made.processes → entries ≡ made.history → outcome ≡ outcome_of made.processes made.history
+pub told_by : (shape : Extent) (made : Made) (entries : List Entry) (outcome : List ToldAnswer) → outcome ≡ outcome_of shape.processes entries → shape.processes ≡ made.processes → entries ≡ made.history → outcome ≡ outcome_of made.processes made.history
 told_by shape made entries outcome is p h = is ∙ ap₂ outcome_of p h
 
 -- whether it is linearizable, and why that was not found, by other names of its shape and its history
@@ -77,7 +77,7 @@ module _ (start : Op → ℕ → Start) (work : Load) (seed : ℕ) (made : Made)
   moved : (P : Made → Type 0) → P made → P (play_from start work seed)
   moved P h = subst P is h
 
-  outcome_here : (outcome : List ToldValue) (done : Bool) → IsPlay start work.shape work.scripts work.budget made done → outcome ≡ outcome_of made.processes made.history → outcome ≡ outcome_of work.shape.processes (play_from start work seed).history
+  outcome_here : (outcome : List ToldAnswer) (done : Bool) → IsPlay start work.shape work.scripts work.budget made done → outcome ≡ outcome_of made.processes made.history → outcome ≡ outcome_of work.shape.processes (play_from start work seed).history
   outcome_here outcome done play told = moved (λ m. outcome ≡ outcome_of work.shape.processes m.history) (told ∙ ap (λ n. outcome_of n made.history) play.processes)
 
   time_here : (s : Seen) (done : Bool) → IsPlay start work.shape work.scripts work.budget made done → (s.linearizable ≡ true) ↔ IsLinearizable made.registers made.history → (s.linearizable ≡ true) ↔ IsLinearizable work.shape.registers (play_from start work seed).history
@@ -157,7 +157,7 @@ seen_next start work n seen s known here = record {
   ];
 }
 
-pub unfinished_few : {K : Type 0} (items : K → List ToldValue) (seen : List Seen) (told : BTreeMap K Tally) (unfinished n : ℕ) → IsCounted items seen told unfinished → length seen ≡ n → n < 1000000 → unfinished < 2 ^ 32 - 1
+pub unfinished_few : {K : Type 0} (items : K → List ToldAnswer) (seen : List Seen) (told : BTreeMap K Tally) (unfinished n : ℕ) → IsCounted items seen told unfinished → length seen ≡ n → n < 1000000 → unfinished < 2 ^ 32 - 1
 unfinished_few items seen told unfinished n counted many few =
     let others = counted.others in
     let l = those_few others.1 in

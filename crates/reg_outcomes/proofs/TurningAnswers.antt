@@ -5,7 +5,7 @@ use Rattle.std.proofs.lemmas.Bool.{false≢true}
 use Rattle.std.proofs.lemmas.List.{take_at}
 use Rattle.reg_base.specs.declared.memory.Answer.TheVariants.{Done}
 use Rattle.reg_base.specs.declared.memory.Op.{Op}
-use Rattle.reg_base.specs.declared.memory.Op.TheVariants.{Read, Write, Swap}
+use Rattle.reg_base.specs.declared.memory.Op.TheVariants.{Read, Write, Swap, CompareAndSwap}
 use Rattle.reg_base.specs.declared.memory.OpId.{OpId}
 use Rattle.reg_base.specs.declared.stamps.Stamp.{Stamp}
 use Rattle.reg_base.specs.Memory.{Memory, memory, answer_of, after, updates}
@@ -51,6 +51,7 @@ no_update : (op : Op) (m : Memory) → updates op ≡ false → m ≡ after op m
 no_update (Read k) m e = refl
 no_update (Write k x) m e = absurd (false≢true (sym e))
 no_update (Swap k x) m e = absurd (false≢true (sym e))
+no_update (CompareAndSwap k x y) m e = absurd (false≢true (sym e))
 
 module _ (start : Op → ℕ → Start) (n registers : ℕ) (laws : KeepsLaws start) (events : List Event) (p : ℕ) (op : Op) (M : MayTurn start n registers events p op) (R : CanRest start n registers (events ++ Call p op ∷ [])) where
   abbrev w : World

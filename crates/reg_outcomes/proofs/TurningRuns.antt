@@ -146,9 +146,9 @@ module _ (start : Op → ℕ → Start) (scripts : List (List Op)) (registers : 
           let right = turn_right start n registers laws events p op may_turn R s.memory old.memory in
           ap (outcome_of n) T.history
           ∙ turn_told n h (length (run_by events).accepted) T.later id op T.answer l
-          ∙ ap (λ l. told_after id T.answer l) old.told
-          ∙ ap (λ a. told_after id a s.told) right.0
-          ∙ ap (λ k. told_after (op_id p k) (answer_of op s.memory) s.told) (old.counts p l)
+          ∙ ap (λ l. told_after op id T.answer l) old.told
+          ∙ ap (λ a. told_after op id a s.told) right.0
+          ∙ ap (λ k. told_after op (op_id p k) (answer_of op s.memory) s.told) (old.counts p l)
 
       pub turned_more : Turned start scripts registers (turns ++ p ∷ []) (stage_after p op s) all
       turned_more = record {

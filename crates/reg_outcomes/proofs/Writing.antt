@@ -5,7 +5,7 @@ use Rattle.std.specs.List.{flat_map}
 use Rattle.std.proofs.lemmas.Grind.{flat_map-append}
 use Rattle.std.proofs.lemmas.List.{take_more}
 use Rattle.std.proofs.lemmas.List.Folds.{flat_map-map}
-use Rattle.reg_outcomes.specs.declared.told.ToldValue.{ToldValue}
+use Rattle.reg_outcomes.specs.declared.told.ToldAnswer.{ToldAnswer}
 use Rattle.reg_text.specs.declared.writing.Sink.{Sink}
 use Rattle.reg_text.specs.Lines.{text_of}
 use Rattle.reg_text.specs.Writing.{Puts}
@@ -17,15 +17,15 @@ use Rattle.reg_outcomes.specs.AllText.{all_text, never_lines, outcome_text, valu
 pub all_lines : {X : Type 0} (line : X → List ℕ) (xs : List X) (i : ℕ) → length xs ≤ i → flat_map (λ x. line x ++ 10 ∷ []) (take i xs) ≡ text_of (map line xs)
 all_lines line xs i le = ap (flat_map (λ x. line x ++ 10 ∷ [])) (take_all i xs le) ∙ sym (flat_map-map (λ l. l ++ 10 ∷ []) line xs)
 
-pub all_lists : {X : Type 0} (read : X → List ToldValue) (xs : List X) (i : ℕ) → length xs ≤ i → flat_map (λ x. values_text (read x) ++ 10 ∷ []) (take i xs) ≡ text_of (map values_text (map read xs))
+pub all_lists : {X : Type 0} (read : X → List ToldAnswer) (xs : List X) (i : ℕ) → length xs ≤ i → flat_map (λ x. values_text (read x) ++ 10 ∷ []) (take i xs) ≡ text_of (map values_text (map read xs))
 all_lists read xs i le = all_lines (λ x. values_text (read x)) xs i le ∙ ap text_of (two read xs)
   where
-    two : {X : Type 0} (read : X → List ToldValue) (xs : List X) → map (λ x. values_text (read x)) xs ≡ map values_text (map read xs)
+    two : {X : Type 0} (read : X → List ToldAnswer) (xs : List X) → map (λ x. values_text (read x)) xs ≡ map values_text (map read xs)
     two read [] = refl
     two read (x ∷ xs) = ap (λ l. values_text (read x) ∷ l) (two read xs)
 
 -- the lines as they are put are those of the text
-pub puts_all : {S : Type 0} (held : S → Option (List ℕ)) (operations stages : ℕ) (found : List Interleaving) (nevers : Option (List (List ToldValue))) (a b c d e f : Sink S)
+pub puts_all : {S : Type 0} (held : S → Option (List ℕ)) (operations stages : ℕ) (found : List Interleaving) (nevers : Option (List (List ToldAnswer))) (a b c d e f : Sink S)
     → Puts held a b ((codes "operations " ++ decimal operations) ++ 10 ∷ []) → Puts held b c ((codes "stages " ++ decimal stages) ++ 10 ∷ []) → Puts held c d ((codes "outcomes " ++ decimal (length found)) ++ 10 ∷ [])
     → Puts held d e (text_of (map outcome_text found)) → Puts held e f (text_of (never_lines nevers)) → Puts held a f (all_text operations stages found nevers)
 puts_all held operations stages found nevers a b c d e f p q r s t =

@@ -7,7 +7,7 @@ use Rattle.reg_front.specs.declared.starts.Start.{Start}
 use Rattle.reg_process.specs.declared.events.Event.{Event}
 use Rattle.reg_world.specs.World.{whole}
 use Rattle.reg_workload.specs.Plays.{calls_of}
-use Rattle.reg_outcomes.specs.declared.told.ToldValue.{ToldValue}
+use Rattle.reg_outcomes.specs.declared.told.ToldAnswer.{ToldAnswer}
 use Rattle.reg_outcomes.specs.Told.{outcome_of}
 use Rattle.reg_checkers.specs.declared.entries.Entry.{Entry}
 use Rattle.reg_checkers.specs.History.{IsAt, IsFinished}
@@ -24,18 +24,18 @@ pub record UsesUp (start : Op → ℕ → Start) (scripts : List (List Op)) (reg
 abbrev pub AllAnswered : List (List Op) → List Entry → Type 0
 AllAnswered scripts h = (p k : ℕ) (op : Op) → IsAt (script_of scripts p) k op → IsFinished h (record { process = p; number = k })
 
--- the values that the operations of these events answered, by process and then by number
-abbrev pub told_by : (Op → ℕ → Start) → List (List Op) → ℕ → List Event → List ToldValue
+-- what the operations of these events told, by process and then by number
+abbrev pub told_by : (Op → ℕ → Start) → List (List Op) → ℕ → List Event → List ToldAnswer
 told_by start scripts registers events = outcome_of (length scripts) (whole start (length scripts) registers events).history
 
 -- some run that uses the scripts up has this outcome
-abbrev pub IsOutcome : (Op → ℕ → Start) → List (List Op) → ℕ → List ToldValue → Type 0
+abbrev pub IsOutcome : (Op → ℕ → Start) → List (List Op) → ℕ → List ToldAnswer → Type 0
 IsOutcome start scripts registers told = (events : List Event) × UsesUp start scripts registers events × (told_by start scripts registers events ≡ told)
 
 -- These interleavings tell all outcomes of runs that use the scripts up, and no other.
 pub record HaveAllOutcomes (start : Op → ℕ → Start) (scripts : List (List Op)) (registers : ℕ) (found : List Interleaving) : Type 0 where
   pub each : (k : ℕ) (i : Interleaving) → IsAt found k i → IsOutcome start scripts registers i.told
-  pub all : (told : List ToldValue) → IsOutcome start scripts registers told → (k : ℕ) × (i : Interleaving) × IsAt found k i × (i.told ≡ told)
+  pub all : (told : List ToldAnswer) → IsOutcome start scripts registers told → (k : ℕ) × (i : Interleaving) × IsAt found k i × (i.told ≡ told)
 
 -- A run has room to call the operations one after another, and to come to rest after each: by a call, and by three
 -- events for each frame that it makes needed, which is a cast or an acknowledgement from each process to each other.

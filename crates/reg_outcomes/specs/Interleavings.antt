@@ -1,16 +1,15 @@
 -- The interleavings of scripts on one memory, operation by operation, and what they tell. To be believed: promises
 -- speak of it.
-use Rattle.std.specs.Prelude.{ℕ, ◌≡◌, ◌+◌, ◌<◌, ◌≤◌, nat_lt, cond, All, List, [], ◌∷◌, ◌++◌, length, map, replicate, slice_index, slice_index_or, slice_set}
+use Rattle.std.specs.Prelude.{ℕ, ◌≡◌, ◌+◌, ◌<◌, ◌≤◌, nat_lt, if◌then◌else◌, All, List, [], ◌∷◌, ◌++◌, length, map, replicate, slice_index, slice_index_or, slice_set}
 use Rattle.std.specs.declared.cmp.Ordering.TheVariants.{Less}
 use Rattle.std.specs.Cmp.Lexicographic.{slice_cmp}
 use Rattle.reg_base.specs.declared.limits.TheConstants.{MOST_PROCESSES, MOST_OPERATIONS}
 use Rattle.reg_base.specs.declared.memory.Op.{Op}
 use Rattle.reg_base.specs.declared.memory.OpId.{OpId}
 use Rattle.reg_base.specs.declared.memory.Answer.{Answer}
-use Rattle.reg_base.specs.declared.memory.Answer.TheVariants.{Done, Value}
-use Rattle.reg_base.specs.Memory.{Memory, after, answer_of, blank, register_of}
+use Rattle.reg_base.specs.Memory.{Memory, after, answer_of, blank, register_of, tells}
 use Rattle.reg_checkers.specs.History.{IsAt}
-use Rattle.reg_outcomes.specs.declared.told.ToldValue.{ToldValue}
+use Rattle.reg_outcomes.specs.declared.told.ToldAnswer.{ToldAnswer}
 use Rattle.reg_outcomes.specs.Told.{told_cmp}
 use Rattle.reg_outcomes.specs.declared.faults.InterleavingFault.{InterleavingFault}
 use Rattle.reg_outcomes.specs.declared.faults.InterleavingFault.TheVariants.{TooManyStages, OutOfMemory}
@@ -19,33 +18,32 @@ use Rattle.reg_outcomes.specs.declared.faults.InterleavingFault.TheVariants.{Too
 abbrev pub script_of : List (List Op) → ℕ → List Op
 script_of scripts p = slice_index_or scripts p []
 
--- Where scripts stand: how many operations of each are done, the memory, and the values that those operations answered,
--- in the order of an outcome.
+-- Where scripts stand: how many operations of each are done, the memory, and what those operations told, in the order
+-- of an outcome.
 pub record Stage : Type 0 where
   pub next : List ℕ
   pub memory : Memory
-  pub told : List ToldValue
+  pub told : List ToldAnswer
 
 -- the stage at which no operation is done
 abbrev pub first_stage : ℕ → ℕ → Stage
 first_stage n registers = record { next = replicate n 0; memory = blank registers; told = [] }
 
--- a value stands after all that its process and those before it were told
-abbrev pub told_behind : ToldValue → List ToldValue → List ToldValue
+-- an answer stands after all that its process and those before it were told
+abbrev pub told_behind : ToldAnswer → List ToldAnswer → List ToldAnswer
 told_behind t [] = t ∷ []
-told_behind t (x ∷ xs) = cond (nat_lt t.process x.process) (t ∷ x ∷ xs) (x ∷ told_behind t xs)
+told_behind t (x ∷ xs) = if nat_lt t.process x.process then t ∷ x ∷ xs else x ∷ told_behind t xs
 
--- what is told once this operation has its answer
-abbrev pub told_after : OpId → Answer → List ToldValue → List ToldValue
-told_after id Done told = told
-told_after id (Value value) told = told_behind (record { process = id.process; number = id.number; value = value }) told
+-- what is told once this operation has its answer, which a write doesn't tell
+abbrev pub told_after : Op → OpId → Answer → List ToldAnswer → List ToldAnswer
+told_after op id answer told = if tells op then told_behind (record { process = id.process; number = id.number; answer = answer }) told else told
 
 -- the process did its next operation, which is this one
 abbrev pub stage_after : ℕ → Op → Stage → Stage
 stage_after p op s = record {
   next = slice_set s.next p (slice_index s.next p + 1);
   memory = after op s.memory;
-  told = told_after (record { process = p; number = slice_index s.next p }) (answer_of op s.memory) s.told;
+  told = told_after op (record { process = p; number = slice_index s.next p }) (answer_of op s.memory) s.told;
 }
 
 -- Turns, the processes one after another, lead to this stage: at its turn a process does the next operation of its
@@ -57,7 +55,7 @@ pub data Leads (scripts : List (List Op)) (registers : ℕ) : List ℕ → Stage
 -- turns, and what they tell
 pub record Interleaving : Type 0 where
   pub turns : List ℕ
-  pub told : List ToldValue
+  pub told : List ToldAnswer
 
 -- The turns use the scripts up, and this is told then.
 pub record IsInterleaving (scripts : List (List Op)) (registers : ℕ) (i : Interleaving) : Type 0 where

@@ -11,7 +11,7 @@ use Rattle.reg_base.specs.declared.memory.Op.{Op}
 use Rattle.reg_base.specs.Memory.{register_of}
 use Rattle.reg_base.specs.Order.{In}
 use Rattle.reg_checkers.specs.History.{IsAt}
-use Rattle.reg_outcomes.specs.declared.told.ToldValue.{ToldValue}
+use Rattle.reg_outcomes.specs.declared.told.ToldAnswer.{ToldAnswer}
 use Rattle.reg_outcomes.specs.Told.{told_cmp}
 use Rattle.reg_outcomes.specs.declared.faults.InterleavingFault.{InterleavingFault}
 use Rattle.reg_outcomes.specs.declared.faults.InterleavingFault.TheVariants.{TooManyStages, OutOfMemory}
@@ -100,17 +100,17 @@ abbrev pub operation_count : List (List Op) → ℕ
 operation_count scripts = sum_by length scripts
 
 -- an outcome of the code, and turns that have it
-abbrev pub told_entry : {A : Type 0} → Vec ToldValue A × Vec ℕ A → List ToldValue × List ℕ
+abbrev pub told_entry : {A : Type 0} → Vec ToldAnswer A × Vec ℕ A → List ToldAnswer × List ℕ
 told_entry e = (e.0.items, e.1.items)
 
-abbrev pub told_entries : {A : Type 0} → BTreeMap (Vec ToldValue A) (Vec ℕ A) → List (List ToldValue × List ℕ)
+abbrev pub told_entries : {A : Type 0} → BTreeMap (Vec ToldAnswer A) (Vec ℕ A) → List (List ToldAnswer × List ℕ)
 told_entries outcomes = map told_entry outcomes.entries
 
-abbrev pub interleaving_of : {A : Type 0} → Vec ToldValue A × Vec ℕ A → Interleaving
+abbrev pub interleaving_of : {A : Type 0} → Vec ToldAnswer A × Vec ℕ A → Interleaving
 interleaving_of e = record { turns = e.1.items; told = e.0.items }
 
 -- one of these entries tells this
-abbrev pub IsToldIn : List (Stage × List ℕ) → List ToldValue × List ℕ → Type 0
+abbrev pub IsToldIn : List (Stage × List ℕ) → List ToldAnswer × List ℕ → Type 0
 IsToldIn layer o = (f : Stage × List ℕ) × In f layer × (o ≡ (f.0.told, f.1))
 
 -- no stage stands twice

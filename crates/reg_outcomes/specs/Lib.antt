@@ -1,4 +1,5 @@
 pub mod Told
+pub mod ToldLaws
 pub mod Interleavings
 pub mod Finishing
 pub mod Showing

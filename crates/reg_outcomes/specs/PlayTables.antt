@@ -3,22 +3,22 @@ use Rattle.std.specs.Prelude.{ℕ, ◌≡◌, ◌≢◌, ◌<◌, ◌≤◌, ◌
 use Rattle.std.specs.declared.cmp.Ordering.TheVariants.{Less}
 use Rattle.std.specs.Cmp.Lexicographic.{slice_cmp}
 use Rattle.reg_checkers.specs.History.{IsAt}
-use Rattle.reg_outcomes.specs.declared.told.ToldValue.{ToldValue}
+use Rattle.reg_outcomes.specs.declared.told.ToldAnswer.{ToldAnswer}
 use Rattle.reg_outcomes.specs.Told.{told_cmp}
 use Rattle.reg_outcomes.specs.declared.tallies.Tally.{Tally}
 
--- What is known of a play: the seed of its words, whether it is finished, the number of its events, the values that its
--- operations answered, and whether its history is linearizable.
+-- What is known of a play: the seed of its words, whether it is finished, the number of its events, what its operations
+-- told, and whether its history is linearizable.
 pub record Seen : Type 0 where
   pub seed : ℕ
   pub is_finished : Bool
   pub events : ℕ
-  pub outcome : List ToldValue
+  pub outcome : List ToldAnswer
   pub linearizable : Bool
 
 -- a line of a table: an outcome, and what is told of it
 pub record Line : Type 0 where
-  pub outcome : List ToldValue
+  pub outcome : List ToldAnswer
   pub tally : Tally
 
 -- ys are the xs of which P holds, in their order
@@ -28,7 +28,7 @@ pub data AreThose {X : Type 0} (P : X → Type 0) : List X → List X → Type 0
   Leaves : {x : X} {xs ys : List X} → ¬ P x → AreThose P xs ys → AreThose P (x ∷ xs) ys
 
 -- the play is finished, with this outcome
-pub record HasOutcome (outcome : List ToldValue) (s : Seen) : Type 0 where
+pub record HasOutcome (outcome : List ToldAnswer) (s : Seen) : Type 0 where
   pub finished : s.is_finished ≡ true
   pub same : s.outcome ≡ outcome
 
@@ -51,11 +51,11 @@ pub record IsTally (plays : List Seen) (t : Tally) : Type 0 where
   pub late : IsFirst false plays t.late
 
 -- what is told of the plays with this outcome
-abbrev pub IsTallyOf : List Seen → List ToldValue → Tally → Type 0
+abbrev pub IsTallyOf : List Seen → List ToldAnswer → Tally → Type 0
 IsTallyOf plays outcome t = (those : List Seen) × AreThose (HasOutcome outcome) plays those × IsTally those t
 
 -- a line with a larger count stands before one with a smaller, and of two with the same count the one with the smaller
--- outcome: the first value in which they differ decides
+-- outcome: the first answer in which they differ decides
 abbrev pub StandsBefore : Line → Line → Type 0
 StandsBefore a b = (b.tally.count < a.tally.count) ⊎ ((a.tally.count ≡ b.tally.count) × (slice_cmp told_cmp a.outcome b.outcome ≡ Less))
 

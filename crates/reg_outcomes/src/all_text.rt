@@ -8,7 +8,7 @@ ghost use Rattle.reg_outcomes.specs.AllText.{all_text, never_lines, outcome_text
 
 use crate::nevers::MOST_NEVERS;
 use crate::outcomes::{AllOutcomes, Outcome};
-use crate::told::ToldValue;
+use crate::told::ToldAnswer;
 use crate::values::{put_count, put_outcome, put_value};
 use reg_text::{Sink, Unwritten, put_number};
 use std::alloc::Allocator;
@@ -42,16 +42,16 @@ fn put_lines<A: Allocator + Copy, W: Write>(sink: &mut Sink<'_, W>, outcomes: &[
     }
 }
 
-/// Puts a value that stands after others.
-fn put_behind<W: Write>(sink: &mut Sink<'_, W>, value: ToldValue)
+/// Puts an answer that stands after others.
+fn put_behind<W: Write>(sink: &mut Sink<'_, W>, value: ToldAnswer)
     ensures { Puts W.contents sink.old sink.new (codes "  " ++ value_text value) }
 {
     sink.put(b"  ");
     put_value(sink, value);
 }
 
-/// Puts values, two spaces between them.
-fn put_values<W: Write>(sink: &mut Sink<'_, W>, values: &[ToldValue])
+/// Puts answers, two spaces between them.
+fn put_values<W: Write>(sink: &mut Sink<'_, W>, values: &[ToldAnswer])
     ensures { Puts W.contents sink.old sink.new (values_text values.now) }
 {
     let Some((first, others)) = values.split_first() else {
@@ -63,16 +63,16 @@ fn put_values<W: Write>(sink: &mut Sink<'_, W>, values: &[ToldValue])
     }
 }
 
-/// Puts the line of values that no outcome has.
-fn put_never<W: Write>(sink: &mut Sink<'_, W>, values: &[ToldValue])
+/// Puts the line of answers that no outcome has.
+fn put_never<W: Write>(sink: &mut Sink<'_, W>, values: &[ToldAnswer])
     ensures { Puts W.contents sink.old sink.new (values_text values.now ++ 10 ∷ []) }
 {
     put_values(sink, values);
     sink.put(b"\n");
 }
 
-/// Puts a line for each list of values.
-fn put_list<A: Allocator + Copy, W: Write>(sink: &mut Sink<'_, W>, list: &[Vec<ToldValue, A>])
+/// Puts a line for each list of answers.
+fn put_list<A: Allocator + Copy, W: Write>(sink: &mut Sink<'_, W>, list: &[Vec<ToldAnswer, A>])
     ensures { Puts W.contents sink.old sink.new (text_of (map values_text (map (λ v. v.items) list.now))) }
 {
     for values in list {
@@ -83,7 +83,7 @@ fn put_list<A: Allocator + Copy, W: Write>(sink: &mut Sink<'_, W>, list: &[Vec<T
 /// Puts the lines of what no outcome has.
 fn put_nevers<A: Allocator + Copy, W: Write>(
     sink: &mut Sink<'_, W>,
-    nevers: &Option<Vec<Vec<ToldValue, A>, A>>,
+    nevers: &Option<Vec<Vec<ToldAnswer, A>, A>>,
 )
     ensures { Puts W.contents sink.old sink.new (text_of (never_lines (option_map (λ list. map (λ v. v.items) list.items) nevers.now))) }
 {
@@ -101,7 +101,7 @@ fn put_all<A: Allocator + Copy, W: Write>(
     sink: &mut Sink<'_, W>,
     operations: u64,
     all: &AllOutcomes<A>,
-    nevers: &Option<Vec<Vec<ToldValue, A>, A>>,
+    nevers: &Option<Vec<Vec<ToldAnswer, A>, A>>,
 )
     ensures { Puts W.contents sink.old sink.new (all_text operations all.now.stages all.now.list.items (option_map (λ list. map (λ v. v.items) list.items) nevers.now)) }
 {
@@ -118,7 +118,7 @@ pub fn write_all<A: Allocator + Copy, W: Write>(
     writer: &mut W,
     operations: u64,
     all: &AllOutcomes<A>,
-    nevers: &Option<Vec<Vec<ToldValue, A>, A>>,
+    nevers: &Option<Vec<Vec<ToldAnswer, A>, A>>,
 ) -> Result<(), Unwritten>
     ensures { MatchResult result (λ _. Appends (W.contents writer.old) (W.contents writer.new) (all_text operations all.now.stages all.now.list.items (option_map (λ list. map (λ v. v.items) list.items) nevers.now))) (λ _. AppendsPart (W.contents writer.old) (W.contents writer.new) (all_text operations all.now.stages all.now.list.items (option_map (λ list. map (λ v. v.items) list.items) nevers.now))) }
 {

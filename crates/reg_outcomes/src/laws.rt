@@ -4,7 +4,7 @@ ghost use Rattle.std.specs.Prelude.{ℕ, ◌≡◌, ◌<◌, ◌↔◌, List, le
 ghost use Rattle.reg_base.specs.declared.memory.Op.{Op};
 ghost use Rattle.reg_front.specs.declared.starts.Start.{Start};
 ghost use Rattle.reg_front.specs.Fronts.{KeepsLaws};
-ghost use Rattle.reg_outcomes.specs.declared.told.ToldValue.{ToldValue as AnyValue};
+ghost use Rattle.reg_outcomes.specs.declared.told.ToldAnswer.{ToldAnswer as AnyAnswer};
 ghost use Rattle.reg_process.specs.declared.events.Event.{Event};
 ghost use Rattle.reg_world.specs.World.{whole};
 ghost use Rattle.reg_workload.specs.Plays.{FollowsScript};
@@ -21,7 +21,7 @@ pub fn used_up_where_answered()
 /// No outcome is missing among the interleavings: whatever a run that uses the scripts up tells, some interleaving
 /// tells.
 pub fn none_missing()
-    ensures { (start : Op → ℕ → Start) (scripts : List (List Op)) (registers : ℕ) (told : List AnyValue) → KeepsLaws start → IsOutcome start scripts registers told → (turns : List ℕ) × IsInterleaving scripts registers (record { turns = turns; told = told }) }
+    ensures { (start : Op → ℕ → Start) (scripts : List (List Op)) (registers : ℕ) (told : List AnyAnswer) → KeepsLaws start → IsOutcome start scripts registers told → (turns : List ℕ) × IsInterleaving scripts registers (record { turns = turns; told = told }) }
 {}
 
 /// Each interleaving of playable scripts has a run, if the bound `HasRoom` holds of them: whatever the operations are
@@ -34,5 +34,5 @@ pub fn each_has_a_run()
 /// whatever is lost, repeated or reordered, and by its outcomes no lawful front end is told from another.
 pub fn alike()
     ensures all { (start : Op → ℕ → Start) (scripts : List (List Op)) (registers : ℕ) (found : List Interleaving) → KeepsLaws start → ArePlayable scripts registers → HasRoom scripts → AreAll scripts registers found → HaveAllOutcomes start scripts registers found }
-    ensures alike { (one other : Op → ℕ → Start) (scripts : List (List Op)) (registers : ℕ) (told : List AnyValue) → KeepsLaws one → KeepsLaws other → ArePlayable scripts registers → HasRoom scripts → IsOutcome one scripts registers told → IsOutcome other scripts registers told }
+    ensures alike { (one other : Op → ℕ → Start) (scripts : List (List Op)) (registers : ℕ) (told : List AnyAnswer) → KeepsLaws one → KeepsLaws other → ArePlayable scripts registers → HasRoom scripts → IsOutcome one scripts registers told → IsOutcome other scripts registers told }
 {}

@@ -37,6 +37,6 @@ pub use rows::Row;
 pub use scripts::are_playable;
 pub use table_text::write_table;
 pub use tallies::Tally;
-pub use told::{ToldValue, tell};
+pub use told::{ToldAnswer, tell};
 pub use turning::{TurnsFault, run_outcome};
 pub use undrawn::MOST_COUNTED_STAGES;

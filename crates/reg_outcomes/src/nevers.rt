@@ -1,31 +1,31 @@
-//! What no outcome tells, though each of its values stands in some outcome.
+//! What no outcome tells, though each of its answers stands in some outcome.
 ghost use Rattle.std.specs.Prelude.{◌≡◌, ◌+◌, ◌<◌, ◌≤◌, List, IfOk, OnOk, MatchOption, length, map};
 ghost use Rattle.std.specs.Option.{option_map};
 ghost use Rattle.std.specs.BTreeSet.{IsOrdered};
 ghost use Rattle.std.specs.Cmp.Lexicographic.{slice_cmp};
 ghost use Rattle.reg_checkers.specs.History.{IsAt};
-ghost use Rattle.reg_outcomes.specs.declared.told.ToldValue.{ToldValue as AnyValue};
+ghost use Rattle.reg_outcomes.specs.declared.told.ToldAnswer.{ToldAnswer as AnyAnswer};
 ghost use Rattle.reg_outcomes.specs.Told.{told_cmp};
 ghost use Rattle.reg_outcomes.specs.Nevers.{AreOver, TellsNevers, tells};
 ghost use Rattle.reg_outcomes.specs.Combining.{AreCombinations, AreValuesAt, Grows, IsLonger, cut_all, lists_of};
 
 use crate::outcomes::Outcome;
-use crate::told::ToldValue;
+use crate::told::ToldAnswer;
 use std::alloc::{AllocError, Allocator};
 use std::collections::BTreeSet;
 
 /// The most combinations that are listed.
 pub const MOST_NEVERS: u32 = 256;
 
-/// Combinations of values.
-type Combinations<A> = BTreeSet<Vec<ToldValue, A>, A>;
+/// Combinations of answers.
+type Combinations<A> = BTreeSet<Vec<ToldAnswer, A>, A>;
 
-/// The values that stand at this place in some outcome, each once.
+/// The answers that stand at this place in some outcome, each once.
 fn values_at<A: Allocator + Copy>(
     alloc: A,
     outcomes: &[Outcome<A>],
     place: usize,
-) -> Result<Vec<ToldValue, A>, AllocError>
+) -> Result<Vec<ToldAnswer, A>, AllocError>
     ensures { IfOk result (λ v. AreValuesAt (tells outcomes.now) place v.items) }
 {
     let mut values = Vec::new(alloc);
@@ -39,11 +39,11 @@ fn values_at<A: Allocator + Copy>(
     Ok(values)
 }
 
-/// Adds a combination with each of the values after it.
+/// Adds a combination with each of the answers after it.
 fn add_longer<A: Allocator + Copy>(
     alloc: A,
-    combination: &[ToldValue],
-    values: &[ToldValue],
+    combination: &[ToldAnswer],
+    values: &[ToldAnswer],
     combinations: &mut Combinations<A>,
 ) -> Result<(), AllocError>
     ensures { OnOk result (Grows (IsLonger values.now combination.now) (lists_of combinations.old) (lists_of combinations.new)) }
@@ -64,7 +64,7 @@ fn next_combinations<A: Allocator + Copy>(
     place: usize,
     combinations: Combinations<A>,
 ) -> Result<Option<Combinations<A>>, AllocError>
-    requires whole { (first : List AnyValue) × IsAt (tells outcomes.now) 0 first × (place < length first) }
+    requires whole { (first : List AnyAnswer) × IsAt (tells outcomes.now) 0 first × (place < length first) }
     requires all { AreCombinations (tells outcomes.now) place (lists_of combinations) }
     ensures { IfOk result (λ found. MatchOption found (AreOver (tells outcomes.now) MOST_NEVERS) (λ next. AreCombinations (tells outcomes.now) (place + 1) (lists_of next))) }
 {
@@ -86,7 +86,7 @@ fn all_combinations<A: Allocator + Copy>(
     outcomes: &[Outcome<A>],
     places: usize,
 ) -> Result<Option<Combinations<A>>, AllocError>
-    requires { (first : List AnyValue) × IsAt (tells outcomes.now) 0 first × (places ≡ length first) }
+    requires { (first : List AnyAnswer) × IsAt (tells outcomes.now) 0 first × (places ≡ length first) }
     ensures { IfOk result (λ found. MatchOption found (AreOver (tells outcomes.now) MOST_NEVERS) (λ all. AreCombinations (tells outcomes.now) places (lists_of all))) }
 {
     let mut combinations = BTreeSet::new(alloc);
@@ -113,7 +113,7 @@ fn remove_told<A: Allocator + Copy>(outcomes: &[Outcome<A>], combinations: &mut 
 fn listed_within<A: Allocator + Copy>(
     alloc: A,
     combinations: Combinations<A>,
-) -> Result<Option<Vec<Vec<ToldValue, A>, A>>, AllocError>
+) -> Result<Option<Vec<Vec<ToldAnswer, A>, A>>, AllocError>
     ensures list { IfOk result (λ found. MatchOption found (MOST_NEVERS < length combinations.keys) (λ list. (list.items ≡ combinations.keys) × (length combinations.keys ≤ MOST_NEVERS))) }
     ensures ordered { OnOk result (IsOrdered (λ a b. slice_cmp told_cmp a.items b.items) combinations) }
 {
@@ -127,8 +127,8 @@ fn listed_within<A: Allocator + Copy>(
     Ok(Some(list))
 }
 
-/// The combinations of values that no outcome has, though some outcome has each of the values: each once, rising. The
-/// answer is None where they are more than `MOST_NEVERS`.
+/// The combinations of answers that no outcome has, though some outcome has each of the answers: each once, rising. It
+/// is None where they are more than `MOST_NEVERS`.
 ///
 /// # Errors
 ///
@@ -136,7 +136,7 @@ fn listed_within<A: Allocator + Copy>(
 pub fn nevers_of<A: Allocator + Copy>(
     alloc: A,
     outcomes: &[Outcome<A>],
-) -> Result<Option<Vec<Vec<ToldValue, A>, A>>, AllocError>
+) -> Result<Option<Vec<Vec<ToldAnswer, A>, A>>, AllocError>
     ensures { IfOk result (λ found. TellsNevers (tells outcomes.now) MOST_NEVERS (option_map (λ list. map (λ v. v.items) list.items) found)) }
 {
     let Some(first) = outcomes.first() else {

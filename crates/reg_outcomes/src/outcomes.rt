@@ -10,7 +10,7 @@ ghost use Rattle.reg_outcomes.specs.Layers.{Adds, IsLayer, IsToldIn, entries_of,
 use crate::faults::InterleavingFault;
 use crate::layers::{LastLayer, Layer, last_layer};
 use crate::stages::Stage;
-use crate::told::ToldValue;
+use crate::told::ToldAnswer;
 use reg_base::Op;
 use std::alloc::{AllocError, Allocator, Global};
 use std::collections::BTreeMap;
@@ -22,8 +22,8 @@ pub const MOST_STAGES: u32 = 4_000_000;
 /// An outcome of scripts, and the turns of an interleaving that has it. Contracts see it as that interleaving.
 #[derive(Drop)]
 pub struct Outcome<A: Allocator + Copy = Global> {
-    /// The values that the operations answered, by process and then by number.
-    pub told: Vec<ToldValue, A>,
+    /// What the operations told, by process and then by number.
+    pub told: Vec<ToldAnswer, A>,
     /// The processes in the order of their turns.
     pub turns: Vec<u8, A>,
 }
@@ -37,11 +37,11 @@ impl<A: Allocator + Copy> Model for Outcome<A> {
 }
 
 /// Each outcome once, with turns that have it.
-type TurnsByOutcome<A> = BTreeMap<Vec<ToldValue, A>, Vec<u8, A>, A>;
+type TurnsByOutcome<A> = BTreeMap<Vec<ToldAnswer, A>, Vec<u8, A>, A>;
 
 /// Adds an outcome, unless it is there.
 fn add_outcome<A: Allocator + Copy>(
-    told: Vec<ToldValue, A>,
+    told: Vec<ToldAnswer, A>,
     turns: Vec<u8, A>,
     outcomes: &mut TurnsByOutcome<A>,
 ) -> Result<(), AllocError>

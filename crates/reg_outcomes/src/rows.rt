@@ -6,7 +6,7 @@ ghost use Rattle.reg_outcomes.specs.PlayTables.{Seen, IsTable};
 ghost use Rattle.reg_outcomes.specs.Counts.{IsCounted, key_cmp, line_of, line_cmp};
 
 use crate::tallies::Tally;
-use crate::told::ToldValue;
+use crate::told::ToldAnswer;
 use std::alloc::{AllocError, Allocator, Global};
 use std::cmp::Ordering;
 use std::collections::BTreeMap;
@@ -15,7 +15,7 @@ use std::marker::Model;
 /// A line of a table: an outcome, and what is told of it.
 #[derive(Drop)]
 pub struct Row<A: Allocator + Copy = Global> {
-    pub outcome: Vec<ToldValue, A>,
+    pub outcome: Vec<ToldAnswer, A>,
     pub tally: Tally,
 }
 
@@ -30,7 +30,7 @@ impl<A: Allocator + Copy> Model for Row<A> {
 /// A line for each entry.
 fn listed<A: Allocator + Copy>(
     alloc: A,
-    told: BTreeMap<Vec<ToldValue, A>, Tally, A>,
+    told: BTreeMap<Vec<ToldAnswer, A>, Tally, A>,
 ) -> Result<Vec<Row<A>, A>, AllocError>
     ensures lines { IfOk result (λ v. v.items ≡ map (line_of (λ k. k.items)) told.entries) }
     ensures ordered { OnOk result (IsOrdered (key_cmp (λ k. k.items)) told) }
@@ -66,7 +66,7 @@ fn sort<A: Allocator + Copy>(rows: &mut Vec<Row<A>, A>)
 /// Memory was refused.
 pub fn table_of<A: Allocator + Copy>(
     alloc: A,
-    told: BTreeMap<Vec<ToldValue, A>, Tally, A>,
+    told: BTreeMap<Vec<ToldAnswer, A>, Tally, A>,
 ) -> Result<Vec<Row<A>, A>, AllocError>
     ensures { IfOk result (λ v. (plays : List Seen) (unfinished : ℕ) → IsCounted (λ k. k.items) plays told unfinished → IsTable plays v.items) }
 {

@@ -1,11 +1,11 @@
 //! Where interleaved scripts stand.
 ghost use Rattle.std.specs.Prelude.{◌≡◌, ◌+◌, ◌<◌, ◌≤◌, length, slice_get, slice_index, slice_set, map, IfOk, OnOk, insert};
 ghost use Rattle.reg_base.specs.Memory.{after, register_of};
-ghost use Rattle.reg_outcomes.specs.declared.told.ToldValue.{ToldValue as AnyValue};
+ghost use Rattle.reg_outcomes.specs.declared.told.ToldAnswer.{ToldAnswer as AnyAnswer};
 ghost use Rattle.reg_outcomes.specs.Interleavings.{first_stage, script_of, stage_after, told_after, told_behind};
 ghost use Rattle.reg_outcomes.specs.Layers.{stage_of};
 
-use crate::told::ToldValue;
+use crate::told::ToldAnswer;
 use reg_base::{Answer, Op, OpId};
 use std::alloc::{AllocError, Allocator, Global};
 
@@ -18,46 +18,45 @@ pub(crate) struct Stage<A: Allocator + Copy = Global> {
     /// The value of each register.
     pub(crate) memory: Vec<u64, A>,
     /// What these operations told, in the order of an outcome.
-    pub(crate) told: Vec<ToldValue, A>,
+    pub(crate) told: Vec<ToldAnswer, A>,
 }
 
 /// The place after all that a process and those before it were told.
-fn place_behind(told: &[ToldValue], process: u8) -> usize
+fn place_behind(told: &[ToldAnswer], process: u8) -> usize
     ensures within { result ≤ length told.now }
-    ensures place { (t : AnyValue) → t.process ≡ process → insert told.now result t ≡ told_behind t told.now }
+    ensures place { (t : AnyAnswer) → t.process ≡ process → insert told.now result t ≡ told_behind t told.now }
 {
-    for (place, value) in told.iter().enumerate() {
-        if process < value.process {
+    for (place, answer) in told.iter().enumerate() {
+        if process < answer.process {
             return place;
         }
     }
     told.len()
 }
 
-/// Tells the value of an answer, if it has one.
+/// Tells the answer of an operation, where it tells of the memory.
 fn tell<A: Allocator + Copy>(
-    told: &mut Vec<ToldValue, A>,
+    told: &mut Vec<ToldAnswer, A>,
+    op: Op,
     id: OpId,
     answer: Answer,
 ) -> Result<(), AllocError>
-    ensures { OnOk result (told.new.items ≡ told_after id answer told.old.items) }
+    ensures { OnOk result (told.new.items ≡ told_after op id answer told.old.items) }
 {
-    match answer {
-        Answer::Done => Ok(()),
-        Answer::Value(value) => {
-            let OpId { process, number } = id;
-            let place = place_behind(told, process);
-            told.insert(
-                place,
-                ToldValue {
-                    process,
-                    number,
-                    value,
-                },
-            )?;
-            Ok(())
-        }
+    if !op.tells() {
+        return Ok(());
     }
+    let OpId { process, number } = id;
+    let place = place_behind(told, process);
+    told.insert(
+        place,
+        ToldAnswer {
+            process,
+            number,
+            answer,
+        },
+    )?;
+    Ok(())
 }
 
 impl<A: Allocator + Copy> Stage<A> {
@@ -87,7 +86,7 @@ impl<A: Allocator + Copy> Stage<A> {
         alloc: A,
         process: u8,
         op: Op,
-        told: Vec<ToldValue, A>,
+        told: Vec<ToldAnswer, A>,
     ) -> Result<Stage<A>, AllocError>
         requires process { process < length self.now.next.items }
         requires register { register_of op < length self.now.memory.items }
@@ -113,7 +112,7 @@ impl<A: Allocator + Copy> Stage<A> {
         let number = self.next[usize::from(process)];
         let answer = op.answer_on(&self.memory);
         let mut told = Vec::from_slice(alloc, self.told.as_slice())?;
-        tell(&mut told, OpId { process, number }, answer)?;
+        tell(&mut told, op, OpId { process, number }, answer)?;
         self.after_and_told(alloc, process, op, told)
     }
 }

@@ -1,11 +1,11 @@
 //! What is told of the plays of each outcome.
 ghost use Rattle.std.specs.Prelude.{◌≡◌, ◌↔◌, ◌++◌, ◌<◌, [], ◌∷◌, List, Bool, true, false, OnOk};
 ghost use Rattle.std.specs.BTreeMap.{get};
-ghost use Rattle.reg_outcomes.specs.declared.told.ToldValue.{ToldValue};
+ghost use Rattle.reg_outcomes.specs.declared.told.ToldAnswer.{ToldAnswer};
 ghost use Rattle.reg_outcomes.specs.PlayTables.{IsFirst, IsTally, IsTallyOf, Seen};
 ghost use Rattle.reg_outcomes.specs.Counts.{HasRoom, IsCounted, IsShortest, TellsOf, finished_play, key_cmp};
 
-use crate::told::ToldValue;
+use crate::told::ToldAnswer;
 use std::alloc::{AllocError, Allocator, Global};
 use std::collections::BTreeMap;
 
@@ -39,7 +39,7 @@ pub struct Glance {
 #[derive(Drop)]
 pub struct Tallies<A: Allocator + Copy = Global> {
     /// What is told of the plays of each outcome.
-    pub told: BTreeMap<Vec<ToldValue, A>, Tally, A>,
+    pub told: BTreeMap<Vec<ToldAnswer, A>, Tally, A>,
     /// In how many plays some operation is not answered.
     pub unfinished: u32,
 }
@@ -47,14 +47,14 @@ pub struct Tallies<A: Allocator + Copy = Global> {
 /// The seed of the first play of a kind, linearizable or not, among some plays and one more. `is_such` says whether
 /// that one is of the kind.
 fn first_of(seed: Option<u64>, glance: Glance, is_such: bool) -> Option<u64>
-    ensures { (kind : Bool) (plays : List Seen) (outcome : List ToldValue) → (is_such ≡ true) ↔ (glance.linearizable ≡ kind) → IsFirst kind plays seed → IsFirst kind (plays ++ finished_play outcome glance ∷ []) result }
+    ensures { (kind : Bool) (plays : List Seen) (outcome : List ToldAnswer) → (is_such ≡ true) ↔ (glance.linearizable ≡ kind) → IsFirst kind plays seed → IsFirst kind (plays ++ finished_play outcome glance ∷ []) result }
 {
     seed.or(is_such.then_some(glance.seed))
 }
 
 /// What is told of one play.
 fn first(glance: Glance) -> Tally
-    ensures { (outcome : List ToldValue) → IsTally (finished_play outcome glance ∷ []) result }
+    ensures { (outcome : List ToldAnswer) → IsTally (finished_play outcome glance ∷ []) result }
 {
     Tally {
         count: 1,
@@ -67,7 +67,7 @@ fn first(glance: Glance) -> Tally
 
 /// The number of events and the seed of the shortest play, of these plays and one more.
 fn shortest(tally: Tally, glance: Glance) -> (u32, u64)
-    ensures { (outcome : List ToldValue) → IsShortest (finished_play outcome glance) tally result.0 result.1 }
+    ensures { (outcome : List ToldAnswer) → IsShortest (finished_play outcome glance) tally result.0 result.1 }
 {
     if glance.events < tally.events {
         return (glance.events, glance.seed);
@@ -81,7 +81,7 @@ fn shortest(tally: Tally, glance: Glance) -> (u32, u64)
 /// What is told of these plays and one more.
 fn joined(tally: Tally, glance: Glance) -> Tally
     requires { tally.count < u32.MAX }
-    ensures { (plays : List Seen) (outcome : List ToldValue) → IsTally plays tally → IsTally (plays ++ finished_play outcome glance ∷ []) result }
+    ensures { (plays : List Seen) (outcome : List ToldAnswer) → IsTally plays tally → IsTally (plays ++ finished_play outcome glance ∷ []) result }
 {
     let (events, seed) = shortest(tally, glance);
     Tally {
@@ -95,8 +95,8 @@ fn joined(tally: Tally, glance: Glance) -> Tally
 
 /// What is told of the plays with this outcome and one more.
 fn next<A: Allocator + Copy>(
-    told: &BTreeMap<Vec<ToldValue, A>, Tally, A>,
-    outcome: &Vec<ToldValue, A>,
+    told: &BTreeMap<Vec<ToldAnswer, A>, Tally, A>,
+    outcome: &Vec<ToldAnswer, A>,
     glance: Glance,
 ) -> Tally
     requires { HasRoom (λ v. v.items) told.now }
@@ -124,7 +124,7 @@ impl<A: Allocator + Copy> Tallies<A> {
     /// # Errors
     ///
     /// Memory was refused.
-    pub fn add(&mut self, outcome: Vec<ToldValue, A>, glance: Glance) -> Result<(), AllocError>
+    pub fn add(&mut self, outcome: Vec<ToldAnswer, A>, glance: Glance) -> Result<(), AllocError>
         requires { HasRoom (λ v. v.items) self.old.told }
         ensures { OnOk result ((plays : List Seen) → IsCounted (λ v. v.items) plays self.old.told self.old.unfinished → IsCounted (λ v. v.items) (plays ++ finished_play outcome.items glance ∷ []) self.new.told self.new.unfinished) }
     {

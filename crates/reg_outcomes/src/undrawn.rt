@@ -9,7 +9,7 @@ use crate::faults::InterleavingFault;
 use crate::few::few_outcomes;
 use crate::outcomes::Outcome;
 use crate::tallies::Tally;
-use crate::told::ToldValue;
+use crate::told::ToldAnswer;
 use reg_workload::Workload;
 use std::alloc::{AllocError, Allocator};
 use std::collections::BTreeMap;
@@ -19,7 +19,7 @@ pub const MOST_COUNTED_STAGES: u32 = 10_000;
 
 /// How many of some outcomes and this one no play had.
 fn undrawn_with<A: Allocator + Copy>(
-    told: &BTreeMap<Vec<ToldValue, A>, Tally, A>,
+    told: &BTreeMap<Vec<ToldAnswer, A>, Tally, A>,
     outcome: &Outcome<A>,
     undrawn: usize,
 ) -> usize
@@ -36,7 +36,7 @@ fn undrawn_with<A: Allocator + Copy>(
 
 /// How many of these outcomes no play had.
 fn undrawn_of<A: Allocator + Copy>(
-    told: &BTreeMap<Vec<ToldValue, A>, Tally, A>,
+    told: &BTreeMap<Vec<ToldAnswer, A>, Tally, A>,
     outcomes: &[Outcome<A>],
 ) -> usize
     ensures { (plays : List Seen) (unfinished : ℕ) → IsCounted (λ v. v.items) plays told.now unfinished → CountsUndrawn plays outcomes.now result }
@@ -57,7 +57,7 @@ fn undrawn_of<A: Allocator + Copy>(
 pub(crate) fn count_undrawn<A: Allocator + Copy>(
     alloc: A,
     work: &Workload<A>,
-    told: &BTreeMap<Vec<ToldValue, A>, Tally, A>,
+    told: &BTreeMap<Vec<ToldAnswer, A>, Tally, A>,
 ) -> Result<Option<usize>, AllocError>
     ensures { IfOk result (λ o. (plays : List Seen) (unfinished : ℕ) → IsCounted (λ v. v.items) plays told.now unfinished → TellsUndrawn work.now.scripts work.now.shape.registers plays o) }
 {

@@ -40,6 +40,7 @@ function blankState(processes) {
 const opKey = (process, number) => process + "." + number;
 const stampKey = stamp => stamp.time + "," + stamp.process;
 const isUpdate = operation => operation.kind !== "read";
+const writes = ({ kind, expected }, held) => kind !== "read" && (expected === null || expected === held);
 const stampText = stamp => `(${stamp.time}, ${stamp.process})`;
 const isBelow = (a, b) => a.time < b.time || a.time === b.time && a.process < b.process;
 
@@ -85,6 +86,11 @@ class Run {
       op.first = { time, process, number, at, place, op };
       return op.first;
     });
+    const memory = new Map();
+    for (const { op } of this.order) {
+      op.wrote = writes(op, memory.get(op.register) || "0");
+      if (op.wrote) memory.set(op.register, op.value);
+    }
     for (const [process, number, place] of told.reads) this.operation(process, number).readPlace = place;
     this.points = (told.points || []).map(([process, number, at]) => {
       const op = this.operation(process, number);
@@ -174,9 +180,10 @@ class Run {
 }
 
 function decodeOperation(told) {
-  const [kind, register, value] = told.op.split(" ");
+  const [kind, register, ...values] = told.op.split(" ");
   return {
-    process: told.process, number: told.number, text: told.op, kind, register, value, call: told.call,
+    process: told.process, number: told.number, text: told.op, kind, register, value: values[values.length - 1],
+    expected: values.length > 1 ? values[0] : null, wrote: null, call: told.call,
     answer: told.answer,
     key: opKey(told.process, told.number), name: `p${told.process} #${told.number}`,
     castTime: null, first: null, readPlace: null, point: null,
@@ -247,7 +254,7 @@ function sourceOf(run, operation) {
   if (end === null) return undefined;
   for (let i = end - 1; i >= 0; i--) {
     const earlier = run.order[i].op;
-    if (isUpdate(earlier) && earlier.register === operation.register) return earlier;
+    if (earlier.wrote && earlier.register === operation.register) return earlier;
   }
   return null;
 }
@@ -314,6 +321,9 @@ function whyStarted(run, operation, start) {
   }
   if (operation.kind === "swap") {
     return ["A swap's answer is the value before it, which is known at its delivery alone: it is cast, and waits."];
+  }
+  if (operation.kind === "cas") {
+    return ["Whether its register holds the expected value is known at its delivery alone: it is cast, and waits."];
   }
   return [`Under ${front} a ${operation.kind} is cast, and answered when its own process delivers it.`];
 }
@@ -441,10 +451,11 @@ function deliveryLines(run, event, old) {
   return event.delivered.map((stamp, i) => {
     const operation = run.operationOf(stamp), { first } = operation;
     const register = run.registers.indexOf(operation.register), before = copy.get(register) || "0";
-    if (operation.value !== undefined) copy.set(register, operation.value);
-    const effect = operation.value !== undefined ? [": ", code(operation.register),
-      ` was ${before}, is now ${operation.value}. `] :
-      [": a read changes nothing. "];
+    const wrote = writes(operation, before);
+    if (wrote) copy.set(register, operation.value);
+    const effect = wrote ? [": ", code(operation.register), ` was ${before}, is now ${operation.value}. `] :
+      operation.kind === "read" ? [": a read changes nothing. "] :
+      [": ", code(operation.register), ` is ${before}, not ${operation.expected}, so nothing changes. `];
     const where = first.at !== event.at ?
       [who(run.events[first.at].process), ` was first, at event ${first.at}; place ${first.place} here too.`] :
       [strong("First delivery anywhere: "), `place ${first.place} of the ` +
@@ -577,9 +588,11 @@ function shown(run, part) {
 const LETTER = 6.95; // the width of a letter of the diagram
 const textWidth = text => text.length * LETTER;
 const shortAnswer = text => text.replace("value ", "");
-function pillText({ castTime, process, kind, register, value }) {
+function pillText({ castTime, process, kind, register, value, expected }) {
   const stamp = stampText({ time: castTime, process }).replace(" ", "");
-  return stamp + (kind === "read" ? ` read ${register}` : ` ${register}=${value}`);
+  const told = kind === "read" ? `read ${register}` : expected === null ? `${register}=${value}` :
+    `${register}:${expected}\u2192${value}`;
+  return `${stamp} ${told}`;
 }
 
 function layOut(run, roomy, room, ahead = 0) {
@@ -821,7 +834,7 @@ function drawPoints(places) {
       diamond(op.key, x, lane - size, size), diamond(op.key, xs[at], bar - small, small));
     if (roomy) {
       group.append(svg("text", { class: "rank", x, y: lane + 3.5 }, String(op.first.place)));
-      const label = op.value !== undefined ? `${op.register}=${op.value}` : shortAnswer(op.answer.text);
+      const label = op.wrote ? `${op.register}=${op.value}` : shortAnswer(op.answer ? op.answer.text : "");
       const next = run.points[place + 1], space = next ? xs[next.at] - x - (next.at === at ? 0 : 30) : 99;
       const text = { class: "halo lane", x: x + 13, y: lane + 4, "data-op": op.key };
       if (textWidth(label) < space) group.append(svg("text", text, label));
@@ -1253,11 +1266,12 @@ const mono = (...kids) => html("td", { class: "mono" }, ...kids);
 const headOf = cells => html("thead", {},
   html("tr", {}, cells.map(([text, cls]) => html("th", { class: cls || null }, text))));
 
-function effectOn(memory, { kind, register, value }) {
-  const was = memory.get(register) || "0";
-  if (kind !== "read") memory.set(register, value);
-  return kind === "write" ? `${register} = ${value}` : kind === "swap" ? `was ${was}, ${register} = ${value}` :
-    `sees ${was}`;
+function effectOn(memory, operation) {
+  const { kind, register, value, expected } = operation, was = memory.get(register) || "0";
+  if (kind === "read") return `sees ${was}`;
+  if (!writes(operation, was)) return `is ${was}, not ${expected}`;
+  memory.set(register, value);
+  return kind === "write" ? `${register} = ${value}` : `was ${was}, ${register} = ${value}`;
 }
 
 function turnedMarks(run, at) {

@@ -5,6 +5,55 @@ use crate::saying::Notes;
 use reg_text::{left_field, right_field, skip};
 use std::alloc::Allocator;
 
+/// What an operation is answered by, or what an answer is.
+#[derive(Clone, Copy, PartialEq, Eq)]
+enum Sort {
+    Done,
+    Value,
+    Unequal,
+    DoneOrUnequal,
+}
+
+impl Sort {
+    /// What the operation of a call is answered by.
+    fn to(op: &[u8]) -> Sort {
+        if op.starts_with(b"write ") {
+            Sort::Done
+        } else if op.starts_with(b"cas ") {
+            Sort::DoneOrUnequal
+        } else {
+            Sort::Value
+        }
+    }
+
+    /// What the answer at the end of a line is.
+    fn at_end(tail: &[u8]) -> Sort {
+        if tail.ends_with(b"done") {
+            Sort::Done
+        } else if tail.ends_with(b"unequal") {
+            Sort::Unequal
+        } else {
+            Sort::Value
+        }
+    }
+
+    /// Whether the answer is one of these.
+    fn allows(self, answer: Sort) -> bool {
+        self == answer || self == Sort::DoneOrUnequal && answer != Sort::Value
+    }
+
+    /// What is said of an operation that has another answer.
+    fn rule(self) -> &'static str {
+        match self {
+            Sort::Done => "a write is answered by done\n",
+            Sort::Value => "a read and a swap are answered by a value\n",
+            Sort::Unequal | Sort::DoneOrUnequal => {
+                "a compare-and-swap is answered by done or unequal\n"
+            }
+        }
+    }
+}
+
 /// The columns of an entry.
 #[derive(Clone, Copy)]
 struct Columns {
@@ -12,8 +61,8 @@ struct Columns {
     process: u64,
     number: u64,
     is_call: bool,
-    /// Whether the answer is `done` and no value: of a call, the answer that it is to have.
-    is_done: bool,
+    /// What the answer is: of a call, the one that it is to have.
+    sort: Sort,
 }
 
 /// The columns of a line that has them.
@@ -21,16 +70,16 @@ fn columns_of(line: &[u8]) -> Option<Columns> {
     let (at, later) = right_field(line, 8, b"  p")?;
     let (process, others) = left_field(later, 3, b"  #")?;
     let (number, tail) = left_field(others, 6, b"  ")?;
-    let (is_call, is_done) = match skip(tail, b"call    ") {
-        Some(op) => (true, op.starts_with(b"write ")),
-        None => (false, tail.ends_with(b"done")),
+    let (is_call, sort) = match skip(tail, b"call    ") {
+        Some(op) => (true, Sort::to(op)),
+        None => (false, Sort::at_end(tail)),
     };
     Some(Columns {
         at,
         process,
         number,
         is_call,
-        is_done,
+        sort,
     })
 }
 
@@ -101,9 +150,8 @@ fn why_no_answer(entry: Columns, before: Before) -> (&'static str, [u64; 3]) {
         Some(own) if own.is_call && own.number != entry.number => {
             ("process {} runs p{} #{}\n", [process, process, own.number])
         }
-        Some(own) if own.is_call && own.is_done == entry.is_done => (FALLS, [entry.at, last, 0]),
-        Some(own) if own.is_call && own.is_done => ("a write is answered by done\n", [0; 3]),
-        Some(own) if own.is_call => ("a read and a swap are answered by a value\n", [0; 3]),
+        Some(own) if own.is_call && own.sort.allows(entry.sort) => (FALLS, [entry.at, last, 0]),
+        Some(own) if own.is_call => (own.sort.rule(), [0; 3]),
         _ => ("process {} runs no operation\n", [process, 0, 0]),
     }
 }

@@ -119,13 +119,26 @@ impl Rules<'_> {
     }
 }
 
-const OPS: Step = choice!("read" => READ, "write" => WRITE, "swap" => WRITE);
+const OPS: Step = choice!("read" => READ, "write" => WRITE, "swap" => WRITE, "cas" => CAS);
+
+/// The operations of reports before version 3.
+const OLDER_OPS: Step = choice!("read" => READ, "write" => WRITE, "swap" => WRITE);
 
 const READ: Form = &[Step::Space, Step::Register, Step::NoValue];
 
 const WRITE: Form = &[
     Step::Space,
     Step::Register,
+    Step::Space,
+    Step::Number(Quantity::Value),
+    Step::End,
+];
+
+const CAS: Form = &[
+    Step::Space,
+    Step::Register,
+    Step::Space,
+    Step::Number(Quantity::Value),
     Step::Space,
     Step::Number(Quantity::Value),
     Step::End,
@@ -185,7 +198,7 @@ pub const VERSION: Form = &[
     Step::Space,
     word!("report"),
     Step::Space,
-    word!("1" "2"),
+    word!("1" "2" "3"),
     Step::End,
 ];
 
@@ -199,24 +212,34 @@ pub const NAME: Form = &[Step::Name, Step::End];
 
 pub const HISTORY: Form = count!("history", EntryCount);
 
-pub const ENTRY: Form = &[
-    Step::Right,
-    Step::Number(Quantity::Event),
-    signs!(b"  p", "two spaces and p"),
-    Step::Left {
-        places: 3,
-        words: "a process at the left of 3 places",
-        what: Quantity::ReportProcess,
-    },
-    signs!(b"  #", "two spaces and #"),
-    Step::Left {
-        places: 6,
-        words: "a number at the left of 6 places",
-        what: Quantity::Operation,
-    },
-    signs!(b"  ", "two spaces"),
-    choice!("call" => ENTRY_CALL, "answer" => ENTRY_ANSWER),
-];
+/// An entry whose call and whose answer have these forms.
+macro_rules! entry {
+    ($call:expr, $answer:expr) => {
+        &[
+            Step::Right,
+            Step::Number(Quantity::Event),
+            signs!(b"  p", "two spaces and p"),
+            Step::Left {
+                places: 3,
+                words: "a process at the left of 3 places",
+                what: Quantity::ReportProcess,
+            },
+            signs!(b"  #", "two spaces and #"),
+            Step::Left {
+                places: 6,
+                words: "a number at the left of 6 places",
+                what: Quantity::Operation,
+            },
+            signs!(b"  ", "two spaces"),
+            choice!("call" => $call, "answer" => $answer),
+        ]
+    };
+}
+
+pub const ENTRY: Form = entry!(ENTRY_CALL, ENTRY_ANSWER);
+
+/// An entry of a report before version 3.
+pub const OLDER_ENTRY: Form = entry!(OLDER_CALL, OLDER_ANSWER);
 
 pub const ORDER: Form = count!("order", IdCount);
 
@@ -238,7 +261,14 @@ pub const NOTHING: Form = &[];
 
 const ENTRY_CALL: Form = &[signs!(b"    ", "four spaces"), OPS];
 
+const OLDER_CALL: Form = &[signs!(b"    ", "four spaces"), OLDER_OPS];
+
 const ENTRY_ANSWER: Form = &[
+    signs!(b"  ", "two spaces"),
+    choice!("done" => END, "value" => ANSWER_VALUE, "unequal" => END),
+];
+
+const OLDER_ANSWER: Form = &[
     signs!(b"  ", "two spaces"),
     choice!("done" => END, "value" => ANSWER_VALUE),
 ];

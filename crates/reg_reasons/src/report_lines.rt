@@ -2,8 +2,8 @@
 ghost use Rattle.std.specs.Iterator.{item_count};
 
 use crate::forms::{
-    ENTRY, HISTORY, ID, LAST_LINE, NAME, NAMES, NOTHING, ORDER, POINT, PROCESSES, REGISTERS,
-    REPORT_FRONT, TAIL, VERSION,
+    ENTRY, HISTORY, ID, LAST_LINE, NAME, NAMES, NOTHING, OLDER_ENTRY, ORDER, POINT, PROCESSES,
+    REGISTERS, REPORT_FRONT, TAIL, VERSION,
 };
 use crate::wanting::Form;
 use reg_text::{Lines, cut_at, numeral};
@@ -33,6 +33,8 @@ pub struct Walk {
     left: u64,
     /// Whether it is a report of version 1.
     pub is_older: bool,
+    /// Whether it is a report of version 3, which may have compare-and-swaps.
+    compares: bool,
 }
 
 /// The number after the first word of a line, and 0 where none is there.
@@ -67,10 +69,12 @@ impl Walk {
             Part::End | Part::After => Part::After,
         };
         let is_older = self.is_older || self.part == Part::Version && line.ends_with(b" 1");
+        let compares = self.compares || self.part == Part::Version && line.ends_with(b" 3");
         Walk {
             part,
             left,
             is_older,
+            compares,
         }
     }
 
@@ -86,7 +90,10 @@ impl Walk {
             }
             Part::Name => ("the name of a register", NAME),
             Part::History => ("history and a number, as in history 4", HISTORY),
-            Part::Entry => ("a line of the history", ENTRY),
+            Part::Entry => {
+                let form = if self.compares { ENTRY } else { OLDER_ENTRY };
+                ("a line of the history", form)
+            }
             Part::Order => ("order and a number, as in order 2", ORDER),
             Part::Id => ("an operation of the order, as in p0 #0", ID),
             Part::Tail => ("end, or points and a number, as in points 2", TAIL),
@@ -135,6 +142,7 @@ impl<'a> ReportLines<'a> {
                 part: Part::Version,
                 left: 0,
                 is_older: false,
+                compares: false,
             },
         }
     }

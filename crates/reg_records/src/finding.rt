@@ -11,6 +11,13 @@ use reg_process::Step;
 use reg_world::{Event, WireStore, World};
 use std::alloc::{AllocError, Allocator};
 
+/// Whether two frames are the same.
+fn is_same(frame: Frame, other: Frame) -> bool
+    ensures { IsTrue result ↔ frame ≡ other }
+{
+    frame == other
+}
+
 /// Whether the frame stands at this place of the wire.
 fn stands_at<F: FrontEnd, A: Allocator + Copy, W: WireStore<A>>(
     world: &World<F, A, W>,
@@ -24,7 +31,7 @@ fn stands_at<F: FrontEnd, A: Allocator + Copy, W: WireStore<A>>(
     ensures { IsTrue result ↔ IsAt (frames_on F.start world.now from to) place frame.now }
 {
     match world.frame_at(from, to, place) {
-        Some(other) => other == *frame,
+        Some(other) => is_same(other, *frame),
         None => false,
     }
 }

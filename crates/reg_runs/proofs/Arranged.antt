@@ -6,7 +6,7 @@ use Rattle.std.proofs.lemmas.Bool.{eqb-true, eq-eqb, ltb-true, and_parts, and_fr
 use Rattle.std.proofs.lemmas.Option.{same_Some}
 use Rattle.reg_base.specs.declared.memory.OpId.{OpId}
 use Rattle.reg_base.specs.declared.memory.Answer.{Answer}
-use Rattle.reg_base.specs.declared.memory.Answer.TheVariants.{Done, Value}
+use Rattle.reg_base.specs.declared.memory.Answer.TheVariants.{Done, Value, Unequal}
 use Rattle.reg_base.specs.Memory.{Memory, answer_of, after}
 use Rattle.reg_base.specs.Order.{In}
 use Rattle.reg_checkers.specs.History.{IsAt}
@@ -41,6 +41,7 @@ same_is_id a b e = and_from (a.process == b.process) (a.number == b.number) (eq-
 
 same_told : (y x : Answer) → y ≡ x → same_answer y x ≡ true
 same_told Done x e = subst (λ z. same_answer Done z ≡ true) e refl
+same_told Unequal x e = subst (λ z. same_answer Unequal z ≡ true) e refl
 same_told (Value u) x e = subst (λ z. same_answer (Value u) z ≡ true) e (eq-eqb u u refl)
 
 all_at : {X : Type 0} (p : X → Bool) (xs : List X) (x : X) → list_all p xs ≡ true → In x xs → p x ≡ true

@@ -5,7 +5,7 @@ use Rattle.std.specs.List.{filter, list_any, list_all}
 use Rattle.reg_base.specs.declared.memory.OpId.{OpId}
 use Rattle.reg_base.specs.declared.memory.Op.{Op}
 use Rattle.reg_base.specs.declared.memory.Answer.{Answer}
-use Rattle.reg_base.specs.declared.memory.Answer.TheVariants.{Done, Value}
+use Rattle.reg_base.specs.declared.memory.Answer.TheVariants.{Done, Value, Unequal}
 use Rattle.reg_base.specs.Memory.{Memory, answer_of, after}
 
 -- an operation that was called, with its answer
@@ -19,6 +19,7 @@ is_id a b = (a.process == b.process) && (a.number == b.number)
 
 abbrev pub same_answer : Answer → Answer → Bool
 same_answer Done Done = true
+same_answer Unequal Unequal = true
 same_answer (Value u) (Value v) = u == v
 same_answer x y = false
 

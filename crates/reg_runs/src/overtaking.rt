@@ -10,7 +10,7 @@ ghost use Rattle.reg_checkers.specs.History.{IsHistory};
 ghost use Rattle.reg_checkers.specs.Orders.{IsPointOrder};
 ghost use Rattle.reg_world.specs.World.{op_id};
 ghost use Rattle.reg_runs.specs.Overtaking.{Gives, Overtakes};
-ghost use Rattle.reg_runs.specs.Runs.{stale_read, stale_read_history, stale_after_swap, stale_after_swap_history, new_then_old, new_then_old_history, new_then_old_at_once_history, unseen_write, unseen_write_history, overtaking_swap, overtaking_swap_history, overtaking_write, overtaking_write_history};
+ghost use Rattle.reg_runs.specs.Runs.{stale_read, stale_read_history, stale_after_swap, stale_after_swap_history, stale_after_cas, stale_after_cas_history, new_then_old, new_then_old_history, new_then_old_at_once_history, unseen_write, unseen_write_history, overtaking_swap, overtaking_swap_history, overtaking_cas, overtaking_cas_history, overtaking_write, overtaking_write_history};
 
 /// With `local-read` a read overtakes a write.
 pub fn local_read_write_then_read()
@@ -23,6 +23,13 @@ pub fn swap_then_read()
     ensures local_read { Gives local_read 3 1 stale_after_swap stale_after_swap_history }
     ensures local_write { Gives local_write 3 1 stale_after_swap stale_after_swap_history }
     ensures overtaken { Overtakes 1 stale_after_swap_history (op_id 1 0) (op_id 0 0) }
+{}
+
+/// With `local-read` and with `local-write` a read overtakes a compare-and-swap that found the expected value.
+pub fn compare_and_swap_then_read()
+    ensures local_read { Gives local_read 3 1 stale_after_cas stale_after_cas_history }
+    ensures local_write { Gives local_write 3 1 stale_after_cas stale_after_cas_history }
+    ensures overtaken { Overtakes 1 stale_after_cas_history (op_id 1 0) (op_id 0 0) }
 {}
 
 /// With `local-read` a read of the old value overtakes one of the new value.
@@ -41,6 +48,12 @@ pub fn local_write_write_then_read()
 pub fn local_write_write_then_swap()
     ensures run { Gives local_write 2 1 overtaking_swap overtaking_swap_history }
     ensures overtaken { Overtakes 1 overtaking_swap_history (op_id 0 0) (op_id 1 0) }
+{}
+
+/// With `local-write` a compare-and-swap overtakes a write: it finds the value that the write replaced.
+pub fn local_write_write_then_compare_and_swap()
+    ensures run { Gives local_write 2 1 overtaking_cas overtaking_cas_history }
+    ensures overtaken { Overtakes 1 overtaking_cas_history (op_id 0 0) (op_id 1 0) }
 {}
 
 /// With `local-write` a write overtakes a write, and a read tells.

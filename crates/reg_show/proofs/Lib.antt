@@ -1,6 +1,5 @@
 pub mod Accepted
 pub mod Written
-pub mod Sending
 pub mod Told
 pub mod Rested
 pub mod Turned

@@ -3,7 +3,7 @@ use Rattle.std.proofs.Common.{ℕ, ◌≡◌, List, length, Option, Result, Ok, 
 use Rattle.std.specs.Prelude.{IfErr, IfOk, IsErrOf, MatchResult}
 use Rattle.std.specs.List.{sum_by}
 use Rattle.reg_base.specs.declared.memory.Op.{Op}
-use Rattle.reg_outcomes.specs.declared.told.ToldValue.{ToldValue}
+use Rattle.reg_outcomes.specs.declared.told.ToldAnswer.{ToldAnswer}
 use Rattle.reg_outcomes.specs.declared.nevers.TheConstants.{MOST_NEVERS}
 use Rattle.reg_outcomes.specs.AllText.{ShowsAll, all_text}
 use Rattle.reg_outcomes.specs.Interleavings.{AreAll, CountsStages, Interleaving}
@@ -26,7 +26,7 @@ if_err P Q (Err e) to h = to e h
 
 module _ (given scripts : List (List Op)) (held registers : ℕ) (same : given ≡ scripts) (as_many : held ≡ registers) where
   -- what is found of the scripts, written
-  pub shows : (operations stages : ℕ) (found listed : List Interleaving) (nevers : Option (List (List ToldValue))) → operations ≡ sum_by length given → AreAll given held found → CountsStages given held stages → listed ≡ found → TellsNevers (tells listed) MOST_NEVERS nevers
+  pub shows : (operations stages : ℕ) (found listed : List Interleaving) (nevers : Option (List (List ToldAnswer))) → operations ≡ sum_by length given → AreAll given held found → CountsStages given held stages → listed ≡ found → TellsNevers (tells listed) MOST_NEVERS nevers
       → (Wrote : List ℕ → Type 0) → Wrote (all_text operations stages found nevers) → ShowsAll scripts registers Wrote
   shows operations stages found listed nevers count all counted is told Wrote written = subst (λ s. ShowsAll s registers Wrote) same (subst (λ n. ShowsAll given n Wrote) as_many (record {
     found = found;

@@ -11,7 +11,7 @@ ghost use Rattle.reg_show.specs.AllOutcomes.{StopsAll};
 use crate::faults::ShowFault;
 use reg_commands::{Fault, WorkCommand};
 use reg_outcomes::{
-    AllOutcomes, MOST_STAGES, ToldValue, all_outcomes, count_operations, nevers_of, write_all,
+    AllOutcomes, MOST_STAGES, ToldAnswer, all_outcomes, count_operations, nevers_of, write_all,
 };
 use reg_workload::Workload;
 use std::alloc::Allocator;
@@ -22,7 +22,7 @@ fn send<A: Allocator + Copy, W: Write>(
     writer: &mut W,
     operations: u64,
     all: &AllOutcomes<A>,
-    nevers: &Option<Vec<Vec<ToldValue, A>, A>>,
+    nevers: &Option<Vec<Vec<ToldAnswer, A>, A>>,
 ) -> Result<(), ShowFault>
     ensures { MatchResult result (λ _. Appends (W.contents writer.old) (W.contents writer.new) (all_text operations all.now.stages all.now.list.items (option_map (λ list. map (λ v. v.items) list.items) nevers.now))) (λ f. (f ≡ ShowFault.Command Fault.Output) × AppendsPart (W.contents writer.old) (W.contents writer.new) (all_text operations all.now.stages all.now.list.items (option_map (λ list. map (λ v. v.items) list.items) nevers.now))) }
 {
@@ -52,8 +52,8 @@ fn write_all_of<A: Allocator + Copy, W: Write>(
     send(writer, count_operations(scripts) as u64, &all, &nevers)
 }
 
-/// Writes all outcomes that the scripts of the workload that a text says can have, and the combinations of their values
-/// that no outcome has, once all are found.
+/// Writes all outcomes that the scripts of the workload that a text says can have, and the combinations of their
+/// answers that no outcome has, once all are found.
 #[derive(Clone, Copy, Debug)]
 pub struct EveryOutcome;
 

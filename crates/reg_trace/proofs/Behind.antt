@@ -1,8 +1,9 @@
 -- What an event did, by what its world answers before and after it.
-use Rattle.std.proofs.Common.{ℕ, zero, suc, ◌≡◌, ◌+◌, ◌<◌, ◌≤◌, ◌⊎◌, inl, inr, List, [], ◌∷◌, ◌++◌, length, drop, take, map, get_or, set, append_assoc, append-nil, Option, refl, sym, ap, ap₂, ◌∙◌, arith, drop-cons}
+use Rattle.std.proofs.Common.{unwrap_or, ℕ, zero, suc, ◌≡◌, ◌+◌, ◌<◌, ◌≤◌, ◌⊎◌, inl, inr, List, [], ◌∷◌, ◌++◌, length, drop, take, map, get_or, set, append_assoc, append-nil, Option, refl, sym, ap, ap₂, ◌∙◌, arith, drop-cons}
 use Rattle.std.proofs.lemmas.List.{get_or-set_same, get_or-set_other, drop_all}
-use Rattle.std.specs.Prelude.{slice_index, cond, ◌==◌}
+use Rattle.std.specs.Prelude.{slice_get, slice_index, cond, ◌==◌}
 use Rattle.std.proofs.lemmas.Bool.{cases_eq, cases_order, eq-eqb}
+use Rattle.reg_base.specs.Memory.{Memory, after, register_of}
 use Rattle.reg_base.specs.declared.stamps.Delivered.{Delivered}
 use Rattle.reg_base.specs.declared.memory.Op.{Op}
 use Rattle.reg_frames.specs.declared.bodies.Frame.{Frame}
@@ -14,10 +15,11 @@ use Rattle.reg_process.specs.declared.events.Event.{Event}
 use Rattle.reg_world.specs.World.{delivered_of}
 use Rattle.reg_world.specs.Histories.{process_of}
 use Rattle.reg_world.specs.Worlds.{Made, run_in, with_event, reply_in}
+use Rattle.reg_trace.specs.declared.moments.Delivery.{Delivery}
 use Rattle.reg_trace.specs.declared.moments.Sent.{Sent}
 use Rattle.reg_trace.specs.declared.waits.Wait.{Wait}
 use Rattle.reg_trace.specs.Waits.{waits_of}
-use Rattle.reg_trace.specs.Moments.{Fact, expected_by, frame_taken, out_of_turn, placed, puts_since, moment_between, moment_of, moments_from}
+use Rattle.reg_trace.specs.Moments.{Fact, deliveries_of, expected_by, frame_taken, out_of_turn, placed, puts_since, moment_between, moment_of, moments_from}
 
 pub puts_same : (p : ℕ) (f g : ℕ → ℕ) (wire : ℕ → List Frame) (n : ℕ) → ((to : ℕ) → to < n → (to ≡ p → ⊥) → f to ≡ g to) → puts_since p f wire n ≡ puts_since p g wire n
 puts_same p f g wire zero h = refl
@@ -33,21 +35,24 @@ is_peer s n from to size me l ne (inl ge) = absurd (omega (arith, size, l, ge))
 is_peer s n from to size me l ne (inr e) = ne (e ∙ me)
 
 -- an event told with its parts
-pub told_is : (start : Op → ℕ → Start) (w : Made) (e : Event) (new : Made) (p : ℕ) (frame : Option Frame) (awaited expected : Option ℕ) (clock : ℕ) (delivered : List Delivered) (reply : Option Reply) (waits : List Wait) (sent : List Sent) (before after : ℕ) (lengths : ℕ → ℕ)
+pub told_is : (start : Op → ℕ → Start) (w : Made) (e : Event) (new : Made) (p : ℕ) (frame : Option Frame) (awaited expected : Option ℕ) (clock : ℕ) (copy : Memory) (casts : List Delivered) (delivered : List Delivery) (reply : Option Reply) (waits : List Wait) (sent : List Sent) (before behind : ℕ) (lengths : ℕ → ℕ)
     → new ≡ with_event start w e → p ≡ process_of e → frame ≡ frame_taken w.processes (run_in start w).nodes e → awaited ≡ expected_by w.processes (run_in start w).nodes e → expected ≡ out_of_turn frame awaited → clock ≡ ((run_in start new).nodes p).state.clock
-    → before ≡ ((run_in start w).nodes p).state.delivered → after ≡ ((run_in start new).nodes p).state.delivered → delivered ≡ drop before (take after (map delivered_of (run_in start new).order))
+    → before ≡ ((run_in start w).nodes p).state.delivered → behind ≡ ((run_in start new).nodes p).state.delivered → casts ≡ drop before (take behind (map delivered_of (run_in start new).order))
+    → copy ≡ ((run_in start w).nodes p).state.copy → delivered ≡ deliveries_of casts copy
     → reply ≡ reply_in start w e → ((to : ℕ) → to < w.processes → (to ≡ p → ⊥) → lengths to ≡ length (((run_in start w).nodes p).wire to))
     → waits ≡ waits_of new.processes ((run_in start new).nodes p).state ((run_in start new).nodes p).state.held
     → sent ≡ puts_since p lengths ((run_in start new).nodes p).wire new.processes
     → record { event = e; process = p; frame = frame; expected = expected; clock = clock; delivered = delivered; reply = reply; waits = waits; sent = sent } ≡ moment_of start w e
-told_is start w e new p frame awaited expected clock delivered reply waits sent before after lengths is_new is_p is_frame is_awaited is_expected is_clock is_before is_after is_delivered is_reply are_lengths is_waits is_sent =
+told_is start w e new p frame awaited expected clock copy casts delivered reply waits sent before behind lengths is_new is_p is_frame is_awaited is_expected is_clock is_before is_behind are_casts is_copy is_delivered is_reply are_lengths is_waits is_sent =
     let same : puts_since p lengths ((run_in start new).nodes p).wire w.processes ≡ puts_since p (λ to. length (((run_in start w).nodes p).wire to)) ((run_in start new).nodes p).wire w.processes =
     puts_same p lengths (λ to. length (((run_in start w).nodes p).wire to)) ((run_in start new).nodes p).wire w.processes are_lengths in
     let count : new.processes ≡ w.processes = ap Made.processes is_new in
     let sent_is : sent ≡ puts_since p (λ to. length (((run_in start w).nodes p).wire to)) ((run_in start new).nodes p).wire w.processes = is_sent ∙ (ap (puts_since p lengths ((run_in start new).nodes p).wire) count ∙ same) in
     let waits_is : waits ≡ waits_of w.processes ((run_in start new).nodes p).state ((run_in start new).nodes p).state.held = is_waits ∙ ap (λ n. waits_of n ((run_in start new).nodes p).state ((run_in start new).nodes p).state.held) count in
-    let delivered_is : delivered ≡ drop ((run_in start w).nodes p).state.delivered (take ((run_in start new).nodes p).state.delivered (map delivered_of (run_in start new).order)) =
-    is_delivered ∙ ap₂ (λ (a b : ℕ). drop a (take b (map delivered_of (run_in start new).order))) is_before is_after in
+    let casts_are : casts ≡ drop ((run_in start w).nodes p).state.delivered (take ((run_in start new).nodes p).state.delivered (map delivered_of (run_in start new).order)) =
+    are_casts ∙ ap₂ (λ (a b : ℕ). drop a (take b (map delivered_of (run_in start new).order))) is_before is_behind in
+    let delivered_is : delivered ≡ deliveries_of (drop ((run_in start w).nodes p).state.delivered (take ((run_in start new).nodes p).state.delivered (map delivered_of (run_in start new).order))) ((run_in start w).nodes p).state.copy =
+    is_delivered ∙ ap₂ deliveries_of casts_are is_copy in
     let turn : expected ≡ out_of_turn (frame_taken w.processes (run_in start w).nodes e) (expected_by w.processes (run_in start w).nodes e) = is_expected ∙ ap₂ out_of_turn is_frame is_awaited in
     let here : record { event = e; process = p; frame = frame; expected = expected; clock = clock; delivered = delivered; reply = reply; waits = waits; sent = sent } ≡ moment_between w.processes e p (reply_in start w e) (run_in start w) (run_in start new) =
     λ i. record { event = e; process = p; frame = is_frame i; expected = turn i; clock = is_clock i; delivered = delivered_is i; reply = is_reply i; waits = waits_is i; sent = sent_is i } in
@@ -96,3 +101,28 @@ one_told start w new moments pushed all m events i d lt is_new is_m is_pushed so
 pub all_told : (start : Op → ℕ → Start) (w : Made) (moments all : List Fact) (events : List Event) (i : ℕ) → length events ≤ i → moments ++ moments_from start w (drop i events) ≡ all → moments ≡ all
 all_told start w moments all events i ge so =
     sym (append-nil moments) ∙ (ap (λ (es : List Event). moments ++ moments_from start w es) (sym (drop_all i events ge)) ∙ so)
+
+-- one more cast delivered
+pub one_delivered : (items pushed all : List Delivery) (copy new : Memory) (casts : List Delivered) (i : ℕ) (d : Delivered) (x : Delivery) → i < length casts → x.cast ≡ get_or casts i d → x.value ≡ slice_index (after (get_or casts i d).op copy) (register_of (get_or casts i d).op) → new ≡ after (get_or casts i d).op copy
+    → pushed ≡ items ++ x ∷ [] → items ++ deliveries_of (drop i casts) copy ≡ all → pushed ++ deliveries_of (drop (i + 1) casts) new ≡ all
+one_delivered items pushed all copy new casts i d x lt is_cast is_value is_new is_pushed so =
+    let c : Delivered = get_or casts i d in
+    let k : i + 1 ≡ suc i = omega arith in
+    let here : Delivery = record { cast = c; value = slice_index (after c.op copy) (register_of c.op) } in
+    let same : x ≡ here = λ j. record { cast = is_cast j; value = is_value j } in
+    let rest = deliveries_of (drop (suc i) casts) (after c.op copy) in
+    ap₂ (λ (a : List Delivery) (m : Memory). a ++ deliveries_of (drop (i + 1) casts) m) is_pushed is_new
+    ∙ (ap (λ (j : ℕ). (items ++ x ∷ []) ++ deliveries_of (drop j casts) (after c.op copy)) k
+    ∙ (append_assoc items (x ∷ []) rest
+    ∙ (ap (λ (y : Delivery). items ++ y ∷ rest) same
+    ∙ (ap (λ (cs : List Delivered). items ++ deliveries_of cs copy) (sym (drop-cons casts i d lt)) ∙ so))))
+
+-- all delivered
+pub all_delivered : (items all : List Delivery) (copy : Memory) (casts : List Delivered) (i : ℕ) → length casts ≤ i → items ++ deliveries_of (drop i casts) copy ≡ all → items ≡ all
+all_delivered items all copy casts i ge so = sym (append-nil items) ∙ (ap (λ (cs : List Delivered). items ++ deliveries_of cs copy) (sym (drop_all i casts ge)) ∙ so)
+
+-- the value of a register, 0 past the last
+pub value_is : (values : List ℕ) (r : ℕ) → unwrap_or (slice_get values r) 0 ≡ slice_index values r
+value_is [] r = refl
+value_is (x ∷ xs) zero = refl
+value_is (x ∷ xs) (suc r) = value_is xs r

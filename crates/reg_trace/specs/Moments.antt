@@ -1,6 +1,7 @@
 -- What the events of a run do, by the runs before and after each of them.
-use Rattle.std.specs.Prelude.{ℕ, zero, suc, ◌≡◌, ◌+◌, ◌==◌, ◌&&◌, not, nat_lt, cond, List, [], ◌∷◌, ◌++◌, length, map, take, drop, Option, None, Some, slice_get}
+use Rattle.std.specs.Prelude.{ℕ, zero, suc, ◌≡◌, ◌+◌, ◌==◌, ◌&&◌, not, nat_lt, cond, List, [], ◌∷◌, ◌++◌, length, map, take, drop, Option, None, Some, slice_get, slice_index}
 use Rattle.reg_base.specs.Shape.{Extent}
+use Rattle.reg_base.specs.Memory.{Memory, after, register_of}
 use Rattle.reg_base.specs.declared.memory.Op.{Op}
 use Rattle.reg_base.specs.declared.stamps.Delivered.{Delivered}
 use Rattle.reg_frames.specs.declared.bodies.Frame.{Frame}
@@ -14,21 +15,27 @@ use Rattle.reg_world.specs.Histories.{process_of}
 use Rattle.reg_world.specs.Nodes.{Nodes}
 use Rattle.reg_world.specs.World.{World, delivered_of, run}
 use Rattle.reg_world.specs.Worlds.{Made, run_in, with_event, new_world, reply_in}
+use Rattle.reg_trace.specs.declared.moments.Delivery.{Delivery}
 use Rattle.reg_trace.specs.declared.moments.Sent.{Sent}
 use Rattle.reg_trace.specs.declared.waits.Wait.{Wait}
 use Rattle.reg_trace.specs.Waits.{waits_of}
 
+-- these casts as a process with this copy delivers them, one after another: each with its register's value after it
+abbrev pub deliveries_of : List Delivered → Memory → List Delivery
+deliveries_of [] m = []
+deliveries_of (cast ∷ casts) m = record { cast = cast; value = slice_index (after cast.op m) (register_of cast.op) } ∷ deliveries_of casts (after cast.op m)
+
 -- What an event did: the process that it is of, the frame that a take took, the number that was expected where that is
--- a data frame out of turn, the clock of the process after it, the casts that the process delivered, the reply, the
--- casts that it holds back, each with whom it waits for, and the frames that it put, each with its wire's end and its
--- place there.
+-- a data frame out of turn, the clock of the process after it, the casts that the process delivered, each with its
+-- register's value in the copy after it, the reply, the casts that it holds back, each with whom it waits for, and the
+-- frames that it put, each with its wire's end and its place there.
 pub record Fact : Type 0 where
   pub event : Event
   pub process : ℕ
   pub frame : Option Frame
   pub expected : Option ℕ
   pub clock : ℕ
-  pub delivered : List Delivered
+  pub delivered : List Delivery
   pub reply : Option Reply
   pub waits : List Wait
   pub sent : List Sent
@@ -64,16 +71,16 @@ puts_since p lengths wire (suc to) = puts_since p lengths wire to ++ cond (to ==
 -- what an event of process p did, by the worlds before and after it: of the one order of casts, p delivered those after
 -- the ones that it had delivered before, up to as many as it has delivered now
 abbrev pub moment_between : ℕ → Event → ℕ → Option Reply → World → World → Fact
-moment_between n e p reply before after = record {
+moment_between n e p reply before behind = record {
   event = e;
   process = p;
   frame = frame_taken n before.nodes e;
   expected = out_of_turn (frame_taken n before.nodes e) (expected_by n before.nodes e);
-  clock = (after.nodes p).state.clock;
-  delivered = drop (before.nodes p).state.delivered (take (after.nodes p).state.delivered (map delivered_of after.order));
+  clock = (behind.nodes p).state.clock;
+  delivered = deliveries_of (drop (before.nodes p).state.delivered (take (behind.nodes p).state.delivered (map delivered_of behind.order))) (before.nodes p).state.copy;
   reply = reply;
-  waits = waits_of n (after.nodes p).state (after.nodes p).state.held;
-  sent = puts_since p (λ to. length ((before.nodes p).wire to)) (after.nodes p).wire n;
+  waits = waits_of n (behind.nodes p).state (behind.nodes p).state.held;
+  sent = puts_since p (λ to. length ((before.nodes p).wire to)) (behind.nodes p).wire n;
 }
 
 abbrev pub moment_of : (Op → ℕ → Start) → Made → Event → Fact

@@ -1,8 +1,7 @@
 -- The text of a trace: what each event of a run did.
-use Rattle.std.specs.Prelude.{ℕ, ◌+◌, List, [], ◌∷◌, ◌++◌, map, codes, Option, None, Some, cond, flat_map, slice_index}
+use Rattle.std.specs.Prelude.{ℕ, ◌+◌, List, [], ◌∷◌, ◌++◌, map, codes, Option, None, Some, cond, flat_map}
 use Rattle.std.specs.Fmt.{decimal}
-use Rattle.reg_base.specs.Memory.{after, blank, register_of, updates}
-use Rattle.reg_base.specs.declared.memory.Op.{Op}
+use Rattle.reg_base.specs.Memory.{register_of, updates}
 use Rattle.reg_base.specs.declared.stamps.Stamp.{Stamp}
 use Rattle.reg_base.specs.declared.stamps.Delivered.{Delivered}
 use Rattle.reg_frames.specs.declared.bodies.Body.{Body}
@@ -15,6 +14,7 @@ use Rattle.reg_text.specs.Ops.{op_text, valued, answer_text}
 use Rattle.reg_process.specs.declared.events.Event.{Event}
 use Rattle.reg_process.specs.declared.events.Event.TheVariants.{Call, Take, Tick}
 use Rattle.reg_inputs.specs.Schedules.{event_text}
+use Rattle.reg_trace.specs.declared.moments.Delivery.{Delivery}
 use Rattle.reg_trace.specs.declared.moments.Sent.{Sent}
 use Rattle.reg_trace.specs.declared.waits.Wait.{Wait}
 use Rattle.reg_trace.specs.Moments.{Fact}
@@ -53,21 +53,17 @@ abbrev pub drops_lines : Option ℕ → List (List ℕ)
 drops_lines None = []
 drops_lines (Some number) = (codes "    drops it: number " ++ (decimal number ++ codes " is expected")) ∷ []
 
--- the value that a memory has of an operation's register after it, where the operation changes that
-abbrev pub value_behind : Op → ℕ
-value_behind op = slice_index (after op (blank (register_of op + 1))) (register_of op)
-
--- the line of a copy after the delivery of an operation, where that changes it
-abbrev pub copy_lines : List (List ℕ) → Op → List (List ℕ)
-copy_lines names op = cond (updates op) ((codes "    copy " ++ valued names (register_of op) (value_behind op)) ∷ []) []
+-- the line of what a copy has of an operation's register after its delivery, where the operation may change that
+abbrev pub copy_lines : List (List ℕ) → Delivery → List (List ℕ)
+copy_lines names d = cond (updates d.cast.op) ((codes "    copy " ++ valued names (register_of d.cast.op) d.value) ∷ []) []
 
 -- the line of a cast that was delivered
 abbrev pub delivers_line : List (List ℕ) → Delivered → List ℕ
 delivers_line names cast = codes "    delivers " ++ cast_text names cast
 
 -- the lines of a cast that was delivered: with the copy after it
-abbrev pub delivers_lines : List (List ℕ) → Delivered → List (List ℕ)
-delivers_lines names cast = delivers_line names cast ∷ copy_lines names cast.op
+abbrev pub delivers_lines : List (List ℕ) → Delivery → List (List ℕ)
+delivers_lines names d = delivers_line names d.cast ∷ copy_lines names d
 
 -- the line of a reply, where there is one
 abbrev pub answers_lines : Option Reply → List (List ℕ)

@@ -10,7 +10,7 @@ mod trace_text;
 mod waits;
 
 pub use figures::{Arrow, Bar, End, arrows, bars, is_taken};
-pub use moments::{Moment, Sent, process_of_event, tell_world};
+pub use moments::{Delivery, Moment, Sent, process_of_event, tell_world};
 pub use rooms::{Filled, GAP};
 pub use told::TracedRun;
 pub use trace_text::{put_cast, put_frame, write_trace};

@@ -1,14 +1,15 @@
 //! What each event of a run did.
 ghost use Rattle.std.specs.Prelude.{◌≡◌, ◌<◌, ◌++◌, ℕ, None, false, drop, length, map, take, slice_index, IfOk, OnOk};
+ghost use Rattle.reg_base.specs.Memory.{after, register_of};
 ghost use Rattle.reg_process.specs.Process.{peer_at};
 ghost use Rattle.reg_world.specs.Histories.{process_of};
 ghost use Rattle.reg_world.specs.World.{delivered_of};
 ghost use Rattle.reg_world.specs.Worlds.{new_world, refusal, run_in, with_event};
-ghost use Rattle.reg_trace.specs.Moments.{AcceptsAll, expected_by, frame_taken, moment_of, moments_from, moments_of, out_of_turn, placed, puts_since};
+ghost use Rattle.reg_trace.specs.Moments.{AcceptsAll, deliveries_of, expected_by, frame_taken, moment_of, moments_from, moments_of, out_of_turn, placed, puts_since};
 
 use crate::waits::{Wait, waits_in};
-use reg_base::Shape;
 use reg_base::limits::MOST_PROCESSES;
+use reg_base::{Registers, Shape};
 use reg_frames::Frame;
 use reg_front::FrontEnd;
 use reg_process::{Delivered, Reply};
@@ -26,6 +27,14 @@ pub struct Sent {
     pub frame: Frame,
 }
 
+/// A cast that a process delivered.
+#[derive(Clone, Copy, Debug, PartialEq, Eq)]
+pub struct Delivery {
+    pub cast: Delivered,
+    /// What the copy has of the operation's register after it.
+    pub value: u64,
+}
+
 /// What an event did.
 #[derive(Drop)]
 pub struct Moment<A: Allocator + Copy = Global> {
@@ -39,7 +48,7 @@ pub struct Moment<A: Allocator + Copy = Global> {
     /// The clock of the process after the event.
     pub clock: u64,
     /// The casts that the process delivered, in order.
-    pub delivered: Vec<Delivered, A>,
+    pub delivered: Vec<Delivery, A>,
     /// The reply that the event gave.
     pub reply: Option<Reply>,
     /// The casts that the process holds back after the event, in the order of their stamps.
@@ -227,6 +236,48 @@ fn casts_between<F: FrontEnd, A: Allocator + Copy>(
         .collect(alloc)
 }
 
+/// The copy of a process.
+fn copy_of<F: FrontEnd, A: Allocator + Copy>(
+    alloc: A,
+    world: &World<F, A>,
+    process: u8,
+) -> Result<Registers<A>, AllocError>
+    requires going { world.now.failed ≡ false }
+    requires process { process < world.now.processes }
+    ensures { IfOk result (λ copy. copy ≡ ((run_in F.start world.now).nodes process).state.copy) }
+{
+    match world.process(process) {
+        Some(process) => process.registers().duplicate(alloc),
+        None => unreachable!(),
+    }
+}
+
+/// A cast as a process with this copy delivers it.
+fn deliver<A: Allocator + Copy>(copy: &mut Registers<A>, cast: Delivered) -> Delivery
+    ensures cast { result.cast ≡ cast }
+    ensures value { result.value ≡ slice_index (after cast.op copy.old) (register_of cast.op) }
+    ensures copy { copy.new ≡ after cast.op copy.old }
+{
+    let _answer = copy.apply(&cast.op);
+    let value = copy.get(cast.op.register()).unwrap_or(0);
+    Delivery { cast, value }
+}
+
+/// These casts as a process with this copy delivers them.
+fn deliveries<A: Allocator + Copy>(
+    alloc: A,
+    mut copy: Registers<A>,
+    casts: &[Delivered],
+) -> Result<Vec<Delivery, A>, AllocError>
+    ensures { IfOk result (λ v. v.items ≡ deliveries_of casts.now copy) }
+{
+    let mut delivered = Vec::new(alloc);
+    for cast in casts {
+        delivered.push(deliver(&mut copy, *cast))?;
+    }
+    Ok(delivered)
+}
+
 /// Makes an event to which no fault applies, and tells what it did.
 fn tell<F: FrontEnd, A: Allocator + Copy>(
     alloc: A,
@@ -244,13 +295,15 @@ fn tell<F: FrontEnd, A: Allocator + Copy>(
     let expected = unexpected(frame, expected_of(world, event));
     let lengths = lengths(world, process);
     let before = delivered_count(world, process);
+    let copy = copy_of(alloc, world, process)?;
     // (since no fault applies, memory was refused)
     let Ok(reply) = world.step_reply(event) else {
         return Err(AllocError);
     };
     let clock = clock_of(world, process);
     let after = delivered_count(world, process);
-    let delivered = casts_between(alloc, world, before, after)?;
+    let casts = casts_between(alloc, world, before, after)?;
+    let delivered = deliveries(alloc, copy, casts.as_slice())?;
     let sent = sent_since(alloc, world, process, &lengths)?;
     let waits = waits_in(alloc, world, process)?;
     Ok(Moment {

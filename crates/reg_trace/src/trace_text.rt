@@ -6,11 +6,11 @@ ghost use Rattle.std.specs.Io.KnownBytes.{Appends};
 ghost use Rattle.reg_text.specs.Lines.{text_of, lines_by};
 ghost use Rattle.reg_text.specs.Writing.{AppendsPart, Puts};
 ghost use Rattle.reg_inputs.specs.Schedules.{event_text};
-ghost use Rattle.reg_trace.specs.Traces.{answers_lines, body_text, cast_text, copy_lines, delivers_line, delivers_lines, drops_lines, holds_line, value_behind, frame_text, moment_lines, puts_line, stamp_text, taken_lines, takes_lines, trace_text};
+ghost use Rattle.reg_trace.specs.Traces.{answers_lines, body_text, cast_text, copy_lines, delivers_line, delivers_lines, drops_lines, holds_line, frame_text, moment_lines, puts_line, stamp_text, taken_lines, takes_lines, trace_text};
 
-use crate::moments::{Moment, Sent};
+use crate::moments::{Delivery, Moment, Sent};
 use crate::waits::Wait;
-use reg_base::{Names, Op, Stamp};
+use reg_base::{Names, Stamp};
 use reg_frames::{Body, Frame};
 use reg_inputs::{put_event, put_take};
 use reg_process::{Delivered, Reply};
@@ -158,25 +158,19 @@ fn put_delivery<A: Allocator + Copy, W: Write>(
     sink.put(b"\n");
 }
 
-/// The value that an operation leaves in its register, if it changes that.
-fn value_left(op: Op) -> Option<u64>
-    ensures { result ≡ cond (updates op) (Some (value_behind op)) None }
+/// Puts the line of the copy after the delivery of an operation, if that may change it.
+fn put_copy<A: Allocator + Copy, W: Write>(
+    sink: &mut Sink<'_, W>,
+    names: &Names<A>,
+    delivery: Delivery,
+)
+    ensures { Puts W.contents sink.old sink.new (text_of (copy_lines names.now delivery)) }
 {
-    match op {
-        Op::Read { .. } => None,
-        Op::Write { value, .. } => Some(value),
-        Op::Swap { value, .. } => Some(value),
-    }
-}
-
-/// Puts the line of the copy after the delivery of an operation, if that changes it.
-fn put_copy<A: Allocator + Copy, W: Write>(sink: &mut Sink<'_, W>, names: &Names<A>, op: Op)
-    ensures { Puts W.contents sink.old sink.new (text_of (copy_lines names.now op)) }
-{
-    if let Some(value) = value_left(op) {
+    let op = delivery.cast.op;
+    if op.updates() {
         sink.put(b"    copy ");
         sink.put(name_at(names, op.register()).as_bytes());
-        put_number(sink, " ", value);
+        put_number(sink, " ", delivery.value);
         sink.put(b"\n");
     }
 }
@@ -185,24 +179,24 @@ fn put_copy<A: Allocator + Copy, W: Write>(sink: &mut Sink<'_, W>, names: &Names
 fn put_delivered<A: Allocator + Copy, W: Write>(
     sink: &mut Sink<'_, W>,
     names: &Names<A>,
-    cast: Delivered,
+    delivery: Delivery,
 )
-    ensures { Puts W.contents sink.old sink.new (text_of (delivers_lines names.now cast)) }
+    ensures { Puts W.contents sink.old sink.new (text_of (delivers_lines names.now delivery)) }
 {
-    put_delivery(sink, names, cast);
-    put_copy(sink, names, cast.op);
+    put_delivery(sink, names, delivery.cast);
+    put_copy(sink, names, delivery);
 }
 
 /// Puts the lines of each cast that was delivered.
 fn put_deliveries<A: Allocator + Copy, W: Write>(
     sink: &mut Sink<'_, W>,
     names: &Names<A>,
-    casts: &[Delivered],
+    deliveries: &[Delivery],
 )
-    ensures { Puts W.contents sink.old sink.new (text_of (flat_map (delivers_lines names.now) casts.now)) }
+    ensures { Puts W.contents sink.old sink.new (text_of (flat_map (delivers_lines names.now) deliveries.now)) }
 {
-    for cast in casts {
-        put_delivered(sink, names, *cast);
+    for delivery in deliveries {
+        put_delivered(sink, names, *delivery);
     }
 }
 

@@ -4,7 +4,7 @@ use Rattle.std.specs.Int.{bytes_high_first, byte_at}
 use Rattle.hex.specs.Hex.{IsBytes, decode_sized, lower_digits}
 use Rattle.hex.proofs.HexLemmas.{decode_sized-encode_lower, length-encode_with}
 use Rattle.reg_base.specs.declared.memory.Op.{Op}
-use Rattle.reg_base.specs.declared.memory.Op.TheVariants.{Read, Write, Swap}
+use Rattle.reg_base.specs.declared.memory.Op.TheVariants.{Read, Write, Swap, CompareAndSwap}
 use Rattle.reg_frames.specs.declared.bodies.Body.{Body}
 use Rattle.reg_frames.specs.declared.bodies.Body.TheVariants.{Cast, Ack}
 use Rattle.reg_frames.specs.declared.bodies.Frame.{Frame}
@@ -41,6 +41,7 @@ of_op : (op : Op) → IsBytes (op_bytes op)
 of_op (Read r) = one_more 1 (bytes_high_first 2 r) (omega arith) (high 2 r)
 of_op (Write r v) = one_more 2 (bytes_high_first 2 r ++ bytes_high_first 8 v) (omega arith) (valued r v)
 of_op (Swap r v) = one_more 3 (bytes_high_first 2 r ++ bytes_high_first 8 v) (omega arith) (valued r v)
+of_op (CompareAndSwap r e v) = one_more 4 (bytes_high_first 2 r ++ (bytes_high_first 8 e ++ bytes_high_first 8 v)) (omega arith) (joined (bytes_high_first 2 r) (bytes_high_first 8 e ++ bytes_high_first 8 v) (high 2 r) (joined (bytes_high_first 8 e) (bytes_high_first 8 v) (high 8 e) (high 8 v)))
 
 of_body : (body : Body) → IsBytes (body_bytes body)
 of_body (Cast time op) = one_more 1 (bytes_high_first 8 time ++ op_bytes op) (omega arith) (joined (bytes_high_first 8 time) (op_bytes op) (high 8 time) (of_op op))
@@ -54,6 +55,7 @@ op_small : (op : Op) → op_version op < 256
 op_small (Read r) = omega arith
 op_small (Write r v) = omega arith
 op_small (Swap r v) = omega arith
+op_small (CompareAndSwap r e v) = omega arith
 
 version_small : (frame : Frame) → version_of frame < 256
 version_small (Numbered number (Cast time op)) = op_small op
@@ -73,9 +75,10 @@ pub digits : (frame : Frame) (text : List ℕ) → text ≡ frame_text frame →
 digits frame text is = ap length is ∙ length-encode_with lower_digits (spelling frame)
 
 -- the sizes of frames
-pub sizes : (frame : Frame) → (length (spelling frame) ≡ 12) ⊎ ((length (spelling frame) ≡ 21) ⊎ ((length (spelling frame) ≡ 24) ⊎ (length (spelling frame) ≡ 32)))
+pub sizes : (frame : Frame) → (length (spelling frame) ≡ 12) ⊎ ((length (spelling frame) ≡ 21) ⊎ ((length (spelling frame) ≡ 24) ⊎ ((length (spelling frame) ≡ 32) ⊎ (length (spelling frame) ≡ 40))))
 sizes (Got count) = inl refl
 sizes (Numbered number (Ack time)) = inr (inl refl)
 sizes (Numbered number (Cast time (Read r))) = inr (inr (inl refl))
-sizes (Numbered number (Cast time (Write r v))) = inr (inr (inr refl))
-sizes (Numbered number (Cast time (Swap r v))) = inr (inr (inr refl))
+sizes (Numbered number (Cast time (Write r v))) = inr (inr (inr (inl refl)))
+sizes (Numbered number (Cast time (Swap r v))) = inr (inr (inr (inl refl)))
+sizes (Numbered number (Cast time (CompareAndSwap r e v))) = inr (inr (inr (inr refl)))

@@ -1,6 +1,5 @@
 -- The report of a record, by what its run answers.
-use Rattle.std.proofs.Common.{ℕ, ◌≡◌, ◌≢◌, false, List, length, Option, None, Some, refl, sym, ap, ◌∙◌, subst}
-use Rattle.std.specs.Prelude.{IfSome}
+use Rattle.std.proofs.Common.{ℕ, ◌≡◌, List, length, Option, sym, ap, ◌∙◌, subst}
 use Rattle.reg_base.specs.declared.memory.Op.{Op}
 use Rattle.reg_base.specs.Shape.{Extent}
 use Rattle.reg_checkers.specs.declared.entries.Point.{Point}
@@ -10,16 +9,11 @@ use Rattle.reg_history.specs.Reports.{Contents}
 use Rattle.reg_inputs.specs.Schedules.{Plan}
 use Rattle.reg_world.specs.Worlds.{Made}
 use Rattle.reg_records.proofs.Turns.{plays_shape}
-use Rattle.reg_commands.specs.Answers.{Blames}
 use Rattle.reg_commands.specs.Replays.{Shows, plan_in}
-use Rattle.reg_commands.specs.declared.command.Command.{Command}
-use Rattle.reg_commands.specs.declared.command.Command.TheVariants.{Check, Play}
-use Rattle.reg_commands.specs.declared.faults.Fault.{Fault}
-use Rattle.reg_commands.specs.declared.faults.Fault.TheVariants.{Unread, TooLong, NotText, Output, Line, Event, Workload, OutOfMemory}
 use Rattle.reg_verify.specs.declared.recorded.Recorded.{Recorded}
 use Rattle.reg_verify.specs.Logs.{order_of}
 use Rattle.reg_verify.specs.RecordLines.{Account, IsAccount}
-use Rattle.reg_verify.specs.Verifies.{BlamesText, Runs, ShowsAccount}
+use Rattle.reg_verify.specs.Verifies.{Runs, ShowsAccount}
 
 -- the run has a register for each name
 pub as_many_registers : (start : Op → ℕ → Start) (a : Account) (shape : Extent) (names : List (List ℕ)) (steps : List Recorded) (w : Made) → IsAccount a → shape ≡ a.shape → names ≡ a.names → Runs start shape steps w → w.registers ≡ length names

@@ -7,12 +7,12 @@ use Rattle.std.proofs.lemmas.Str.Parse.{digit_from_value}
 use Rattle.std.proofs.lemmas.Fmt.{digits_decimal}
 use Rattle.hex.specs.Hex.{encode_lower, encode_with, lower_digits}
 use Rattle.reg_base.specs.declared.memory.Op.{Op}
-use Rattle.reg_base.specs.declared.memory.Op.TheVariants.{Read, Write, Swap}
+use Rattle.reg_base.specs.declared.memory.Op.TheVariants.{Read, Write, Swap, CompareAndSwap}
 use Rattle.reg_base.specs.Names.{names_fault}
 use Rattle.reg_frames.specs.Spelling.{spelling}
 use Rattle.reg_process.specs.declared.steps.Step.{Step}
 use Rattle.reg_process.specs.declared.steps.Step.TheVariants.{Call, Take, Tick}
-use Rattle.reg_text.specs.Ops.{name_of, valued, op_text, OpFits}
+use Rattle.reg_text.specs.Ops.{compared, name_of, valued, op_text, OpFits}
 use Rattle.reg_text.specs.Parts.{Lacks}
 use Rattle.reg_text.proofs.Decimals.{own}
 use Rattle.reg_text.proofs.Joining.{joined, number}
@@ -56,10 +56,16 @@ clear_name names r ok fits = (nth_lacks 61 names r (omega arith) ok fits, nth_la
 clear_valued : (names : List (List ℕ)) (r v : ℕ) → names_fault names ≡ None → r < length names → v < 2 ^ 64 → IsClear (valued names r v)
 clear_valued names r v ok fits small = both (name_of names r) (32 ∷ decimal v) (clear_name names r ok fits) (both (32 ∷ []) (decimal v) (refl, refl) (clear_number v small))
 
+clear_compared : (names : List (List ℕ)) (r e v : ℕ) → names_fault names ≡ None → r < length names → e < 2 ^ 64 → v < 2 ^ 64 → IsClear (compared names r e v)
+clear_compared names r e v ok fits first second =
+    both (name_of names r) (32 ∷ (decimal e ++ 32 ∷ decimal v)) (clear_name names r ok fits)
+    (both (32 ∷ []) (decimal e ++ 32 ∷ decimal v) (refl, refl) (both (decimal e) (32 ∷ decimal v) (clear_number e first) (both (32 ∷ []) (decimal v) (refl, refl) (clear_number v second))))
+
 clear_op : (names : List (List ℕ)) (op : Op) → names_fault names ≡ None → OpFits names op → IsClear (op_text names op)
 clear_op names (Read r) ok fits = both (codes "read ") (name_of names r) (refl, refl) (clear_name names r ok fits)
 clear_op names (Write r v) ok fits = both (codes "write ") (valued names r v) (refl, refl) (clear_valued names r v ok fits.0 fits.1)
 clear_op names (Swap r v) ok fits = both (codes "swap ") (valued names r v) (refl, refl) (clear_valued names r v ok fits.0 fits.1)
+clear_op names (CompareAndSwap r e v) ok fits = both (codes "cas ") (compared names r e v) (refl, refl) (clear_compared names r e v ok fits.0 fits.1 fits.2)
 
 pub clear_step : (names : List (List ℕ)) (step : Step) → names_fault names ≡ None → StepFits names step → IsClear (step_text names step)
 clear_step names (Call op) ok fits = both (codes "call ") (op_text names op) (refl, refl) (clear_op names op ok fits)

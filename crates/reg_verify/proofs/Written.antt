@@ -4,7 +4,7 @@ use Rattle.std.specs.Prelude.{slice_get}
 use Rattle.std.specs.Fmt.{decimal}
 use Rattle.reg_base.specs.Names.{names_fault}
 use Rattle.reg_base.specs.declared.memory.Answer.{Answer}
-use Rattle.reg_base.specs.declared.memory.Answer.TheVariants.{Done, Value}
+use Rattle.reg_base.specs.declared.memory.Answer.TheVariants.{Done, Value, Unequal}
 use Rattle.reg_process.specs.declared.steps.Reply.{Reply}
 use Rattle.reg_text.specs.Lines.{lines_of}
 use Rattle.reg_text.specs.Parts.{Lacks}
@@ -21,6 +21,7 @@ answer_lacks : (answer : Answer) (place : ℕ) → AnswerFits answer → place <
 answer_lacks Done place fits small = joined 10 (codes "done ") (decimal place) refl (number place small)
 answer_lacks (Value value) place fits small =
     joined 10 (codes "value ") (decimal value ++ 32 ∷ decimal place) refl (joined 10 (decimal value) (32 ∷ decimal place) (number value fits) (joined 10 (32 ∷ []) (decimal place) refl (number place small)))
+answer_lacks Unequal place fits small = joined 10 (codes "unequal ") (decimal place) refl (number place small)
 
 told_lacks : (step : List ℕ) (reply : Option Reply) → Lacks 10 step → IsFitting reply → Lacks 10 (told_text step reply)
 told_lacks step None lacks fits = lacks

@@ -4,7 +4,7 @@ use Rattle.std.specs.Fmt.{decimal}
 use Rattle.hex.specs.Hex.{encode_lower}
 use Rattle.reg_base.specs.declared.limits.TheConstants.{MOST_PROCESSES, MOST_EVENTS}
 use Rattle.reg_base.specs.declared.memory.Answer.{Answer}
-use Rattle.reg_base.specs.declared.memory.Answer.TheVariants.{Done, Value}
+use Rattle.reg_base.specs.declared.memory.Answer.TheVariants.{Done, Value, Unequal}
 use Rattle.reg_base.specs.Shape.{Extent}
 use Rattle.reg_base.specs.Names.{names_fault}
 use Rattle.reg_frames.specs.declared.bodies.Frame.{Frame}
@@ -34,6 +34,7 @@ step_text names Tick = codes "tick"
 abbrev pub answer_text : Answer → ℕ → List ℕ
 answer_text Done place = codes "done " ++ decimal place
 answer_text (Value value) place = codes "value " ++ (decimal value ++ 32 ∷ decimal place)
+answer_text Unequal place = codes "unequal " ++ decimal place
 
 abbrev pub reply_text : Reply → List ℕ
 reply_text reply = answer_text reply.answer reply.place
@@ -59,6 +60,7 @@ StepFits names Tick = ⊤
 abbrev pub AnswerFits : Answer → Type 0
 AnswerFits Done = ⊤
 AnswerFits (Value value) = value < 2 ^ 64
+AnswerFits Unequal = ⊤
 
 abbrev pub ReplyFits : Reply → Type 0
 ReplyFits reply = AnswerFits reply.answer × (reply.place < 2 ^ 64)

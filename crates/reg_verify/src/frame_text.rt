@@ -11,7 +11,7 @@ use reg_frames::{Frame, decode};
 /// Whether the M digits are those of the bytes, in lower case.
 fn are_digits_of<const M: usize>(text: &[u8], bytes: &[u8]) -> bool
     requires digits { M ≡ 2 * length bytes.now }
-    requires few { M ≤ 64 }
+    requires few { M ≤ 80 }
     ensures { IsTrue result ↔ text.now ≡ encode_lower bytes.now }
 {
     let mut digits = [0u8; M];
@@ -24,7 +24,7 @@ fn are_digits_of<const M: usize>(text: &[u8], bytes: &[u8]) -> bool
 /// The frame of the bytes, where the M digits are theirs.
 fn spelled<const M: usize>(text: &[u8], bytes: &[u8]) -> Option<Frame>
     requires digits { M ≡ 2 * length bytes.now }
-    requires few { M ≤ 64 }
+    requires few { M ≤ 80 }
     ensures read { IfSome result (λ f. Fits f × (text.now ≡ frame_text f)) }
     ensures whole { (f : AnyFrame) → Fits f → bytes.now ≡ spelling f → text.now ≡ frame_text f → result ≡ Some f }
 {
@@ -40,7 +40,7 @@ fn spelled<const M: usize>(text: &[u8], bytes: &[u8]) -> Option<Frame>
 /// The frame of N bytes that the text spells, each of them as two of the M digits.
 fn frame_of<const N: usize, const M: usize>(text: &[u8]) -> Option<Frame>
     requires digits { M ≡ 2 * N }
-    requires few { M ≤ 64 }
+    requires few { M ≤ 80 }
     ensures read { IfSome result (λ f. Fits f × (text.now ≡ frame_text f)) }
     ensures whole { (f : AnyFrame) → Fits f → length (spelling f) ≡ N → text.now ≡ frame_text f → result ≡ Some f }
 {
@@ -60,6 +60,7 @@ pub(crate) fn read_frame(text: &[u8]) -> Option<Frame>
         42 => frame_of::<21, 42>(text),
         48 => frame_of::<24, 48>(text),
         64 => frame_of::<32, 64>(text),
+        80 => frame_of::<40, 80>(text),
         _ => None,
     }
 }

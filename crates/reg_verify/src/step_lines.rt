@@ -76,6 +76,13 @@ fn read_reply(text: &[u8]) -> Option<Reply>
             place,
         });
     }
+    if let Some(digits) = skip(text, b"unequal ") {
+        let place = numeral(digits)?;
+        return Some(Reply {
+            answer: Answer::Unequal,
+            place,
+        });
+    }
     let rest = skip(text, b"value ")?;
     let (value, place) = read_value(rest)?;
     Some(Reply {

@@ -7,5 +7,5 @@ use Rattle.reg_c.proofs.verdicts.judge_points.Goals as goal
 
 pub returns : goal.returns
 returns c =
-    judged (λ (r : ℕ) (es : List Entry) (found : List Point). IsPointFault r es found c.in-Err-check_points.fault) c.args.processes c.args.registers c.args.entries.now c.in-Ok.history.entries c.in-Ok.history.shape
+    judged (λ (r : ℕ) (es : List Entry) (found : List Point). IsPointFault r es found c.in-Err-check_points.fault) c.args.size.processes c.args.size.registers c.args.entries.now c.args.expected.now c.in-Ok.history.entries c.in-Ok.history.shape
     c.deref.result.now _ c.in-Ok.ensures.0 c.in-Ok.ensures.1 c.entries.ensures.in_place (c.deref.ensures.value ∙ c.in-Ok-points_of.ensures) c.in-Err-check_points.ensures

@@ -1,7 +1,8 @@
 use Rattle.std.proofs.Common.{◌≡◌, List, [], ◌∷◌, ◌++◌, ap, sym, ◌∙◌, unwrap_or}
 use Rattle.std.specs.Prelude.{slice_index}
 use Rattle.reg_data.specs.declared.looks.Kept.{Kept}
-use Rattle.reg_data.proofs.Looking.{kept_more, kept_same, value_is}
+use Rattle.reg_trace.proofs.Behind.{value_is}
+use Rattle.reg_data.proofs.Looking.{kept_more, kept_same}
 use Rattle.reg_data.proofs.looks.kept_among.Goals as goal
 use Rattle.reg_data.proofs.looks.kept_among.Goals.{then-value-ne0+in_ok-push, else-value-ne0}
 

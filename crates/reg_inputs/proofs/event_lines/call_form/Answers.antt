@@ -23,7 +23,7 @@ returns-then-within-clause-read g c =
     let n = c.within.ensures.0 c.if-within.true in
     let told = c.in_ok-why.ensures in
     why_within c.args.names.now c.args.text.now c.in_ok-process.process.now c.in_ok-process.rest.now c.in_ok-why.why n.0 n.1.0 n.1.1 (search rules) told.form.0 c.in_ok-process.ensures.read.0 c.in_ok-process.ensures.whole
-    (record { form = told.form; read = told.read; known = told.known; unknown = told.unknown; known_swap = told.known_swap; unknown_swap = told.unknown_swap })
+    (record { form = told.form; read = told.read; known = told.known; unknown = told.unknown; known_swap = told.known_swap; unknown_swap = told.unknown_swap; known_cas = told.known_cas; unknown_cas = told.unknown_cas })
 
 pub returns-else-within-clause-read : goal.returns-else-within-clause-read
 returns-else-within-clause-read g c =

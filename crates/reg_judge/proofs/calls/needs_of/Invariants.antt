@@ -1,6 +1,5 @@
-use Rattle.reg_judge.specs.Acts.{act_in}
 use Rattle.reg_judge.specs.Searching.{AreNeedsTo}
 use Rattle.reg_judge.proofs.calls.needs_of.Given as goal
 
 abbrev pub invariant-loop-place : goal.invariant-loop-place
-invariant-loop-place g l = AreNeedsTo l.place l.entries (act_in l.rows) l.needs
+invariant-loop-place g l = AreNeedsTo l.place l.entries l.rows l.needs

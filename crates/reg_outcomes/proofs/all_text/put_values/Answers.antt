@@ -1,7 +1,7 @@
 use Rattle.std.proofs.Common.{ℕ, List, ◌++◌, codes, ap, sym, take_all}
 use Rattle.std.specs.List.{flat_map}
 use Rattle.reg_text.proofs.Sent.{puts_as, puts_two}
-use Rattle.reg_outcomes.specs.declared.told.ToldValue.{ToldValue}
+use Rattle.reg_outcomes.specs.declared.told.ToldAnswer.{ToldAnswer}
 use Rattle.reg_outcomes.specs.AllText.{value_text, values_text}
 use Rattle.reg_outcomes.proofs.Writing.{puts_next}
 use Rattle.reg_outcomes.proofs.all_text.put_values.Goals as goal
@@ -13,9 +13,9 @@ loop-value-preserved g c =
 pub returns : goal.returns
 returns g c =
     let held = g.W.Write.contents in
-    let text : List ToldValue → List ℕ = flat_map (λ u. codes "  " ++ value_text u) in
-    let first : ToldValue = c.in-Some.first.now in
-    let others : List ToldValue = c.in-Some.others.now in
+    let text : List ToldAnswer → List ℕ = flat_map (λ u. codes "  " ++ value_text u) in
+    let first : ToldAnswer = c.in-Some.first.now in
+    let others : List ToldAnswer = c.in-Some.others.now in
     let e = c.in-Some.ensures.cases in
     puts_as held c.args.sink.now c.loop-value.sink (value_text first ++ text others) (values_text c.args.values.now) (ap values_text (sym e.0))
     (puts_two held c.args.sink.now c.put_value.new.sink c.loop-value.sink (value_text first) (text others) c.put_value.ensures

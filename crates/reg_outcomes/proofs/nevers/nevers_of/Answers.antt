@@ -2,7 +2,7 @@ use Rattle.std.proofs.Common.{◌≡◌, List, length, map, ap, sym, subst, arit
 use Rattle.std.specs.Prelude.{MatchOption, Vec}
 use Rattle.reg_checkers.specs.History.{IsAt}
 use Rattle.reg_checkers.proofs.Places.{IsAt-map}
-use Rattle.reg_outcomes.specs.declared.told.ToldValue.{ToldValue}
+use Rattle.reg_outcomes.specs.declared.told.ToldAnswer.{ToldAnswer}
 use Rattle.reg_outcomes.specs.declared.nevers.TheConstants.{MOST_NEVERS}
 use Rattle.reg_outcomes.specs.Interleavings.{Interleaving}
 use Rattle.reg_outcomes.specs.Nevers.{AreOver, tells}
@@ -14,8 +14,8 @@ use Rattle.reg_outcomes.proofs.nevers.nevers_of.Goals as goal
 pub returns : goal.returns
 returns g c =
     let outcomes = tells c.args.outcomes.now in
-    let first : List ToldValue = c.first-2.inside.told.items in
-    let read = λ (v : Vec ToldValue g.row.A.Denot). v.items in
+    let first : List ToldAnswer = c.first-2.inside.told.items in
+    let read = λ (v : Vec ToldAnswer g.row.A.Denot). v.items in
     let ks = c.in-Some-2.combinations.keys in
     let left = c.remove_told.new.combinations.keys in
     let at : IsAt outcomes 0 first = subst (λ t. IsAt outcomes 0 t) (sym (ap (λ (i : Interleaving). i.told) c.first-2.view_is)) (IsAt-map (λ (i : Interleaving). i.told) c.args.outcomes.now 0 c.in-Some.first.now (sym c.in-Some.ensures.value)) in

@@ -1,7 +1,7 @@
 use Rattle.std.proofs.Common.{◌∙◌, map, refl, sym}
 use Rattle.std.specs.Option.{option_map}
 use Rattle.reg_outcomes.specs.AllText.{all_text}
-use Rattle.reg_show.proofs.Sending.{writing_failed, flush_failed}
+use Rattle.reg_commands.proofs.Sending.{writing_failed, flush_failed}
 use Rattle.reg_show.proofs.every.send.Goals.{then-is_err-via-then-is_err, then-is_err-via-else-is_err+then-is_err-2}
 use Rattle.reg_show.proofs.every.send.Goals as goal
 

@@ -5,5 +5,5 @@ use Rattle.reg_trace.specs.Traces.{delivers_lines}
 use Rattle.reg_trace.proofs.trace_text.put_deliveries.Given as goal
 
 -- the sink has the lines so far
-abbrev pub invariant-loop-cast : goal.invariant-loop-cast
-invariant-loop-cast g l = Puts g.W.Write.contents l.initial.sink l.sink (text_of (flat_map (delivers_lines l.names) (take l.cast-index l.casts)))
+abbrev pub invariant-loop-delivery : goal.invariant-loop-delivery
+invariant-loop-delivery g l = Puts g.W.Write.contents l.initial.sink l.sink (text_of (flat_map (delivers_lines l.names) (take l.delivery-index l.deliveries)))

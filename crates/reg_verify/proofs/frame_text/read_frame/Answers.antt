@@ -22,6 +22,11 @@ returns-in-64-clause-whole c = λ f fits is.
     let many = digits f c.args.text.now is in
     c.frame_of-in-64.ensures.whole f fits (omega (arith, many, c.in-64.is)) is
 
+pub returns-in-80-clause-whole : goal.returns-in-80-clause-whole
+returns-in-80-clause-whole c = λ f fits is.
+    let many = digits f c.args.text.now is in
+    c.frame_of-in-80.ensures.whole f fits (omega (arith, many, c.in-80.is)) is
+
 pub returns-in_default-clause-whole : goal.returns-in_default-clause-whole
 returns-in_default-clause-whole c = λ f fits is.
     let many = digits f c.args.text.now is in
@@ -29,5 +34,6 @@ returns-in_default-clause-whole c = λ f fits is.
       | inl n ↦ let e : length c.args.text.now ≡ 24 = omega (arith, many, n) in let wrong : ⊥ = search (rules, e) in absurd wrong
       | inr (inl n) ↦ let e : length c.args.text.now ≡ 42 = omega (arith, many, n) in let wrong : ⊥ = search (rules, e) in absurd wrong
       | inr (inr (inl n)) ↦ let e : length c.args.text.now ≡ 48 = omega (arith, many, n) in let wrong : ⊥ = search (rules, e) in absurd wrong
-      | inr (inr (inr n)) ↦ let e : length c.args.text.now ≡ 64 = omega (arith, many, n) in let wrong : ⊥ = search (rules, e) in absurd wrong
+      | inr (inr (inr (inl n))) ↦ let e : length c.args.text.now ≡ 64 = omega (arith, many, n) in let wrong : ⊥ = search (rules, e) in absurd wrong
+      | inr (inr (inr (inr n))) ↦ let e : length c.args.text.now ≡ 80 = omega (arith, many, n) in let wrong : ⊥ = search (rules, e) in absurd wrong
     ]
