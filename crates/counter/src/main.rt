@@ -1,5 +1,5 @@
-//! Four threads add to a counter that they share, each while it holds a lock that is taken by swaps, over a road that
-//! loses and repeats parcels. It prints the same whatever the schedule.
+//! Four threads add to two counters that they share: to one while they hold a lock that is taken by swaps, to the other
+//! by compare-and-swaps without a lock. The road loses and repeats parcels. It prints the same whatever the schedule.
 #![tactic(auto)]
 
 use anyhow::anyhow;
@@ -11,7 +11,7 @@ use tellwydar::{
     Linear, LiveFault, Names, NoGate, Pass, Rough, SeedWords, World, check_points, shape_for, start,
 };
 
-/// How often each thread adds 1.
+/// How often each thread adds 1 to each counter.
 const TIMES: u32 = 5;
 
 /// The registers that the threads share.
@@ -19,7 +19,10 @@ const TIMES: u32 = 5;
 struct Registers {
     /// 0 where the lock is free, and else 1.
     lock: u16,
+    /// What is added to while the lock is held.
     counter: u16,
+    /// What is added to without a lock.
+    free: u16,
 }
 
 /// A pass, and whether all that its thread called was answered.
@@ -35,7 +38,22 @@ fn take_lock<R: Wait>(rt: &R, pass: &mut Pass<Linear, NoGate>, lock: u16) -> Res
     Ok(())
 }
 
-/// Adds 1 to the counter `TIMES` times, each time while holding the lock.
+/// Reads a counter, and writes one more where it still holds what was read; as often as it takes.
+fn add_one<R: Wait>(
+    rt: &R,
+    pass: &mut Pass<Linear, NoGate>,
+    counter: u16,
+) -> Result<(), LiveFault> {
+    for _ in rt.forever() {
+        let count = pass.read(rt, counter)?;
+        if pass.compare_and_swap(rt, counter, count, count.saturating_add(1))? {
+            break;
+        }
+    }
+    Ok(())
+}
+
+/// Adds 1 to each counter `TIMES` times.
 fn add<R: Wait>(
     rt: &R,
     pass: &mut Pass<Linear, NoGate>,
@@ -46,6 +64,7 @@ fn add<R: Wait>(
         let count = pass.read(rt, shared.counter)?;
         pass.write(rt, shared.counter, count.saturating_add(1))?;
         pass.write(rt, shared.lock, 0)?;
+        add_one(rt, pass, shared.free)?;
     }
     Ok(())
 }
@@ -53,7 +72,7 @@ fn add<R: Wait>(
 /// The names of the registers.
 fn named(alloc: Global) -> anyhow::Result<Names> {
     let mut names = Vec::new(alloc);
-    for name in ["lock", "counter"] {
+    for name in ["lock", "counter", "free"] {
         names.push(String::from_str(alloc, name)?)?;
     }
     Ok(Names::new(names)?)
@@ -61,8 +80,16 @@ fn named(alloc: Global) -> anyhow::Result<Names> {
 
 /// The registers that have these names.
 fn registers_of(names: &Names) -> anyhow::Result<Registers> {
-    match (names.number("lock"), names.number("counter")) {
-        (Some(lock), Some(counter)) => Ok(Registers { lock, counter }),
+    match (
+        names.number("lock"),
+        names.number("counter"),
+        names.number("free"),
+    ) {
+        (Some(lock), Some(counter), Some(free)) => Ok(Registers {
+            lock,
+            counter,
+            free,
+        }),
         _ => Err(anyhow!("no such register")),
     }
 }
@@ -84,13 +111,13 @@ fn start_all<R: Threads + Wait + Copy + Send + Sync + 'static>(
     Ok(())
 }
 
-/// Waits for the threads, whose passes come back, and reads the counter.
-fn total<R: Threads + Wait>(
+/// Waits for the threads, whose passes come back, and reads both counters.
+fn totals<R: Threads + Wait>(
     rt: &R,
     passes: &mut Vec<Pass<Linear, NoGate>>,
     threads: Vec<JoinHandle<Added>>,
-    counter: u16,
-) -> anyhow::Result<u64> {
+    shared: Registers,
+) -> anyhow::Result<(u64, u64)> {
     let mut ended = Ok(());
     for thread in threads {
         let (pass, added) = thread.join(rt);
@@ -101,7 +128,7 @@ fn total<R: Threads + Wait>(
     let Some(pass) = passes.last_mut() else {
         return Err(anyhow!("no passes"));
     };
-    Ok(pass.read(rt, counter)?)
+    Ok((pass.read(rt, shared.counter)?, pass.read(rt, shared.free)?))
 }
 
 /// Prints whether the points of the run are a linearization.
@@ -122,9 +149,11 @@ fn main(rt: HostRuntime) -> anyhow::Result<()> {
     let mut threads = Vec::new(alloc);
     let mut passes_back = Vec::new(alloc);
     let started = start_all(rt, &mut threads, passes, shared);
-    let total = total(&rt, &mut passes_back, threads, shared.counter);
+    let totals = totals(&rt, &mut passes_back, threads, shared);
     let closed = running.close(&rt, alloc, passes_back)?;
     started?;
-    println!(rt; "total: {}", total?)?;
+    let (counted, free) = totals?;
+    println!(rt; "total: {}", counted)?;
+    println!(rt; "without a lock: {}", free)?;
     print_verdict(&rt, alloc, &closed.world)
 }

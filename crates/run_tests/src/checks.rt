@@ -51,6 +51,32 @@ history 3
        2  p1    #0       answer  value 5
 ";
 
+/// Two compare-and-swaps that expect the first value are both answered done.
+const BOTH_DONE: &str = "awreg report 3
+front linear
+processes 2
+registers 1
+x
+history 4
+       0  p0    #0       call    cas x 0 1
+       1  p1    #0       call    cas x 0 2
+       3  p0    #0       answer  done
+       4  p1    #0       answer  done
+";
+
+/// The second one is answered unequal.
+const ONE_DONE: &str = "awreg report 3
+front linear
+processes 2
+registers 1
+x
+history 4
+       0  p0    #0       call    cas x 0 1
+       1  p1    #0       call    cas x 0 2
+       3  p0    #0       answer  done
+       4  p1    #0       answer  unequal
+";
+
 /// The rest of a report, and what is said of it.
 type Judged = (&'static str, &'static str);
 
@@ -90,6 +116,24 @@ const JUDGED: &[(&str, &[Judged])] = &[
     (
         UNFINISHED_READ,
         &[("order 2\np0 #0\np0 #1\nend\n", "serial no: unknown\n")],
+    ),
+    (
+        BOTH_DONE,
+        &[
+            ("order 2\np0 #0\np1 #0\nend\n", "serial no: answer at 1\n"),
+            ("order 2\np1 #0\np0 #0\nend\n", "serial no: answer at 1\n"),
+            (
+                "order 2\np0 #0\np1 #0\npoints 2\np0 #0 at 2\np1 #0 at 3\nend\n",
+                "serial no: answer at 1\npoints no: answer at 1\n",
+            ),
+        ],
+    ),
+    (
+        ONE_DONE,
+        &[
+            ("order 2\np0 #0\np1 #0\nend\n", "serial yes\n"),
+            ("order 2\np1 #0\np0 #0\nend\n", "serial no: answer at 0\n"),
+        ],
     ),
 ];
 

@@ -1,7 +1,7 @@
 //! Each growth of runs refused in turn: the answer is out of memory, or the one with ample memory.
 use crate::answers::{shown, unless_memory};
 use crate::world_rows::Row;
-use crate::worlds::RUNS;
+use crate::worlds::runs_of;
 use refusing::{Trial, refusals};
 use reg_base::Shape;
 use reg_front::{Front, FrontEnd, Linear, LocalRead, LocalWrite};
@@ -177,11 +177,18 @@ fn demand(alloc: Global, front: Front, row: &Row) -> Result<(), Fail> {
     Ok(())
 }
 
+fn demand_rows(alloc: Global, front: Front, rows: &[Row]) -> Result<(), Fail> {
+    for row in rows {
+        demand(alloc, front, row)?;
+    }
+    Ok(())
+}
+
 #[test]
 fn each_growth_of_a_run_is_refused(rt: HostRuntime) -> Result<(), Fail> {
-    for (front, rows) in RUNS {
-        for row in *rows {
-            demand(rt.alloc(), *front, row)?;
+    for front in [Front::Linear, Front::LocalRead, Front::LocalWrite] {
+        for rows in runs_of(front) {
+            demand_rows(rt.alloc(), front, rows)?;
         }
     }
     Ok(())

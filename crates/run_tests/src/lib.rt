@@ -11,6 +11,8 @@ mod checks;
 #[cfg(test)]
 mod commands;
 #[cfg(test)]
+mod compared_rows;
+#[cfg(test)]
 mod demands;
 #[cfg(test)]
 mod examples;

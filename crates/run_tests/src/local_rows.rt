@@ -1,6 +1,7 @@
 //! Runs of the front ends that answer from copies, as worked by hand.
 use crate::macros::{
-    ack, answered, call, called, cast, copy_read, first, got, id, swap_of, take, tick, write_of,
+    ack, answered, call, called, cas_of, cast, copy_read, first, got, id, swap_of, take, tick,
+    write_of,
 };
 use crate::values::{READ, WRITE_FIVE};
 use crate::world_rows::Row;
@@ -60,6 +61,44 @@ pub(crate) const LOCAL_READ: &[Row] = &[
             (0, 1, &[cast!(0, 1, swap_of!(5))]),
             (1, 0, &[got!(1), ack!(0, 2)]),
         ],
+        refused: &[],
+    },
+    // Process 0 takes nothing any more: its compare-and-swap has no answer, and process 1 reads its value.
+    Row {
+        name: "a read sees an unfinished compare-and-swap",
+        processes: 2,
+        events: &[call!(0, cas_of!(0, 5)), take!(0, 1, 0), call!(1, READ)],
+        history: &[
+            called!(0, 0, 0, cas_of!(0, 5)),
+            called!(2, 1, 0, READ),
+            answered!(2, 1, 0, Answer::Value(5)),
+        ],
+        casts: &[first!(1, 0, 0, cas_of!(0, 5), 1)],
+        reads: &[copy_read!(1, 0, 1)],
+        order: &[id!(0, 0), id!(1, 0)],
+        points: &[],
+        copies: &[(1, 1, true, 0), (2, 1, false, 5)],
+        wires: &[
+            (0, 1, &[cast!(0, 1, cas_of!(0, 5))]),
+            (1, 0, &[got!(1), ack!(0, 2)]),
+        ],
+        refused: &[],
+    },
+    Row {
+        name: "a read before the take of a compare-and-swap doesn't see it",
+        processes: 2,
+        events: &[call!(0, cas_of!(0, 5)), call!(1, READ)],
+        history: &[
+            called!(0, 0, 0, cas_of!(0, 5)),
+            called!(1, 1, 0, READ),
+            answered!(1, 1, 0, Answer::Value(0)),
+        ],
+        casts: &[],
+        reads: &[copy_read!(1, 0, 0)],
+        order: &[id!(1, 0)],
+        points: &[],
+        copies: &[(1, 1, true, 0), (0, 0, false, 0)],
+        wires: &[(0, 1, &[cast!(0, 1, cas_of!(0, 5))]), (1, 0, &[])],
         refused: &[],
     },
 ];
@@ -192,6 +231,74 @@ pub(crate) const LOCAL_WRITE: &[Row] = &[
                 0,
                 1,
                 &[cast!(0, 1, WRITE_FIVE), cast!(1, 2, swap_of!(6)), got!(1)],
+            ),
+            (1, 0, &[got!(1), ack!(0, 2)]),
+        ],
+        refused: &[],
+    },
+    // It expects the value of the own write, which its copy doesn't hold at the call, and does at the delivery.
+    Row {
+        name: "a compare-and-swap compares at its delivery",
+        processes: 2,
+        events: &[
+            call!(0, WRITE_FIVE),
+            call!(0, cas_of!(5, 6)),
+            take!(0, 1, 0),
+            take!(1, 0, 1),
+        ],
+        history: &[
+            called!(0, 0, 0, WRITE_FIVE),
+            answered!(0, 0, 0, Answer::Done),
+            called!(1, 0, 1, cas_of!(5, 6)),
+            answered!(3, 0, 1, Answer::Done),
+        ],
+        casts: &[
+            first!(1, 0, 0, WRITE_FIVE, 2),
+            first!(2, 0, 1, cas_of!(5, 6), 3),
+        ],
+        reads: &[],
+        order: &[id!(0, 0), id!(0, 1)],
+        points: &[],
+        copies: &[(3, 2, false, 6), (2, 1, false, 5)],
+        wires: &[
+            (
+                0,
+                1,
+                &[cast!(0, 1, WRITE_FIVE), cast!(1, 2, cas_of!(5, 6)), got!(1)],
+            ),
+            (1, 0, &[got!(1), ack!(0, 2)]),
+        ],
+        refused: &[],
+    },
+    // It expects what its copy holds at the call, and the own write replaces that before its delivery.
+    Row {
+        name: "a compare-and-swap finds the own write that it didn't expect",
+        processes: 2,
+        events: &[
+            call!(0, WRITE_FIVE),
+            call!(0, cas_of!(0, 6)),
+            take!(0, 1, 0),
+            take!(1, 0, 1),
+        ],
+        history: &[
+            called!(0, 0, 0, WRITE_FIVE),
+            answered!(0, 0, 0, Answer::Done),
+            called!(1, 0, 1, cas_of!(0, 6)),
+            answered!(3, 0, 1, Answer::Unequal),
+        ],
+        casts: &[
+            first!(1, 0, 0, WRITE_FIVE, 2),
+            first!(2, 0, 1, cas_of!(0, 6), 3),
+        ],
+        reads: &[],
+        order: &[id!(0, 0), id!(0, 1)],
+        points: &[],
+        copies: &[(3, 2, false, 5), (2, 1, false, 5)],
+        wires: &[
+            (
+                0,
+                1,
+                &[cast!(0, 1, WRITE_FIVE), cast!(1, 2, cas_of!(0, 6)), got!(1)],
             ),
             (1, 0, &[got!(1), ack!(0, 2)]),
         ],

@@ -11,6 +11,10 @@ use std::alloc::Global;
 const SWAPS: &str =
     "front = \"linear\"\nregisters = [\"x\"]\nscripts = [[\"swap x 1\", \"read x\", \"write x 2\"], [\"read x\", \"swap x 3\"], [\"swap x 4\", \"read x\"]]\n";
 
+/// A workload that compares and swaps at each process, and reads.
+const COMPARES: &str =
+    "front = \"linear\"\nregisters = [\"x\"]\nscripts = [[\"cas x 0 1\", \"read x\", \"cas x 1 2\"], [\"read x\", \"cas x 0 3\"], [\"cas x 0 4\", \"write x 1\"]]\n";
+
 /// A workload of three processes and two registers.
 const THREE: &str =
     "front = \"linear\"\nregisters = [\"x\", \"y\"]\nscripts = [[\"write x 5\", \"swap y 1\", \"read x\"], [\"swap x 2\", \"write y 7\", \"read y\"], [\"read x\", \"write x 9\", \"swap y 3\"]]\n";
@@ -30,6 +34,9 @@ const PLAYS: &[(&str, &str, Front, u64, u64)] = &[
     (SWAPS, LOSSY, Front::LocalWrite, 5, 1),
     (SWAPS, LOSSY, Front::LocalRead, 5, 1),
     (SWAPS, LOSSY, Front::Linear, 5, 1),
+    (COMPARES, LOSSY, Front::LocalWrite, 5, 1),
+    (COMPARES, LOSSY, Front::LocalRead, 5, 1),
+    (COMPARES, LOSSY, Front::Linear, 5, 1),
     (THREE, HALF_LOST, Front::LocalWrite, 5, 0),
     (THREE, HALF_LOST, Front::LocalRead, 5, 0),
     (THREE, HALF_LOST, Front::Linear, 5, 0),

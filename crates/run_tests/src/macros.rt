@@ -138,10 +138,21 @@ macro_rules! swap_of {
     };
 }
 
+macro_rules! cas_of {
+    ($expected:expr, $value:expr) => {
+        Op::CompareAndSwap {
+            register: 0,
+            expected: $expected,
+            value: $value,
+        }
+    };
+}
+
 pub(crate) use ack;
 pub(crate) use answered;
 pub(crate) use call;
 pub(crate) use called;
+pub(crate) use cas_of;
 pub(crate) use cast;
 pub(crate) use copy_read;
 pub(crate) use first;

@@ -2,7 +2,7 @@
 use reg_base::Op;
 use reg_front::{FrontEnd, Start};
 
-/// A front end that answers its writes at once, and casts its reads and swaps.
+/// A front end that answers its writes at once, and casts all its other operations.
 pub struct Mixed;
 
 impl FrontEnd for Mixed {
@@ -17,10 +17,8 @@ impl FrontEnd for Mixed {
                 register: _,
                 value: _,
             } => Start::CastAndAnswer,
-            Op::Swap {
-                register: _,
-                value: _,
-            } => Start::Cast,
+            Op::Swap { .. } => Start::Cast,
+            Op::CompareAndSwap { .. } => Start::Cast,
         }
     }
 

@@ -57,6 +57,47 @@ end
 ",
         refusal: "serial no: answer at 1\n",
     },
+    // A compare-and-swap is answered, and a later read of another process misses it.
+    Overtaking {
+        run: Row {
+            schedule: "processes 3
+registers x
+front local-read
+call 0 cas x 0 5
+take 0 1 0
+take 0 2 0
+take 1 0 1
+take 2 0 1
+call 1 read x
+",
+            report: "awreg report 3
+front local-read
+processes 3
+registers 1
+x
+history 4
+       0  p0    #0       call    cas x 0 5
+       4  p0    #0       answer  done
+       5  p1    #0       call    read x
+       5  p1    #0       answer  value 0
+order 2
+p1 #0
+p0 #0
+end
+",
+        },
+        order: "order 2
+p1 #0
+p0 #0
+end
+",
+        in_time: "order 2
+p0 #0
+p1 #0
+end
+",
+        refusal: "serial no: answer at 1\n",
+    },
     // A read of the new value, and then one of the old value.
     Overtaking {
         run: Row {
@@ -205,6 +246,44 @@ history 4
        0  p1    #0       answer  done
        1  p0    #0       call    swap x 7
        2  p0    #0       answer  value 0
+order 2
+p0 #0
+p1 #0
+end
+",
+        },
+        order: "order 2
+p0 #0
+p1 #0
+end
+",
+        in_time: "order 2
+p1 #0
+p0 #0
+end
+",
+        refusal: "serial no: answer at 1\n",
+    },
+    // A later compare-and-swap comes before a write that was answered at once, and finds what was before it.
+    Overtaking {
+        run: Row {
+            schedule: "processes 2
+registers x
+front local-write
+call 1 write x 5
+call 0 cas x 0 7
+take 1 0 0
+",
+            report: "awreg report 3
+front local-write
+processes 2
+registers 1
+x
+history 4
+       0  p1    #0       call    write x 5
+       0  p1    #0       answer  done
+       1  p0    #0       call    cas x 0 7
+       2  p0    #0       answer  done
 order 2
 p0 #0
 p1 #0

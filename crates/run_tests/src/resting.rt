@@ -4,7 +4,7 @@ use crate::answers::{shown, unless_memory};
 use crate::macros::{call, take, tick};
 use crate::values::WRITE_FIVE;
 use crate::world_rows::Row;
-use crate::worlds::RUNS;
+use crate::worlds::runs_of;
 use refusing::{Trial, refusals};
 use reg_base::Shape;
 use reg_front::{Front, FrontEnd, Linear, LocalRead, LocalWrite};
@@ -12,6 +12,7 @@ use reg_process::Process;
 use reg_runs::{SettleFault, settle};
 use reg_world::{Event, PackedWires, RunFault, WireStore, World, WorldFault};
 use std::alloc::{Allocator, Global};
+use std::process::Abort;
 use std::test::Fail;
 
 const WRITE: Event = call!(0, WRITE_FIVE);
@@ -132,12 +133,19 @@ fn restless_row(alloc: Global, front: Front, row: &Row) -> Option<usize> {
     }
 }
 
+/// Demands that the runs of these rows come to rest behind each event.
+fn demand_rests(rt: &(impl Abort + AllocGlobal), front: Front, rows: &[Row]) {
+    for row in rows {
+        let count = restless_row(rt.alloc(), front, row);
+        assert!(rt; count.is_none(), "{}: {count:?}", row.name);
+    }
+}
+
 #[test]
 fn runs_worked_by_hand_settle_behind_each_event(rt: HostRuntime) {
-    for (front, rows) in RUNS {
-        for row in *rows {
-            let count = restless_row(rt.alloc(), *front, row);
-            assert!(rt; count.is_none(), "{}: {count:?}", row.name);
+    for front in [Front::Linear, Front::LocalRead, Front::LocalWrite] {
+        for rows in runs_of(front) {
+            demand_rests(&rt, front, rows);
         }
     }
 }

@@ -1,5 +1,5 @@
 //! Schedules as they are read, and the lines that they are refused at.
-use crate::macros::{call, take, tick};
+use crate::macros::{call, cas_of, take, tick};
 use crate::values::READ;
 use reg_base::Op;
 use reg_front::Front;
@@ -13,7 +13,7 @@ fn is_judged(alloc: Global, text: &str, line: u64, why: Why) -> bool {
 }
 
 const SCHEDULE: &str =
-    "# a schedule é\n\nprocesses 2\nregisters x y\n#\nfront local-write\ncall 0 write y 5\n\ncall 1 read x\ntake 0 1 4294967295\ntick 255";
+    "# a schedule é\n\nprocesses 2\nregisters x y\n#\nfront local-write\ncall 0 write y 5\n\ncall 1 read x\ncall 1 cas x 0 5\ntake 0 1 4294967295\ntick 255";
 
 /// The events of `SCHEDULE`.
 const EVENTS: &[Event] = &[
@@ -25,6 +25,7 @@ const EVENTS: &[Event] = &[
         }
     ),
     call!(1, READ),
+    call!(1, cas_of!(0, 5)),
     take!(0, 1, 4_294_967_295),
     tick!(255),
 ];
@@ -84,6 +85,9 @@ const NO_EVENTS: &[(&str, Why)] = &[
     ("call 0 write x 5\t", Why::Form),
     ("call 0 write x 05", Why::Form),
     ("call 0 write x", Why::Form),
+    ("call 0 cas x 5", Why::Form),
+    ("call 0 cas zz 0 5", Why::Name),
+    ("call 0 cas x 0 18446744073709551616", Why::Range),
     ("call 0  read x", Why::Form),
     ("tick 0 ", Why::Form),
     ("tick 256", Why::Range),

@@ -184,6 +184,15 @@ fn take_of<F: FrontEnd>(world: &World<F>, process: u8, word: u64) -> Event {
     }
 }
 
+/// What the register holds in the copy of this process.
+fn held_by<F: FrontEnd>(world: &World<F>, process: u8) -> u64 {
+    match world.process(process) {
+        Some(process) => process.registers().get(0).unwrap_or(0),
+        None => 0,
+    }
+}
+
+/// An event by a word. A compare-and-swap expects what its process's copy holds, so some are done and some are not.
 fn event_of<F: FrontEnd>(world: &World<F>, word: u64) -> Event {
     let process = (word % 3) as u8;
     let op = match word / 3 % 16 {
@@ -197,6 +206,11 @@ fn event_of<F: FrontEnd>(world: &World<F>, word: u64) -> Event {
             value: word / 48 % 1024,
         },
         3 | 4 => READ,
+        5 => Op::CompareAndSwap {
+            register: 0,
+            expected: held_by(world, process),
+            value: word / 48 % 1024,
+        },
         _ => return take_of(world, process, word),
     };
     Event::Call { process, op }

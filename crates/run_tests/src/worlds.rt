@@ -1,4 +1,5 @@
 //! Runs as worked by hand: what a world tells after its events.
+use crate::compared_rows::COMPARED;
 use crate::local_rows::{LOCAL_READ, LOCAL_WRITE};
 use crate::macros::{call, take, tick};
 use crate::values::WRITE_FIVE;
@@ -144,12 +145,15 @@ fn differing_front(alloc: Global, front: Front, row: &Row) -> Option<&'static st
     }
 }
 
-/// The runs of each front end.
-pub(crate) const RUNS: &[(Front, &[Row])] = &[
-    (Front::Linear, LINEAR),
-    (Front::LocalRead, LOCAL_READ),
-    (Front::LocalWrite, LOCAL_WRITE),
-];
+/// The runs of a front end: its own, and those that every front end has.
+pub(crate) fn runs_of(front: Front) -> [&'static [Row]; 2] {
+    let own = match front {
+        Front::Linear => LINEAR,
+        Front::LocalRead => LOCAL_READ,
+        Front::LocalWrite => LOCAL_WRITE,
+    };
+    [own, COMPARED]
+}
 
 /// Demands that worlds tell what the rows of a front end say.
 fn demand(rt: &(impl Abort + AllocGlobal), front: Front, rows: &[Row]) {
@@ -161,13 +165,18 @@ fn demand(rt: &(impl Abort + AllocGlobal), front: Front, rows: &[Row]) {
 
 #[test]
 fn linear_runs(rt: HostRuntime) {
-    demand(&rt, Front::Linear, LINEAR);
+    for rows in runs_of(Front::Linear) {
+        demand(&rt, Front::Linear, rows);
+    }
 }
 
 #[test]
 fn local_runs(rt: HostRuntime) {
-    demand(&rt, Front::LocalRead, LOCAL_READ);
-    demand(&rt, Front::LocalWrite, LOCAL_WRITE);
+    for front in [Front::LocalRead, Front::LocalWrite] {
+        for rows in runs_of(front) {
+            demand(&rt, front, rows);
+        }
+    }
 }
 
 const CALL: Event = call!(0, WRITE_FIVE);

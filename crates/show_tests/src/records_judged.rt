@@ -34,7 +34,60 @@ p0 #0 at 1
 end
 ";
 
-/// What is written in that record, in its place, and the line that is told of it then.
+/// A compare-and-swap of the first of two processes, whose cast the second one takes.
+const COMPARED: &str = "tellwydar record 1
+front linear
+processes 2
+registers x
+0 call cas x 0 5
+1 take 0 00260401000000000000000001000000000000000104000000000000000000000000000000000005
+0 take 1 000a01020000000000000001
+0 take 1 001301010000000000000000020000000000000002 = done 0
+";
+
+/// The report of its run.
+const COMPARED_REPORT: &str = "awreg report 3
+front linear
+processes 2
+registers 1
+x
+history 2
+       0  p0    #0       call    cas x 0 5
+       3  p0    #0       answer  done
+order 1
+p0 #0
+points 1
+p0 #0 at 1
+end
+";
+
+/// One process compares twice, and finds another value the second time.
+const UNEQUAL: &str = "tellwydar record 1
+front local-read
+processes 1
+registers x
+0 call cas x 0 5 = done 0
+0 call cas x 0 6 = unequal 1
+";
+
+/// The report of its run.
+const UNEQUAL_REPORT: &str = "awreg report 3
+front local-read
+processes 1
+registers 1
+x
+history 4
+       0  p0    #0       call    cas x 0 5
+       0  p0    #0       answer  done
+       1  p0    #1       call    cas x 0 6
+       1  p0    #1       answer  unequal
+order 2
+p0 #0
+p0 #1
+end
+";
+
+/// What is written in the record `WRITE`, in its place, and the line that is told of it then.
 const CHANGES: [(&str, &str, &str); 10] = [
     ("= done 0", "= done 1", "line 8: unfaithful\n"),
     (" = done 0", "", "line 8: unfaithful\n"),
@@ -51,6 +104,12 @@ const CHANGES: [(&str, &str, &str); 10] = [
 #[test]
 fn a_record_worked_by_hand_has_the_report_of_its_run(rt: HostRuntime) {
     assert!(rt; tells(rt.alloc(), Task::Verify, WRITE, (0, REPORT, "")));
+}
+
+#[test]
+fn a_record_of_comparisons_has_the_report_of_its_run(rt: HostRuntime) {
+    assert!(rt; tells(rt.alloc(), Task::Verify, COMPARED, (0, COMPARED_REPORT, "")));
+    assert!(rt; tells(rt.alloc(), Task::Verify, UNEQUAL, (0, UNEQUAL_REPORT, "")));
 }
 
 #[test]

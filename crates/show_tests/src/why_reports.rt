@@ -14,9 +14,9 @@ const LINES: [Row; 8] = [
         "a report: 2 processes, 1 register, linear, 4 entries; serial yes\n",
     ),
     (
-        "awreg report 3\nfront linear\nprocesses 2\nregisters 1\nx\nhistory 4\n       0  p0    #0       call    write x 5\n       2  p0    #0       answer  done\n       3  p1    #0       call    read x\n       5  p1    #0       answer  value 5\norder 2\np0 #0\np1 #0\npoints 2\np0 #0 at 1\np1 #0 at 4\nend\n",
+        "awreg report 4\nfront linear\nprocesses 2\nregisters 1\nx\nhistory 4\n       0  p0    #0       call    write x 5\n       2  p0    #0       answer  done\n       3  p1    #0       call    read x\n       5  p1    #0       answer  value 5\norder 2\np0 #0\np1 #0\npoints 2\np0 #0 at 1\np1 #0 at 4\nend\n",
         false,
-        "line 1: form\n1 | awreg report 3\n  |              ^\nexpected 1 or 2, found \"3\"\n",
+        "line 1: form\n1 | awreg report 4\n  |              ^\nexpected 1, 2 or 3, found \"4\"\n",
     ),
     (
         "awreg report 2\nfront linear\nprocesses 2\nregisters 1\nx\nhistroy 4\n       0  p0    #0       call    write x 5\n       2  p0    #0       answer  done\n       3  p1    #0       call    read x\n       5  p1    #0       answer  value 5\norder 2\np0 #0\np1 #0\npoints 2\np0 #0 at 1\np1 #0 at 4\nend\n",

@@ -31,7 +31,7 @@ const WORDS: [Row; 15] = [
     (
         "processes 2\nregisters x z\nfront linear\ncall 0 delete x\n",
         false,
-        "line 4: form\n4 | call 0 delete x\n  |        ^\nexpected read, write or swap, found \"delete\"\n",
+        "line 4: form\n4 | call 0 delete x\n  |        ^\nexpected read, write, swap or cas, found \"delete\"\n",
     ),
     (
         "processes 2\nregisters x z\nfront linear\nTick 0\n",
@@ -76,7 +76,7 @@ const WORDS: [Row; 15] = [
     (
         "processes 2\nregisters x z\nfront linear\ncall 0 rode x\n",
         false,
-        "line 4: form\n4 | call 0 rode x\n  |        ^\nexpected read, write or swap, found \"rode\"\n",
+        "line 4: form\n4 | call 0 rode x\n  |        ^\nexpected read, write, swap or cas, found \"rode\"\n",
     ),
 ];
 

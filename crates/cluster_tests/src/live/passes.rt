@@ -1,6 +1,6 @@
 //! Passes of clusters whose threads were not started, so that each place in the journal is known.
 use crate::live::crews::{parts_of, pass_of, shut, size_of};
-use crate::values::{read, receipt, write};
+use crate::values::{compare_and_swap, read, receipt, write};
 use reg_base::Answer;
 use reg_front::{Linear, LocalWrite};
 use reg_live::{LiveFault, NoGate, Pacer, Pass};
@@ -27,16 +27,33 @@ fn answers_at_once(
         && pass.receipts() == [written, seen].as_slice()
 }
 
+/// Whether the only process, which has called two operations and has 5, changes that to 6 where 5 is expected, and then
+/// keeps it.
+fn compares(rt: &impl Wait, pass: &mut Pass<Linear, NoGate>) -> bool {
+    let changed = pass.compare_and_swap(rt, 0, 5, 6);
+    let kept = pass.compare_and_swap(rt, 0, 5, 7);
+    let other = pass.compare_and_swap(rt, 1, 5, 7);
+    let told = [
+        receipt((0, 2), compare_and_swap(0, 5, 6), Answer::Done, 2, 2),
+        receipt((0, 3), compare_and_swap(0, 5, 7), Answer::Unequal, 3, 3),
+    ];
+    changed == Ok(true)
+        && kept == Ok(false)
+        && other == Err(LiveFault::NoRegister)
+        && pass.receipts().get(2..) == Some(told.as_slice())
+        && pass.read(rt, 0) == Ok(6)
+}
+
 #[test]
 fn one_process_answers_at_once(rt: HostRuntime) {
     let alloc = rt.alloc();
     let mut parts = parts_of::<Linear, NoGate>(&rt, alloc, (1, 1), NoGate);
     let pass = pass_of(&rt, &mut parts.passes, 0);
-    let right = answers_at_once(&rt, pass, &mut parts.pacer);
+    let right = answers_at_once(&rt, pass, &mut parts.pacer) && compares(&rt, pass);
     let closed = shut(&rt, alloc, parts);
     let passes = closed.receipts.len();
     let (_, entries) = size_of(closed);
-    assert!(rt; right && entries == 4 && passes == 1);
+    assert!(rt; right && entries == 10 && passes == 1);
 }
 
 /// Whether two writes have the event of a tick between them.

@@ -81,22 +81,32 @@ const SWAP: Op = Op::Swap {
     value: 6,
 };
 
-/// An operation, whether it updates, and whether it can answer that it is done, and a value.
-const ANSWERS: &[(Op, bool, bool, bool)] = &[
-    (READ, false, false, true),
-    (WRITE_FIVE, true, true, false),
-    (SWAP, true, false, true),
+/// Writes 7 where there is 6.
+const SIX_TO_SEVEN: Op = Op::CompareAndSwap {
+    register: 0,
+    expected: 6,
+    value: 7,
+};
+
+/// An operation, whether it updates, and whether it can answer that it is done, a value, and that its register was
+/// unequal.
+const ANSWERS: &[(Op, bool, [bool; 3])] = &[
+    (READ, false, [false, true, false]),
+    (WRITE_FIVE, true, [true, false, false]),
+    (SWAP, true, [false, true, false]),
+    (SIX_TO_SEVEN, true, [true, false, true]),
 ];
 
 #[test]
 fn operations_and_their_answers(rt: HostRuntime) {
-    for (op, updates, done, value) in ANSWERS {
-        let can = (
+    for (op, updates, answers) in ANSWERS {
+        let can = [
             op.can_answer(&Answer::Done),
             op.can_answer(&Answer::Value(9)),
-        );
+            op.can_answer(&Answer::Unequal),
+        ];
         assert!(rt;
-            op.updates() == *updates && op.register() == 0 && can == (*done, *value),
+            op.updates() == *updates && op.register() == 0 && can == *answers,
             "{op:?}: {can:?}"
         );
     }
@@ -117,6 +127,19 @@ const ONE_MEMORY: &[(Op, Option<Answer>, u64)] = &[
     (WRITE_FIVE, Some(Answer::Done), 5),
     (OUTSIDE, None, 5),
     (Op::Read { register: 1 }, None, 5),
+    (SIX_TO_SEVEN, Some(Answer::Unequal), 5),
+    (SWAP, Some(Answer::Value(5)), 6),
+    (SIX_TO_SEVEN, Some(Answer::Done), 7),
+    (SIX_TO_SEVEN, Some(Answer::Unequal), 7),
+    (
+        Op::CompareAndSwap {
+            register: 1,
+            expected: 0,
+            value: 7,
+        },
+        None,
+        7,
+    ),
 ];
 
 /// Whether an operation on an own register is answered so, before it is applied.

@@ -1,6 +1,6 @@
 //! Parts of lines, as the formats have them: numerals, columns, operations and heads.
 use crate::demands::demand;
-use crate::macros::swap_of;
+use crate::macros::{cas_of, swap_of};
 use crate::parts::texts::names_of;
 use crate::values::READ;
 use reg_base::{Names, Op};
@@ -123,6 +123,15 @@ const OPERATIONS: &[(&str, Op)] = &[
         },
     ),
     ("swap x 5", swap_of!(5)),
+    ("cas x 0 5", cas_of!(0, 5)),
+    (
+        "cas y 18446744073709551615 18446744073709551615",
+        Op::CompareAndSwap {
+            register: 1,
+            expected: 18_446_744_073_709_551_615,
+            value: 18_446_744_073_709_551_615,
+        },
+    ),
 ];
 
 /// A text that is no operation, and why, where it has the form of one.
@@ -153,6 +162,22 @@ const NO_OPERATIONS: &[(&str, Option<Why>)] = &[
     ("swap  x 5", None),
     ("swapx 5", None),
     ("swap x 05", None),
+    ("cas z 0 5", Some(Why::Name)),
+    ("cas z 18446744073709551616 5", Some(Why::Name)),
+    ("cas x 18446744073709551616 5", Some(Why::Range)),
+    ("cas x 0 18446744073709551616", Some(Why::Range)),
+    ("cas", None),
+    ("cas x", None),
+    ("cas x 0", None),
+    ("cas x 0 ", None),
+    ("cas x  5", None),
+    ("cas  0 5", None),
+    ("cas x 0  5", None),
+    ("cas x 0 5 6", None),
+    ("cas x 0 05", None),
+    ("cas x 00 5", None),
+    ("casx 0 5", None),
+    ("Cas x 0 5", None),
     ("erase x", None),
 ];
 

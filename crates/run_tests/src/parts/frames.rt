@@ -15,6 +15,11 @@ const SWAP: [u8; 32] = [
     7,
 ];
 
+const COMPARED: [u8; 40] = [
+    0, 0x26, 4, 1, 0, 0, 0, 0, 0, 0, 0, 1, 1, 0, 0, 0, 0, 0, 0, 0, 3, 4, 0, 0, 0, 0, 0, 0, 0, 0, 0,
+    7, 0, 0, 0, 0, 0, 0, 0, 9,
+];
+
 const GOT: [u8; 12] = [0, 0x0a, 1, 2, 0, 0, 0, 0, 0, 0, 0, 1];
 
 const ACK: [u8; 21] = [
@@ -43,6 +48,18 @@ const FRAMES: &[(Frame, &[u8])] = &[
             }
         ),
         &SWAP,
+    ),
+    (
+        cast!(
+            1,
+            3,
+            Op::CompareAndSwap {
+                register: 0,
+                expected: 7,
+                value: 9
+            }
+        ),
+        &COMPARED,
     ),
     (Frame::Got { count: 1 }, &GOT),
     (ack!(0, 2), &ACK),
@@ -105,9 +122,20 @@ const CHANGED: &[(&[u8], usize, u8, FrameFault)] = &[
     (&SWAP, 2, 3, FrameFault::Version),
     (&GOT, 2, 2, FrameFault::Kind),
     (&ACK, 2, 2, FrameFault::Body),
+    (&COMPARED, 1, 0x1e, FrameFault::Length),
+    (&COMPARED, 2, 1, FrameFault::Op),
+    (&COMPARED, 2, 2, FrameFault::Op),
+    (&COMPARED, 2, 3, FrameFault::Version),
+    (&COMPARED, 2, 5, FrameFault::Version),
+    (&COMPARED, 21, 3, FrameFault::Op),
+    (&COMPARED, 22, 0x10, FrameFault::Range),
+    (&SWAP, 2, 4, FrameFault::Op),
+    (&GOT, 2, 4, FrameFault::Kind),
+    (&ACK, 2, 4, FrameFault::Body),
 ];
 
-/// The first byte too few, the swap without its last byte, data without a body, the read with a byte more.
+/// The first byte too few, the swap and the compare-and-swap without their last byte, data without a body, the read
+/// with a byte more.
 const OF_OTHER_SIZES: &[(&[u8], FrameFault)] = &[
     (&[], FrameFault::Short),
     (&[0, 0x0a, 1, 2, 0, 0, 0, 0, 0, 0, 0], FrameFault::Short),
@@ -115,6 +143,13 @@ const OF_OTHER_SIZES: &[(&[u8], FrameFault)] = &[
         &[
             0, 0x1d, 2, 1, 0, 0, 0, 0, 0, 0, 0, 1, 1, 0, 0, 0, 0, 0, 0, 0, 3, 3, 0, 0, 0, 0, 0, 0,
             0, 0, 0,
+        ],
+        FrameFault::Size,
+    ),
+    (
+        &[
+            0, 0x25, 4, 1, 0, 0, 0, 0, 0, 0, 0, 1, 1, 0, 0, 0, 0, 0, 0, 0, 3, 4, 0, 0, 0, 0, 0, 0,
+            0, 0, 0, 7, 0, 0, 0, 0, 0, 0, 0,
         ],
         FrameFault::Size,
     ),
@@ -129,9 +164,9 @@ const OF_OTHER_SIZES: &[(&[u8], FrameFault)] = &[
 
 /// Whether the bytes are refused with this fault where one of them is changed.
 fn is_refused(bytes: &[u8], place: usize, byte: u8, fault: FrameFault) -> bool {
-    let mut copy = [0u8; 32];
+    let mut copy = [0u8; 40];
     let size = bytes.len();
-    if size > 32 || place >= size {
+    if size > 40 || place >= size {
         return false;
     }
     copy[..size].copy_from_slice(bytes);
@@ -228,8 +263,8 @@ fn is_only_spelling(alloc: Global, bytes: &[u8]) -> bool {
 
 /// The first place and change of a byte with which the bytes of a frame are read as a frame that is spelled otherwise.
 fn misread_change(alloc: Global, bytes: &[u8]) -> Option<(usize, u8)> {
-    let mut copy = [0u8; 32];
-    let size = bytes.len().min(32);
+    let mut copy = [0u8; 40];
+    let size = bytes.len().min(40);
     copy[..size].copy_from_slice(&bytes[..size]);
     for place in 0..size {
         let before = copy[place];

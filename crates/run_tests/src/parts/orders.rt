@@ -1,8 +1,8 @@
 //! Histories and their orders, as worked by hand.
 use crate::histories::{STALE_READ, history_of};
-use crate::macros::{answered, called, id, point};
+use crate::macros::{answered, called, cas_of, id, point};
 use crate::values::{READ, WRITE_FIVE};
-use reg_base::{Answer, OpId, Shape};
+use reg_base::{Answer, Op, OpId, Shape};
 use reg_history::{CheckFault, Entry, History, HistoryFault, Point, check_points, check_serial};
 use std::alloc::Global;
 
@@ -20,6 +20,24 @@ const FINISHED: &[Entry] = &[
     called!(1, 0, 1, READ),
     answered!(3, 0, 1, Answer::Value(5)),
 ];
+
+/// Two compare-and-swaps that expect the first value. The second one is told this.
+macro_rules! both_expect_the_first_value {
+    ($answer:expr) => {
+        &[
+            called!(0, 0, 0, cas_of!(0, 1)),
+            called!(1, 1, 0, cas_of!(0, 2)),
+            answered!(3, 0, 0, Answer::Done),
+            answered!(4, 1, 0, $answer),
+        ]
+    };
+}
+
+/// As every run of them tells.
+const ONE_DONE: &[Entry] = both_expect_the_first_value!(Answer::Unequal);
+
+/// As no order can have it.
+const BOTH_DONE: &[Entry] = both_expect_the_first_value!(Answer::Done);
 
 /// Histories, points of each, and what is said of them.
 const POINTS: &[(&[Entry], &[Point], Result<(), CheckFault>)] = &[
@@ -40,6 +58,12 @@ const POINTS: &[(&[Entry], &[Point], Result<(), CheckFault>)] = &[
     ),
     (FINISHED, &[point!(0, 0), point!(0, 1, 2)], Ok(())),
     (FINISHED, &[point!(0, 0)], Err(CheckFault::Missing)),
+    (ONE_DONE, &[point!(0, 2), point!(1, 3)], Ok(())),
+    (
+        BOTH_DONE,
+        &[point!(0, 2), point!(1, 3)],
+        Err(CheckFault::Answer { place: 1 }),
+    ),
 ];
 
 /// Histories, an order of each, and what is said of it.
@@ -64,6 +88,22 @@ const JUDGED: &[(&[Entry], &[OpId], Result<(), CheckFault>)] = &[
     (UNFINISHED, &[id!(0, 0)], Ok(())),
     (FINISHED, &[id!(0, 0), id!(0, 1)], Ok(())),
     (FINISHED, &[id!(0, 1), id!(0, 0)], Err(CheckFault::OwnOrder)),
+    (ONE_DONE, &[id!(0, 0), id!(1, 0)], Ok(())),
+    (
+        ONE_DONE,
+        &[id!(1, 0), id!(0, 0)],
+        Err(CheckFault::Answer { place: 0 }),
+    ),
+    (
+        BOTH_DONE,
+        &[id!(0, 0), id!(1, 0)],
+        Err(CheckFault::Answer { place: 1 }),
+    ),
+    (
+        BOTH_DONE,
+        &[id!(1, 0), id!(0, 0)],
+        Err(CheckFault::Answer { place: 1 }),
+    ),
 ];
 
 /// Whether this is said of an order of a history.

@@ -13,6 +13,12 @@ const SWAP_SIX: Op = Op::Swap {
     value: 6,
 };
 
+const FIVE_TO_SEVEN: Op = Op::CompareAndSwap {
+    register: 0,
+    expected: 5,
+    value: 7,
+};
+
 /// A call of a write.
 macro_rules! call_write {
     ($value:expr) => {
@@ -185,6 +191,31 @@ const SWAP: &[Row] = &[
     ),
 ];
 
+/// A compare-and-swap expects the value of the own write before it. A swap of process 1 has a time between both, and
+/// replaces that value.
+const COMPARED: &[Row] = &[
+    (
+        0,
+        call_write!(5),
+        "casts at 1 of p0, puts #0 cast 1 write x 5 to p1, Done at place 0, clock 1, pending 1, unsettled 1, delivered 0, busy false, x 0",
+    ),
+    (
+        0,
+        call!(FIVE_TO_SEVEN),
+        "casts at 2 of p0, puts #1 cast 2 cas x 5 7 to p1, clock 2, pending 2, unsettled 2, delivered 0, busy true, x 0",
+    ),
+    (
+        0,
+        take!(1, 0, cast!(1, SWAP_SIX)),
+        "puts got 1 to p1, puts #2 ack 3 to p1, delivers write x 5 at 1 of p0, delivers swap x 6 at 1 of p1, clock 3, pending 3, unsettled 1, delivered 2, busy true, x 6",
+    ),
+    (
+        0,
+        take!(1, 1, ack!(4)),
+        "puts got 2 to p1, delivers cas x 5 7 at 2 of p0, Unequal at place 2, clock 5, pending 3, unsettled 0, delivered 3, busy false, x 6",
+    ),
+];
+
 const REFUSED: &[Row] = &[
     (
         1,
@@ -342,6 +373,7 @@ pub(crate) const TABLES: &[Table] = &[
     (Front::LocalWrite, 2, AT_ONCE),
     (Front::LocalWrite, 2, HELD_READ),
     (Front::LocalWrite, 2, SWAP),
+    (Front::LocalWrite, 2, COMPARED),
     (Front::LocalRead, 2, REFUSED),
     (Front::LocalRead, 2, OUT_OF_TURN),
     (Front::LocalRead, 2, LAST_TIME),

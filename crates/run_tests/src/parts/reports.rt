@@ -1,6 +1,6 @@
-//! Reports of both versions: how they are written, and the line at which a text is refused.
+//! Reports of each version: how they are written, and the line at which a text is refused.
 use crate::demands::demand;
-use crate::report_texts::{NO_POINTS, NO_POINTS_NOW, ONE_PROCESS, ONE_PROCESS_NOW};
+use crate::report_texts::{COMPARED, NO_POINTS, NO_POINTS_NOW, ONE_PROCESS, ONE_PROCESS_NOW};
 use reg_history::{ReadFault, ReadWhy, Report, read_report, write_report};
 use std::alloc::Global;
 
@@ -18,16 +18,17 @@ fn is_written_again(alloc: Global, text: &str, now: &str) -> bool {
     }
 }
 
-/// Reports of both versions, and each as it is written.
+/// Reports of each version, and each as it is written.
 const WRITTEN: &[(&str, &str)] = &[
     (ONE_PROCESS, ONE_PROCESS_NOW),
     (ONE_PROCESS_NOW, ONE_PROCESS_NOW),
     (NO_POINTS, NO_POINTS_NOW),
     (NO_POINTS_NOW, NO_POINTS_NOW),
+    (COMPARED, COMPARED),
 ];
 
 #[test]
-fn reports_are_written_in_version_2(rt: HostRuntime) {
+fn reports_are_written_in_the_version_that_they_need(rt: HostRuntime) {
     for (text, now) in WRITTEN {
         demand(&rt, text, is_written_again(rt.alloc(), text, now));
     }
@@ -111,7 +112,9 @@ const CHANGED_ONE_PROCESS: &[Changed] = &[
     ("registers x", "registers x ", at!(4, Form)),
     ("processes 1", "processes 0", at!(3, Range)),
     ("processes 1", "processes 17", at!(3, Range)),
-    ("report 1", "report 3", at!(1, Form)),
+    ("report 1", "report 4", at!(1, Form)),
+    ("write x 5", "cas x 0 5", at!(6, Form)),
+    ("value 5", "unequal", at!(9, Form)),
     ("p0 #1\npoints", "p0 #65535\npoints", at!(12, Range)),
     ("order 2", "order 1048577", at!(10, Range)),
     ("order 2", "order 1048576", at!(13, Form)),
@@ -120,6 +123,29 @@ const CHANGED_ONE_PROCESS: &[Changed] = &[
     ("p0 #1 at 1", "p0 #1 at 1048576", at!(15, Range)),
     ("p0 #1 at 1", "p0 #1 at1", at!(15, Form)),
     ("p0 #1 at 1", "p16 #1 at 1", at!(15, Range)),
+];
+
+const CHANGED_ONE_PROCESS_NOW: &[Changed] = &[
+    ("report 2", "report 4", at!(1, Form)),
+    ("write x 5", "cas x 0 5", at!(7, Form)),
+    ("value 5", "unequal", at!(10, Form)),
+];
+
+const CHANGED_COMPARED: &[Changed] = &[
+    ("report 3", "report 2", at!(7, Form)),
+    ("report 3", "report 4", at!(1, Form)),
+    ("cas x 0 5", "cas x 5", at!(7, Form)),
+    ("cas x 0 5", "cas x 0 5 6", at!(7, Form)),
+    ("cas x 0 5", "cas x 0 5 ", at!(7, Form)),
+    ("cas x 0 5", "cas x  0 5", at!(7, Form)),
+    ("cas x 0 5", "cas x 00 5", at!(7, Form)),
+    ("cas x 0 5", "cas x 0 05", at!(7, Form)),
+    ("cas x 0 5", "cas x 18446744073709551616 5", at!(7, Range)),
+    ("cas x 0 5", "cas x 0 18446744073709551616", at!(7, Range)),
+    ("cas x 0 5", "cas y 0 5", at!(7, Name)),
+    ("unequal", "unequal ", at!(10, Form)),
+    ("unequal", "value 5", at!(10, Place)),
+    ("cas x 0 6", "write x 6", at!(10, Place)),
 ];
 
 const CHANGED_NO_POINTS: &[Changed] = &[
@@ -162,6 +188,8 @@ const CHANGED_NEWER: &[Changed] = &[
 /// Reports, and how each is changed.
 const CHANGED: &[(&str, &[Changed])] = &[
     (ONE_PROCESS, CHANGED_ONE_PROCESS),
+    (ONE_PROCESS_NOW, CHANGED_ONE_PROCESS_NOW),
+    (COMPARED, CHANGED_COMPARED),
     (NO_POINTS, CHANGED_NO_POINTS),
     (OLDER, CHANGED_OLDER),
     (NEWER, CHANGED_NEWER),
@@ -180,7 +208,7 @@ fn a_report_is_refused_at_its_line(rt: HostRuntime) {
     }
 }
 
-/// A report, a part of it, and what is put in its place, at the limits of both versions, where the report is still
+/// A report, a part of it, and what is put in its place, at the limits of each version, where the report is still
 /// read.
 const AT_LIMITS: &[(&str, &str, &str)] = &[
     (ONE_PROCESS, "front linear", "front abcdefghijklmnop"),
@@ -201,6 +229,9 @@ const AT_LIMITS: &[(&str, &str, &str)] = &[
     (NEWER, NEWER_HEAD, "processes 64\nregisters 2\ny\nx"),
     (OLDER, "order 0", "order 1\np15 #0"),
     (NEWER, "order 0", "order 1\np63 #0"),
+    (NEWER, "report 2", "report 3"),
+    (COMPARED, "cas x 0 5", "cas x 0 18446744073709551615"),
+    (COMPARED, "cas x 0 6", "cas x 18446744073709551615 6"),
 ];
 
 #[test]
@@ -230,7 +261,7 @@ fn least_read(alloc: Global, bytes: &[u8]) -> usize {
 
 #[test]
 fn every_shorter_text_is_refused(rt: HostRuntime) {
-    for text in [ONE_PROCESS, ONE_PROCESS_NOW] {
+    for text in [ONE_PROCESS, ONE_PROCESS_NOW, COMPARED] {
         let least = least_read(rt.alloc(), text.as_bytes());
         let refused = refusal(rt.alloc(), text, "end\n", "end");
         assert!(rt;
@@ -240,10 +271,17 @@ fn every_shorter_text_is_refused(rt: HostRuntime) {
     }
 }
 
+/// Whether the text is read, and written as it is; or, where version 3 isn't needed, in version 2.
+fn is_written_so(alloc: Global, text: &str) -> bool {
+    let is_third = text.strip_prefix("awreg report 3\n").is_some();
+    is_written_again(alloc, text, text)
+        || (is_third && is_written_again(alloc, text, ONE_PROCESS_NOW))
+}
+
 /// Whether the bytes are no text, or one that is refused at a line or is that of the report read.
 fn is_refused_or_written_again(alloc: Global, bytes: &[u8]) -> bool {
     match std::str::from_utf8(bytes) {
-        Ok(text) => is_refused_at_a_line(alloc, bytes) || is_written_again(alloc, text, text),
+        Ok(text) => is_refused_at_a_line(alloc, bytes) || is_written_so(alloc, text),
         Err(_) => true,
     }
 }
