@@ -4,7 +4,7 @@ import { test } from "node:test";
 import assert from "node:assert/strict";
 import { existsSync, readdirSync, readFileSync } from "node:fs";
 import { join } from "node:path";
-import { examples, made, TOP } from "./programs.mjs";
+import { examples, made, TOP } from "../tools/programs.mjs";
 import { frameText, Run, stampText } from "../page/js/run.js";
 
 const all = examples().map(one => ({ ...one, run: new Run(one.told) }));

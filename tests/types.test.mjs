@@ -4,7 +4,7 @@ import assert from "node:assert/strict";
 import { spawnSync } from "node:child_process";
 import { readdirSync, readFileSync } from "node:fs";
 import { join } from "node:path";
-import { TOP } from "./programs.mjs";
+import { TOP } from "../tools/programs.mjs";
 
 const isAtHand = spawnSync("tsc", ["--version"]).status === 0;
 

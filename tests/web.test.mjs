@@ -6,7 +6,7 @@ import { execFileSync } from "node:child_process";
 import { existsSync, mkdtempSync, readFileSync, readdirSync, rmSync } from "node:fs";
 import { tmpdir } from "node:os";
 import { dirname, join, resolve } from "node:path";
-import { TOP } from "./programs.mjs";
+import { TOP } from "../tools/programs.mjs";
 
 const folder = mkdtempSync(join(tmpdir(), "web-"));
 after(() => rmSync(folder, { recursive: true }));

@@ -17,6 +17,9 @@
 
 #define TELLWYDAR_VERSION "0.1.0"
 
+/* Which functions and numbers there are. 2 adds compare-and-swaps: all functions and numbers of 1 are there, and mean what they did. */
+#define TELLWYDAR_ABI 2
+
 #ifdef __cplusplus
 extern "C" {
 #endif
@@ -56,13 +59,15 @@ enum {
     TELLWYDAR_CALLED_WRITE = 1,
     TELLWYDAR_CALLED_SWAP = 2,
     TELLWYDAR_ANSWERED_DONE = 3,
-    TELLWYDAR_ANSWERED_VALUE = 4
+    TELLWYDAR_ANSWERED_VALUE = 4,
+    TELLWYDAR_CALLED_COMPARE_AND_SWAP = 5,
+    TELLWYDAR_ANSWERED_UNEQUAL = 6 /* of a compare-and-swap that found another value than the expected one */
 };
 
 /* A call or an answer. Events are numbered from 0, rise from entry to entry, and are at most 1,048,575; only an answer may have the
  * event of the entry before it, if that is its own call. A process numbers its operations from 0, one after another. */
 struct tellwydar_entry {
-    uint64_t value;    /* of a write, a swap, or an answer with a value */
+    uint64_t value;    /* of a write, a swap, a compare-and-swap, or an answer with a value */
     uint32_t at;       /* the number of its event */
     uint32_t number;   /* of the operation, among those of its process */
     uint16_t reg;      /* the register of a call */
@@ -86,7 +91,7 @@ struct tellwydar_point {
 /* Verdicts. */
 enum {
     TELLWYDAR_HOLDS = 0,
-    TELLWYDAR_UNKNOWN = 1,       /* an operation that is neither finished nor a called write or swap */
+    TELLWYDAR_UNKNOWN = 1,       /* an operation that is neither finished nor a called update */
     TELLWYDAR_TWICE = 2,         /* an operation stands twice */
     TELLWYDAR_MISSING = 3,       /* a finished operation isn't there */
     TELLWYDAR_OWN_ORDER = 4,     /* a process's operations are out of their order */
@@ -105,6 +110,14 @@ uint32_t tellwydar_check_serial(uint32_t processes, uint32_t registers, const st
 /* Whether the points are a point order of the history (linearizability). */
 uint32_t tellwydar_check_points(uint32_t processes, uint32_t registers, const struct tellwydar_entry *entries, size_t entries_length,
                                 const struct tellwydar_point *points, size_t points_length, size_t *place);
+/* The same of histories with compare-and-swaps: what one expects stands in `expected`, at the place of its entry; at other places any
+ * number does. A compare-and-swap without an expected value is no entry: TELLWYDAR_OUT_OF_PLACE, as from the two functions above. */
+uint32_t tellwydar_check_serial_expecting(uint32_t processes, uint32_t registers, const struct tellwydar_entry *entries,
+                                          size_t entries_length, const uint64_t *expected, size_t expected_length,
+                                          const struct tellwydar_id *ids, size_t ids_length, size_t *place);
+uint32_t tellwydar_check_points_expecting(uint32_t processes, uint32_t registers, const struct tellwydar_entry *entries,
+                                          size_t entries_length, const uint64_t *expected, size_t expected_length,
+                                          const struct tellwydar_point *points, size_t points_length, size_t *place);
 
 /* --- Worlds: all processes of a run, stepped event by event ------------------------------------------------------------------- */
 
@@ -112,7 +125,7 @@ struct tellwydar_world;
 
 enum { TELLWYDAR_LINEAR = 0, TELLWYDAR_LOCAL_READ = 1, TELLWYDAR_LOCAL_WRITE = 2 };
 
-/* Kinds of events: the calls of a process, its take of a frame, its tick. */
+/* Kinds of events: the calls of a process, its take of a frame, its tick. The call of a compare-and-swap is a function of its own. */
 enum { TELLWYDAR_READ = 0, TELLWYDAR_WRITE = 1, TELLWYDAR_SWAP = 2, TELLWYDAR_TAKE = 3, TELLWYDAR_TICK = 4 };
 
 /* What a step tells. */
@@ -120,6 +133,7 @@ enum {
     TELLWYDAR_ACCEPTED = 0,
     TELLWYDAR_DONE = 1,    /* accepted, and answered Done */
     TELLWYDAR_VALUE = 2,   /* accepted, and answered with a value: TELLWYDAR_REPLY_VALUE */
+    TELLWYDAR_UNEQUAL = 3, /* accepted, and answered that the register had another value than the expected one */
     TELLWYDAR_FAILED = 16, /* memory was refused before: the world has stopped */
     TELLWYDAR_TOO_MANY_EVENTS = 17,
     TELLWYDAR_NO_PROCESS = 18,
@@ -144,6 +158,9 @@ uint32_t tellwydar_world_new(uint32_t front, uint32_t processes, uint32_t regist
  * swap. What isn't of the event isn't looked at. A refused event changes nothing, but want of memory stops the world for good. */
 uint32_t tellwydar_world_step(struct tellwydar_world *handle, uint32_t kind, uint8_t process, uint32_t number, uint8_t from,
                               uint64_t value);
+/* Makes the event that a process calls a compare-and-swap. */
+uint32_t tellwydar_world_compare_and_swap(struct tellwydar_world *handle, uint8_t process, uint32_t reg, uint64_t expected,
+                                          uint64_t value);
 /* Asks the world for a serial order of its history and, under `linear`, for a point order: 0, or TELLWYDAR_NO_MEMORY, and then the orders
  * that were asked for before are kept. */
 uint32_t tellwydar_world_arrange(struct tellwydar_world *handle);
@@ -166,7 +183,8 @@ enum {
     TELLWYDAR_POINTS = 13, /* how many points there were then */
     TELLWYDAR_POINT_PROCESS = 14,
     TELLWYDAR_POINT_NUMBER = 15,
-    TELLWYDAR_POINT_EVENT = 16
+    TELLWYDAR_POINT_EVENT = 16,
+    TELLWYDAR_ENTRY_EXPECTED = 17 /* of the call of a compare-and-swap */
 };
 uint64_t tellwydar_world_look(struct tellwydar_world *handle, uint32_t what, uint32_t at);
 
@@ -193,13 +211,16 @@ uint32_t tellwydar_process_new(uint32_t front, uint32_t processes, uint32_t regi
 
 /* Calls an operation: the kind is TELLWYDAR_READ, TELLWYDAR_WRITE or TELLWYDAR_SWAP. */
 uint32_t tellwydar_process_call(struct tellwydar_process *handle, uint32_t kind, uint32_t reg, uint64_t value);
+/* Calls a compare-and-swap. */
+uint32_t tellwydar_process_compare_and_swap(struct tellwydar_process *handle, uint32_t reg, uint64_t expected, uint64_t value);
 /* Takes a frame that the process `from` put for this one, as often and in whatever order: just the bytes of one frame. */
 uint32_t tellwydar_process_take(struct tellwydar_process *handle, uint8_t from, const uint8_t *bytes, size_t bytes_length);
 /* Puts the first unacknowledged frames of every link again. */
 uint32_t tellwydar_process_tick(struct tellwydar_process *handle);
 
 /* Puts as many bytes of the last step's frames into the room as it takes, and into `length` how many there are: for each frame a byte for
- * its receiver, and then the frame's bytes, whose first two are how many follow them. 33,264 bytes always do. The result is 0, or
+ * its receiver, and then the frame's bytes, whose first two are how many follow them. 41,328 bytes always do, and 33,264 where the process calls no
+ * compare-and-swap. The result is 0, or
  * TELLWYDAR_NO_MEMORY, or TELLWYDAR_NOT_A_FRAME where a frame is out of range, and then nothing has changed. */
 uint32_t tellwydar_process_frames(struct tellwydar_process *handle, uint8_t *room, size_t room_length, size_t *length);
 

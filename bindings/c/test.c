@@ -41,7 +41,7 @@ static void refusals(void) {
     expect("called", tellwydar_world_step(world, TELLWYDAR_READ, 0, 0, 0, 0) == TELLWYDAR_ACCEPTED);
     expect("busy", tellwydar_world_step(world, TELLWYDAR_READ, 0, 0, 0, 0) == TELLWYDAR_BUSY);
     expect("one event", tellwydar_world_look(world, TELLWYDAR_EVENTS, 0) == 1);
-    expect("no such look", tellwydar_world_look(world, 17, 0) == 0);
+    expect("no such look", tellwydar_world_look(world, 18, 0) == 0);
     tellwydar_world_free(world);
 }
 
@@ -67,6 +67,29 @@ static void fronts(void) {
     }
 }
 
+/* A process of its own compares twice: it finds the value, and then another one. */
+static void comparing(void) {
+    for (uint32_t front = 0; front < 3; front++) {
+        struct tellwydar_world *world;
+        expect("a world", tellwydar_world_new(front, 1, 2, &world) == 0);
+        expect("0 is there", tellwydar_world_compare_and_swap(world, 0, 1, 0, 7) == TELLWYDAR_DONE);
+        expect("0 is no longer there", tellwydar_world_compare_and_swap(world, 0, 1, 0, 8) == TELLWYDAR_UNEQUAL);
+        expect("with no value", tellwydar_world_look(world, TELLWYDAR_REPLY_VALUE, 0) == 0);
+        expect("nor in the other register", tellwydar_world_compare_and_swap(world, 0, 0, 1, 8) == TELLWYDAR_UNEQUAL);
+        expect("7 is there", tellwydar_world_step(world, TELLWYDAR_READ, 0, 1, 0, 0) == TELLWYDAR_VALUE);
+        expect("and told", tellwydar_world_look(world, TELLWYDAR_REPLY_VALUE, 0) == 7);
+        expect("a register that is none", tellwydar_world_compare_and_swap(world, 0, 65536, 0, 0) == TELLWYDAR_NO_EVENT);
+        expect("no register", tellwydar_world_compare_and_swap(world, 0, 2, 0, 0) == TELLWYDAR_NO_REGISTER);
+        expect("a call of its kind", tellwydar_world_look(world, TELLWYDAR_ENTRY_KIND, 2) == TELLWYDAR_CALLED_COMPARE_AND_SWAP);
+        expect("of its register", tellwydar_world_look(world, TELLWYDAR_ENTRY_REGISTER, 2) == 1);
+        expect("with its value", tellwydar_world_look(world, TELLWYDAR_ENTRY_VALUE, 2) == 8);
+        expect("and what it expects", tellwydar_world_look(world, TELLWYDAR_ENTRY_EXPECTED, 4) == 1);
+        expect("an answer of its kind", tellwydar_world_look(world, TELLWYDAR_ENTRY_KIND, 3) == TELLWYDAR_ANSWERED_UNEQUAL);
+        expect("a read expects nothing", tellwydar_world_look(world, TELLWYDAR_ENTRY_EXPECTED, 6) == 0);
+        tellwydar_world_free(world);
+    }
+}
+
 /* Of three processes under local reads: a write that is done, and a read of another process behind it that saw nothing of it. */
 static const struct tellwydar_entry stale[] = {
     {.at = 0, .process = 0, .number = 0, .kind = TELLWYDAR_CALLED_WRITE, .value = 5},
@@ -74,6 +97,29 @@ static const struct tellwydar_entry stale[] = {
     {.at = 5, .process = 1, .number = 0, .kind = TELLWYDAR_CALLED_READ},
     {.at = 5, .process = 1, .number = 0, .kind = TELLWYDAR_ANSWERED_VALUE, .value = 0},
 };
+
+/* A compare-and-swap that is done, and behind it one that found another value. */
+static const struct tellwydar_entry compared[] = {
+    {.at = 0, .process = 0, .number = 0, .kind = TELLWYDAR_CALLED_COMPARE_AND_SWAP, .value = 5},
+    {.at = 1, .process = 0, .number = 0, .kind = TELLWYDAR_ANSWERED_DONE},
+    {.at = 2, .process = 1, .number = 0, .kind = TELLWYDAR_CALLED_COMPARE_AND_SWAP, .value = 6},
+    {.at = 3, .process = 1, .number = 0, .kind = TELLWYDAR_ANSWERED_UNEQUAL},
+};
+
+static void expecting(void) {
+    struct tellwydar_id order[] = {{.process = 0, .number = 0}, {.process = 1, .number = 0}};
+    struct tellwydar_point points[] = {{.process = 0, .number = 0, .at = 0}, {.process = 1, .number = 0, .at = 2}};
+    uint64_t same[] = {0, 99, 0}, equal[] = {0, 99, 5}, late[] = {1, 99, 0};
+    size_t place = 77;
+    expect("the second found 5", tellwydar_check_serial_expecting(2, 1, compared, 4, same, 3, order, 2, &place) == TELLWYDAR_HOLDS && place == 0);
+    expect("and has a point", tellwydar_check_points_expecting(2, 1, compared, 4, same, 3, points, 2, &place) == TELLWYDAR_HOLDS);
+    expect("it found what it expects", tellwydar_check_serial_expecting(2, 1, compared, 4, equal, 3, order, 2, &place) == TELLWYDAR_ANSWER && place == 1);
+    expect("the first did not", tellwydar_check_points_expecting(2, 1, compared, 4, late, 3, points, 2, &place) == TELLWYDAR_ANSWER && place == 0);
+    expect("nothing is expected", tellwydar_check_serial_expecting(2, 1, compared, 4, same, 2, order, 2, &place) == TELLWYDAR_OUT_OF_PLACE && place == 2);
+    expect("an older call says so", tellwydar_check_serial(2, 1, compared, 4, order, 2, &place) == TELLWYDAR_OUT_OF_PLACE && place == 0);
+    expect("of points too", tellwydar_check_points(2, 1, compared, 4, points, 2, &place) == TELLWYDAR_OUT_OF_PLACE && place == 0);
+    expect("of others it is the older one", tellwydar_check_serial_expecting(3, 1, stale, 4, same, 0, order, 2, &place) == TELLWYDAR_ANSWER && place == 1);
+}
 
 static uint32_t serial(size_t entries, const struct tellwydar_id *ids, size_t count, size_t *place) {
     return tellwydar_check_serial(3, 1, stale, entries, ids, count, place);
@@ -102,6 +148,10 @@ static void verdicts(void) {
     struct tellwydar_entry kind = {.kind = 5};
     expect("a kind that is none", tellwydar_check_serial(1, 1, &kind, 1, right, 0, &place) == TELLWYDAR_OUT_OF_PLACE && place == 0);
 }
+
+/* The cast of a compare-and-swap from 0 to 5, as worked by hand. */
+static const uint8_t compared_cast[] = {0, 0x26, 4, 1, 0, 0, 0, 0, 0, 0, 0, 0, 1, 0, 0, 0, 0, 0, 0, 0,
+                                        1, 4, 0, 0, 0, 0, 0, 0, 0, 0, 0, 0, 0, 0, 0, 0, 0, 0, 0, 5};
 
 /* A write of the value 5 by the first of two processes: its cast, and what the other one answers, as worked by hand. */
 static const uint8_t cast[] = {0, 0x1e, 1, 1, 0, 0, 0, 0, 0, 0, 0, 0, 1, 0, 0, 0, 0, 0, 0, 0, 1, 2, 0, 0, 0, 0, 0, 0, 0, 0, 0, 5};
@@ -163,12 +213,38 @@ static void processes(void) {
     tellwydar_process_free(other);
 }
 
+/* One process compares, and the other one has the value. */
+static void comparing_processes(void) {
+    struct tellwydar_process *writer = NULL, *other = NULL;
+    expect("the writer", tellwydar_process_new(TELLWYDAR_LOCAL_WRITE, 2, 1, 0, &writer) == 0);
+    expect("the other", tellwydar_process_new(TELLWYDAR_LOCAL_WRITE, 2, 1, 1, &other) == 0);
+    uint8_t sent[41] = {1};
+    memcpy(sent + 1, compared_cast, sizeof compared_cast);
+    expect("a register that is none", tellwydar_process_compare_and_swap(writer, 65536, 0, 5) == TELLWYDAR_NO_EVENT);
+    expect("no register", tellwydar_process_compare_and_swap(writer, 1, 0, 5) == TELLWYDAR_NO_REGISTER);
+    expect("called", tellwydar_process_compare_and_swap(writer, 0, 0, 5) == TELLWYDAR_ACCEPTED);
+    expect("its cast goes to the other", puts_bytes(writer, sent, sizeof sent));
+    expect("taken", tellwydar_process_take(other, 0, compared_cast, sizeof compared_cast) == TELLWYDAR_ACCEPTED);
+    expect("it has the value", tellwydar_process_look(other, TELLWYDAR_OWN_REGISTER, 0) == 5);
+    expect("the count", tellwydar_process_take(writer, 1, got, sizeof got) == TELLWYDAR_ACCEPTED);
+    expect("done", tellwydar_process_take(writer, 1, ack, sizeof ack) == TELLWYDAR_DONE);
+    tellwydar_process_free(writer);
+    tellwydar_process_free(other);
+    expect("one alone", tellwydar_process_new(TELLWYDAR_LINEAR, 1, 1, 0, &writer) == 0);
+    expect("finds another value", tellwydar_process_compare_and_swap(writer, 0, 1, 5) == TELLWYDAR_UNEQUAL);
+    expect("and leaves it", tellwydar_process_look(writer, TELLWYDAR_OWN_REGISTER, 0) == 0);
+    tellwydar_process_free(writer);
+}
+
 int main(void) {
     rooms();
     refusals();
     fronts();
+    comparing();
     verdicts();
+    expecting();
     processes();
+    comparing_processes();
     printf("%d passed, %d failed\n", passed, failed);
     return failed != 0;
 }

@@ -6,7 +6,7 @@ import unittest
 
 from tellwydar import check
 from tellwydar.net import LossyRoad, Node, core, merge
-from tellwydar.net.chapters import State, StoryFault, check_story, is_over
+from tellwydar.net.chapters import State, StoryFault, check_story, is_over, told_of, values_after
 from test_net import free_addresses
 from test_node_programs import COUNT, CALLS, RUST, YES, Cluster, wait_until
 
@@ -58,6 +58,13 @@ class States(unittest.TestCase):
 
 
 class Stories(unittest.TestCase):
+    def test_a_comparison_counts_where_it_found_its_value(self):
+        history = "".join(f"{at:>8}  p0    #{at:<6}  {what}\n" for at, what in enumerate(
+            ["call    cas x 0 5", "call    cas x 0 6", "call    swap y 3", "call    cas y 3 4", "call    read x"]))
+        text = REPORT.format(count=5, history=history, order=5, ids="".join(f"p0 #{at}\n" for at in range(5)), points="")
+        told = told_of(text.replace("awreg report 2", "awreg report 3").encode())
+        self.assertEqual(values_after(told), [5, 4])
+
     def refused(self, why, *reports):
         with self.assertRaises(StoryFault) as told:
             check_story(reports)

@@ -4,6 +4,7 @@ import os
 import random
 import socket
 import tempfile
+import threading
 import time
 import unittest
 import zlib
@@ -13,6 +14,7 @@ import zmq
 from tellwydar import check
 from tellwydar.net import Busy, Closed, Keys, LossyRoad, Node, NodeFailed, Refused, TimedOut, core, log, merge, road
 from tellwydar.net.datagrams import DatagramRoad
+from tellwydar.net.road import RoadFault
 
 if importlib.util.find_spec("nacl"):
     from nacl.public import Box, PrivateKey, PublicKey
@@ -38,6 +40,12 @@ def got(count):
     return b"\0\x0a\1\2" + count.to_bytes(8, "big")
 
 
+def compared():
+    """The cast of a compare-and-swap."""
+    frame = b"\4\1" + bytes(8) + b"\1" + (1).to_bytes(8, "big") + b"\4\0\0" + bytes(16)
+    return len(frame).to_bytes(2, "big") + frame
+
+
 CALL = log.Entry("call", core.WRITE, 0, 0, b"", None)
 
 
@@ -58,6 +66,7 @@ class Logs(unittest.TestCase):
             log.Entry("call", core.SWAP, 1, 2**64 - 1, b"", None), take(1, got(1)), take(1, data(0, 1), core.Reply(7, 3)),
             log.Entry("tick", 0, 0, 0, b"", None), log.Entry("call", core.READ, 0, 0, b"", core.Reply(0, 0)),
             log.Entry("call", core.WRITE, 0, 5, b"", core.Reply(None, 2**48)),
+            log.Entry("call", core.CAS, 1, 9, b"", core.Reply(core.UNEQUAL, 4), 2**64 - 1), take(1, compared()),
         ]
         writer = log.Writer(self.path, self.head)
         for e in self.entries:
@@ -301,7 +310,13 @@ class Nodes(unittest.TestCase):
             self.assertEqual(b.swap("x", 6, 5), 5)
             self.assertEqual(c.swap("x", 7, 5), 6)
             self.assertEqual(c.read("x", 5), 7)
-            self.assertIn("swap x 7", self.merged(3).replace("swap    swap", "swap"))
+            self.assertTrue(a.compare_and_swap("x", 7, 8, 5))
+            self.assertFalse(b.compare_and_swap("x", 7, 9, 5))
+            self.assertEqual(c.swap("x", 10, 5), 8)
+            report = self.merged(3)
+            self.assertTrue(report.startswith("awreg report 3\n"))
+            for it in ("swap x 7", "cas x 7 9", "unequal"):
+                self.assertIn(it, report)
             self.nodes.clear()
             for p in range(3):
                 os.unlink(self.path(p))
@@ -346,6 +361,58 @@ class Nodes(unittest.TestCase):
         a = self.start(0, "local-read")
         self.assertEqual(a.read("x", 0), 0)
 
+    def test_what_no_log_can_hold_is_refused(self):
+        self.addresses = free_addresses(1)
+        for names in (["x1"], ["a b"], [""], ["x", "x"], ["a" * 17]):
+            with self.assertRaises(ValueError):
+                Node("linear", names, 0, self.addresses, None, self.path(0), say=self.said.append)
+            self.assertFalse(os.path.exists(self.path(0)))
+        node = self.start(0)
+        for register, value in (("x", True), ("x", -1), ("x", 2**64), ("x", "5")):
+            with self.assertRaises(ValueError):
+                node.write(register, value, 5)
+        for register in (True, "z", 2**16):
+            with self.assertRaises(Refused):
+                node.write(register, 5, 5)
+        node.write("x", 5, 5)
+        node.close()
+        self.assertEqual(len(log.read(self.path(0)).entries), 1)
+
+    def test_each_caller_has_its_own_answer(self):
+        self.addresses = free_addresses(2)
+        a, _ = self.start(0), self.start(1)
+        told, until = {}, time.monotonic() + 2
+
+        def call(first):
+            for value in range(first, first + 1_000_000):
+                if time.monotonic() > until:
+                    return
+                try:
+                    told[value] = a.swap("x", value, 5)
+                except Busy:
+                    pass
+
+        def wait():
+            while time.monotonic() < until:
+                try:
+                    a.wait(0.01)
+                except (Busy, ValueError):
+                    pass
+
+        threads = [threading.Thread(target=call, args=(1,)), threading.Thread(target=call, args=(10**6,)), threading.Thread(target=wait)]
+        for it in threads:
+            it.start()
+        for it in threads:
+            it.join()
+        a.close()
+        logged, called = {}, None
+        for entry in log.read(self.path(0)).entries:
+            called = entry.value if entry.step == "call" else called
+            if entry.reply is not None:
+                logged[called] = entry.reply.value
+        self.assertTrue(told)
+        self.assertEqual(told, logged)
+
     def test_resume(self):
         self.addresses = free_addresses(2)
         a, b = self.start(0, look=0.02), self.start(1, look=0.02)
@@ -355,7 +422,7 @@ class Nodes(unittest.TestCase):
             a.write("x", 6, 0.05)
         with self.assertRaises(NodeFailed):
             self.start(1)
-        with self.assertRaises((OSError, zmq.ZMQError)):
+        with self.assertRaises(RoadFault):  # another node has the address
             self.start(0, resume=True)
         b = self.start(1, resume=True, look=0.02)
         self.assertIsNone(a.wait(5))

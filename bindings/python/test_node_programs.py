@@ -38,8 +38,9 @@ class Cluster:
         for me in range(COUNT):
             calls = []
             for k in range(CALLS):
-                op, register = words.choice(["read", "write", "swap"]), words.choice("xy")
-                calls.append(f"{op} {register}\n" if op == "read" else f"{op} {register} {me * 100 + k}\n")
+                op, register = words.choice(["read", "write", "swap", "cas"]), words.choice("xy")
+                expected = f" {words.choice([0, me * 100 + k - 1])}" if op == "cas" else ""
+                calls.append(f"{op} {register}\n" if op == "read" else f"{op} {register}{expected} {me * 100 + k}\n")
             self.write(f"{me}.txt", "".join(calls))
 
     def places(self):

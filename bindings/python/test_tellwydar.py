@@ -1,11 +1,14 @@
 """Tests of the module: python3 -m unittest, with TELLWYDAR_LIB set."""
 import contextlib
+import copy
 import os
+import pickle
 import random
+import threading
 import unittest
 
 import tellwydar
-from tellwydar import Answered, Called, Fault, Front, Known, Process, Read, Refused, Swap, World, Write
+from tellwydar import UNEQUAL, Answered, Called, CompareAndSwap, Fault, Front, Known, Process, Read, Refused, Swap, World, Write
 
 EXAMPLES = os.path.join(os.path.dirname(os.path.abspath(__file__)), "../../examples")
 
@@ -32,6 +35,26 @@ class Tests(unittest.TestCase):
         self.assertEqual(tellwydar.play(b"").line, b"missing front\n")
         self.assertEqual(tellwydar.verify(b""), tellwydar.Told(1, b"", b"line 1: end\n"))
         self.assertRaises(TypeError, tellwydar.replay, "text")
+
+    def test_handles_are_not_copied_and_threads_take_turns(self):
+        with tellwydar.Process(tellwydar.Front.LOCAL_WRITE, 4, 1, 0) as one:
+            for copied in (copy.copy, copy.deepcopy, pickle.dumps):
+                self.assertRaises(TypeError, copied, one)
+            told = []
+
+            def work():
+                for at in range(200):
+                    one.call(tellwydar.Write(0, at))
+                    told.extend(frame for _, frame in one.frames())
+                    one.tick()
+
+            threads = [threading.Thread(target=work) for _ in range(4)]
+            for it in threads:
+                it.start()
+            for it in threads:
+                it.join()
+            self.assertEqual({len(frame) - 2 - int.from_bytes(frame[:2], "big") for frame in told}, {0})
+        self.assertRaises(tellwydar.Refused, one.tick)
 
     def test_verdicts(self):
         serial = lambda *order: fault_of(tellwydar.check_serial, 3, 1, STALE, order)
@@ -62,6 +85,24 @@ class Tests(unittest.TestCase):
         self.assertRaisesRegex(Refused, "no shape", World, Front.LINEAR, 65, 1)
         self.assertRaises(ValueError, World, 3, 1, 1)
         self.assertRaises(ValueError, World, Front.LINEAR, -1, 1)
+
+    def test_comparisons(self):
+        for front in Front:
+            with World(front, 1, 1) as world:
+                self.assertEqual(world.call(0, CompareAndSwap(0, 0, 5)), tellwydar.Reply(None, 0))
+                self.assertEqual(world.call(0, CompareAndSwap(0, 0, 2**64 - 1)), tellwydar.Reply(UNEQUAL, 1))
+                self.assertEqual(world.history()[2:], [Called(1, 0, 1, CompareAndSwap(0, 0, 2**64 - 1)), Answered(1, 0, 1, UNEQUAL)])
+                tellwydar.check_serial(1, 1, world.history(), world.serial_order())
+                with self.assertRaisesRegex(Refused, "no register"):
+                    world.call(0, CompareAndSwap(1, 0, 5))
+        history = [Called(0, 0, 0, CompareAndSwap(0, 0, 5)), Answered(1, 0, 0, None), Called(2, 1, 0, CompareAndSwap(0, 5, 6)), Answered(3, 1, 0, UNEQUAL)]
+        self.assertEqual(fault_of(tellwydar.check_serial, 2, 1, history, [(0, 0), (1, 0)]), "answer at 1")
+        self.assertEqual(fault_of(tellwydar.check_points, 2, 1, history, [(0, 0, 0), (1, 0, 2)]), "answer at 1")
+        self.assertRaises(ValueError, tellwydar.check_serial, 2, 1, [Called(0, 0, 0, CompareAndSwap(0, -1, 5))], [])
+        cast = bytes.fromhex("00260401" + "0" * 16 + "01" + "0" * 14 + "01" + "04" + "0000" + "0" * 16 + "0" * 14 + "05")
+        with Process(Front.LINEAR, 2, 1, 0) as writer:
+            self.assertIsNone(writer.call(CompareAndSwap(0, 0, 5)))
+            self.assertEqual(writer.frames(), [(1, cast)])
 
     def test_processes(self):
         # A write of the value 5 by the first of two processes: its cast, and what the other one answers, as worked by hand.
@@ -103,7 +144,7 @@ class Tests(unittest.TestCase):
                     me, sender, register = words.randrange(n), words.randrange(n), words.randrange(2)
                     event = words.choice(["call", "tick", "take", "take", "take"])
                     if event == "call":
-                        op = words.choice([Read(register), Write(register, words.getrandbits(64)), Swap(register, words.getrandbits(64))])
+                        op = words.choice([Read(register), Write(register, words.getrandbits(64)), Swap(register, words.getrandbits(64)), CompareAndSwap(register, words.randrange(2), words.randrange(2))])
                         steps = [lambda: world.call(me, op), lambda: processes[me].call(op)]
                     elif event == "tick":
                         steps = [lambda: world.tick(me), processes[me].tick]

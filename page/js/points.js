@@ -25,7 +25,7 @@ export function drawPoints(places) {
       diamond(op.key, x, lane - size, size), diamond(op.key, xs[at], bar - small, small));
     if (roomy) {
       group.append(svg("text", { class: "rank", x, y: lane + 3.5 }, String(op.first.place)));
-      const label = op.value !== undefined ? `${op.register}=${op.value}` : shortAnswer(op.answer.text);
+      const label = op.wrote ? `${op.register}=${op.value}` : shortAnswer(op.answer ? op.answer.text : "");
       const next = run.points[place + 1], space = next ? xs[next.at] - x - (next.at === at ? 0 : 30) : 99;
       const text = { class: "halo lane", x: x + 13, y: lane + 4, "data-op": op.key };
       if (textWidth(label) < space) group.append(svg("text", text, label));

@@ -1,7 +1,7 @@
 // Runs built in the playground by clicks and by keys.
 import assert from "node:assert/strict";
 import { pause } from "./driver.mjs";
-import { made } from "../programs.mjs";
+import { made } from "../../tools/programs.mjs";
 import { example, fragment, linesOf, schedule } from "./session.mjs";
 
 const WRITERS = "two-writers.sched";

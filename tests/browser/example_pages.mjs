@@ -5,7 +5,7 @@ import { tmpdir } from "node:os";
 import { join } from "node:path";
 import { pause } from "./driver.mjs";
 import { hover, oddText, slide } from "./stepping.mjs";
-import { examples, made } from "../programs.mjs";
+import { examples, made } from "../../tools/programs.mjs";
 
 const MOST_STEPS = 60; // by keys; the slider goes through all
 

@@ -3,7 +3,7 @@ import { spawn } from "node:child_process";
 import { readFileSync } from "node:fs";
 import { join } from "node:path";
 import { pause } from "./driver.mjs";
-import { TOP } from "../programs.mjs";
+import { TOP } from "../../tools/programs.mjs";
 
 /** Starts tools/playground at any free port; gives its address and what ends it. */
 export async function startServer(...words) {

@@ -1,7 +1,7 @@
 // How long a click takes, from the click until all is laid out and painted: told, and not judged, since it hangs on the
 // machine.
 import assert from "node:assert/strict";
-import { made } from "../programs.mjs";
+import { made } from "../../tools/programs.mjs";
 import { example, fragment } from "./session.mjs";
 
 const CLICKS = 5;

@@ -3,7 +3,7 @@ import assert from "node:assert/strict";
 import { pause } from "./driver.mjs";
 import { slide } from "./stepping.mjs";
 import { example, fragment, linesOf, schedule } from "./session.mjs";
-import { made } from "../programs.mjs";
+import { made } from "../../tools/programs.mjs";
 
 const MARKED = "document.querySelector('.mark.refused').style.top";
 

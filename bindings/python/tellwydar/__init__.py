@@ -10,11 +10,12 @@ The environment's TELLWYDAR_LIB names the folder of `libtellwydar.so`, which `to
 import ctypes
 import enum
 import os
+import threading
 from dataclasses import dataclass
-from typing import Any, Callable, List, Optional, Sequence, Tuple, Union
+from typing import Any, Callable, List, NoReturn, Optional, Sequence, Tuple, Union
 
 __all__ = [
-    "Answered", "Called", "Fault", "Front", "Known", "Process", "Read", "Refused", "Reply", "Swap", "Told", "World", "Write",
+    "UNEQUAL", "Answered", "Called", "CompareAndSwap", "Fault", "Front", "Known", "Process", "Read", "Refused", "Reply", "Swap", "Told", "Unequal", "World", "Write",
     "check", "check_points", "check_serial", "play", "play_fair", "replay", "verify",
 ]
 
@@ -47,12 +48,13 @@ def _load() -> Tuple[ctypes.CDLL, Any]:
         call = getattr(library, f"tellwydar_{word}")
         call.restype, call.argtypes = u8, [room, size, room, size, room, size, ctypes.POINTER(_Lengths)]
     for word, row in (("serial", _Id), ("points", _Point)):
-        call = getattr(library, f"tellwydar_check_{word}")
+        call = getattr(library, f"tellwydar_check_{word}_expecting")
         call.restype = u32
-        call.argtypes = [u32, u32, ctypes.POINTER(_Entry), size, ctypes.POINTER(row), size, ctypes.POINTER(size)]
+        call.argtypes = [u32, u32, ctypes.POINTER(_Entry), size, ctypes.POINTER(u64), size, ctypes.POINTER(row), size, ctypes.POINTER(size)]
     for word, result, given in (
         ("new", u32, [u32, u32, u32, ctypes.POINTER(handle)]),
         ("step", u32, [handle, u32, u8, u32, u8, u64]),
+        ("compare_and_swap", u32, [handle, u8, u32, u64, u64]),
         ("arrange", u32, [handle]),
         ("look", u64, [handle, u32, u32]),
         ("close", None, [handle]),
@@ -62,6 +64,7 @@ def _load() -> Tuple[ctypes.CDLL, Any]:
     for word, result, given in (
         ("new", u32, [u32, u32, u32, u8, ctypes.POINTER(handle)]),
         ("call", u32, [handle, u32, u32, u64]),
+        ("compare_and_swap", u32, [handle, u32, u64, u64]),
         ("take", u32, [handle, u8, room, size]),
         ("tick", u32, [handle]),
         ("frames", u32, [handle, room, size, ctypes.POINTER(size)]),
@@ -145,7 +148,26 @@ class Swap:
     value: int
 
 
-Op = Union[Read, Write, Swap]
+@dataclass(frozen=True)
+class CompareAndSwap:
+    """A write where the expected value is there, and it answers whether it was."""
+
+    register: int
+    expected: int
+    value: int
+
+
+Op = Union[Read, Write, Swap, CompareAndSwap]
+
+
+class Unequal(enum.Enum):
+    """The answer of a compare-and-swap that found another value than the expected one."""
+
+    UNEQUAL = "unequal"
+
+
+UNEQUAL = Unequal.UNEQUAL
+Answer = Union[None, int, Unequal]  # None is Done
 
 
 @dataclass(frozen=True)
@@ -160,12 +182,12 @@ class Called:
 
 @dataclass(frozen=True)
 class Answered:
-    """An answer: None for Done, else the value."""
+    """An answer: None for Done, `UNEQUAL`, or the value."""
 
     at: int
     process: int
     number: int
-    value: Optional[int]
+    value: Answer
 
 
 Entry = Union[Called, Answered]
@@ -191,21 +213,41 @@ def _ranged(value: int, bits: int) -> int:
     return value
 
 
+_CALLS = {Read: 0, Write: 1, Swap: 2, CompareAndSwap: 5}
+
+
+def _answer_row(value: Answer) -> Tuple[int, int]:
+    """The kind and the value of an answer's row."""
+    if isinstance(value, Unequal):
+        return 6, 0
+    return (3, 0) if value is None else (4, _ranged(value, 64))
+
+
+def _expected(entries: Sequence[Entry]) -> "ctypes.Array[ctypes.c_uint64]":
+    """What each entry expects, 0 where it is no compare-and-swap."""
+    values = (ctypes.c_uint64 * max(1, len(entries)))()
+    for place, entry in enumerate(entries):
+        if isinstance(entry, Called) and isinstance(entry.op, CompareAndSwap):
+            values[place] = _ranged(entry.op.expected, 64)
+    return values
+
+
 def _rows(entries: Sequence[Entry]) -> "ctypes.Array[_Entry]":
     rows = (_Entry * max(1, len(entries)))()
     for row, entry in zip(rows, entries):
         row.at, row.number, row.process = _ranged(entry.at, 32), _ranged(entry.number, 32), _ranged(entry.process, 8)
         if isinstance(entry, Answered):
-            row.kind, row.value = (3, 0) if entry.value is None else (4, _ranged(entry.value, 64))
+            row.kind, row.value = _answer_row(entry.value)
         else:
-            row.kind = (Read, Write, Swap).index(type(entry.op))
+            row.kind = _CALLS[type(entry.op)]
             row.register, row.value = _ranged(entry.op.register, 16), _ranged(getattr(entry.op, "value", 0), 64)
     return rows
 
 
 def _judge(call: Callable[..., int], processes: int, registers: int, entries: Sequence[Entry], rows: Any, count: int) -> None:
     place = ctypes.c_size_t()
-    code = call(_ranged(processes, 32), _ranged(registers, 32), _rows(entries), len(entries), rows, count, ctypes.byref(place))
+    given = (_rows(entries), len(entries), _expected(entries), len(entries), rows, count)
+    code = call(_ranged(processes, 32), _ranged(registers, 32), *given, ctypes.byref(place))
     if code:
         raise Fault(_FAULTS[code], place.value if code in (5, 6, 7, 10) else None)
 
@@ -216,7 +258,7 @@ def check_serial(processes: int, registers: int, history: Sequence[Entry], order
     rows = (_Id * max(1, len(order)))()
     for row, (process, number) in zip(rows, order):
         row.process, row.number = _ranged(process, 8), _ranged(number, 32)
-    _judge(_library.tellwydar_check_serial, processes, registers, history, rows, len(order))
+    _judge(_library.tellwydar_check_serial_expecting, processes, registers, history, rows, len(order))
 
 
 def check_points(processes: int, registers: int, history: Sequence[Entry], points: Sequence[Tuple[int, int, int]]) -> None:
@@ -225,7 +267,7 @@ def check_points(processes: int, registers: int, history: Sequence[Entry], point
     rows = (_Point * max(1, len(points)))()
     for row, (process, number, at) in zip(rows, points):
         row.process, row.number, row.at = _ranged(process, 8), _ranged(number, 32), _ranged(at, 32)
-    _judge(_library.tellwydar_check_points, processes, registers, history, rows, len(points))
+    _judge(_library.tellwydar_check_points_expecting, processes, registers, history, rows, len(points))
 
 
 class Front(enum.IntEnum):
@@ -249,59 +291,87 @@ _REFUSALS = {
 
 @dataclass(frozen=True)
 class Reply:
-    """An answer, None for Done or the value, and how many casts it counts with."""
+    """An answer, None for Done, `UNEQUAL` or the value, and how many casts it counts with."""
 
-    value: Optional[int]
+    value: Answer
     place: int
 
 
-class World:
-    """All processes of a run with their wires, stepped event by event. It is for one thread at a time."""
+def _reply(code: int, value: Callable[[], int], place: Callable[[], int]) -> Optional[Reply]:
+    """What a step tells: no reply, or one."""
+    if code > 3:
+        raise Refused(_REFUSALS[code])
+    if code == 0:
+        return None
+    return Reply(None if code == 1 else value() if code == 2 else UNEQUAL, place())
 
-    def __init__(self, front: Front, processes: int, registers: int):
+
+class _Handle:
+    """What the library keeps behind a pointer. Threads take turns: a call of another one waits until this one is made."""
+
+    def __init__(self, make: Callable[..., int], close: Callable[[ctypes.c_void_p], None], *numbers: int):
         self._handle: Optional[ctypes.c_void_p] = None
+        self._close, self._turn = close, threading.RLock()
         handle = ctypes.c_void_p()
-        code = _library.tellwydar_world_new(Front(front), _ranged(processes, 32), _ranged(registers, 32), ctypes.byref(handle))
+        code = make(*numbers, ctypes.byref(handle))
         if code:
             raise Refused(_REFUSALS[code])
         self._handle = handle
-        self.front = Front(front)
 
     def close(self) -> None:
-        """Gives back what the world holds. Later calls are refused as closed."""
-        if self._handle is not None:
-            _library.tellwydar_world_close(self._handle)
-            _free(self._handle)
-            self._handle = None
+        """Gives back what is held. Later calls are refused as closed."""
+        with self._turn:
+            if self._handle is not None:
+                self._close(self._handle)
+                _free(self._handle)
+                self._handle = None
 
-    __del__ = close
-
-    def __enter__(self) -> "World":
-        return self
+    def __del__(self) -> None:
+        if getattr(self, "_handle", None) is not None:
+            self.close()
 
     def __exit__(self, *_: object) -> None:
         self.close()
 
-    def _held(self) -> ctypes.c_void_p:
-        if self._handle is None:
-            raise Refused("closed")
-        return self._handle
+    def __reduce__(self) -> NoReturn:
+        raise TypeError(f"a {type(self).__name__} can't be copied")
+
+    def _asked(self, function: Callable[..., int], *numbers: Union[int, bytes]) -> int:
+        """What a function of the library answers of this handle."""
+        with self._turn:
+            if self._handle is None:
+                raise Refused("closed")
+            return int(function(self._handle, *numbers))
+
+
+class World(_Handle):
+    """All processes of a run with their wires, stepped event by event."""
+
+    def __init__(self, front: Front, processes: int, registers: int):
+        self.front = Front(front)
+        super().__init__(_library.tellwydar_world_new, _library.tellwydar_world_close, self.front, _ranged(processes, 32), _ranged(registers, 32))
+
+    def __enter__(self) -> "World":
+        return self
 
     def _look(self, what: int, at: int = 0) -> int:
-        return int(_library.tellwydar_world_look(self._held(), what, at))
+        return self._asked(_library.tellwydar_world_look, what, at)
 
     def _step(self, kind: int, process: int, number: int, sender: int, value: int) -> Optional[Reply]:
-        code = _library.tellwydar_world_step(
-            self._held(), kind, _ranged(process, 8), _ranged(number, 32), _ranged(sender, 8), _ranged(value, 64)
-        )
-        if code > 2:
-            raise Refused(_REFUSALS[code])
-        return None if code == 0 else Reply(None if code == 1 else self._look(8), self._look(9))
+        numbers = kind, _ranged(process, 8), _ranged(number, 32), _ranged(sender, 8), _ranged(value, 64)
+        return self._stepped(_library.tellwydar_world_step, *numbers)
+
+    def _stepped(self, function: Callable[..., int], *numbers: int) -> Optional[Reply]:
+        with self._turn:  # no other step comes between this one and what is told of it
+            return _reply(self._asked(function, *numbers), lambda: self._look(8), lambda: self._look(9))
 
     def call(self, process: int, op: Op) -> Optional[Reply]:
         """A process calls an operation."""
-        kind = (Read, Write, Swap).index(type(op))
-        return self._step(kind, process, _ranged(op.register, 16), 0, getattr(op, "value", 0))
+        register = _ranged(op.register, 16)
+        if isinstance(op, CompareAndSwap):
+            values = _ranged(op.expected, 64), _ranged(op.value, 64)
+            return self._stepped(_library.tellwydar_world_compare_and_swap, _ranged(process, 8), register, *values)
+        return self._step(_CALLS[type(op)], process, register, 0, getattr(op, "value", 0))
 
     def take(self, sender: int, receiver: int, number: int) -> Optional[Reply]:
         """A process takes a frame by its place on the wire, as often and in whatever order."""
@@ -322,12 +392,15 @@ class World:
 
     def _entry(self, at: int) -> Entry:
         event, process, number, kind, register, value = (self._look(what, at) for what in range(2, 8))
-        if kind >= 3:
-            return Answered(event, process, number, None if kind == 3 else value)
+        if kind in (3, 4, 6):
+            answer: Answer = {3: None, 4: value, 6: UNEQUAL}[kind]
+            return Answered(event, process, number, answer)
+        if kind == 5:
+            return Called(event, process, number, CompareAndSwap(register, self._look(17, at), value))
         return Called(event, process, number, (Read(register), Write(register, value), Swap(register, value))[kind])
 
     def _arrange(self) -> None:
-        code = _library.tellwydar_world_arrange(self._held())
+        code = self._asked(_library.tellwydar_world_arrange)
         if code:
             raise Refused(_REFUSALS[code])
 
@@ -353,73 +426,51 @@ class Known:
     seen: int
 
 
-class Process:
-    """One process of a run, whose frames its owner carries: whatever is lost, repeated or reordered. It is for one thread at a time."""
+class Process(_Handle):
+    """One process of a run, whose frames its owner carries: whatever is lost, repeated or reordered."""
 
-    # (63 links, 16 frames each, of at most 32 bytes and one for the receiver)
-    _ROOM = 63 * 16 * 33
+    # (63 links, 16 frames each, of at most 40 bytes and one for the receiver)
+    _ROOM = 63 * 16 * 41
 
     def __init__(self, front: Front, processes: int, registers: int, me: int):
-        self._handle: Optional[ctypes.c_void_p] = None
-        handle = ctypes.c_void_p()
-        code = _library.tellwydar_process_new(
-            Front(front), _ranged(processes, 32), _ranged(registers, 32), _ranged(me, 8), ctypes.byref(handle)
-        )
-        if code:
-            raise Refused(_REFUSALS[code])
-        self._handle = handle
+        numbers = Front(front), _ranged(processes, 32), _ranged(registers, 32), _ranged(me, 8)
+        super().__init__(_library.tellwydar_process_new, _library.tellwydar_process_close, *numbers)
         self._room, self._length = ctypes.create_string_buffer(self._ROOM), ctypes.c_size_t()
-
-    def close(self) -> None:
-        """Gives back what the process holds. Later calls are refused as closed."""
-        if self._handle is not None:
-            _library.tellwydar_process_close(self._handle)
-            _free(self._handle)
-            self._handle = None
-
-    __del__ = close
 
     def __enter__(self) -> "Process":
         return self
 
-    def __exit__(self, *_: object) -> None:
-        self.close()
-
-    def _held(self) -> ctypes.c_void_p:
-        if self._handle is None:
-            raise Refused("closed")
-        return self._handle
-
     def _look(self, what: int, register: int = 0) -> int:
-        return int(_library.tellwydar_process_look(self._held(), what, register))
+        return self._asked(_library.tellwydar_process_look, what, register)
 
-    def _told(self, code: int) -> Optional[Reply]:
-        if code > 2:
-            raise Refused(_REFUSALS[code])
-        return None if code == 0 else Reply(None if code == 1 else self._look(6), self._look(7))
+    def _stepped(self, function: Callable[..., int], *numbers: Union[int, bytes]) -> Optional[Reply]:
+        with self._turn:  # no other step comes between this one and what is told of it
+            return _reply(self._asked(function, *numbers), lambda: self._look(6), lambda: self._look(7))
 
     def call(self, op: Op) -> Optional[Reply]:
         """Calls an operation."""
-        kind = (Read, Write, Swap).index(type(op))
-        value = _ranged(getattr(op, "value", 0), 64)
-        return self._told(_library.tellwydar_process_call(self._held(), kind, _ranged(op.register, 16), value))
+        register, value = _ranged(op.register, 16), _ranged(getattr(op, "value", 0), 64)
+        if isinstance(op, CompareAndSwap):
+            return self._stepped(_library.tellwydar_process_compare_and_swap, register, _ranged(op.expected, 64), value)
+        return self._stepped(_library.tellwydar_process_call, _CALLS[type(op)], register, value)
 
     def take(self, sender: int, frame: bytes) -> Optional[Reply]:
         """Takes a frame of another process. Bytes that spell none are refused as `not a frame`, and make no step."""
         if not isinstance(frame, bytes):
             raise TypeError("a frame is bytes")
-        return self._told(_library.tellwydar_process_take(self._held(), _ranged(sender, 8), frame, len(frame)))
+        return self._stepped(_library.tellwydar_process_take, _ranged(sender, 8), frame, len(frame))
 
     def tick(self) -> None:
         """Puts the first unacknowledged frames of every link again."""
-        self._told(_library.tellwydar_process_tick(self._held()))
+        self._stepped(_library.tellwydar_process_tick)
 
     def frames(self) -> List[Tuple[int, bytes]]:
         """The frames that the last step put, in their order: pairs of receiver and bytes. A refused step put none."""
-        code = _library.tellwydar_process_frames(self._held(), self._room, self._ROOM, ctypes.byref(self._length))
-        if code:
-            raise Refused(_REFUSALS[code])
-        told, frames = self._room.raw[: self._length.value], []
+        with self._turn:
+            code = self._asked(_library.tellwydar_process_frames, self._room, self._ROOM, ctypes.byref(self._length))
+            if code:
+                raise Refused(_REFUSALS[code])
+            told, frames = self._room.raw[: self._length.value], []
         while told:
             end = 3 + int.from_bytes(told[1:3], "big")
             frames.append((told[0], told[1:end]))
@@ -456,4 +507,5 @@ class Process:
 
     def known(self, peer: int) -> Known:
         """What it knows of another process."""
-        return Known(*(_library.tellwydar_process_known(self._held(), what, _ranged(peer, 8)) for what in range(4)))
+        with self._turn:
+            return Known(*(self._asked(_library.tellwydar_process_known, what, _ranged(peer, 8)) for what in range(4)))

@@ -1,12 +1,12 @@
 //! The checkers, over histories of one's own.
-use crate::foreign::{self, EntryRow, IdRow, PointRow};
+use crate::foreign::{self, EntryRow, IdRow, PointRow, expected_by};
 use crate::{Entry, OpId, Point};
 use std::fmt;
 
 /// Why an order isn't what it was asked for. A place is an index of the list, from 0: the first such one.
 #[derive(Clone, Copy, Debug, PartialEq, Eq)]
 pub enum Fault {
-    /// An operation is neither finished nor a called write or swap.
+    /// An operation is neither finished nor a called update.
     Unknown,
     /// An operation stands twice.
     Twice,
@@ -63,6 +63,11 @@ fn told(code: u32, place: usize) -> Result<(), Fault> {
     })
 }
 
+/// The rows of a history, and what each expects.
+fn rows(history: &[Entry]) -> (Vec<EntryRow>, Vec<u64>) {
+    (history.iter().map(EntryRow::from).collect(), history.iter().map(expected_by).collect())
+}
+
 /// Whether these operations, one after another, are a serial order of the history: sequential consistency (Lamport 1979).
 ///
 /// ```
@@ -76,20 +81,28 @@ fn told(code: u32, place: usize) -> Result<(), Fault> {
 /// assert_eq!(check_serial(1, 1, &history, &[id]), Ok(()));
 /// ```
 pub fn check_serial(processes: u32, registers: u32, history: &[Entry], order: &[OpId]) -> Result<(), Fault> {
-    let entries: Vec<EntryRow> = history.iter().map(EntryRow::from).collect();
+    let (entries, expected) = rows(history);
     let ids: Vec<IdRow> = order.iter().map(IdRow::from).collect();
     let mut place = 0;
     // SAFETY: each pointer and length are those of one list, and none is null.
-    let code = unsafe { foreign::tellwydar_check_serial(processes, registers, entries.as_ptr(), entries.len(), ids.as_ptr(), ids.len(), &mut place) };
+    let code = unsafe {
+        foreign::tellwydar_check_serial_expecting(
+            processes, registers, entries.as_ptr(), entries.len(), expected.as_ptr(), expected.len(), ids.as_ptr(), ids.len(), &mut place,
+        )
+    };
     told(code, place)
 }
 
 /// Whether these points are a point order of the history: linearizability (Herlihy and Wing 1990).
 pub fn check_points(processes: u32, registers: u32, history: &[Entry], points: &[Point]) -> Result<(), Fault> {
-    let entries: Vec<EntryRow> = history.iter().map(EntryRow::from).collect();
+    let (entries, expected) = rows(history);
     let points: Vec<PointRow> = points.iter().map(PointRow::from).collect();
     let mut place = 0;
     // SAFETY: each pointer and length are those of one list, and none is null.
-    let code = unsafe { foreign::tellwydar_check_points(processes, registers, entries.as_ptr(), entries.len(), points.as_ptr(), points.len(), &mut place) };
+    let code = unsafe {
+        foreign::tellwydar_check_points_expecting(
+            processes, registers, entries.as_ptr(), entries.len(), expected.as_ptr(), expected.len(), points.as_ptr(), points.len(), &mut place,
+        )
+    };
     told(code, place)
 }

@@ -46,10 +46,20 @@ impl From<&Entry> for EntryRow {
             Entry::Called { at, id, op: Op::Read { register } } => (at, id, 0, register, 0),
             Entry::Called { at, id, op: Op::Write { register, value } } => (at, id, 1, register, value),
             Entry::Called { at, id, op: Op::Swap { register, value } } => (at, id, 2, register, value),
+            Entry::Called { at, id, op: Op::CompareAndSwap { register, expected: _, value } } => (at, id, 5, register, value),
             Entry::Answered { at, id, answer: Answer::Done } => (at, id, 3, 0, 0),
             Entry::Answered { at, id, answer: Answer::Value(value) } => (at, id, 4, 0, value),
+            Entry::Answered { at, id, answer: Answer::Unequal } => (at, id, 6, 0, 0),
         };
         Self { value, at, number: id.number, register, process: id.process, kind }
+    }
+}
+
+/// The value that an entry expects, 0 where it is no compare-and-swap.
+pub fn expected_by(entry: &Entry) -> u64 {
+    match *entry {
+        Entry::Called { op: Op::CompareAndSwap { expected, .. }, .. } => expected,
+        _ => 0,
     }
 }
 
@@ -73,15 +83,17 @@ unsafe extern "C" {
     pub fn tellwydar_play(text: *const u8, text_length: usize, output: *mut u8, output_length: usize, errors: *mut u8, errors_length: usize, lengths: *mut Lengths) -> u8;
     pub fn tellwydar_verify(text: *const u8, text_length: usize, output: *mut u8, output_length: usize, errors: *mut u8, errors_length: usize, lengths: *mut Lengths) -> u8;
     pub fn tellwydar_play_fair(text: *const u8, text_length: usize, output: *mut u8, output_length: usize, errors: *mut u8, errors_length: usize, lengths: *mut Lengths) -> u8;
-    pub fn tellwydar_check_serial(processes: u32, registers: u32, entries: *const EntryRow, entries_length: usize, ids: *const IdRow, ids_length: usize, place: *mut usize) -> u32;
-    pub fn tellwydar_check_points(processes: u32, registers: u32, entries: *const EntryRow, entries_length: usize, points: *const PointRow, points_length: usize, place: *mut usize) -> u32;
+    pub fn tellwydar_check_serial_expecting(processes: u32, registers: u32, entries: *const EntryRow, entries_length: usize, expected: *const u64, expected_length: usize, ids: *const IdRow, ids_length: usize, place: *mut usize) -> u32;
+    pub fn tellwydar_check_points_expecting(processes: u32, registers: u32, entries: *const EntryRow, entries_length: usize, expected: *const u64, expected_length: usize, points: *const PointRow, points_length: usize, place: *mut usize) -> u32;
     pub fn tellwydar_world_new(front: u32, processes: u32, registers: u32, handle: *mut *mut Opaque) -> u32;
     pub fn tellwydar_world_step(handle: *mut Opaque, kind: u32, process: u8, number: u32, from: u8, value: u64) -> u32;
+    pub fn tellwydar_world_compare_and_swap(handle: *mut Opaque, process: u8, register: u32, expected: u64, value: u64) -> u32;
     pub fn tellwydar_world_arrange(handle: *mut Opaque) -> u32;
     pub fn tellwydar_world_look(handle: *mut Opaque, what: u32, at: u32) -> u64;
     pub fn tellwydar_world_close(handle: *mut Opaque);
     pub fn tellwydar_process_new(front: u32, processes: u32, registers: u32, me: u8, handle: *mut *mut Opaque) -> u32;
     pub fn tellwydar_process_call(handle: *mut Opaque, kind: u32, register: u32, value: u64) -> u32;
+    pub fn tellwydar_process_compare_and_swap(handle: *mut Opaque, register: u32, expected: u64, value: u64) -> u32;
     pub fn tellwydar_process_take(handle: *mut Opaque, from: u8, bytes: *const u8, bytes_length: usize) -> u32;
     pub fn tellwydar_process_tick(handle: *mut Opaque) -> u32;
     pub fn tellwydar_process_frames(handle: *mut Opaque, room: *mut u8, room_length: usize, length: *mut usize) -> u32;

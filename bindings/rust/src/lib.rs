@@ -38,6 +38,8 @@ pub enum Op {
     Write { register: u16, value: u64 },
     /// Writes, and answers what was there.
     Swap { register: u16, value: u64 },
+    /// Writes where the expected value is there, and answers whether it was.
+    CompareAndSwap { register: u16, expected: u64, value: u64 },
 }
 
 /// What a process is answered.
@@ -45,6 +47,8 @@ pub enum Op {
 pub enum Answer {
     Done,
     Value(u64),
+    /// Of a compare-and-swap: another value was there than the expected one, and nothing has changed.
+    Unequal,
 }
 
 /// An operation: the process that called it, and its number there, from 0.

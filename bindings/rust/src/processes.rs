@@ -5,8 +5,8 @@ use crate::{Answer, Front, Op, Refused, Reply};
 use std::marker::PhantomData;
 use std::ptr::NonNull;
 
-/// 63 links, 16 frames each, of at most 32 bytes and one for the receiver.
-const ROOM: usize = 63 * 16 * 33;
+/// 63 links, 16 frames each, of at most 40 bytes and one for the receiver.
+const ROOM: usize = 63 * 16 * 41;
 
 /// What a process knows of another one.
 #[derive(Clone, Copy, Debug, PartialEq, Eq)]
@@ -68,13 +68,19 @@ impl<F: Front> Process<F> {
     ///
     /// The first fault that applies; as of every step, the process is as before, but after `OutOfMemory` and `ClockFull`.
     pub fn call(&mut self, op: Op) -> Result<Option<Reply>, Refused> {
+        let handle = self.handle.as_ptr();
         let (kind, register, value) = match op {
             Op::Read { register } => (0, register, 0),
             Op::Write { register, value } => (1, register, value),
             Op::Swap { register, value } => (2, register, value),
+            Op::CompareAndSwap { register, expected, value } => {
+                // SAFETY: as below.
+                let code = unsafe { foreign::tellwydar_process_compare_and_swap(handle, register.into(), expected, value) };
+                return self.told(code);
+            }
         };
         // SAFETY: the handle is of `tellwydar_process_new`, and `&mut self` lends it to one call.
-        let code = unsafe { foreign::tellwydar_process_call(self.handle.as_ptr(), kind, register.into(), value) };
+        let code = unsafe { foreign::tellwydar_process_call(handle, kind, register.into(), value) };
         self.told(code)
     }
 
@@ -156,6 +162,7 @@ impl<F: Front> Process<F> {
             0 => Ok(None),
             1 => Ok(Some(Reply { answer: Answer::Done, place: self.look(7, 0) })),
             2 => Ok(Some(Reply { answer: Answer::Value(self.look(6, 0)), place: self.look(7, 0) })),
+            3 => Ok(Some(Reply { answer: Answer::Unequal, place: self.look(7, 0) })),
             code => Err(refused(code)),
         }
     }

@@ -23,7 +23,7 @@ pub(crate) mod sealed {
 /// Casts every operation and waits for its delivery.
 #[derive(Clone, Copy, Debug)]
 pub enum Linear {}
-/// Casts writes and swaps, and reads its own copy.
+/// Casts updates, and reads its own copy.
 #[derive(Clone, Copy, Debug)]
 pub enum LocalRead {}
 /// Answers writes at once; a read waits for the process's own writes.
@@ -162,18 +162,31 @@ impl<F: Front> World<F> {
     /// The first fault that applies; the world is as before, but after `OutOfMemory`.
     #[inline]
     pub fn step(&mut self, event: Event) -> Result<Option<Reply>, Refused> {
+        let handle = self.handle.as_ptr();
         let (kind, process, number, from, value) = match event {
             Event::Call { process, op: Op::Read { register } } => (0, process, register.into(), 0, 0),
             Event::Call { process, op: Op::Write { register, value } } => (1, process, register.into(), 0, value),
             Event::Call { process, op: Op::Swap { register, value } } => (2, process, register.into(), 0, value),
+            Event::Call { process, op: Op::CompareAndSwap { register, expected, value } } => {
+                // SAFETY: as below.
+                let code = unsafe { foreign::tellwydar_world_compare_and_swap(handle, process, register.into(), expected, value) };
+                return self.told(code);
+            }
             Event::Take { from, to, number } => (3, to, number, from, 0),
             Event::Tick { process } => (4, process, 0, 0, 0),
         };
         // SAFETY: the handle is of `tellwydar_world_new`, and `&mut self` lends it to one call.
-        match unsafe { foreign::tellwydar_world_step(self.handle.as_ptr(), kind, process, number, from, value) } {
+        let code = unsafe { foreign::tellwydar_world_step(handle, kind, process, number, from, value) };
+        self.told(code)
+    }
+
+    #[inline]
+    fn told(&mut self, code: u32) -> Result<Option<Reply>, Refused> {
+        match code {
             0 => Ok(None),
             1 => Ok(Some(Reply { answer: Answer::Done, place: self.look(9, 0) })),
             2 => Ok(Some(Reply { answer: Answer::Value(self.look(8, 0)), place: self.look(9, 0) })),
+            3 => Ok(Some(Reply { answer: Answer::Unequal, place: self.look(9, 0) })),
             code => Err(refused(code)),
         }
     }
@@ -206,7 +219,9 @@ impl<F: Front> World<F> {
             1 => Entry::Called { at, id, op: Op::Write { register, value } },
             2 => Entry::Called { at, id, op: Op::Swap { register, value } },
             3 => Entry::Answered { at, id, answer: Answer::Done },
-            _ => Entry::Answered { at, id, answer: Answer::Value(value) },
+            4 => Entry::Answered { at, id, answer: Answer::Value(value) },
+            5 => Entry::Called { at, id, op: Op::CompareAndSwap { register, expected: self.look(17, place), value } },
+            _ => Entry::Answered { at, id, answer: Answer::Unequal },
         }
     }
 

@@ -45,6 +45,39 @@ fn verdicts() {
     assert_eq!(check_serial(65, 1, &[], &[]), Err(Fault::NoShape));
 }
 
+/// A compare-and-swap that is done, and one of another process that found another value.
+fn compared(expected: u64) -> [Entry; 4] {
+    [
+        Entry::Called { at: 0, id: WRITE, op: Op::CompareAndSwap { register: 0, expected: 0, value: 5 } },
+        Entry::Answered { at: 1, id: WRITE, answer: Answer::Done },
+        Entry::Called { at: 2, id: READ, op: Op::CompareAndSwap { register: 0, expected, value: 6 } },
+        Entry::Answered { at: 3, id: READ, answer: Answer::Unequal },
+    ]
+}
+
+#[test]
+fn comparisons_are_judged() {
+    let points = [Point { id: WRITE, at: 0 }, Point { id: READ, at: 2 }];
+    assert_eq!(check_serial(2, 1, &compared(0), &[WRITE, READ]), Ok(()));
+    assert_eq!(check_points(2, 1, &compared(0), &points), Ok(()));
+    assert_eq!(check_serial(2, 1, &compared(5), &[WRITE, READ]), Err(Fault::Answer { place: 1 }));
+    assert_eq!(check_points(2, 1, &compared(5), &points), Err(Fault::Answer { place: 1 }));
+    assert_eq!(check_serial(2, 1, &compared(0), &[READ, WRITE]), Err(Fault::Answer { place: 0 }));
+}
+
+#[test]
+fn comparisons() -> Result<(), Refused> {
+    let mut world = World::<LocalRead>::new(1, 1)?;
+    let mut compare = |expected, value| world.step(Event::Call { process: 0, op: Op::CompareAndSwap { register: 0, expected, value } });
+    assert_eq!(compare(0, 5)?, Some(Reply { answer: Answer::Done, place: 0 }));
+    assert_eq!(compare(0, 6)?, Some(Reply { answer: Answer::Unequal, place: 1 }));
+    assert_eq!(world.history()[2], Entry::Called { at: 1, id: OpId { process: 0, number: 1 }, op: Op::CompareAndSwap { register: 0, expected: 0, value: 6 } });
+    let mut process = Process::<Linear>::new(2, 1, 0)?;
+    assert_eq!(process.call(Op::CompareAndSwap { register: 0, expected: 0, value: 5 })?, None);
+    assert_eq!(process.frames()?, [(1, COMPARED_CAST.to_vec())]);
+    Ok(())
+}
+
 struct Words(u64);
 
 impl Words {
@@ -63,11 +96,12 @@ impl Words {
     fn event(&mut self, processes: u8, seen: u64) -> Event {
         let process = self.below(u64::from(processes) + 1) as u8;
         let register = self.below(5) as u16;
-        match self.below(12) {
+        match self.below(13) {
             0 => Event::Call { process, op: Op::Read { register } },
             1 => Event::Call { process, op: Op::Write { register, value: self.next() } },
             2 => Event::Call { process, op: Op::Swap { register, value: self.next() } },
             3 => Event::Tick { process },
+            4 => Event::Call { process, op: Op::CompareAndSwap { register, expected: self.below(2), value: self.below(2) } },
             _ => Event::Take { from: self.below(u64::from(processes)) as u8, to: process, number: self.below(seen / 4 + 2) as u32 },
         }
     }
@@ -79,6 +113,7 @@ fn op_text(op: Op) -> String {
         Op::Read { register } => format!("read {}", name(register)),
         Op::Write { register, value } => format!("write {} {value}", name(register)),
         Op::Swap { register, value } => format!("swap {} {value}", name(register)),
+        Op::CompareAndSwap { register, expected, value } => format!("cas {} {expected} {value}", name(register)),
     }
 }
 
@@ -103,6 +138,7 @@ fn told(history: &[Entry], order: &[OpId], points: Option<&[Point]>) -> String {
             Entry::Called { at, id, op } => (at, id, format!("call    {}", op_text(op))),
             Entry::Answered { at, id, answer: Answer::Done } => (at, id, "answer  done".to_string()),
             Entry::Answered { at, id, answer: Answer::Value(value) } => (at, id, format!("answer  value {value}")),
+            Entry::Answered { at, id, answer: Answer::Unequal } => (at, id, "answer  unequal".to_string()),
         };
         writeln!(text, "{at:>8}  p{:<3}  #{:<6}  {what}", id.process, id.number).expect("room");
     }
@@ -171,6 +207,11 @@ fn refusals() {
     assert_eq!(world.step(Event::Take { from: 0, to: 0, number: 0 }), Err(Refused::NoFrame));
     assert_eq!(world.events(), 0);
 }
+
+/// The cast of a compare-and-swap from 0 to 5, as worked by hand.
+const COMPARED_CAST: [u8; 40] = [
+    0, 0x26, 4, 1, 0, 0, 0, 0, 0, 0, 0, 0, 1, 0, 0, 0, 0, 0, 0, 0, 1, 4, 0, 0, 0, 0, 0, 0, 0, 0, 0, 0, 0, 0, 0, 0, 0, 0, 0, 5,
+];
 
 /// A write of the value 5 by the first of two processes: its cast, and what the other one answers, as worked by hand.
 const CAST: [u8; 32] = [0, 0x1e, 1, 1, 0, 0, 0, 0, 0, 0, 0, 0, 1, 0, 0, 0, 0, 0, 0, 0, 1, 2, 0, 0, 0, 0, 0, 0, 0, 0, 0, 5];

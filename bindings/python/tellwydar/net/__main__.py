@@ -14,7 +14,7 @@ from typing import Callable, Dict, List, Optional, TextIO
 from .. import check
 from . import core, log, merge, road
 from .chapters import StoryFault, check_story
-from .node import CHAPTER_ENTRIES, CHAPTER_OPERATIONS, AnyRoad, Node
+from .node import CHAPTER_ENTRIES, CHAPTER_OPERATIONS, AnyRoad, Closed, Node
 from .road import Keys, LossyRoad, RoadFault
 from .story import NodeFailed
 
@@ -26,6 +26,9 @@ def say(text: str) -> None:
 def node_of(a: argparse.Namespace) -> Node:
     with open(a.config, "rb") as file:
         config = tomllib.load(file)
+    for key in ("front", "registers", "node"):
+        if key not in config:
+            raise RoadFault(f"{a.config}: no {key}")
     nodes = config["node"]
     keys = None
     if any("key" in n for n in nodes):
@@ -46,26 +49,35 @@ def node_of(a: argparse.Namespace) -> Node:
     )
 
 
+class ScriptFault(Exception):
+    """A line of a script that says no call, or whose call was refused."""
+
+
 def run_script(node: Node, lines: List[str], out: TextIO) -> None:
     """Makes the calls of a script. A node that was resumed goes on where its log ends."""
     called, going_on = node.so_far()
     if going_on:
-        answer = node.wait()
-        print("done" if answer is None else f"value {answer}", file=out, flush=True)
-    for line in lines:
+        print(core.answer_text(node.wait()), file=out, flush=True)
+    for number, line in enumerate(lines, 1):
         words = line.split()
         if not words or words[0].startswith("#"):
             continue
         if called > 0:
             called -= words[0] != "sleep"
             continue
-        if words[0] == "sleep":
-            time.sleep(float(words[1]))
-            continue
-        given = [words[1], *map(int, words[2:])]
-        calls: Dict[str, Callable[..., Optional[int]]] = {"read": node.read, "write": node.write, "swap": node.swap}
-        answer = calls[words[0]](*given)
-        print("done" if answer is None else f"value {answer}", file=out, flush=True)
+        calls: Dict[str, Callable[..., core.Answer]] = {
+            "read": node.read, "write": node.write, "swap": node.swap, "cas": lambda *it: None if node.compare_and_swap(*it) else core.UNEQUAL,
+        }
+        try:
+            if words[0] == "sleep":
+                time.sleep(float(words[1]))
+                continue
+            if len(words) != {"read": 2, "write": 3, "swap": 3, "cas": 4}.get(words[0]):
+                raise ValueError("no call")
+            answer = calls[words[0]](words[1], *map(int, words[2:]))
+        except (ValueError, IndexError, core.Refused) as why:
+            raise ScriptFault(f"line {number}: {line.strip()}: {why}") from None
+        print(core.answer_text(answer), file=out, flush=True)
     print("end", file=out, flush=True)
 
 
@@ -126,7 +138,15 @@ def main(words: List[str]) -> int:
         return status
     if a.word == "story":
         return tell_story(a.reports)
-    end = threading.Event()
+    end, faults = threading.Event(), []
+
+    def run(node: Node, lines: List[str]) -> None:
+        try:
+            run_script(node, lines, sys.stdout)
+        except (ScriptFault, NodeFailed, Closed, OSError) as why:
+            faults.append(why)
+            end.set()
+
     for number in (signal.SIGTERM, signal.SIGINT):
         signal.signal(number, lambda *_: end.set())
     try:
@@ -136,9 +156,12 @@ def main(words: List[str]) -> int:
             if a.script:
                 with open(a.script) as file:
                     lines = file.read().splitlines()
-                threading.Thread(target=run_script, args=(node, lines, sys.stdout), daemon=True).start()
+                threading.Thread(target=run, args=(node, lines), daemon=True).start()
             end.wait()
-    except (NodeFailed, RoadFault, log.LogFault, OSError, core.Refused) as why:
+        if faults:
+            say(str(faults[0]))
+            return 1
+    except (NodeFailed, RoadFault, log.LogFault, OSError, core.Refused, ValueError) as why:
         say(str(why))
         return 1
     return 0

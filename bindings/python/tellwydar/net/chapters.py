@@ -68,10 +68,10 @@ class Told(NamedTuple):
 
 
 def told_of(report: bytes) -> Told:
-    """What a report in version 2 tells. It is taken to be one that `check` has accepted."""
+    """What a report in version 2 or 3 tells. It is taken to be one that `check` has accepted."""
     lines = report.decode("ascii").split("\n")
-    if lines[0] != "awreg report 2":
-        raise StoryFault("no report in version 2")
+    if lines[0] not in ("awreg report 2", "awreg report 3"):
+        raise StoryFault("no report in version 2 or 3")
     names = tuple(lines[4 : 4 + int(lines[3].split()[1])])
     at = 4 + len(names)
     entries = lines[at + 1 : at + 1 + int(lines[at].split()[1])]
@@ -85,9 +85,9 @@ def values_after(told: Told) -> List[int]:
     """The values that the registers have after all operations of the order."""
     values = dict.fromkeys(told.names, 0)
     for it in told.order:
-        kind, name, *value = told.operations[it]
-        if kind != "read":
-            values[name] = int(value[0])
+        kind, name, *given = told.operations[it]
+        if kind != "read" and (kind != "cas" or values[name] == int(given[0])):
+            values[name] = int(given[-1])
     return list(values.values())
 
 

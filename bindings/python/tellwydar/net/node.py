@@ -4,6 +4,7 @@ Under one lock a step is made, its entry is written, and only then do its frames
 a call; one receiver thread does so for what comes in, some messages at a time with one write for all, and makes the ticks. It also ends a chapter
 and begins the next one (`chapters`): callers wait meanwhile.
 """
+import re
 import secrets
 import sys
 import threading
@@ -34,7 +35,7 @@ CHAPTER_ENTRIES = 786_432  # of all processes, which have at most 1,048,576: wha
 
 
 class Busy(Exception):
-    """An operation goes on, or its answer wasn't fetched by `wait`."""
+    """Another operation goes on, or its answer wasn't fetched by `wait`. This one was not made."""
 
 
 class TimedOut(Exception):
@@ -65,12 +66,18 @@ class Node:
                  sync: bool = False, look: float = 0.01, resume: bool = False,
                  chapter_operations: int = CHAPTER_OPERATIONS, chapter_entries: int = CHAPTER_ENTRIES,
                  lossy: Optional[Callable[[AnyRoad], LossyRoad]] = None, say: Callable[[str], None] = _say):
+        for name in registers:
+            if not re.fullmatch("[a-z]{1,16}", name):  # the log has names between spaces
+                raise ValueError(f"{name!r} is no name of a register: 1 to 16 letters a to z")
         self._names = {name: r for r, name in enumerate(registers)}
+        if len(self._names) < len(registers):
+            raise ValueError("two registers have the same name")
         self._me, self._count, self._sync, self._look_every = me, len(peers), sync, look
         self._say, self._complain = say, Complaints(say)
         if chapter_operations <= len(registers):
             raise ValueError("a chapter has room for a write of each register, and more")
         self._answer: Optional[core.Reply] = None
+        self._is_awaited = False  # the caller of the operation that goes on is still there
         kind: Union[Type[Road], Type[DatagramRoad]] = DatagramRoad if peers[me].startswith("udp://") else Road
         road = kind(me, peers, keys, self._complain)  # before the log: where it is refused no log is begun
         most = chapter_operations, chapter_entries // len(peers)
@@ -209,25 +216,26 @@ class Node:
 
     # --- the caller's side
 
-    def _call(self, kind: int, name: Union[str, int], value: int, timeout: Optional[float]) -> Optional[int]:
+    def _call(self, kind: int, name: Union[str, int], value: int, timeout: Optional[float], expected: int = 0) -> core.Answer:
         register = self._names.get(name) if isinstance(name, str) else name
-        if not isinstance(register, int) or not 0 <= register < 2**16:
+        if type(register) is not int or not 0 <= register < 2**16:  # (the log would say True of True)
             raise core.Refused("no register")
-        if not isinstance(value, int) or not 0 <= value < 2**64:  # ctypes would cut it, and the log would say another value
-            raise ValueError(f"{value!r} is no number of 64 bits")
+        for it in (value, expected):
+            if type(it) is not int or not 0 <= it < 2**64:  # ctypes would cut it, and the log would say another value
+                raise ValueError(f"{it!r} is no number of 64 bits")
         with self._lock:
             self._up()
             end = self._till_open(timeout)
             if self._story.running or self._answer is not None:
                 raise Busy()
             try:
-                reply = self._story.process.call(core.operation(kind, register, value))
+                reply = self._story.process.call(core.operation(kind, register, value, expected))
             except core.Refused as why:  # nothing has changed, but it may have stopped for good
                 if str(why) in core.STOPS:
                     self._fail(str(why))
                 raise
             self._story.running, self._story.called = True, self._story.called + 1
-            self._staged(log.call_text(kind, register, value), reply, kind != core.READ)
+            self._staged(log.call_text(kind, register, value, expected), reply, kind != core.READ)
             self._commit()
             if self._idle:
                 self._idle = False
@@ -245,21 +253,24 @@ class Node:
             self._up()
         return end
 
-    def _wait(self, end: Optional[float]) -> Optional[int]:
-        while self._answer is None:
-            self._up()
-            if not self._story.running:
-                raise Busy()  # another thread fetched it
-            left = None if end is None else end - time.monotonic()
-            if left is not None and left <= 0:
-                raise TimedOut()
-            self._answered.wait(left)
+    def _wait(self, end: Optional[float]) -> core.Answer:
+        """The answer of the operation that goes on. Nobody else fetches it meanwhile."""
+        self._is_awaited = True
+        try:
+            while self._answer is None:
+                self._up()
+                left = None if end is None else end - time.monotonic()
+                if left is not None and left <= 0:
+                    raise TimedOut()
+                self._answered.wait(left)
+        finally:
+            self._is_awaited = False
         answer, self._answer = self._answer, None
         return answer.value
 
     def read(self, register: Union[str, int], timeout: Optional[float] = None) -> int:
         value = self._call(core.READ, register, 0, timeout)
-        assert value is not None
+        assert isinstance(value, int)
         return value
 
     def write(self, register: Union[str, int], value: int, timeout: Optional[float] = None) -> None:
@@ -267,12 +278,19 @@ class Node:
 
     def swap(self, register: Union[str, int], value: int, timeout: Optional[float] = None) -> int:
         old = self._call(core.SWAP, register, value, timeout)
-        assert old is not None
+        assert isinstance(old, int)
         return old
 
-    def wait(self, timeout: Optional[float] = None) -> Optional[int]:
-        """The answer of the operation that goes on (None: a write is done)."""
+    def compare_and_swap(self, register: Union[str, int], expected: int, value: int, timeout: Optional[float] = None) -> bool:
+        """Writes the value where the expected one is there, and tells whether it was."""
+        return self._call(core.CAS, register, value, timeout, expected) is None
+
+    def wait(self, timeout: Optional[float] = None) -> core.Answer:
+        """The answer of the operation whose caller's time was up: None where it is done, `UNEQUAL`, or a value. `Busy` says that a caller still
+        waits for it."""
         with self._lock:
+            if self._is_awaited:
+                raise Busy()
             if not self._story.running and self._answer is None:
                 raise ValueError("no operation goes on")
             return self._wait(None if timeout is None else time.monotonic() + timeout)

@@ -34,6 +34,9 @@ class Keys(NamedTuple):
     secret: bytes
     known: Tuple[bytes, ...]
 
+    def __repr__(self) -> str:
+        return f"Keys(secret=.., known={self.known})"  # a trace or a log that has it gives nothing away
+
 
 def new_keys() -> Tuple[bytes, bytes]:
     """A public key and its secret key."""
@@ -134,7 +137,10 @@ class Road:
         if keys is not None:
             self.pull.curve_server = True
             self.pull.curve_secretkey = keys.secret
-        self.pull.bind(addresses[me])
+        try:
+            self.pull.bind(addresses[me])
+        except zmq.ZMQError as why:
+            raise RoadFault(f"{addresses[me]}: {why}") from None
         for p, socket in self.push.items():
             socket.set(zmq.IMMEDIATE, 1)  # nothing is kept for a peer that isn't there
             if keys is not None:

@@ -1,6 +1,6 @@
 //! Measures one node of a cluster: `measure ME CONFIG LOG KIND COUNT AT`.
 //!
-//! At the second AT since 1970 the node begins to call COUNT operations of this kind (read, write, swap), one after
+//! At the second AT since 1970 the node begins to call COUNT operations of this kind (read, write, swap, cas), one after
 //! another, and prints how many seconds all of them took, and the median and the 99th percentile of one, in
 //! nanoseconds. With the count 0 it answers the others alone. It goes on until its input ends.
 use std::error::Error;
@@ -23,6 +23,7 @@ impl Work {
             "read" => Ok(Op::Read { register: 0 }),
             "write" => Ok(Op::Write { register: 0, value: number + 1 }),
             "swap" => Ok(Op::Swap { register: 0, value: number + 1 }),
+            "cas" => Ok(Op::CompareAndSwap { register: 0, expected: number, value: number + 1 }),
             other => Err(format!("{other}: no kind of operation")),
         }
     }

@@ -136,6 +136,11 @@ impl Entry<'_> {
                 push_register(line, "call swap ", *register, names);
                 push_field(line, "", *value);
             }
+            Step::Call(Op::CompareAndSwap { register, expected, value }) => {
+                push_register(line, "call cas ", *register, names);
+                push_field(line, "", *expected);
+                push_field(line, "", *value);
+            }
             Step::Take { from, frame } => {
                 push_field(line, "take", u64::from(*from));
                 line.push(b' ');
@@ -150,6 +155,7 @@ impl Entry<'_> {
                 push_field(line, " = value", value);
                 push_field(line, "", place);
             }
+            Some(Reply { answer: Answer::Unequal, place }) => push_field(line, " = unequal", place),
         }
     }
 }
@@ -166,6 +172,11 @@ fn op(words: &[&str]) -> Option<Op> {
         ["read", at] => Some(Op::Read { register: register(at)? }),
         ["write", at, value] => Some(Op::Write { register: register(at)?, value: numeral(value, u64::MAX)? }),
         ["swap", at, value] => Some(Op::Swap { register: register(at)?, value: numeral(value, u64::MAX)? }),
+        ["cas", at, expected, value] => Some(Op::CompareAndSwap {
+            register: register(at)?,
+            expected: numeral(expected, u64::MAX)?,
+            value: numeral(value, u64::MAX)?,
+        }),
         _ => None,
     }
 }
@@ -174,6 +185,7 @@ fn reply(text: &str) -> Option<Reply> {
     let words: Vec<&str> = text.split(' ').collect();
     match *words {
         ["done", place] => Some(Reply { answer: Answer::Done, place: numeral(place, MOST_PLACE)? }),
+        ["unequal", place] => Some(Reply { answer: Answer::Unequal, place: numeral(place, MOST_PLACE)? }),
         ["value", value, place] => {
             Some(Reply { answer: Answer::Value(numeral(value, u64::MAX)?), place: numeral(place, MOST_PLACE)? })
         }
@@ -183,7 +195,7 @@ fn reply(text: &str) -> Option<Reply> {
 
 fn frame(word: &str) -> Option<Vec<u8>> {
     let digit = |it: u8| (it as char).to_digit(16).map(|it| it as u8);
-    if !word.is_ascii() || !word.len().is_multiple_of(2) || !(24..=64).contains(&word.len()) {
+    if !word.is_ascii() || !word.len().is_multiple_of(2) || !(24..=80).contains(&word.len()) {
         return None;
     }
     word.as_bytes().chunks_exact(2).map(|it| Some((digit(it[0])? << 4) | digit(it[1])?)).collect()

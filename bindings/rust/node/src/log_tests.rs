@@ -39,12 +39,14 @@ const GOT: [u8; 12] = [0, 10, 1, 2, 0, 0, 0, 0, 0, 0, 0, 1];
 fn sample_entries() -> Vec<Entry<'static>> {
     let done = |place| Some(Reply { answer: Answer::Done, place });
     let value = |value, place| Some(Reply { answer: Answer::Value(value), place });
+    let unequal = |place| Some(Reply { answer: Answer::Unequal, place });
     vec![
         Entry { step: Step::Call(Op::Swap { register: 1, value: u64::MAX }), reply: None },
         Entry { step: Step::Take { from: 1, frame: Cow::Owned(GOT.to_vec()) }, reply: value(7, 3) },
         Entry { step: Step::Tick, reply: None },
         Entry { step: Step::Call(Op::Read { register: 0 }), reply: value(0, 0) },
         Entry { step: Step::Call(Op::Write { register: 0, value: 5 }), reply: done(1 << 48) },
+        Entry { step: Step::Call(Op::CompareAndSwap { register: 0, expected: 5, value: 9 }), reply: unequal(4) },
     ]
 }
 
@@ -63,7 +65,8 @@ fn the_form_is_that_of_the_python_package() {
     // (the last words are of Python's zlib.crc32)
     let wanted = "tellwydar log 1\nfront linear\nprocesses 2\nregisters x y\nprocess 0\nchapter 3 begun 00112233445566aa\n\
         call swap 1 18446744073709551615 aad5dc6d\ntake 1 000a01020000000000000001 = value 7 3 ea51920c\ntick 405aa9d8\n\
-        call read 0 = value 0 0 eb7e6e06\ncall write 0 5 = done 281474976710656 9d213e20\n";
+        call read 0 = value 0 0 eb7e6e06\ncall write 0 5 = done 281474976710656 9d213e20\n\
+        call cas 0 5 9 = unequal 4 2fdb8ac8\n";
     assert_eq!(text, wanted);
 }
 
@@ -81,11 +84,11 @@ fn a_cut_entry_is_dropped_and_the_log_goes_on_before_it() {
     let data = written(&room);
     fs::write(room.log(), &data[..data.len() - 3]).expect("room");
     let log = Log::read(&room.log()).expect("a log");
-    assert_eq!((&log.entries[..], log.cut > 0), (&sample_entries()[..4], true));
+    assert_eq!((&log.entries[..], log.cut > 0), (&sample_entries()[..5], true));
     let mut writer = Writer::reopen(&room.log()).expect("a log");
     assert!(Writer::reopen(&room.log()).is_err());
     writer.go_on(&log).expect("room");
-    writer.add(&sample_entries()[4]);
+    writer.add(&sample_entries()[5]);
     writer.write(true).expect("room");
     // (what a crash leaves here has room after it)
     let log = Log::read(&room.log()).expect("a log");

@@ -6,7 +6,7 @@ use std::io::Write;
 use std::time::{Duration, Instant};
 use tellwydar::{Answer, Front, Op};
 
-/// A line of a script: `write x 5`, `swap x 6`, `read x`, or `sleep SECONDS`.
+/// A line of a script: `write x 5`, `swap x 6`, `cas x 6 7`, `read x`, or `sleep SECONDS`.
 #[derive(Clone, Copy, Debug, PartialEq, Eq)]
 enum Line {
     Call(Op),
@@ -39,6 +39,11 @@ fn line(text: &str, registers: &[String]) -> Option<Line> {
         ["read", name] => Line::Call(Op::Read { register: register(name)? }),
         ["write", name, value] => Line::Call(Op::Write { register: register(name)?, value: value.parse().ok()? }),
         ["swap", name, value] => Line::Call(Op::Swap { register: register(name)?, value: value.parse().ok()? }),
+        ["cas", name, expected, value] => Line::Call(Op::CompareAndSwap {
+            register: register(name)?,
+            expected: expected.parse().ok()?,
+            value: value.parse().ok()?,
+        }),
         ["sleep", seconds] => Line::Sleep(Duration::try_from_secs_f64(seconds.parse().ok()?).ok()?),
         _ => return None,
     })
@@ -84,6 +89,7 @@ fn tell<F: Front>(node: &mut Node<F>, out: &mut impl Write, answer: Answer) -> R
     match answer {
         Answer::Done => writeln!(out, "done")?,
         Answer::Value(value) => writeln!(out, "value {value}")?,
+        Answer::Unequal => writeln!(out, "unequal")?,
     }
     Ok(out.flush()?)
 }
@@ -106,12 +112,13 @@ mod tests {
     #[test]
     fn lines_are_calls_and_pauses() {
         let names = ["x".to_string(), "y".to_string()];
-        let script = Script::parse("write x 5\n# no call\n\n read y\nsleep 0.5\nswap y 18446744073709551615\n", &names);
+        let script = Script::parse("write x 5\n# no call\n\n read y\nsleep 0.5\nswap y 18446744073709551615\ncas x 0 7\n", &names);
         let calls = vec![
             Line::Call(Op::Write { register: 0, value: 5 }),
             Line::Call(Op::Read { register: 1 }),
             Line::Sleep(Duration::from_millis(500)),
             Line::Call(Op::Swap { register: 1, value: u64::MAX }),
+            Line::Call(Op::CompareAndSwap { register: 0, expected: 0, value: 7 }),
         ];
         assert_eq!(script, Ok(Script(calls)));
         for text in [

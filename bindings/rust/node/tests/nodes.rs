@@ -72,6 +72,7 @@ fn two_nodes_are_one_memory() -> Result<(), Box<dyn Error>> {
     assert_eq!(node.wait(TIME)?, Answer::Done);
     assert_eq!(node.perform(Op::Swap { register: 0, value: 6 }, TIME)?, Answer::Value(5));
     assert!(matches!(node.perform(Op::Read { register: 1 }, TIME), Err(Fault::Refused(_))));
+    assert_eq!(node.perform(Op::CompareAndSwap { register: 0, expected: 5, value: 7 }, TIME)?, Answer::Unequal);
     assert_eq!(node.perform(READ, TIME)?, Answer::Value(6));
     told.recv()?.write_all(&[0])?;
     assert_eq!(other.join().map_err(|_| "the other node failed")??, (0, false));
