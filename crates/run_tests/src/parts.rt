@@ -8,6 +8,7 @@ mod growths;
 mod holdbacks;
 mod large_texts;
 mod links;
+mod nodes;
 mod orders;
 mod plain_holdback;
 mod processes;

@@ -27,7 +27,7 @@ fn push_frame(text: &mut String, frame: &Frame) -> Result<(), AllocError> {
     }
 }
 
-fn push_puts(text: &mut String, puts: &[Put]) -> Result<(), AllocError> {
+pub(crate) fn push_puts(text: &mut String, puts: &[Put]) -> Result<(), AllocError> {
     for put in puts {
         text.push_str("puts ")?;
         push_frame(text, &put.frame)?;

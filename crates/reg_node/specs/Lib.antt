@@ -1,0 +1,5 @@
+pub mod Logs
+pub mod Nodes
+pub mod Opening
+pub mod Crashes
+pub mod Replaying

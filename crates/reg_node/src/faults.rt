@@ -1,0 +1,40 @@
+//! Why a node refuses what it is asked.
+use reg_process::ProcessFault;
+use thiserror::Error;
+
+/// Why a node makes no step: of those that apply, the first in this order.
+#[derive(Clone, Copy, Debug, PartialEq, Eq, Error)]
+pub enum NodeFault {
+    /// The log has as many entries as a record may have. Nothing has changed.
+    #[error("log full")]
+    Full,
+    /// There was no memory for what the node holds back. Nothing has changed.
+    #[error("no room")]
+    NoRoom,
+    /// The process refuses the step. It has stopped for good, or nothing has changed.
+    #[error("{fault}")]
+    Refused { fault: ProcessFault },
+}
+
+/// Entries that the node has not logged can't be durable.
+#[derive(Clone, Copy, Debug, PartialEq, Eq, Error)]
+#[error("not logged")]
+pub struct NotLogged;
+
+/// Why no node is opened with a log: the first of these that applies. `OutOfMemory` may stand in place of the last two,
+/// and where none applies.
+#[derive(Clone, Copy, Debug, PartialEq, Eq, Error)]
+pub enum OpenFault {
+    /// The shape doesn't have the process.
+    #[error("no process")]
+    NoProcess,
+    /// There are more than `limits::MOST_EVENTS` entries.
+    #[error("log too long")]
+    TooLong,
+    /// The entry at this place, from 0, is the first that is no step of the process, or none with its reply.
+    #[error("no step {place}")]
+    NoStep { place: u64 },
+    /// There was no memory.
+    #[error("out of memory")]
+    OutOfMemory,
+}

@@ -1,0 +1,15 @@
+//! Laws of nodes. A function that does nothing: its contract is the law.
+ghost use Rattle.std.specs.Prelude.{ℕ, ◌≡◌, ◌≤◌, take};
+ghost use Rattle.reg_base.specs.declared.memory.Op.{Op};
+ghost use Rattle.reg_front.specs.declared.starts.Start.{Start};
+ghost use Rattle.reg_process.specs.Process.{State};
+ghost use Rattle.reg_node.specs.Crashes.{AreOfSteps};
+ghost use Rattle.reg_node.specs.Logs.{AreSteps};
+ghost use Rattle.reg_node.specs.Nodes.{Lives, NodeState, Past};
+
+/// A crash leaves the first entries of a log, those that the node was told are durable and maybe more. They are steps,
+/// so a node can be opened with them. And all that was handed out before the crash went out of their steps.
+pub fn crash_keeps()
+    ensures steps { (start : Op → ℕ → Start) (first : State) (past : Past) (n : NodeState) (kept : ℕ) → Lives start first past n → AreSteps start first (take kept past.log) }
+    ensures given { (start : Op → ℕ → Start) (first : State) (past : Past) (n : NodeState) (kept : ℕ) → Lives start first past n → n.durable ≤ kept → AreOfSteps start first (take kept past.log) past.opened past.given }
+{}

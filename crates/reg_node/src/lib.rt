@@ -1,0 +1,15 @@
+//! The deciding part of a node: one process on one machine that outlives crashes by a log. No sockets, files, clocks or
+//! threads: its owner writes the entries down, says how many of them are durable, and carries what is handed out.
+#![tactic(auto)]
+
+mod faults;
+pub mod laws;
+mod nodes;
+mod outputs;
+mod replaying;
+
+pub use faults::{NodeFault, NotLogged, OpenFault};
+pub use nodes::Node;
+pub use outputs::Output;
+pub use reg_process::{ProcessFault, Put, Reply, Step};
+pub use reg_records::LogEntry;

@@ -1,0 +1,209 @@
+//! One node.
+ghost use Rattle.std.specs.Prelude.{◌≡◌, ◌<◌, ◌≤◌, ◌∷◌, [], max, false, IfOk, IfErr, OnErr, OnOk, MatchOption, MatchResult};
+ghost use Rattle.reg_process.specs.Faults.{NewRefused};
+ghost use Rattle.reg_process.specs.Process.{State};
+ghost use Rattle.reg_process.specs.declared.steps.Step.TheVariants.{Call, Take, Tick};
+ghost use Rattle.reg_node.specs.Logs.{first_state};
+ghost use Rattle.reg_node.specs.Opening.{IsOpened, IsOpenFault, opened_with, unopened_by};
+ghost use Rattle.reg_node.specs.Nodes.{Lives, Logs, LogsNothing, Past, first_held, nothing_yet, past_given, past_logged};
+
+use crate::faults::{NodeFault, NotLogged, OpenFault};
+use crate::outputs::Output;
+use crate::replaying::replay;
+use reg_base::limits::MOST_EVENTS;
+use reg_base::{Op, Shape};
+use reg_frames::Frame;
+use reg_front::FrontEnd;
+use reg_process::{Process, ProcessFault, Step};
+use reg_records::LogEntry;
+use std::alloc::{Allocator, Global};
+use std::collections::VecDeque;
+use std::marker::Model;
+
+/// One process, with the count of the entries of its log. What goes out of a step is held back until the owner has said
+/// that the step's entry is durable.
+#[derive(Drop)]
+pub struct Node<F: FrontEnd, A: Allocator + Copy = Global> {
+    process: Process<F, A>,
+    logged: u64,
+    durable: u64,
+    /// What went out of the last steps, in their order.
+    held: VecDeque<Output<A>, A>,
+}
+
+impl<F: FrontEnd, A: Allocator + Copy> Model for Node<F, A> {
+    ghost use Rattle.std.specs.Prelude.{◌≤◌, length};
+    ghost use Rattle.reg_base.specs.declared.limits.TheConstants.{MOST_EVENTS};
+    ghost use Rattle.reg_node.specs.Nodes.{NodeState};
+
+    ghost Value = { NodeState };
+
+    ghost view = { λ n. record { process = n.process; logged = n.logged; durable = n.durable; held = n.held.items } };
+
+    ghost invariant = { λ n. (n.logged ≤ MOST_EVENTS) × (n.durable ≤ n.logged) × (length n.held.items ≤ n.logged) };
+}
+
+/// Why no node is opened where there is no process.
+fn unopened(fault: ProcessFault) -> OpenFault
+    ensures { result ≡ unopened_by fault }
+{
+    match fault {
+        ProcessFault::NoProcess => OpenFault::NoProcess,
+        _ => OpenFault::OutOfMemory,
+    }
+}
+
+impl<F: FrontEnd, A: Allocator + Copy> Node<F, A> {
+    /// A node whose log is empty.
+    pub fn new(alloc: A, shape: Shape, me: u8) -> Result<Node<F, A>, ProcessFault>
+        ensures made { IfOk result (λ n. n ≡ record { process = record { failed = false; state = first_state shape me; room = 0 }; logged = 0; durable = 0; held = [] }) }
+        ensures lives { IfOk result (Lives F.start (first_state shape me) nothing_yet) }
+        ensures fault { IfErr result (λ fault. NewRefused shape.processes me fault) }
+    {
+        let process = Process::new(alloc, shape, me)?;
+        Ok(Node {
+            process,
+            logged: 0,
+            durable: 0,
+            held: VecDeque::new(alloc),
+        })
+    }
+
+    /// A node that goes on after its log, which is all durable. Nothing of these entries is held back: a caller of before
+    /// is gone, and frames that were lost are put again by ticks.
+    ///
+    /// # Errors
+    ///
+    /// The first entry that is no step of such a process, or why there is none before.
+    pub fn open(
+        alloc: A,
+        shape: Shape,
+        me: u8,
+        entries: &[LogEntry],
+    ) -> Result<Node<F, A>, OpenFault>
+        ensures opened { IfOk result (IsOpened entries.now) }
+        ensures lives { IfOk result (Lives F.start (first_state shape me) (opened_with entries.now)) }
+        ensures fault { IfErr result (IsOpenFault F.start shape me entries.now) }
+    {
+        let mut process = match Process::new(alloc, shape, me) {
+            Ok(process) => process,
+            Err(fault) => return Err(unopened(fault)),
+        };
+        if entries.len() > MOST_EVENTS as usize {
+            return Err(OpenFault::TooLong);
+        }
+        replay(&mut process, entries)?;
+        let logged = entries.len() as u64;
+        Ok(Node {
+            process,
+            logged,
+            durable: logged,
+            held: VecDeque::new(alloc),
+        })
+    }
+
+    /// Its process, to look at. What it tells may be of entries that are not durable.
+    pub fn process(&self) -> &Process<F, A>
+        ensures { result.now ≡ self.now.process }
+    {
+        &self.process
+    }
+
+    /// How many entries it logged, those that it was opened with among them.
+    pub fn logged(&self) -> u64
+        ensures { result ≡ self.now.logged }
+    {
+        self.logged
+    }
+
+    /// How many of them it was told are durable.
+    pub fn durable(&self) -> u64
+        ensures value { result ≡ self.now.durable }
+        ensures within { result ≤ self.now.logged }
+    {
+        self.durable
+    }
+
+    /// Makes a step, and hands out its entry for the log alone.
+    fn step(&mut self, step: &Step) -> Result<LogEntry, NodeFault>
+        ensures made { MatchResult result (λ entry. Logs F.start self.old step.now entry self.new) (λ fault. LogsNothing F.start self.old step.now fault self.new) }
+        ensures lives { (first : State) (past : Past) → Lives F.start first past self.old → Lives F.start first (past_logged past result) self.new }
+    {
+        if self.logged >= u64::from(MOST_EVENTS) {
+            return Err(NodeFault::Full);
+        }
+        if self.held.reserve(1).is_err() {
+            return Err(NodeFault::NoRoom);
+        }
+        match self.process.step(step) {
+            Ok(outcome) => {
+                let reply = outcome.reply;
+                self.held
+                    .push_back_reserved(Output::new(outcome.frames, reply));
+                self.logged += 1;
+                Ok(LogEntry { step: *step, reply })
+            }
+            Err(fault) => Err(NodeFault::Refused { fault }),
+        }
+    }
+
+    /// Calls the next operation of its process. The entry is for the log alone: its reply is told where it is handed
+    /// out.
+    pub fn call(&mut self, op: Op) -> Result<LogEntry, NodeFault>
+        ensures made { MatchResult result (λ entry. Logs F.start self.old (Call op) entry self.new) (λ fault. LogsNothing F.start self.old (Call op) fault self.new) }
+        ensures lives { (first : State) (past : Past) → Lives F.start first past self.old → Lives F.start first (past_logged past result) self.new }
+    {
+        self.step(&Step::Call { op })
+    }
+
+    /// Takes a frame that another process put for it. The entry is for the log alone.
+    pub fn take(&mut self, from: u8, frame: &Frame) -> Result<LogEntry, NodeFault>
+        ensures made { MatchResult result (λ entry. Logs F.start self.old (Take from frame.now) entry self.new) (λ fault. LogsNothing F.start self.old (Take from frame.now) fault self.new) }
+        ensures lives { (first : State) (past : Past) → Lives F.start first past self.old → Lives F.start first (past_logged past result) self.new }
+    {
+        self.step(&Step::Take {
+            from,
+            frame: *frame,
+        })
+    }
+
+    /// Puts unacknowledged data frames again, as far as a process does in one tick. The entry is for the log alone.
+    pub fn tick(&mut self) -> Result<LogEntry, NodeFault>
+        ensures made { MatchResult result (λ entry. Logs F.start self.old Tick entry self.new) (λ fault. LogsNothing F.start self.old Tick fault self.new) }
+        ensures lives { (first : State) (past : Past) → Lives F.start first past self.old → Lives F.start first (past_logged past result) self.new }
+    {
+        self.step(&Step::Tick)
+    }
+
+    /// Notes that the first `count` entries of the log are durable. A count that is not above an earlier one changes
+    /// nothing.
+    ///
+    /// # Errors
+    ///
+    /// `NotLogged`: the log has fewer entries. Nothing has changed.
+    pub fn mark_durable(&mut self, count: u64) -> Result<(), NotLogged>
+        ensures marked { OnOk result ((count ≤ self.old.logged) × (self.new ≡ record self.old { durable = max self.old.durable count })) }
+        ensures refused { OnErr result ((self.old.logged < count) × (self.new ≡ self.old)) }
+        ensures lives { (first : State) (past : Past) → Lives F.start first past self.old → Lives F.start first past self.new }
+    {
+        if self.logged < count {
+            return Err(NotLogged);
+        }
+        self.durable = self.durable.max(count);
+        Ok(())
+    }
+
+    /// Hands out what is held first, where its entry is durable: frames to be carried to other processes, and the reply
+    /// to be told to the caller. None where no entry whose output is held is durable.
+    pub fn hand_out(&mut self) -> Option<Output<A>>
+        ensures due { MatchOption result ((self.old.durable ≤ first_held self.old) × (self.new ≡ self.old)) (λ o. (first_held self.old < self.old.durable) × (self.old.held ≡ o ∷ self.new.held) × (self.new ≡ record self.old { held = self.new.held })) }
+        ensures lives { (first : State) (past : Past) → Lives F.start first past self.old → Lives F.start first (past_given past result) self.new }
+    {
+        let first_held = self.logged - self.held.len() as u64;
+        if first_held < self.durable {
+            self.held.pop_front()
+        } else {
+            None
+        }
+    }
+}
