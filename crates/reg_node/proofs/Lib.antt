@@ -1,4 +1,4 @@
 pub mod Steps
 pub mod Living
 pub mod Crashing
-pub mod Replaying
+pub mod Remaking

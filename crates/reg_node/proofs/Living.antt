@@ -1,7 +1,8 @@
 -- What a node did, input by input.
 use Rattle.std.proofs.Common.{◌≡◌, ℕ, ◌+◌, ◌-◌, ◌<◌, ◌≤◌, Bool, true, false, List, [], ◌∷◌, ◌++◌, length, drop, take, refl, ap, sym, ◌∙◌, subst, arith, Option, None, Some, Result, Ok, Err, length-append, length-drop, append_assoc}
-use Rattle.std.specs.Prelude.{cond, max}
+use Rattle.std.specs.Prelude.{cond, max, option_to_list}
 use Rattle.std.proofs.lemmas.List.{drop-append-le}
+use Rattle.std.proofs.Math.ListN.{drop_of_length-le}
 use Rattle.reg_base.specs.declared.memory.Op.{Op}
 use Rattle.reg_frames.specs.declared.puts.Put.{Put}
 use Rattle.reg_front.specs.declared.starts.Start.{Start}
@@ -12,12 +13,13 @@ use Rattle.reg_process.specs.declared.faults.ProcessFault.TheVariants.{Failed, N
 use Rattle.reg_process.specs.Process.{State, step}
 use Rattle.reg_process.specs.Puts.{puts}
 use Rattle.reg_process.specs.Faults.{step_fault}
-use Rattle.reg_process.specs.Events.{Kept, Refused as RefusedBy}
+use Rattle.reg_process.specs.Events.{Kept, IsGoing, Refused as RefusedBy}
 use Rattle.reg_records.specs.declared.entries.LogEntry.{LogEntry}
 use Rattle.reg_node.specs.declared.faults.NodeFault.{NodeFault}
 use Rattle.reg_node.specs.declared.faults.NodeFault.TheVariants.{Full, NoRoom, Refused}
 use Rattle.reg_node.specs.Logs.{Outgoing, IsStep, AreSteps, state_after, output_of, outputs_of}
 use Rattle.reg_node.specs.Nodes.{NodeState, Logs, LogsNothing, Past, Lives, first_held, past_logged, past_given}
+use Rattle.reg_node.specs.Opening.{opened_with}
 use Rattle.reg_node.proofs.Steps.{steps_push, state_push, outputs_push, outputs_count}
 
 -- a process that goes on has no fault but those of the step
@@ -25,8 +27,12 @@ fault_none : (b : Bool) (o : Option ProcessFault) → cond b (Some Failed) o ≡
 fault_none true o h = absurd (let bad : ⊥ = cc in bad)
 fault_none false o h = (refl, h)
 
+outgoing : List Put → Option Reply → Outgoing
+outgoing fs r = record { frames = fs; reply = r }
+
 outgoing_is : (o : Outgoing) (fs : List Put) (r : Option Reply) → o.frames ≡ fs → o.reply ≡ r → o ≡ record { frames = fs; reply = r }
-outgoing_is o fs r a b = cc
+unfolding outgoing
+outgoing_is o fs r a b = ap (λ (xs : List Put). outgoing xs o.reply) a ∙ ap (λ (x : Option Reply). outgoing fs x) b
 
 -- a refused process that goes on is as it was
 pub refused_same : (start : Op → ℕ → Start) (old new : Kept) (e : Step) (fault : ProcessFault) → RefusedBy start old e fault new → new.failed ≡ false → new ≡ old
@@ -39,6 +45,20 @@ refused_same start old new e Ahead r is = r.1
 refused_same start old new e Stale r is = r.1
 refused_same start old new e ClockFull r is = absurd (let bad : ⊥ = cc in bad)
 refused_same start old new e OutOfMemory r is = absurd (let bad : ⊥ = cc in bad)
+
+-- a node that was just opened with a log
+pub lives_opened : (start : Op → ℕ → Start) (first : State) (log : List LogEntry) (k : Kept) (held : List Outgoing) → held ≡ [] → AreSteps start first log → IsGoing k (state_after start first log)
+    → Lives start first (opened_with log) (record { process = k; logged = length log; durable = length log; held = held })
+lives_opened start first log k held none steps going =
+    let count : length (outputs_of start first log) ≤ length log = let e = outputs_count start first log in omega arith in
+    record {
+      steps = steps;
+      process = λ _. going.1;
+      logged = refl;
+      outputs = none ∙ sym (drop_of_length-le (outputs_of start first log) count);
+      write_ahead = omega arith;
+      within = omega arith;
+    }
 
 module _ (start : Op → ℕ → Start) (first : State) (past : Past) where
   -- a step was made, and is logged
@@ -119,3 +139,8 @@ module _ (start : Op → ℕ → Start) (first : State) (past : Past) where
         write_ahead = let a = is.write_ahead in let b = is.within in let d = is.logged in omega arith;
         within = is.within;
       })
+
+  -- what is held first was taken out
+  pub lives_pops : (old : NodeState) (result : Option Outgoing) (left : List Outgoing) → first_held old < old.durable → old.held ≡ option_to_list result ++ left → Lives start first past old → Lives start first (past_given past result) (record old { held = left })
+  lives_pops old None left due head is = subst (λ (xs : List Outgoing). Lives start first past (record old { held = xs })) head is
+  lives_pops old (Some o) left due head is = lives_gives old (record old { held = left }) o due head refl is
