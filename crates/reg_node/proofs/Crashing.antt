@@ -20,11 +20,11 @@ module _ (start : Op → ℕ → Start) (first : State) (past : Past) (n : NodeS
   given_of more e = record {
     left = take more n.held;
     all = sym (
-      ap (λ (xs : List Outgoing). drop past.opened xs) (outputs_take start kept first past.log)
-      ∙ (ap (λ (k : ℕ). drop past.opened (take k (outputs_of start first past.log))) e
-      ∙ (drop-take past.opened (length past.given + more) (outputs_of start first past.log)
-      ∙ (ap (λ (xs : List Outgoing). take (length past.given + more) xs) (sym is.outputs)
-      ∙ take-append-add past.given n.held more))));
+        ap (λ (xs : List Outgoing). drop past.opened xs) (outputs_take start kept first past.log)
+        ∙ (ap (λ (k : ℕ). drop past.opened (take k (outputs_of start first past.log))) e
+        ∙ (drop-take past.opened (length past.given + more) (outputs_of start first past.log)
+        ∙ (ap (λ (xs : List Outgoing). take (length past.given + more) xs) (sym is.outputs)
+        ∙ take-append-add past.given n.held more))));
   }
 
   pub crash_given : n.durable ≤ kept → AreOfSteps start first (take kept past.log) past.opened past.given

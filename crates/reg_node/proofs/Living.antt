@@ -62,31 +62,31 @@ lives_opened start first log k held none steps going =
 
 module _ (start : Op → ℕ → Start) (first : State) (past : Past) where
   -- a step was made, and is logged
-  pub lives_logs : (old new : NodeState) (e : Step) (entry : LogEntry) → Logs start old e entry new → Lives start first past old → Lives start first (past_logged past (Ok entry)) new
+  pub lives_logs : (old new : NodeState) (e : Step) (entry : LogEntry) → Logs start old e entry new → Lives start first past old → Lives start first (past_logged {E = NodeFault} past (Ok entry)) new
   lives_logs old new e entry l is =
       let none = fault_none old.process.failed (step_fault start old.process.state e) l.made.no_fault in
       let state : old.process.state ≡ state_after start first past.log = is.process none.0 in
       let same : entry.step ≡ e = ap (λ (x : LogEntry). x.step) l.written in
       let there : step_fault start (state_after start first past.log) e ≡ None = subst (λ (t : State). step_fault start t e ≡ None) state none.1 in
       let reply : l.output.reply ≡ (step start (state_after start first past.log) e).1.reply =
-          l.made.outcome.answer ∙ ap (λ (t : State). (step start t e).1.reply) state in
+      l.made.outcome.answer ∙ ap (λ (t : State). (step start t e).1.reply) state in
       let made : IsStep start (state_after start first past.log) entry = record {
         accepted = subst (λ (x : Step). step_fault start (state_after start first past.log) x ≡ None) (sym same) there;
         reply = ap (λ (x : LogEntry). x.reply) l.written ∙ (reply ∙ ap (λ (x : Step). (step start (state_after start first past.log) x).1.reply) (sym same));
       } in
       let frames : l.output.frames ≡ puts (step start (state_after start first past.log) e).1.frames (length (state_after start first past.log).peers) =
-          l.made.outcome.put ∙ ap (λ (t : State). puts (step start t e).1.frames (length t.peers)) state in
+      l.made.outcome.put ∙ ap (λ (t : State). puts (step start t e).1.frames (length t.peers)) state in
       let output : l.output ≡ output_of start (state_after start first past.log) entry.step =
-          outgoing_is l.output _ _ frames reply ∙ ap (λ (x : Step). output_of start (state_after start first past.log) x) (sym same) in
+      outgoing_is l.output _ _ frames reply ∙ ap (λ (x : Step). output_of start (state_after start first past.log) x) (sym same) in
       let many : past.opened ≤ length (outputs_of start first past.log) =
-          let count = outputs_count start first past.log in let a = is.write_ahead in let b = is.within in let d = is.logged in omega arith in
+      let count = outputs_count start first past.log in let a = is.write_ahead in let b = is.within in let d = is.logged in omega arith in
       let more : past.given ++ (old.held ++ l.output ∷ []) ≡ drop past.opened (outputs_of start first (past.log ++ entry ∷ [])) =
-          sym (append_assoc past.given old.held (l.output ∷ []))
-          ∙ (ap (λ (xs : List Outgoing). xs ++ l.output ∷ []) is.outputs
-          ∙ (sym (drop-append-le past.opened (outputs_of start first past.log) (l.output ∷ []) many)
-          ∙ (ap (λ (o : Outgoing). drop past.opened (outputs_of start first past.log ++ o ∷ [])) output
-          ∙ ap (λ (xs : List Outgoing). drop past.opened xs) (sym (outputs_push start first past.log entry))))) in
-      subst (λ (n : NodeState). Lives start first (past_logged past (Ok entry)) n) (sym l.rest) (record {
+      sym (append_assoc past.given old.held (l.output ∷ []))
+      ∙ (ap (λ (xs : List Outgoing). xs ++ l.output ∷ []) is.outputs
+      ∙ (sym (drop-append-le past.opened (outputs_of start first past.log) (l.output ∷ []) many)
+      ∙ (ap (λ (o : Outgoing). drop past.opened (outputs_of start first past.log ++ o ∷ [])) output
+      ∙ ap (λ (xs : List Outgoing). drop past.opened xs) (sym (outputs_push start first past.log entry))))) in
+      subst (λ (n : NodeState). Lives start first (past_logged {E = NodeFault} past (Ok entry)) n) (sym l.rest) (record {
         steps = steps_push start first past.log entry is.steps made;
         process = λ going. l.made.state.1 ∙ (ap (λ (t : State). (step start t e).0) state ∙ (ap (λ (x : Step). (step start (state_after start first past.log) x).0) (sym same) ∙ sym (state_push start first past.log entry)));
         logged = let count = length-append past.log (entry ∷ []) in let d = is.logged in omega arith;
@@ -103,8 +103,8 @@ module _ (start : Op → ℕ → Start) (first : State) (past : Past) where
       subst (λ (n : NodeState). Lives start first past n) (sym l.2) (record {
         steps = is.steps;
         process = λ going.
-          let same : new.process ≡ old.process = refused_same start old.process new.process e fault l.1 going in
-          ap (λ (k : Kept). k.state) same ∙ is.process (ap (λ (k : Kept). k.failed) (sym same) ∙ going);
+            let same : new.process ≡ old.process = refused_same start old.process new.process e fault l.1 going in
+            ap (λ (k : Kept). k.state) same ∙ is.process (ap (λ (k : Kept). k.failed) (sym same) ∙ going);
         logged = is.logged;
         outputs = is.outputs;
         write_ahead = is.write_ahead;

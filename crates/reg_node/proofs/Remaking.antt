@@ -60,10 +60,10 @@ module _ (start : Op → ℕ → Start) where
     pub replayed_more : Remakes start old entry true new → IsReplayed start first log (place + 1) new
     replayed_more made =
         let more : take (place + 1) log ≡ take place log ++ entry ∷ [] =
-            take_more log place entry within ∙ ap (λ (e : LogEntry). take place log ++ e ∷ []) (get_or_from_slice_get log place entry entry stands) in
+        take_more log place entry within ∙ ap (λ (e : LogEntry). take place log ++ e ∷ []) (get_or_from_slice_get log place entry entry stands) in
         let here : IsStep start (state_after start first (take place log)) entry = subst (λ (s : State). IsStep start s entry) is.going.1 made.0 in
         let state : new.state ≡ state_after start first (take place log ++ entry ∷ []) =
-            made.1.1 ∙ (ap (λ (s : State). (step start s entry.step).0) is.going.1 ∙ sym (state_push start first (take place log) entry)) in
+        made.1.1 ∙ (ap (λ (s : State). (step start s entry.step).0) is.going.1 ∙ sym (state_push start first (take place log) entry)) in
         record {
           steps = subst (λ (es : List LogEntry). AreSteps start first es) (sym more) (steps_push start first (take place log) entry is.steps here);
           going = (made.1.0, state ∙ ap (λ (es : List LogEntry). state_after start first es) (sym more));

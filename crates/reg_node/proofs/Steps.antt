@@ -1,10 +1,13 @@
 -- Logs of one process, entry by entry.
-use Rattle.std.proofs.Common.{◌≡◌, ℕ, zero, suc, ◌+◌, ◌≤◌, List, [], ◌∷◌, ◌++◌, length, take, refl, ap}
+use Rattle.std.proofs.Common.{◌≡◌, ℕ, zero, suc, ◌+◌, ◌≤◌, List, [], ◌∷◌, ◌++◌, length, take, Option, None, Some, refl, ap, subst}
+use Rattle.std.specs.Prelude.{slice_get}
+use Rattle.std.proofs.lemmas.Option.{same_Some}
 use Rattle.reg_base.specs.declared.memory.Op.{Op}
 use Rattle.reg_front.specs.declared.starts.Start.{Start}
 use Rattle.reg_process.specs.Process.{State, step}
 use Rattle.reg_records.specs.declared.entries.LogEntry.{LogEntry}
 use Rattle.reg_node.specs.Logs.{Outgoing, IsStep, AreSteps, state_after, output_of, outputs_of}
+use Rattle.reg_node.specs.Opening.{IsFirstNoStep}
 
 module _ (start : Op → ℕ → Start) where
   -- one entry more
@@ -35,3 +38,12 @@ module _ (start : Op → ℕ → Start) where
   outputs_take zero s es = refl
   outputs_take (suc k) s [] = refl
   outputs_take (suc k) s (x ∷ xs) = ap (λ l. output_of start s x.step ∷ l) (outputs_take k (step start s x.step).0 xs)
+
+  -- each entry is a step in the state after those before it
+  pub steps_at : (s : State) (es : List LogEntry) (place : ℕ) (e : LogEntry) → AreSteps start s es → slice_get es place ≡ Some e → IsStep start (state_after start s (take place es)) e
+  steps_at s [] place e r h = absurd (let bad : ⊥ = cc in bad)
+  steps_at s (x ∷ xs) zero e r h = subst (λ (y : LogEntry). IsStep start s y) (same_Some x e h) r.0
+  steps_at s (x ∷ xs) (suc n) e r h = steps_at (step start s x.step).0 xs n e r.1 h
+
+  pub no_log : (s : State) (es : List LogEntry) (place : ℕ) → IsFirstNoStep start s es place → ¬ AreSteps start s es
+  no_log s es place f r = f.wrong (steps_at s es place f.entry r f.stands)

@@ -3,3 +3,4 @@ pub mod Nodes
 pub mod Opening
 pub mod Crashes
 pub mod Replaying
+pub mod Meetings

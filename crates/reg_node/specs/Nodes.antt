@@ -1,5 +1,5 @@
 -- One node: what each input does to it, and what it did since it was opened. Promises cite it.
-use Rattle.std.specs.Prelude.{ℕ, ◌≡◌, ◌<◌, ◌≤◌, ◌+◌, ◌-◌, ◌++◌, List, [], ◌∷◌, length, drop, false, Option, None, Some, Result, Ok, Err}
+use Rattle.std.specs.Prelude.{ℕ, ◌≡◌, ◌<◌, ◌≤◌, ◌+◌, ◌-◌, ◌++◌, List, [], ◌∷◌, length, drop, max, false, Option, None, Some, Result, Ok, Err}
 use Rattle.reg_base.specs.declared.limits.TheConstants.{MOST_EVENTS}
 use Rattle.reg_base.specs.declared.memory.Op.{Op}
 use Rattle.reg_base.specs.declared.stamps.Stamp.{Stamp}
@@ -42,6 +42,20 @@ LogsNothing start old e Full new = (MOST_EVENTS ≤ old.logged) × (new ≡ old)
 LogsNothing start old e NoRoom new = (old.logged < MOST_EVENTS) × (new ≡ old)
 LogsNothing start old e (Refused fault) new = (old.logged < MOST_EVENTS) × RefusedBy start old.process e fault new.process × (new ≡ record old { process = new.process })
 
+-- the first entries were said to be durable
+abbrev pub marked : NodeState → ℕ → NodeState
+marked n count = record n { durable = max n.durable count }
+
+-- what is held first was handed out: its entry is durable
+pub record HandsOut (old : NodeState) (output : Outgoing) (new : NodeState) : Type 0 where
+  pub due : first_held old < old.durable
+  pub held : old.held ≡ output ∷ new.held
+  pub rest : new ≡ record old { held = new.held }
+
+-- nothing was: no entry whose output is held is durable
+abbrev pub HandsOutNothing : NodeState → NodeState → Type 0
+HandsOutNothing old new = (old.durable ≤ first_held old) × (new ≡ old)
+
 -- What a node did: all entries of its log, how many of them it was opened with, and what it handed out since then.
 pub record Past : Type 0 where
   pub log : List LogEntry
@@ -53,7 +67,7 @@ abbrev pub nothing_yet : Past
 nothing_yet = record { log = []; opened = 0; given = [] }
 
 -- after an input, which added an entry to the log or didn't
-abbrev pub past_logged : Past → Result LogEntry NodeFault → Past
+abbrev pub past_logged : {E : Type 0} → Past → Result LogEntry E → Past
 past_logged past (Ok entry) = record past { log = past.log ++ entry ∷ [] }
 past_logged past (Err fault) = past
 

@@ -38,3 +38,28 @@ pub enum OpenFault {
     #[error("out of memory")]
     OutOfMemory,
 }
+
+/// Why a node doesn't hear what another process says: the first of these that applies.
+#[derive(Clone, Copy, Debug, PartialEq, Eq, Error)]
+pub enum HelloFault {
+    /// A process accepted more bodies than were ever queued for it, so the log was lost. The node has stopped for good.
+    #[error("log lost")]
+    LogLost,
+    /// There is no other process of this number. Nothing has changed.
+    #[error("no process")]
+    NoPeer,
+}
+
+/// Why a node that meets others makes no step: the first of these that applies.
+#[derive(Clone, Copy, Debug, PartialEq, Eq, Error)]
+pub enum MeetingFault {
+    /// The log was lost, and the node has stopped for good.
+    #[error("log lost")]
+    LogLost,
+    /// The operation would be cast, and some other process was not heard yet. Nothing has changed.
+    #[error("unheard")]
+    Unheard,
+    /// As the node says.
+    #[error("{fault}")]
+    OfNode { fault: NodeFault },
+}

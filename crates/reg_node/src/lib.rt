@@ -4,11 +4,13 @@
 
 mod faults;
 pub mod laws;
+mod meetings;
 mod nodes;
 mod outputs;
 mod replaying;
 
-pub use faults::{NodeFault, NotLogged, OpenFault};
+pub use faults::{HelloFault, MeetingFault, NodeFault, NotLogged, OpenFault};
+pub use meetings::MeetingNode;
 pub use nodes::Node;
 pub use outputs::Output;
 pub use reg_process::{ProcessFault, Put, Reply, Step};

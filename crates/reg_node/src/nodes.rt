@@ -1,11 +1,11 @@
 //! One node.
-ghost use Rattle.std.specs.Prelude.{◌≡◌, ◌<◌, ◌≤◌, ◌∷◌, [], max, false, IfOk, IfErr, OnErr, OnOk, MatchOption, MatchResult};
+ghost use Rattle.std.specs.Prelude.{◌≡◌, ◌<◌, ◌≤◌, [], false, IfOk, IfErr, OnErr, OnOk, MatchOption, MatchResult};
 ghost use Rattle.reg_process.specs.Faults.{NewRefused};
 ghost use Rattle.reg_process.specs.Process.{State};
 ghost use Rattle.reg_process.specs.declared.steps.Step.TheVariants.{Call, Take, Tick};
 ghost use Rattle.reg_node.specs.Logs.{first_state};
 ghost use Rattle.reg_node.specs.Opening.{IsOpened, IsOpenFault, opened_with, unopened_by};
-ghost use Rattle.reg_node.specs.Nodes.{Lives, Logs, LogsNothing, Past, first_held, nothing_yet, past_given, past_logged};
+ghost use Rattle.reg_node.specs.Nodes.{HandsOut, HandsOutNothing, Lives, Logs, LogsNothing, Past, marked, nothing_yet, past_given, past_logged};
 
 use crate::faults::{NodeFault, NotLogged, OpenFault};
 use crate::outputs::Output;
@@ -81,6 +81,7 @@ impl<F: FrontEnd, A: Allocator + Copy> Node<F, A> {
         me: u8,
         entries: &[LogEntry],
     ) -> Result<Node<F, A>, OpenFault>
+        ensures process { OnOk result (me < shape.processes) }
         ensures opened { IfOk result (IsOpened entries.now) }
         ensures lives { IfOk result (Lives F.start (first_state shape me) (opened_with entries.now)) }
         ensures fault { IfErr result (IsOpenFault F.start shape me entries.now) }
@@ -182,7 +183,7 @@ impl<F: FrontEnd, A: Allocator + Copy> Node<F, A> {
     ///
     /// `NotLogged`: the log has fewer entries. Nothing has changed.
     pub fn mark_durable(&mut self, count: u64) -> Result<(), NotLogged>
-        ensures marked { OnOk result ((count ≤ self.old.logged) × (self.new ≡ record self.old { durable = max self.old.durable count })) }
+        ensures marked { OnOk result ((count ≤ self.old.logged) × (self.new ≡ marked self.old count)) }
         ensures refused { OnErr result ((self.old.logged < count) × (self.new ≡ self.old)) }
         ensures lives { (first : State) (past : Past) → Lives F.start first past self.old → Lives F.start first past self.new }
     {
@@ -196,7 +197,7 @@ impl<F: FrontEnd, A: Allocator + Copy> Node<F, A> {
     /// Hands out what is held first, where its entry is durable: frames to be carried to other processes, and the reply
     /// to be told to the caller. None where no entry whose output is held is durable.
     pub fn hand_out(&mut self) -> Option<Output<A>>
-        ensures due { MatchOption result ((self.old.durable ≤ first_held self.old) × (self.new ≡ self.old)) (λ o. (first_held self.old < self.old.durable) × (self.old.held ≡ o ∷ self.new.held) × (self.new ≡ record self.old { held = self.new.held })) }
+        ensures due { MatchOption result (HandsOutNothing self.old self.new) (λ output. HandsOut self.old output self.new) }
         ensures lives { (first : State) (past : Past) → Lives F.start first past self.old → Lives F.start first (past_given past result) self.new }
     {
         let first_held = self.logged - self.held.len() as u64;

@@ -7,7 +7,7 @@ use refusing::{Trial, refusals};
 use reg_base::{Answer, Op, Shape};
 use reg_frames::{Body, Frame};
 use reg_front::{FrontEnd, Linear, LocalRead, LocalWrite};
-use reg_node::{LogEntry, Node, NodeFault, OpenFault, ProcessFault, Reply, Step};
+use reg_node::{LogEntry, Node, NodeFault, OpenFault, Output, ProcessFault, Reply, Step};
 use std::alloc::{AllocError, Allocator, Global};
 use std::process::Abort;
 use std::test::Fail;
@@ -23,16 +23,16 @@ enum Input {
 /// An input, and the line of what it gives.
 type Row = (Input, &'static str);
 
-const CALL_WRITE: Step = Step::Call { op: WRITE_FIVE };
+pub(crate) const CALL_WRITE: Step = Step::Call { op: WRITE_FIVE };
 
-const CALL_READ: Step = Step::Call { op: READ };
+pub(crate) const CALL_READ: Step = Step::Call { op: READ };
 
 const CALL_BEYOND: Step = Step::Call {
     op: Op::Read { register: 1 },
 };
 
 /// The acknowledgement of the write, by process 1.
-const TAKE_ACK: Step = Step::Take {
+pub(crate) const TAKE_ACK: Step = Step::Take {
     from: 1,
     frame: Frame::Numbered {
         number: 0,
@@ -63,23 +63,14 @@ const HELD: &[Row] = &[
     (Input::Durable(2), "not logged, 0 of 1"),
     (Input::HandOut, "nothing, 0 of 1"),
     (Input::Durable(1), "durable, 1 of 1"),
-    (
-        Input::HandOut,
-        "puts #0 cast 1 write x 5 to p1, 1 of 1",
-    ),
+    (Input::HandOut, "puts #0 cast 1 write x 5 to p1, 1 of 1"),
     (Input::HandOut, "nothing, 1 of 1"),
-    (
-        Input::Make(TAKE_ACK),
-        "logged, Done at place 0, 1 of 2",
-    ),
+    (Input::Make(TAKE_ACK), "logged, Done at place 0, 1 of 2"),
     (Input::HandOut, "nothing, 1 of 2"),
     (Input::Durable(0), "durable, 1 of 2"),
     (Input::HandOut, "nothing, 1 of 2"),
     (Input::Durable(2), "durable, 2 of 2"),
-    (
-        Input::HandOut,
-        "puts got 1 to p1, Done at place 0, 2 of 2",
-    ),
+    (Input::HandOut, "puts got 1 to p1, Done at place 0, 2 of 2"),
     (Input::HandOut, "nothing, 2 of 2"),
 ];
 
@@ -96,10 +87,7 @@ const READ_HELD: &[Row] = &[
 
 /// Of two entries the first alone is durable.
 const IN_ORDER: &[Row] = &[
-    (
-        Input::Make(CALL_WRITE),
-        "logged, Done at place 0, 0 of 1",
-    ),
+    (Input::Make(CALL_WRITE), "logged, Done at place 0, 0 of 1"),
     (Input::Make(Step::Tick), "logged, 0 of 2"),
     (Input::Durable(1), "durable, 1 of 2"),
     (
@@ -108,10 +96,7 @@ const IN_ORDER: &[Row] = &[
     ),
     (Input::HandOut, "nothing, 1 of 2"),
     (Input::Durable(2), "durable, 2 of 2"),
-    (
-        Input::HandOut,
-        "puts #0 cast 1 write x 5 to p1, 2 of 2",
-    ),
+    (Input::HandOut, "puts #0 cast 1 write x 5 to p1, 2 of 2"),
 ];
 
 /// A refused step is not logged.
@@ -130,14 +115,11 @@ const STOPPED: &[Row] = &[
     (Input::Make(Step::Tick), "failed, 0 of 1"),
     (Input::HandOut, "nothing, 0 of 1"),
     (Input::Durable(1), "durable, 1 of 1"),
-    (
-        Input::HandOut,
-        "puts #0 cast 1 write x 5 to p1, 1 of 1",
-    ),
+    (Input::HandOut, "puts #0 cast 1 write x 5 to p1, 1 of 1"),
 ];
 
 /// The entries of `HELD`.
-const WROTE: LogEntry = LogEntry {
+pub(crate) const WROTE: LogEntry = LogEntry {
     step: CALL_WRITE,
     reply: None,
 };
@@ -165,19 +147,10 @@ const ONE_LOST: &[Row] = &[
     (Input::Make(Step::Tick), "logged, 1 of 2"),
     (Input::HandOut, "nothing, 1 of 2"),
     (Input::Durable(2), "durable, 2 of 2"),
-    (
-        Input::HandOut,
-        "puts #0 cast 1 write x 5 to p1, 2 of 2",
-    ),
-    (
-        Input::Make(TAKE_ACK),
-        "logged, Done at place 0, 2 of 3",
-    ),
+    (Input::HandOut, "puts #0 cast 1 write x 5 to p1, 2 of 2"),
+    (Input::Make(TAKE_ACK), "logged, Done at place 0, 2 of 3"),
     (Input::Durable(3), "durable, 3 of 3"),
-    (
-        Input::HandOut,
-        "puts got 1 to p1, Done at place 0, 3 of 3",
-    ),
+    (Input::HandOut, "puts got 1 to p1, Done at place 0, 3 of 3"),
 ];
 
 /// After one that lost nothing: the write was answered.
@@ -196,7 +169,11 @@ fn push_reply(text: &mut String, reply: Option<Reply>) -> Result<(), AllocError>
     }
 }
 
-fn push_entry(text: &mut String, step: &Step, entry: &LogEntry) -> Result<(), AllocError> {
+pub(crate) fn push_entry(
+    text: &mut String,
+    step: &Step,
+    entry: &LogEntry,
+) -> Result<(), AllocError> {
     if entry.step != *step {
         text.push_str("another step, ")?;
     }
@@ -217,11 +194,11 @@ fn step_of<F: FrontEnd, A: Allocator + Copy>(
 }
 
 /// What a node hands out.
-fn push_output<F: FrontEnd, A: Allocator + Copy>(
+pub(crate) fn push_output<A: Allocator + Copy>(
     text: &mut String,
-    node: &mut Node<F, A>,
+    output: Option<Output<A>>,
 ) -> Result<(), AllocError> {
-    match node.hand_out() {
+    match output {
         Some(output) => {
             push_puts(text, output.frames())?;
             push_reply(text, output.reply())
@@ -245,7 +222,7 @@ fn push_given<F: FrontEnd, A: Allocator + Copy>(
             Ok(()) => text.push_str("durable, "),
             Err(fault) => write!(text, "{fault}, "),
         },
-        Input::HandOut => push_output(text, node),
+        Input::HandOut => push_output(text, node.hand_out()),
     };
     pushed?;
     write!(text, "{} of {}", node.durable(), node.logged())
@@ -331,9 +308,11 @@ fn is_refused<F: FrontEnd, A: Allocator + Copy>(
     match step_of(node, step) {
         Ok(_) => node.logged() == before + 1,
         Err(fault) => {
-            fault == NodeFault::Refused {
-                fault: ProcessFault::Failed,
-            } && node.logged() == before
+            fault
+                == NodeFault::Refused {
+                    fault: ProcessFault::Failed,
+                }
+                && node.logged() == before
         }
     }
 }

@@ -11,9 +11,9 @@ returns-in-Ok-clause-lives g c = λ first past is.
     let output : Outgoing = record { frames = c.in-Ok.outcome.frames.items; reply = c.in-Ok.outcome.reply } in
     let new : NodeState = record { process = c.step.new.self; logged = fields.logged + 1; durable = fields.durable; held = c.push_back_reserved.new.self.items } in
     let held : c.push_back_reserved.new.self.items ≡ fields.held.items ++ output ∷ [] =
-        c.push_back_reserved.ensures.items
-        ∙ (ap (λ (xs : List Outgoing). xs ++ c.new.result ∷ []) c.reserve.ensures.items
-        ∙ ap (λ (o : Outgoing). fields.held.items ++ o ∷ []) c.new.ensures) in
+    c.push_back_reserved.ensures.items
+    ∙ (ap (λ (xs : List Outgoing). xs ++ c.new.result ∷ []) c.reserve.ensures.items
+    ∙ ap (λ (o : Outgoing). fields.held.items ++ o ∷ []) c.new.ensures) in
     let logs : Logs g.F.FrontEnd.start old c.args.step.now (record { step = c.args.step.now; reply = c.in-Ok.outcome.reply }) new = record {
       output = output;
       cast = c.in-Ok.outcome.cast;
