@@ -1,15 +1,23 @@
 -- What outlives a crash.
-use Rattle.std.proofs.Common.{◌≡◌, ℕ, ◌+◌, ◌-◌, ◌≤◌, List, ◌++◌, length, drop, take, ap, sym, ◌∙◌, arith}
+use Rattle.std.proofs.Common.{◌≡◌, ℕ, zero, suc, ◌+◌, ◌-◌, ◌<◌, ◌≤◌, List, [], ◌∷◌, ◌++◌, length, drop, take, ap, sym, ◌∙◌, subst, arith, inr}
 use Rattle.std.proofs.Math.Seq.{take-append-add}
 use Rattle.std.proofs.lemmas.List.{drop-take}
 use Rattle.reg_base.specs.declared.memory.Op.{Op}
+use Rattle.reg_base.specs.Order.{In}
+use Rattle.reg_base.proofs.Lists.{in_left}
 use Rattle.reg_front.specs.declared.starts.Start.{Start}
-use Rattle.reg_process.specs.Process.{State}
+use Rattle.reg_process.specs.Process.{State, peer_at, next_of}
 use Rattle.reg_records.specs.declared.entries.LogEntry.{LogEntry}
-use Rattle.reg_node.specs.Logs.{Outgoing, AreSteps, outputs_of}
+use Rattle.reg_node.specs.Logs.{Outgoing, AreSteps, state_after, outputs_of}
 use Rattle.reg_node.specs.Nodes.{NodeState, Past, Lives}
-use Rattle.reg_node.specs.Crashes.{AreOfSteps}
+use Rattle.reg_node.specs.Crashes.{AreOfSteps, IsGiven}
+use Rattle.reg_node.proofs.Numbers.{log_queues}
 use Rattle.reg_node.proofs.Steps.{steps_take, outputs_take}
+
+in_dropped : {X : Type 0} (k : ℕ) (xs : List X) (x : X) → In x (drop k xs) → In x xs
+in_dropped zero xs x h = h
+in_dropped (suc k) [] x h = absurd h
+in_dropped (suc k) (y ∷ ys) x h = inr (in_dropped k ys x h)
 
 pub crash_steps : (start : Op → ℕ → Start) (first : State) (past : Past) (n : NodeState) (kept : ℕ) → Lives start first past n → AreSteps start first (take kept past.log)
 crash_steps start first past n kept is = steps_take start kept first past.log is.steps
@@ -29,3 +37,11 @@ module _ (start : Op → ℕ → Start) (first : State) (past : Past) (n : NodeS
 
   pub crash_given : n.durable ≤ kept → AreOfSteps start first (take kept past.log) past.opened past.given
   crash_given le = given_of (kept - (past.opened + length past.given)) (let a = is.write_ahead in omega arith)
+
+  -- a body that was handed out is one of those that the rest of the log has queued
+  pub crash_bodies : (to number : ℕ) → n.durable ≤ kept → IsGiven past.given to number → number < next_of (peer_at (state_after start first (take kept past.log)) to)
+  crash_bodies to number le g =
+      let from = crash_given le in
+      let among : In g.output (drop past.opened (outputs_of start first (take kept past.log))) = subst (λ (xs : List Outgoing). In g.output xs) from.all (in_left g.output past.given from.left g.handed) in
+      log_queues start to number g.body g.output g.put first (take kept past.log) (steps_take start kept first past.log is.steps)
+      (in_dropped past.opened (outputs_of start first (take kept past.log)) g.output among)

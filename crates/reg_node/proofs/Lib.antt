@@ -1,4 +1,5 @@
 pub mod Steps
 pub mod Living
+pub mod Numbers
 pub mod Crashing
 pub mod Remaking

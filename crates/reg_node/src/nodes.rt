@@ -69,8 +69,8 @@ impl<F: FrontEnd, A: Allocator + Copy> Node<F, A> {
         })
     }
 
-    /// A node that goes on after its log, which is all durable. Nothing of these entries is held back: a caller of before
-    /// is gone, and frames that were lost are put again by ticks.
+    /// A node that goes on after its log, which is all durable. Nothing of these entries is held back: a caller of
+    /// before is gone, and frames that were lost are put again by ticks.
     ///
     /// # Errors
     ///
