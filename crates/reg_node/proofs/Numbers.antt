@@ -53,7 +53,7 @@ queue_next : (body : Body) (me : ℕ) (ps : List Peer) (i : ℕ) → i < length 
 queue_next body me ps i within other =
     ap next_of (queue_other body 0 me ps i within (λ e. other (let f : i ≡ me = omega arith in f)))
     ∙ (let e = length-append (slice_index_or ps i no_peer).pending (body ∷ []) in
-       let f : (slice_index_or ps i no_peer).first + length ((slice_index_or ps i no_peer).pending ++ body ∷ []) ≡ next_of (slice_index_or ps i no_peer) + 1 = omega arith in f)
+    let f : (slice_index_or ps i no_peer).first + length ((slice_index_or ps i no_peer).pending ++ body ∷ []) ≡ next_of (slice_index_or ps i no_peer) + 1 = omega arith in f)
 
 -- a changed entry with the same next number leaves all of them
 set_next : (ps : List Peer) (from : ℕ) (p : Peer) (r : ℕ) → next_of p ≡ next_of (slice_index_or ps from no_peer) → next_of (slice_index_or (slice_set ps from p) r no_peer) ≡ next_of (slice_index_or ps r no_peer)
@@ -75,7 +75,7 @@ module _ (s : State) (r : ℕ) where
   acknowledged_next from count few =
       set_next s.peers from (record (peer_at s from) { first = max (peer_at s from).first count; pending = drop (count - (peer_at s from).first) (peer_at s from).pending }) r
       (let e = length-drop (count - (peer_at s from).first) (peer_at s from).pending in
-       let f : max (peer_at s from).first count + length (drop (count - (peer_at s from).first) (peer_at s from).pending) ≡ next_of (peer_at s from) = omega arith in f)
+      let f : max (peer_at s from).first count + length (drop (count - (peer_at s from).first) (peer_at s from).pending) ≡ next_of (peer_at s from) = omega arith in f)
 
   called_grows : (op : Op) (start : Start) → next_of (peer_at s r) ≤ next_of (peer_at (called s op start).0 r)
   called_grows op Casts = queue_grows (Cast (s.clock + 1) op) 0 s.me s.peers r
@@ -140,9 +140,9 @@ module _ (s : State) (r : ℕ) where
     resent_queues : In (Numbered k b) (resent s r) → k < next_of (peer_at s r)
     resent_queues = cond_both (r == s.me) [] (numbered_from (peer_at s r).first (take MOST_RESENT (peer_at s r).pending)) (λ fs. In (Numbered k b) fs → k < next_of (peer_at s r)) (λ _ h. absurd h)
         (λ _ h.
-          let is = numbered_in (peer_at s r).first (take MOST_RESENT (peer_at s r).pending) k b h in
-          let inside = slice_get_within (peer_at s r).pending is.0 b (place_take MOST_RESENT (peer_at s r).pending is.0 b is.2) in
-          let at = is.1 in omega arith)
+        let is = numbered_in (peer_at s r).first (take MOST_RESENT (peer_at s r).pending) k b h in
+        let inside = slice_get_within (peer_at s r).pending is.0 b (place_take MOST_RESENT (peer_at s r).pending is.0 b is.2) in
+        let at = is.1 in omega arith)
 
     -- a body that a step puts for a process has a number below the next one after it
     step_queues : (start : Op → ℕ → Start) (e : Step) → In (Numbered k b) ((step start s e).1.frames r) → k < next_of (peer_at (step start s e).0 r)

@@ -1,6 +1,6 @@
 //! One node.
-ghost use Rattle.std.specs.Prelude.{◌≡◌, ◌<◌, ◌≤◌, [], false, IfOk, IfErr, OnErr, OnOk, MatchOption, MatchResult};
-ghost use Rattle.reg_process.specs.Faults.{NewRefused};
+ghost use Rattle.std.specs.Prelude.{◌≡◌, ◌<◌, ◌≤◌, [], false, IfOk, IfErr, IsErrOf, OnErr, OnOk, MatchOption, MatchResult};
+ghost use Rattle.reg_process.specs.Faults.{NewRefused, StepTakesMemory};
 ghost use Rattle.reg_process.specs.Process.{State};
 ghost use Rattle.reg_process.specs.declared.steps.Step.TheVariants.{Call, Take, Tick};
 ghost use Rattle.reg_node.specs.Logs.{first_state};
@@ -128,6 +128,7 @@ impl<F: FrontEnd, A: Allocator + Copy> Node<F, A> {
     /// Makes a step, and hands out its entry for the log alone.
     fn step(&mut self, step: &Step) -> Result<LogEntry, NodeFault>
         ensures made { MatchResult result (λ entry. Logs F.start self.old step.now entry self.new) (λ fault. LogsNothing F.start self.old step.now fault self.new) }
+        ensures memory { IsErrOf result (NodeFault.Refused ProcessFault.OutOfMemory) → StepTakesMemory F.start self.old.process.state self.old.process.room step.now }
         ensures lives { (first : State) (past : Past) → Lives F.start first past self.old → Lives F.start first (past_logged past result) self.new }
     {
         if self.logged >= u64::from(MOST_EVENTS) {
@@ -152,6 +153,7 @@ impl<F: FrontEnd, A: Allocator + Copy> Node<F, A> {
     /// out.
     pub fn call(&mut self, op: Op) -> Result<LogEntry, NodeFault>
         ensures made { MatchResult result (λ entry. Logs F.start self.old (Call op) entry self.new) (λ fault. LogsNothing F.start self.old (Call op) fault self.new) }
+        ensures memory { IsErrOf result (NodeFault.Refused ProcessFault.OutOfMemory) → StepTakesMemory F.start self.old.process.state self.old.process.room (Call op) }
         ensures lives { (first : State) (past : Past) → Lives F.start first past self.old → Lives F.start first (past_logged past result) self.new }
     {
         self.step(&Step::Call { op })
@@ -160,6 +162,7 @@ impl<F: FrontEnd, A: Allocator + Copy> Node<F, A> {
     /// Takes a frame that another process put for it. The entry is for the log alone.
     pub fn take(&mut self, from: u8, frame: &Frame) -> Result<LogEntry, NodeFault>
         ensures made { MatchResult result (λ entry. Logs F.start self.old (Take from frame.now) entry self.new) (λ fault. LogsNothing F.start self.old (Take from frame.now) fault self.new) }
+        ensures memory { IsErrOf result (NodeFault.Refused ProcessFault.OutOfMemory) → StepTakesMemory F.start self.old.process.state self.old.process.room (Take from frame.now) }
         ensures lives { (first : State) (past : Past) → Lives F.start first past self.old → Lives F.start first (past_logged past result) self.new }
     {
         self.step(&Step::Take {
@@ -171,6 +174,7 @@ impl<F: FrontEnd, A: Allocator + Copy> Node<F, A> {
     /// Puts unacknowledged data frames again, as far as a process does in one tick. The entry is for the log alone.
     pub fn tick(&mut self) -> Result<LogEntry, NodeFault>
         ensures made { MatchResult result (λ entry. Logs F.start self.old Tick entry self.new) (λ fault. LogsNothing F.start self.old Tick fault self.new) }
+        ensures memory { IsErrOf result (NodeFault.Refused ProcessFault.OutOfMemory) → StepTakesMemory F.start self.old.process.state self.old.process.room Tick }
         ensures lives { (first : State) (past : Past) → Lives F.start first past self.old → Lives F.start first (past_logged past result) self.new }
     {
         self.step(&Step::Tick)
