@@ -1,5 +1,5 @@
 -- What outlives a crash.
-use Rattle.std.proofs.Common.{◌≡◌, ℕ, zero, suc, ◌+◌, ◌-◌, ◌<◌, ◌≤◌, List, [], ◌∷◌, ◌++◌, length, drop, take, ap, sym, ◌∙◌, subst, arith, inr}
+use Rattle.std.proofs.Common.{◌≡◌, ℕ, zero, suc, ◌+◌, ◌-◌, ◌<◌, ◌≤◌, List, [], ◌∷◌, length, drop, take, ap, sym, ◌∙◌, subst, arith, inr}
 use Rattle.std.proofs.Math.Seq.{take-append-add}
 use Rattle.std.proofs.lemmas.List.{drop-take}
 use Rattle.reg_base.specs.declared.memory.Op.{Op}
@@ -7,7 +7,6 @@ use Rattle.reg_base.specs.Order.{In}
 use Rattle.reg_base.proofs.Lists.{in_left}
 use Rattle.reg_front.specs.declared.starts.Start.{Start}
 use Rattle.reg_process.specs.Process.{State, peer_at, next_of}
-use Rattle.reg_records.specs.declared.entries.LogEntry.{LogEntry}
 use Rattle.reg_node.specs.Logs.{Outgoing, AreSteps, state_after, outputs_of}
 use Rattle.reg_node.specs.Nodes.{NodeState, Past, Lives}
 use Rattle.reg_node.specs.Crashes.{AreOfSteps, IsGiven}

@@ -1,6 +1,6 @@
 -- The bodies that went out have numbers below the next one.
 use Rattle.std.proofs.Common.{◌≡◌, ℕ, zero, suc, ◌+◌, ◌-◌, ◌<◌, ◌≤◌, Bool, true, false, List, [], ◌∷◌, ◌++◌, length, take, drop, map, Option, None, Some, refl, ap, sym, ◌∙◌, subst, arith, inl, inr, length-append, length-drop, length-set}
-use Rattle.std.specs.Prelude.{cond, max, slice_index_or, slice_set, slice_get, nat_lt, nat_le, ◌==◌, ◌||◌}
+use Rattle.std.specs.Prelude.{cond, max, slice_index_or, slice_set, nat_lt, nat_le, ◌==◌, ◌||◌}
 use Rattle.std.proofs.lemmas.Bool.{cond_both, ltb-false, eq-eqb}
 use Rattle.std.proofs.lemmas.Option.{slice_get_within}
 use Rattle.reg_base.specs.declared.memory.Op.{Op}
@@ -18,7 +18,7 @@ use Rattle.reg_process.specs.declared.faults.ProcessFault.{ProcessFault}
 use Rattle.reg_process.specs.declared.faults.ProcessFault.TheVariants.{NoProcess, Ahead}
 use Rattle.reg_process.specs.declared.steps.Step.{Step}
 use Rattle.reg_process.specs.declared.steps.Step.TheVariants.{Call, Take, Tick}
-use Rattle.reg_process.specs.Process.{State, Peer, Outcome, no_peer, peer_at, next_of, unsettled, queue_from, data_frames, got_frames, accepted, accepts, acknowledged, called, quiet, resent, numbered_from, step}
+use Rattle.reg_process.specs.Process.{State, Peer, no_peer, peer_at, next_of, unsettled, queue_from, data_frames, got_frames, accepted, accepts, acknowledged, called, quiet, resent, numbered_from, step}
 use Rattle.reg_process.specs.Faults.{step_fault, frame_fault}
 use Rattle.reg_process.specs.Puts.{put_to, puts}
 use Rattle.reg_process.proofs.Peers.{queue_other}

@@ -1,12 +1,12 @@
 -- Logs of one process, entry by entry.
-use Rattle.std.proofs.Common.{◌≡◌, ℕ, zero, suc, ◌+◌, ◌≤◌, List, [], ◌∷◌, ◌++◌, length, take, Option, None, Some, refl, ap, subst}
+use Rattle.std.proofs.Common.{◌≡◌, ℕ, zero, suc, List, [], ◌∷◌, ◌++◌, length, take, Some, refl, ap, subst}
 use Rattle.std.specs.Prelude.{slice_get}
 use Rattle.std.proofs.lemmas.Option.{same_Some}
 use Rattle.reg_base.specs.declared.memory.Op.{Op}
 use Rattle.reg_front.specs.declared.starts.Start.{Start}
 use Rattle.reg_process.specs.Process.{State, step}
 use Rattle.reg_records.specs.declared.entries.LogEntry.{LogEntry}
-use Rattle.reg_node.specs.Logs.{Outgoing, IsStep, AreSteps, state_after, output_of, outputs_of}
+use Rattle.reg_node.specs.Logs.{IsStep, AreSteps, state_after, output_of, outputs_of}
 use Rattle.reg_node.specs.Opening.{IsFirstNoStep}
 
 module _ (start : Op → ℕ → Start) where

@@ -6,7 +6,6 @@ use Rattle.reg_base.specs.declared.stamps.Stamp.{Stamp}
 use Rattle.reg_base.specs.declared.stamps.Delivered.{Delivered}
 use Rattle.reg_front.specs.declared.starts.Start.{Start}
 use Rattle.reg_process.specs.declared.steps.Step.{Step}
-use Rattle.reg_process.specs.declared.faults.ProcessFault.{ProcessFault}
 use Rattle.reg_process.specs.Process.{State}
 use Rattle.reg_process.specs.Events.{Kept, Steps, Refused as RefusedBy}
 use Rattle.reg_records.specs.declared.entries.LogEntry.{LogEntry}

@@ -1,5 +1,5 @@
 -- A log that is made again, step by step. They carry a proof: no promise speaks of them.
-use Rattle.std.specs.Prelude.{◌≡◌, ⊤, ℕ, Bool, true, false, List, take}
+use Rattle.std.specs.Prelude.{⊤, ℕ, Bool, true, false, List, take}
 use Rattle.reg_base.specs.declared.memory.Op.{Op}
 use Rattle.reg_front.specs.declared.starts.Start.{Start}
 use Rattle.reg_process.specs.Process.{State, step}

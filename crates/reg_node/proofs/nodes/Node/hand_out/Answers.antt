@@ -1,5 +1,4 @@
-use Rattle.std.proofs.Common.{◌≡◌, ◌<◌, ◌++◌, length, rules, sym, subst, arith}
-use Rattle.std.specs.Prelude.{option_to_list}
+use Rattle.std.proofs.Common.{◌≡◌, ◌<◌, length, rules, sym, subst, arith}
 use Rattle.reg_node.specs.Nodes.{Lives, NodeState, first_held}
 use Rattle.reg_node.proofs.Living.{lives_pops}
 use Rattle.reg_node.proofs.nodes.Node.hand_out.Goals as goal

@@ -1,4 +1,4 @@
-use Rattle.std.proofs.Common.{◌≡◌, ◌+◌, ◌++◌, ◌∷◌, ℕ, [], List, refl, ap, sym, ◌∙◌, subst, arith}
+use Rattle.std.proofs.Common.{◌≡◌, ◌+◌, ◌++◌, ◌∷◌, [], List, refl, ap, sym, ◌∙◌, subst, arith}
 use Rattle.reg_node.specs.Logs.{Outgoing}
 use Rattle.reg_node.specs.Nodes.{Lives, Logs, NodeState}
 use Rattle.reg_node.proofs.Living.{lives_logs}
