@@ -1,5 +1,7 @@
 -- What outlives a crash.
-use Rattle.std.proofs.Common.{◌≡◌, ℕ, zero, suc, ◌+◌, ◌-◌, ◌<◌, ◌≤◌, List, [], ◌∷◌, length, drop, take, ap, sym, ◌∙◌, subst, arith, inr}
+use Rattle.std.proofs.Common.{◌≡◌, ℕ, zero, suc, ◌+◌, ◌-◌, ◌<◌, ◌≤◌, List, [], ◌∷◌, length, drop, take, ap, sym, ◌∙◌, subst, arith, inr, refl, ◌++◌, Option, None, Some}
+use Rattle.std.specs.Prelude.{slice_get}
+use Rattle.std.proofs.lemmas.Option.{slice_get_within}
 use Rattle.std.proofs.Math.Seq.{take-append-add}
 use Rattle.std.proofs.lemmas.List.{drop-take}
 use Rattle.reg_base.specs.declared.memory.Op.{Op}
@@ -7,6 +9,7 @@ use Rattle.reg_base.specs.Order.{In}
 use Rattle.reg_base.proofs.Lists.{in_left}
 use Rattle.reg_front.specs.declared.starts.Start.{Start}
 use Rattle.reg_process.specs.Process.{State, peer_at, next_of}
+use Rattle.reg_world.proofs.one_order.Frames.{place_drop}
 use Rattle.reg_node.specs.Logs.{Outgoing, AreSteps, state_after, outputs_of}
 use Rattle.reg_node.specs.Nodes.{NodeState, Past, Lives}
 use Rattle.reg_node.specs.Crashes.{AreOfSteps, IsGiven}
@@ -17,6 +20,20 @@ in_dropped : {X : Type 0} (k : ℕ) (xs : List X) (x : X) → In x (drop k xs) �
 in_dropped zero xs x h = h
 in_dropped (suc k) [] x h = absurd h
 in_dropped (suc k) (y ∷ ys) x h = inr (in_dropped k ys x h)
+
+got_left : {X : Type 0} (xs ys : List X) (k : ℕ) (x : X) → slice_get xs k ≡ Some x → slice_get (xs ++ ys) k ≡ Some x
+got_left [] ys k x h = absurd (let bad : ⊥ = cc in bad)
+got_left (z ∷ xs) ys zero x h = h
+got_left (z ∷ xs) ys (suc k) x h = got_left xs ys k x h
+
+pub given_at : (start : Op → ℕ → Start) (first : State) (past : Past) (n : NodeState) (k : ℕ) (o : Outgoing) → Lives start first past n → slice_get past.given k ≡ Some o
+    → (past.opened + k < n.durable) × (slice_get (outputs_of start first past.log) (past.opened + k) ≡ Some o)
+given_at start first past n k o is h =
+    let within = slice_get_within past.given k o h in
+    let there : slice_get (drop past.opened (outputs_of start first past.log)) k ≡ Some o = subst (λ (xs : List Outgoing). slice_get xs k ≡ Some o) is.outputs (got_left past.given n.held k o h) in (
+      (let a = is.write_ahead in omega arith),
+      place_drop past.opened (outputs_of start first past.log) (past.opened + k) k o refl there,
+    )
 
 pub crash_steps : (start : Op → ℕ → Start) (first : State) (past : Past) (n : NodeState) (kept : ℕ) → Lives start first past n → AreSteps start first (take kept past.log)
 crash_steps start first past n kept is = steps_take start kept first past.log is.steps

@@ -1,13 +1,19 @@
 //! Laws of nodes. Each is a function that does nothing: its contract is the law.
-ghost use Rattle.std.specs.Prelude.{ℕ, ◌<◌, ◌≤◌, List, take};
+ghost use Rattle.std.specs.Prelude.{ℕ, ◌≡◌, ◌+◌, ◌<◌, ◌≤◌, List, Some, slice_get, take};
 ghost use Rattle.reg_base.specs.declared.memory.Op.{Op};
 ghost use Rattle.reg_front.specs.declared.starts.Start.{Start};
 ghost use Rattle.reg_process.specs.Process.{State, next_of, peer_at};
 ghost use Rattle.reg_records.specs.declared.entries.LogEntry.{LogEntry};
 ghost use Rattle.reg_node.specs.Crashes.{AreOfSteps, IsGiven};
-ghost use Rattle.reg_node.specs.Logs.{AreSteps, state_after};
+ghost use Rattle.reg_node.specs.Logs.{AreSteps, Outgoing, outputs_of, state_after};
 ghost use Rattle.reg_node.specs.Opening.{IsFirstNoStep};
 ghost use Rattle.reg_node.specs.Nodes.{Lives, NodeState, Past};
+
+/// What a node handed out since it was opened went out of the entries since then: the k-th of it of the k-th of them,
+/// which is durable.
+pub fn only_durable_goes_out()
+    ensures { (start : Op → ℕ → Start) (first : State) (past : Past) (n : NodeState) (k : ℕ) (output : Outgoing) → Lives start first past n → slice_get past.given k ≡ Some output → (past.opened + k < n.durable) × (slice_get (outputs_of start first past.log) (past.opened + k) ≡ Some output) }
+{}
 
 /// A crash leaves the first entries of a log, those that the node was told are durable and maybe more. They are steps,
 /// so a node can be opened with them. All that was handed out before the crash went out of their steps. And each body
