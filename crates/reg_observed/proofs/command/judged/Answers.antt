@@ -15,6 +15,6 @@ returns c =
       values = c.count_distinct-3.ensures.distinct;
       verdict = c.in_ok-verdict.verdict;
       judged = c.in_ok-verdict.ensures.judged;
-      says = sym c.has_points.ensures;
+      says = sym c.has_points-found.ensures;
       written = (answer_text c.in_ok-answer.answer, c.in_ok-answer.ensures, refl);
     }
