@@ -8,8 +8,14 @@ import { Run } from "../page/js/run.js";
 import { kindOf } from "../playground/js/api.js";
 
 export const TOP = dirname(dirname(fileURLToPath(import.meta.url)));
-const onPath = name => process.env.PATH.split(":").map(folder => join(folder, name)).find(existsSync);
-export const program = name => onPath(name) || join(TOP, "crates", name, "out", name);
+
+/** Where a program is. */
+export function program(name) {
+  const folders = [...process.env.PATH.split(":"), join(TOP, "crates", name, "out")];
+  const found = folders.map(folder => join(folder, name)).find(existsSync);
+  if (!found) throw new Error(`${name} isn't built: tools/install, or (cd crates/${name} && rt run)`);
+  return found;
+}
 
 /** @returns {{status: number, output: string, error: string}} */
 export function made(name, words, input) {

@@ -3,7 +3,7 @@
 import { readFileSync, readdirSync } from "node:fs";
 import { spawnSync } from "node:child_process";
 import { join } from "node:path";
-import { TOP, program } from "../tests/programs.mjs";
+import { TOP, program } from "../tools/programs.mjs";
 import { Engine } from "./js/engine.js";
 
 const WORDS = {
@@ -41,7 +41,7 @@ const isSame = (one, other) => one.status === other.status && one.stdout.equals(
   one.stderr.equals(other.stderr);
 
 /** Both refuse a workload, each by a line of its own: the module's reader of workloads has no clause. */
-const areRefused = (command, one, other) => /^(play|schedule)/.test(command) &&
+const areRefused = (text, one, other) => engine.kindOf(new Uint8Array(text)) === "workload" &&
   [one, other].every(({ status, stdout }) => status === 1 && !stdout.length);
 
 let same = 0, refused = 0, other = 0;
@@ -52,7 +52,7 @@ for (const { name, text } of texts()) {
     if (native.error) throw native.error;
     const own = told(command, text);
     if (isSame(own, native)) same++;
-    else if (areRefused(command, own, native)) refused++;
+    else if (areRefused(text, own, native)) refused++;
     else {
       other++;
       console.log(`${command} ${name}: not the same`);

@@ -69,7 +69,7 @@ export class Actions {
     const report = await this.report(), verdict = await ask("check", report.output);
     const own = this.playground.seen.kind === "report" ? "" :
       html("details", {}, html("summary", {}, "The report that it judges"), html("pre", {}, report.output));
-    showOutput("awreg check", verdictLines(verdict.output || verdict.error), own);
+    showOutput("awreg check", verdictLines(verdict), own);
   }
 
   /** Makes the play of a workload the text. */

@@ -22,8 +22,8 @@ export function showVerdict({ kind, why, refusal }, editor) {
 
 /** A report has no run: what is judged of it stands in the place of one. */
 export async function showReport(text) {
-  const { output, error } = await ask("check", text);
+  const verdict = await ask("check", text);
   byId("no-run").replaceChildren(html("h2", {}, "A report"),
     html("p", { class: "lead" }, "It has no run to step through. ", html("code", {}, "awreg check"),
-      " judges its order and its points, from this text alone:"), ...verdictLines(output || error));
+      " judges its order and its points, from this text alone:"), ...verdictLines(verdict));
 }

@@ -11,7 +11,11 @@ const ERROR_BYTES = 4096;
 const PAGE_BYTES = 65536;
 
 // The commands that play a workload: they read it in its one layout.
-const PLAYS = new Set(["play", "play-fair", "schedule", "schedule-fair"]);
+const PLAYS = new Set(["play", "play-fair", "schedule", "schedule-fair", "short", "short-fair", "outcomes",
+  "outcomes-all"]);
+
+// The commands that show the run of a schedule, and of a workload that of its play.
+const SHOWS = new Set(["data", "trace", "draw", "page", "rest"]);
 
 // What the module answers of a text's kind.
 const KINDS = ["schedule", "workload", "report"];
@@ -99,14 +103,22 @@ export class Engine {
   }
 
   /**
-   * What a command makes of a text. A workload that is played is put into its layout first.
+   * What a command makes of a text. A workload that is played is put into its layout first, and one whose run is
+   * shown is played first.
    * @param {string} command @param {Uint8Array} text
    * @returns {{status: number, output: Uint8Array, error: Uint8Array}}
    */
   run(command, text) {
-    if (!PLAYS.has(command)) return this.call(command, text);
-    const layout = this.call("layout", text);
-    return layout.status === 0 ? this.call(command, layout.output) : layout;
+    const before = this.before(command, text);
+    if (!before) return this.call(command, text);
+    const made = this.run(before, text);
+    return made.status === 0 ? this.call(command, made.output) : made;
+  }
+
+  /** The command that makes of a text what this command reads, where it doesn't read the text itself. */
+  before(command, text) {
+    if (PLAYS.has(command)) return "layout";
+    return SHOWS.has(command) && this.kindOf(text) === "workload" ? "schedule" : null;
   }
 
   call(command, text) {

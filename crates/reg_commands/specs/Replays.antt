@@ -15,7 +15,9 @@ use Rattle.reg_history.specs.Reports.{Contents, report_text}
 use Rattle.reg_world.specs.RealTime.{KeepsUpdates}
 use Rattle.reg_world.specs.World.{World, run_of, whole, world_fault}
 use Rattle.reg_process.specs.declared.events.Event.{Event}
+use Rattle.reg_world.specs.declared.faults.RunFault.{RunFault}
 use Rattle.reg_world.specs.declared.faults.WorldFault.{WorldFault}
+use Rattle.reg_world.specs.declared.faults.WorldFault.TheVariants.{OutOfMemory as NoMemory}
 use Rattle.reg_world.specs.Keys.{IsWitness, ArePoints}
 use Rattle.reg_world.specs.Worlds.{Made}
 use Rattle.reg_inputs.specs.Schedules.{Plan, IsPlan, Spells}
@@ -106,3 +108,11 @@ abbrev pub BlamesRun : (Op → ℕ → Start) → Plan → Fault → Type 0
 BlamesRun start p (EventFault at fault) = IsFirstRefused start p at fault
 BlamesRun start p OutOfMemory = Unit {0}
 BlamesRun start p fault = ⊥
+
+-- a fault of a run as that of a command
+abbrev pub fault_at : ℕ → WorldFault → Fault
+fault_at at NoMemory = OutOfMemory
+fault_at at fault = EventFault at fault
+
+abbrev pub fault_of_run : RunFault → Fault
+fault_of_run run = fault_at run.at run.fault

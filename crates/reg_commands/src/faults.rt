@@ -1,7 +1,7 @@
 //! Why a command gives no answer.
 use reg_history::ReadWhy;
 use reg_inputs::WorkloadFault;
-use reg_world::WorldFault;
+use reg_world::{RunFault, WorldFault};
 use std::fmt;
 use thiserror::Error;
 
@@ -42,6 +42,20 @@ impl fmt::Display for Fault {
             Fault::Event { at, fault } => write!(f, "event {at}: {fault}"),
             Fault::Workload { fault } => write!(f, "{fault}"),
             Fault::OutOfMemory => f.write_str("out of memory"),
+        }
+    }
+}
+
+impl From<RunFault> for Fault {
+    ghost use Rattle.std.specs.Prelude.{◌≡◌};
+    ghost use Rattle.reg_commands.specs.Replays.{fault_of_run};
+
+    ghost from_gives = { λ run fault. fault ≡ fault_of_run run };
+
+    fn from(run: RunFault) -> Fault {
+        match run.fault {
+            WorldFault::OutOfMemory => Fault::OutOfMemory,
+            fault => Fault::Event { at: run.at, fault },
         }
     }
 }

@@ -13,7 +13,7 @@ use reg_base::Names;
 use reg_front::{Front, FrontEnd, by_front};
 use reg_history::{ReadWhy, Report};
 use reg_workload::{Schedule, ScheduleFault, parse_schedule};
-use reg_world::{NamedFront, PackedWires, RunFault, WireStore, World, WorldFault};
+use reg_world::{NamedFront, PackedWires, WireStore, World};
 use std::alloc::Allocator;
 use std::io::Write;
 
@@ -64,17 +64,12 @@ pub fn run_events<F: FrontEnd, A: Allocator + Copy, W: WireStore<A>>(
         front,
         events,
     } = schedule;
-    match World::run_owned(alloc, shape, events) {
-        Ok(world) => Ok(Ran {
-            world,
-            names,
-            front,
-        }),
-        Err(RunFault { at, fault }) => match fault {
-            WorldFault::OutOfMemory => Err(Fault::OutOfMemory),
-            _ => Err(Fault::Event { at, fault }),
-        },
-    }
+    let world = World::run_owned(alloc, shape, events)?;
+    Ok(Ran {
+        world,
+        names,
+        front,
+    })
 }
 
 /// The report of a schedule's run.

@@ -1,15 +1,19 @@
 -- The data of a run, by its parts.
-use Rattle.std.proofs.Common.{◌≡◌, ℕ, List, Option}
+use Rattle.std.proofs.Common.{◌≡◌, ◌∙◌, ℕ, List, Option, ap₂, subst}
+use Rattle.reg_base.specs.Shape.{Extent}
 use Rattle.reg_base.specs.declared.memory.Op.{Op}
 use Rattle.reg_base.specs.declared.memory.OpId.{OpId}
+use Rattle.reg_front.specs.declared.named.Front.{Front}
 use Rattle.reg_front.specs.declared.starts.Start.{Start}
 use Rattle.reg_trace.specs.Figures.{arrows_of, bars_of}
 use Rattle.reg_trace.specs.Moments.{moments_of}
 use Rattle.reg_checkers.specs.declared.entries.Point.{Point}
 use Rattle.reg_data.specs.Notes.{Notes}
 use Rattle.reg_inputs.specs.Schedules.{Plan}
+use Rattle.reg_process.specs.declared.events.Event.{Event}
 use Rattle.reg_world.specs.World.{World, whole}
-use Rattle.reg_data.specs.Data.{Data, data_of}
+use Rattle.reg_world.specs.Worlds.{Made, after_events}
+use Rattle.reg_data.specs.Data.{Data, IsDataOf, data_of}
 use Rattle.reg_data.specs.Looks.{looks_of}
 
 abbrev run_of_plan : (Op → ℕ → Start) → Plan → World
@@ -32,3 +36,16 @@ data_made start p notes witness points d noted processes names front facts looks
   witness = witnessed i;
   points = pointed i;
 }
+
+-- a world is that of a plan's events
+pub same_world : (start : Op → ℕ → Start) (p : Plan) (shape : Extent) (events : List Event) (w : Made) → shape ≡ p.shape → events ≡ p.events → w ≡ after_events start shape events → w ≡ after_events start p.shape p.events
+same_world start p shape events w same_shape same_events is = is ∙ ap₂ (after_events start) same_shape same_events
+
+-- what is told of a world is told of the plan whose events it made
+pub data_told : (start : Op → ℕ → Start) (p : Plan) (given notes : Notes) (names : List (List ℕ)) (front : Front) (w : Made) (d : Data)
+    → w ≡ after_events start p.shape p.events → names ≡ p.names → front ≡ p.front → given ≡ notes
+    → IsDataOf start (record { shape = record { processes = w.processes; registers = w.registers }; names = names; front = front; events = w.accepted }) given d.points d → IsDataOf start p notes d.points d
+data_told start p given notes names front w d is named fronted noted told =
+    let same : record { shape = record { processes = w.processes; registers = w.registers }; names = names; front = front; events = w.accepted } ≡ p =
+    λ i. record { shape = record { processes = (is i).processes; registers = (is i).registers }; names = named i; front = fronted i; events = (is i).accepted } in
+    subst (λ (q : Plan). IsDataOf start q notes d.points d) same (subst (λ (n : Notes). IsDataOf start (record { shape = record { processes = w.processes; registers = w.registers }; names = names; front = front; events = w.accepted }) n d.points d) noted told)

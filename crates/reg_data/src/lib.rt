@@ -13,6 +13,7 @@ mod rows;
 mod strings;
 mod telling;
 mod text;
+mod watching;
 
 pub use data::Data;
 pub use notes::{Notes, read_notes};

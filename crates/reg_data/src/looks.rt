@@ -1,15 +1,12 @@
 //! What is told of the state of a process.
-ghost use Rattle.std.specs.Prelude.{◌≡◌, ◌<◌, ◌++◌, None, false, length, IfOk, OnOk};
-ghost use Rattle.reg_world.specs.Histories.{process_of};
-ghost use Rattle.reg_world.specs.Worlds.{new_world, refusal, run_in, with_event};
-ghost use Rattle.reg_trace.specs.Moments.{AcceptsAll};
-ghost use Rattle.reg_data.specs.Looks.{kept_of, look_behind, look_of, looks_from, looks_of, peers_of};
+ghost use Rattle.std.specs.Prelude.{◌≡◌, ◌<◌, false, length, IfOk};
+ghost use Rattle.reg_world.specs.Worlds.{run_in};
+ghost use Rattle.reg_data.specs.Looks.{kept_of, look_of, peers_of};
 
 use reg_base::{Registers, Shape};
 use reg_front::FrontEnd;
 use reg_process::{Awaited, Delivered, Known, Process};
-use reg_trace::process_of_event;
-use reg_world::{Event, World};
+use reg_world::World;
 use std::alloc::{AllocError, Allocator, Global};
 use std::marker::Model;
 
@@ -109,7 +106,7 @@ fn look_at<F: FrontEnd, A: Allocator + Copy>(
 }
 
 /// The state of a process of a world.
-fn look_in<F: FrontEnd, A: Allocator + Copy>(
+pub(crate) fn look_in<F: FrontEnd, A: Allocator + Copy>(
     alloc: A,
     world: &World<F, A>,
     process: u8,
@@ -122,61 +119,4 @@ fn look_in<F: FrontEnd, A: Allocator + Copy>(
         Some(found) => look_at(alloc, world.shape(), found, process),
         None => unreachable!(),
     }
-}
-
-/// Makes an event to which no fault applies, and tells the state of its process after it.
-fn look_behind_event<F: FrontEnd, A: Allocator + Copy>(
-    alloc: A,
-    world: &mut World<F, A>,
-    event: &Event,
-) -> Result<Look<A>, AllocError>
-    requires going { world.old.failed ≡ false }
-    requires process { process_of event.now < world.old.processes }
-    requires accepted { refusal F.start world.old event.now ≡ None }
-    ensures made { OnOk result (world.new ≡ with_event F.start world.old event.now) }
-    ensures told { IfOk result (λ l. l ≡ look_behind F.start world.old event.now) }
-{
-    let process = process_of_event(event);
-    // (since no fault applies, memory was refused)
-    if world.step(event).is_err() {
-        return Err(AllocError);
-    }
-    look_in(alloc, world, process)
-}
-
-/// Makes these events, all of which are accepted, and adds the state after each.
-fn look_behind_all<F: FrontEnd, A: Allocator + Copy>(
-    alloc: A,
-    world: &mut World<F, A>,
-    looks: &mut Vec<Look<A>, A>,
-    events: &[Event],
-) -> Result<(), AllocError>
-    requires going { world.old.failed ≡ false }
-    requires accepted { AcceptsAll F.start world.old events.now }
-    ensures { OnOk result (looks.new.items ≡ looks.old.items ++ looks_from F.start world.old events.now) }
-{
-    for event in events {
-        let look = look_behind_event(alloc, world, event)?;
-        looks.push(look)?;
-    }
-    Ok(())
-}
-
-/// The states after the events of a run that accepts them all.
-///
-/// # Errors
-///
-/// Memory is refused.
-pub fn look_behind_events<F: FrontEnd, A: Allocator + Copy>(
-    alloc: A,
-    shape: Shape,
-    events: &[Event],
-) -> Result<Vec<Look<A>, A>, AllocError>
-    requires { AcceptsAll F.start (new_world shape) events.now }
-    ensures { IfOk result (λ v. v.items ≡ looks_of F.start shape events.now) }
-{
-    let mut world = World::<F, A>::new(alloc, shape)?;
-    let mut looks = Vec::new(alloc);
-    look_behind_all(alloc, &mut world, &mut looks, events)?;
-    Ok(looks)
 }

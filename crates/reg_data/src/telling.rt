@@ -1,36 +1,42 @@
 //! What is told of a run.
-ghost use Rattle.std.specs.Prelude.{IfOk, option_map};
+ghost use Rattle.std.specs.Prelude.{◌≡◌, ◌≢◌, IfErr, IfOk, option_map, take};
+ghost use Rattle.reg_world.specs.Fronts.{HasPoints};
+ghost use Rattle.reg_world.specs.Worlds.{RunRefuses, after_events, run_in};
 ghost use Rattle.reg_inputs.specs.Schedules.{Plan};
+ghost use Rattle.reg_trace.specs.Moments.{moments_of};
 ghost use Rattle.reg_data.specs.Data.{IsDataOf};
+ghost use Rattle.reg_data.specs.Looks.{looks_of};
 
 use crate::data::Data;
-use crate::looks::look_behind_events;
 use crate::notes::Notes;
+use crate::watching::{WatchedStates, watch_states};
 use reg_base::Names;
-use reg_checkers::Point;
-use reg_front::{Front, FrontEnd};
-use reg_trace::{arrows, bars, tell_world};
-use reg_world::World;
+use reg_front::Front;
+use reg_inputs::Schedule;
+use reg_trace::{arrows, bars};
+use reg_world::{NamedFront, RunFault, WorldFault};
 use std::alloc::{AllocError, Allocator};
 
-/// All that is told of what a world did, under these names, with these notes, and with these points or none.
-///
-/// # Errors
-///
-/// Memory is refused.
-pub fn tell_data<F: FrontEnd, A: Allocator + Copy>(
+/// All that is told of a run that was watched, under these names, with these notes.
+fn data_of<F: NamedFront, A: Allocator + Copy>(
     alloc: A,
     front: Front,
     names: Names<A>,
     notes: Notes<A>,
-    world: &World<F, A>,
-    points: Option<Vec<Point, A>>,
+    watched: WatchedStates<F, A>,
 ) -> Result<Data<A>, AllocError>
-    ensures { let plan : Plan = record { shape = record { processes = world.now.processes; registers = world.now.registers }; names = names; front = front; events = world.now.accepted } in
-        IfOk result (λ d. IsDataOf F.start plan notes (option_map (λ v. v.items) points) d) }
+    requires accepted { (run_in F.start watched.world).accepted ≡ watched.world.accepted }
+    requires told { watched.moments.items ≡ moments_of F.start (record { processes = watched.world.processes; registers = watched.world.registers }) watched.world.accepted }
+    requires states { watched.looks.items ≡ looks_of F.start (record { processes = watched.world.processes; registers = watched.world.registers }) watched.world.accepted }
+    ensures data { let plan : Plan = record { shape = record { processes = watched.world.processes; registers = watched.world.registers }; names = names; front = front; events = watched.world.accepted } in
+        IfOk result (λ d. IsDataOf F.start plan notes d.points d) }
+    ensures points { IfOk result (λ d. HasPoints F.front watched.world d.points) }
 {
-    let moments = tell_world(alloc, world)?;
-    let looks = look_behind_events::<F, A>(alloc, world.shape(), world.accepted())?;
+    let WatchedStates {
+        world,
+        moments,
+        looks,
+    } = watched;
     Ok(Data {
         notes,
         processes: world.shape().processes(),
@@ -43,6 +49,37 @@ pub fn tell_data<F: FrontEnd, A: Allocator + Copy>(
         order: world.order().to_vec(alloc)?,
         reads: world.reads().to_vec(alloc)?,
         witness: world.witness()?,
-        points,
+        points: F::points_of(&world)?,
     })
+}
+
+/// Runs a schedule: all that is told of the run, with these notes. Each event is made once.
+///
+/// # Errors
+///
+/// The first event that is refused, and why. Of `OutOfMemory` no clause says where memory was refused.
+pub fn tell_data<F: NamedFront, A: Allocator + Copy>(
+    alloc: A,
+    schedule: Schedule<A>,
+    notes: Notes<A>,
+) -> Result<Data<A>, RunFault>
+    ensures data { IfOk result (λ d. IsDataOf F.start schedule notes d.points d) }
+    ensures points { IfOk result (λ d. HasPoints F.front (after_events F.start schedule.shape schedule.events) d.points) }
+    ensures refused { IfErr result (λ f. f.fault ≢ WorldFault.OutOfMemory → RunRefuses F.start schedule.shape schedule.events f.at f.fault) }
+    ensures before { IfErr result (λ f. f.fault ≢ WorldFault.OutOfMemory → (run_in F.start (after_events F.start schedule.shape (take f.at schedule.events))).accepted ≡ take f.at schedule.events) }
+{
+    let Schedule {
+        shape,
+        names,
+        front,
+        events,
+    } = schedule;
+    let watched = watch_states::<F, A>(alloc, shape, events.as_slice())?;
+    match data_of(alloc, front, names, notes, watched) {
+        Ok(data) => Ok(data),
+        Err(_) => Err(RunFault {
+            at: events.len(),
+            fault: WorldFault::OutOfMemory,
+        }),
+    }
 }

@@ -9,11 +9,11 @@ ghost use Rattle.reg_show.specs.Showings.{StopsShowing};
 
 use crate::faults::ShowFault;
 use crate::showing::Showing;
-use reg_commands::{Fault, Ran, run_events};
+use reg_commands::Fault;
 use reg_data::{Data, Notes, tell_data, write_data};
 use reg_front::by_front;
 use reg_workload::Schedule;
-use reg_world::{NamedFront, Wires};
+use reg_world::NamedFront;
 use std::alloc::Allocator;
 use std::io::Write;
 
@@ -29,18 +29,7 @@ fn data_of_run<F: NamedFront, A: Allocator + Copy>(
     ensures told { IfOk result (λ d. HasData F.start schedule notes (PointsOf F.front schedule) d) }
     ensures why { IfErr result (λ f. BlamesRun F.start schedule f) }
 {
-    let Ran {
-        world,
-        names,
-        front,
-    } = run_events::<F, A, Wires<A>>(alloc, schedule)?;
-    let Ok(points) = F::points_of(&world) else {
-        return Err(Fault::OutOfMemory);
-    };
-    match tell_data(alloc, front, names, notes, &world, points) {
-        Ok(told) => Ok(told),
-        Err(_) => Err(Fault::OutOfMemory),
-    }
+    Ok(tell_data::<F, A>(alloc, schedule, notes)?)
 }
 
 /// Runs a schedule under its front end: all that is told of the run, with these notes.

@@ -3,11 +3,11 @@ ghost use Rattle.std.specs.Prelude.{IfOk, IfErr, option_map};
 ghost use Rattle.reg_commands.specs.Replays.{start_of, BlamesRun, PointsOf};
 ghost use Rattle.reg_show.specs.ToldRuns.{IsTold};
 
-use reg_commands::{Fault, Ran, run_events};
+use reg_commands::Fault;
 use reg_front::by_front;
-use reg_trace::{TracedRun, tell_world};
+use reg_trace::{TracedRun, Watched, watch_run};
 use reg_workload::Schedule;
-use reg_world::{NamedFront, Wires};
+use reg_world::NamedFront;
 use std::alloc::Allocator;
 
 /// Runs a schedule, and tells what happened.
@@ -19,14 +19,13 @@ fn tell_run<F: NamedFront, A: Allocator + Copy>(
     ensures points { IfOk result (λ t. PointsOf F.front schedule (option_map (λ v. v.items) t.points)) }
     ensures why { IfErr result (λ f. BlamesRun F.start schedule f) }
 {
-    let Ran {
-        world,
+    let Schedule {
+        shape,
         names,
         front,
-    } = run_events::<F, A, Wires<A>>(alloc, schedule)?;
-    let Ok(moments) = tell_world(alloc, &world) else {
-        return Err(Fault::OutOfMemory);
-    };
+        events,
+    } = schedule;
+    let Watched { world, moments } = watch_run::<F, A>(alloc, shape, events.as_slice())?;
     let Ok(points) = F::points_of(&world) else {
         return Err(Fault::OutOfMemory);
     };

@@ -13,7 +13,7 @@ use Rattle.reg_process.specs.declared.events.Event.{Event}
 use Rattle.reg_process.specs.declared.events.Event.TheVariants.{Call, Take, Tick}
 use Rattle.reg_world.specs.Histories.{process_of}
 use Rattle.reg_world.specs.Nodes.{Nodes}
-use Rattle.reg_world.specs.World.{World, delivered_of, run}
+use Rattle.reg_world.specs.World.{World, delivered_of}
 use Rattle.reg_world.specs.Worlds.{Made, run_in, with_event, new_world, reply_in}
 use Rattle.reg_trace.specs.declared.moments.Delivery.{Delivery}
 use Rattle.reg_trace.specs.declared.moments.Sent.{Sent}
@@ -94,7 +94,3 @@ moments_from start w (e ∷ es) = moment_of start w e ∷ moments_from start (wi
 -- the moments of a run of these events
 abbrev pub moments_of : (Op → ℕ → Start) → Extent → List Event → List Fact
 moments_of start shape events = moments_from start (new_world shape) events
-
--- in this world these events are accepted, all of them, one after another
-abbrev pub AcceptsAll : (Op → ℕ → Start) → Made → List Event → Type 0
-AcceptsAll start w events = (run start w.processes w.registers events (run_in start w)).accepted ≡ (run_in start w).accepted ++ events

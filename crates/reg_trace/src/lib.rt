@@ -8,9 +8,11 @@ mod rooms;
 mod told;
 mod trace_text;
 mod waits;
+mod watching;
 
 pub use figures::{Arrow, Bar, End, arrows, bars, is_taken};
-pub use moments::{Delivery, Moment, Sent, process_of_event, tell_world};
+pub use moments::{Delivery, Moment, Sent, process_of_event};
 pub use rooms::{Filled, GAP};
 pub use told::TracedRun;
 pub use trace_text::{put_cast, put_frame, write_trace};
+pub use watching::{Watched, watch, watch_run};

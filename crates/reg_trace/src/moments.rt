@@ -1,19 +1,19 @@
 //! What each event of a run did.
-ghost use Rattle.std.specs.Prelude.{◌≡◌, ◌<◌, ◌++◌, ℕ, None, false, drop, length, map, take, slice_index, IfOk, OnOk};
+ghost use Rattle.std.specs.Prelude.{◌≡◌, ◌≢◌, ◌<◌, ◌++◌, ℕ, Some, false, drop, length, map, take, slice_index, IfErr, IfOk, OnOk};
 ghost use Rattle.reg_base.specs.Memory.{after, register_of};
 ghost use Rattle.reg_process.specs.Process.{peer_at};
 ghost use Rattle.reg_world.specs.Histories.{process_of};
 ghost use Rattle.reg_world.specs.World.{delivered_of};
-ghost use Rattle.reg_world.specs.Worlds.{new_world, refusal, run_in, with_event};
-ghost use Rattle.reg_trace.specs.Moments.{AcceptsAll, deliveries_of, expected_by, frame_taken, moment_of, moments_from, moments_of, out_of_turn, placed, puts_since};
+ghost use Rattle.reg_world.specs.Worlds.{Accepts, refusal, run_in};
+ghost use Rattle.reg_trace.specs.Moments.{deliveries_of, expected_by, frame_taken, moment_of, out_of_turn, placed, puts_since};
 
 use crate::waits::{Wait, waits_in};
 use reg_base::limits::MOST_PROCESSES;
-use reg_base::{Registers, Shape};
+use reg_base::Registers;
 use reg_frames::Frame;
 use reg_front::FrontEnd;
 use reg_process::{Delivered, Reply};
-use reg_world::{Event, World};
+use reg_world::{Event, World, WorldFault};
 use std::alloc::{AllocError, Allocator, Global};
 use std::marker::Model;
 
@@ -278,34 +278,52 @@ fn deliveries<A: Allocator + Copy>(
     Ok(delivered)
 }
 
-/// Makes an event to which no fault applies, and tells what it did.
-fn tell<F: FrontEnd, A: Allocator + Copy>(
+/// The casts of the one order from this place up to that, as a process with this copy delivers them.
+fn delivered_between<F: FrontEnd, A: Allocator + Copy>(
+    alloc: A,
+    world: &World<F, A>,
+    copy: Registers<A>,
+    first: u64,
+    end: u64,
+) -> Result<Vec<Delivery, A>, AllocError>
+    ensures { IfOk result (λ v. v.items ≡ deliveries_of (drop first (take end (map delivered_of (run_in F.start world.now).order))) copy) }
+{
+    let casts = casts_between(alloc, world, first, end)?;
+    deliveries(alloc, copy, casts.as_slice())
+}
+
+/// What an event of a process that is there did. Memory aside, an event is refused as the world refuses it.
+pub(crate) fn tell<F: FrontEnd, A: Allocator + Copy>(
     alloc: A,
     world: &mut World<F, A>,
     event: &Event,
-) -> Result<Moment<A>, AllocError>
+) -> Result<Moment<A>, WorldFault>
     requires going { world.old.failed ≡ false }
     requires process { process_of event.now < world.old.processes }
-    requires accepted { refusal F.start world.old event.now ≡ None }
-    ensures made { OnOk result (world.new ≡ with_event F.start world.old event.now) }
+    ensures made { OnOk result (Accepts F.start world.old event.now world.new) }
     ensures told { IfOk result (λ m. m ≡ moment_of F.start world.old event.now) }
+    ensures refused { IfErr result (λ f. f ≢ WorldFault.OutOfMemory → refusal F.start world.old event.now ≡ Some f) }
 {
     let process = process_of_event(event);
     let frame = frame_of(world, event);
     let expected = unexpected(frame, expected_of(world, event));
     let lengths = lengths(world, process);
     let before = delivered_count(world, process);
-    let copy = copy_of(alloc, world, process)?;
-    // (since no fault applies, memory was refused)
-    let Ok(reply) = world.step_reply(event) else {
-        return Err(AllocError);
+    let Ok(copy) = copy_of(alloc, world, process) else {
+        return Err(WorldFault::OutOfMemory);
     };
+    let reply = world.step_reply(event)?;
     let clock = clock_of(world, process);
     let after = delivered_count(world, process);
-    let casts = casts_between(alloc, world, before, after)?;
-    let delivered = deliveries(alloc, copy, casts.as_slice())?;
-    let sent = sent_since(alloc, world, process, &lengths)?;
-    let waits = waits_in(alloc, world, process)?;
+    let Ok(delivered) = delivered_between(alloc, world, copy, before, after) else {
+        return Err(WorldFault::OutOfMemory);
+    };
+    let Ok(sent) = sent_since(alloc, world, process, &lengths) else {
+        return Err(WorldFault::OutOfMemory);
+    };
+    let Ok(waits) = waits_in(alloc, world, process) else {
+        return Err(WorldFault::OutOfMemory);
+    };
     Ok(Moment {
         event: *event,
         process,
@@ -317,51 +335,4 @@ fn tell<F: FrontEnd, A: Allocator + Copy>(
         waits,
         sent,
     })
-}
-
-/// Makes these events, all of which are accepted, and adds what each did.
-fn tell_all<F: FrontEnd, A: Allocator + Copy>(
-    alloc: A,
-    world: &mut World<F, A>,
-    moments: &mut Vec<Moment<A>, A>,
-    events: &[Event],
-) -> Result<(), AllocError>
-    requires going { world.old.failed ≡ false }
-    requires accepted { AcceptsAll F.start world.old events.now }
-    ensures { OnOk result (moments.new.items ≡ moments.old.items ++ moments_from F.start world.old events.now) }
-{
-    for event in events {
-        let moment = tell(alloc, world, event)?;
-        moments.push(moment)?;
-    }
-    Ok(())
-}
-
-/// What each of these events does in a run that accepts them all.
-fn tell_events<F: FrontEnd, A: Allocator + Copy>(
-    alloc: A,
-    shape: Shape,
-    events: &[Event],
-) -> Result<Vec<Moment<A>, A>, AllocError>
-    requires { AcceptsAll F.start (new_world shape) events.now }
-    ensures { IfOk result (λ v. v.items ≡ moments_of F.start shape events.now) }
-{
-    let mut world = World::<F, A>::new(alloc, shape)?;
-    let mut moments = Vec::new(alloc);
-    tell_all(alloc, &mut world, &mut moments, events)?;
-    Ok(moments)
-}
-
-/// What each event of a world did.
-///
-/// # Errors
-///
-/// Memory is refused.
-pub fn tell_world<F: FrontEnd, A: Allocator + Copy>(
-    alloc: A,
-    world: &World<F, A>,
-) -> Result<Vec<Moment<A>, A>, AllocError>
-    ensures { IfOk result (λ v. v.items ≡ moments_of F.start (record { processes = world.now.processes; registers = world.now.registers }) world.now.accepted) }
-{
-    tell_events::<F, A>(alloc, world.shape(), world.accepted())
 }

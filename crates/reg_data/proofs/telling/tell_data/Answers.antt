@@ -1,25 +1,44 @@
-use Rattle.std.proofs.Common.{◌∙◌, refl, ap, ap₂, rules, option_map}
+use Rattle.std.proofs.Common.{List, ◌≡◌, ◌∙◌, ap, ap₂, refl, subst, sym}
 use Rattle.reg_base.specs.Shape.{Extent}
-use Rattle.reg_trace.specs.Figures.{arrows_of, bars_of}
+use Rattle.reg_process.specs.declared.events.Event.{Event}
 use Rattle.reg_inputs.specs.Schedules.{Plan}
+use Rattle.reg_trace.specs.Moments.{moments_of}
+use Rattle.reg_world.specs.Fronts.{HasPoints}
+use Rattle.reg_world.specs.Worlds.{Made, after_events, run_in}
 use Rattle.reg_data.specs.Looks.{looks_of}
-use Rattle.reg_data.proofs.Made.{data_made}
+use Rattle.reg_data.proofs.Made.{data_told, same_world}
 use Rattle.reg_data.proofs.telling.tell_data.Goals as goal
 
-pub returns : goal.returns
-returns g c =
+pub data_of-requires-clause-accepted : goal.data_of-requires-clause-accepted
+data_of-requires-clause-accepted g c =
+    let ran = c.in_ok-watched.ensures in
+    ap (λ (w : Made). (run_in g.F.FrontEnd.start w).accepted) ran.world ∙ (ran.accepted ∙ sym (ap (λ (w : Made). w.accepted) ran.world))
+
+pub data_of-requires-clause-told : goal.data_of-requires-clause-told
+data_of-requires-clause-told g c =
+    let ran = c.in_ok-watched.ensures in
+    ran.told ∙ sym (ap (λ (w : Made). moments_of g.F.FrontEnd.start (record { processes = w.processes; registers = w.registers }) w.accepted) ran.world)
+
+pub data_of-requires-clause-states : goal.data_of-requires-clause-states
+data_of-requires-clause-states g c =
+    let ran = c.in_ok-watched.ensures in
+    ran.states ∙ sym (ap (λ (w : Made). looks_of g.F.FrontEnd.start (record { processes = w.processes; registers = w.registers }) w.accepted) ran.world)
+
+pub returns-in-Ok-clause-data : goal.returns-in-Ok-clause-data
+returns-in-Ok-clause-data g c =
     let start = g.F.FrontEnd.start in
-    let w = c.args.world.now in
-    let shape : Extent = record { processes = w.processes; registers = w.registers } in
-    let plan : Plan = record { shape = shape; names = c.args.names; front = c.args.front; events = w.accepted } in
-    record {
-      accepted = c.accepted.ensures.all;
-      witness = c.in_ok-witness.field-0.items;
-      keyed = c.in_ok-witness.ensures.keyed;
-      same = data_made start plan c.args.notes c.in_ok-witness.field-0.items (option_map (λ v. v.items) c.args.points) _
-          c.notes.view_is (c.processes.ensures.value ∙ ap (λ (s : Extent). s.processes) c.shape-2.ensures) c.names.view_is refl c.in_ok-moments.ensures
-          (c.in_ok-looks.ensures ∙ ap₂ (looks_of start) c.shape.ensures c.accepted.ensures.value)
-          (c.in_ok-arrows.ensures ∙ ap arrows_of (c.as_slice.ensures.value ∙ c.in_ok-moments.ensures))
-          (c.in_ok-bars.ensures ∙ ap bars_of (c.entries.ensures.value ∙ c.history.ensures.entries))
-          (search rules) (search rules) refl refl;
-    }
+    let p : Plan = c.args.schedule in
+    let events : c.as_slice.result.now ≡ p.events = c.as_slice.ensures.value ∙ ap (λ (q : Plan). q.events) c.schedule.view_is in
+    let shape : c.schedule.inside.shape ≡ p.shape = ap (λ (q : Plan). q.shape) c.schedule.view_is in
+    let w = c.in_ok-watched.watched.world in
+    data_told start p _ c.args.notes _ c.schedule.inside.front w c.in-Ok.data (same_world start p c.schedule.inside.shape c.as_slice.result.now w shape events c.in_ok-watched.ensures.world)
+    (ap (λ (q : Plan). q.names) c.schedule.view_is) (ap (λ (q : Plan). q.front) c.schedule.view_is) refl c.in-Ok.ensures.data
+
+pub returns-in-Ok-clause-points : goal.returns-in-Ok-clause-points
+returns-in-Ok-clause-points g c =
+    let start = g.F.FrontEnd.start in
+    let p : Plan = c.args.schedule in
+    let events : c.as_slice.result.now ≡ p.events = c.as_slice.ensures.value ∙ ap (λ (q : Plan). q.events) c.schedule.view_is in
+    let shape : c.schedule.inside.shape ≡ p.shape = ap (λ (q : Plan). q.shape) c.schedule.view_is in
+    let w = c.in_ok-watched.watched.world in
+    subst (λ (v : Made). HasPoints g.F.NamedFront.front v c.in-Ok.data.points) (same_world start p c.schedule.inside.shape c.as_slice.result.now w shape events c.in_ok-watched.ensures.world) c.in-Ok.ensures.points
