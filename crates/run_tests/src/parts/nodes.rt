@@ -306,7 +306,7 @@ fn is_refused<F: FrontEnd, A: Allocator + Copy>(
     before: u64,
 ) -> bool {
     match step_of(node, step) {
-        Ok(_) => node.logged() == before + 1,
+        Ok(_) => node.logged().checked_sub(before) == Some(1),
         Err(fault) => {
             fault
                 == NodeFault::Refused {
