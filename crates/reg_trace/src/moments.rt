@@ -8,8 +8,8 @@ ghost use Rattle.reg_world.specs.Worlds.{Accepts, refusal, run_in};
 ghost use Rattle.reg_trace.specs.Moments.{deliveries_of, expected_by, frame_taken, moment_of, out_of_turn, placed, puts_since};
 
 use crate::waits::{Wait, waits_in};
-use reg_base::limits::MOST_PROCESSES;
 use reg_base::Registers;
+use reg_base::limits::MOST_PROCESSES;
 use reg_frames::Frame;
 use reg_front::FrontEnd;
 use reg_process::{Delivered, Reply};

@@ -20,7 +20,7 @@ watch-requires g c = ap (λ (w : Made). w.failed) c.loop-at.invariant.ran.made
 pub returns-in-Err-clause-refused : goal.returns-in-Err-clause-refused
 returns-in-Err-clause-refused g c = λ other.
     run_refuses g.F.FrontEnd.start c.args.shape c.args.events.now c.loop-at.at _ c.in-Err.fault c.loop-at.world c.loop-at.world c.loop-at-test.true c.loop-at.invariant.ran.made
-        (fault_refuses g.F.FrontEnd.start c.loop-at.world _ c.in-Err.fault other (c.in-Err.ensures.refused other))
+    (fault_refuses g.F.FrontEnd.start c.loop-at.world _ c.in-Err.fault other (c.in-Err.ensures.refused other))
 
 pub returns-in-Err-clause-accepted : goal.returns-in-Err-clause-accepted
 returns-in-Err-clause-accepted g c = λ _. c.loop-at.invariant.ran.all
