@@ -1,12 +1,12 @@
 //! Which command lines of `awshow` are taken, and how a refused one is told.
 use crate::lines::words_of;
 use reg_outcomes::OrderKind;
-use reg_show_cli::{Asked, JudgeFlags, Player, Showing, WordsFault, ask, refuse};
+use reg_show_cli::{Asked, Player, Showing, WordsFault, ask, refuse};
 use std::alloc::Global;
 use std::process::Abort;
 
 /// Each line, and what it asks for.
-const LINES: [(&str, Option<Asked<'static>>); 116] = [
+const LINES: [(&str, Option<Asked>); 101] = [
     (
         "schedule",
         Some(Asked::Schedule {
@@ -195,78 +195,7 @@ const LINES: [(&str, Option<Asked<'static>>); 116] = [
     ),
     ("why", Some(Asked::Why)),
     ("verify", Some(Asked::Verify)),
-    (
-        "judge",
-        Some(Asked::Judge {
-            flags: JudgeFlags {
-                first: None,
-                report: false,
-            },
-        }),
-    ),
-    (
-        "judge --first 5",
-        Some(Asked::Judge {
-            flags: JudgeFlags {
-                first: Some("5"),
-                report: false,
-            },
-        }),
-    ),
-    (
-        "judge --first null",
-        Some(Asked::Judge {
-            flags: JudgeFlags {
-                first: Some("null"),
-                report: false,
-            },
-        }),
-    ),
-    (
-        "judge --report",
-        Some(Asked::Judge {
-            flags: JudgeFlags {
-                first: None,
-                report: true,
-            },
-        }),
-    ),
-    (
-        "judge --first 5 --report",
-        Some(Asked::Judge {
-            flags: JudgeFlags {
-                first: Some("5"),
-                report: true,
-            },
-        }),
-    ),
-    (
-        "judge --report --first 5",
-        Some(Asked::Judge {
-            flags: JudgeFlags {
-                first: Some("5"),
-                report: true,
-            },
-        }),
-    ),
-    (
-        "judge --first --report",
-        Some(Asked::Judge {
-            flags: JudgeFlags {
-                first: Some("--report"),
-                report: false,
-            },
-        }),
-    ),
-    ("judge --first", None),
-    ("judge --first=5", None),
-    ("judge --first 5 6", None),
-    ("judge --first 5 --first 6", None),
-    ("judge --report --report", None),
-    ("judge --report --first", None),
-    ("judge --report yes", None),
-    ("judge --seed 5", None),
-    ("trace --report", None),
+    ("judge", Some(Asked::Judge)),
     ("--version", Some(Asked::Version)),
     ("help", Some(Asked::Help)),
     ("-h", Some(Asked::Help)),
@@ -310,7 +239,7 @@ const LINES: [(&str, Option<Asked<'static>>); 116] = [
 ];
 
 /// Whether the words of a line ask for this.
-fn asks(rt: &impl Abort, alloc: Global, line: &str, asked: &Option<Asked<'static>>) -> bool {
+fn asks(rt: &impl Abort, alloc: Global, line: &str, asked: &Option<Asked>) -> bool {
     let words = words_of(rt, alloc, "awshow", line);
     ask(words.as_slice()) == *asked
 }
@@ -331,6 +260,6 @@ fn is_told(alloc: Global, status: u8, line: &str) -> bool {
 #[test]
 fn a_refused_command_line_is_told_by_a_usage_line(rt: HostRuntime) {
     let usage =
-        "usage: awshow schedule [--fair | --seed S] [--short] | outcomes [--all [K] | [--plays N] [--seed S]] | find serial | find points | trace | draw | data | page | rest | why | verify | judge [--first VALUE] [--report]\n";
+        "usage: awshow schedule [--fair | --seed S] [--short] | outcomes [--all [K] | [--plays N] [--seed S]] | find serial | find points | trace | draw | data | page | rest | why | verify | judge\n";
     assert!(rt; is_told(rt.alloc(), 2, usage));
 }
