@@ -24,9 +24,9 @@ pub record IsFirstUnexplained (registers : ℕ) (h : List Entry) (place : ℕ) :
   pub none : ¬ HasPointOrder registers (take (place + 1) h)
   pub before : HasPointOrder registers (take place h)
 
--- why no point order is given: there is none, from this place on; or nothing is said
+-- why no point order is given: there is none, and none from this place on; or nothing is said
 abbrev pub IsPointsFault : ℕ → List Entry → PointsFault → Type 0
-IsPointsFault registers h (No place) = IsFirstUnexplained registers h place
+IsPointsFault registers h (No place) = (¬ HasPointOrder registers h) × IsFirstUnexplained registers h place
 IsPointsFault registers h (TooManyStages place) = Unit {0}
 IsPointsFault registers h Unchecked = Unit {0}
 IsPointsFault registers h OutOfMemory = Unit {0}

@@ -184,7 +184,8 @@ fn first_unexplained<A: Allocator + Copy>(
 ///
 /// # Errors
 ///
-/// `No`: the entries up to the answer at the place have no point order, and those before it have one.
+/// `No`: the history has no point order; nor have the entries up to the answer at the place, and those before it have
+/// one.
 /// `TooManyStages`, `Unchecked` and `OutOfMemory` say nothing of the history. That `Unchecked` never comes is tried,
 /// and not proved.
 pub fn judge_points<A: Allocator + Copy>(

@@ -1,10 +1,11 @@
 -- What was found out, and how its text was written.
 use Rattle.std.proofs.Common.{ℕ, List, Bool, Option, ◌≡◌, subst, sym}
+use Rattle.reg_observed.specs.declared.flags.JudgeFlags.{JudgeFlags}
 use Rattle.std.specs.Io.KnownBytes.{Appends}
 use Rattle.reg_observed.specs.Commands.{IsJudgedText}
 
-pub judged_as : (asked : Option (List ℕ)) (found : Bool) (P Q : List ℕ → Type 0) (text : List ℕ) → IsJudgedText asked found P text → ((answer : List ℕ) → P answer → Q answer) → IsJudgedText asked found Q text
-judged_as asked found P Q text j to = record {
+pub judged_as : (flags : JudgeFlags) (found : Bool) (P Q : List ℕ → Type 0) (text : List ℕ) → IsJudgedText flags found P text → ((answer : List ℕ) → P answer → Q answer) → IsJudgedText flags found Q text
+judged_as flags found P Q text j to = record {
   told = j.told;
   tells = j.tells;
   heard = j.heard;

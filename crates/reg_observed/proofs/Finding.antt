@@ -2,13 +2,18 @@
 use Rattle.std.proofs.Common.{ℕ, ◌≡◌, ◌+◌, ◌<◌, ◌≤◌, ◌⊎◌, inl, inr, List, [], ◌∷◌, ◌++◌, length, drop, take, get_or, slice_get, Bool, true, false, ◌||◌, Option, Some, None, codes, if◌then◌else◌, refl, ap, sym, ◌∙◌, subst, arith, append_assoc, append-nil, length-append, add-one, zero, suc}
 use Rattle.std.proofs.lemmas.Option.{same_Some}
 use Rattle.std.specs.List.{list_any, flat_map}
+use Rattle.reg_checkers.specs.declared.entries.Entry.{Entry}
+use Rattle.reg_checkers.specs.declared.entries.Entry.TheVariants.{Answered}
+use Rattle.reg_checkers.specs.History.{IsAt, event_of}
 use Rattle.reg_checkers.proofs.Pushing.{at_push}
+use Rattle.reg_judge.specs.Judging.{HasPointOrder, IsFirstUnexplained}
 use Rattle.reg_observed.specs.declared.events.Event.{Event}
 use Rattle.reg_observed.specs.declared.judging.Ruling.{Ruling}
+use Rattle.reg_observed.specs.declared.judging.Ruling.TheVariants.{Not}
 use Rattle.reg_observed.specs.declared.rows.Row.{Row}
 use Rattle.reg_observed.specs.Heard.{Extends}
 use Rattle.reg_observed.specs.Rows.{speaks_of, of_key, rows_of_key}
-use Rattle.reg_observed.specs.Verdicts.{AreRuled, IsRuled, IsUsualFirst}
+use Rattle.reg_observed.specs.Verdicts.{AreRuled, IsRuled, IsUsualFirst, RulesEntries}
 use Rattle.reg_observed.proofs.Hearing.{kept_word}
 use Rattle.reg_observed.proofs.Turning.{from_here, past_end}
 use Rattle.reg_observed.proofs.Seating.{take_all}
@@ -46,3 +51,11 @@ ruled_none processes rows rulings e = record { all = ap length e; each = λ key 
 pub usual_first : (middle values : List (List ℕ)) (events : List Event) (null zero_ first : ℕ) → slice_get middle null ≡ Some (codes "null") → Extends middle values → slice_get values zero_ ≡ Some (codes "0")
     → first ≡ (if list_any (speaks_of null) events then null else zero_) → IsUsualFirst values events first
 usual_first middle values events null zero_ first here wider at is = (null, zero_, kept_word middle values null (codes "null") wider here, at, is)
+
+-- the answer that none explains, by its event
+pub ruled_not : (registers : ℕ) (entries : List Entry) (place at : ℕ) → registers ≡ 1 → (¬ HasPointOrder registers entries) × IsFirstUnexplained registers entries place → ((e : Entry) → IsAt entries place e → at ≡ event_of e) → RulesEntries entries (Not at)
+ruled_not registers entries place at one found named =
+    let P : ℕ → Type 0 = λ n. (¬ HasPointOrder n entries) × IsFirstUnexplained n entries place in
+    let first = subst P one found in
+    let (event, id, answer, here) = first.1.answer in
+    (first.0, (place, first.1, (Answered event id answer, here, named (Answered event id answer) here)))

@@ -1,7 +1,11 @@
 -- What the command that judges a history writes. To be believed: promises speak of it.
-use Rattle.std.specs.Prelude.{ℕ, ◌≡◌, ◌++◌, ◌∷◌, [], Bool, List, codes, Option, Result, Ok, if◌then◌else◌, is_some}
+use Rattle.std.specs.Prelude.{ℕ, ◌≡◌, ◌++◌, ◌∷◌, [], Bool, true, false, List, codes, map, Option, Some, None, Result, Ok, if◌then◌else◌, is_some, option_copied, Vec}
 use Rattle.std.specs.declared.alloc.Global.{Global}
+use Rattle.reg_checkers.specs.declared.entries.Entry.{Entry}
+use Rattle.reg_checkers.specs.declared.entries.Point.{Point}
+use Rattle.reg_history.specs.Reports.{Contents, IsReport, report_text}
 use Rattle.reg_text.specs.Lines.{lines_of}
+use Rattle.reg_observed.specs.declared.flags.JudgeFlags.{JudgeFlags}
 use Rattle.reg_observed.specs.declared.heard.Heard.{Heard}
 use Rattle.reg_observed.specs.declared.judging.Verdict.{Verdict}
 use Rattle.reg_observed.specs.Told.{Telling}
@@ -17,9 +21,27 @@ word_of found = if found then codes "yes\n" else codes "no\n"
 abbrev pub Says : Bool → List ℕ → Type 0
 Says found text = (more : List ℕ) × (text ≡ word_of found ++ more)
 
--- The lines of the text tell a history, this is found out of it, and its word was written, with lines for a person.
--- `Wrote` says how a text was written.
-pub record IsJudgedText (asked : Option (List ℕ)) (found : Bool) (Wrote : List ℕ → Type 0) (text : List ℕ) : Type 0 where
+-- a report of these entries: of so many registers, with these points, whose operations are its order
+pub record IsReportOf (registers : ℕ) (entries : List Entry) (points : List Point) (r : Contents) : Type 0 where
+  pub report : IsReport r
+  pub shape : r.shape.registers ≡ registers
+  pub history : r.entries ≡ entries
+  pub order : r.order ≡ map (λ p. p.id) points
+  pub with_points : r.points ≡ Some points
+
+-- The text of a report, where one is asked for and there are points; and else one that begins with a word, with lines
+-- for a person.
+abbrev pub IsAnswerWith : {A : Type 0} → Bool → ℕ → List Entry → Option (Vec Point A) → List ℕ → Type 0
+IsAnswerWith true registers entries (Some points) text = (r : Contents) × IsReportOf registers entries points.items r × (text ≡ report_text r)
+IsAnswerWith true registers entries None text = Says false text
+IsAnswerWith false registers entries points text = Says (is_some points) text
+
+abbrev pub IsAnswer : {A : Type 0} → Bool → Verdict A → List ℕ → Type 0
+IsAnswer report v text = IsAnswerWith report v.history.shape.registers v.history.entries v.points text
+
+-- The lines of the text tell a history, this is found out of it, and the answer was written: a report or a word, as the
+-- flags ask. `Wrote` says how a text was written.
+pub record IsJudgedText (flags : JudgeFlags) (found : Bool) (Wrote : List ℕ → Type 0) (text : List ℕ) : Type 0 where
   pub told : List (ℕ × Telling)
   pub tells : lines_tell 1 (lines_of text) ≡ Ok told
   pub heard : Heard
@@ -28,6 +50,6 @@ pub record IsJudgedText (asked : Option (List ℕ)) (found : Bool) (Wrote : List
   pub keys : AreDistinct heard.words.keys
   pub values : AreDistinct heard.words.values
   pub verdict : Verdict Global
-  pub judged : IsJudged asked heard verdict
+  pub judged : IsJudged (option_copied flags.first) heard verdict
   pub says : is_some verdict.points ≡ found
-  pub written : (answer : List ℕ) × Says found answer × Wrote answer
+  pub written : (answer : List ℕ) × IsAnswer flags.report verdict answer × Wrote answer

@@ -9,7 +9,7 @@ use Rattle.serde_json.specs.Written.{compact_text}
 use Rattle.reg_observed.specs.declared.events.Moment.{Moment}
 use Rattle.reg_observed.specs.declared.events.Act.{Act}
 use Rattle.reg_observed.specs.declared.faults.Why.{Why}
-use Rattle.reg_observed.specs.declared.faults.Why.TheVariants.{Form, BadProcess, BadType, BadFunction, BadKey, BadValue, BadPair}
+use Rattle.reg_observed.specs.declared.faults.Why.TheVariants.{Form, BadProcess, BadType, BadFunction, BadKey, BadValue, BadPair, BadFirst}
 use Rattle.reg_observed.specs.Told.{Telling, is_compare_and_swap, moment_named, moment_of, act_named, with_value, ◌>>=◌}
 
 -- a string, or an integer of 64 bits
@@ -25,6 +25,14 @@ word_of why (Some d) = if is_word d then Ok (compact_text d) else Err why
 abbrev pub word_or_null_of : Why → Option Data → Result (List ℕ) Why
 word_or_null_of why None = Ok (codes "null")
 word_or_null_of why (Some d) = if is_some (as_null d) || is_word d then Ok (compact_text d) else Err why
+
+-- the text of the value that a text is, which is a word or null
+abbrev pub value_or_none : Option Data → Result (List ℕ) Why
+value_or_none None = Err BadFirst
+value_or_none (Some d) = word_or_null_of BadFirst (Some d)
+
+abbrev pub value_said : List ℕ → Result (List ℕ) Why
+value_said text = value_or_none (read text)
 
 abbrev pub word_in : List ℕ → Why → Data → Result (List ℕ) Why
 word_in name why d = word_of why (get name d)

@@ -6,5 +6,5 @@ pub mod Turns
 pub mod Rows
 pub mod Standing
 pub mod Verdicts
-pub mod Faults
 pub mod Commands
+pub mod Answers

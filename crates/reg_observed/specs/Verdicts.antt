@@ -1,14 +1,18 @@
 -- What is found out of a history. To be believed: promises speak of it.
-use Rattle.std.specs.Prelude.{ℕ, ◌≡◌, ◌⊎◌, List, length, max, slice_get, Option, Some, None, codes, if◌then◌else◌, Vec, ⊤}
+use Rattle.std.specs.Prelude.{ℕ, ◌≡◌, ◌⊎◌, List, length, max, slice_get, Option, Some, None, Result, Ok, Err, codes, if◌then◌else◌, Vec, ⊤}
 use Rattle.std.specs.List.{list_any}
 use Rattle.reg_base.specs.declared.memory.OpId.{OpId}
 use Rattle.reg_checkers.specs.declared.entries.Entry.{Entry}
 use Rattle.reg_checkers.specs.declared.entries.Point.{Point}
+use Rattle.reg_checkers.specs.History.{IsAt, event_of}
 use Rattle.reg_checkers.specs.Orders.{IsPointOrder, IsSerial}
+use Rattle.reg_judge.specs.Judging.{HasPointOrder, IsFirstUnexplained}
 use Rattle.reg_observed.specs.declared.judging.Ruling.{Ruling}
 use Rattle.reg_observed.specs.declared.judging.Ruling.TheVariants.{Linearizable, Not}
 use Rattle.reg_observed.specs.declared.judging.Verdict.{Verdict}
 use Rattle.reg_observed.specs.declared.heard.Heard.{Heard}
+use Rattle.reg_observed.specs.declared.faults.Why.{Why}
+use Rattle.reg_observed.specs.JsonLines.{value_said}
 use Rattle.reg_observed.specs.Told.{Telling}
 use Rattle.reg_observed.specs.Reading.{AreEvents}
 use Rattle.reg_observed.specs.Turns.{first_wrong, none_running}
@@ -22,18 +26,20 @@ use Rattle.reg_observed.specs.Rows.{rows_from, rows_of_key, speaks_of}
 use Rattle.reg_observed.specs.Standing.{IsStood}
 use Rattle.reg_observed.specs.declared.search.Sought.TheVariants as sought
 
-abbrev pub HasNone : ℕ → List Entry → Type 0
-HasNone registers entries = (points : List Point) → ¬ IsPointOrder registers entries points
-
--- a point order of the entries, or that there is none
+-- A point order of the entries, or that there is none, and the place of the first answer that none explains: up to it
+-- there is none, and up to the entry before there is one.
 abbrev pub IsSought : {A : Type 0} → ℕ → List Entry → Sought A → Type 0
 IsSought registers entries (sought.Points points) = IsPointOrder registers entries points.items
-IsSought registers entries (sought.None place) = HasNone registers entries
+IsSought registers entries (sought.None place) = (¬ HasPointOrder registers entries) × IsFirstUnexplained registers entries place
+
+-- the answer of this event is the first up to which the entries have no point order
+abbrev pub IsUnexplainedAt : ℕ → List Entry → ℕ → Type 0
+IsUnexplainedAt registers entries at = (place : ℕ) × IsFirstUnexplained registers entries place × ((e : Entry) × IsAt entries place e × (at ≡ event_of e))
 
 -- of entries that have a point order, and of those that have none
 abbrev pub RulesEntries : List Entry → Ruling → Type 0
-RulesEntries entries Linearizable = (points : List Point) × IsPointOrder 1 entries points
-RulesEntries entries (Not at) = HasNone 1 entries
+RulesEntries entries Linearizable = HasPointOrder 1 entries
+RulesEntries entries (Not at) = (¬ HasPointOrder 1 entries) × IsUnexplainedAt 1 entries at
 
 -- what is found out of the rows of one key, in a history of them under any names
 abbrev pub IsRuled : ℕ → List Row → Ruling → Type 0
@@ -49,9 +55,14 @@ abbrev pub IsUsualFirst : List (List ℕ) → List Event → ℕ → Type 0
 IsUsualFirst values events first =
     (null : ℕ) × (zero_ : ℕ) × (slice_get values null ≡ Some (codes "null")) × (slice_get values zero_ ≡ Some (codes "0")) × (first ≡ (if list_any (speaks_of null) events then null else zero_))
 
--- the number of the first value of registers: of this word, or else the usual one
+-- the number of a word, if there is one
+abbrev pub IsNumberOf : List (List ℕ) → Result (List ℕ) Why → ℕ → Type 0
+IsNumberOf values (Ok word) number = slice_get values number ≡ Some word
+IsNumberOf values (Err why) number = ⊥
+
+-- the number of the first value of registers: of the one that this text says, or else the usual one
 abbrev pub IsFirst : Option (List ℕ) → List (List ℕ) → List Event → ℕ → Type 0
-IsFirst (Some word) values events first = slice_get values first ≡ Some word
+IsFirst (Some text) values events first = IsNumberOf values (value_said text) first
 IsFirst None values events first = IsUsualFirst values events first
 
 -- how many registers there are for this many keys: at least one
@@ -72,7 +83,7 @@ IsSerialOf processes registers rows serial = (serial ≡ Unjudged) ⊎ ((entries
 -- a point order, or that there is none
 abbrev pub AreSought : {A : Type 0} → ℕ → List Entry → Option (Vec Point A) → Type 0
 AreSought registers entries (Some points) = IsPointOrder registers entries points.items
-AreSought registers entries None = HasNone registers entries
+AreSought registers entries None = ¬ HasPointOrder registers entries
 
 -- whether there is a serial order is found out where there is no point order, which would be one
 abbrev pub SerialStands : {A : Type 0} → ℕ → ℕ → List Row → Option (Vec Point A) → Option Serial → Type 0

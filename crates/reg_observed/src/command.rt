@@ -1,16 +1,17 @@
 //! The command that judges a history.
-ghost use Rattle.std.specs.Prelude.{◌≡◌, ◌≢◌, ◌≤◌, ◌⊎◌, IfErr, IfOk, IfSome, OnOk, is_some, length, option_copied, string_bytes, true, false};
+ghost use Rattle.std.specs.Prelude.{◌≡◌, ◌≢◌, ◌≤◌, ◌⊎◌, IfErr, IfOk, IfSome, OnOk, length, true, false};
 ghost use Rattle.std.specs.Io.KnownBytes.{Appends};
 ghost use Rattle.reg_base.specs.declared.limits.TheConstants.{LONGEST_INPUT};
-ghost use Rattle.reg_observed.specs.Commands.{IsJudgedText, Says};
+ghost use Rattle.reg_observed.specs.Answers.{answer_text};
+ghost use Rattle.reg_observed.specs.Commands.{IsJudgedText};
 ghost use Rattle.reg_observed.specs.declared.command.CommandFault.{CommandFault as AnyFault};
 
-use crate::details::details;
+use crate::answers::{Answer, answer_of, has_points, write_of};
 use crate::faults::JudgeFault;
-use crate::heard::Heard;
-use crate::judging::{Verdict, judge};
+use crate::flags::JudgeFlags;
+use crate::judging::judge;
 use crate::reading::read_json_lines;
-use reg_commands::{Fault, Refusal, read_input, write_answer};
+use reg_commands::{Fault, Refusal, read_input};
 use reg_text::write_bytes;
 use std::alloc::{AllocError, Allocator, Global};
 use std::io::{Read, Write};
@@ -44,72 +45,48 @@ impl From<JudgeFault> for CommandFault {
     }
 }
 
-/// Whether the verdict has a point order.
-fn has_points<A: Allocator + Copy>(verdict: &Verdict<A>) -> bool
-    ensures { result ≡ is_some verdict.now.points }
-{
-    verdict.points.is_some()
-}
-
-/// The text of a verdict: a first word, and then lines for a person.
-fn text_of<A: Allocator + Copy>(
-    global: Global,
-    heard: &Heard,
-    verdict: &Verdict<A>,
-) -> Result<String, AllocError>
-    ensures { IfOk result (λ s. Says (is_some verdict.now.points) (string_bytes s)) }
-{
-    let more = details(global, heard, verdict)?;
-    let mut text = if has_points(verdict) {
-        String::from_str(global, "yes\n")?
-    } else {
-        String::from_str(global, "no\n")?
-    };
-    text.push_str(more.as_str())?;
-    Ok(text)
-}
-
-/// What a text of JSON lines comes to, and the text of that.
-fn judged(global: Global, asked: Option<&str>, text: &str) -> Result<(bool, String), JudgeFault>
-    ensures { IfOk result (λ p. IsJudgedText (option_copied asked.entry) p.0 (λ answer. answer ≡ string_bytes p.1) text.now) }
+/// What a text of JSON lines comes to, and what is written of that.
+fn judged(global: Global, flags: JudgeFlags<'_>, text: &str) -> Result<(bool, Answer), JudgeFault>
+    ensures { IfOk result (λ p. IsJudgedText flags.entry p.0 (λ answer. answer ≡ answer_text p.1) text.now) }
 {
     let mut heard = read_json_lines(global, text)?;
-    let verdict = judge(global, global, &mut heard, asked)?;
+    let verdict = judge(global, global, &mut heard, flags.first)?;
     // (for the proof: that no word has two numbers)
     heard.words.processes.count_distinct();
     heard.words.keys.count_distinct();
     heard.words.values.count_distinct();
-    let answer = text_of(global, &heard, &verdict)?;
-    Ok((has_points(&verdict), answer))
+    let found = has_points(&verdict);
+    let answer = answer_of(global, &heard, verdict, flags.report)?;
+    Ok((found, answer))
 }
 
 /// Judges a text, and writes what was found out. The answer is whether there is a point order.
 fn answer<W: Write>(
     global: Global,
-    asked: Option<&str>,
+    flags: JudgeFlags<'_>,
     text: &str,
     writer: &mut W,
 ) -> Result<bool, CommandFault>
-    ensures ok { IfOk result (λ found. IsJudgedText (option_copied asked.entry) found (Appends (W.contents writer.old) (W.contents writer.new)) text.now) }
+    ensures ok { IfOk result (λ found. IsJudgedText flags.entry found (Appends (W.contents writer.old) (W.contents writer.new)) text.now) }
     ensures silent { IfErr result (λ f. f ≢ CommandFault.Command Fault.Output → writer.new ≡ writer.old) }
 {
-    let judged = judged(global, asked, text)?;
-    write_answer(writer, judged.1.as_bytes())?;
+    let judged = judged(global, flags, text)?;
+    write_of(writer, &judged.1)?;
     Ok(judged.0)
 }
 
 fn obey<R: Read, W: Write>(
     global: Global,
-    asked: Option<&str>,
+    flags: JudgeFlags<'_>,
     reader: &mut R,
     writer: &mut W,
 ) -> Result<bool, CommandFault>
-    ensures ok { IfOk result (λ found. IfSome (R.remaining reader.old) (IsJudgedText (option_copied asked.entry) found (Appends (W.contents writer.old) (W.contents writer.new)))) }
+    ensures ok { IfOk result (λ found. IfSome (R.remaining reader.old) (IsJudgedText flags.entry found (Appends (W.contents writer.old) (W.contents writer.new)))) }
     ensures within { OnOk result (IfSome (R.remaining reader.old) (λ xs. length xs ≤ LONGEST_INPUT)) }
     ensures silent { IfErr result (λ f. f ≢ CommandFault.Command Fault.Output → writer.new ≡ writer.old) }
 {
     let text = read_input(global, reader)?;
-    answer(global, asked, text.as_str(), writer)
+    answer(global, flags, text.as_str(), writer)
 }
 
 /// The line of a refused history.
@@ -136,24 +113,24 @@ fn write_refused<E: Write>(global: Global, errors: &mut E, fault: CommandFault) 
 
 /// Judges the history of JSON lines on the reader: it reads the whole input, and writes one text once all is found out.
 /// Its first line is `yes` where the history has a point order, and `no` where it has none; then come lines for a
-/// person, of which no clause speaks. `asked` is the first value of registers, as JSON has it, or None for the usual
-/// one. The answer is the status: 0 for a yes, and 1 for a no; or for a refusal, of which `errors` is told by a line
+/// person, of which no clause speaks. Where the flags ask for a report and there is a point order, the text is that
+/// report. The answer is the status: 0 for a yes, and 1 for a no; or for a refusal, of which `errors` is told by a line
 /// that begins with `refused: `, or where the writer failed, and then a first part of the text went out.
 pub fn judge_text<R: Read, W: Write, E: Write>(
     global: Global,
-    asked: Option<&str>,
+    flags: JudgeFlags<'_>,
     reader: &mut R,
     writer: &mut W,
     errors: &mut E,
 ) -> u8
     ensures range { result ≤ 1 }
     ensures within { result ≡ 0 → IfSome (R.remaining reader.old) (λ xs. length xs ≤ LONGEST_INPUT) }
-    ensures found { result ≡ 0 → IfSome (R.remaining reader.old) (IsJudgedText (option_copied asked.entry) true (Appends (W.contents writer.old) (W.contents writer.new))) }
-    ensures none { result ≡ 1 → (IfSome (R.remaining reader.old) (IsJudgedText (option_copied asked.entry) false (Appends (W.contents writer.old) (W.contents writer.new))) × (errors.new ≡ errors.old))
+    ensures found { result ≡ 0 → IfSome (R.remaining reader.old) (IsJudgedText flags.entry true (Appends (W.contents writer.old) (W.contents writer.new))) }
+    ensures none { result ≡ 1 → (IfSome (R.remaining reader.old) (IsJudgedText flags.entry false (Appends (W.contents writer.old) (W.contents writer.new))) × (errors.new ≡ errors.old))
         ⊎ ((f : AnyFault) × (f ≢ CommandFault.Command Fault.Output → writer.new ≡ writer.old)) }
     ensures quiet { result ≡ 0 → errors.new ≡ errors.old }
 {
-    match obey(global, asked, reader, writer) {
+    match obey(global, flags, reader, writer) {
         Ok(true) => 0,
         Ok(false) => 1,
         Err(fault) => {

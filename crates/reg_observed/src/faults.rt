@@ -1,5 +1,4 @@
 //! Why a history is refused.
-use reg_outcomes::InterleavingFault;
 use std::alloc::{AllocError, AllocFailed};
 use thiserror::Error;
 
@@ -27,6 +26,9 @@ pub enum Why {
     /// The value of a compare-and-swap is not two values.
     #[error("wanted value, the expected value and the new one")]
     BadPair,
+    /// The first value of registers is neither an integer of 64 bits nor a string nor null.
+    #[error("wanted an integer, a string or null, as JSON has it")]
+    BadFirst,
     /// A write, a swap or a compare-and-swap is called with no value.
     #[error("wanted value, what is written")]
     NoValue,
@@ -123,9 +125,18 @@ pub enum JudgeFault {
     /// What this line tells may not come next.
     #[error("line {line}: out of place")]
     OutOfPlace { line: u32 },
-    /// The search for an order grew too wide.
-    #[error("too many stages")]
-    TooWide,
+    /// At the event of this line the search for a point order grew too wide.
+    #[error("line {line}: too many stages in the search for a point order")]
+    TooWide { line: u32 },
+    /// The first value that was asked for is none.
+    #[error("--first: {why}")]
+    First { why: Why },
+    /// A history with its point order is beyond the limits of a report.
+    #[error("beyond the limits of a report")]
+    NoReport,
+    /// The point order that was found did not pass its check.
+    #[error("the point order that was found is none")]
+    Unchecked,
     /// There was no memory for it.
     #[error("out of memory")]
     OutOfMemory,
@@ -161,19 +172,5 @@ impl<T: Drop> From<AllocFailed<T>> for JudgeFault {
 
     fn from(_error: AllocFailed<T>) -> JudgeFault {
         JudgeFault::OutOfMemory
-    }
-}
-
-impl From<InterleavingFault> for JudgeFault {
-    ghost use Rattle.reg_observed.specs.Faults.{widened};
-    ghost use Rattle.std.specs.Prelude.{◌≡◌};
-
-    ghost from_gives = { λ fault told. told ≡ widened fault };
-
-    fn from(fault: InterleavingFault) -> JudgeFault {
-        match fault {
-            InterleavingFault::TooManyStages => JudgeFault::TooWide,
-            InterleavingFault::OutOfMemory => JudgeFault::OutOfMemory,
-        }
     }
 }

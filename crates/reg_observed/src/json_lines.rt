@@ -5,7 +5,7 @@ ghost use Rattle.serde_json.specs.Find.{as_str, get};
 ghost use Rattle.serde_json.specs.View.{items_view, view};
 ghost use Rattle.serde_json.specs.Written.{compact_text};
 ghost use Rattle.reg_observed.specs.Told.{Gives, act_named, failed_as, has_no_value, moment_named, moment_of as moment_of_line};
-ghost use Rattle.reg_observed.specs.JsonLines.{act_in, both_texts, call_in, items_pair, line_says, is_named, is_nemesis, is_word, moment_in, named_or_null, one_value, pair_of, told_in, value_pair, values_in, word_in, word_or_null_of};
+ghost use Rattle.reg_observed.specs.JsonLines.{act_in, both_texts, call_in, items_pair, line_says, is_named, is_nemesis, is_word, moment_in, named_or_null, one_value, pair_of, told_in, value_pair, value_said, values_in, word_in, word_or_null_of};
 
 use crate::events::{Act, Moment};
 use crate::faults::{Untold, Why};
@@ -79,18 +79,39 @@ fn word(global: Global, value: &Value, name: &str, why: Why) -> Result<String, U
     }
 }
 
+/// The text of a value, a string, an integer or null.
+fn value_text(global: Global, value: &Value, why: Why) -> Result<String, Untold>
+    ensures { Gives string_bytes result (word_or_null_of why (Some (view value.now))) }
+{
+    if value.is_null() || is_a_word(value) {
+        Ok(value.to_string(global)?)
+    } else {
+        Err(Untold::Line(why))
+    }
+}
+
+/// The text of the value that a text is, a string, an integer or null.
+pub(crate) fn read_value(global: Global, text: &str) -> Result<String, Untold>
+    ensures { Gives string_bytes result (value_said text.now) }
+{
+    match Value::from_str(global, text) {
+        Ok(value) => value_text(global, &value, Why::BadFirst),
+        Err(error) => {
+            if error.is_memory() {
+                Err(Untold::OutOfMemory)
+            } else {
+                Err(Untold::Line(Why::BadFirst))
+            }
+        }
+    }
+}
+
 /// The text of the member of this name, a string, an integer or null, and null where there is no such member.
 fn word_or_null(global: Global, value: &Value, name: &str, why: Why) -> Result<String, Untold>
     ensures { Gives string_bytes result (named_or_null name.now why (view value.now)) }
 {
     match value.get(name) {
-        Some(member) => {
-            if member.is_null() || is_a_word(member) {
-                Ok(member.to_string(global)?)
-            } else {
-                Err(Untold::Line(why))
-            }
-        }
+        Some(member) => value_text(global, member, why),
         None => Ok(String::from_str(global, "null")?),
     }
 }
@@ -154,23 +175,12 @@ fn told_moment(moment: Moment, act: Act, unequal: bool) -> Moment
     }
 }
 
-/// The text of an element, a string, an integer or null.
-fn element(global: Global, member: &Value) -> Result<String, Untold>
-    ensures { Gives string_bytes result (word_or_null_of Why.BadPair (Some (view member.now))) }
-{
-    if member.is_null() || is_a_word(member) {
-        Ok(member.to_string(global)?)
-    } else {
-        Err(Untold::Line(Why::BadPair))
-    }
-}
-
 /// The texts of two elements.
 fn elements(global: Global, first: &Value, second: &Value) -> Result<(String, String), Untold>
     ensures { Gives both_texts result (pair_of (view first.now) (view second.now)) }
 {
-    let expected = element(global, first)?;
-    let value = element(global, second)?;
+    let expected = value_text(global, first, Why::BadPair)?;
+    let value = value_text(global, second, Why::BadPair)?;
     Ok((expected, value))
 }
 

@@ -2,14 +2,19 @@
 //! that judges it.
 #![tactic(auto)]
 
+mod answers;
 mod command;
 mod details;
 mod events;
 mod faults;
+mod first_values;
+mod flags;
 mod heard;
 mod json_lines;
 mod judging;
+mod keys;
 mod reading;
+mod reports;
 mod rows;
 mod search;
 mod seats;
@@ -20,6 +25,7 @@ mod words;
 pub use command::{CommandFault, judge_text};
 pub use events::{Act, Event, Moment};
 pub use faults::{JudgeFault, ReadFault, Why};
+pub use flags::JudgeFlags;
 pub use heard::{Heard, Vocabulary};
 pub use judging::{Ruling, Serial, Verdict, judge};
 pub use reading::read_json_lines;

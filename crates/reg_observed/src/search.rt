@@ -1,69 +1,54 @@
-//! The search for a point order of a history, in one place.
-ghost use Rattle.std.specs.Prelude.{◌≡◌, ◌<◌, IfOk, IfErr, length};
+//! The search for a point order of a history, or for the first answer that none explains.
+ghost use Rattle.std.specs.Prelude.{IfOk};
 ghost use Rattle.reg_observed.specs.Verdicts.{IsSought};
 
-use reg_checkers::{History, HistoryFault, Point};
-use reg_outcomes::{InterleavingFault, MOST_STAGES, find_points};
-use std::alloc::Allocator;
+use reg_checkers::{History, Point};
+use reg_judge::{MOST_STAGES, PointsFault, judge_points};
+use std::alloc::{AllocError, Allocator};
 
 /// What a search for a point order came to.
 #[derive(Drop)]
 pub enum Sought<A: Allocator + Copy> {
     /// This one.
     Points(Vec<Point, A>),
-    /// There is none. The place is that of an entry by which there is none.
+    /// There is none. The place is that of the first answer up to which there is none.
     None { place: usize },
 }
 
-/// Whether the first entries of a history have a point order.
-fn begins_well<A: Allocator + Copy>(
-    alloc: A,
-    history: &History<A>,
-    count: usize,
-) -> Result<bool, InterleavingFault> {
-    let mut part = History::new(alloc, history.shape())?;
-    for place in 0..count {
-        let Some(entry) = history.entries().get(place).copied() else {
-            return Ok(true);
-        };
-        match part.push(entry) {
-            Ok(()) => {}
-            Err(HistoryFault::OutOfPlace) => return Ok(false),
-            Err(HistoryFault::OutOfMemory) => return Err(InterleavingFault::OutOfMemory),
-        }
-    }
-    Ok(find_points(alloc, &part, MOST_STAGES)?.is_some())
+/// Why a search came to nothing. It says nothing of the history.
+#[derive(Clone, Copy, Debug, PartialEq, Eq)]
+pub(crate) enum SeekFault {
+    /// At the entry of this place there were too many stages.
+    TooWide { place: usize },
+    /// What was found is no point order.
+    Unchecked,
+    /// There was no memory for it.
+    OutOfMemory,
 }
 
-/// The place of the entry by which a history without a point order has none, where the entries before it have one.
-fn place_of_none<A: Allocator + Copy>(
-    alloc: A,
-    history: &History<A>,
-) -> Result<usize, InterleavingFault> {
-    let mut good = 0;
-    let mut bad = history.entries().len();
-    while bad > good && bad - good > 1 {
-        let count = good + (bad - good) / 2;
-        if begins_well(alloc, history, count)? {
-            good = count;
-        } else {
-            bad = count;
-        }
+impl From<AllocError> for SeekFault {
+    ghost use Rattle.std.specs.Prelude.{◌≡◌};
+    ghost use Rattle.reg_observed.specs.declared.search.SeekFault.TheVariants.{OutOfMemory};
+
+    ghost from_gives = { λ _ fault. fault ≡ OutOfMemory };
+
+    fn from(_error: AllocError) -> SeekFault {
+        SeekFault::OutOfMemory
     }
-    Ok(good)
 }
 
-/// A point order of a history, or the place by which it has none.
+/// A point order of a history, or the place of the first answer that none explains.
 pub(crate) fn seek<A: Allocator + Copy>(
     alloc: A,
     history: &History<A>,
-) -> Result<Sought<A>, InterleavingFault>
+) -> Result<Sought<A>, SeekFault>
     ensures { IfOk result (IsSought history.now.shape.registers history.now.entries) }
 {
-    match find_points(alloc, history, MOST_STAGES)? {
-        Some(points) => Ok(Sought::Points(points)),
-        None => Ok(Sought::None {
-            place: place_of_none(alloc, history)?,
-        }),
+    match judge_points(alloc, history, MOST_STAGES) {
+        Ok(points) => Ok(Sought::Points(points)),
+        Err(PointsFault::No { place }) => Ok(Sought::None { place }),
+        Err(PointsFault::TooManyStages { place }) => Err(SeekFault::TooWide { place }),
+        Err(PointsFault::Unchecked) => Err(SeekFault::Unchecked),
+        Err(PointsFault::OutOfMemory) => Err(SeekFault::OutOfMemory),
     }
 }

@@ -1,6 +1,6 @@
 -- Words by their places, and what the words ask for.
 use Rattle.std.proofs.Common.{◌≡◌, inl, inr, ℕ, zero, suc, ◌+◌, ◌<◌, ◌≤◌, get_or, Bool, true, List, [], ◌∷◌, length, drop, map, Option, Some, String, string_bytes, refl, ap, sym, ◌∙◌, arith}
-use Rattle.std.specs.Prelude.{slice_get}
+use Rattle.std.specs.Prelude.{option_copied, slice_get}
 use Rattle.std.specs.Str.{bytes_eq}
 use Rattle.std.proofs.lemmas.Slice.Eq.{bytes_eq-Decides}
 use Rattle.std.proofs.lemmas.Option.{same_Some}
@@ -71,7 +71,7 @@ no_showing line trace draw told page rest Rest h = rest h
 module _ (line : List Text)
     (why : ¬ IsWhyLine line)
     (verified : ¬ IsVerifyLine line)
-    (judged : ¬ IsJudgeLine line)
+    (judged : (first : Option Text) (report : Bool) → ¬ IsJudgeLine line first report)
     (version : ¬ IsVersionLine line)
     (every : ¬ IsAllLine line)
     (help : ¬ IsHelpLine line)
@@ -91,7 +91,7 @@ module _ (line : List Text)
   asks_nothing (Find kind) h = found kind h
   asks_nothing Why h = why h
   asks_nothing Verify h = verified h
-  asks_nothing Judge h = judged h
+  asks_nothing (Judge flags) h = judged (option_copied flags.first) flags.report h
   asks_nothing Help h = help h
   asks_nothing Version h = version h
 
@@ -132,6 +132,6 @@ numbers_fit line (Outcome number) h = h.1
 numbers_fit line (Find kind) h = tt
 numbers_fit line Why h = tt
 numbers_fit line Verify h = tt
-numbers_fit line Judge h = tt
+numbers_fit line (Judge flags) h = tt
 numbers_fit line Help h = tt
 numbers_fit line Version h = tt

@@ -14,6 +14,6 @@ tells_of (Outcome number) input unwritten old new untold was is h = elim h [ inl
 tells_of (Find kind) input unwritten old new untold was is h = elim h [ inl (denies, answered, same) ↦ inl (denies, same) | inr (f, kind, blamed, silent, part, told) ↦ inr (f, kind, told) ]
 tells_of Why input unwritten old new untold was is h = elim h [ inl (denies, answered, same) ↦ inl (denies, same) | inr (f, kind, blamed, silent, part, told) ↦ inr (f, kind, told) ]
 tells_of Verify input unwritten old new untold was is h = elim h [ inl (denies, answered, same) ↦ inl (denies, same) | inr (f, kind, blamed, silent, part, told) ↦ inr (f, kind, told) ]
-tells_of Judge input unwritten old new untold was is h = tt
+tells_of (Judge flags) input unwritten old new untold was is h = tt
 tells_of Help input unwritten old new untold was is h = h
 tells_of Version input unwritten old new untold was is h = h

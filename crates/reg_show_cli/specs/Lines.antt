@@ -1,5 +1,5 @@
 -- Which words ask for what.
-use Rattle.std.specs.Prelude.{ℕ, ◌≡◌, ◌≤◌, ◌⊎◌, ⊤, List, [], ◌∷◌, ◌++◌, codes, Option, Some, None}
+use Rattle.std.specs.Prelude.{ℕ, ◌≡◌, ◌≤◌, ◌⊎◌, ⊤, Bool, true, false, List, [], ◌∷◌, ◌++◌, codes, Option, Some, None, option_copied}
 use Rattle.std.specs.Fmt.{decimal}
 use Rattle.reg_args.specs.Lines.{Text}
 use Rattle.reg_outcomes.specs.declared.plays.TheConstants.{MOST_PLAYS}
@@ -84,9 +84,23 @@ IsWhyLine line = line ≡ codes "why" ∷ []
 abbrev pub IsVerifyLine : List Text → Type 0
 IsVerifyLine line = line ≡ codes "verify" ∷ []
 
--- the words ask to judge a history
-abbrev pub IsJudgeLine : List Text → Type 0
-IsJudgeLine line = line ≡ codes "judge" ∷ []
+-- the words for a first value, where there is one
+abbrev pub first_words : Option Text → List Text
+first_words None = []
+first_words (Some value) = codes "--first" ∷ value ∷ []
+
+-- the words for a report, or for none
+abbrev pub report_words : Bool → List Text
+report_words false = []
+report_words true = codes "--report" ∷ []
+
+-- these words are those for a first value and those for a report: the one and then the other, in either order
+abbrev pub SaysJudge : List Text → Option Text → Bool → Type 0
+SaysJudge flags first report = (flags ≡ first_words first ++ report_words report) ⊎ (flags ≡ report_words report ++ first_words first)
+
+-- the words ask to judge a history, of registers with this first value where there is one, and whether for a report
+abbrev pub IsJudgeLine : List Text → Option Text → Bool → Type 0
+IsJudgeLine line first report = (flags : List Text) × (line ≡ codes "judge" ∷ flags) × SaysJudge flags first report
 
 -- the words ask for the version
 abbrev pub IsVersionLine : List Text → Type 0
@@ -134,7 +148,7 @@ IsLineOf (Outcome number) line = IsOneOutcomeLine line number
 IsLineOf (Find kind) line = IsFindLine line kind
 IsLineOf Why line = IsWhyLine line
 IsLineOf Verify line = IsVerifyLine line
-IsLineOf Judge line = IsJudgeLine line
+IsLineOf (Judge flags) line = IsJudgeLine line (option_copied flags.first) flags.report
 IsLineOf Help line = IsHelpLine line
 IsLineOf Version line = IsVersionLine line
 
@@ -149,4 +163,4 @@ NumbersFit _ = ⊤
 
 -- the line for words that ask for nothing, with its line feed
 abbrev pub refused_line : List ℕ
-refused_line = codes "usage: awshow schedule [--fair | --seed S] [--short] | outcomes [--all [K] | [--plays N] [--seed S]] | find serial | find points | trace | draw | data | page | rest | why | verify | judge" ++ 10 ∷ []
+refused_line = codes "usage: awshow schedule [--fair | --seed S] [--short] | outcomes [--all [K] | [--plays N] [--seed S]] | find serial | find points | trace | draw | data | page | rest | why | verify | judge [--first VALUE] [--report]" ++ 10 ∷ []

@@ -1,14 +1,17 @@
 //! What the words of a command line ask for.
-ghost use Rattle.std.specs.Prelude.{◌≡◌, ◌↔◌, ◌∷◌, [], ℕ, IfSome, MatchOption, None, Option, Some, map, true, slice_get, string_bytes};
-ghost use Rattle.reg_args.specs.Lines.{behind_name};
+ghost use Rattle.std.specs.Prelude.{◌≡◌, ◌↔◌, ◌∷◌, [], ℕ, Bool, IfSome, MatchOption, None, Option, Some, map, option_copied, true, slice_get, string_bytes};
+ghost use Rattle.reg_args.specs.Lines.{Text, behind_name};
 ghost use Rattle.reg_outcomes.specs.declared.kinds.OrderKind.{OrderKind as AnyKind};
 ghost use Rattle.reg_show.specs.declared.Player.{Player as AnyPlayer};
 ghost use Rattle.reg_show.specs.declared.Showing.{Showing as AnyShowing};
 ghost use Rattle.reg_show_cli.specs.declared.words.Asked.{Asked as AnyAsked};
 ghost use Rattle.reg_show_cli.specs.Lines.{IsAllLine, IsFindLine, IsHelpLine, IsHelpOfOne, IsHelpWith, IsJudgeLine, IsLineOf, IsOneOutcomeLine, IsOutcomesLine, IsScheduleLine, IsShortLine, IsVerifyLine, IsVersionLine, IsWhyLine, line_of as line_of_showing};
 
-use crate::flags::{Plays, behind, line_of, number_alone, player_said, plays_said, short_said};
+use crate::flags::{
+    Plays, behind, judging_said, line_of, number_alone, player_said, plays_said, short_said,
+};
 use crate::words::Asked;
+use reg_observed::JudgeFlags;
 use reg_outcomes::OrderKind;
 use reg_show::{Player, Showing};
 
@@ -104,6 +107,14 @@ fn plays_asked(words: &[String]) -> Option<Plays>
     plays_said(flags)
 }
 
+/// How the words ask to judge a history, and None where they ask for none of it.
+fn judging_asked(words: &[String]) -> Option<JudgeFlags<'_>>
+    ensures { MatchOption result ((first : Option Text) (report : Bool) → ¬ IsJudgeLine (behind_name words.now) first report) (λ f. IsJudgeLine (behind_name words.now) (option_copied f.first) f.report) }
+{
+    let flags = behind(line_of(words), "judge")?;
+    judging_said(flags)
+}
+
 /// What the words ask to show, and None where they ask for nothing of it.
 fn showing_asked(words: &[String]) -> Option<Showing>
     ensures { MatchOption result ((showing : AnyShowing) → ¬ (behind_name words.now ≡ line_of_showing showing)) (λ showing. behind_name words.now ≡ line_of_showing showing) }
@@ -161,11 +172,10 @@ fn asks_help(words: &[String]) -> bool
 }
 
 /// What words ask for that say no number and no player.
-fn plain_asked(words: &[String]) -> Option<Asked>
+fn plain_asked(words: &[String]) -> Option<Asked<'_>>
     ensures asked { IfSome result (λ asked. IsLineOf asked (behind_name words.now)) }
     ensures why { result ≡ None → ¬ IsWhyLine (behind_name words.now) }
     ensures verify { result ≡ None → ¬ IsVerifyLine (behind_name words.now) }
-    ensures judge { result ≡ None → ¬ IsJudgeLine (behind_name words.now) }
     ensures version { result ≡ None → ¬ IsVersionLine (behind_name words.now) }
     ensures all { result ≡ None → ¬ IsAllLine (behind_name words.now) }
     ensures help { result ≡ None → ¬ IsHelpLine (behind_name words.now) }
@@ -175,9 +185,6 @@ fn plain_asked(words: &[String]) -> Option<Asked>
     }
     if is_alone(words, "verify") {
         return Some(Asked::Verify);
-    }
-    if is_alone(words, "judge") {
-        return Some(Asked::Judge);
     }
     if is_alone(words, "--version") {
         return Some(Asked::Version);
@@ -192,11 +199,14 @@ fn plain_asked(words: &[String]) -> Option<Asked>
 }
 
 /// What the words ask for, and None where they ask for nothing. The first word is the program's name.
-pub fn ask(words: &[String]) -> Option<Asked>
+pub fn ask(words: &[String]) -> Option<Asked<'_>>
     ensures { MatchOption result ((asked : AnyAsked) → ¬ IsLineOf asked (behind_name words.now)) (λ asked. IsLineOf asked (behind_name words.now)) }
 {
     if let Some(asked) = plain_asked(words) {
         return Some(asked);
+    }
+    if let Some(flags) = judging_asked(words) {
+        return Some(Asked::Judge { flags });
     }
     if let Some(showing) = showing_asked(words) {
         return Some(Asked::Show { showing });

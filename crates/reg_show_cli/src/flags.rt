@@ -1,14 +1,15 @@
 //! The words of a command line, one after another: a word, or a flag with a number.
-ghost use Rattle.std.specs.Prelude.{◌≡◌, ◌≤◌, ◌↔◌, ◌∷◌, ◌++◌, [], ℕ, List, Option, Some, IfSome, IsSomeAnd, MatchOption, map, string_bytes, true};
+ghost use Rattle.std.specs.Prelude.{◌≡◌, ◌≤◌, ◌↔◌, ◌∷◌, ◌++◌, [], ℕ, Bool, List, Option, Some, IfSome, IsSomeAnd, MatchOption, codes, map, option_copied, string_bytes, true};
 ghost use Rattle.std.specs.Fmt.{decimal};
 ghost use Rattle.reg_args.specs.Lines.{Text};
 ghost use Rattle.reg_args.specs.Lines.{behind_name};
 ghost use Rattle.reg_show.specs.Seeds.{IsSeed};
 ghost use Rattle.reg_show.specs.declared.Player.{Player as AnyPlayer};
 ghost use Rattle.reg_show.specs.declared.Player.TheVariants.{Fair};
-ghost use Rattle.reg_show_cli.specs.Lines.{SaysPlayer, SaysPlays, SaysSeed, SaysShort, player_words, plays_words, seed_words, short_words};
+ghost use Rattle.reg_show_cli.specs.Lines.{SaysJudge, SaysPlayer, SaysPlays, SaysSeed, SaysShort, first_words, player_words, plays_words, report_words, seed_words, short_words};
 
 use reg_base::limits::LAST_SEED;
+use reg_observed::JudgeFlags;
 use reg_show::{MOST_PLAYS, Player};
 use reg_text::numeral_within;
 
@@ -135,6 +136,63 @@ pub(crate) fn short_said(flags: &[String]) -> Option<Player>
             Some(seed) => Some(Player::Seeded { seed: Some(seed) }),
             None => None,
         }
+    }
+}
+
+/// The first value that flags say, where they say no more; none where there are no flags.
+fn first_said(flags: &[String]) -> Option<Option<&str>>
+    ensures { MatchOption result ((first : Option Text) → ¬ (map string_bytes flags.now ≡ first_words first)) (λ o. map string_bytes flags.now ≡ first_words (option_copied o)) }
+{
+    if flags.is_empty() {
+        return Some(None);
+    }
+    let (value, rest) = behind(flags, "--first")?.split_first()?;
+    if rest.is_empty() {
+        Some(Some(value.as_str()))
+    } else {
+        None
+    }
+}
+
+/// The first value that flags say before `--report`.
+fn first_before_report(flags: &[String]) -> Option<&str>
+    ensures { MatchOption result ((first : Text) → ¬ (map string_bytes flags.now ≡ first_words (Some first) ++ report_words true)) (λ s. map string_bytes flags.now ≡ first_words (Some s.now) ++ report_words true) }
+{
+    let (value, rest) = behind(flags, "--first")?.split_first()?;
+    if is_word(rest, "--report") {
+        Some(value.as_str())
+    } else {
+        None
+    }
+}
+
+/// How a history is to be judged, by flags of which `--report` isn't the first.
+fn judging_by_first(flags: &[String]) -> Option<JudgeFlags<'_>>
+    requires { (rest : List Text) → ¬ (map string_bytes flags.now ≡ codes "--report" ∷ rest) }
+    ensures { MatchOption result ((first : Option Text) (report : Bool) → ¬ SaysJudge (map string_bytes flags.now) first report) (λ f. SaysJudge (map string_bytes flags.now) (option_copied f.first) f.report) }
+{
+    match first_said(flags) {
+        Some(first) => Some(JudgeFlags {
+            first,
+            report: false,
+        }),
+        None => Some(JudgeFlags {
+            first: Some(first_before_report(flags)?),
+            report: true,
+        }),
+    }
+}
+
+/// How a history is to be judged, by its flags.
+pub(crate) fn judging_said(flags: &[String]) -> Option<JudgeFlags<'_>>
+    ensures { MatchOption result ((first : Option Text) (report : Bool) → ¬ SaysJudge (map string_bytes flags.now) first report) (λ f. SaysJudge (map string_bytes flags.now) (option_copied f.first) f.report) }
+{
+    match behind(flags, "--report") {
+        Some(rest) => Some(JudgeFlags {
+            first: first_said(rest)?,
+            report: true,
+        }),
+        None => judging_by_first(flags),
     }
 }
 

@@ -10,5 +10,6 @@ pub use asking::{LAST_OUTCOME, ask};
 pub use flags::USUAL_PLAYS;
 pub use program::{refuse, run_line, run_program, run_words};
 pub use reg_args::WordsFault;
+pub use reg_observed::JudgeFlags;
 pub use reg_show::{Player, Showing};
 pub use words::Asked;

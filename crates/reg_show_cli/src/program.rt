@@ -41,15 +41,15 @@ fn print<W: Write, E: Write>(text: &str, writer: &mut W, errors: &mut E) -> u8
 /// Does what is asked for, and gives the status.
 fn obey<R: AllocGlobal, I: Read, O: Write, E: Write>(
     rt: &R,
-    asked: Asked,
+    asked: Asked<'_>,
     reader: &mut I,
     writer: &mut O,
     errors: &mut E,
 ) -> u8
     requires { NumbersFit asked }
     ensures range { result ≤ 1 }
-    ensures obeyed { result ≡ 0 → Obeys HELP.now VERSION.now asked (I.remaining reader.old) (Appends (O.contents writer.old) (O.contents writer.new)) }
-    ensures stopped { result ≡ 1 → Stops asked (I.remaining reader.old) (writer.new ≡ writer.old) (O.contents writer.old) (O.contents writer.new) (errors.new ≡ errors.old) (E.contents errors.old) (E.contents errors.new) }
+    ensures obeyed { result ≡ 0 → Obeys HELP.now VERSION.now asked.entry (I.remaining reader.old) (Appends (O.contents writer.old) (O.contents writer.new)) }
+    ensures stopped { result ≡ 1 → Stops asked.entry (I.remaining reader.old) (writer.new ≡ writer.old) (O.contents writer.old) (O.contents writer.new) (errors.new ≡ errors.old) (E.contents errors.old) (E.contents errors.new) }
     ensures quiet { result ≡ 0 → errors.new ≡ errors.old }
 {
     let alloc = rt.alloc();
@@ -114,7 +114,7 @@ fn obey<R: AllocGlobal, I: Read, O: Write, E: Write>(
         Asked::Find { kind } => run_command(FindOrder { kind }, alloc, reader, writer, errors),
         Asked::Why => run_command(Explain { global }, alloc, reader, writer, errors),
         Asked::Verify => run_command(Verify, alloc, reader, writer, errors),
-        Asked::Judge => judge_text(alloc, None, reader, writer, errors),
+        Asked::Judge { flags } => judge_text(alloc, flags, reader, writer, errors),
     }
 }
 
@@ -126,7 +126,7 @@ pub fn refuse<E: Write>(fault: WordsFault, errors: &mut E) -> u8
 {
     tell(
         fault,
-        b"usage: awshow schedule [--fair | --seed S] [--short] | outcomes [--all [K] | [--plays N] [--seed S]] | find serial | find points | trace | draw | data | page | rest | why | verify | judge\n",
+        b"usage: awshow schedule [--fair | --seed S] [--short] | outcomes [--all [K] | [--plays N] [--seed S]] | find serial | find points | trace | draw | data | page | rest | why | verify | judge [--first VALUE] [--report]\n",
         errors,
     )
 }

@@ -1,10 +1,11 @@
 //! The words of the command line.
+use reg_observed::JudgeFlags;
 use reg_outcomes::OrderKind;
 use reg_show::{Player, Showing};
 
 /// What the words ask for.
 #[derive(Clone, Copy, Debug, PartialEq, Eq)]
-pub enum Asked {
+pub enum Asked<'a> {
     /// To show something of the text on the input.
     Show { showing: Showing },
     /// To print the schedule of this player's play of the workload on the input.
@@ -24,7 +25,7 @@ pub enum Asked {
     /// To judge the record on the input.
     Verify,
     /// To judge the history of JSON lines on the input.
-    Judge,
+    Judge { flags: JudgeFlags<'a> },
     /// How the program is used.
     Help,
     /// Which version of the program this is.
@@ -56,6 +57,8 @@ usage: awshow schedule               reads a workload, prints the schedule of it
        awshow why                    reads any of the three texts, prints what is wrong with it, and where
        awshow verify                 reads a record of processes that ran apart, prints the report of their run
        awshow judge                  reads a history as JSON lines, prints whether it is linearizable, key by key
+       awshow judge --first VALUE    the same of registers that have this first value, as JSON has it
+       awshow judge --report         prints a report of the history in place of a yes, with the points that were found
        awshow help                   prints this; so do a command's word and --help
        awshow --version              prints the version
 ";

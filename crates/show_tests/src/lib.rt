@@ -1,5 +1,5 @@
 //! Tests of the words of both command lines, of what is shown of a text, of the data of a run, of what is told of a
-//! wrong text, and of records judged, over public calls.
+//! wrong text, and of records and histories judged, over public calls.
 //!
 //! They stand in a crate of their own since a crate with tests is proved twice.
 #![tactic(auto)]
@@ -8,6 +8,8 @@
 mod all_shown;
 #[cfg(test)]
 mod given;
+#[cfg(test)]
+mod histories_judged;
 #[cfg(test)]
 mod lines;
 #[cfg(test)]

@@ -1,12 +1,12 @@
 //! Which command lines of `awshow` are taken, and how a refused one is told.
 use crate::lines::words_of;
 use reg_outcomes::OrderKind;
-use reg_show_cli::{Asked, Player, Showing, WordsFault, ask, refuse};
+use reg_show_cli::{Asked, JudgeFlags, Player, Showing, WordsFault, ask, refuse};
 use std::alloc::Global;
 use std::process::Abort;
 
-/// Each line, and what it asks for.
-const LINES: [(&str, Option<Asked>); 101] = [
+/// Lines of `schedule`, and what each asks for.
+const SCHEDULES: [(&str, Option<Asked<'static>>); 27] = [
     (
         "schedule",
         Some(Asked::Schedule {
@@ -44,7 +44,6 @@ const LINES: [(&str, Option<Asked>); 101] = [
     ("schedule --fair --seed 5", None),
     ("schedule --seed 5 --fair", None),
     ("schedule --plays 5", None),
-    ("trace --seed 5", None),
     (
         "schedule --fair",
         Some(Asked::Schedule {
@@ -85,19 +84,12 @@ const LINES: [(&str, Option<Asked>); 101] = [
     ("schedule --seed --short", None),
     ("schedule --short --seed 9223372036854775808", None),
     ("schedule --fair --short --seed 5", None),
-    ("trace --short", None),
-    (
-        "trace",
-        Some(Asked::Show {
-            showing: Showing::Trace,
-        }),
-    ),
-    (
-        "draw",
-        Some(Asked::Show {
-            showing: Showing::Draw,
-        }),
-    ),
+    ("schedule schedule", None),
+    ("schedule --fair --fair", None),
+];
+
+/// Lines of `outcomes`, and what each asks for.
+const OUTCOMES: [(&str, Option<Asked<'static>>); 29] = [
     (
         "outcomes",
         Some(Asked::Outcomes {
@@ -160,6 +152,129 @@ const LINES: [(&str, Option<Asked>); 101] = [
     ("outcomes --all 4294967296", None),
     ("outcomes --all 3 3", None),
     ("outcomes --plays --all", None),
+    ("outcomes --plays", None),
+    ("outcomes --plays 0", None),
+    ("outcomes --plays 01", None),
+    ("outcomes --plays 1000001", None),
+    ("outcomes --plays=5", None),
+    ("outcomes 5", None),
+    ("outcomes --plays 5 --", None),
+    ("--plays 5 outcomes", None),
+];
+
+/// Lines of `judge`, and what each asks for.
+const JUDGED: [(&str, Option<Asked<'static>>); 17] = [
+    (
+        "judge",
+        Some(Asked::Judge {
+            flags: JudgeFlags {
+                first: None,
+                report: false,
+            },
+        }),
+    ),
+    (
+        "judge --first 5",
+        Some(Asked::Judge {
+            flags: JudgeFlags {
+                first: Some("5"),
+                report: false,
+            },
+        }),
+    ),
+    (
+        "judge --first null",
+        Some(Asked::Judge {
+            flags: JudgeFlags {
+                first: Some("null"),
+                report: false,
+            },
+        }),
+    ),
+    (
+        "judge --report",
+        Some(Asked::Judge {
+            flags: JudgeFlags {
+                first: None,
+                report: true,
+            },
+        }),
+    ),
+    (
+        "judge --first 5 --report",
+        Some(Asked::Judge {
+            flags: JudgeFlags {
+                first: Some("5"),
+                report: true,
+            },
+        }),
+    ),
+    (
+        "judge --report --first 5",
+        Some(Asked::Judge {
+            flags: JudgeFlags {
+                first: Some("5"),
+                report: true,
+            },
+        }),
+    ),
+    (
+        "judge --first --report",
+        Some(Asked::Judge {
+            flags: JudgeFlags {
+                first: Some("--report"),
+                report: false,
+            },
+        }),
+    ),
+    ("judge --first", None),
+    ("judge --first=5", None),
+    ("judge --first 5 6", None),
+    ("judge --first 5 --first 6", None),
+    ("judge --report --report", None),
+    ("judge --report --first", None),
+    ("judge --report yes", None),
+    ("judge --seed 5", None),
+    ("trace --report", None),
+    ("judge judge", None),
+];
+
+/// Lines that ask for help, or seem to, and what each asks for.
+const HELP: [(&str, Option<Asked<'static>>); 16] = [
+    ("help", Some(Asked::Help)),
+    ("-h", Some(Asked::Help)),
+    ("--help", Some(Asked::Help)),
+    ("draw --help", Some(Asked::Help)),
+    ("schedule --help", Some(Asked::Help)),
+    ("outcomes -h", Some(Asked::Help)),
+    ("find --help", Some(Asked::Help)),
+    ("why --help", Some(Asked::Help)),
+    ("verify -h", Some(Asked::Help)),
+    ("judge --help", Some(Asked::Help)),
+    ("help judge", Some(Asked::Help)),
+    ("help outcomes", Some(Asked::Help)),
+    ("help help", None),
+    ("help trace draw", None),
+    ("schedule --help --fair", None),
+    ("help trace", Some(Asked::Help)),
+];
+
+/// Lines of the other commands, and of none, and what each asks for.
+const OTHERS: [(&str, Option<Asked<'static>>); 27] = [
+    ("trace --seed 5", None),
+    ("trace --short", None),
+    (
+        "trace",
+        Some(Asked::Show {
+            showing: Showing::Trace,
+        }),
+    ),
+    (
+        "draw",
+        Some(Asked::Show {
+            showing: Showing::Draw,
+        }),
+    ),
     (
         "find serial",
         Some(Asked::Find {
@@ -195,25 +310,7 @@ const LINES: [(&str, Option<Asked>); 101] = [
     ),
     ("why", Some(Asked::Why)),
     ("verify", Some(Asked::Verify)),
-    ("judge", Some(Asked::Judge)),
     ("--version", Some(Asked::Version)),
-    ("help", Some(Asked::Help)),
-    ("-h", Some(Asked::Help)),
-    ("--help", Some(Asked::Help)),
-    ("draw --help", Some(Asked::Help)),
-    ("schedule --help", Some(Asked::Help)),
-    ("outcomes -h", Some(Asked::Help)),
-    ("find --help", Some(Asked::Help)),
-    ("why --help", Some(Asked::Help)),
-    ("verify -h", Some(Asked::Help)),
-    ("judge --help", Some(Asked::Help)),
-    ("help judge", Some(Asked::Help)),
-    ("help outcomes", Some(Asked::Help)),
-    ("help help", None),
-    ("help trace draw", None),
-    ("judge judge", None),
-    ("schedule --help --fair", None),
-    ("help trace", Some(Asked::Help)),
     ("", None),
     ("trace --", None),
     ("-- trace", None),
@@ -226,29 +323,44 @@ const LINES: [(&str, Option<Asked>); 101] = [
     ("version", None),
     ("--version --version", None),
     ("why --fair", None),
-    ("schedule schedule", None),
-    ("schedule --fair --fair", None),
-    ("outcomes --plays", None),
-    ("outcomes --plays 0", None),
-    ("outcomes --plays 01", None),
-    ("outcomes --plays 1000001", None),
-    ("outcomes --plays=5", None),
-    ("outcomes 5", None),
-    ("outcomes --plays 5 --", None),
-    ("--plays 5 outcomes", None),
 ];
 
 /// Whether the words of a line ask for this.
-fn asks(rt: &impl Abort, alloc: Global, line: &str, asked: &Option<Asked>) -> bool {
+fn asks(rt: &impl Abort, alloc: Global, line: &str, asked: &Option<Asked<'static>>) -> bool {
     let words = words_of(rt, alloc, "awshow", line);
     ask(words.as_slice()) == *asked
 }
 
-#[test]
-fn each_command_line_asks_for_what_it_says(rt: HostRuntime) {
-    for (line, asked) in &LINES {
-        assert!(rt; asks(&rt, rt.alloc(), line, asked), "{line}");
+/// Refuses a line that asks for something else than its table says.
+fn check_lines(rt: &impl Abort, alloc: Global, lines: &[(&str, Option<Asked<'static>>)]) {
+    for (line, asked) in lines {
+        assert!(rt; asks(rt, alloc, line, asked), "{line}");
     }
+}
+
+#[test]
+fn each_line_of_schedule_asks_for_what_it_says(rt: HostRuntime) {
+    check_lines(&rt, rt.alloc(), &SCHEDULES);
+}
+
+#[test]
+fn each_line_of_outcomes_asks_for_what_it_says(rt: HostRuntime) {
+    check_lines(&rt, rt.alloc(), &OUTCOMES);
+}
+
+#[test]
+fn each_line_of_judge_asks_for_what_it_says(rt: HostRuntime) {
+    check_lines(&rt, rt.alloc(), &JUDGED);
+}
+
+#[test]
+fn each_line_of_help_asks_for_what_it_says(rt: HostRuntime) {
+    check_lines(&rt, rt.alloc(), &HELP);
+}
+
+#[test]
+fn each_other_line_asks_for_what_it_says(rt: HostRuntime) {
+    check_lines(&rt, rt.alloc(), &OTHERS);
 }
 
 /// Whether a refused command line has this status and line.
@@ -260,6 +372,6 @@ fn is_told(alloc: Global, status: u8, line: &str) -> bool {
 #[test]
 fn a_refused_command_line_is_told_by_a_usage_line(rt: HostRuntime) {
     let usage =
-        "usage: awshow schedule [--fair | --seed S] [--short] | outcomes [--all [K] | [--plays N] [--seed S]] | find serial | find points | trace | draw | data | page | rest | why | verify | judge\n";
+        "usage: awshow schedule [--fair | --seed S] [--short] | outcomes [--all [K] | [--plays N] [--seed S]] | find serial | find points | trace | draw | data | page | rest | why | verify | judge [--first VALUE] [--report]\n";
     assert!(rt; is_told(rt.alloc(), 2, usage));
 }

@@ -1,5 +1,5 @@
-use Rattle.std.proofs.Common.{Bool, string_bytes, refl, subst, sym}
-use Rattle.reg_observed.specs.Commands.{Says}
+use Rattle.std.proofs.Common.{refl, sym}
+use Rattle.reg_observed.specs.Answers.{answer_text}
 use Rattle.reg_observed.proofs.command.judged.Goals as goal
 
 pub returns : goal.returns
@@ -15,6 +15,6 @@ returns c =
       values = c.count_distinct-3.ensures.distinct;
       verdict = c.in_ok-verdict.verdict;
       judged = c.in_ok-verdict.ensures.judged;
-      says = sym c.has_points.ensures;
-      written = (string_bytes c.in_ok-answer.answer, (let P : Bool → Type 0 = λ b. Says b (string_bytes c.in_ok-answer.answer) in subst P (sym c.has_points.ensures) c.in_ok-answer.ensures), refl);
+      says = sym c.has_points-found.ensures;
+      written = (answer_text c.in_ok-answer.answer, c.in_ok-answer.ensures, refl);
     }
