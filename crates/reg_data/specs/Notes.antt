@@ -42,6 +42,10 @@ notes_from above = record { title = get_or above 0 []; notes = drop 3 above }
 abbrev pub notes_of : List ℕ → Notes
 notes_of text = notes_from (notes_above (lines_of text))
 
+-- this title, and no note of any event
+abbrev pub titled : List ℕ → Notes
+titled title = record { title = title; notes = [] }
+
 -- no title, and no note of any event
 abbrev pub no_notes : Notes
-no_notes = record { title = []; notes = [] }
+no_notes = titled []

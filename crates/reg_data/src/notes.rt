@@ -2,7 +2,7 @@
 ghost use Rattle.std.specs.Prelude.{◌≡◌, [], IfOk, get_or};
 ghost use Rattle.reg_base.specs.Names.{texts};
 ghost use Rattle.reg_text.specs.Lines.{lines_of};
-ghost use Rattle.reg_data.specs.Notes.{no_notes, notes_above, notes_of};
+ghost use Rattle.reg_data.specs.Notes.{no_notes, notes_above, notes_of, titled};
 
 use crate::comments::{add_comment, comment, cut_line, is_kept};
 use std::alloc::{AllocError, Allocator, Global};
@@ -77,6 +77,21 @@ impl<A: Allocator + Copy> Notes<A> {
         Notes {
             above: Vec::new(alloc),
         }
+    }
+
+    /// This title, and no note of any event.
+    ///
+    /// # Errors
+    ///
+    /// Memory is refused.
+    pub fn titled(alloc: A, title: &str) -> Result<Notes<A>, AllocError>
+        ensures { IfOk result (λ n. n ≡ titled title.now) }
+    {
+        let mut first = String::new(alloc);
+        first.push_str(title)?;
+        let mut above = Vec::new(alloc);
+        above.push(first)?;
+        Ok(Notes { above })
     }
 
     /// The title: what the comments above the head say, or an empty text.

@@ -49,11 +49,12 @@ const LEAST: u32 = 380;
 /// The most registers that are named in the title.
 const MOST_NAMED: u16 = 8;
 
-/// The title: the front end, and the registers.
+/// The title: the front end, the registers, and what else there is to say.
 fn title_of<A: Allocator + Copy>(
     alloc: A,
     front: Front,
     names: &Names<A>,
+    more: &str,
 ) -> Result<String<A>, AllocError> {
     let mut title = String::new(alloc);
     title.push_str(front.name())?;
@@ -66,6 +67,10 @@ fn title_of<A: Allocator + Copy>(
     }
     if names.count() > usize::from(MOST_NAMED) {
         title.push_str(" ..")?;
+    }
+    if !more.is_empty() {
+        title.push_str(": ")?;
+        title.push_str(more)?;
     }
     Ok(title)
 }
@@ -135,11 +140,12 @@ fn legend_of<A: Allocator + Copy>(
     legend
 }
 
-/// What is drawn of what is told of a run.
-fn drawing_of<A: Allocator + Copy>(
+/// What is drawn of what is told of a run, with this in its title.
+fn drawing_of<'a, A: Allocator + Copy>(
     alloc: A,
-    told: &TracedRun<A>,
-) -> Result<Drawing<'_, A>, AllocError> {
+    told: &'a TracedRun<A>,
+    more: &str,
+) -> Result<Drawing<'a, A>, AllocError> {
     let moments = told.moments.as_slice();
     let bars = bars(alloc, told.history.entries())?;
     let arrows = arrows(alloc, moments)?;
@@ -148,7 +154,7 @@ fn drawing_of<A: Allocator + Copy>(
         Some(points) => points.as_slice(),
         None => &[],
     };
-    let title = title_of(alloc, told.front, &told.names)?;
+    let title = title_of(alloc, told.front, &told.names, more)?;
     let legend = legend_of(moments, &arrows, !points.is_empty());
     let least = width_of(title.len()).saturating_add(20).max(LEAST);
     let layout = lay_out(alloc, told, &bars, &labels, least)?;
@@ -165,8 +171,9 @@ fn drawing_of<A: Allocator + Copy>(
     })
 }
 
-/// Draws what is told of a run, as a space-time diagram: the text of an SVG element. With more than 30 events counts
-/// are left out. What stands inside of the element no clause says.
+/// Draws what is told of a run, as a space-time diagram: the text of an SVG element. Its title is that of the run's
+/// front end and registers, and `more`, which has to be text as XML takes it, where it isn't empty. With more than 30
+/// events counts are left out. What stands inside of the element no clause says.
 ///
 /// # Errors
 ///
@@ -174,8 +181,9 @@ fn drawing_of<A: Allocator + Copy>(
 pub fn draw_told<A: Allocator + Copy>(
     alloc: A,
     told: &TracedRun<A>,
+    more: &str,
 ) -> Result<String<A>, AllocError>
     ensures { IfOk result (λ s. IsDrawing (string_bytes s)) }
 {
-    drawing_of(alloc, told)?.text(alloc)
+    drawing_of(alloc, told, more)?.text(alloc)
 }

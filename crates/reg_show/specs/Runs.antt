@@ -1,5 +1,5 @@
 -- What is told of the run of a schedule.
-use Rattle.std.specs.Prelude.{ℕ, ◌≡◌, ◌≤◌, List, length}
+use Rattle.std.specs.Prelude.{ℕ, ◌≡◌, ◌≤◌, ◌++◌, List, length}
 use Rattle.reg_inputs.specs.Schedules.{Plan}
 use Rattle.reg_commands.specs.Replays.{start_of, run_by, BlamesRun}
 use Rattle.reg_commands.specs.declared.faults.Fault.{Fault}
@@ -7,16 +7,17 @@ use Rattle.reg_commands.specs.declared.faults.Fault.TheVariants.{Output}
 use Rattle.reg_drawing.specs.Drawings.{IsDrawing}
 use Rattle.reg_show.specs.declared.commands.TheConstants.{MOST_DRAWN}
 use Rattle.reg_trace.specs.Moments.{moments_of}
-use Rattle.reg_trace.specs.Traces.{trace_text}
+use Rattle.reg_trace.specs.Traces.{title_line, trace_text}
 
 -- all events of a plan are accepted in its run
 abbrev pub IsRunWhole : Plan → Type 0
 IsRunWhole p = (run_by (start_of p.front) p).accepted ≡ p.events
 
--- All events of a plan are accepted, and the trace of its run was written: `Wrote` says how a text was.
-pub record TellsRun (Wrote : List ℕ → Type 0) (p : Plan) : Type 0 where
+-- All events of a plan are accepted, and the trace of its run was written, below the line of this title: `Wrote` says
+-- how a text was.
+pub record TellsRun (title : List ℕ) (Wrote : List ℕ → Type 0) (p : Plan) : Type 0 where
   pub accepted : IsRunWhole p
-  pub written : Wrote (trace_text p.names (moments_of (start_of p.front) p.shape p.events))
+  pub written : Wrote (title_line title ++ trace_text p.names (moments_of (start_of p.front) p.shape p.events))
 
 -- The plan has no more events than can be drawn, all of them accepted, and some drawing was written: `Wrote` says how a
 -- text was. What it shows isn't said.

@@ -1,10 +1,10 @@
 //! The commands that show the run of a schedule: as text, and as a drawing.
-ghost use Rattle.std.specs.Prelude.{◌≡◌, ◌≢◌, ◌≤◌, IfOk, IfErr, IsErrOf, MatchResult, length};
+ghost use Rattle.std.specs.Prelude.{◌≡◌, ◌≢◌, ◌≤◌, ◌++◌, IfOk, IfErr, IsErrOf, MatchResult, length};
 ghost use Rattle.std.specs.Io.KnownBytes.{Appends};
 ghost use Rattle.reg_text.specs.Writing.{AppendsPart};
 ghost use Rattle.reg_show.specs.Runs.{DrawsRun, IsRunWhole, TellsRun};
 ghost use Rattle.reg_show.specs.Showings.{StopsShowing};
-ghost use Rattle.reg_trace.specs.Traces.{trace_text};
+ghost use Rattle.reg_trace.specs.Traces.{title_line, trace_text};
 
 use crate::faults::ShowFault;
 use crate::showing::Showing;
@@ -20,33 +20,35 @@ use std::io::Write;
 /// The most events of a run that is drawn.
 pub const MOST_DRAWN: usize = 400;
 
-/// Writes what each event did, to the last byte.
+/// Writes the line of a title, unless it is empty, and what each event did, to the last byte.
 fn send<A: Allocator + Copy, W: Write>(
     writer: &mut W,
+    title: &str,
     names: &Names<A>,
     moments: &[Moment<A>],
 ) -> Result<(), Fault>
-    ensures { MatchResult result (λ _. Appends (W.contents writer.old) (W.contents writer.new) (trace_text names.now moments.now)) (λ f. (f ≡ Fault.Output) × AppendsPart (W.contents writer.old) (W.contents writer.new) (trace_text names.now moments.now)) }
+    ensures { MatchResult result (λ _. Appends (W.contents writer.old) (W.contents writer.new) (title_line title.now ++ trace_text names.now moments.now)) (λ f. (f ≡ Fault.Output) × AppendsPart (W.contents writer.old) (W.contents writer.new) (title_line title.now ++ trace_text names.now moments.now)) }
 {
-    if write_trace(writer, names, moments).is_err() || writer.flush().is_err() {
+    if write_trace(writer, title, names, moments).is_err() || writer.flush().is_err() {
         return Err(Fault::Output);
     }
     Ok(())
 }
 
-/// Writes what happens in the run of a schedule, event by event.
+/// Writes what happens in the run of a schedule, event by event, below this title.
 pub(crate) fn trace<A: Allocator + Copy, W: Write>(
     alloc: A,
     schedule: Schedule<A>,
+    title: &str,
     writer: &mut W,
 ) -> Result<(), ShowFault>
-    ensures ok { IfOk result (λ _. TellsRun (Appends (W.contents writer.old) (W.contents writer.new)) schedule) }
+    ensures ok { IfOk result (λ _. TellsRun title.now (Appends (W.contents writer.old) (W.contents writer.new)) schedule) }
     ensures why { IfErr result (StopsShowing Showing.Trace schedule) }
     ensures silent { IfErr result (λ f. f ≢ ShowFault.Command Fault.Output → writer.new ≡ writer.old) }
-    ensures part { IsErrOf result (ShowFault.Command Fault.Output) → TellsRun (AppendsPart (W.contents writer.old) (W.contents writer.new)) schedule }
+    ensures part { IsErrOf result (ShowFault.Command Fault.Output) → TellsRun title.now (AppendsPart (W.contents writer.old) (W.contents writer.new)) schedule }
 {
     let told = tell_schedule(alloc, schedule)?;
-    send(writer, &told.names, told.moments.as_slice())?;
+    send(writer, title, &told.names, told.moments.as_slice())?;
     Ok(())
 }
 
@@ -66,10 +68,11 @@ fn told_to_draw<A: Allocator + Copy>(
     Ok(tell_schedule(alloc, schedule)?)
 }
 
-/// Writes the space-time diagram of the run of a schedule.
+/// Writes the space-time diagram of the run of a schedule, with this in its title.
 pub(crate) fn draw<A: Allocator + Copy, W: Write>(
     alloc: A,
     schedule: Schedule<A>,
+    title: &str,
     writer: &mut W,
 ) -> Result<(), ShowFault>
     ensures ok { IfOk result (λ _. DrawsRun (Appends (W.contents writer.old) (W.contents writer.new)) schedule) }
@@ -78,7 +81,7 @@ pub(crate) fn draw<A: Allocator + Copy, W: Write>(
     ensures part { IsErrOf result (ShowFault.Command Fault.Output) → DrawsRun (AppendsPart (W.contents writer.old) (W.contents writer.new)) schedule }
 {
     let told = told_to_draw(alloc, schedule)?;
-    let drawing = draw_told(alloc, &told)?;
+    let drawing = draw_told(alloc, &told, title)?;
     write_answer(writer, drawing.as_str().as_bytes())?;
     Ok(())
 }

@@ -1,26 +1,21 @@
 //! Showing the run of a schedule, and of a workload's play.
-ghost use Rattle.std.specs.Prelude.{◌≡◌, ◌≢◌, IfOk, IfErr, IfSome, IsErrOf, false};
+ghost use Rattle.std.specs.Prelude.{◌≡◌, ◌≢◌, IfOk, IfErr, IfSome, IsErrOf};
 ghost use Rattle.std.specs.Io.KnownBytes.{Appends};
 ghost use Rattle.reg_text.specs.Writing.{AppendsPart};
 ghost use Rattle.reg_inputs.specs.Schedules.{IsPlan};
 ghost use Rattle.reg_commands.specs.Plays.{Holds};
-ghost use Rattle.reg_commands.specs.Replays.{start_of};
-ghost use Rattle.reg_show.specs.Showings.{AreNotesFor, Blames, BlamesText, IsPlayOf, Shows, ShowsPlan, ShowsPlay, ShowsText, StopsPlay, StopsShowing};
+ghost use Rattle.reg_show.specs.Showings.{Blames, BlamesText, Shows, ShowsPlan, ShowsPlay, ShowsText, StopsPlay, StopsShowing, notes_for};
 
 use crate::commands::{draw, trace};
 use crate::faults::ShowFault;
+use crate::forms::{ShownPlay, play_to_show};
 use crate::paging::{Ends, write_run};
 use crate::resting::rest;
-use crate::scheduling::events_have_bits;
-use crate::showing::Showing;
-use reg_commands::{
-    Fault, Kind, TextCommand, WorkCommand, kind_of, play_by, read_schedule, read_workload,
-};
+use crate::showing::{Showing, View};
+use reg_commands::{Fault, Kind, TextCommand, kind_of, read_schedule, read_workload};
 use reg_data::{Notes, read_notes};
-use reg_front::{FrontEnd, by_front};
 use reg_page::{HEAD, TAIL};
 use reg_workload::{Schedule, Workload};
-use reg_world::PackedWires;
 use std::alloc::{AllocError, Allocator, Global};
 use std::io::Write;
 
@@ -49,8 +44,8 @@ fn show_schedule<A: Allocator + Copy, W: Write>(
     ensures part { IsErrOf result (ShowFault.Command Fault.Output) → ShowsPlan showing notes (AppendsPart (W.contents writer.old) (W.contents writer.new)) schedule }
 {
     match showing {
-        Showing::Trace => trace(alloc, schedule, writer),
-        Showing::Draw => draw(alloc, schedule, writer),
+        Showing::Trace => trace(alloc, schedule, notes.title(), writer),
+        Showing::Draw => draw(alloc, schedule, notes.title(), writer),
         Showing::Data => write_run(alloc, schedule, notes, LINE, writer),
         Showing::Page => write_run(alloc, schedule, notes, PAGE, writer),
         Showing::Rest => rest(alloc, schedule, writer),
@@ -63,7 +58,7 @@ fn notes_to_show<A: Allocator + Copy>(
     showing: Showing,
     text: &str,
 ) -> Result<Notes<A>, AllocError>
-    ensures { IfOk result (AreNotesFor showing text.now) }
+    ensures { IfOk result (λ n. n ≡ notes_for showing text.now) }
 {
     match showing {
         Showing::Data | Showing::Page => read_notes(alloc, text),
@@ -93,73 +88,20 @@ pub fn show_run<A: Allocator + Copy, W: Write>(
     show_schedule(alloc, showing, schedule, notes, writer)
 }
 
-/// The schedule of a workload's seeded play.
-fn schedule_of<F: FrontEnd, A: Allocator + Copy>(
-    alloc: A,
-    work: Workload<A>,
-) -> Result<Schedule<A>, AllocError>
-    ensures { IfOk result (λ s. IsPlayOf F.start work s) }
-{
-    let play = play_by::<F, A, PackedWires<A>>(alloc, &work, false)?;
-    events_have_bits(play.world.accepted());
-    let events = play.world.accepted().to_vec(alloc)?;
-    let Workload {
-        shape,
-        names,
-        front,
-        ..
-    } = work;
-    Ok(Schedule {
-        shape,
-        names,
-        front,
-        events,
-    })
-}
-
-/// The schedule of a workload's seeded play, under its front end.
-fn schedule_of_play<A: Allocator + Copy>(
-    alloc: A,
-    work: Workload<A>,
-) -> Result<Schedule<A>, AllocError>
-    ensures { IfOk result (λ s. IsPlayOf (start_of work.front) work s) }
-{
-    by_front!(work.front, schedule_of::<_, A>(alloc, work))
-}
-
 /// Shows the run of a workload's seeded play.
 fn show_play<A: Allocator + Copy, W: Write>(
     alloc: A,
-    showing: Showing,
+    view: View,
     work: Workload<A>,
     writer: &mut W,
 ) -> Result<(), ShowFault>
-    ensures ok { IfOk result (λ _. ShowsPlay showing (Appends (W.contents writer.old) (W.contents writer.new)) work) }
-    ensures why { IfErr result (StopsPlay showing work) }
+    ensures ok { IfOk result (λ _. ShowsPlay view (Appends (W.contents writer.old) (W.contents writer.new)) work) }
+    ensures why { IfErr result (StopsPlay view work) }
     ensures silent { IfErr result (λ f. f ≢ ShowFault.Command Fault.Output → writer.new ≡ writer.old) }
-    ensures part { IsErrOf result (ShowFault.Command Fault.Output) → ShowsPlay showing (AppendsPart (W.contents writer.old) (W.contents writer.new)) work }
+    ensures part { IsErrOf result (ShowFault.Command Fault.Output) → ShowsPlay view (AppendsPart (W.contents writer.old) (W.contents writer.new)) work }
 {
-    let schedule = schedule_of_play(alloc, work)?;
-    show_schedule(alloc, showing, schedule, Notes::none(alloc), writer)
-}
-
-impl WorkCommand for Showing {
-    ghost use Rattle.reg_show.specs.Showings.{ShowsPlay, StopsPlay};
-
-    type Fault = ShowFault;
-
-    ghost IsShown = { ShowsPlay };
-
-    ghost IsStopped = { λ it fault work. StopsPlay it work fault };
-
-    fn show<A: Allocator + Copy, W: Write>(
-        self,
-        alloc: A,
-        work: Workload<A>,
-        writer: &mut W,
-    ) -> Result<(), ShowFault> {
-        show_play(alloc, self, work, writer)
-    }
+    let ShownPlay { schedule, notes } = play_to_show(alloc, view.form, work)?;
+    show_schedule(alloc, view.showing, schedule, notes, writer)
 }
 
 /// The workload that a document says, None of any other text.
@@ -184,18 +126,18 @@ fn workload_of<A: Allocator + Copy>(
 fn show_either<A: Allocator + Copy, W: Write>(
     alloc: A,
     global: Global,
-    showing: Showing,
+    view: View,
     text: &str,
     writer: &mut W,
 ) -> Result<(), ShowFault>
-    ensures ok { IfOk result (λ _. Shows showing (Appends (W.contents writer.old) (W.contents writer.new)) text.now) }
-    ensures why { IfErr result (λ f. Blames showing f text.now) }
+    ensures ok { IfOk result (λ _. Shows view (Appends (W.contents writer.old) (W.contents writer.new)) text.now) }
+    ensures why { IfErr result (λ f. Blames view f text.now) }
     ensures silent { IfErr result (λ f. f ≢ ShowFault.Command Fault.Output → writer.new ≡ writer.old) }
-    ensures part { IsErrOf result (ShowFault.Command Fault.Output) → Shows showing (AppendsPart (W.contents writer.old) (W.contents writer.new)) text.now }
+    ensures part { IsErrOf result (ShowFault.Command Fault.Output) → Shows view (AppendsPart (W.contents writer.old) (W.contents writer.new)) text.now }
 {
     match workload_of(alloc, global, text)? {
-        Some(work) => show_play(alloc, showing, work, writer),
-        None => show_run(alloc, showing, text, writer),
+        Some(work) => show_play(alloc, view, work, writer),
+        None => show_run(alloc, view.showing, text, writer),
     }
 }
 
@@ -204,7 +146,7 @@ fn show_either<A: Allocator + Copy, W: Write>(
 /// heap, where `toml` keeps it.
 #[derive(Clone, Copy, Debug)]
 pub struct ShowEither {
-    pub showing: Showing,
+    pub view: View,
     pub global: Global,
 }
 
@@ -216,9 +158,9 @@ impl TextCommand for ShowEither {
 
     type Fault = ShowFault;
 
-    ghost IsAnswer = { λ it _. Shows it.showing };
+    ghost IsAnswer = { λ it _. Shows it.view };
 
-    ghost IsBlamed = { λ it. Blames it.showing };
+    ghost IsBlamed = { λ it. Blames it.view };
 
     fn answer<A: Allocator + Copy, W: Write>(
         self,
@@ -226,7 +168,7 @@ impl TextCommand for ShowEither {
         text: String<A>,
         writer: &mut W,
     ) -> Result<bool, ShowFault> {
-        match show_either(alloc, self.global, self.showing, text.as_str(), writer) {
+        match show_either(alloc, self.global, self.view, text.as_str(), writer) {
             Ok(()) => Ok(true),
             Err(fault) => Err(fault),
         }

@@ -41,7 +41,7 @@ fn short_form<F: FrontEnd, A: Allocator + Copy>(
 }
 
 /// The events of the short form of a workload's play.
-fn short_play<F: FrontEnd, A: Allocator + Copy>(
+pub(crate) fn short_play<F: FrontEnd, A: Allocator + Copy>(
     alloc: A,
     work: &Workload<A>,
     fair: bool,

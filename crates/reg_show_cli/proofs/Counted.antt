@@ -1,5 +1,5 @@
 -- Words by their places, and what the words ask for.
-use Rattle.std.proofs.Common.{◌≡◌, inl, inr, ℕ, zero, suc, ◌+◌, ◌<◌, ◌≤◌, get_or, Bool, true, List, [], ◌∷◌, length, drop, map, Option, Some, String, string_bytes, refl, ap, sym, ◌∙◌, arith}
+use Rattle.std.proofs.Common.{◌≡◌, inl, inr, ℕ, zero, suc, ◌+◌, ◌<◌, ◌≤◌, get_or, Bool, true, false, List, [], ◌∷◌, length, drop, map, Option, Some, String, string_bytes, refl, ap, sym, ◌∙◌, arith}
 use Rattle.std.specs.Prelude.{option_copied, slice_get}
 use Rattle.std.specs.Str.{bytes_eq}
 use Rattle.std.proofs.lemmas.Slice.Eq.{bytes_eq-Decides}
@@ -7,13 +7,14 @@ use Rattle.std.proofs.lemmas.Option.{same_Some}
 use Rattle.reg_args.specs.Lines.{Text}
 use Rattle.reg_outcomes.specs.declared.plays.TheConstants.{MOST_PLAYS}
 use Rattle.reg_show_cli.specs.declared.words.Asked.{Asked}
-use Rattle.reg_show_cli.specs.declared.words.Asked.TheVariants.{AllOutcomes, Find, Help, Judge, Outcome, Outcomes, Schedule, ShortSchedule, Show, Verify, Version, Why}
+use Rattle.reg_show_cli.specs.declared.words.Asked.TheVariants.{AllOutcomes, Find, Help, Judge, Outcome, Outcomes, Schedule, ShortSchedule, Show, Text as OfText, Verify, Version, Why}
 use Rattle.reg_outcomes.specs.declared.kinds.OrderKind.{OrderKind}
 use Rattle.reg_outcomes.specs.declared.kinds.OrderKind.TheVariants.{Serial, Points}
 use Rattle.reg_show.specs.declared.Player.{Player}
-use Rattle.reg_show_cli.specs.Lines.{IsAllLine, IsFindLine, IsHelpLine, IsJudgeLine, IsLineOf, IsOneOutcomeLine, IsOutcomesLine, IsScheduleLine, IsShortLine, IsVerifyLine, IsVersionLine, IsWhyLine, NumbersFit, SaysPlays, line_of}
-use Rattle.reg_show.specs.declared.Showing.{Showing}
-use Rattle.reg_show.specs.declared.Showing.TheVariants.{Data, Draw, Page, Rest, Trace}
+use Rattle.reg_show_cli.specs.Lines.{IsAllLine, IsFindLine, IsHelpLine, IsJudgeLine, IsLineOf, IsOneOutcomeLine, IsOutcomesLine, IsScheduleLine, IsShortLine, IsShowLine, IsVerifyLine, IsVersionLine, IsWhyLine, NumbersFit, SaysPlays, text_line}
+use Rattle.reg_show.specs.declared.showing.View.{View}
+use Rattle.reg_commands.specs.declared.command.Command.{Command}
+use Rattle.reg_commands.specs.declared.command.Command.TheVariants.{Check, Play, Replay}
 
 -- the bytes of the word at a place
 pub bytes_at : {A : Type 0} (words : List (String A)) (place : ℕ) (x : String A) → place < length words → x ≡ get_or words place x → slice_get (map string_bytes words) place ≡ Some (string_bytes x)
@@ -59,13 +60,12 @@ long_as [] line x rest e f = absurd (none (e ∙ f))
     none g = absurd cc
 long_as (a ∷ ws) line x rest e f = let n = ap length e in omega (arith, n)
 
--- no such line asks to show anything
-pub no_showing : (line : List Text) → ¬ (line ≡ line_of Trace) → ¬ (line ≡ line_of Draw) → ¬ (line ≡ line_of Data) → ¬ (line ≡ line_of Page) → ¬ (line ≡ line_of Rest) → (showing : Showing) → ¬ (line ≡ line_of showing)
-no_showing line trace draw told page rest Trace h = trace h
-no_showing line trace draw told page rest Draw h = draw h
-no_showing line trace draw told page rest Data h = told h
-no_showing line trace draw told page rest Page h = page h
-no_showing line trace draw told page rest Rest h = rest h
+-- no such line asks for a command of awreg
+pub no_text : (line : List Text) → ¬ (line ≡ text_line Replay) → ¬ (line ≡ text_line Check) → ¬ (line ≡ text_line (Play false)) → ¬ (line ≡ text_line (Play true)) → (command : Command) → ¬ (line ≡ text_line command)
+no_text line replay check play fair Replay h = replay h
+no_text line replay check play fair Check h = check h
+no_text line replay check play fair (Play false) h = play h
+no_text line replay check play fair (Play true) h = fair h
 
 -- words that ask for none of these ask for nothing
 module _ (line : List Text)
@@ -75,14 +75,16 @@ module _ (line : List Text)
     (version : ¬ IsVersionLine line)
     (every : ¬ IsAllLine line)
     (help : ¬ IsHelpLine line)
-    (shown : (showing : Showing) → ¬ (line ≡ line_of showing))
+    (texts : (command : Command) → ¬ (line ≡ text_line command))
+    (shown : (view : View) → ¬ IsShowLine line view)
     (one : (number : ℕ) → ¬ IsOneOutcomeLine line number)
     (found : (kind : OrderKind) → ¬ IsFindLine line kind)
     (scheduled : (player : Player) → ¬ IsScheduleLine line player)
     (shortened : (player : Player) → ¬ IsShortLine line player)
     (counted : (plays : ℕ) (seed : Option ℕ) → ¬ IsOutcomesLine line plays seed) where
   pub asks_nothing : (asked : Asked) → ¬ IsLineOf asked line
-  asks_nothing (Show showing) h = shown showing h
+  asks_nothing (OfText command) h = texts command h
+  asks_nothing (Show view) h = shown view h
   asks_nothing (Schedule player) h = scheduled player h
   asks_nothing (ShortSchedule player) h = shortened player h
   asks_nothing (Outcomes plays seed) h = counted plays seed h
@@ -123,7 +125,8 @@ few_plays flags plays seed (inr (some, few, e)) = few
 
 -- the numbers of what is asked for fit
 pub numbers_fit : (line : List Text) (asked : Asked) → IsLineOf asked line → NumbersFit asked
-numbers_fit line (Show showing) h = tt
+numbers_fit line (OfText command) h = tt
+numbers_fit line (Show view) h = tt
 numbers_fit line (Schedule player) h = h.1
 numbers_fit line (ShortSchedule player) h = h.2.1
 numbers_fit line (Outcomes plays seed) h = (few_plays h.0 plays seed h.2, h.3)

@@ -3,6 +3,11 @@ use Rattle.std.specs.Prelude.{ℕ, ◌≡◌, ◌≤◌, ◌⊎◌, ⊤, Bool, t
 use Rattle.std.specs.Fmt.{decimal}
 use Rattle.reg_args.specs.Lines.{Text}
 use Rattle.reg_outcomes.specs.declared.plays.TheConstants.{MOST_PLAYS}
+use Rattle.reg_commands.specs.declared.command.Command.{Command}
+use Rattle.reg_commands.specs.declared.command.Command.TheVariants.{Check, Play, Replay}
+use Rattle.reg_show.specs.declared.showing.Form.{Form}
+use Rattle.reg_show.specs.declared.showing.Form.TheVariants.{Short, Whole}
+use Rattle.reg_show.specs.declared.showing.View.{View}
 use Rattle.reg_show.specs.declared.Showing.{Showing}
 use Rattle.reg_show.specs.declared.Showing.TheVariants.{Data, Draw, Page, Rest, Trace}
 use Rattle.reg_show.specs.Seeds.{IsSeed, seed_of}
@@ -13,7 +18,7 @@ use Rattle.reg_outcomes.specs.declared.kinds.OrderKind.TheVariants.{Serial, Poin
 use Rattle.reg_show_cli.specs.declared.asking.TheConstants.{LAST_OUTCOME}
 use Rattle.reg_show_cli.specs.declared.flags.TheConstants.{USUAL_PLAYS}
 use Rattle.reg_show_cli.specs.declared.words.Asked.{Asked}
-use Rattle.reg_show_cli.specs.declared.words.Asked.TheVariants.{AllOutcomes, Find, Help, Judge, Outcome, Outcomes, Schedule, ShortSchedule, Show, Verify, Version, Why}
+use Rattle.reg_show_cli.specs.declared.words.Asked.TheVariants.{AllOutcomes, Find, Help, Judge, Outcome, Outcomes, Schedule, ShortSchedule, Show, Text as OfText, Verify, Version, Why}
 
 -- the name of what is shown
 abbrev pub name_of : Showing → Text
@@ -23,9 +28,29 @@ name_of Data = codes "data"
 name_of Page = codes "page"
 name_of Rest = codes "rest"
 
--- the words after the program's name that ask for what is shown: no flag
-abbrev pub line_of : Showing → List Text
-line_of showing = name_of showing ∷ []
+-- the flag by which a picture shows a form of a play: none for the short one
+abbrev pub IsPictureFlag : Form → List Text → Type 0
+IsPictureFlag Short flags = flags ≡ []
+IsPictureFlag Whole flags = flags ≡ codes "--whole" ∷ []
+
+-- the flag by which something is shown in a form: what isn't a picture is of the whole play, and has no flag
+abbrev pub IsFormFlag : Showing → Form → List Text → Type 0
+IsFormFlag Trace form flags = IsPictureFlag form flags
+IsFormFlag Draw form flags = IsPictureFlag form flags
+IsFormFlag Page form flags = IsPictureFlag form flags
+IsFormFlag Data form flags = (form ≡ Whole) × (flags ≡ [])
+IsFormFlag Rest form flags = (form ≡ Whole) × (flags ≡ [])
+
+-- the words after the program's name ask for this
+abbrev pub IsShowLine : List Text → View → Type 0
+IsShowLine line view = (flags : List Text) × (line ≡ name_of view.showing ∷ flags) × IsFormFlag view.showing view.form flags
+
+-- the words after the program's name that ask for a command of awreg
+abbrev pub text_line : Command → List Text
+text_line Replay = codes "replay" ∷ []
+text_line Check = codes "check" ∷ []
+text_line (Play false) = codes "play" ∷ []
+text_line (Play true) = codes "play" ∷ codes "--fair" ∷ []
 
 -- the words for a seed, where there is one
 abbrev pub seed_words : Option ℕ → List Text
@@ -130,8 +155,9 @@ IsHelpWith line name = (line ≡ codes "help" ∷ name ∷ []) ⊎ ((line ≡ na
 -- the words ask for help with a command
 abbrev pub IsHelpOfOne : List Text → Type 0
 IsHelpOfOne line =
-    IsHelpWith line (codes "trace") ⊎ (IsHelpWith line (codes "draw") ⊎ (IsHelpWith line (codes "data") ⊎ (IsHelpWith line (codes "page") ⊎ (IsHelpWith line (codes "rest")
-    ⊎ (IsHelpWith line (codes "schedule") ⊎ (IsHelpWith line (codes "outcomes") ⊎ (IsHelpWith line (codes "find") ⊎ (IsHelpWith line (codes "why") ⊎ (IsHelpWith line (codes "verify") ⊎ IsHelpWith line (codes "judge"))))))))))
+    IsHelpWith line (codes "replay") ⊎ (IsHelpWith line (codes "check") ⊎ (IsHelpWith line (codes "play")
+    ⊎ (IsHelpWith line (codes "trace") ⊎ (IsHelpWith line (codes "draw") ⊎ (IsHelpWith line (codes "data") ⊎ (IsHelpWith line (codes "page") ⊎ (IsHelpWith line (codes "rest")
+    ⊎ (IsHelpWith line (codes "schedule") ⊎ (IsHelpWith line (codes "outcomes") ⊎ (IsHelpWith line (codes "find") ⊎ (IsHelpWith line (codes "why") ⊎ (IsHelpWith line (codes "verify") ⊎ IsHelpWith line (codes "judge")))))))))))))
 
 -- the words ask for help, alone or with a command
 abbrev pub IsHelpLine : List Text → Type 0
@@ -139,7 +165,8 @@ IsHelpLine line = (line ≡ codes "help" ∷ []) ⊎ ((line ≡ codes "-h" ∷ [
 
 -- the words ask for just this
 abbrev pub IsLineOf : Asked → List Text → Type 0
-IsLineOf (Show showing) line = line ≡ line_of showing
+IsLineOf (OfText command) line = line ≡ text_line command
+IsLineOf (Show view) line = IsShowLine line view
 IsLineOf (Schedule player) line = IsScheduleLine line player
 IsLineOf (ShortSchedule player) line = IsShortLine line player
 IsLineOf (Outcomes plays seed) line = IsOutcomesLine line plays seed
@@ -163,4 +190,4 @@ NumbersFit _ = ⊤
 
 -- the line for words that ask for nothing, with its line feed
 abbrev pub refused_line : List ℕ
-refused_line = codes "usage: awshow schedule [--fair | --seed S] [--short] | outcomes [--all [K] | [--plays N] [--seed S]] | find serial | find points | trace | draw | data | page | rest | why | verify | judge [--first VALUE] [--report]" ++ 10 ∷ []
+refused_line = codes "usage: awshow COMMAND [FLAGS] < TEXT, and awshow help lists the commands" ++ 10 ∷ []

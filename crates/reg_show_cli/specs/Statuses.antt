@@ -1,10 +1,12 @@
 -- What a status says of what was asked for, with what the reader, the writer and the error stream show of themselves.
-use Rattle.std.specs.Prelude.{ℕ, true, false, ◌≢◌, ◌⊎◌, ◌≤◌, ⊤, Bool, List, [], ◌∷◌, ◌++◌, length, codes, Option, None, IfSome}
+use Rattle.std.specs.Prelude.{ℕ, true, false, ◌≡◌, ◌≢◌, ◌⊎◌, ◌≤◌, ⊤, Bool, List, [], ◌∷◌, ◌++◌, length, codes, Option, None, IfSome}
 use Rattle.reg_base.specs.declared.limits.TheConstants.{LONGEST_INPUT}
 use Rattle.reg_text.specs.Writing.{AppendsPart}
 use Rattle.reg_commands.specs.declared.faults.Fault.{Fault}
 use Rattle.reg_commands.specs.declared.faults.Fault.TheVariants.{Output}
 use Rattle.reg_commands.specs.FaultLines.{fault_line}
+use Rattle.reg_commands.specs.Answers.{Answers as AnswersCommand, Blames as BlamesCommand}
+use Rattle.reg_commands.specs.declared.command.Command.TheVariants.{Check}
 use Rattle.reg_commands.specs.Replays.{start_of}
 use Rattle.reg_commands.specs.Statuses.{Stops as StopsCommand, Tells as TellsCommand}
 use Rattle.reg_commands.specs.Works.{BlamesDocument, OfDocument}
@@ -24,7 +26,7 @@ use Rattle.reg_show.specs.Showings.{Blames, Shows}
 use Rattle.reg_verify.specs.Verifies.{BlamesAccount, Verifies, verify_line}
 use Rattle.reg_verify.specs.declared.faults.VerifyFault.TheVariants.{Command as VerifyCommand}
 use Rattle.reg_show_cli.specs.declared.words.Asked.{Asked}
-use Rattle.reg_show_cli.specs.declared.words.Asked.TheVariants.{AllOutcomes, Find, Help, Judge, Outcome, Outcomes, Schedule, ShortSchedule, Show, Verify, Version, Why}
+use Rattle.reg_show_cli.specs.declared.words.Asked.TheVariants.{AllOutcomes, Find, Help, Judge, Outcome, Outcomes, Schedule, ShortSchedule, Show, Text as OfText, Verify, Version, Why}
 use Rattle.reg_reasons.specs.Tellings.{Answers, Halts}
 use Rattle.reg_observed.specs.Commands.{IsJudgedText}
 use Rattle.reg_observed.specs.declared.command.CommandFault.{CommandFault as JudgeFault}
@@ -51,7 +53,8 @@ StopsOf _ fault work = ⊥
 
 -- what the text is, whether the answer is a yes, and what was written: `Wrote` says how a text was
 abbrev pub AnswersOf : Asked → Bool → (List ℕ → Type 0) → List ℕ → Type 0
-AnswersOf (Show showing) agrees Wrote text = Shows showing Wrote text
+AnswersOf (OfText command) agrees Wrote text = AnswersCommand command agrees Wrote text
+AnswersOf (Show view) agrees Wrote text = Shows view Wrote text
 AnswersOf (Find kind) agrees Wrote text = Finds kind agrees Wrote text
 AnswersOf Why agrees Wrote text = Answers agrees Wrote text
 AnswersOf Verify agrees Wrote text = Verifies Wrote text
@@ -67,12 +70,13 @@ Obeys help version Help input Wrote = Wrote help
 Obeys help version Version input Wrote = Wrote version
 Obeys help version asked input Wrote = IfSome input (λ xs. length xs ≤ LONGEST_INPUT) × IfSome input (AnswersOf asked true Wrote)
 
--- Status 1: the answer is a no, which only why and find have; or the line of a fault was told, or a first part of it.
+-- Status 1: the answer is a no, which only check, why, find and judge have; or the line of a fault was told, or a first part of it.
 -- The fault holds of the input, and nothing was written unless the writer failed; then a first part of an answer was.
 -- Of what is told where a history of JSON lines is refused no clause speaks. Where help or the version was asked for,
 -- the writer failed.
 abbrev pub Stops : Asked → Option (List ℕ) → Type 0 → Option (List ℕ) → Option (List ℕ) → Type 0 → Option (List ℕ) → Option (List ℕ) → Type 0
-Stops (Show showing) input unwritten old new untold was is = StopsCommand ⊥ Command show_line (Blames showing) (AnswersOf (Show showing)) input unwritten old new untold was is
+Stops (OfText command) input unwritten old new untold was is = StopsCommand (command ≡ Check) (λ (fault : Fault). fault) fault_line (BlamesCommand command) (AnswersOf (OfText command)) input unwritten old new untold was is
+Stops (Show view) input unwritten old new untold was is = StopsCommand ⊥ Command show_line (Blames view) (AnswersOf (Show view)) input unwritten old new untold was is
 Stops (Find kind) input unwritten old new untold was is = StopsCommand ⊤ Command show_line (BlamesFind kind) (AnswersOf (Find kind)) input unwritten old new untold was is
 Stops Why input unwritten old new untold was is = StopsCommand ⊤ (λ (fault : Fault). fault) fault_line Halts (AnswersOf Why) input unwritten old new untold was is
 Stops Verify input unwritten old new untold was is = StopsCommand ⊥ VerifyCommand verify_line BlamesAccount (AnswersOf Verify) input unwritten old new untold was is
@@ -84,7 +88,8 @@ Stops asked input unwritten old new untold was is = StopsCommand ⊥ Command sho
 
 -- what status 1 says of the error stream alone
 abbrev pub Tells : Asked → Type 0 → Option (List ℕ) → Option (List ℕ) → Type 0
-Tells (Show showing) untold was is = TellsCommand ⊥ Command show_line (Blames showing) untold was is
+Tells (OfText command) untold was is = TellsCommand (command ≡ Check) (λ (fault : Fault). fault) fault_line (BlamesCommand command) untold was is
+Tells (Show view) untold was is = TellsCommand ⊥ Command show_line (Blames view) untold was is
 Tells (Find kind) untold was is = TellsCommand ⊤ Command show_line (BlamesFind kind) untold was is
 Tells Why untold was is = TellsCommand ⊤ (λ (fault : Fault). fault) fault_line Halts untold was is
 Tells Verify untold was is = TellsCommand ⊥ VerifyCommand verify_line BlamesAccount untold was is

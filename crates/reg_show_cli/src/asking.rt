@@ -4,16 +4,20 @@ ghost use Rattle.reg_args.specs.Lines.{Text, behind_name};
 ghost use Rattle.reg_outcomes.specs.declared.kinds.OrderKind.{OrderKind as AnyKind};
 ghost use Rattle.reg_show.specs.declared.Player.{Player as AnyPlayer};
 ghost use Rattle.reg_show.specs.declared.Showing.{Showing as AnyShowing};
+ghost use Rattle.reg_show.specs.declared.showing.View.{View as AnyView};
+ghost use Rattle.reg_commands.specs.declared.command.Command.{Command as AnyCommand};
 ghost use Rattle.reg_show_cli.specs.declared.words.Asked.{Asked as AnyAsked};
-ghost use Rattle.reg_show_cli.specs.Lines.{IsAllLine, IsFindLine, IsHelpLine, IsHelpOfOne, IsHelpWith, IsJudgeLine, IsLineOf, IsOneOutcomeLine, IsOutcomesLine, IsScheduleLine, IsShortLine, IsVerifyLine, IsVersionLine, IsWhyLine, line_of as line_of_showing};
+ghost use Rattle.reg_show_cli.specs.Lines.{IsAllLine, IsFindLine, IsHelpLine, IsHelpOfOne, IsHelpWith, IsJudgeLine, IsLineOf, IsOneOutcomeLine, IsOutcomesLine, IsScheduleLine, IsShortLine, IsShowLine, IsVerifyLine, IsVersionLine, IsWhyLine, name_of, text_line};
 
 use crate::flags::{
-    Plays, behind, judging_said, line_of, number_alone, player_said, plays_said, short_said,
+    Plays, behind, form_said, judging_said, line_of, number_alone, player_said, plays_said,
+    short_said,
 };
 use crate::words::Asked;
+use reg_commands::Command;
 use reg_observed::JudgeFlags;
 use reg_outcomes::OrderKind;
-use reg_show::{Player, Showing};
+use reg_show::{Player, Showing, View};
 
 /// The last number of an outcome that the words can say. There may be fewer outcomes.
 pub const LAST_OUTCOME: u32 = u32::MAX;
@@ -115,26 +119,48 @@ fn judging_asked(words: &[String]) -> Option<JudgeFlags<'_>>
     judging_said(flags)
 }
 
-/// What the words ask to show, and None where they ask for nothing of it.
-fn showing_asked(words: &[String]) -> Option<Showing>
-    ensures { MatchOption result ((showing : AnyShowing) → ¬ (behind_name words.now ≡ line_of_showing showing)) (λ showing. behind_name words.now ≡ line_of_showing showing) }
+/// What of `awreg` the words ask for, and None where they ask for nothing of it.
+fn text_asked(words: &[String]) -> Option<Command>
+    ensures { MatchOption result ((command : AnyCommand) → ¬ (behind_name words.now ≡ text_line command)) (λ command. behind_name words.now ≡ text_line command) }
 {
-    if is_alone(words, "trace") {
-        return Some(Showing::Trace);
+    if is_alone(words, "replay") {
+        return Some(Command::Replay);
     }
-    if is_alone(words, "draw") {
-        return Some(Showing::Draw);
+    if is_alone(words, "check") {
+        return Some(Command::Check);
     }
-    if is_alone(words, "data") {
-        return Some(Showing::Data);
+    if is_alone(words, "play") {
+        return Some(Command::Play { fair: false });
     }
-    if is_alone(words, "page") {
-        return Some(Showing::Page);
-    }
-    if is_alone(words, "rest") {
-        return Some(Showing::Rest);
+    if are_two(words, "play", "--fair") {
+        return Some(Command::Play { fair: true });
     }
     None
+}
+
+/// What this word names that can be shown.
+fn showing_named(word: &str) -> Option<Showing>
+    ensures read { IfSome result (λ showing. word.now ≡ name_of showing) }
+    ensures whole { (showing : AnyShowing) → word.now ≡ name_of showing → result ≡ Some showing }
+{
+    match word {
+        "trace" => Some(Showing::Trace),
+        "draw" => Some(Showing::Draw),
+        "data" => Some(Showing::Data),
+        "page" => Some(Showing::Page),
+        "rest" => Some(Showing::Rest),
+        _ => None,
+    }
+}
+
+/// What the words ask to show, and None where they ask for nothing of it.
+fn view_asked(words: &[String]) -> Option<View>
+    ensures { MatchOption result ((view : AnyView) → ¬ IsShowLine (behind_name words.now) view) (IsShowLine (behind_name words.now)) }
+{
+    let (name, flags) = line_of(words).split_first()?;
+    let showing = showing_named(name.as_str())?;
+    let form = form_said(showing, flags)?;
+    Some(View { showing, form })
 }
 
 /// Whether the words ask for help with the command of this name.
@@ -148,7 +174,10 @@ fn asks_help_with(words: &[String], name: &str) -> bool
 fn asks_help_of_one(words: &[String]) -> bool
     ensures { result ≡ true ↔ IsHelpOfOne (behind_name words.now) }
 {
-    asks_help_with(words, "trace")
+    asks_help_with(words, "replay")
+        || asks_help_with(words, "check")
+        || asks_help_with(words, "play")
+        || asks_help_with(words, "trace")
         || asks_help_with(words, "draw")
         || asks_help_with(words, "data")
         || asks_help_with(words, "page")
@@ -208,8 +237,11 @@ pub fn ask(words: &[String]) -> Option<Asked<'_>>
     if let Some(flags) = judging_asked(words) {
         return Some(Asked::Judge { flags });
     }
-    if let Some(showing) = showing_asked(words) {
-        return Some(Asked::Show { showing });
+    if let Some(command) = text_asked(words) {
+        return Some(Asked::Text { command });
+    }
+    if let Some(view) = view_asked(words) {
+        return Some(Asked::Show { view });
     }
     if let Some(number) = outcome_asked(words) {
         return Some(Asked::Outcome { number });

@@ -4,13 +4,14 @@ ghost use Rattle.std.specs.Fmt.{decimal};
 ghost use Rattle.reg_args.specs.Lines.{Text};
 ghost use Rattle.reg_args.specs.Lines.{behind_name};
 ghost use Rattle.reg_show.specs.Seeds.{IsSeed};
+ghost use Rattle.reg_show.specs.declared.showing.Form.{Form as AnyForm};
 ghost use Rattle.reg_show.specs.declared.Player.{Player as AnyPlayer};
 ghost use Rattle.reg_show.specs.declared.Player.TheVariants.{Fair};
-ghost use Rattle.reg_show_cli.specs.Lines.{SaysJudge, SaysPlayer, SaysPlays, SaysSeed, SaysShort, first_words, player_words, plays_words, report_words, seed_words, short_words};
+ghost use Rattle.reg_show_cli.specs.Lines.{IsFormFlag, IsPictureFlag, SaysJudge, SaysPlayer, SaysPlays, SaysSeed, SaysShort, first_words, player_words, plays_words, report_words, seed_words, short_words};
 
 use reg_base::limits::LAST_SEED;
 use reg_observed::JudgeFlags;
-use reg_show::{MOST_PLAYS, Player};
+use reg_show::{Form, MOST_PLAYS, Player, Showing};
 use reg_text::numeral_within;
 
 /// How many plays are counted where the words don't say.
@@ -43,6 +44,31 @@ pub(crate) fn behind<'a>(words: &'a [String], word: &str) -> Option<&'a [String]
         Some(rest)
     } else {
         None
+    }
+}
+
+/// The form that the flags of a picture say.
+fn picture_form(flags: &[String]) -> Option<Form>
+    ensures { MatchOption result ((form : AnyForm) → ¬ IsPictureFlag form (map string_bytes flags.now)) (λ form. IsPictureFlag form (map string_bytes flags.now)) }
+{
+    if flags.is_empty() {
+        return Some(Form::Short);
+    }
+    if is_word(flags, "--whole") {
+        Some(Form::Whole)
+    } else {
+        None
+    }
+}
+
+/// In which form something is shown of a play, by its flags.
+pub(crate) fn form_said(showing: Showing, flags: &[String]) -> Option<Form>
+    ensures { MatchOption result ((form : AnyForm) → ¬ IsFormFlag showing form (map string_bytes flags.now)) (λ form. IsFormFlag showing form (map string_bytes flags.now)) }
+{
+    match showing {
+        Showing::Trace | Showing::Draw | Showing::Page => picture_form(flags),
+        Showing::Data | Showing::Rest if flags.is_empty() => Some(Form::Whole),
+        Showing::Data | Showing::Rest => None,
     }
 }
 

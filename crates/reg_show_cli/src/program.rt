@@ -13,7 +13,7 @@ ghost use Rattle.reg_show_cli.specs.declared.words.TheConstants.{HELP, VERSION};
 use crate::asking::ask;
 use crate::words::{Asked, HELP, VERSION};
 use reg_args::{WordsFault, tell, words_of};
-use reg_commands::{Fault, OfDocument, Refusal, TextCommand, WorkCommand, run_command};
+use reg_commands::{Fault, OfDocument, OverText, Refusal, TextCommand, WorkCommand, run_command};
 use reg_observed::judge_text;
 use reg_reasons::Explain;
 use reg_show::{
@@ -57,8 +57,12 @@ fn obey<R: AllocGlobal, I: Read, O: Write, E: Write>(
     match asked {
         Asked::Help => print(HELP, writer, errors),
         Asked::Version => print(VERSION, writer, errors),
-        Asked::Show { showing } => {
-            let command = ShowEither { showing, global };
+        Asked::Text { command } => {
+            let command = OverText { command, global };
+            run_command(command, alloc, reader, writer, errors)
+        }
+        Asked::Show { view } => {
+            let command = ShowEither { view, global };
             run_command(command, alloc, reader, writer, errors)
         }
         Asked::Schedule { player } => {
@@ -126,7 +130,7 @@ pub fn refuse<E: Write>(fault: WordsFault, errors: &mut E) -> u8
 {
     tell(
         fault,
-        b"usage: awshow schedule [--fair | --seed S] [--short] | outcomes [--all [K] | [--plays N] [--seed S]] | find serial | find points | trace | draw | data | page | rest | why | verify | judge [--first VALUE] [--report]\n",
+        b"usage: awshow COMMAND [FLAGS] < TEXT, and awshow help lists the commands\n",
         errors,
     )
 }

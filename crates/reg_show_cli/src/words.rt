@@ -1,13 +1,16 @@
 //! The words of the command line.
+use reg_commands::Command;
 use reg_observed::JudgeFlags;
 use reg_outcomes::OrderKind;
-use reg_show::{Player, Showing};
+use reg_show::{Player, View};
 
 /// What the words ask for.
 #[derive(Clone, Copy, Debug, PartialEq, Eq)]
 pub enum Asked<'a> {
+    /// To answer the text on the input, as `awreg` does by this command.
+    Text { command: Command },
     /// To show something of the text on the input.
-    Show { showing: Showing },
+    Show { view: View },
     /// To print the schedule of this player's play of the workload on the input.
     Schedule { player: Player },
     /// To print the schedule of the short form of this player's play of the workload on the input.
@@ -37,9 +40,13 @@ pub const VERSION: &str = "awshow 0.1.0, proved with rattle-kit-13f\n";
 
 /// How the program is used.
 pub const HELP: &str = "\
-Shows what processes that share registers do. Each command reads standard input.
+Shows what processes that share registers do. Each command reads standard input: awshow COMMAND < FILE.
 
-usage: awshow schedule               reads a workload, prints the schedule of its play
+usage: awshow replay                 reads a schedule, prints the report of its run
+       awshow check                  reads a report, prints whether its order, and its points if it has some, are right
+       awshow play                   reads a workload, prints the report of the play that its seed gives
+       awshow play --fair            the same of its fair play
+       awshow schedule               reads a workload, prints the schedule of its play
        awshow schedule --seed S      the same of its play by the seed S
        awshow schedule --fair        the same of its fair play
        awshow schedule --short       any of the three up to the last answer, without what no answer needs
@@ -49,10 +56,10 @@ usage: awshow schedule               reads a workload, prints the schedule of it
        awshow outcomes --all K       reads a workload, prints the schedule of a run that answers the K-th of these
        awshow find serial            reads a report, prints it with a serial order of its history, or that it has none
        awshow find points            the same with a point order: each operation between its call and its answer
-       awshow trace                  reads a schedule or a workload, prints what happens, event by event
-       awshow draw                   reads the same, prints the space-time diagram of the run as SVG
+       awshow trace [--whole]        reads a schedule or a workload, prints what happens, event by event
+       awshow draw [--whole]         reads the same, prints the space-time diagram of the run as SVG
+       awshow page [--whole]         reads the same, prints a page that steps through the run
        awshow data                   reads the same, prints the run as JSON
-       awshow page                   reads the same, prints a page that steps through the run
        awshow rest                   reads the same, prints the schedule with the events that bring the run to rest
        awshow why                    reads any of the three texts, prints what is wrong with it, and where
        awshow verify                 reads a record of processes that ran apart, prints the report of their run
@@ -61,4 +68,7 @@ usage: awshow schedule               reads a workload, prints the schedule of it
        awshow judge --report         prints a report of the history in place of a yes, with the points that were found
        awshow help                   prints this; so do a command's word and --help
        awshow --version              prints the version
+
+What trace, draw and page show of a workload's play is its short form, but with --whole all of it. The program awreg has
+replay, check, play and live; its commands read the same texts as these, from standard input too, and live a workload.
 ";

@@ -96,3 +96,8 @@ trace_lines names number (f ∷ fs) = moment_lines names number f ++ trace_lines
 -- the text of what the events of a run did, under these names
 abbrev pub trace_text : List (List ℕ) → List Fact → List ℕ
 trace_text names facts = text_of (trace_lines names 0 facts)
+
+-- the line of a title, and none where it is empty
+abbrev pub title_line : List ℕ → List ℕ
+title_line [] = []
+title_line (b ∷ title) = (b ∷ title) ++ 10 ∷ []

@@ -6,7 +6,7 @@ ghost use Rattle.std.specs.Io.KnownBytes.{Appends};
 ghost use Rattle.reg_text.specs.Lines.{text_of, lines_by};
 ghost use Rattle.reg_text.specs.Writing.{AppendsPart, Puts};
 ghost use Rattle.reg_inputs.specs.Schedules.{event_text};
-ghost use Rattle.reg_trace.specs.Traces.{answers_lines, body_text, cast_text, copy_lines, delivers_line, delivers_lines, drops_lines, holds_line, frame_text, moment_lines, puts_line, stamp_text, taken_lines, takes_lines, trace_text};
+ghost use Rattle.reg_trace.specs.Traces.{answers_lines, body_text, cast_text, copy_lines, delivers_line, delivers_lines, drops_lines, holds_line, frame_text, moment_lines, puts_line, stamp_text, taken_lines, takes_lines, title_line, trace_text};
 
 use crate::moments::{Delivery, Moment, Sent};
 use crate::waits::Wait;
@@ -293,15 +293,40 @@ fn put_trace<A: Allocator + Copy, W: Write>(
     }
 }
 
-/// Writes what each event did, all of it or, where the writer fails, a first part.
+/// Puts the line of a title, unless it is empty.
+fn put_title<W: Write>(sink: &mut Sink<'_, W>, title: &str)
+    ensures { Puts W.contents sink.old sink.new (title_line title.now) }
+{
+    if !title.is_empty() {
+        sink.put(title.as_bytes());
+        sink.put(b"\n");
+    }
+}
+
+/// Puts the line of a title, unless it is empty, and what each event did.
+fn put_titled<A: Allocator + Copy, W: Write>(
+    sink: &mut Sink<'_, W>,
+    title: &str,
+    names: &Names<A>,
+    moments: &[Moment<A>],
+)
+    ensures { Puts W.contents sink.old sink.new (title_line title.now ++ trace_text names.now moments.now) }
+{
+    put_title(sink, title);
+    put_trace(sink, names, moments);
+}
+
+/// Writes the line of a title, unless it is empty, and what each event did: all of it or, where the writer fails, a
+/// first part.
 pub fn write_trace<A: Allocator + Copy, W: Write>(
     writer: &mut W,
+    title: &str,
     names: &Names<A>,
     moments: &[Moment<A>],
 ) -> Result<(), Unwritten>
-    ensures { MatchResult result (λ _. Appends (W.contents writer.old) (W.contents writer.new) (trace_text names.now moments.now)) (λ _. AppendsPart (W.contents writer.old) (W.contents writer.new) (trace_text names.now moments.now)) }
+    ensures { MatchResult result (λ _. Appends (W.contents writer.old) (W.contents writer.new) (title_line title.now ++ trace_text names.now moments.now)) (λ _. AppendsPart (W.contents writer.old) (W.contents writer.new) (title_line title.now ++ trace_text names.now moments.now)) }
 {
     let mut sink = Sink::new(writer);
-    put_trace(&mut sink, names, moments);
+    put_titled(&mut sink, title, names, moments);
     sink.finish()
 }

@@ -3,8 +3,8 @@ use reg_commands::{OfDocument, run_command};
 use reg_outcomes::OrderKind;
 use reg_reasons::Explain;
 use reg_show::{
-    EveryOutcome, FindOrder, FullSchedule, ManyPlays, OneOutcome, Player, ShortSchedule,
-    ShowEither, Showing,
+    EveryOutcome, FindOrder, Form, FullSchedule, ManyPlays, OneOutcome, Player, ShortSchedule,
+    ShowEither, Showing, View,
 };
 use reg_verify::Verify;
 use std::alloc::Global;
@@ -31,8 +31,10 @@ pub(crate) enum Task {
     Schedule,
     /// The short schedule of a workload's fair play is written.
     ShortSchedule,
-    /// A run is shown.
+    /// A run is shown, of a workload's play all of it.
     Show { showing: Showing },
+    /// A run is shown, of a workload's play its short form.
+    ShowShort { showing: Showing },
     /// A record is judged.
     Verify,
     /// It is told what is wrong with the text.
@@ -69,8 +71,14 @@ fn run(alloc: Global, task: Task, text: &str, output: &mut Vec<u8>, errors: &mut
             run_command(OfDocument { command, global }, alloc, input, output, errors)
         }
         Task::Show { showing } => {
-            let command = ShowEither { showing, global };
-            run_command(command, alloc, input, output, errors)
+            let form = Form::Whole;
+            let view = View { showing, form };
+            run_command(ShowEither { view, global }, alloc, input, output, errors)
+        }
+        Task::ShowShort { showing } => {
+            let form = Form::Short;
+            let view = View { showing, form };
+            run_command(ShowEither { view, global }, alloc, input, output, errors)
         }
         Task::Verify => run_command(Verify, alloc, input, output, errors),
         Task::Why => run_command(Explain { global }, alloc, input, output, errors),

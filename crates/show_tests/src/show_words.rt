@@ -1,7 +1,9 @@
 //! Which command lines of `awshow` are taken, and how a refused one is told.
 use crate::lines::words_of;
 use reg_outcomes::OrderKind;
-use reg_show_cli::{Asked, JudgeFlags, Player, Showing, WordsFault, ask, refuse};
+use reg_show_cli::{
+    Asked, Command, Form, JudgeFlags, Player, Showing, View, WordsFault, ask, refuse,
+};
 use std::alloc::Global;
 use std::process::Abort;
 
@@ -240,7 +242,7 @@ const JUDGED: [(&str, Option<Asked<'static>>); 17] = [
 ];
 
 /// Lines that ask for help, or seem to, and what each asks for.
-const HELP: [(&str, Option<Asked<'static>>); 16] = [
+const HELP: [(&str, Option<Asked<'static>>); 20] = [
     ("help", Some(Asked::Help)),
     ("-h", Some(Asked::Help)),
     ("--help", Some(Asked::Help)),
@@ -257,22 +259,32 @@ const HELP: [(&str, Option<Asked<'static>>); 16] = [
     ("help trace draw", None),
     ("schedule --help --fair", None),
     ("help trace", Some(Asked::Help)),
+    ("help replay", Some(Asked::Help)),
+    ("check --help", Some(Asked::Help)),
+    ("play -h", Some(Asked::Help)),
+    ("help live", None),
 ];
 
 /// Lines of the other commands, and of none, and what each asks for.
-const OTHERS: [(&str, Option<Asked<'static>>); 27] = [
+const OTHERS: [(&str, Option<Asked<'static>>); 33] = [
     ("trace --seed 5", None),
     ("trace --short", None),
     (
         "trace",
         Some(Asked::Show {
-            showing: Showing::Trace,
+            view: View {
+                showing: Showing::Trace,
+                form: Form::Short,
+            },
         }),
     ),
     (
         "draw",
         Some(Asked::Show {
-            showing: Showing::Draw,
+            view: View {
+                showing: Showing::Draw,
+                form: Form::Short,
+            },
         }),
     ),
     (
@@ -293,19 +305,28 @@ const OTHERS: [(&str, Option<Asked<'static>>); 27] = [
     (
         "data",
         Some(Asked::Show {
-            showing: Showing::Data,
+            view: View {
+                showing: Showing::Data,
+                form: Form::Whole,
+            },
         }),
     ),
     (
         "page",
         Some(Asked::Show {
-            showing: Showing::Page,
+            view: View {
+                showing: Showing::Page,
+                form: Form::Short,
+            },
         }),
     ),
     (
         "rest",
         Some(Asked::Show {
-            showing: Showing::Rest,
+            view: View {
+                showing: Showing::Rest,
+                form: Form::Whole,
+            },
         }),
     ),
     ("why", Some(Asked::Why)),
@@ -314,7 +335,6 @@ const OTHERS: [(&str, Option<Asked<'static>>); 27] = [
     ("", None),
     ("trace --", None),
     ("-- trace", None),
-    ("play", None),
     ("trace --fair", None),
     ("draw draw", None),
     ("page --fair", None),
@@ -323,6 +343,72 @@ const OTHERS: [(&str, Option<Asked<'static>>); 27] = [
     ("version", None),
     ("--version --version", None),
     ("why --fair", None),
+    (
+        "trace --whole",
+        Some(Asked::Show {
+            view: View {
+                showing: Showing::Trace,
+                form: Form::Whole,
+            },
+        }),
+    ),
+    (
+        "draw --whole",
+        Some(Asked::Show {
+            view: View {
+                showing: Showing::Draw,
+                form: Form::Whole,
+            },
+        }),
+    ),
+    (
+        "page --whole",
+        Some(Asked::Show {
+            view: View {
+                showing: Showing::Page,
+                form: Form::Whole,
+            },
+        }),
+    ),
+    ("trace --whole --whole", None),
+    ("draw --short", None),
+    ("data --whole", None),
+    ("rest --whole", None),
+];
+
+/// Lines of the commands of `awreg`, and what each asks for.
+const TEXTS: [(&str, Option<Asked<'static>>); 11] = [
+    (
+        "replay",
+        Some(Asked::Text {
+            command: Command::Replay,
+        }),
+    ),
+    (
+        "check",
+        Some(Asked::Text {
+            command: Command::Check,
+        }),
+    ),
+    (
+        "play",
+        Some(Asked::Text {
+            command: Command::Play { fair: false },
+        }),
+    ),
+    (
+        "play --fair",
+        Some(Asked::Text {
+            command: Command::Play { fair: true },
+        }),
+    ),
+    ("play --fair --fair", None),
+    ("play --seed 5", None),
+    ("play fair", None),
+    ("replay --fair", None),
+    ("check replay", None),
+    ("replay FILE", None),
+    ("live", None),
 ];
 
 /// Whether the words of a line ask for this.
@@ -359,6 +445,11 @@ fn each_line_of_help_asks_for_what_it_says(rt: HostRuntime) {
 }
 
 #[test]
+fn each_line_of_a_command_of_awreg_asks_for_what_it_says(rt: HostRuntime) {
+    check_lines(&rt, rt.alloc(), &TEXTS);
+}
+
+#[test]
 fn each_other_line_asks_for_what_it_says(rt: HostRuntime) {
     check_lines(&rt, rt.alloc(), &OTHERS);
 }
@@ -371,7 +462,6 @@ fn is_told(alloc: Global, status: u8, line: &str) -> bool {
 
 #[test]
 fn a_refused_command_line_is_told_by_a_usage_line(rt: HostRuntime) {
-    let usage =
-        "usage: awshow schedule [--fair | --seed S] [--short] | outcomes [--all [K] | [--plays N] [--seed S]] | find serial | find points | trace | draw | data | page | rest | why | verify | judge [--first VALUE] [--report]\n";
+    let usage = "usage: awshow COMMAND [FLAGS] < TEXT, and awshow help lists the commands\n";
     assert!(rt; is_told(rt.alloc(), 2, usage));
 }

@@ -2,9 +2,9 @@
 ghost use Rattle.reg_show.specs.Seeds.{IsSeed, seed_of};
 
 use crate::given::{Row, Task, demand, tells};
-use crate::values::{scheduled, shown};
+use crate::values::{scheduled, shown, shown_in};
 use reg_commands::{Command, OverText, run_command};
-use reg_show::{Player, Showing};
+use reg_show::{Form, Player, SHORT_FORM, Showing, View};
 use std::alloc::{AllocError, Global};
 
 /// A write that is done once the other process has acknowledged its cast.
@@ -130,6 +130,47 @@ const DRAW: Task = Task::Show {
 pub(crate) const DATA: Task = Task::Show {
     showing: Showing::Data,
 };
+
+/// A workload whose every play calls the write, which is answered at once, among ticks that no answer needs.
+const LONE: &str = "front = \"linear\"
+registers = [\"x\"]
+scripts = [[\"write x 5\"]]
+";
+
+const LONE_TRACE: &str = "short form of a play: events that no answer needs are left out
+0 call 0 write x 5
+    clock 1
+    delivers (1, 0) write x 5
+    copy x 5
+    answers done, place 0
+";
+
+/// What is shown of a schedule has no title.
+const SHORT_TRACES: [Row; 2] = [(LONE, (0, LONE_TRACE, "")), (WRITE, (0, WRITE_TRACE, ""))];
+
+#[test]
+fn a_play_is_traced_in_short(rt: HostRuntime) {
+    let task = Task::ShowShort {
+        showing: Showing::Trace,
+    };
+    demand(&rt, task, SHORT_TRACES.as_slice());
+}
+
+/// Whether what is shown of a text in short says so.
+fn says_short(alloc: Global, showing: Showing, text: &str) -> bool {
+    let form = Form::Short;
+    let (status, output, errors) = shown_in(alloc, View { showing, form }, text.as_bytes());
+    let shown = str::from_utf8(output.as_slice()).unwrap_or("");
+    status == 0 && errors.is_empty() && shown.contains(SHORT_FORM)
+}
+
+#[test]
+fn a_picture_of_a_play_says_that_it_is_short(rt: HostRuntime) {
+    for showing in [Showing::Draw, Showing::Page] {
+        assert!(rt; says_short(rt.alloc(), showing, LONE), "{showing:?}");
+        assert!(rt; !says_short(rt.alloc(), showing, WRITE), "{showing:?}");
+    }
+}
 
 #[test]
 fn traces_are_those_worked_by_hand(rt: HostRuntime) {

@@ -19,7 +19,7 @@ returns-in-Some-clause-ok g c =
     let work : Load = c.in-Some.work in
     let holds = said text c.in_ok-work.field-0 work c.in_ok-work.ensures c.in-Some.is in
     let Wrote : List ℕ → Type 0 = Appends (g.W.Write.contents c.args.writer.now) (g.W.Write.contents c.show_play.new.writer) in
-    if_ok (λ (x : Unit {0}). ShowsPlay c.args.showing Wrote work) (λ (x : Unit {0}). Shows c.args.showing Wrote text) c.show_play.result
+    if_ok (λ (x : Unit {0}). ShowsPlay c.args.view Wrote work) (λ (x : Unit {0}). Shows c.args.view Wrote text) c.show_play.result
     (λ x shown. inr (record { work = work; holds = holds; shown = shown })) c.show_play.ensures.ok
 
 pub returns-in-Some-clause-why : goal.returns-in-Some-clause-why
@@ -27,7 +27,7 @@ returns-in-Some-clause-why g c =
     let text = c.args.text.now in
     let work : Load = c.in-Some.work in
     let holds = said text c.in_ok-work.field-0 work c.in_ok-work.ensures c.in-Some.is in
-    if_err (StopsPlay c.args.showing work) (λ (f : ShowFault). Blames c.args.showing f text) c.show_play.result (λ f stops. inr (inr (work, holds, stops))) c.show_play.ensures.why
+    if_err (StopsPlay c.args.view work) (λ (f : ShowFault). Blames c.args.view f text) c.show_play.result (λ f stops. inr (inr (work, holds, stops))) c.show_play.ensures.why
 
 pub returns-in-Some-clause-part : goal.returns-in-Some-clause-part
 returns-in-Some-clause-part g c = λ failed.

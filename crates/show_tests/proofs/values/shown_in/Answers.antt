@@ -1,11 +1,11 @@
 use Rattle.std.proofs.Common.{ℕ, List, Some, Vec, Global, subst, ap, ◌∙◌}
 use Rattle.std.specs.Io.KnownBytes.{Appends}
 use Rattle.reg_show.specs.Showings.{Shows}
-use Rattle.show_tests.proofs.values.shown.Goals as goal
+use Rattle.show_tests.proofs.values.shown_in.Goals as goal
 
 pub returns-clause-shown : goal.returns-clause-shown
 returns-clause-shown c = λ zero.
-    let P : List ℕ → Type 0 = λ start. Shows c.args.showing (Appends (Some start) (Some c.run_command-status.new.writer.items)) c.args.text.now in
+    let P : List ℕ → Type 0 = λ start. Shows c.args.view (Appends (Some start) (Some c.run_command-status.new.writer.items)) c.args.text.now in
     subst P c.new-output.ensures.items (c.run_command-status.ensures.answered zero)
 
 pub returns-clause-quiet : goal.returns-clause-quiet

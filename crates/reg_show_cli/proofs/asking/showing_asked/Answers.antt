@@ -1,7 +1,0 @@
-use Rattle.std.proofs.lemmas.Bool.{false≢true}
-use Rattle.reg_args.specs.Lines.{behind_name}
-use Rattle.reg_show_cli.proofs.Counted.{no_showing}
-use Rattle.reg_show_cli.proofs.asking.showing_asked.Goals as goal
-
-pub returns : goal.returns
-returns c = no_showing (behind_name c.args.words.now) (λ h. false≢true (c.if-is_alone.ensures.1 h)) (λ h. false≢true (c.if-is_alone-2.ensures.1 h)) (λ h. false≢true (c.if-is_alone-3.ensures.1 h)) (λ h. false≢true (c.if-is_alone-4.ensures.1 h)) (λ h. false≢true (c.if-is_alone-5.ensures.1 h))

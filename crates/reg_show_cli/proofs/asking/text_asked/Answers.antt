@@ -1,0 +1,7 @@
+use Rattle.std.proofs.lemmas.Bool.{false≢true}
+use Rattle.reg_args.specs.Lines.{behind_name}
+use Rattle.reg_show_cli.proofs.Counted.{no_text}
+use Rattle.reg_show_cli.proofs.asking.text_asked.Goals as goal
+
+pub returns : goal.returns
+returns c = no_text (behind_name c.args.words.now) (λ h. false≢true (c.if-is_alone.ensures.1 h)) (λ h. false≢true (c.if-is_alone-2.ensures.1 h)) (λ h. false≢true (c.if-is_alone-3.ensures.1 h)) (λ h. false≢true (c.if-are_two.ensures.1 h))
