@@ -14,7 +14,8 @@ TAG = "py3-none-linux_x86_64"
 def files():
     """The files of the package: its modules, its mark for type checkers, and the library."""
     if not os.path.isfile(LIBRARY):
-        raise SystemExit(f"{LIBRARY} is not there: `tools/bindings --keep bindings/python/{PACKAGE}` builds it")
+        raise SystemExit(f"{LIBRARY} is not there: `tools/install --library` at the top of the repository builds it, and then "
+                         f"`pip install ~/.local/share/{PACKAGE}/python` has it")
     for folder, _, names in sorted(os.walk(PACKAGE)):
         for name in sorted(names):
             if name.endswith((".py", ".so")) or name == "py.typed":
