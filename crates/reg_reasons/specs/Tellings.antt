@@ -67,7 +67,7 @@ pub record IsWorkload (answer text : List ℕ) : Type 0 where
 
 -- what stands after the numbers of a report of which every verdict is yes
 abbrev pub yes_text : Option (List Point) → List ℕ
-yes_text None = codes "; serial yes" ++ 10 ∷ []
+yes_text None = codes "; serial yes; no points, so real time is not judged: awshow find points looks for some" ++ 10 ∷ []
 yes_text (Some points) = codes "; serial yes; points yes" ++ 10 ∷ []
 
 -- The text is that of a report of which every verdict is yes, and the answer says so.

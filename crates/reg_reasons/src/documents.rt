@@ -72,8 +72,17 @@ fn put_error<A: Allocator + Copy>(
     Ok(())
 }
 
-/// Puts what a text is, where its first word begins a line of a schedule or of a report, or is written like one.
+/// Puts what a text is, if it begins like one of another command, or its first word begins a line of a schedule or of a
+/// report, or is written like one.
 fn put_hint<A: Allocator + Copy>(notes: &mut Notes<'_, A>, text: &[u8]) {
+    if text.starts_with(b"{") {
+        notes.put(&["a history in lines of JSON is judged by awshow judge\n"]);
+        return;
+    }
+    if text.starts_with(b"tellwydar record ") {
+        notes.put(&["a record of processes that ran apart is judged by awshow verify\n"]);
+        return;
+    }
     let line = bytes_of(kept_at(text, 0));
     let word = token_of(line);
     let is_key = line.contains(&b'=');

@@ -98,7 +98,11 @@ impl<A: Allocator + Copy> RefusedList<'_, A> {
             if let Entry::Answered { id, .. } = *entry
                 && mark(&mut self.facts, id)
             {
-                let text = "p{} #{} is answered here, and doesn't stand in the order\n";
+                let text = if self.ids.is_empty() {
+                    "p{} #{} is answered here, and the order is empty: awshow find looks for one\n"
+                } else {
+                    "p{} #{} is answered here, and doesn't stand in the order\n"
+                };
                 return Some((self.entry_line(place), text, numbers_of(id, 0, 0)));
             }
         }

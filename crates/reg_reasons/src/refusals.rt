@@ -230,6 +230,10 @@ fn tell_workload<A: Allocator + Copy>(
     }
 }
 
+/// What stands behind the numbers of a report without points of which the verdict is yes.
+const WITHOUT_POINTS: &str =
+    "; serial yes; no points, so real time is not judged: awshow find points looks for some\n";
+
 /// The answer for a report of which every verdict is yes.
 fn agree<A: Allocator + Copy>(
     alloc: A,
@@ -254,7 +258,7 @@ fn agree<A: Allocator + Copy>(
     };
     match report.points() {
         Some(_) => accepted(alloc, subject, "; serial yes; points yes\n"),
-        None => accepted(alloc, subject, "; serial yes\n"),
+        None => accepted(alloc, subject, WITHOUT_POINTS),
     }
 }
 

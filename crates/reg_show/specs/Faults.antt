@@ -13,7 +13,7 @@ use Rattle.reg_show.specs.declared.faults.ShowFault.TheVariants.{Command, NoSuch
 -- the line of a fault on the error stream, with its line feed
 abbrev pub show_line : ShowFault → List ℕ
 show_line (Command fault) = fault_line fault
-show_line TooManyToDraw = codes "too many events to draw" ++ 10 ∷ []
+show_line TooManyToDraw = codes "too many events to draw: a page has room for 2000, and trace for all; schedule --short and --fair make fewer" ++ 10 ∷ []
 show_line TooManyToRest = codes "too many events to rest" ++ 10 ∷ []
 show_line TooManyToShorten = codes "too many events to shorten" ++ 10 ∷ []
 show_line TooManyStages = codes "too many stages" ++ 10 ∷ []

@@ -93,7 +93,10 @@ impl Refusal for ShowFault {
     fn write_line<W: Write>(self, errors: &mut W) -> Result<(), Unwritten> {
         match self {
             ShowFault::Command { fault } => fault.write_line(errors),
-            ShowFault::TooManyToDraw => write_bytes(errors, b"too many events to draw\n"),
+            ShowFault::TooManyToDraw => write_bytes(
+                errors,
+                b"too many events to draw: a page has room for 2000, and trace for all; schedule --short and --fair make fewer\n",
+            ),
             ShowFault::TooManyToRest => write_bytes(errors, b"too many events to rest\n"),
             ShowFault::TooManyToShorten => write_bytes(errors, b"too many events to shorten\n"),
             ShowFault::TooManyStages => write_bytes(errors, b"too many stages\n"),

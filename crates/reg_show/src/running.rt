@@ -8,7 +8,7 @@ ghost use Rattle.reg_show.specs.Showings.{Blames, BlamesText, Shows, ShowsPlan, 
 
 use crate::commands::{draw, trace};
 use crate::faults::ShowFault;
-use crate::forms::{ShownPlay, play_to_show};
+use crate::forms::play_to_show;
 use crate::paging::{Ends, write_run};
 use crate::resting::rest;
 use crate::showing::{Showing, View};
@@ -100,8 +100,8 @@ fn show_play<A: Allocator + Copy, W: Write>(
     ensures silent { IfErr result (λ f. f ≢ ShowFault.Command Fault.Output → writer.new ≡ writer.old) }
     ensures part { IsErrOf result (ShowFault.Command Fault.Output) → ShowsPlay view (AppendsPart (W.contents writer.old) (W.contents writer.new)) work }
 {
-    let ShownPlay { schedule, notes } = play_to_show(alloc, view.form, work)?;
-    show_schedule(alloc, view.showing, schedule, notes, writer)
+    let play = play_to_show(alloc, view.form, work)?;
+    show_schedule(alloc, view.showing, play.schedule, play.notes, writer)
 }
 
 /// The workload that a document says, None of any other text.

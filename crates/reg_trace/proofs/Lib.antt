@@ -2,3 +2,4 @@ pub mod Moving
 pub mod Tracing
 pub mod Behind
 pub mod Arrowed
+pub mod Titled

@@ -9,7 +9,7 @@ type Row = (&'static str, &'static str, (u8, &'static str, &'static str));
 
 /// Process 2 reads the new value, the old one, and the new one again. The first answer that no order explains is in
 /// line 7, and not the last.
-const STALE: &str = "\
+pub(crate) const STALE: &str = "\
 {\"process\": 0, \"type\": \"invoke\", \"f\": \"write\", \"key\": \"x\", \"value\": 1}
 {\"process\": 0, \"type\": \"ok\", \"f\": \"write\", \"key\": \"x\", \"value\": 1}
 {\"process\": 1, \"type\": \"invoke\", \"f\": \"write\", \"key\": \"x\", \"value\": 2}
@@ -53,7 +53,7 @@ serial order: no
 ";
 
 /// At each key all is well, and so it is at both.
-const BOTH_WELL: &str = "\
+pub(crate) const BOTH_WELL: &str = "\
 {\"process\": 0, \"type\": \"invoke\", \"f\": \"write\", \"key\": 1, \"value\": 5}
 {\"process\": 0, \"type\": \"ok\", \"f\": \"write\", \"key\": 1, \"value\": 5}
 {\"process\": 1, \"type\": \"invoke\", \"f\": \"swap\", \"key\": \"1\", \"value\": 6}
@@ -101,7 +101,7 @@ const FIRST_REFUSED: &str =
     "refused: --first: wanted an integer, a string or null, as JSON has it\n";
 
 /// A value is written and read. Of a key that is no register's name the register is a.
-const READ_BACK: &str = "\
+pub(crate) const READ_BACK: &str = "\
 {\"process\": \"first client\", \"type\": \"invoke\", \"f\": \"write\", \"key\": \"X 1\", \"value\": \"new\"}
 {\"process\": \"first client\", \"type\": \"ok\", \"f\": \"write\", \"key\": \"X 1\", \"value\": \"new\"}
 {\"process\": \"other client\", \"type\": \"invoke\", \"f\": \"read\", \"key\": \"X 1\"}

@@ -19,6 +19,8 @@ mod one_shown;
 #[cfg(test)]
 mod orders_shown;
 #[cfg(test)]
+mod play_words;
+#[cfg(test)]
 mod plays_counted;
 #[cfg(test)]
 mod records_judged;

@@ -221,11 +221,18 @@ fn is_drawn(alloc: Global, count: u32) -> bool {
     status == 0 && errors.is_empty() && output.as_slice().starts_with(b"<svg ")
 }
 
+const TOO_MANY: &str =
+    "too many events to draw: a page has room for 2000, and trace for all; schedule --short and --fair make fewer\n";
+
 /// Whether a schedule with `count` ticks has too many events to be shown.
 fn has_too_many(alloc: Global, showing: Showing, count: u32) -> bool {
     let text = ticks(alloc, count);
-    let given = (1, "", "too many events to draw\n");
-    tells(alloc, Task::Show { showing }, text.as_str(), given)
+    tells(
+        alloc,
+        Task::Show { showing },
+        text.as_str(),
+        (1, "", TOO_MANY),
+    )
 }
 
 #[test]

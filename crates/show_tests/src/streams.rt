@@ -1,7 +1,7 @@
 //! Every command of both programs over streams that fail: over a reader that fails at one read, over a writer that
 //! fails at one write or at its flush alone, and over one that holds what it is given until it is flushed.
 use crate::lines::words_of;
-use crate::{one_shown, orders_shown, records_judged, short_shown, shown, why};
+use crate::{histories_judged, one_shown, orders_shown, records_judged, short_shown, shown, why};
 use reg_cli::{Asked, choose, run_text};
 use reg_show_cli::run_line;
 use std::io;
@@ -12,12 +12,15 @@ use std::process::Abort;
 type Row = (&'static str, &'static str, u8);
 
 /// All commands, each with every answer that it writes in a way of its own.
-const COMMANDS: [Row; 23] = [
+const COMMANDS: [Row; 29] = [
     ("awreg replay", shown::WRITE, 0),
     ("awreg check", records_judged::REPORT, 0),
     ("awreg check", orders_shown::STALE, 1),
     ("awreg play", short_shown::LONE_WRITE, 0),
     ("awreg play --fair", short_shown::LONE_WRITE, 0),
+    ("awshow replay", shown::WRITE, 0),
+    ("awshow check", orders_shown::STALE, 1),
+    ("awshow play --fair", short_shown::LONE_WRITE, 0),
     ("awshow help", "", 0),
     ("awshow --version", "", 0),
     ("awshow schedule", short_shown::LONE_WRITE, 0),
@@ -36,6 +39,9 @@ const COMMANDS: [Row; 23] = [
     ("awshow why", shown::WRITE, 0),
     ("awshow why", why::REFUSED, 1),
     ("awshow verify", records_judged::WRITE, 0),
+    ("awshow judge", histories_judged::BOTH_WELL, 0),
+    ("awshow judge", histories_judged::STALE, 1),
+    ("awshow judge --report", histories_judged::READ_BACK, 0),
 ];
 
 /// How a read or a write fails.
@@ -132,6 +138,17 @@ fn run<I: Read, O: Write>(
     }
 }
 
+/// What is told of a fault behind the word by which `judge` begins, which no other command has.
+fn told_of<'a>(line: &str, errors: &'a [u8]) -> &'a [u8] {
+    if line.starts_with("awshow judge") {
+        errors
+            .strip_prefix("refused: ".as_bytes())
+            .unwrap_or(errors)
+    } else {
+        errors
+    }
+}
+
 /// Whether a line has this status over these streams, and these faults are told.
 fn ends_so<I: Read, O: Write>(
     rt: &(impl Abort + AllocGlobal),
@@ -142,7 +159,8 @@ fn ends_so<I: Read, O: Write>(
 ) -> bool {
     let (reader, writer) = streams;
     let mut errors = Vec::new(rt.alloc());
-    run(rt, line, reader, writer, &mut errors) == status && errors.as_slice() == faults.as_bytes()
+    let ended = run(rt, line, reader, writer, &mut errors) == status;
+    ended && told_of(line, errors.as_slice()) == faults.as_bytes()
 }
 
 /// The answer to a row. Empty where it has another status, or a fault is told.

@@ -11,7 +11,7 @@ const LINES: [Row; 8] = [
     (
         "awreg report 2\nfront linear\nprocesses 2\nregisters 1\nx\nhistory 4\n       0  p0    #0       call    write x 5\n       2  p0    #0       answer  done\n       3  p1    #0       call    read x\n       5  p1    #0       answer  value 5\norder 2\np0 #0\np1 #0\nend\n",
         true,
-        "a report: 2 processes, 1 register, linear, 4 entries; serial yes\n",
+        "a report: 2 processes, 1 register, linear, 4 entries; serial yes; no points, so real time is not judged: awshow find points looks for some\n",
     ),
     (
         "awreg report 4\nfront linear\nprocesses 2\nregisters 1\nx\nhistory 4\n       0  p0    #0       call    write x 5\n       2  p0    #0       answer  done\n       3  p1    #0       call    read x\n       5  p1    #0       answer  value 5\norder 2\np0 #0\np1 #0\npoints 2\np0 #0 at 1\np1 #0 at 4\nend\n",
@@ -105,7 +105,7 @@ pub(crate) fn places() -> &'static [Row] {
 }
 
 /// Orders and points that are none, and wrong counts.
-const ORDERS: [Row; 11] = [
+const ORDERS: [Row; 12] = [
     (
         "awreg report 2\nfront linear\nprocesses 2\nregisters 1\nx\nhistory 4\n       0  p0    #0       call    write x 5\n       2  p0    #0       answer  done\n       3  p1    #0       call    read x\n       5  p1    #0       answer  value 7\norder 2\np0 #0\np1 #0\npoints 2\np0 #0 at 1\np1 #0 at 4\nend\n",
         false,
@@ -130,6 +130,11 @@ const ORDERS: [Row; 11] = [
         "awreg report 2\nfront linear\nprocesses 2\nregisters 1\nx\nhistory 4\n       0  p0    #0       call    write x 5\n       2  p0    #0       answer  done\n       3  p1    #0       call    read x\n       5  p1    #0       answer  value 5\norder 1\np0 #0\npoints 2\np0 #0 at 1\np1 #0 at 4\nend\n",
         false,
         "serial no: missing\n10 |        5  p1    #0       answer  value 5\n   | ^\np1 #0 is answered here, and doesn't stand in the order\n",
+    ),
+    (
+        "awreg report 2\nfront linear\nprocesses 2\nregisters 1\nx\nhistory 2\n       0  p0    #0       call    write x 5\n       2  p0    #0       answer  done\norder 0\nend\n",
+        false,
+        "serial no: missing\n8 |        2  p0    #0       answer  done\n  | ^\np0 #0 is answered here, and the order is empty: awshow find looks for one\n",
     ),
     (
         "awreg report 2\nfront linear\nprocesses 2\nregisters 1\nx\nhistory 4\n       0  p0    #0       call    write x 5\n       2  p0    #0       answer  done\n       3  p1    #0       call    read x\n       5  p1    #0       answer  value 5\norder 2\np0 #0\np1 #0\npoints 2\np0 #0 at 1\np1 #0 at 2\nend\n",
