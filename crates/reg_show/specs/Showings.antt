@@ -75,8 +75,8 @@ IsPlayOf start work p = (made : Made) × (is_finished : Bool) × IsPlayBy false 
 abbrev pub IsShortOf : (Op → ℕ → Start) → Load → Plan → Type 0
 IsShortOf start work p = (short : List Event) × IsShortPlay false start work short × (p ≡ plan_with work short) × IsPlan p
 
--- The plan and the notes are what is shown of the workload's seeded play: all of it, and no note; or its short form, with
--- a title that says so, but where the play has too many events to be shortened all of it.
+-- The plan and the notes are what is shown of the workload's seeded play: all of it, and no note; or its short form,
+-- with a title that says so, but where the play has too many events to be shortened all of it.
 abbrev pub IsShownPlay : Form → (Op → ℕ → Start) → Load → Plan → Notes → Type 0
 IsShownPlay Whole start work p notes = IsPlayOf start work p × (notes ≡ no_notes)
 IsShownPlay Short start work p notes =

@@ -70,10 +70,10 @@ Obeys help version Help input Wrote = Wrote help
 Obeys help version Version input Wrote = Wrote version
 Obeys help version asked input Wrote = IfSome input (λ xs. length xs ≤ LONGEST_INPUT) × IfSome input (AnswersOf asked true Wrote)
 
--- Status 1: the answer is a no, which only check, why, find and judge have; or the line of a fault was told, or a first part of it.
--- The fault holds of the input, and nothing was written unless the writer failed; then a first part of an answer was.
--- Of what is told where a history of JSON lines is refused no clause speaks. Where help or the version was asked for,
--- the writer failed.
+-- Status 1: the answer is a no, which only check, why, find and judge have; or the line of a fault was told, or a
+-- first part of it. The fault holds of the input, and nothing was written unless the writer failed; then a first
+-- part of an answer was. Of what is told where a history of JSON lines is refused no clause speaks. Where help or
+-- the version was asked for, the writer failed.
 abbrev pub Stops : Asked → Option (List ℕ) → Type 0 → Option (List ℕ) → Option (List ℕ) → Type 0 → Option (List ℕ) → Option (List ℕ) → Type 0
 Stops (OfText command) input unwritten old new untold was is = StopsCommand (command ≡ Check) (λ (fault : Fault). fault) fault_line (BlamesCommand command) (AnswersOf (OfText command)) input unwritten old new untold was is
 Stops (Show view) input unwritten old new untold was is = StopsCommand ⊥ Command show_line (Blames view) (AnswersOf (Show view)) input unwritten old new untold was is
