@@ -41,7 +41,10 @@ class _Point(ctypes.Structure):
 
 def _load() -> Tuple[ctypes.CDLL, Any]:
     folder = os.environ.get("TELLWYDAR_LIB", os.path.dirname(os.path.abspath(__file__)))
-    library = ctypes.CDLL(os.path.join(folder, "libtellwydar.so"))
+    path = os.path.join(folder, "libtellwydar.so")
+    if not os.path.exists(path):
+        raise ImportError(f"{path} isn't there: `tools/install --library` makes it, and TELLWYDAR_LIB names its folder")
+    library = ctypes.CDLL(path)
     u8, u16, u32, u64, size, handle = ctypes.c_uint8, ctypes.c_uint16, ctypes.c_uint32, ctypes.c_uint64, ctypes.c_size_t, ctypes.c_void_p
     room = ctypes.c_char_p
     for word in ("replay", "check", "play", "play_fair", "verify"):
