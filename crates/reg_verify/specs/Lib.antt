@@ -1,6 +1,3 @@
-pub mod RecordLines
-pub mod Refusals
-pub mod Stops
 pub mod Logs
 pub mod Adding
 pub mod Verifies

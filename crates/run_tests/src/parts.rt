@@ -8,6 +8,7 @@ mod growths;
 mod holdbacks;
 mod large_texts;
 mod links;
+mod logs;
 mod meetings;
 mod nodes;
 mod orders;

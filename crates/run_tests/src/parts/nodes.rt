@@ -124,7 +124,7 @@ pub(crate) const WROTE: LogEntry = LogEntry {
     reply: None,
 };
 
-const ACKNOWLEDGED: LogEntry = LogEntry {
+pub(crate) const ACKNOWLEDGED: LogEntry = LogEntry {
     step: TAKE_ACK,
     reply: Some(Reply {
         answer: Answer::Done,

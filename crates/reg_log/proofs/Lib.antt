@@ -1,0 +1,9 @@
+pub mod Heads
+pub mod Accounts
+pub mod Signs
+pub mod Entries
+pub mod Hexes
+pub mod Written
+pub mod Sealed
+pub mod Journals
+pub mod Owned

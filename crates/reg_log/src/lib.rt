@@ -1,0 +1,20 @@
+//! What processes did, as text: records of processes that ran apart, and the log of one process, whose lines are those
+//! of a record, each behind its seal.
+#![tactic(auto)]
+
+mod beginning;
+mod frame_text;
+pub mod laws;
+mod logs;
+mod record_text;
+mod recorded;
+mod sealing;
+mod seals;
+mod step_lines;
+mod writing;
+
+pub use beginning::begin_log;
+pub use logs::{Log, LogFault, LogId, ReadLog, read_log};
+pub use record_text::{Record, RecordFault, parse_record};
+pub use recorded::Recorded;
+pub use writing::{LineFault, recorded_line, sealed_entry};
