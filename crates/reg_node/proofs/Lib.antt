@@ -3,3 +3,4 @@ pub mod Living
 pub mod Numbers
 pub mod Crashing
 pub mod Remaking
+pub mod Spelling

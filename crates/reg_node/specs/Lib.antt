@@ -4,3 +4,4 @@ pub mod Opening
 pub mod Crashes
 pub mod Replaying
 pub mod Meetings
+pub mod Logged

@@ -63,3 +63,18 @@ pub enum MeetingFault {
     #[error("{fault}")]
     OfNode { fault: NodeFault },
 }
+
+/// Why a node that spells its log writes nothing: the first of these that applies.
+#[derive(Clone, Copy, Debug, PartialEq, Eq, Error)]
+pub enum LoggedFault {
+    /// It has stopped for good. Nothing has changed.
+    #[error("stopped")]
+    Stopped,
+    /// There was no memory for the text of an entry, or a register without a name. The step was made and is in no log,
+    /// so the node has stopped for good, and what went out of the step is never handed out.
+    #[error("unspelled")]
+    Unspelled,
+    /// As the node says.
+    #[error("{fault}")]
+    OfMeeting { fault: MeetingFault },
+}

@@ -4,12 +4,14 @@
 
 mod faults;
 pub mod laws;
+mod logged;
 mod meetings;
 mod nodes;
 mod outputs;
 mod replaying;
 
-pub use faults::{HelloFault, MeetingFault, NodeFault, NotLogged, OpenFault};
+pub use faults::{HelloFault, LoggedFault, MeetingFault, NodeFault, NotLogged, OpenFault};
+pub use logged::LoggedNode;
 pub use meetings::MeetingNode;
 pub use nodes::Node;
 pub use outputs::Output;

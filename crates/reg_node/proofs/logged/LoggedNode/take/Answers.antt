@@ -1,0 +1,12 @@
+use Rattle.std.proofs.Common.{sym, subst}
+use Rattle.reg_process.specs.declared.steps.Step.TheVariants.{Take}
+use Rattle.reg_node.specs.Logged.{IsSpelled, LoggedState}
+use Rattle.reg_node.proofs.Spelling.{spelled_by}
+use Rattle.reg_node.proofs.logged.LoggedNode.take.Goals as goal
+
+pub returns-clause-spelled : goal.returns-clause-spelled
+returns-clause-spelled g c = λ first j past is.
+    let fields = c.self.inside in
+    let old : LoggedState = record { meeting = fields.meeting; process = fields.process; names = fields.names; crc = fields.crc; stopped = fields.stopped } in
+    spelled_by g.F.FrontEnd.start first j past (λ v. v.items) old c.spell.new.self c.take-made.new.self (Take c.args.from c.args.frame.now) c.take-made.result c.spell.result c.if-self.false c.take-made.ensures.made c.spell.ensures
+    (subst (λ (l : LoggedState). IsSpelled g.F.FrontEnd.start first j past l) (sym c.self.view_is) is)
