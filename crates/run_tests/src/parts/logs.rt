@@ -1,13 +1,13 @@
 //! Worked examples of logs as text. Their seals were computed with another program's CRC-32.
 use crate::demands::demand;
-use crate::parts::nodes::{ACKNOWLEDGED, WROTE};
+use crate::parts::nodes::{ACKNOWLEDGED, CALL_READ, CALL_WRITE, TAKE_ACK, WROTE};
 use crate::parts::texts::names_of;
 use reg_base::{Op, Shape};
 use reg_frames::{Body, Frame};
-use reg_front::Front;
+use reg_front::{Front, Linear};
 use reg_log::{LineFault, LogFault, LogId, ReadLog, Recorded, begin_log, read_log, sealed_entry};
-use reg_node::{LogEntry, Step};
-use std::alloc::AllocError;
+use reg_node::{LogEntry, LoggedFault, LoggedNode, MeetingFault, Step};
+use std::alloc::{AllocError, Global};
 use std::process::Abort;
 
 /// The log of process 0 of two that share a register x.
@@ -137,4 +137,58 @@ fn unfit_entries_have_no_line(rt: HostRuntime) {
         let line = sealed_entry(rt.alloc(), &names, 0, &recorded);
         assert!(rt; line.err() == Some(LineFault::Unfit));
     }
+}
+
+/// A node that goes on after the log of these pieces, and has heard from the other process.
+fn opened(rt: &(impl Abort + AllocGlobal), pieces: &[&str]) -> LoggedNode<Linear> {
+    let mut bytes = String::new(rt.alloc());
+    for piece in pieces {
+        bytes.push_str(piece).expect(rt, "memory");
+    }
+    let read = read_log(rt.alloc(), bytes.as_bytes(), 0).expect(rt, "a log");
+    LoggedNode::open(rt.alloc(), read).expect(rt, "a node")
+}
+
+/// What the log grows by where the node is asked for a step.
+fn written(node: &mut LoggedNode<Linear>, step: Step) -> Result<Vec<u8, Global>, LoggedFault> {
+    match step {
+        Step::Call { op } => node.call(op),
+        Step::Take { from, frame } => node.take(from, &frame),
+        Step::Tick => node.tick(),
+    }
+}
+
+/// Demands that the log grows by this line.
+fn demand_line(
+    rt: &(impl Abort + AllocGlobal),
+    node: &mut LoggedNode<Linear>,
+    step: Step,
+    line: &str,
+) {
+    let bytes = written(node, step).expect(rt, line);
+    demand(rt, line, bytes.as_slice() == line.as_bytes());
+}
+
+#[test]
+fn nodes_spell_the_entries_of_their_logs(rt: HostRuntime) {
+    let mut node = opened(&rt, &[HEAD]);
+    let early = written(&mut node, CALL_WRITE).err();
+    assert!(rt; early == Some(LoggedFault::OfMeeting { fault: MeetingFault::Unheard }));
+    assert!(rt; node.hear(1, 0).is_ok());
+    demand_line(&rt, &mut node, CALL_WRITE, WRITE);
+    assert!(rt; node.hand_out().is_none() && node.mark_durable(1).is_ok());
+    assert!(rt; node.hand_out().is_some() && node.hand_out().is_none());
+    demand_line(&rt, &mut node, TAKE_GOT.step, GOT);
+    demand_line(&rt, &mut node, TAKE_ACK, ACKNOWLEDGE);
+    assert!(rt; node.mark_durable(4).is_err() && !node.is_stopped());
+}
+
+/// After a crash that tore the last entry off, the node writes it again.
+#[test]
+fn nodes_go_on_behind_what_a_crash_left(rt: HostRuntime) {
+    let mut node = opened(&rt, &[HEAD, WRITE, GOT, "b9d266ce 0 take 1 00130101"]);
+    assert!(rt; node.meeting().node().logged() == 2 && node.hand_out().is_none());
+    let early = written(&mut node, CALL_READ).err();
+    assert!(rt; early == Some(LoggedFault::OfMeeting { fault: MeetingFault::Unheard }));
+    demand_line(&rt, &mut node, TAKE_ACK, ACKNOWLEDGE);
 }
