@@ -1,5 +1,5 @@
-//! The command that judges a record of processes that ran apart: what they did is a run, whose report is printed, or the
-//! first line is named with which it is no run.
+//! The command that judges a record of processes that ran apart: what they did is a run, whose report is printed, or
+//! the first line is named with which it is no run.
 #![tactic(auto)]
 
 mod faults;
