@@ -30,20 +30,19 @@ pub struct LogId {
     pub begun: u64,
 }
 
-/// Why bytes are read as no log: the first of these that applies. `OutOfMemory` may stand in place of each.
+/// Why bytes are read as no log. The contract says of the first three that the bytes spell none.
 #[derive(Clone, Copy, Debug, PartialEq, Eq, Error)]
 pub enum LogFault {
-    /// The first line with which no log goes on, among those that stand whole behind their seals, and what is wrong
-    /// with it.
+    /// The line at which the reader stopped, of those that stand whole behind their seals, and what is wrong with it.
     #[error("line {line}: {why}")]
     Line { line: u64, why: Why },
     /// The shape doesn't have the process.
     #[error("no process")]
     NoProcess,
-    /// The entry at this place, from 0, is the first of another process.
+    /// The entry at this place, from 0, is of another process.
     #[error("entry {place}: of another process")]
     Foreign { place: u64 },
-    /// The entry at this place, from 0, doesn't stand whole behind its seal, and was told to be durable.
+    /// The entry at this place, from 0, is the first that doesn't stand whole behind its seal, and was told durable.
     #[error("entry {place}: damaged")]
     Damaged { place: u64 },
     /// There was no memory.
@@ -166,8 +165,8 @@ fn read_lines<A: Allocator + Copy>(alloc: A, lines: &mut Lines<'_>) -> Result<Lo
     })
 }
 
-/// The log that the bytes spell, of which so many entries were told to be durable. What a crash left behind the last
-/// line that stands whole is no part of it.
+/// The log that the bytes spell, of which so many entries were told durable. What a crash left behind the last line
+/// that stands whole is no part of it.
 pub fn read_log<A: Allocator + Copy>(
     alloc: A,
     bytes: &[u8],
