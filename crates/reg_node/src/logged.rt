@@ -41,7 +41,9 @@ impl<F: FrontEnd, A: Allocator + Copy> Model for LoggedNode<F, A> {
 }
 
 impl<F: FrontEnd, A: Allocator + Copy> LoggedNode<F, A> {
-    /// A node that goes on after the log that was read, as by `Node::open`, and has heard from no other process.
+    /// A node that goes on after the log that was read, as by `Node::open`, and has heard from no other process. The
+    /// caller takes `F` by the log's front end, which is not looked at here, and cuts off what stands behind the
+    /// log.
     ///
     /// # Errors
     ///
