@@ -152,16 +152,19 @@ IsFindLine line kind = line ≡ codes "find" ∷ order_word kind ∷ []
 abbrev pub IsHelpWith : List Text → Text → Type 0
 IsHelpWith line name = (line ≡ codes "help" ∷ name ∷ []) ⊎ ((line ≡ name ∷ codes "-h" ∷ []) ⊎ (line ≡ name ∷ codes "--help" ∷ []))
 
--- the words ask for help with a command
-abbrev pub IsHelpOfOne : List Text → Type 0
-IsHelpOfOne line =
-    IsHelpWith line (codes "replay") ⊎ (IsHelpWith line (codes "check") ⊎ (IsHelpWith line (codes "play")
-    ⊎ (IsHelpWith line (codes "trace") ⊎ (IsHelpWith line (codes "draw") ⊎ (IsHelpWith line (codes "data") ⊎ (IsHelpWith line (codes "page") ⊎ (IsHelpWith line (codes "rest")
-    ⊎ (IsHelpWith line (codes "schedule") ⊎ (IsHelpWith line (codes "outcomes") ⊎ (IsHelpWith line (codes "find") ⊎ (IsHelpWith line (codes "why") ⊎ (IsHelpWith line (codes "verify") ⊎ IsHelpWith line (codes "judge")))))))))))))
+-- the words ask for help with a command that awreg has too
+abbrev pub IsHelpOfText : List Text → Type 0
+IsHelpOfText line = IsHelpWith line (codes "replay") ⊎ (IsHelpWith line (codes "check") ⊎ IsHelpWith line (codes "play"))
+
+-- the words ask for help with a command that awreg hasn't
+abbrev pub IsHelpOfOwn : List Text → Type 0
+IsHelpOfOwn line =
+    IsHelpWith line (codes "trace") ⊎ (IsHelpWith line (codes "draw") ⊎ (IsHelpWith line (codes "data") ⊎ (IsHelpWith line (codes "page") ⊎ (IsHelpWith line (codes "rest")
+    ⊎ (IsHelpWith line (codes "schedule") ⊎ (IsHelpWith line (codes "outcomes") ⊎ (IsHelpWith line (codes "find") ⊎ (IsHelpWith line (codes "why") ⊎ (IsHelpWith line (codes "verify") ⊎ IsHelpWith line (codes "judge"))))))))))
 
 -- the words ask for help, alone or with a command
 abbrev pub IsHelpLine : List Text → Type 0
-IsHelpLine line = (line ≡ codes "help" ∷ []) ⊎ ((line ≡ codes "-h" ∷ []) ⊎ ((line ≡ codes "--help" ∷ []) ⊎ IsHelpOfOne line))
+IsHelpLine line = (line ≡ codes "help" ∷ []) ⊎ ((line ≡ codes "-h" ∷ []) ⊎ ((line ≡ codes "--help" ∷ []) ⊎ (IsHelpOfText line ⊎ IsHelpOfOwn line)))
 
 -- the words ask for just this
 abbrev pub IsLineOf : Asked → List Text → Type 0

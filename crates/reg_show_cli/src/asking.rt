@@ -7,7 +7,7 @@ ghost use Rattle.reg_show.specs.declared.Showing.{Showing as AnyShowing};
 ghost use Rattle.reg_show.specs.declared.showing.View.{View as AnyView};
 ghost use Rattle.reg_commands.specs.declared.command.Command.{Command as AnyCommand};
 ghost use Rattle.reg_show_cli.specs.declared.words.Asked.{Asked as AnyAsked};
-ghost use Rattle.reg_show_cli.specs.Lines.{IsAllLine, IsFindLine, IsHelpLine, IsHelpOfOne, IsHelpWith, IsJudgeLine, IsLineOf, IsOneOutcomeLine, IsOutcomesLine, IsScheduleLine, IsShortLine, IsShowLine, IsVerifyLine, IsVersionLine, IsWhyLine, name_of, text_line};
+ghost use Rattle.reg_show_cli.specs.Lines.{IsAllLine, IsFindLine, IsHelpLine, IsHelpOfOwn, IsHelpOfText, IsHelpWith, IsJudgeLine, IsLineOf, IsOneOutcomeLine, IsOutcomesLine, IsScheduleLine, IsShortLine, IsShowLine, IsVerifyLine, IsVersionLine, IsWhyLine, name_of, text_line};
 
 use crate::flags::{
     Plays, behind, form_said, judging_said, line_of, number_alone, player_said, plays_said,
@@ -170,14 +170,20 @@ fn asks_help_with(words: &[String], name: &str) -> bool
     are_two(words, "help", name) || are_two(words, name, "-h") || are_two(words, name, "--help")
 }
 
-/// Whether the words ask for help with a command.
-fn asks_help_of_one(words: &[String]) -> bool
-    ensures { result ≡ true ↔ IsHelpOfOne (behind_name words.now) }
+/// Whether the words ask for help with a command that `awreg` has too.
+fn asks_help_of_text(words: &[String]) -> bool
+    ensures { result ≡ true ↔ IsHelpOfText (behind_name words.now) }
 {
     asks_help_with(words, "replay")
         || asks_help_with(words, "check")
         || asks_help_with(words, "play")
-        || asks_help_with(words, "trace")
+}
+
+/// Whether the words ask for help with a command that `awreg` hasn't.
+fn asks_help_of_own(words: &[String]) -> bool
+    ensures { result ≡ true ↔ IsHelpOfOwn (behind_name words.now) }
+{
+    asks_help_with(words, "trace")
         || asks_help_with(words, "draw")
         || asks_help_with(words, "data")
         || asks_help_with(words, "page")
@@ -197,7 +203,8 @@ fn asks_help(words: &[String]) -> bool
     is_alone(words, "help")
         || is_alone(words, "-h")
         || is_alone(words, "--help")
-        || asks_help_of_one(words)
+        || asks_help_of_text(words)
+        || asks_help_of_own(words)
 }
 
 /// What words ask for that say no number and no player.
