@@ -6,7 +6,9 @@ import { execFileSync } from "node:child_process";
 import { existsSync, mkdtempSync, readFileSync, readdirSync, rmSync } from "node:fs";
 import { tmpdir } from "node:os";
 import { dirname, join, resolve } from "node:path";
+import { setFlagsFromString } from "node:v8";
 import { TOP } from "../tools/programs.mjs";
+import { Engine } from "../web/js/engine.js";
 
 const folder = mkdtempSync(join(tmpdir(), "web-"));
 after(() => rmSync(folder, { recursive: true }));
@@ -14,12 +16,46 @@ execFileSync(join(TOP, "tools", "web"), [folder, "--page"]);
 const read = path => readFileSync(join(folder, path), "utf8");
 const files = readdirSync(folder, { recursive: true, encoding: "utf8" });
 const scripts = files.filter(path => path.endsWith(".js"));
+const chapters = readFileSync(join(TOP, "docs", "TUTORIAL.md"), "utf8").match(/^## \d+\. .*$/gm);
+const pages = ["index.html", "playground.html", ...chapters.map((_, at) => `lesson/${at + 1}.html`)];
 
-test("each file that the page names lies in the folder, by a path that holds anywhere", () => {
-  const named = [...read("index.html").matchAll(/(?:href|src)="([^"#]+)"/g)].map(([, path]) => path)
-    .filter(path => !path.startsWith("data:"));
-  assert.ok(named.length > 10);
-  for (const path of named) assert.ok(!path.startsWith("/") && existsSync(join(folder, path)), path);
+test("each file that a page names lies in the folder, by a path that holds anywhere", () => {
+  for (const page of pages) {
+    const named = [...read(page).matchAll(/(?:href|src)="([^"#]+)[^"]*"/g)].map(([, path]) => path)
+      .filter(path => !path.startsWith("data:"));
+    assert.ok(named.length > 5, page);
+    for (const path of named) {
+      assert.ok(!path.startsWith("/") && existsSync(join(folder, dirname(page), path)), `${page}: ${path}`);
+    }
+  }
+});
+
+test("the first page leads to each chapter and to each exercise", () => {
+  const first = read("index.html"), exercises = JSON.parse(read("lists/exercises.json"));
+  assert.equal(first.match(/<li data-chapter>/g).length, chapters.length);
+  for (const { name } of exercises) assert.ok(first.includes(`playground.html#exercise=${name}"`), name);
+});
+
+/** The text of a page as it is read, without its marks. */
+const plain = page => page.replace(/<[^>]*>/g, "").replaceAll("&lt;", "<").replaceAll("&gt;", ">")
+  .replaceAll("&amp;", "&");
+
+test("each chapter has the text of the tutorial: its blocks of code as they stand", () => {
+  const parts = readFileSync(join(TOP, "docs", "TUTORIAL.md"), "utf8").split(/^## /m).slice(1, chapters.length + 1);
+  parts.forEach((part, at) => {
+    const text = plain(read(`lesson/${at + 1}.html`));
+    const blocks = part.split(/^```$/m).filter((_, place) => place % 2 === 1);
+    for (const line of blocks.flatMap(block => block.split("\n"))) assert.ok(text.includes(line), line);
+    assert.ok(text.includes(/Question \d+/.exec(part)?.[0] ?? ""));
+  });
+});
+
+test("what a chapter lets run is in the module", () => {
+  const source = ["texts.rt", "plays.rt"].map(name => readFileSync(join(TOP, "crates/reg_web/src", name), "utf8")).join("");
+  const steps = pages.flatMap(page => [...read(page).matchAll(/data-steps="([^"]+)"/g)]
+    .flatMap(([, words]) => words.split(" ")));
+  assert.ok(steps.length > 15);
+  for (const step of steps) assert.ok(source.includes(`fn tellwydar_${step.replaceAll("-", "_")}(`), step);
 });
 
 test("each script that a script names lies in the folder", () => {
@@ -31,8 +67,10 @@ test("each script that a script names lies in the folder", () => {
   }
 });
 
-test("the page has a policy, and no script asks for a page or a run of a server", () => {
-  assert.match(read("index.html"), /http-equiv="Content-Security-Policy" content="default-src 'none'; script-src 'self'/);
+test("each page has a policy, and no script asks for a page or a run of a server", () => {
+  for (const page of pages) {
+    assert.match(read(page), /http-equiv="Content-Security-Policy" content="default-src 'none'; script-src 'self'/);
+  }
   for (const script of scripts) assert.doesNotMatch(read(script), /fetch\("\//, script);
 });
 
@@ -45,6 +83,41 @@ test("no site is named but in names of forms", () => {
 
 test("the lists are those that the server gives", () => {
   const groups = new Set(JSON.parse(read("lists/examples.json")).map(({ group }) => group));
-  assert.deepEqual([...groups], ["Schedules", "Workloads", "Litmus tests", "Reports"]);
+  assert.deepEqual([...groups], ["Schedules", "Workloads", "Litmus tests", "Reports", "Without this rule"]);
   assert.ok(JSON.parse(read("lists/exercises.json")).every(({ task }) => task));
+});
+
+test("each rule that is left out has its run, its report and what is left out", () => {
+  const broken = JSON.parse(read("lists/examples.json")).filter(({ group }) => group === "Without this rule");
+  const folders = readdirSync(join(TOP, "examples/broken"), { withFileTypes: true }).filter(it => it.isDirectory());
+  assert.deepEqual(broken.map(({ name }) => name.replaceAll(" ", "-")).sort(), folders.map(({ name }) => name).sort());
+  for (const { name, lacks, text, report } of broken) {
+    const file = of => readFileSync(join(TOP, "examples/broken", name.replaceAll(" ", "-"), of), "utf8");
+    assert.deepEqual([text, report], [file("schedule.sched"), file("report.txt")]);
+    assert.ok(lacks && !/[`\][*]/.test(lacks), lacks);
+  }
+});
+
+/** A part of a module: its number, its length, and its bytes. */
+const part = (number, ...bytes) => [number, bytes.length, ...bytes];
+const name = text => [text.length, ...Buffer.from(text)];
+
+/** A module with two commands, of which one traps and one answers nothing. */
+function trapping() {
+  const eight = [0x60, 8, ...Array(8).fill(0x7e), 1, 0x7f]; // eight numbers of 64 bits to one of 32
+  return new Uint8Array([0, 0x61, 0x73, 0x6d, 1, 0, 0, 0, ...part(1, 1, ...eight), ...part(3, 2, 0, 0),
+    ...part(5, 1, 4, 1), ...part(6, 1, 0x7e, 0, 0x42, 16, 0x0b),
+    ...part(7, 4, ...name("memory"), 2, 0, ...name("__heap_base"), 3, 0, ...name("tellwydar_replay"), 0, 0,
+      ...name("tellwydar_check"), 0, 1),
+    ...part(10, 2, 3, 0, 0, 0x0b, 4, 0, 0x41, 0, 0x0b)]);
+}
+
+test("after a trap the next run has a new instance", () => {
+  setFlagsFromString("--experimental-wasm-memory64");
+  const engine = new Engine(new WebAssembly.Module(trapping()));
+  assert.equal(engine.run("check", new Uint8Array(4)).status, 0);
+  const before = engine.instance;
+  assert.throws(() => engine.run("replay", new Uint8Array(4)), WebAssembly.RuntimeError);
+  assert.equal(engine.run("check", new Uint8Array(4)).status, 0);
+  assert.notEqual(engine.instance, before);
 });

@@ -1,5 +1,6 @@
 // What the playground may begin with: an example, an exercise, or the text of an address.
 import { byId, html } from "../../page/js/elements.js";
+import { showBroken } from "./broken.js";
 import { textOf } from "./links.js";
 import { headOfSchedule } from "./texts.js";
 
@@ -39,8 +40,10 @@ export class Choices {
 
   async chooseExample(value) {
     if (value === "") return;
-    await this.begin(value === "new" ? START : this.examples[+value].text, { at: value === "new" ? Infinity : 0 });
+    const example = value === "new" ? { text: START } : this.examples[+value];
+    await this.begin(example.text);
     byId("examples").value = value;
+    if (example.report) await showBroken(example);
   }
 
   async chooseExercise(name) {
@@ -58,6 +61,7 @@ export class Choices {
     byId("examples").value = "";
     byId("output").hidden = true;
     playground.lost.clear();
+    playground.run = null; // the last good run is one of another text
     await playground.setText(text, { at });
   }
 
@@ -66,7 +70,8 @@ export class Choices {
     const text = textOf(location.hash), theme = /theme=(dark|light)/.exec(location.hash);
     const exercise = /exercise=([\w-]+)/.exec(location.hash);
     if (theme) this.playground.theme.choose(theme[1]);
-    if (text !== null) await this.begin(text, { at: 0 });
+    const event = /[#&]event=(start|\d+)/.exec(location.hash);
+    if (text !== null) await this.begin(text, { at: !event ? Infinity : event[1] === "start" ? -1 : +event[1] });
     else if (exercise) await this.chooseExercise(exercise[1]);
     return text !== null || exercise !== null;
   }

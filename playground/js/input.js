@@ -1,5 +1,6 @@
 // Which click and which key does what. A click in the diagram comes here before the page's view takes it for a step.
 import { byId } from "../../page/js/elements.js";
+import { stopRuns } from "./api.js";
 
 const KINDS = ["cast", "ack", "count"];
 
@@ -24,7 +25,7 @@ export class Input {
       rest: () => actions.rest(),
       check: () => actions.check(), save: () => actions.openSaves(), link: () => actions.link(),
       outcomes: () => actions.outcomes(), "as-seeded": () => actions.asSchedule("schedule"),
-      "as-fair": () => actions.asSchedule("schedule-fair"),
+      "as-fair": () => actions.asSchedule("schedule-fair"), stop: () => stopRuns(),
     };
     for (const [id, act] of Object.entries(buttons)) byId(id).onclick = act;
   }

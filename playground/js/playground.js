@@ -107,6 +107,7 @@ export class Playground {
       refusal || "The text is refused, so there is no run yet. Why it is stands below it."));
     const place = placeOf(why), above = place ? text.split("\n").slice(0, place.line).join("\n") : "";
     const { told } = above ? await look(above) : EMPTY;
+    this.lines = eventLines(above);
     if (told) this.showRun(Infinity, this.run = new Run(told));
     else document.body.classList.add("no-run");
   }
@@ -124,6 +125,8 @@ export class Playground {
     offers.take(run, this.lost);
     this.chooseEnds();
     view.setRun(run);
+    // the line of the event that is shown stands behind the texts of events
+    view.diagram.layers.nodes.before(view.diagram.layers.now);
     view.showHead();
     byId("offers").hidden = !this.canClick;
     offers.show();

@@ -2,13 +2,28 @@
 // Who answers the page: tools/playground. A page with no server has another file in this one's place (web/js).
 // The names of commands are those of COMMANDS in tools/playground.
 
+/** @type {AbortController} */
+let stopping = new AbortController();
+
 /** @param {string} command @param {string} text @returns {Promise<{status: number, output: string, error: string}>} */
 export async function ask(command, text) {
-  const answer = await fetch("/run/" + command, {
-    method: "POST", body: new Blob([text]), headers: { "Content-Type": "application/octet-stream" },
-  });
-  const told = await answer.json();
-  return answer.ok ? told : { status: -1, output: "", error: told.error };
+  const { signal } = stopping, isStopped = () => signal.aborted;
+  try {
+    const answer = await fetch("/run/" + command, {
+      method: "POST", body: new Blob([text]), headers: { "Content-Type": "application/octet-stream" }, signal,
+    });
+    const told = await answer.json();
+    return answer.ok ? told : { status: -1, output: "", error: told.error };
+  } catch (fault) {
+    if (isStopped()) return { status: -1, output: "", error: "stopped" };
+    throw fault;
+  }
+}
+
+/** Waits no more for the runs that are under way. */
+export function stopRuns() {
+  stopping.abort();
+  stopping = new AbortController();
 }
 
 /** A list: the examples, the exercises, or the text that the page begins with. */

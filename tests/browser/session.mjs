@@ -17,6 +17,15 @@ export async function startServer(...words) {
   return { address, stop: () => server.kill() };
 }
 
+/** Serves a folder's files at any free port, by Python's own server; gives its address and what ends it. */
+export async function serveFolder(folder) {
+  const server = spawn("python3", ["-u", "-m", "http.server", "--bind", "127.0.0.1", "--directory", folder, "0"],
+    { stdio: ["ignore", "pipe", "ignore"] });
+  process.on("exit", () => server.kill());
+  const line = await new Promise(found => server.stdout.once("data", told => found(String(told))));
+  return { address: `http://127.0.0.1:${/ port (\d+)/.exec(line)[1]}/`, stop: () => server.kill() };
+}
+
 export const example = name => readFileSync(join(TOP, "examples", name), "utf8");
 
 /** The lines of a text that count: no comments, no empty ones. */

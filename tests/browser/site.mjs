@@ -1,23 +1,17 @@
 // The page with no server, as tools/web laid it in a folder, in a headless Chromium: what a person does with schedules
 // and reports there. `tools/web --look` runs it; any server of files does, here Python's.
 import assert from "node:assert/strict";
-import { spawn } from "node:child_process";
+import { mkdirSync } from "node:fs";
 import { join } from "node:path";
 import { Browser } from "./driver.mjs";
-import { Session, example, fragment, linesOf, schedule } from "./session.mjs";
+import { triesOfFirstPage, triesOfLesson } from "./lesson.mjs";
+import { triesOfLimits } from "./limits.mjs";
+import { Session, example, fragment, linesOf, schedule, serveFolder } from "./session.mjs";
 
 const [folder, shots] = process.argv.slice(2);
-
-/** Serves the folder at any free port; gives its address and what ends it. */
-async function serve() {
-  const server = spawn("python3", ["-u", "-m", "http.server", "--bind", "127.0.0.1", "--directory", folder, "0"],
-    { stdio: ["ignore", "pipe", "ignore"] });
-  process.on("exit", () => server.kill());
-  const line = await new Promise(found => server.stdout.once("data", told => found(String(told))));
-  return { address: `http://127.0.0.1:${/ port (\d+)/.exec(line)[1]}/`, stop: () => server.kill() };
-}
-
-const { address, stop } = await serve(), browser = await Browser.start(), session = new Session(browser, address);
+const { address, stop } = await serveFolder(folder), browser = await Browser.start();
+const session = new Session(browser, address + "playground.html");
+if (shots) mkdirSync(shots, { recursive: true });
 await browser.size(1440, 940);
 
 /** The last event of the run that is shown. */
@@ -77,7 +71,7 @@ const TRIES = {
   async "what is not in the page is told so, and a text of 256 MB is refused by its line"() {
     const told = await browser.value(`(async () => {
       const { ask } = await import("./playground/js/server.js");
-      const answers = [ask("outcomes", ""), ask("replay", "#".repeat(1 << 28)), ask("check", ${JSON.stringify(
+      const answers = [ask("judge", ""), ask("replay", "#".repeat(1 << 28)), ask("check", ${JSON.stringify(
         example("one-process.report"))})];
       return (await Promise.all(answers)).map(({ output, error }) => output || error);
     })()`);
@@ -86,8 +80,11 @@ const TRIES = {
   },
 };
 
+const context = { browser, session, address, shots, folder };
+const all = Object.entries({ ...TRIES, ...triesOfFirstPage(context), ...triesOfLesson(context),
+  ...triesOfLimits(context) });
 let wrong = 0;
-for (const [name, attempt] of Object.entries(TRIES)) {
+for (const [name, attempt] of all) {
   const had = browser.errors.length;
   let fault = "";
   try {
@@ -97,7 +94,7 @@ for (const [name, attempt] of Object.entries(TRIES)) {
     if (shots) await browser.picture(join(shots, "fault.png"));
   }
   const faults = [fault, ...browser.errors.slice(had),
-    ...browser.requests.filter(url => !url.startsWith(address) && !/^(about|blob|data):/.test(url))].filter(it => it);
+    ...browser.requests.filter(url => !/^(about|blob|data|http:\/\/127\.0\.0\.1):/.test(url))].filter(it => it);
   console.log((faults.length ? "not well: " : "well: ") + name + faults.map(it => "\n  " + it).join(""));
   if (faults.length) wrong++;
 }

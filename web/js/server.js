@@ -1,6 +1,6 @@
 // @ts-check
-// Who answers the page where there is no server: the proved programs in this folder, in a thread of their own. It
-// stands in the place of playground/js/server.js.
+// Who answers the page where there is no server: the proved programs in this folder, in a thread of their own. What
+// playground/js/server.js exports stands here, too.
 
 const SECONDS = 10;
 const STOPPED = { status: -1, output: "", error: `stopped: a run has ${SECONDS} s, 1 GB and 32 MB of output` };
@@ -39,6 +39,13 @@ function done(answer) {
   underWay = null;
   ended?.tell(answer);
   go();
+}
+
+/** Ends the run that is under way, and those that wait for it. */
+export function stopRuns() {
+  const stopped = { status: -1, output: "", error: "stopped" };
+  for (const { tell } of queue.splice(0)) tell(stopped);
+  if (underWay) stop(stopped);
 }
 
 function go() {

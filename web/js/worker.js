@@ -1,14 +1,10 @@
 // Runs one command after another, off the page's own thread.
 import { Engine } from "./engine.js";
-
-// The smallest module that has a memory with 64-bit addresses.
-const WIDE = new Uint8Array([0, 97, 115, 109, 1, 0, 0, 0, 5, 3, 1, 4, 1]);
-const NARROW = "This browser's WebAssembly has no 64-bit memories, which the programs need: Chromium has them from " +
-  "version 133.";
+import { NARROW, isWide } from "./wide.js";
 
 async function load() {
-  if (!WebAssembly.validate(WIDE)) throw new Error(NARROW);
-  const answer = await fetch(new URL("tellwydar.wasm", import.meta.url));
+  if (!isWide()) throw new Error(NARROW);
+  const answer = await fetch(new URL("../tellwydar.wasm", import.meta.url));
   if (!answer.ok) throw new Error("The programs' module is not beside this page.");
   return new Engine(await WebAssembly.compile(await answer.arrayBuffer()));
 }
