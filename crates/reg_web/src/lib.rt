@@ -15,4 +15,5 @@ pub use plays::{
 pub use texts::{
     tellwydar_check, tellwydar_data, tellwydar_draw, tellwydar_find_points, tellwydar_find_serial,
     tellwydar_kind, tellwydar_page, tellwydar_replay, tellwydar_rest, tellwydar_trace,
+    tellwydar_verify,
 };

@@ -6,7 +6,7 @@ ghost use Rattle.reg_commands.specs.Lent.{Fills};
 ghost use Rattle.reg_commands.specs.declared.command.Command.{Command};
 ghost use Rattle.reg_outcomes.specs.declared.kinds.OrderKind.{OrderKind as AnyOrder};
 ghost use Rattle.reg_show.specs.declared.showing.Showing.{Showing as AnyShowing};
-ghost use Rattle.reg_web.specs.Texts.{IsAnswer, IsFound, IsShown, kind_number};
+ghost use Rattle.reg_web.specs.Texts.{IsAnswer, IsFound, IsShown, IsVerified, kind_number};
 
 use crate::judging::{Check, Replay, ShowSchedule};
 use crate::telling::tell_in;
@@ -14,6 +14,7 @@ use reg_commands::{Kind, Lengths, kind_of};
 use reg_heap::Room;
 use reg_outcomes::OrderKind;
 use reg_show::{FindOrder, Showing};
+use reg_verify::Verify;
 
 /// What a text is meant as, by its first line that counts: 0 is a schedule, 1 a workload, 2 a report.
 #[unsafe(no_mangle)]
@@ -55,6 +56,21 @@ pub extern "C" fn tellwydar_check(
     ensures { Fills (IsAnswer Command.Check text.now) result output.old output.new errors.old errors.new lengths.new }
 {
     tell_in(Check, room, text, output, errors, lengths)
+}
+
+/// Judges the record of a run. The answer is the report of the run, and the status 0; or 1 with the line of a fault, or
+/// a first part of it.
+#[unsafe(no_mangle)]
+pub extern "C" fn tellwydar_verify(
+    room: &mut Room,
+    text: &[u8],
+    output: &mut [u8],
+    errors: &mut [u8],
+    lengths: &mut Lengths,
+) -> u8
+    ensures { Fills (IsVerified text.now) result output.old output.new errors.old errors.new lengths.new }
+{
+    tell_in(Verify, room, text, output, errors, lengths)
 }
 
 /// Looks for a serial order of a report's history. The answer is the report with it, and the status 0; or 1 with the
