@@ -1,10 +1,13 @@
 // Compares what the module and the programs tell of texts, byte for byte: of each example, exercise and litmus test by
-// each command that the module has, and of each text cut short. `tools/web --compare` runs it.
+// each command that the module has, and of each text cut short; and of random texts from a seed, each by a command of
+// its kind. Of what `awshow why` prints the first line is compared. `tools/web --compare` runs it.
 import { readFileSync, readdirSync } from "node:fs";
 import { spawnSync } from "node:child_process";
 import { join } from "node:path";
 import { TOP, program } from "../tools/programs.mjs";
 import { Engine } from "./js/engine.js";
+import { why } from "./js/why.js";
+import { Random, decoded, randomText } from "./random_texts.mjs";
 
 const WORDS = {
   "replay": ["awreg", "replay"], "check": ["awreg", "check"], "play": ["awreg", "play"],
@@ -12,16 +15,28 @@ const WORDS = {
   "data": ["awshow", "data"], "page": ["awshow", "page"], "rest": ["awshow", "rest"], "verify": ["awshow", "verify"],
   "find-serial": ["awshow", "find", "serial"], "find-points": ["awshow", "find", "points"],
   "schedule": ["awshow", "schedule"], "schedule-fair": ["awshow", "schedule", "--fair"],
-  "outcomes": ["awshow", "outcomes"],
+  "short": ["awshow", "schedule", "--short"], "short-fair": ["awshow", "schedule", "--fair", "--short"],
+  "outcomes": ["awshow", "outcomes"], "outcomes-all": ["awshow", "outcomes", "--all"], "why": ["awshow", "why"],
 };
 const FOLDERS = ["examples", "examples/litmus", "examples/exercises", "examples/exercises/tries"];
 
-const engine = new Engine(new WebAssembly.Module(readFileSync(process.argv[2])));
-const commands = Object.keys(WORDS).filter(command => engine.has(command));
+// What is asked of a random text of a kind; a thousand plays of each would take hours.
+const ASKED = {
+  workload: ["play", "play-fair", "schedule", "schedule-fair", "short", "short-fair", "outcomes-all", "data", "trace", "why"],
+  schedule: ["replay", "trace", "draw", "data", "page", "rest", "why"],
+  report: ["check", "find-serial", "find-points", "why"],
+  record: ["verify"],
+};
+
+const [path, count, seed] = process.argv.slice(2);
+const engine = new Engine(new WebAssembly.Module(readFileSync(path)));
+const commands = Object.keys(WORDS).filter(command => command === "why" || engine.has(command));
+const tally = { same: 0, refused: 0, other: 0 };
 
 /** The files of the examples, each with its text, and with its text up to the middle. */
 function* texts() {
-  for (const folder of FOLDERS) {
+  const broken = readdirSync(join(TOP, "examples/broken"), { withFileTypes: true }).filter(it => it.isDirectory());
+  for (const folder of [...FOLDERS, ...broken.map(({ name }) => join("examples/broken", name))]) {
     for (const entry of readdirSync(join(TOP, folder), { withFileTypes: true })) {
       if (!entry.isFile()) continue;
       const name = join(folder, entry.name), text = readFileSync(join(TOP, name));
@@ -31,8 +46,14 @@ function* texts() {
   }
 }
 
+const firstLine = text => Buffer.from(String(text).split("\n")[0]);
+
 /** What the module tells, as the programs tell it. */
 function told(command, text) {
+  if (command === "why") {
+    const { status, output, error } = why(engine, new Uint8Array(text));
+    return { status, stdout: firstLine(output), stderr: Buffer.from(error) };
+  }
   const { status, output, error } = engine.run(command, new Uint8Array(text));
   return { status, stdout: Buffer.from(output), stderr: Buffer.from(error) };
 }
@@ -44,20 +65,39 @@ const isSame = (one, other) => one.status === other.status && one.stdout.equals(
 const areRefused = (text, one, other) => engine.kindOf(new Uint8Array(text)) === "workload" &&
   [one, other].every(({ status, stdout }) => status === 1 && !stdout.length);
 
-let same = 0, refused = 0, other = 0;
-for (const { name, text } of texts()) {
-  for (const command of commands) {
-    const [program_name, ...words] = WORDS[command];
-    const native = spawnSync(program(program_name), words, { input: text, maxBuffer: 1 << 30 });
-    if (native.error) throw native.error;
-    const own = told(command, text);
-    if (isSame(own, native)) same++;
-    else if (areRefused(text, own, native)) refused++;
-    else {
-      other++;
-      console.log(`${command} ${name}: not the same`);
-    }
+function compare(command, name, text) {
+  const [program_name, ...words] = WORDS[command];
+  const native = spawnSync(program(program_name), words, { input: text, maxBuffer: 1 << 30 });
+  if (native.error) throw native.error;
+  if (command === "why") native.stdout = firstLine(native.stdout);
+  const own = told(command, text);
+  if (isSame(own, native)) tally.same++;
+  else if (areRefused(text, own, native)) tally.refused++;
+  else {
+    tally.other++;
+    console.log(`${command} ${name}: not the same\n  module  ${firstOf(own)}\n  program ${firstOf(native)}`);
+    if (name.startsWith("random")) console.log(JSON.stringify(Buffer.from(text).toString("latin1")));
   }
 }
-console.log(`${commands.length} commands: ${same} answers the same, ${refused} refused by another line, ${other} not`);
-process.exit(other ? 1 : 0);
+
+const firstOf = ({ status, stdout, stderr }) => `${status} ${JSON.stringify(String(stdout).slice(0, 60))} ` +
+  JSON.stringify(String(stderr).slice(0, 60));
+
+function compareRandom() {
+  const random = new Random(+seed), kinds = {};
+  const run = (command, text) => decoded(engine.run(command, new TextEncoder().encode(text)).output);
+  for (let number = 0; number < +count; number++) {
+    const { kind, text } = randomText(random, run), command = random.of(ASKED[kind.split(",")[0]]);
+    kinds[kind] = (kinds[kind] || 0) + 1;
+    compare(command, `random ${number}, a ${kind}`, text);
+  }
+  return Object.entries(kinds).sort().map(([kind, many]) => `${many} ${kind}`).join("; ");
+}
+
+for (const { name, text } of texts()) for (const command of commands) compare(command, name, text);
+const say = what => console.log(`${what}: ${tally.same} answers the same, ${tally.refused} refused by another line, ` +
+  `${tally.other} not`);
+say(`${commands.length} commands over the examples`);
+const kinds = compareRandom();
+say(`with ${count} random texts by the seed ${seed} (${kinds})`);
+process.exit(tally.other ? 1 : 0);

@@ -4,8 +4,9 @@ import { mkdirSync, readFileSync } from "node:fs";
 import { join } from "node:path";
 import { parseArgs } from "node:util";
 import { Browser } from "./driver.mjs";
+import { Firefox } from "./firefox.mjs";
 import { oddText } from "./stepping.mjs";
-import { Session, startServer } from "./session.mjs";
+import { Session, serveFolder, startServer } from "./session.mjs";
 import { triesOfPages } from "./example_pages.mjs";
 import { triesOfBuilding } from "./building.mjs";
 import { triesOfTexts } from "./texts.mjs";
@@ -14,6 +15,7 @@ import { triesOfSpeed } from "./speed.mjs";
 
 const { values: asked, positionals: words } = parseArgs({ allowPositionals: true,
   options: { shots: { type: "string", default: "" }, rounds: { type: "string", default: "20" },
+    site: { type: "string" }, firefox: { type: "boolean" },
     help: { type: "boolean", short: "h" } } });
 if (asked.help) {
   const lines = readFileSync(new URL("../../tools/pages", import.meta.url), "utf8").split("\n");
@@ -32,14 +34,16 @@ async function faultOf(attempt, { browser, session, shots }) {
     faults.push(error.message + (error instanceof assert.AssertionError ? "" : "\n" + error.stack));
     if (shots) await browser.picture(join(shots, "fault.png"));
   }
-  const isOwn = url => url.startsWith(session.address) || /^(about|blob|data|file):/.test(url);
+  const isOwn = url => url.startsWith(address) || /^(about|blob|data|file):/.test(url);
   faults.push(...browser.errors.slice(hadErrors));
   faults.push(...browser.requests.slice(hadRequests).filter(url => !isOwn(url)).map(url => "asked for " + url));
   return faults.map(fault => fault.slice(0, 2000)).join("\n");
 }
 
-const { address, stop } = await startServer(), browser = await Browser.start();
-const context = { browser, session: new Session(browser, address), shots: asked.shots, rounds: +asked.rounds };
+const { address, stop } = asked.site ? await serveFolder(asked.site) : await startServer();
+const browser = await (asked.firefox ? Firefox : Browser).start();
+const session = new Session(browser, asked.site ? address + "playground.html" : address);
+const context = { browser, session, shots: asked.shots, rounds: +asked.rounds, explains: !asked.site };
 if (asked.shots) mkdirSync(asked.shots, { recursive: true });
 await browser.size(1440, 940);
 const tries = Object.entries(Object.assign({}, ...[triesOfPages, triesOfBuilding, triesOfTexts, triesOfExercises,

@@ -99,7 +99,7 @@ export class Session {
 
   /** Types a text at the caret, or in the place of what is selected. */
   async type(text) {
-    await this.browser.send("Input.insertText", { text });
+    await this.browser.insert(text);
     await pause(350);
     await this.shown();
   }

@@ -1,17 +1,28 @@
 // Texts of every kind in the playground: what is refused, what has no run, what is saved, and what is hostile.
 import assert from "node:assert/strict";
+import { readdirSync } from "node:fs";
+import { join } from "node:path";
 import { pause } from "./driver.mjs";
 import { slide } from "./stepping.mjs";
 import { example, fragment, linesOf, schedule } from "./session.mjs";
-import { made } from "../../tools/programs.mjs";
+import { TOP, made } from "../../tools/programs.mjs";
 
 const MARKED = "document.querySelector('.mark.refused').style.top";
+
+/** What the operations of a report's history were answered, in the order of their calls. */
+function answersIn(report) {
+  const lines = linesOf(report).map(line => /^ +(\d+) +(p\d+ +#\d+) +(call|answer) +(.*)$/.exec(line)).filter(it => it);
+  return lines.filter(([, , , what]) => what === "call").map(([, , key]) => {
+    const answer = lines.find(([, , other, what]) => other === key && what === "answer");
+    return answer ? `${answer[4]}, at event ${answer[1]}` : "not answered";
+  });
+}
 
 /** A try for each kind of text. */
 export const triesOfTexts = context =>
   ({ ...triesOfRefusals(context), ...triesOfHostility(context), ...triesOfKinds(context), ...triesOfSaving(context) });
 
-function triesOfRefusals({ session }) {
+function triesOfRefusals({ session, explains }) {
   const { browser } = session;
   return {
     async "a refused text: its line is marked, and the last good run stays; undo and redo"() {
@@ -20,7 +31,7 @@ function triesOfRefusals({ session }) {
       await browser.value("document.getElementById('source').setSelectionRange(1e6, 1e6)");
       await session.type("cal 1 read x\n");
       assert.match(await session.inside("#verdict"), /^line 5: form/);
-      assert.match(await session.inside("#verdict pre"), /"cal": did you mean call\?/);
+      assert.match(await session.inside("#verdict pre"), explains ? /"cal": did you mean call\?/ : /5 \| cal 1 read x/);
       assert.equal(await browser.value(MARKED), "88px");
       assert.equal(await session.inside("#where"), "event 0 / 0");
       await session.press("z", 2);
@@ -112,10 +123,34 @@ function triesOfKinds({ session }) {
       for (const value of values) {
         await session.choose("examples", value);
         assert.equal(await slide(browser), null, value);
-        const verdict = await session.inside("#verdict");
-        assert.ok(!await session.count(".verdict.is-refused") || / no: /.test(verdict), `${value}: ${verdict}`);
+        const verdict = await session.inside("#verdict"), isBroken = await browser.value(
+          "document.getElementById('examples').selectedOptions[0].parentNode.label === 'Without this rule'");
+        assert.ok(!await session.count(".verdict.is-refused") || / no: /.test(verdict) ||
+          isBroken && /^event \d+: /.test(verdict), `${value}: ${verdict}`);
       }
       assert.ok(values.length > 25);
+    },
+
+    async "each run without a rule: what is stored of it, what check says of that, and the right program's answers"() {
+      await session.open();
+      const rules = readdirSync(join(TOP, "examples", "broken"), { withFileTypes: true })
+        .filter(entry => entry.isDirectory()).map(({ name }) => name);
+      for (const name of rules) {
+        const file = of => example(join("broken", name, of)), right = made("awreg", ["replay"], file("schedule.sched"));
+        await session.choose("examples", await browser.value(`[...document.querySelectorAll("#examples option")]
+          .find(it => it.text === ${JSON.stringify(name.replaceAll("-", " "))}).value`));
+        await browser.until("!document.getElementById('output').hidden");
+        assert.equal(await session.text(), file("schedule.sched"));
+        const rows = await browser.value(`[...document.querySelectorAll("#output tbody tr")].map(row =>
+          [...row.cells].map(cell => cell.innerText))`);
+        assert.deepEqual(rows.map(([, stored]) => stored), answersIn(file("report.txt")), name);
+        if (right.status === 0) assert.deepEqual(rows.map(([, , own]) => own), answersIn(right.output), name);
+        else assert.match(await session.inside("#right-refuses"), new RegExp(right.error.trim() + "$"));
+        const said = await session.inside("#output");
+        for (const line of file("check.txt").split("\n").slice(1).filter(it => /^(serial|points) (yes|no)/.test(it))) {
+          assert.ok(said.includes(line), `${name}: ${line}`);
+        }
+      }
     },
   };
 }
